@@ -1,0 +1,1 @@
+-- Spelled picks.

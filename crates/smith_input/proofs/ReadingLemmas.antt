@@ -1,0 +1,63 @@
+-- What reads leave is a tail, and is determined.
+use Rattle.std.proofs.Common.{◌≡◌, ℕ, ◌+◌, ◌*◌, ◌<◌, ◌≤◌, ◌%◌, Bool, true, false, List, drop, refl, ap, sym, ◌∙◌, arith, ⊎_elim}
+use Rattle.std.proofs.Math.Seq.{drop-drop}
+use Rattle.std.proofs.lemmas.Bool.{cases_lt}
+use Rattle.std.proofs.lemmas.Nat.{mod-mul-add}
+use Rattle.smith_input.specs.Reading.{spelled, IsWidth, Reads, Flips, More, IsTail}
+
+pub tail_same : (bytes : List ℕ) → IsTail bytes bytes
+tail_same bytes = (0, refl)
+
+pub tail_is : {bytes rest : List ℕ} → rest ≡ bytes → IsTail rest bytes
+tail_is e = (0, e)
+
+pub tail_trans : {a b c : List ℕ} → IsTail c b → IsTail b a → IsTail c a
+tail_trans {a} h g = (g.0 + h.0, h.1 ∙ (ap (drop h.0) g.1 ∙ drop-drop h.0 g.0 a))
+
+pub reads_tail : {n k : ℕ} {bytes rest : List ℕ} → Reads n bytes k rest → IsTail rest bytes
+reads_tail r = (r.width, r.left)
+
+pub more_tail : {done min max : ℕ} {answer : Bool} {bytes rest : List ℕ} → More done min max bytes answer rest → IsTail rest bytes
+more_tail {done} {min} {max} m =
+    ⊎_elim
+    (λ lt. ⊎_elim (λ below. tail_is (m.forced lt below).1) (λ above. (1, (m.flipped lt above).left)) (cases_lt done min))
+    (λ le. tail_is (m.full le).1)
+    (cases_lt done max)
+
+pub width_unique : {n v w : ℕ} → IsWidth n v → IsWidth n w → v ≡ w
+width_unique {n} {v} {w} p q = omega (arith, p.least w q.enough, q.least v p.enough)
+
+-- k is the number modulo n
+pub rest_unique : (n a b s t number : ℕ) → a < n → b < n → number ≡ a + s * n → number ≡ b + t * n → a ≡ b
+rest_unique n a b s t number p q e f =
+    let same : s * n + a ≡ t * n + b = omega (arith, e, f) in
+    sym (mod-mul-add s n a p) ∙ (ap (λ x. x % n) same ∙ mod-mul-add t n b q)
+
+pub reads_unique : {n j k : ℕ} {bytes rest left : List ℕ} → Reads n bytes j rest → Reads n bytes k left → (j ≡ k) × (rest ≡ left)
+reads_unique {n} {j} {k} {bytes} r s =
+    let w : r.width ≡ s.width = width_unique r.is_width s.is_width in
+    (rest_unique n j k r.turns s.turns (spelled r.width bytes) r.below s.below r.spells (ap (λ v. spelled v bytes) w ∙ s.spells), r.left ∙ (ap (λ v. drop v bytes) w ∙ sym s.left))
+
+pub flips_unique : {a b : Bool} {bytes rest left : List ℕ} → Flips bytes a rest → Flips bytes b left → (a ≡ b) × (rest ≡ left)
+flips_unique {a = true} {b = true} f g = (refl, f.left ∙ sym g.left)
+flips_unique {a = true} {b = false} f g = absurd (cc (g.bit.1 (f.bit.0 refl)))
+flips_unique {a = false} {b = true} f g = absurd (cc (f.bit.1 (g.bit.0 refl)))
+flips_unique {a = false} {b = false} f g = (refl, f.left ∙ sym g.left)
+
+pub more_unique : {done min max : ℕ} {a b : Bool} {bytes rest left : List ℕ} → More done min max bytes a rest → More done min max bytes b left → (a ≡ b) × (rest ≡ left)
+more_unique {done} {min} {max} m n =
+    ⊎_elim
+    (λ lt. ⊎_elim
+    (λ below. ((m.forced lt below).0 ∙ sym (n.forced lt below).0, (m.forced lt below).1 ∙ sym (n.forced lt below).1))
+    (λ above. flips_unique (m.flipped lt above) (n.flipped lt above))
+    (cases_lt done min))
+    (λ le. ((m.full le).0 ∙ sym (n.full le).0, (m.full le).1 ∙ sym (n.full le).1))
+    (cases_lt done max)
+
+-- a loop that has made all its turns makes no other
+pub more_full : {done min max : ℕ} (bytes : List ℕ) → max ≤ done → More done min max bytes false bytes
+more_full bytes h = record {
+  full = λ _. (refl, refl);
+  forced = λ lt. absurd (omega arith);
+  flipped = λ lt. absurd (omega arith);
+}

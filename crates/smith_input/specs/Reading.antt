@@ -1,0 +1,51 @@
+-- What a read answers, and which bytes it leaves. A byte past the end counts as zero, and nothing is taken for it.
+use Rattle.std.specs.Prelude.{◌≡◌, ℕ, zero, suc, ◌+◌, ◌*◌, ◌/◌, ◌^◌, ◌%◌, ◌<◌, ◌≤◌, ◌↔◌, Bool, true, false, IsTrue, List, [], ◌∷◌, drop, slice_index, nat_le, if◌then◌else◌}
+
+-- the number that the first w bytes spell, most significant first, with zeros past the end
+abbrev pub spelled : ℕ → List ℕ → ℕ
+spelled zero bytes = 0
+spelled (suc w) [] = 0
+spelled (suc w) (x ∷ bytes) = x * 256 ^ w + spelled w bytes
+
+-- w bytes tell n things apart, and fewer do not
+pub record IsWidth (n w : ℕ) : Type 0 where
+  pub enough : n ≤ 256 ^ w
+  pub least : (v : ℕ) → n ≤ 256 ^ v → w ≤ v
+
+-- A choice among n reads k from the bytes, and leaves rest: the number that the bytes spell is k plus a multiple of n.
+pub record Reads (n : ℕ) (bytes : List ℕ) (k : ℕ) (rest : List ℕ) : Type 0 where
+  pub width : ℕ
+  pub is_width : IsWidth n width
+  pub below : k < n
+  pub turns : ℕ
+  pub spells : spelled width bytes ≡ k + turns * n
+  pub left : rest ≡ drop width bytes
+
+-- A truth value is the lowest bit of one byte.
+pub record Flips (bytes : List ℕ) (answer : Bool) (rest : List ℕ) : Type 0 where
+  pub bit : IsTrue answer ↔ (slice_index bytes 0 % 2 ≡ 1)
+  pub left : rest ≡ drop 1 bytes
+
+-- Whether a loop that has made so many turns makes another: not from max on, surely below min, and else by a truth value.
+pub record More (done min max : ℕ) (bytes : List ℕ) (answer : Bool) (rest : List ℕ) : Type 0 where
+  pub full : max ≤ done → (answer ≡ false) × (rest ≡ bytes)
+  pub forced : done < max → done < min → (answer ≡ true) × (rest ≡ bytes)
+  pub flipped : done < max → min ≤ done → Flips bytes answer rest
+
+-- the bytes without some of the first
+abbrev pub IsTail : List ℕ → List ℕ → Type 0
+IsTail rest bytes = (n : ℕ) × (rest ≡ drop n bytes)
+
+-- k in w bytes, most significant first
+abbrev pub big_endian : ℕ → ℕ → List ℕ
+big_endian zero k = []
+big_endian (suc w) k = (k / 256 ^ w % 256) ∷ big_endian w k
+
+-- how many bytes tell n things apart, n being at most 256 ^ fuel
+abbrev pub width_within : ℕ → ℕ → ℕ
+width_within zero n = 0
+width_within (suc fuel) n = if nat_le n 1 then 0 else suc (width_within fuel ((n + 255) / 256))
+
+-- The bytes of a choice of k among n, n being at most 2 ^ 64: the fewest that tell n things apart.
+unfoldable pub pick : ℕ → ℕ → List ℕ
+pick n k = big_endian (width_within 8 n) k
