@@ -36,10 +36,10 @@ pub record More (done min max : ℕ) (bytes : List ℕ) (answer : Bool) (rest : 
 abbrev pub IsTail : List ℕ → List ℕ → Type 0
 IsTail rest bytes = (n : ℕ) × (rest ≡ drop n bytes)
 
--- k in w bytes, most significant first
+-- k in w bytes, most significant first, k being below 256 ^ w
 abbrev pub big_endian : ℕ → ℕ → List ℕ
 big_endian zero k = []
-big_endian (suc w) k = (k / 256 ^ w % 256) ∷ big_endian w k
+big_endian (suc w) k = (k / 256 ^ w) ∷ big_endian w (k % 256 ^ w)
 
 -- how many bytes tell n things apart, n being at most 256 ^ fuel
 abbrev pub width_within : ℕ → ℕ → ℕ

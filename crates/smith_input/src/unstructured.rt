@@ -13,7 +13,7 @@ pub struct Unstructured<'a> {
 }
 
 impl<'a> Model for Unstructured<'a> {
-    ghost use Rattle.std.specs.Prelude.{List};
+    ghost use Rattle.std.specs.Prelude.{List, ℕ};
 
     ghost Value = { List ℕ };
 

@@ -1,0 +1,5 @@
+use Rattle.smith_input.proofs.Picks.{reads-pick}
+use Rattle.smith_input.proofs.laws.pick_is_read.Goals as goal
+
+pub returns : goal.returns
+returns c = reads-pick
