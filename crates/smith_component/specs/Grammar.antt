@@ -1,0 +1,38 @@
+-- The binary format of components (Binary.md, component definitions), one line for each section.
+use Rattle.std.specs.Prelude.{◌≡◌, ℕ, List, [], ◌∷◌, Some, None, starts_with, nat_eq, if◌then◌else◌}
+use Rattle.smith_core.specs.Piece.{Piece, ◌⊕◌, bytes, raw, text, many, sized}
+use Rattle.smith_core.specs.Module.{core_preamble}
+use Rattle.smith_types.specs.Grammar.{entry, core_entry, import_entry}
+use Rattle.smith_component.specs.Tree.{Canon, Part, Tree, ends, first, custom, core_module, core_types, component, types, canons, imports}
+
+abbrev pub preamble : List ℕ
+preamble = 0x00 ∷ 0x61 ∷ 0x73 ∷ 0x6d ∷ 0x0d ∷ 0x00 ∷ 0x01 ∷ 0x00 ∷ []
+
+-- a core module: any bytes that begin with the core preamble
+unfoldable pub embedded : List ℕ → Piece
+embedded bs = if starts_with nat_eq bs core_preamble then raw bs else None
+
+abbrev pub canon : Canon → Piece
+canon f = elim f [ ]
+
+abbrev mutual
+  pub part : Part → Piece
+  part (custom name contents) = sized 0 (text name ⊕ raw contents)
+  part (core_module bs) = sized 1 (embedded bs)
+  part (core_types ts) = sized 3 (many core_entry ts)
+  part (component t) = sized 4 (bytes preamble ⊕ parts t)
+  part (types ts) = sized 7 (many entry ts)
+  part (canons fs) = sized 8 (many canon fs)
+  part (imports is) = sized 10 (many import_entry is)
+
+  pub parts : Tree → Piece
+  parts ends = Some []
+  parts (first p t) = part p ⊕ parts t
+
+-- the spelling of a whole component
+abbrev pub component_text : Tree → Piece
+component_text t = bytes preamble ⊕ parts t
+
+-- the bytes spell the tree
+abbrev pub Spells : Tree → List ℕ → Type 0
+Spells t b = component_text t ≡ Some b

@@ -1,0 +1,103 @@
+//! Components and their sections (Explainer.md, component definitions).
+
+ghost use Rattle.std.specs.Prelude.{◌≡◌};
+
+use smith_core::Module;
+use smith_types::drops::drop_last_first;
+use smith_types::{CoreType, DefType, Import};
+use std::rc::Rc;
+
+/// A component: its sections in order. It is dropped from its last section to its first, so that the stack
+/// that this takes does not grow with the number of sections.
+#[derive(Debug)]
+#[cycle(component)]
+pub struct Component {
+    pub(crate) sections: Vec<Section>,
+}
+
+/// A section of a component.
+#[derive(Debug, Drop)]
+#[cycle(component)]
+pub enum Section {
+    Custom(CustomSection),
+    CoreModule(Module),
+    CoreTypes(CoreTypeSection),
+    Component(Component),
+    Types(TypeSection),
+    Canonical(CanonicalSection),
+    Imports(ImportSection),
+}
+
+/// A name and any bytes.
+#[derive(Debug, Drop)]
+pub struct CustomSection {
+    pub name: String,
+    pub bytes: Vec<u8>,
+}
+
+/// Core types, each of which is the next entry among the component's core types.
+#[derive(Debug)]
+pub struct CoreTypeSection {
+    pub types: Vec<Rc<CoreType>>,
+}
+
+/// Types, each of which is the next entry among the component's types.
+#[derive(Debug)]
+pub struct TypeSection {
+    pub types: Vec<Rc<DefType>>,
+}
+
+/// Canonical functions.
+#[derive(Debug, Drop)]
+pub struct CanonicalSection {
+    pub funcs: Vec<Func>,
+}
+
+/// Imports.
+#[derive(Debug, Drop)]
+pub struct ImportSection {
+    pub imports: Vec<Import>,
+}
+
+/// A canonical function. None can be made so far.
+#[derive(Debug, Drop)]
+pub enum Func {}
+
+impl Drop for Component {
+    #[cycle(drop_component)]
+    fn drop(self) {
+        let Component { sections } = self;
+        drop_last_first(sections);
+    }
+}
+
+impl Drop for CoreTypeSection {
+    fn drop(self) {
+        let CoreTypeSection { types } = self;
+        drop_last_first(types);
+    }
+}
+
+impl Drop for TypeSection {
+    fn drop(self) {
+        let TypeSection { types } = self;
+        drop_last_first(types);
+    }
+}
+
+impl Component {
+    ghost use Rattle.smith_component.specs.Shown.{shown, shown_sections};
+
+    /// The sections in order.
+    pub fn sections(&self) -> &[Section]
+        ensures { shown_sections result.now ≡ shown self.now }
+    {
+        self.sections.as_slice()
+    }
+
+    pub(crate) fn of(sections: Vec<Section>) -> Component
+        ensures { shown_sections sections.items ≡ shown result }
+    {
+        Component { sections }
+    }
+}

@@ -1,0 +1,16 @@
+//! Components from a fuzzer's bytes, and their binary format.
+#![tactic(auto)]
+
+pub mod builder;
+pub mod component;
+pub mod generate;
+pub mod item;
+
+pub use builder::{Builder, Step};
+pub use component::{
+    CanonicalSection, Component, CoreTypeSection, CustomSection, Func, ImportSection, Section,
+    TypeSection,
+};
+pub use generate::{generate, Generated};
+pub use smith_core::Config;
+pub use smith_input::{Error, Unstructured};

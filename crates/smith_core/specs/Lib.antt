@@ -1,0 +1,3 @@
+pub mod Consistent
+pub mod Defaults
+pub mod Module

@@ -1,0 +1,8 @@
+//! Core types, the limits of what is built, and the bytes of numbers, texts and sections.
+#![tactic(auto)]
+
+pub mod config;
+pub mod module;
+
+pub use config::Config;
+pub use module::Module;

@@ -1,0 +1,62 @@
+-- The types of the program as plain trees.
+use Rattle.std.specs.Prelude.{map, Option, Some, None}
+use Rattle.std.specs.declared.alloc.Global.{Global}
+use Rattle.std.specs.declared.rc.Rc.{Rc}
+use Rattle.smith_types.specs.Entries.{Primitive, Val, Entry, CoreEntry, ImportEntry}
+use Rattle.smith_types.specs.Entries.{bool, s8, u8, s16, u16, s32, u32, s64, u64, f32, f64, char, string, primitive, indexed, plain, listed, tuple, optional, outcome}
+use Rattle.smith_types.specs.declared.types.PrimitiveValType.{PrimitiveValType}
+use Rattle.smith_types.specs.declared.types.PrimitiveValType.TheVariants as prim
+use Rattle.smith_types.specs.declared.types.ComponentValType.{ComponentValType}
+use Rattle.smith_types.specs.declared.types.ComponentValType.TheVariants as value
+use Rattle.smith_types.specs.declared.types.DefinedType.{DefinedType}
+use Rattle.smith_types.specs.declared.types.DefinedType.TheVariants as defined
+use Rattle.smith_types.specs.declared.types.DefType.{DefType}
+use Rattle.smith_types.specs.declared.types.DefType.TheVariants as def
+use Rattle.smith_types.specs.declared.types.CoreType.{CoreType}
+use Rattle.smith_types.specs.declared.types.Import.{Import}
+
+abbrev pub shown_primitive : PrimitiveValType → Primitive
+shown_primitive prim.Bool = bool
+shown_primitive prim.S8 = s8
+shown_primitive prim.U8 = u8
+shown_primitive prim.S16 = s16
+shown_primitive prim.U16 = u16
+shown_primitive prim.S32 = s32
+shown_primitive prim.U32 = u32
+shown_primitive prim.S64 = s64
+shown_primitive prim.U64 = u64
+shown_primitive prim.F32 = f32
+shown_primitive prim.F64 = f64
+shown_primitive prim.Char = char
+shown_primitive prim.String = string
+
+abbrev pub shown_val : ComponentValType → Val
+shown_val (value.Primitive p) = primitive (shown_primitive p)
+shown_val (value.Indexed i) = indexed i
+
+abbrev pub shown_maybe : Option ComponentValType → Option Val
+shown_maybe None = None
+shown_maybe (Some v) = Some (shown_val v)
+
+abbrev pub shown_defined : DefinedType → Entry
+shown_defined (defined.Primitive p) = plain (shown_primitive p)
+shown_defined (defined.List t) = listed (shown_val t.elem_ty)
+shown_defined (defined.Tuple t) = tuple (map shown_val t.fields.items)
+shown_defined (defined.Option t) = optional (shown_val t.inner_ty)
+shown_defined (defined.Result t) = outcome (shown_maybe t.ok_ty) (shown_maybe t.err_ty)
+
+abbrev pub shown_type : DefType → Entry
+shown_type (def.Defined d) = shown_defined d
+
+abbrev pub shown_core_type : CoreType → CoreEntry
+shown_core_type t = elim t [ ]
+
+abbrev pub shown_import : Import → ImportEntry
+shown_import i = elim i [ ]
+
+-- what a shared type shows
+abbrev pub shown_shared : Rc DefType Global → Entry
+shown_shared t = shown_type t.value
+
+abbrev pub shown_shared_core : Rc CoreType Global → CoreEntry
+shown_shared_core t = shown_core_type t.value

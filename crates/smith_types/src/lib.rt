@@ -1,0 +1,12 @@
+//! The types of components: what they are, how they are read and how they are written.
+#![tactic(auto)]
+
+pub mod drops;
+pub mod make;
+pub mod types;
+
+pub use make::arbitrary_type;
+pub use types::{
+    ComponentValType, CoreType, DefType, DefinedType, Import, ListType, OptionType,
+    PrimitiveValType, ResultType, TupleType,
+};

@@ -1,0 +1,1 @@
+//! Types from the input.
