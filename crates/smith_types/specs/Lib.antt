@@ -1,3 +1,5 @@
 pub mod Entries
 pub mod Grammar
+pub mod Made
 pub mod Shown
+pub mod WellFormed
