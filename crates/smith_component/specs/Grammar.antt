@@ -1,5 +1,6 @@
 -- The binary format of components (Binary.md, component definitions), one line for each section.
-use Rattle.std.specs.Prelude.{◌≡◌, ℕ, List, [], ◌∷◌, Some, None, starts_with, nat_eq, if◌then◌else◌}
+use Rattle.std.specs.Prelude.{◌≡◌, ℕ, List, [], ◌∷◌, Some, None, nat_eq, if◌then◌else◌}
+use Rattle.std.specs.List.{starts_with}
 use Rattle.smith_core.specs.Piece.{Piece, ◌⊕◌, bytes, raw, text, many, sized}
 use Rattle.smith_core.specs.Module.{core_preamble}
 use Rattle.smith_types.specs.Grammar.{entry, core_entry, import_entry}

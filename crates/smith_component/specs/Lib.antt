@@ -1,3 +1,13 @@
+pub mod Addable
+pub mod BuilderView
+pub mod Building
 pub mod Grammar
+pub mod Limits
+pub mod Refusals
+pub mod Scopes
 pub mod Shown
+pub mod Sound
+pub mod Steps
 pub mod Tree
+pub mod Turn
+pub mod WellFormed

@@ -101,3 +101,31 @@ impl Component {
         Component { sections }
     }
 }
+
+impl Section {
+    ghost use Rattle.std.specs.Prelude.{length};
+    ghost use Rattle.smith_component.specs.Shown.{shown_section};
+    ghost use Rattle.smith_component.specs.Tree.{types_in, modules_in, anywhere_in};
+
+    // How many types it declares.
+    #[tactic(auto, using(crate::proofs::ShownLemmas::sections_shown))]
+    pub(crate) fn type_count(&self) -> usize
+        ensures { result ≡ length (types_in (shown_section self.now)) }
+    {
+        match self {
+            Section::Types(section) => section.types.len(),
+            _ => 0,
+        }
+    }
+
+    // How many core modules it embeds by itself.
+    #[tactic(auto, using(crate::proofs::ShownLemmas::sections_shown))]
+    pub(crate) fn module_count(&self) -> usize
+        ensures { result ≡ length (modules_in (shown_section self.now)) }
+    {
+        match self {
+            Section::CoreModule(_) => 1,
+            _ => 0,
+        }
+    }
+}

@@ -3,14 +3,13 @@
 
 pub mod builder;
 pub mod component;
-pub mod generate;
 pub mod item;
+pub mod make;
 
 pub use builder::{Builder, Step};
 pub use component::{
     CanonicalSection, Component, CoreTypeSection, CustomSection, Func, ImportSection, Section,
     TypeSection,
 };
-pub use generate::{generate, Generated};
 pub use smith_core::Config;
 pub use smith_input::{Error, Unstructured};

@@ -1,3 +1,6 @@
 pub mod Consistent
 pub mod Defaults
 pub mod Module
+pub mod Numbers
+pub mod Piece
+pub mod Writing

@@ -1,0 +1,126 @@
+-- How trees grow at the inner component.
+use Rattle.std.proofs.Common.{◌≡◌, ℕ, ◌+◌, ◌≤◌, max, List, [], ◌∷◌, ◌++◌, length, arith, ap, sym, ◌∙◌, refl, subst, length-append, append_assoc, append-nil}
+use Rattle.std.specs.List.{AllByRecursion, flat_map}
+use Rattle.smith_component.specs.Tree.{Tree, ends, first, Part, custom, core_module, core_types, component, types, canons, imports, add, join, parts_of, own, anywhere, anywhere_in, inside, components_in, depth, depth_in}
+use Rattle.smith_component.specs.Turn.{tree_so_far}
+
+-- What is open is closed.
+pub tree_so_far-close : (outer : List Tree) (u t : Tree) → tree_so_far (outer ++ u ∷ []) t ≡ tree_so_far outer (add u (component t))
+tree_so_far-close [] u t = refl
+tree_so_far-close (v ∷ outer) u t = ap (λ x. add v (component x)) (tree_so_far-close outer u t)
+
+pub depth-add : (t : Tree) (p : Part) → depth (add t p) ≡ max (depth t) (depth_in p)
+depth-add ends p = omega (arith, depth_in_some p)
+  where
+    depth_in_some : (p : Part) → 1 ≤ depth_in p
+    depth_in_some (custom n c) = omega arith
+    depth_in_some (core_module m) = omega arith
+    depth_in_some (core_types ts) = omega arith
+    depth_in_some (component t) = omega arith
+    depth_in_some (types ts) = omega arith
+    depth_in_some (canons fs) = omega arith
+    depth_in_some (imports is) = omega arith
+depth-add (first q t) p = omega (arith, depth-add t p)
+
+pub depth-so_far : (outer : List Tree) (t : Tree) (p : Part) → depth (tree_so_far outer (add t p)) ≡ max (depth (tree_so_far outer t)) (length outer + depth_in p)
+depth-so_far [] t p = omega (arith, depth-add t p)
+depth-so_far (u ∷ outer) t p = omega (arith, depth-so_far outer t p, depth-add u (component (tree_so_far outer t)), depth-add u (component (tree_so_far outer (add t p))))
+
+-- The inner component stands as deep as components are open.
+pub depth-outer : (outer : List Tree) (t : Tree) → length outer + 1 ≤ depth (tree_so_far outer t)
+depth-outer [] ends = omega arith
+depth-outer [] (first p t) = omega (arith, depth-outer [] t)
+depth-outer (u ∷ outer) t = omega (arith, depth-outer outer t, depth-add u (component (tree_so_far outer t)))
+
+module _ {A : Type 0} (f : Part → List A) where
+  pub own-add : (t : Tree) (p : Part) → own f (add t p) ≡ own f t ++ f p
+  own-add ends p = append-nil (f p)
+  own-add (first q t) p = ap (λ x. f q ++ x) (own-add t p) ∙ sym (append_assoc (f q) (own f t) (f p))
+
+  pub length-own-add : (t : Tree) (p : Part) → length (own f (add t p)) ≡ length (own f t) + length (f p)
+  length-own-add t p = ap length (own-add t p) ∙ length-append (own f t) (f p)
+
+  pub anywhere-add : (t : Tree) (p : Part) → anywhere f (add t p) ≡ anywhere f t ++ anywhere_in f p
+  anywhere-add ends p = append-nil (anywhere_in f p)
+  anywhere-add (first q t) p = ap (λ x. anywhere_in f q ++ x) (anywhere-add t p) ∙ sym (append_assoc (anywhere_in f q) (anywhere f t) (anywhere_in f p))
+
+  pub length-anywhere-add : (t : Tree) (p : Part) → length (anywhere f (add t p)) ≡ length (anywhere f t) + length (anywhere_in f p)
+  length-anywhere-add t p = ap length (anywhere-add t p) ∙ length-append (anywhere f t) (anywhere_in f p)
+
+  -- Whichever component stands in a part, it counts alike.
+  pub record IsSteady : Type 0 where
+    pub same : (a b : Tree) → length (f (component a)) ≡ length (f (component b))
+
+  pub length-anywhere-so_far : IsSteady → (outer : List Tree) (t : Tree) (p : Part) → length (anywhere f (tree_so_far outer (add t p))) ≡ length (anywhere f (tree_so_far outer t)) + length (anywhere_in f p)
+  length-anywhere-so_far s [] t p = length-anywhere-add t p
+  length-anywhere-so_far s (u ∷ outer) t p =
+      let x : Tree = tree_so_far outer t in
+      let y : Tree = tree_so_far outer (add t p) in
+      omega (
+        arith,
+        length-anywhere-so_far s outer t p,
+        length-anywhere-add u (component x),
+        length-anywhere-add u (component y),
+        length-append (f (component x)) (anywhere f x),
+        length-append (f (component y)) (anywhere f y),
+        s.same x y,
+      )
+
+pub all_front : {A : Type 0} → (P : A → Type 0) (xs ys : List A) → AllByRecursion P (xs ++ ys) → AllByRecursion P xs
+all_front P [] ys h = tt
+all_front P (x ∷ xs) ys h = (h.0, all_front P xs ys h.1)
+
+pub all_back : {A : Type 0} → (P : A → Type 0) (xs ys : List A) → AllByRecursion P (xs ++ ys) → AllByRecursion P ys
+all_back P [] ys h = h
+all_back P (x ∷ xs) ys h = all_back P xs ys h.1
+
+pub all_both : {A : Type 0} → (P : A → Type 0) (xs ys : List A) → AllByRecursion P xs → AllByRecursion P ys → AllByRecursion P (xs ++ ys)
+all_both P [] ys h k = k
+all_both P (x ∷ xs) ys h k = (h.0, all_both P xs ys h.1 k)
+
+-- a component and those inside
+abbrev pub all_of : Tree → List Tree
+all_of t = t ∷ inside t
+
+-- Which component stands inside does not matter to P.
+abbrev pub Swaps : (Tree → Type 0) → Type 0
+Swaps P = (u a b : Tree) → P (add u (component a)) → P (add u (component b))
+
+-- A fact of each component stays where the inner one grows.
+pub all_so_far : (P : Tree → Type 0) → Swaps P → (outer : List Tree) (t : Tree) (p : Part) → P (add t p) → AllByRecursion P (anywhere_in components_in p) → AllByRecursion P (all_of (tree_so_far outer t)) → AllByRecursion P (all_of (tree_so_far outer (add t p)))
+all_so_far P swap [] t p new ins h = (new, subst (AllByRecursion P) (sym (anywhere-add components_in t p)) (all_both P (inside t) (anywhere_in components_in p) h.1 ins))
+all_so_far P swap (u ∷ outer) t p new ins h =
+    let x : Tree = tree_so_far outer t in
+    let y : Tree = tree_so_far outer (add t p) in
+    let old : AllByRecursion P (inside u ++ (x ∷ inside x)) = subst (AllByRecursion P) (anywhere-add components_in u (component x)) h.1 in (
+      swap u x y h.0,
+      subst (AllByRecursion P) (sym (anywhere-add components_in u (component y)))
+      (all_both P (inside u) (y ∷ inside y) (all_front P (inside u) (x ∷ inside x) old) (all_so_far P swap outer t p new ins (all_back P (inside u) (x ∷ inside x) old))),
+    )
+
+-- It holds in front of what grew.
+pub all_before : (P : Tree → Type 0) → Swaps P → (outer : List Tree) (t : Tree) (p : Part) → (P (add t p) → P t) → AllByRecursion P (all_of (tree_so_far outer (add t p))) → AllByRecursion P (all_of (tree_so_far outer t))
+all_before P swap [] t p less h = (less h.0, all_front P (inside t) (anywhere_in components_in p) (subst (AllByRecursion P) (anywhere-add components_in t p) h.1))
+all_before P swap (u ∷ outer) t p less h =
+    let x : Tree = tree_so_far outer t in
+    let y : Tree = tree_so_far outer (add t p) in
+    let old : AllByRecursion P (inside u ++ (y ∷ inside y)) = subst (AllByRecursion P) (anywhere-add components_in u (component y)) h.1 in (
+      swap u y x h.0,
+      subst (AllByRecursion P) (sym (anywhere-add components_in u (component x)))
+      (all_both P (inside u) (x ∷ inside x) (all_front P (inside u) (y ∷ inside y) old) (all_before P swap outer t p less (all_back P (inside u) (y ∷ inside y) old))),
+    )
+
+-- It holds of the inner component.
+pub all_inner : (P : Tree → Type 0) (outer : List Tree) (t : Tree) → AllByRecursion P (all_of (tree_so_far outer t)) → P t
+all_inner P [] t h = h.0
+all_inner P (u ∷ outer) t h =
+    let x : Tree = tree_so_far outer t in
+    all_inner P outer t (all_back P (inside u) (x ∷ inside x) (subst (AllByRecursion P) (anywhere-add components_in u (component x)) h.1))
+
+pub join-ends : (t : Tree) → join t ends ≡ t
+join-ends ends = refl
+join-ends (first p t) = ap (first p) (join-ends t)
+
+pub join-add : (a : Tree) (p : Part) (t : Tree) → join (add a p) t ≡ join a (first p t)
+join-add ends p t = refl
+join-add (first q a) p t = ap (first q) (join-add a p t)

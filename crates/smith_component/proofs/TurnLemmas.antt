@@ -1,0 +1,111 @@
+-- What a turn chooses, and that it lowers what is left to do.
+use Rattle.std.proofs.Common.{◌≡◌, ℕ, zero, suc, ◌+◌, ◌^◌, ◌<◌, ◌≤◌, max, List, [], ◌∷◌, ◌++◌, length, drop, arith, ap, sym, subst, ◌∙◌, refl, true, false, Bool, inl, inr, length-append, length-drop}
+use Rattle.std.specs.Prelude.{slice_get, Some, ◌⊎◌}
+use Rattle.smith_input.specs.Reading.{IsWidth, Reads, More, IsTail}
+use Rattle.smith_input.proofs.ReadingLemmas.{width_unique, more_tail}
+use Rattle.smith_core.specs.declared.config.Config.{Config}
+use Rattle.smith_component.specs.Tree.{Tree, ends, Part, custom, core_module, core_types, component, types, canons, imports, add}
+use Rattle.smith_core.specs.Module.{core_preamble}
+use Rattle.smith_component.specs.Limits.{max_depth}
+use Rattle.smith_component.specs.Turn.{Open, Next, building, answered, Turn, Chooses, Closes, Does, items, more_items, is_module_offered, is_component_offered, with_part, with_open, todo, Falls}
+use Rattle.smith_component.specs.declared.item.Item.{Item}
+use Rattle.smith_component.specs.declared.item.Item.TheVariants.{Finish, Custom, CoreTypes, Types, Imports, Canonical, Module, Component}
+use Rattle.smith_component.proofs.ReadLemmas.{types_read_tail}
+use Rattle.smith_component.proofs.SoundLemmas.{component_offered_is}
+
+pub only_finish : (place : ℕ) (item : Item) → slice_get (Finish ∷ []) place ≡ Some item → item ≡ Finish
+only_finish zero item e = cc
+only_finish (suc place) item e = absurd (cc)
+
+-- how many items there are where input is left
+pub items_some : (m c : Bool) → (6 ≤ length (more_items m c)) × (length (more_items m c) ≤ 8)
+items_some true true = (omega arith, omega arith)
+items_some true false = (omega arith, omega arith)
+items_some false true = (omega arith, omega arith)
+items_some false false = (omega arith, omega arith)
+
+-- One byte tells from 2 to 256 things apart.
+pub one_byte : (n : ℕ) → 2 ≤ n → n ≤ 256 → IsWidth n 1
+one_byte n two few = record { enough = omega arith; least = least_of }
+  where
+    least_of : (v : ℕ) → n ≤ 256 ^ v → 1 ≤ v
+    least_of zero e = absurd (omega arith)
+    least_of (suc v) e = omega arith
+
+-- A choice among so many reads one byte.
+pub after_one : (n x : ℕ) (xs : List ℕ) (k : ℕ) (rest : List ℕ) → 2 ≤ n → n ≤ 256 → Reads n (x ∷ xs) k rest → rest ≡ xs
+after_one n x xs k rest two few r = r.left ∙ ap (λ w. drop w (x ∷ xs)) (width_unique r.is_width (one_byte n two few))
+
+drop_none : (n : ℕ) → drop {A = ℕ} n [] ≡ []
+drop_none zero = refl
+drop_none (suc n) = refl
+
+pub tail_length : (rest b : List ℕ) → IsTail rest b → length rest ≤ length b
+tail_length rest b t = omega (arith, ap length t.1, length-drop t.0 b)
+
+closes_length : (stack next : Open) → Closes stack (building next) → length next.outer + 1 ≡ length stack.outer
+closes_length stack next (inl (a, b)) = absurd (let e : building next ≡ answered stack.inner = b in cc)
+closes_length stack next (inr (o, p, a, b)) =
+    let e : next ≡ record { outer = o; inner = add p (component stack.inner) } = cc in
+    omega (arith, ap length a, length-append o (p ∷ []), ap (λ n. length n.outer) e)
+
+part_length : (config : Config) (stack next : Open) (p : Part) → building next ≡ with_part stack p → length next.outer ≡ length stack.outer
+part_length config stack next p e =
+    let f : next ≡ record { outer = stack.outer; inner = add stack.inner p } = cc in
+    ap (λ n. length n.outer) f
+
+-- How many components are open after an item, and how many bytes are left.
+does_length : (config : Config) (item : Item) (stack next : Open) (b r : List ℕ) → (item ≡ Component → is_component_offered config stack ≡ true) → length stack.outer + 1 ≤ max_depth config → Does config item stack b (building next) r → (length next.outer + 1 ≤ max_depth config) × (length r ≤ length b)
+does_length config Finish stack next b r e m (d, c) = (omega (arith, closes_length stack next c), omega (arith, ap length d))
+does_length config Custom stack next b r e m (d, c) = (omega (arith, part_length config stack next (custom [] []) c), omega (arith, ap length d))
+does_length config CoreTypes stack next b r e m (a, more, c) = (omega (arith, part_length config stack next (core_types []) c), tail_length r b (more_tail more))
+does_length config Types stack next b r e m (xs, es, c) = (omega (arith, part_length config stack next (types xs) c), tail_length r b (types_read_tail xs config _ _ b r es))
+does_length config Imports stack next b r e m (a, more, c) = (omega (arith, part_length config stack next (imports []) c), tail_length r b (more_tail more))
+does_length config Canonical stack next b r e m (a, more, c) = (omega (arith, part_length config stack next (canons []) c), tail_length r b (more_tail more))
+does_length config Module stack next b r e m (d, c) = (omega (arith, part_length config stack next (core_module core_preamble) c), omega (arith, ap length d))
+does_length config Component stack next b r e m (d, c) =
+    let f : next ≡ record { outer = stack.outer ++ stack.inner ∷ []; inner = ends } = cc in
+    let o = component_offered_is config stack (e refl) in
+    (omega (arith, o.0, length-append stack.outer (stack.inner ∷ []), ap (λ n. length n.outer) f), omega (arith, ap length d))
+
+-- What stands at each place.
+pub component_offered : (m c : Bool) (place : ℕ) → slice_get (more_items m c) place ≡ Some Component → c ≡ true
+component_offered m true place e = refl
+component_offered true false zero e = cc
+component_offered true false (suc zero) e = cc
+component_offered true false (suc (suc zero)) e = cc
+component_offered true false (suc (suc (suc zero))) e = cc
+component_offered true false (suc (suc (suc (suc zero)))) e = cc
+component_offered true false (suc (suc (suc (suc (suc zero))))) e = cc
+component_offered true false (suc (suc (suc (suc (suc (suc zero)))))) e = cc
+component_offered true false (suc (suc (suc (suc (suc (suc (suc place))))))) e = cc
+component_offered false false zero e = cc
+component_offered false false (suc zero) e = cc
+component_offered false false (suc (suc zero)) e = cc
+component_offered false false (suc (suc (suc zero))) e = cc
+component_offered false false (suc (suc (suc (suc zero)))) e = cc
+component_offered false false (suc (suc (suc (suc (suc zero))))) e = cc
+component_offered false false (suc (suc (suc (suc (suc (suc place)))))) e = cc
+
+does_finish : (config : Config) (stack : Open) (item : Item) (b r : List ℕ) (next : Next) → item ≡ Finish → Does config item stack b next r → (r ≡ b) × Closes stack next
+does_finish config stack item b r next e d = let P : Item → Type 0 = λ i. Does config i stack b next r in subst P e d
+
+todo_bound : (config : Config) (left : List ℕ) (stack : Open) (n : ℕ) → length stack.outer + 1 ≤ max_depth config → length left ≤ n → todo config left stack ≤ n + max_depth config
+todo_bound config [] stack n m h = omega arith
+todo_bound config (x ∷ xs) stack n m h = omega arith
+
+pub turn_falls : (config : Config) (stack next : Open) (left left2 : List ℕ) → length stack.outer + 1 ≤ max_depth config → Turn config stack left (building next) left2 → todo config left2 next + 1 ≤ todo config left stack
+turn_falls config stack next [] left2 m t =
+    let f = does_finish config stack t.item t.after left2 (building next) (only_finish t.chooses.place t.item t.chooses.named) t.does in
+    let e : left2 ≡ [] = f.0 ∙ (t.chooses.reads.left ∙ drop_none t.chooses.reads.width) in
+    subst (λ l. todo config l next + 1 ≤ length stack.outer + 1) (sym e) (omega (arith, closes_length stack next f.1))
+turn_falls config stack next (x ∷ xs) left2 m t =
+    let some = items_some (is_module_offered config stack) (is_component_offered config stack) in
+    let P : Item → Type 0 = λ i. slice_get (more_items (is_module_offered config stack) (is_component_offered config stack)) t.chooses.place ≡ Some i in
+    let d = does_length config t.item stack next t.after left2 (λ i. component_offered (is_module_offered config stack) (is_component_offered config stack) t.chooses.place (subst P i t.chooses.named)) m t.does in
+    let a : t.after ≡ xs = after_one _ x xs t.chooses.place t.after (omega (arith, some.0)) (omega (arith, some.1)) t.chooses.reads in
+    omega (arith, todo_bound config left2 next (length xs) d.0 (omega (arith, d.1, ap length a)))
+
+pub falls : (config : Config) (stack : Open) (next : Next) (left left2 : List ℕ) → length stack.outer + 1 ≤ max_depth config → Turn config stack left next left2 → Falls config left stack left2 next
+falls config stack (building next) left left2 m t = turn_falls config stack next left left2 m t
+falls config stack (answered c) left left2 m t = tt

@@ -1,0 +1,10 @@
+use Rattle.std.proofs.Common.{arith, length}
+use Rattle.smith_component.specs.Building.{open_of}
+use Rattle.smith_component.specs.BuilderView.{building_of}
+use Rattle.smith_component.proofs.Grows.{depth-outer}
+use Rattle.smith_component.proofs.builder.Builder.offers_component.Goals as goal
+
+pub returns-else-len-self-clause-depth : goal.returns-else-len-self-clause-depth
+returns-else-len-self-clause-depth c =
+    let s = open_of (building_of c.self.inside) in
+    rw (← c.self.view_is) (omega (arith, depth-outer s.outer s.inner, c.self.invariant.limits.depth))

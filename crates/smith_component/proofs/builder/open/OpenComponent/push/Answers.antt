@@ -1,0 +1,10 @@
+use Rattle.std.proofs.Common.{◌≡◌, ap, ◌∙◌}
+use Rattle.smith_component.specs.Shown.{shown_sections}
+use Rattle.smith_component.proofs.ShownLemmas.{shown_push, types_pushed}
+use Rattle.smith_component.proofs.builder.open.OpenComponent.push.Goals as goal
+
+pub invariant_of-self-2 : goal.invariant_of-self-2
+invariant_of-self-2 c = record { counted = types_pushed _ _ _ _ _ c.in_ok-push.ensures.items c.type_count-count.ensures c.args.self.now.counted }
+
+pub returns-clause-ok : goal.returns-clause-ok
+returns-clause-ok c = ap shown_sections c.in_ok-push.ensures.items ∙ shown_push _ _

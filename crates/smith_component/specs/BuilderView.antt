@@ -1,0 +1,12 @@
+-- A builder's fields, and what is true of them.
+use Rattle.std.specs.Prelude.{List, map}
+use Rattle.smith_component.specs.Building.{Building, open_of}
+use Rattle.smith_component.specs.Sound.{Sound}
+use Rattle.smith_component.specs.declared.builder.open.OpenComponent.{OpenComponent}
+use Rattle.smith_component.specs.declared.builder.Builder.TheInside.{Inside}
+
+abbrev pub building_of : Inside → Building
+building_of b = record { config = b.config; outer = map (λ c. c.sections.items) b.outer.items; inner = b.inner.sections.items }
+
+abbrev pub IsSound : Inside → Type 0
+IsSound b = Sound b.config b.modules b.components (open_of (building_of b))

@@ -1,0 +1,114 @@
+//! The builder, turn by turn.
+
+ghost use Rattle.std.specs.Prelude.{◌≡◌, ◌↔◌, ◌+◌, ◌≤◌, length, IfOk, IfErr, IsOk};
+ghost use Rattle.smith_input.specs.Reading.{IsTail};
+ghost use Rattle.smith_core.specs.Consistent.{IsConsistent};
+ghost use Rattle.smith_component.specs.Building.{open_of};
+ghost use Rattle.smith_component.specs.Limits.{max_depth};
+ghost use Rattle.smith_component.specs.Shown.{shown_sections};
+ghost use Rattle.smith_component.specs.Steps.{next_of, Keeps};
+ghost use Rattle.smith_component.specs.Tree.{ends};
+ghost use Rattle.smith_component.specs.Turn.{Turn, Falls, root};
+
+mod choose;
+mod nest;
+mod open;
+mod parts;
+
+use crate::component::Component;
+use crate::item::Item;
+use open::OpenComponent;
+use smith_core::Config;
+use smith_input::{Error, Unstructured};
+use std::alloc::Global;
+use std::marker::Model;
+
+/// A component under construction. Contracts see its limits, and the open components, outermost first, each as
+/// its sections so far. At every moment what is built so far is well formed and within the limits.
+#[derive(Drop)]
+pub struct Builder {
+    alloc: Global,
+    config: Config,
+    outer: Vec<OpenComponent>,
+    inner: OpenComponent,
+    modules: usize,
+    components: usize,
+}
+
+impl Model for Builder {
+    ghost use Rattle.smith_component.specs.Building.{Building};
+
+    ghost use Rattle.smith_component.specs.contracts.component.Section as section;
+    ghost use Rattle.std.specs.Coded.{codes};
+
+    ghost Value = { Building };
+
+    ghost coded = { Prim.hlevel (codes, section.the_row.coded) };
+
+    ghost use Rattle.smith_component.specs.BuilderView.{building_of, IsSound};
+
+    ghost view = { building_of };
+
+    ghost invariant = { IsSound };
+}
+
+/// What a turn leads to.
+#[derive(Drop)]
+pub enum Step {
+    StillBuilding(Builder),
+    Finished(Component),
+}
+
+impl Builder {
+    /// A builder with one open component, empty. Limits that do not fit together are refused with
+    /// `InconsistentLimits`.
+    pub fn new(alloc: Global, config: Config) -> Result<Builder, Error>
+        ensures made { IfOk result (λ b. (b.config ≡ config) × (open_of b ≡ root)) }
+        ensures accepts { IsOk result ↔ IsConsistent config }
+        ensures refuses { IfErr result (λ e. e ≡ Error.InconsistentLimits) }
+    {
+        config.check()?;
+        Ok(Builder {
+            alloc,
+            config,
+            outer: Vec::new(alloc),
+            inner: OpenComponent::new(alloc),
+            modules: 0,
+            components: 0,
+        })
+    }
+
+    // What the choice names is done.
+    fn take_turn(self, u: &mut Unstructured) -> Result<Step, Error>
+        ensures turn { IfOk result (λ s. Turn self.config (open_of self) u.old (next_of s) u.new) }
+        ensures keeps { IfOk result (Keeps self.config) }
+        ensures depth { length (open_of self).outer + 1 ≤ max_depth self.config }
+        ensures accepted { IsConsistent self.config }
+        ensures memory { IfErr result (λ e. e ≡ Error.OutOfMemory) }
+        ensures tail { IsTail u.new u.old }
+    {
+        match self.choose_item(u) {
+            Item::Finish => self.finish(),
+            Item::Custom => self.add_custom(),
+            Item::CoreTypes => self.add_core_types(u),
+            Item::Types => self.add_types(u),
+            Item::Imports => self.add_imports(u),
+            Item::Canonical => self.add_canonicals(u),
+            Item::Module => self.add_module(),
+            Item::Component => self.open_component(),
+        }
+    }
+
+    /// One turn: a choice among what may be done, and that. It refuses for want of memory alone.
+    pub fn step(self, u: &mut Unstructured) -> Result<Step, Error>
+        ensures turn { IfOk result (λ s. Turn self.config (open_of self) u.old (next_of s) u.new) }
+        ensures keeps { IfOk result (Keeps self.config) }
+        ensures falls { IfOk result (λ s. Falls self.config u.old (open_of self) u.new (next_of s)) }
+        ensures accepted { IsConsistent self.config }
+        ensures memory { IfErr result (λ e. e ≡ Error.OutOfMemory) }
+        ensures tail { IsTail u.new u.old }
+    {
+        let next = self.take_turn(u)?;
+        Ok(next)
+    }
+}

@@ -1,0 +1,133 @@
+//! Parts that are added to the inner component.
+
+ghost use Rattle.std.specs.Prelude.{◌≡◌, ◌-◌, ◌+◌, ◌≤◌, [], map, length, IfOk, IfErr, IsTrue};
+ghost use Rattle.smith_input.specs.Reading.{IsTail};
+ghost use Rattle.smith_core.specs.Module.{core_preamble};
+ghost use Rattle.smith_types.specs.Shown.{shown_shared};
+ghost use Rattle.smith_component.specs.Addable.{IsAddable};
+ghost use Rattle.smith_component.specs.Building.{open_of};
+ghost use Rattle.smith_component.specs.Shown.{shown_section};
+ghost use Rattle.smith_component.specs.Steps.{next_of, Keeps};
+ghost use Rattle.smith_component.specs.Tree.{custom, core_module};
+ghost use Rattle.smith_component.specs.Turn.{Does, TypesRead, with_part, is_module_offered};
+ghost use Rattle.smith_component.specs.declared.item.Item.TheVariants.{CoreTypes, Types, Imports, Canonical};
+
+use crate::builder::{Builder, Step};
+use crate::component::{
+    CanonicalSection, CoreTypeSection, CustomSection, ImportSection, Section, TypeSection,
+};
+use smith_core::{Config, Module};
+use smith_input::{Error, Unstructured};
+use smith_types::{DefType, arbitrary_type};
+use std::alloc::Global;
+use std::rc::Rc;
+
+// The entries of a type section, at most so many.
+fn read_types(
+    alloc: Global,
+    config: &Config,
+    max: usize,
+    u: &mut Unstructured,
+) -> Result<Vec<Rc<DefType>>, Error>
+    ensures entries { IfOk result (λ v. TypesRead config.now max 0 u.old (map shown_shared v.items) u.new) }
+    ensures bound { IfOk result (λ v. length v.items ≤ max) }
+    ensures memory { IfErr result (λ e. e ≡ Error.OutOfMemory) }
+    ensures tail { IsTail u.new u.old }
+{
+    let mut types = Vec::new(alloc);
+    for done in 0..max {
+        if !u.more(done, 0, max) {
+            return Ok(types);
+        }
+        let mut fuel = config.max_type_size;
+        types.push(arbitrary_type(alloc, u, &mut fuel)?)?;
+    }
+    Ok(types)
+}
+
+impl Builder {
+    // A section is added to the inner component.
+    fn add_section(self, section: Section) -> Result<Step, Error>
+        requires { IsAddable self.config (open_of self) (shown_section section) }
+        ensures added { IfOk result (λ s. next_of s ≡ with_part (open_of self) (shown_section section)) }
+        ensures keeps { IfOk result (Keeps self.config) }
+        ensures memory { IfErr result (λ e. e ≡ Error.OutOfMemory) }
+    {
+        let mut builder = self;
+        let modules = section.module_count();
+        builder.inner.push(section)?;
+        builder.modules += modules;
+        Ok(Step::StillBuilding(builder))
+    }
+
+    // A custom section without name and bytes.
+    pub(crate) fn add_custom(self) -> Result<Step, Error>
+        ensures added { IfOk result (λ s. next_of s ≡ with_part (open_of self) (custom [] [])) }
+        ensures keeps { IfOk result (Keeps self.config) }
+        ensures memory { IfErr result (λ e. e ≡ Error.OutOfMemory) }
+    {
+        let alloc = self.alloc;
+        self.add_section(Section::Custom(CustomSection {
+            name: String::new(alloc),
+            bytes: Vec::new(alloc),
+        }))
+    }
+
+    // A core module without sections.
+    pub(crate) fn add_module(self) -> Result<Step, Error>
+        requires { IsTrue (is_module_offered self.config (open_of self)) }
+        ensures added { IfOk result (λ s. next_of s ≡ with_part (open_of self) (core_module core_preamble)) }
+        ensures keeps { IfOk result (Keeps self.config) }
+        ensures memory { IfErr result (λ e. e ≡ Error.OutOfMemory) }
+    {
+        self.add_section(Section::CoreModule(Module::empty()))
+    }
+
+    // An empty core type section. Its loop ends whatever comes.
+    pub(crate) fn add_core_types(self, u: &mut Unstructured) -> Result<Step, Error>
+        ensures added { IfOk result (λ s. Does self.config CoreTypes (open_of self) u.old (next_of s) u.new) }
+        ensures keeps { IfOk result (Keeps self.config) }
+        ensures memory { IfErr result (λ e. e ≡ Error.OutOfMemory) }
+        ensures tail { IsTail u.new u.old }
+    {
+        u.more(0, 0, self.config.max_types);
+        let types = Vec::new(self.alloc);
+        self.add_section(Section::CoreTypes(CoreTypeSection { types }))
+    }
+
+    // An empty import section. Its loop ends whatever comes.
+    pub(crate) fn add_imports(self, u: &mut Unstructured) -> Result<Step, Error>
+        ensures added { IfOk result (λ s. Does self.config Imports (open_of self) u.old (next_of s) u.new) }
+        ensures keeps { IfOk result (Keeps self.config) }
+        ensures memory { IfErr result (λ e. e ≡ Error.OutOfMemory) }
+        ensures tail { IsTail u.new u.old }
+    {
+        u.more(0, 0, self.config.max_imports);
+        let imports = Vec::new(self.alloc);
+        self.add_section(Section::Imports(ImportSection { imports }))
+    }
+
+    // An empty canonical section. Its loop ends whatever comes.
+    pub(crate) fn add_canonicals(self, u: &mut Unstructured) -> Result<Step, Error>
+        ensures added { IfOk result (λ s. Does self.config Canonical (open_of self) u.old (next_of s) u.new) }
+        ensures keeps { IfOk result (Keeps self.config) }
+        ensures memory { IfErr result (λ e. e ≡ Error.OutOfMemory) }
+        ensures tail { IsTail u.new u.old }
+    {
+        u.more(0, 0, self.config.max_funcs);
+        let funcs = Vec::new(self.alloc);
+        self.add_section(Section::Canonical(CanonicalSection { funcs }))
+    }
+
+    // A type section, with as many types as the component may still have.
+    pub(crate) fn add_types(self, u: &mut Unstructured) -> Result<Step, Error>
+        ensures added { IfOk result (λ s. Does self.config Types (open_of self) u.old (next_of s) u.new) }
+        ensures keeps { IfOk result (Keeps self.config) }
+        ensures memory { IfErr result (λ e. e ≡ Error.OutOfMemory) }
+        ensures tail { IsTail u.new u.old }
+    {
+        let room = self.config.max_types - self.inner.types;
+        let types = read_types(self.alloc, &self.config, room, u)?;
+        self.add_section(Section::Types(TypeSection { types }))
+    }
+}

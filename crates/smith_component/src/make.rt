@@ -1,0 +1,52 @@
+//! Components from input.
+
+ghost use Rattle.std.specs.Prelude.{◌≡◌, ℕ, ◌+◌, ◌≤◌, length, IfOk, IfErr, OnOk};
+ghost use Rattle.smith_input.specs.Reading.{IsTail};
+ghost use Rattle.smith_core.specs.Consistent.{IsConsistent};
+ghost use Rattle.smith_core.specs.Defaults.{IsDefault};
+ghost use Rattle.smith_component.specs.Limits.{Limits, max_depth};
+ghost use Rattle.smith_component.specs.Refusals.{IsRefusal};
+ghost use Rattle.smith_component.specs.Shown.{shown};
+ghost use Rattle.smith_component.specs.Turn.{Run};
+ghost use Rattle.smith_component.specs.WellFormed.{WellFormed};
+ghost use Rattle.smith_core.specs.declared.config.Config.{Config};
+
+use crate::builder::{Builder, Step};
+use crate::component::Component;
+use smith_core::Config;
+use smith_input::{Error, Unstructured};
+use std::alloc::Global;
+
+impl Component {
+    /// The component that the input gives, turn by turn: a run of turns from one empty open component, of at
+    /// most as many as the input has bytes and components may nest. Limits that do not fit together are refused
+    /// with `InconsistentLimits` before a byte is read, and nothing else is refused but for want of memory.
+    pub fn new(alloc: Global, config: Config, u: &mut Unstructured) -> Result<Component, Error>
+        ensures limits { IfOk result (λ c. Limits config (shown c)) }
+        ensures formed { IfOk result (λ c. WellFormed (shown c)) }
+        ensures run { IfOk result (λ c. (k : ℕ) × (k ≤ length u.old + max_depth config) × Run config u.old (shown c) u.new k) }
+        ensures accepts { OnOk result (IsConsistent config) }
+        ensures refuses { IfErr result (IsRefusal config) }
+        ensures unread { ¬ IsConsistent config → u.new ≡ u.old }
+        ensures tail { IsTail u.new u.old }
+    {
+        let mut builder = Builder::new(alloc, config)?;
+        loop {
+            match builder.step(u)? {
+                Step::StillBuilding(next) => builder = next,
+                Step::Finished(component) => return Ok(component),
+            }
+        }
+    }
+
+    /// The component that the input gives within the default limits. It refuses for want of memory alone.
+    pub fn arbitrary(alloc: Global, u: &mut Unstructured) -> Result<Component, Error>
+        ensures limits { IfOk result (λ c. (config : Config) → IsDefault config → Limits config (shown c)) }
+        ensures formed { IfOk result (λ c. WellFormed (shown c)) }
+        ensures run { IfOk result (λ c. (config : Config) → IsDefault config → (k : ℕ) × (k ≤ length u.old + max_depth config) × Run config u.old (shown c) u.new k) }
+        ensures memory { IfErr result (λ e. e ≡ Error.OutOfMemory) }
+        ensures tail { IsTail u.new u.old }
+    {
+        Component::new(alloc, Config::default(), u)
+    }
+}

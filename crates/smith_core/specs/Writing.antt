@@ -1,0 +1,61 @@
+-- What a writer did to a buffer, and how long a piece is.
+use Rattle.std.specs.Prelude.{◌≡◌, ℕ, ◌+◌, ◌^◌, ◌<◌, ◌≤◌, ◌⊎◌, List, ◌++◌, length, Option, Some, None, Result, Ok, Err}
+use Rattle.std.specs.Vec.{vec_len, vec_capacity}
+use Rattle.std.specs.declared.vec.Vec.{Vec}
+use Rattle.std.specs.declared.alloc.Global.{Global}
+use Rattle.smith_input.specs.declared.error.Error.{Error}
+use Rattle.smith_input.specs.declared.error.Error.TheVariants.{TooLong, OutOfMemory}
+use Rattle.smith_core.specs.Piece.{Piece, ◌⊕◌}
+
+-- new holds what old held, and then the piece
+pub record Gains (old new : Vec ℕ Global) (p : Piece) : Type 0 where
+  pub is : Some new.items ≡ Some old.items ⊕ p
+  pub capacity : vec_capacity old ≤ vec_capacity new
+
+-- new holds what old held, and then something
+pub record Begins (old new : Vec ℕ Global) : Type 0 where
+  pub more : List ℕ
+  pub is : new.items ≡ old.items ++ more
+  pub capacity : vec_capacity old ≤ vec_capacity new
+
+-- new holds what old held
+pub record Keeps (old new : Vec ℕ Global) : Type 0 where
+  pub is : new.items ≡ old.items
+  pub capacity : vec_capacity old ≤ vec_capacity new
+
+-- A writer of the piece may answer this error: what is too long has no spelling, and memory can be lacking only where old
+-- had no room for the piece.
+pub record IsDue (e : Error) (old : Vec ℕ Global) (p : Piece) : Type 0 where
+  pub only : (e ≡ TooLong) ⊎ (e ≡ OutOfMemory)
+  pub too_long : e ≡ TooLong → p ≡ None
+  pub full : e ≡ OutOfMemory → (b : List ℕ) → p ≡ Some b → vec_capacity old < vec_len old + length b
+
+-- A writer put the piece behind what was there. After an error a part of it may stand there.
+abbrev pub Puts : {A : Type 0} → Result A Error → Vec ℕ Global → Vec ℕ Global → Piece → Type 0
+Puts (Ok _) old new p = Gains old new p
+Puts (Err e) old new p = Begins old new × IsDue e old p
+
+-- The same, but an error leaves all as it was.
+abbrev pub Appends : {A : Type 0} → Result A Error → Vec ℕ Global → Vec ℕ Global → Piece → Type 0
+Appends (Ok _) old new p = Gains old new p
+Appends (Err e) old new p = Keeps old new × IsDue e old p
+
+-- the piece has a spelling of n bytes
+pub record Takes (n : ℕ) (p : Piece) : Type 0 where
+  pub spelling : List ℕ
+  pub is : p ≡ Some spelling
+  pub long : n ≡ length spelling
+
+-- the piece has no spelling of at most 4,294,967,295 bytes
+pub record TakesTooMuch (p : Piece) : Type 0 where
+  pub is : (b : List ℕ) → p ≡ Some b → 2 ^ 32 ≤ length b
+
+-- The length of the piece's spelling, or None exactly where it has none of at most 4,294,967,295 bytes.
+abbrev pub IsLengthOf : Option ℕ → Piece → Type 0
+IsLengthOf (Some n) p = Takes n p × (n < 2 ^ 32)
+IsLengthOf None p = TakesTooMuch p
+
+-- The length of the piece's spelling, or TooLong exactly where it has none.
+abbrev pub Measures : Result ℕ Error → Piece → Type 0
+Measures (Ok n) p = Takes n p
+Measures (Err e) p = (e ≡ TooLong) × (p ≡ None)
