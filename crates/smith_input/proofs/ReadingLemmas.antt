@@ -61,3 +61,11 @@ more_full bytes h = record {
   forced = λ lt. absurd (omega arith);
   flipped = λ lt. absurd (omega arith);
 }
+
+-- a loop that goes on has not made all its turns
+pub more_within : {done min max : ℕ} {bytes rest : List ℕ} → More done min max bytes true rest → done < max
+more_within {done} {min} {max} m = ⊎_elim (λ lt. lt) (λ le. absurd (let e : true ≡ false = (m.full le).0 in cc)) (cases_lt done max)
+
+-- below its minimum it goes on
+pub more_past : {done min max : ℕ} {bytes rest : List ℕ} → done < max → More done min max bytes false rest → min ≤ done
+more_past {done} {min} {max} lt m = ⊎_elim (λ below. absurd (let e : false ≡ true = (m.forced lt below).0 in cc)) (λ le. le) (cases_lt done min)

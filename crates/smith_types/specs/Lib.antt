@@ -1,5 +1,9 @@
 pub mod Entries
 pub mod Grammar
 pub mod Made
+pub mod Places
+pub mod Scope
 pub mod Shown
+pub mod Stack
+pub mod Tied
 pub mod WellFormed

@@ -1,29 +1,13 @@
 -- Which types are well formed, in the scopes in which they stand (Explainer.md, type definitions, index spaces).
-use Rattle.std.specs.Prelude.{◌≡◌, ℕ, ◌≤◌, List, [], ◌∷◌, ◌++◌, length, Option, Some, None, slice_get}
+use Rattle.std.specs.Prelude.{◌≡◌, ℕ, ◌≤◌, true, List, [], ◌∷◌, length, Option, Some, None, slice_get}
 use Rattle.std.specs.List.{AllByRecursion}
-use Rattle.smith_types.specs.Entries.{Val, Entry, CoreEntry, primitive, indexed, plain, listed, tuple, optional, outcome}
-
--- what stands before a place in one scope: the types and the core types
-pub record Scope : Type 0 where
-  pub types : List Entry
-  pub core_types : List CoreEntry
-
--- the scope with one type more
-abbrev pub with_type : Scope → Entry → Scope
-with_type s e = record { types = s.types ++ e ∷ []; core_types = s.core_types }
-
--- the types of values, as against those of functions, components and instances
-abbrev pub IsDefined : Entry → Type 0
-IsDefined (plain p) = Unit {0}
-IsDefined (listed v) = Unit {0}
-IsDefined (tuple vs) = Unit {0}
-IsDefined (optional v) = Unit {0}
-IsDefined (outcome ok err) = Unit {0}
+use Rattle.smith_types.specs.Scope.{Scope, with_type, is_defined}
+use Rattle.smith_types.specs.Entries.{Val, Entry, primitive, indexed, plain, listed, tuple, optional, outcome}
 
 -- An indexed value type names a defined type of the scope in which it stands.
 abbrev pub FormedVal : Scope → Val → Type 0
 FormedVal own (primitive p) = Unit {0}
-FormedVal own (indexed i) = (e : Entry) × (slice_get own.types i ≡ Some e) × IsDefined e
+FormedVal own (indexed i) = (e : Entry) × (slice_get own.types i ≡ Some e) × (is_defined e ≡ true)
 
 abbrev pub FormedMaybe : Scope → Option Val → Type 0
 FormedMaybe own None = Unit {0}
@@ -41,3 +25,11 @@ FormedEntry (outcome ok err) own outer = FormedMaybe own ok × FormedMaybe own e
 abbrev pub FormedTypes : List Entry → Scope → List Scope → Type 0
 FormedTypes [] own outer = Unit {0}
 FormedTypes (e ∷ es) own outer = FormedEntry e own outer × FormedTypes es (with_type own e) outer
+
+-- How many members there are, at all depths.
+abbrev pub size : Entry → ℕ
+size (plain p) = 0
+size (listed v) = 0
+size (tuple vs) = length vs
+size (optional v) = 0
+size (outcome ok err) = 0

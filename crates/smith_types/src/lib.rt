@@ -3,9 +3,11 @@
 
 pub mod drops;
 pub mod make;
+pub mod scopes;
 pub mod types;
 
 pub use make::arbitrary_type;
+pub use scopes::{Kind, Scopes};
 pub use types::{
     ComponentValType, CoreType, DefType, DefinedType, Import, ListType, OptionType,
     PrimitiveValType, ResultType, TupleType,

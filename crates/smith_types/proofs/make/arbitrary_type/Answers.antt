@@ -1,16 +1,10 @@
-use Rattle.std.proofs.Common.{◌≡◌, ap, sym, arith, subst, List, ℕ}
-use Rattle.smith_types.specs.Entries.{Entry}
-use Rattle.smith_types.specs.Made.{Made, MadeDefined, spent, of_kind}
-use Rattle.smith_types.specs.Shown.{shown_type, shown_shared, shown_defined}
+use Rattle.std.proofs.lemmas.Result.{IfOk-weaker}
+use Rattle.smith_types.specs.Scope.{inward, own_of, outer_of}
+use Rattle.smith_types.proofs.MadeLemmas.{made_formed, made_size}
 use Rattle.smith_types.proofs.make.arbitrary_type.Goals as goal
-use Rattle.smith_types.proofs.make.arbitrary_type.Goals.{then-fuel-gt0, else-fuel-gt0}
 
-pub returns-clause-made : goal.returns-clause-made
-returns-clause-made c =
-    let P : Entry → Type 0 = λ e. Made c.args.u.now c.args.fuel.now e c.defined_type-defined.new.u c.burn.new.fuel in
-    let D : List ℕ → Type 0 = λ b. MadeDefined b (shown_defined c.defined_type-defined.result) c.defined_type-defined.new.u in
-    subst P (ap shown_type (sym c.in_ok-shared.ensures.ok))
-    (elim c.if-fuel-gt0.branch [
-      | then-fuel-gt0 w ↦ of_kind (omega arith) c.burn.ensures w.choose_index.ensures (subst D w.u-is c.defined_type-defined.ensures.made)
-      | else-fuel-gt0 w ↦ spent (omega arith) (omega arith) (subst D w.u-is c.defined_type-defined.ensures.made)
-    ])
+pub returns-clause-formed : goal.returns-clause-formed
+returns-clause-formed c = IfOk-weaker c.made_type.result _ _ (λ t h. made_formed _ _ _ _ _ _ _ h) c.made_type.ensures.made
+
+pub returns-clause-size : goal.returns-clause-size
+returns-clause-size c = IfOk-weaker c.made_type.result _ _ (λ t h. made_size _ _ _ _ _ _ _ h) c.made_type.ensures.made

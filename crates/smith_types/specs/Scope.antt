@@ -1,0 +1,52 @@
+-- Scopes: what types stand where (Explainer.md, index spaces).
+use Rattle.std.specs.Prelude.{ℕ, Bool, true, List, [], ◌∷◌, ◌++◌, map, reverse}
+use Rattle.smith_types.specs.Entries.{Entry, CoreEntry, plain, listed, tuple, optional, outcome}
+use Rattle.smith_types.specs.Places.{places}
+use Rattle.smith_types.specs.Shown.{shown_type}
+use Rattle.smith_types.specs.declared.scopes.Kind.{Kind}
+use Rattle.smith_types.specs.declared.scopes.Kind.TheVariants.{Defined}
+use Rattle.smith_types.specs.declared.types.DefType.{DefType}
+
+-- what stands before a place in one scope: the types and the core types
+pub record Scope : Type 0 where
+  pub types : List Entry
+  pub core_types : List CoreEntry
+
+abbrev pub empty_scope : Scope
+empty_scope = record { types = []; core_types = [] }
+
+-- the scope with one type more
+abbrev pub with_type : Scope → Entry → Scope
+with_type s e = record { types = s.types ++ e ∷ []; core_types = s.core_types }
+
+-- Is it a type of values, as against one of functions, components or instances?
+abbrev pub is_defined : Entry → Bool
+is_defined (plain p) = true
+is_defined (listed v) = true
+is_defined (tuple vs) = true
+is_defined (optional v) = true
+is_defined (outcome ok err) = true
+
+abbrev pub is_kind : Kind → Entry → Bool
+is_kind Defined e = is_defined e
+
+-- the indexes of the defined types, rising
+abbrev pub defined_places : Scope → List ℕ
+defined_places s = places is_defined 0 s.types
+
+-- the types of a scope of the program, as plain trees
+abbrev pub shown_scope : List DefType → Scope
+shown_scope types = record { types = map shown_type types; core_types = [] }
+
+-- the scopes of the program, which are outermost first, innermost first
+abbrev pub inward : List (List DefType) → List Scope
+inward scopes = reverse (map shown_scope scopes)
+
+-- the innermost scope, and those around it
+abbrev pub own_of : List Scope → Scope
+own_of [] = empty_scope
+own_of (own ∷ outer) = own
+
+abbrev pub outer_of : List Scope → List Scope
+outer_of [] = []
+outer_of (own ∷ outer) = outer
