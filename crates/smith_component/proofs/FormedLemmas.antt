@@ -1,6 +1,6 @@
 -- Well formed trees grow at the inner component.
 use Rattle.std.proofs.Common.{◌≡◌, List, [], ◌∷◌, sym, subst}
-use Rattle.smith_types.specs.WellFormed.{Scope}
+use Rattle.smith_types.specs.Scope.{Scope}
 use Rattle.smith_component.specs.Tree.{Tree, ends, first, Part, component, add, join}
 use Rattle.smith_component.specs.Turn.{tree_so_far}
 use Rattle.smith_component.specs.Scopes.{scopes_from}

@@ -3,11 +3,13 @@ use Rattle.std.proofs.Common.{◌≡◌, ℕ, ◌+◌, ◌<◌, ◌≤◌, List,
 use Rattle.std.specs.List.{AllByRecursion}
 use Rattle.std.proofs.lemmas.Bool.Decides.{nat_tests}
 use Rattle.smith_core.specs.declared.config.Config.{Config}
-use Rattle.smith_types.specs.Entries.{Entry}
+use Rattle.smith_types.specs.Entries.{Entry, CoreEntry}
+use Rattle.smith_types.specs.Scope.{Scope, empty_scope, with_types}
 use Rattle.smith_component.specs.Tree.{Tree, ends, Part, custom, core_module, core_types, component, types, canons, imports, add, own, inside, modules, names_in, types_in, core_types_in, imports_in, canons_in, components_in, modules_in, anywhere, anywhere_in, depth_in}
 use Rattle.smith_component.specs.Turn.{Open, building, Closes, tree_so_far, is_module_offered, is_component_offered}
-use Rattle.smith_component.specs.WellFormed.{FormedPart, WellFormed}
-use Rattle.smith_component.specs.Scopes.{scopes_in}
+use Rattle.smith_component.specs.WellFormed.{FormedPart, WellFormed, scope_of}
+use Rattle.smith_component.specs.Scopes.{scopes_in, scopes_from}
+use Rattle.smith_component.specs.Sizes.{SmallTypes, OwnSizes, Sized}
 use Rattle.smith_component.specs.Limits.{OwnLimits, Limits}
 use Rattle.smith_component.specs.Addable.{IsAddable}
 use Rattle.smith_component.specs.Sound.{Sound}
@@ -72,6 +74,16 @@ modules_in_own (types ts) e = refl
 modules_in_own (canons fs) e = refl
 modules_in_own (imports is) e = refl
 
+-- Sizes, where a component grows.
+own_sizes-add : (config : Config) (t : Tree) (p : Part) → OwnSizes config t → SmallTypes config (types_in p) → OwnSizes config (add t p)
+own_sizes-add config t p o small = subst (SmallTypes config) (sym (own-add types_in t p)) (all_both _ (own types_in t) (types_in p) o small)
+
+own_sizes_swap : (config : Config) → Swaps (OwnSizes config)
+own_sizes_swap config u a b o = own_sizes-add config u (component b) (all_front _ (own types_in u) [] (subst (SmallTypes config) (own-add types_in u (component a)) o)) tt
+
+own_sizes_of : (config : Config) (m n : ℕ) (stack : Open) → Sound config m n stack → OwnSizes config stack.inner
+own_sizes_of config m n stack s = all_inner (OwnSizes config) stack.outer stack.inner s.sized
+
 -- The inner component keeps its own limits.
 pub own_limits_of : (config : Config) (m n : ℕ) (stack : Open) → Sound config m n stack → OwnLimits config stack.inner
 own_limits_of config m n stack s = all_inner (OwnLimits config) stack.outer stack.inner s.limits.each
@@ -91,6 +103,9 @@ sound_part config m n outer inner p a s =
         components = omega (arith, length-inside-so_far outer inner p, s.limits.components, none);
         depth = omega (arith, depth-so_far outer inner p, depth-outer outer inner, s.limits.depth, a.flat);
       };
+      sized =
+          all_so_far (OwnSizes config) (own_sizes_swap config) outer inner p (own_sizes-add config inner p (own_sizes_of config m n (record { outer = outer; inner = inner }) s) a.sizes)
+          (subst (AllByRecursion (OwnSizes config)) (sym a.no_component) tt) s.sized;
     }
 
 sound_close : (config : Config) (m n : ℕ) (outer : List Tree) (parent inner : Tree) → Sound config m n (record { outer = outer ++ parent ∷ []; inner = inner }) → Sound config m n (record { outer = outer; inner = add parent (component inner) })
@@ -102,6 +117,7 @@ sound_close config m n outer parent inner s =
       components_are = s.components_are ∙ ap (λ t. length (inside t)) e;
       formed = subst WellFormed e s.formed;
       limits = subst (Limits config) e s.limits;
+      sized = subst (Sized config) e s.sized;
     }
 
 sound_open : (config : Config) (m n : ℕ) (outer : List Tree) (inner : Tree) → length outer + 1 < config.max_nesting_depth → n < config.max_components → Sound config m n (record { outer = outer; inner = inner }) → Sound config m (n + 1) (record { outer = outer ++ inner ∷ []; inner = ends })
@@ -121,6 +137,9 @@ sound_open config m n outer inner deep few s =
       components_are = omega (arith, length-inside-so_far outer inner (component ends), s.components_are, ap (λ t. length (inside t)) e);
       formed = subst WellFormed (sym e) (formed_so_far outer [] inner (component ends) s.formed tt);
       limits = subst (Limits config) (sym e) whole;
+      sized =
+          subst (Sized config) (sym e)
+          (all_so_far (OwnSizes config) (own_sizes_swap config) outer inner (component ends) (own_sizes-add config inner (component ends) (own_sizes_of config m n (record { outer = outer; inner = inner }) s) tt) (tt, tt) s.sized);
     }
 
 -- A part that adds nothing but names and modules.
@@ -133,6 +152,7 @@ addable_bare config stack p f ts cs is fs ns ms none flat = record {
   own = λ o.
       own_limits-add config stack.inner p o (omega (arith, o.types, ap length ts)) (omega (arith, o.core_types, ap length cs)) (omega (arith, o.imports, ap length is)) (omega (arith, o.functions, ap length fs))
       ns;
+  sizes = subst (SmallTypes config) (sym ts) tt;
   modules = ms;
   no_component = none;
   flat = flat;
@@ -145,10 +165,11 @@ pub addable_empty : (config : Config) (stack : Open) (p : Part) → FormedPart p
 addable_empty config stack p f ts cs is fs ns ms none flat = addable_bare config stack p f ts cs is fs ns (λ h. omega (arith, h, ap length ms)) none flat
 
 -- Types that find room.
-pub addable_types : (config : Config) (stack : Open) (es : List Entry) → FormedPart (types es) (scopes_in stack.outer) stack.inner → length (own types_in stack.inner) + length es ≤ config.max_types → IsAddable config stack (types es)
-addable_types config stack es f room = record {
+pub addable_types : (config : Config) (stack : Open) (es : List Entry) → FormedPart (types es) (scopes_in stack.outer) stack.inner → length (own types_in stack.inner) + length es ≤ config.max_types → SmallTypes config es → IsAddable config stack (types es)
+addable_types config stack es f room small = record {
   formed = f;
   own = λ o. own_limits-add config stack.inner (types es) o room (omega (arith, o.core_types)) (omega (arith, o.imports)) (omega (arith, o.functions)) tt;
+  sizes = small;
   modules = λ h. omega (arith, h);
   no_component = refl;
   flat = refl;
@@ -160,6 +181,11 @@ pub part_added : (config : Config) (m n k : ℕ) (outer : List Tree) (inner new 
 part_added config m n k outer inner new p a count e s =
     subst (λ j. Sound config (m + j) n (record { outer = outer; inner = new })) (sym count)
     (subst (λ t. Sound config (m + length (modules_in p)) n (record { outer = outer; inner = t })) (sym e) (sound_part config m n outer inner p a s))
+
+pub types_added : (config : Config) (m n : ℕ) (outer : List Tree) (inner new : Tree) (es : List Entry) → IsAddable config (record { outer = outer; inner = inner }) (types es) → new ≡ add inner (types es) → Sound config m n (record { outer = outer; inner = inner }) → Sound config m n (record { outer = outer; inner = new })
+types_added config m n outer inner new es a e s =
+    subst (λ j. Sound config j n (record { outer = outer; inner = new })) (let z : m + 0 ≡ m = omega arith in z)
+    (part_added config m n 0 outer inner new (types es) a refl e s)
 
 pub closed : (config : Config) (m n : ℕ) (around outer : List Tree) (parent inner new : Tree) → around ≡ outer ++ parent ∷ [] → new ≡ add parent (component inner) → Sound config m n (record { outer = around; inner = inner }) → Sound config m n (record { outer = outer; inner = new })
 closed config m n around outer parent inner new a e s =
@@ -179,3 +205,36 @@ module_offered_is config stack h = grind (arith, nat_tests)
 
 pub closes : (around outer : List Tree) (parent inner new : Tree) → around ≡ outer ++ parent ∷ [] → new ≡ add parent (component inner) → Closes (record { outer = around; inner = inner }) (building (record { outer = outer; inner = new }))
 closes around outer parent inner new a e = inr (outer, parent, a, ap (λ t. building (record { outer = outer; inner = t })) e)
+
+-- Scopes, where a component grows.
+
+pub scope_bare : (t : Tree) (p : Part) → types_in p ≡ [] → core_types_in p ≡ [] → scope_of (add t p) ≡ scope_of t
+scope_bare t p ts cs =
+    let a : own types_in (add t p) ≡ own types_in t = own-add types_in t p ∙ (ap (λ x. own types_in t ++ x) ts ∙ append-nil (own types_in t)) in
+    let b : own core_types_in (add t p) ≡ own core_types_in t = own-add core_types_in t p ∙ (ap (λ x. own core_types_in t ++ x) cs ∙ append-nil (own core_types_in t)) in
+    λ i. record { types = a i; core_types = b i }
+
+pub scope_types : (t : Tree) (es : List Entry) → scope_of (add t (types es)) ≡ with_types (scope_of t) es
+scope_types t es =
+    let a : own types_in (add t (types es)) ≡ own types_in t ++ es = own-add types_in t (types es) in
+    let b : own core_types_in (add t (types es)) ≡ own core_types_in t = own-add core_types_in t (types es) ∙ append-nil (own core_types_in t) in
+    λ i. record { types = a i; core_types = b i }
+
+pub scopes_from-snoc : (us : List Tree) (u : Tree) (outer : List Scope) → scopes_from (us ++ u ∷ []) outer ≡ scope_of u ∷ scopes_from us outer
+scopes_from-snoc [] u outer = refl
+scopes_from-snoc (v ∷ us) u outer = scopes_from-snoc us u (scope_of v ∷ outer)
+
+pub length-scopes_from : (us : List Tree) (outer : List Scope) → length (scopes_from us outer) ≡ length us + length outer
+length-scopes_from [] outer = omega arith
+length-scopes_from (u ∷ us) outer = omega (arith, length-scopes_from us (scope_of u ∷ outer))
+
+-- A part that adds no type.
+pub record Quietly (config : Config) (stack : Open) (p : Part) : Type 0 where
+  pub addable : IsAddable config stack p
+  pub quiet : scope_of (add stack.inner p) ≡ scope_of stack.inner
+
+pub quietly_shown : (config : Config) (stack : Open) (p q : Part) → p ≡ q → Quietly config stack q → Quietly config stack p
+quietly_shown config stack p q e h = subst (Quietly config stack) (sym e) h
+
+pub same_tail : (s t : Scope) (ss ts : List Scope) → s ∷ ss ≡ t ∷ ts → ss ≡ ts
+same_tail s t ss ts e = cc

@@ -59,7 +59,7 @@ does_length : (config : Config) (item : Item) (stack next : Open) (b r : List â„
 does_length config Finish stack next b r e m (d, c) = (omega (arith, closes_length stack next c), omega (arith, ap length d))
 does_length config Custom stack next b r e m (d, c) = (omega (arith, part_length config stack next (custom [] []) c), omega (arith, ap length d))
 does_length config CoreTypes stack next b r e m (a, more, c) = (omega (arith, part_length config stack next (core_types []) c), tail_length r b (more_tail more))
-does_length config Types stack next b r e m (xs, es, c) = (omega (arith, part_length config stack next (types xs) c), tail_length r b (types_read_tail xs config _ _ b r es))
+does_length config Types stack next b r e m (xs, es, c) = (omega (arith, part_length config stack next (types xs) c), tail_length r b (types_read_tail xs config _ _ _ _ b r es))
 does_length config Imports stack next b r e m (a, more, c) = (omega (arith, part_length config stack next (imports []) c), tail_length r b (more_tail more))
 does_length config Canonical stack next b r e m (a, more, c) = (omega (arith, part_length config stack next (canons []) c), tail_length r b (more_tail more))
 does_length config Module stack next b r e m (d, c) = (omega (arith, part_length config stack next (core_module core_preamble) c), omega (arith, ap length d))

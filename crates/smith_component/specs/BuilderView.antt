@@ -1,7 +1,8 @@
 -- A builder's fields, and what is true of them.
 use Rattle.std.specs.Prelude.{List, map}
+use Rattle.smith_types.specs.Scope.{inward}
 use Rattle.smith_component.specs.Building.{Building, open_of}
-use Rattle.smith_component.specs.Sound.{Sound}
+use Rattle.smith_component.specs.Sound.{Standing}
 use Rattle.smith_component.specs.declared.builder.open.OpenComponent.{OpenComponent}
 use Rattle.smith_component.specs.declared.builder.Builder.TheInside.{Inside}
 
@@ -9,4 +10,4 @@ abbrev pub building_of : Inside → Building
 building_of b = record { config = b.config; outer = map (λ c. c.sections.items) b.outer.items; inner = b.inner.sections.items }
 
 abbrev pub IsSound : Inside → Type 0
-IsSound b = Sound b.config b.modules b.components (open_of (building_of b))
+IsSound b = Standing b.config (inward b.scopes) b.modules b.components (open_of (building_of b))

@@ -6,6 +6,7 @@ pub mod Limits
 pub mod Refusals
 pub mod Scopes
 pub mod Shown
+pub mod Sizes
 pub mod Sound
 pub mod Steps
 pub mod Tree

@@ -1,6 +1,6 @@
 -- The scopes around the inner one of several open components.
 use Rattle.std.specs.Prelude.{List, [], ◌∷◌}
-use Rattle.smith_types.specs.WellFormed.{Scope}
+use Rattle.smith_types.specs.Scope.{Scope}
 use Rattle.smith_component.specs.Tree.{Tree}
 use Rattle.smith_component.specs.WellFormed.{scope_of}
 

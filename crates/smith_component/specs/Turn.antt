@@ -5,8 +5,11 @@ use Rattle.smith_core.specs.Module.{core_preamble}
 use Rattle.smith_core.specs.declared.config.Config.{Config}
 use Rattle.smith_types.specs.Entries.{Entry}
 use Rattle.smith_types.specs.Made.{Made}
+use Rattle.smith_types.specs.Scope.{Scope, with_type}
 use Rattle.smith_component.specs.Tree.{Tree, Part, ends, custom, core_module, core_types, component, types, canons, imports, add, types_of, inside, modules}
 use Rattle.smith_component.specs.Limits.{max_depth}
+use Rattle.smith_component.specs.Scopes.{scopes_in}
+use Rattle.smith_component.specs.WellFormed.{scope_of}
 use Rattle.smith_component.specs.declared.item.Item.{Item}
 use Rattle.smith_component.specs.declared.item.Item.TheVariants.{Finish, Custom, CoreTypes, Types, Imports, Canonical, Module, Component}
 
@@ -66,11 +69,13 @@ Closes stack next =
     ((stack.outer ≡ []) × (next ≡ answered stack.inner))
     ⊎ ((outers : List Tree) × (parent : Tree) × (stack.outer ≡ outers ++ parent ∷ []) × (next ≡ building (record { outer = outers; inner = add parent (component stack.inner) })))
 
--- Entries of a type section, the loop having made so many turns of at most max: each has fresh fuel.
-abbrev pub TypesRead : Config → ℕ → ℕ → List ℕ → List Entry → List ℕ → Type 0
-TypesRead config max done b [] rest = More done 0 max b false rest
-TypesRead config max done b (x ∷ xs) rest =
-    (mid : List ℕ) × More done 0 max b true mid × (after : List ℕ) × (left : ℕ) × Made mid config.max_type_size x after left × TypesRead config max (done + 1) after xs rest
+-- Entries of a type section, the loop having made so many turns of at most max: each has fresh fuel, and stands in the scopes
+-- that the entries before it leave.
+abbrev pub TypesRead : Config → List Scope → ℕ → Scope → ℕ → List ℕ → List Entry → List ℕ → Type 0
+TypesRead config outer max own done b [] rest = More done 0 max b false rest
+TypesRead config outer max own done b (x ∷ xs) rest =
+    (mid : List ℕ) × More done 0 max b true mid × (after : List ℕ) × (left : ℕ) × Made own outer mid config.max_type_size x after left
+    × TypesRead config outer max (with_type own x) (done + 1) after xs rest
 
 -- A section to which nothing is added so far: its loop asks once whether it goes on, and ends whatever comes.
 abbrev pub Empty : ℕ → Part → Open → List ℕ → Next → List ℕ → Type 0
@@ -82,7 +87,7 @@ Does config Finish stack b next rest = (rest ≡ b) × Closes stack next
 Does config Custom stack b next rest = (rest ≡ b) × (next ≡ with_part stack (custom [] []))
 Does config CoreTypes stack b next rest = Empty config.max_types (core_types []) stack b next rest
 Does config Types stack b next rest =
-    (xs : List Entry) × TypesRead config (config.max_types - length (types_of stack.inner)) 0 b xs rest × (next ≡ with_part stack (types xs))
+    (xs : List Entry) × TypesRead config (scopes_in stack.outer) (config.max_types - length (types_of stack.inner)) (scope_of stack.inner) 0 b xs rest × (next ≡ with_part stack (types xs))
 Does config Imports stack b next rest = Empty config.max_imports (imports []) stack b next rest
 Does config Canonical stack b next rest = Empty config.max_funcs (canons []) stack b next rest
 Does config Module stack b next rest = (rest ≡ b) × (next ≡ with_part stack (core_module core_preamble))

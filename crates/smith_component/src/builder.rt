@@ -20,6 +20,7 @@ use crate::item::Item;
 use open::OpenComponent;
 use smith_core::Config;
 use smith_input::{Error, Unstructured};
+use smith_types::Scopes;
 use std::alloc::Global;
 use std::marker::Model;
 
@@ -29,6 +30,7 @@ use std::marker::Model;
 pub struct Builder {
     alloc: Global,
     config: Config,
+    scopes: Scopes,
     outer: Vec<OpenComponent>,
     inner: OpenComponent,
     modules: usize,
@@ -71,6 +73,7 @@ impl Builder {
         Ok(Builder {
             alloc,
             config,
+            scopes: Scopes::new(alloc),
             outer: Vec::new(alloc),
             inner: OpenComponent::new(alloc),
             modules: 0,

@@ -7,6 +7,7 @@ ghost use Rattle.smith_core.specs.Defaults.{IsDefault};
 ghost use Rattle.smith_component.specs.Limits.{Limits, max_depth};
 ghost use Rattle.smith_component.specs.Refusals.{IsRefusal};
 ghost use Rattle.smith_component.specs.Shown.{shown};
+ghost use Rattle.smith_component.specs.Sizes.{Sized};
 ghost use Rattle.smith_component.specs.Turn.{Run};
 ghost use Rattle.smith_component.specs.WellFormed.{WellFormed};
 ghost use Rattle.smith_core.specs.declared.config.Config.{Config};
@@ -24,6 +25,7 @@ impl Component {
     pub fn new(alloc: Global, config: Config, u: &mut Unstructured) -> Result<Component, Error>
         ensures limits { IfOk result (λ c. Limits config (shown c)) }
         ensures formed { IfOk result (λ c. WellFormed (shown c)) }
+        ensures sizes { IfOk result (λ c. Sized config (shown c)) }
         ensures run { IfOk result (λ c. (k : ℕ) × (k ≤ length u.old + max_depth config) × Run config u.old (shown c) u.new k) }
         ensures accepts { OnOk result (IsConsistent config) }
         ensures refuses { IfErr result (IsRefusal config) }
@@ -43,6 +45,7 @@ impl Component {
     pub fn arbitrary(alloc: Global, u: &mut Unstructured) -> Result<Component, Error>
         ensures limits { IfOk result (λ c. (config : Config) → IsDefault config → Limits config (shown c)) }
         ensures formed { IfOk result (λ c. WellFormed (shown c)) }
+        ensures sizes { IfOk result (λ c. (config : Config) → IsDefault config → Sized config (shown c)) }
         ensures run { IfOk result (λ c. (config : Config) → IsDefault config → (k : ℕ) × (k ≤ length u.old + max_depth config) × Run config u.old (shown c) u.new k) }
         ensures memory { IfErr result (λ e. e ≡ Error.OutOfMemory) }
         ensures tail { IsTail u.new u.old }

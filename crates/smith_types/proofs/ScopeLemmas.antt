@@ -1,12 +1,12 @@
 -- Stacks of scopes, and the places of their entries.
-use Rattle.std.proofs.Common.{◌≡◌, ℕ, ◌+◌, ◌<◌, ◌≤◌, Bool, true, false, cond, List, [], ◌∷◌, ◌++◌, length, map, reverse, refl, sym, ap, ◌∙◌, arith, append-nil}
+use Rattle.std.proofs.Common.{◌≡◌, ℕ, ◌+◌, ◌<◌, ◌≤◌, Bool, true, false, cond, List, [], ◌∷◌, ◌++◌, length, map, reverse, refl, sym, ap, ◌∙◌, arith, append-nil, append_assoc}
 use Rattle.std.specs.Prelude.{slice_get, Some, if◌then◌else◌}
-use Rattle.std.proofs.lemmas.List.{reverse-append, map-append, length-map}
+use Rattle.std.proofs.lemmas.List.{reverse-append, map-append, length-map, length-reverse}
 use Rattle.std.specs.declared.alloc.Global.{Global}
 use Rattle.std.specs.declared.rc.Rc.{Rc}
 use Rattle.smith_types.specs.Entries.{Entry, plain, listed, tuple, optional, outcome}
 use Rattle.smith_types.specs.Places.{places}
-use Rattle.smith_types.specs.Scope.{Scope, shown_scope, inward, own_of, is_defined, is_kind}
+use Rattle.smith_types.specs.Scope.{Scope, empty_scope, with_type, with_types, shown_scope, inward, own_of, outer_of, is_defined, is_kind}
 use Rattle.smith_types.specs.Shown.{shown_type}
 use Rattle.smith_types.specs.Stack.{last_of, AddsType}
 use Rattle.smith_types.specs.Tied.{types_in, IsTied}
@@ -77,3 +77,64 @@ tied_push types defined ty t = record {
 pub tied_pushed : (entries new : List (Rc DefType Global)) (entry : Rc DefType Global) (defined after : List ℕ) (index : ℕ) → new ≡ entries ++ entry ∷ [] → after ≡ defined ++ index ∷ [] → index ≡ length entries → IsTied (types_in entries) defined → IsTied (types_in new) after
 tied_pushed entries new entry defined after index n a i t =
     rw (n, a, map-append (λ (x : Rc DefType Global). x.value) entries (entry ∷ []), i, sym (length-map entries (λ (x : Rc DefType Global). x.value))) (tied_push (types_in entries) defined entry.value t)
+
+pub length-inward : (scopes : List (List DefType)) → length (inward scopes) ≡ length scopes
+length-inward scopes = length-reverse (map shown_scope scopes) ∙ length-map scopes shown_scope
+
+-- A list is empty, or something in front of its last item.
+record Snoc (xs : List (List DefType)) : Type 0 where
+  front : List (List DefType)
+  last : List DefType
+  is : xs ≡ front ++ last ∷ []
+
+snoc_of : (x : List DefType) (xs : List (List DefType)) → Snoc (x ∷ xs)
+snoc_of x [] = record { front = []; last = x; is = refl }
+snoc_of x (y ∷ xs) = let s = snoc_of y xs in record { front = x ∷ s.front; last = s.last; is = ap (λ l. x ∷ l) s.is }
+
+-- The innermost scope shows the types of the last one.
+pub own_last : (scopes : List (List DefType)) → (own_of (inward scopes)).types ≡ map shown_type (last_of scopes)
+own_last [] = refl
+own_last (x ∷ xs) =
+    let s = snoc_of x xs in
+    own_types (x ∷ xs) s.front s.last (sym s.is) ∙ ap (map shown_type) (sym (ap last_of s.is ∙ last_of-snoc s.front s.last))
+
+pub length-last : (scopes : List (List DefType)) → length (last_of scopes) ≡ length (own_of (inward scopes)).types
+length-last scopes = sym (ap length (own_last scopes) ∙ length-map (last_of scopes) shown_type)
+
+-- what a type more makes of the scopes, innermost first
+pub record Grown (old : List (List DefType)) (e : Entry) (new : List (List DefType)) : Type 0 where
+  pub own : own_of (inward new) ≡ with_type (own_of (inward old)) e
+  pub outer : outer_of (inward new) ≡ outer_of (inward old)
+  pub whole : inward new ≡ own_of (inward new) ∷ outer_of (inward new)
+  pub was : inward old ≡ own_of (inward old) ∷ outer_of (inward old)
+
+pub grown : (old new : List (List DefType)) (ty : DefType) → AddsType old ty new → Grown old (shown_type ty) new
+grown old new ty a =
+    let b : inward old ≡ shown_scope a.own ∷ inward a.outer = ap inward a.before ∙ inward-snoc a.outer a.own in
+    let n : inward new ≡ shown_scope (a.own ++ ty ∷ []) ∷ inward a.outer = ap inward a.after ∙ inward-snoc a.outer (a.own ++ ty ∷ []) in
+    let types : map shown_type (a.own ++ ty ∷ []) ≡ map shown_type a.own ++ shown_type ty ∷ [] = map-append shown_type a.own (ty ∷ []) in
+    record {
+      own = ap own_of n ∙ (ap (λ ts. record { types = ts; core_types = [] }) types ∙ ap (λ s. with_type s (shown_type ty)) (sym (ap own_of b)));
+      outer = ap outer_of n ∙ sym (ap outer_of b);
+      whole = n ∙ (ap (λ s. s ∷ inward a.outer) (sym (ap own_of n)) ∙ ap (λ ss. own_of (inward new) ∷ ss) (sym (ap outer_of n)));
+      was = b ∙ (ap (λ s. s ∷ inward a.outer) (sym (ap own_of b)) ∙ ap (λ ss. own_of (inward old) ∷ ss) (sym (ap outer_of b)));
+    }
+
+-- A scope is opened, and closed.
+
+pub opened_scope : (old new : List (List DefType)) → new ≡ old ++ [] ∷ [] → inward new ≡ empty_scope ∷ inward old
+opened_scope old new e = ap inward e ∙ inward-snoc old []
+
+pub closed_scope : (old new : List (List DefType)) (last : List DefType) → old ≡ new ++ last ∷ [] → inward old ≡ shown_scope last ∷ inward new
+closed_scope old new last e = ap inward e ∙ inward-snoc new last
+
+pub with_none : (s : Scope) → with_types s [] ≡ s
+with_none s = ap (λ ts. record { types = ts; core_types = s.core_types }) (append-nil s.types)
+
+pub with_more : (s : Scope) (es : List Entry) (e : Entry) → with_type (with_types s es) e ≡ with_types s (es ++ e ∷ [])
+with_more s es e = ap (λ ts. record { types = ts; core_types = s.core_types }) (append_assoc s.types es (e ∷ []))
+
+-- Scopes of which there is one.
+pub split_scopes : (ss : List Scope) → 0 < length ss → ss ≡ own_of ss ∷ outer_of ss
+split_scopes [] h = absurd (omega arith)
+split_scopes (s ∷ ss) h = refl

@@ -19,6 +19,10 @@ empty_scope = record { types = []; core_types = [] }
 abbrev pub with_type : Scope → Entry → Scope
 with_type s e = record { types = s.types ++ e ∷ []; core_types = s.core_types }
 
+-- the scope with types more
+abbrev pub with_types : Scope → List Entry → Scope
+with_types s es = record { types = s.types ++ es; core_types = s.core_types }
+
 -- Is it a type of values, as against one of functions, components or instances?
 abbrev pub is_defined : Entry → Bool
 is_defined (plain p) = true

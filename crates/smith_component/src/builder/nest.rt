@@ -22,6 +22,7 @@ impl Builder {
         let mut builder = self;
         let opened = OpenComponent::new(builder.alloc);
         let around = mem::replace(&mut builder.inner, opened);
+        builder.scopes.open_scope()?;
         builder.outer.push(around)?;
         builder.components += 1;
         Ok(Step::StillBuilding(builder))
@@ -39,6 +40,7 @@ impl Builder {
             None => Ok(Step::Finished(component)),
             Some(mut parent) => {
                 parent.push(Section::Component(component))?;
+                builder.scopes.close_scope();
                 builder.inner = parent;
                 Ok(Step::StillBuilding(builder))
             }

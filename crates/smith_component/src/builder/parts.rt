@@ -3,13 +3,15 @@
 ghost use Rattle.std.specs.Prelude.{◌≡◌, ◌-◌, ◌+◌, ◌≤◌, [], map, length, IfOk, IfErr, IsTrue};
 ghost use Rattle.smith_input.specs.Reading.{IsTail};
 ghost use Rattle.smith_core.specs.Module.{core_preamble};
+ghost use Rattle.smith_types.specs.Scope.{inward, own_of, outer_of, with_types};
 ghost use Rattle.smith_types.specs.Shown.{shown_shared};
 ghost use Rattle.smith_component.specs.Addable.{IsAddable};
 ghost use Rattle.smith_component.specs.Building.{open_of};
 ghost use Rattle.smith_component.specs.Shown.{shown_section};
 ghost use Rattle.smith_component.specs.Steps.{next_of, Keeps};
-ghost use Rattle.smith_component.specs.Tree.{custom, core_module};
+ghost use Rattle.smith_component.specs.Tree.{add, custom, core_module};
 ghost use Rattle.smith_component.specs.Turn.{Does, TypesRead, with_part, is_module_offered};
+ghost use Rattle.smith_component.specs.WellFormed.{scope_of};
 ghost use Rattle.smith_component.specs.declared.item.Item.TheVariants.{CoreTypes, Types, Imports, Canonical};
 
 use crate::builder::{Builder, Step};
@@ -18,18 +20,23 @@ use crate::component::{
 };
 use smith_core::{Config, Module};
 use smith_input::{Error, Unstructured};
-use smith_types::{DefType, arbitrary_type};
+use smith_types::{DefType, Scopes, arbitrary_type};
 use std::alloc::Global;
 use std::rc::Rc;
 
-// The entries of a type section, at most so many.
+// The entries of a type section, at most so many. Each is added to the last scope.
 fn read_types(
     alloc: Global,
     config: &Config,
     max: usize,
+    scopes: &mut Scopes,
     u: &mut Unstructured,
 ) -> Result<Vec<Rc<DefType>>, Error>
-    ensures entries { IfOk result (λ v. TypesRead config.now max 0 u.old (map shown_shared v.items) u.new) }
+    requires { length (own_of (inward scopes.old)).types + max ≤ 4294967295 }
+    ensures entries { IfOk result (λ v. TypesRead config.now (outer_of (inward scopes.old)) max (own_of (inward scopes.old)) 0 u.old (map shown_shared v.items) u.new) }
+    ensures own { IfOk result (λ v. own_of (inward scopes.new) ≡ with_types (own_of (inward scopes.old)) (map shown_shared v.items)) }
+    ensures outer { IfOk result (λ _. outer_of (inward scopes.new) ≡ outer_of (inward scopes.old)) }
+    ensures depth { IfOk result (λ _. length (inward scopes.new) ≡ length (inward scopes.old)) }
     ensures bound { IfOk result (λ v. length v.items ≤ max) }
     ensures memory { IfErr result (λ e. e ≡ Error.OutOfMemory) }
     ensures tail { IsTail u.new u.old }
@@ -40,15 +47,18 @@ fn read_types(
             return Ok(types);
         }
         let mut fuel = config.max_type_size;
-        types.push(arbitrary_type(alloc, u, &mut fuel)?)?;
+        let made = arbitrary_type(alloc, u, scopes, &mut fuel)?;
+        scopes.push_type(made.clone()?)?;
+        types.push(made)?;
     }
     Ok(types)
 }
 
 impl Builder {
-    // A section is added to the inner component.
+    // A section without types is added to the inner component.
     fn add_section(self, section: Section) -> Result<Step, Error>
-        requires { IsAddable self.config (open_of self) (shown_section section) }
+        requires quiet { scope_of (add (open_of self).inner (shown_section section)) ≡ scope_of (open_of self).inner }
+        requires addable { IsAddable self.config (open_of self) (shown_section section) }
         ensures added { IfOk result (λ s. next_of s ≡ with_part (open_of self) (shown_section section)) }
         ensures keeps { IfOk result (Keeps self.config) }
         ensures memory { IfErr result (λ e. e ≡ Error.OutOfMemory) }
@@ -126,8 +136,10 @@ impl Builder {
         ensures memory { IfErr result (λ e. e ≡ Error.OutOfMemory) }
         ensures tail { IsTail u.new u.old }
     {
-        let room = self.config.max_types - self.inner.types;
-        let types = read_types(self.alloc, &self.config, room, u)?;
-        self.add_section(Section::Types(TypeSection { types }))
+        let mut builder = self;
+        let room = builder.config.max_types - builder.inner.types;
+        let types = read_types(builder.alloc, &builder.config, room, &mut builder.scopes, u)?;
+        builder.inner.push(Section::Types(TypeSection { types }))?;
+        Ok(Step::StillBuilding(builder))
     }
 }

@@ -1,23 +1,30 @@
-use Rattle.std.proofs.Common.{◌≡◌, sym, subst, arith, length}
-use Rattle.smith_component.specs.Addable.{IsAddable}
+use Rattle.std.proofs.Common.{◌≡◌, ◌∷◌, sym, subst, ap, ◌∙◌, arith, length}
 use Rattle.smith_component.specs.Building.{Building, open_of}
 use Rattle.smith_component.specs.BuilderView.{building_of}
+use Rattle.smith_component.specs.Scopes.{scopes_in}
 use Rattle.smith_component.specs.Shown.{shown_section}
 use Rattle.smith_component.specs.Tree.{types_in}
+use Rattle.smith_component.specs.WellFormed.{scope_of}
 use Rattle.smith_component.proofs.Grows.{length-own-add}
-use Rattle.smith_component.proofs.SoundLemmas.{part_added, own_limits_of}
+use Rattle.smith_component.proofs.SoundLemmas.{Quietly, part_added, own_limits_of}
 use Rattle.smith_component.proofs.builder.Builder.add_section.Goals as goal
 
 pub push-requires : goal.push-requires
 push-requires c =
     let b = c.builder.inside in
     let stack = open_of (building_of b) in
-    let P : Building → Type 0 = λ v. IsAddable v.config (open_of v) (shown_section c.args.section) in
-    let a = subst P (sym c.builder.view_is) c.requires in
-    let o = a.own (own_limits_of b.config b.modules b.components stack c.builder.invariant) in
-    omega (arith, o.types, b.inner.counted, length-own-add types_in stack.inner (shown_section c.args.section), c.builder.invariant.consistent.types)
+    let Q : Building → Type 0 = λ v. Quietly v.config (open_of v) (shown_section c.args.section) in
+    let q = subst Q (sym c.builder.view_is) (record { addable = c.requires.addable; quiet = c.requires.quiet }) in
+    let o = q.addable.own (own_limits_of b.config b.modules b.components stack c.builder.invariant.sound) in
+    omega (arith, o.types, b.inner.counted, length-own-add types_in stack.inner (shown_section c.args.section), c.builder.invariant.sound.consistent.types)
 
 pub invariant_of-builder : goal.invariant_of-builder
 invariant_of-builder c =
-    let P : Building → Type 0 = λ v. IsAddable v.config (open_of v) (shown_section c.args.section) in
-    part_added _ _ _ _ _ _ _ _ (subst P (sym c.builder.view_is) c.requires) c.module_count-modules.ensures c.in_ok-push.ensures.ok c.builder.invariant
+    let b = c.builder.inside in
+    let stack = open_of (building_of b) in
+    let Q : Building → Type 0 = λ v. Quietly v.config (open_of v) (shown_section c.args.section) in
+    let q = subst Q (sym c.builder.view_is) (record { addable = c.requires.addable; quiet = c.requires.quiet }) in
+    record {
+      sound = part_added _ _ _ _ _ _ _ _ q.addable c.module_count-modules.ensures c.in_ok-push.ensures.ok c.builder.invariant.sound;
+      scopes_are = c.builder.invariant.scopes_are ∙ ap (λ s. s ∷ scopes_in stack.outer) (sym (ap scope_of c.in_ok-push.ensures.ok ∙ q.quiet));
+    }

@@ -1,12 +1,46 @@
-use Rattle.std.proofs.Common.{◌≡◌, sym, ap, ◌∙◌}
-use Rattle.smith_component.specs.Tree.{add, component}
-use Rattle.smith_component.proofs.ShownLemmas.{shown_inner, outer_popped}
-use Rattle.smith_component.proofs.SoundLemmas.{closed, closes}
+use Rattle.std.proofs.Common.{◌≡◌, ◌≤◌, ◌++◌, ◌∷◌, [], List, sym, ap, ◌∙◌, refl, arith, length, length-append}
+use Rattle.smith_types.specs.Scope.{Scope, inward, shown_scope}
+use Rattle.smith_types.specs.Stack.{last_of}
+use Rattle.smith_types.proofs.ScopeLemmas.{length-inward, closed_scope}
+use Rattle.smith_component.specs.Building.{open_of}
+use Rattle.smith_component.specs.BuilderView.{building_of}
+use Rattle.smith_component.specs.Scopes.{scopes_in}
+use Rattle.smith_component.specs.Shown.{shown_sections}
+use Rattle.smith_component.specs.Tree.{Tree, add, component}
+use Rattle.smith_component.specs.WellFormed.{scope_of}
+use Rattle.smith_component.proofs.ShownLemmas.{shown_inner, outer_popped, trees_of}
+use Rattle.smith_component.proofs.SoundLemmas.{closed, closes, scope_bare, scopes_from-snoc, length-scopes_from, same_tail}
 use Rattle.smith_component.proofs.builder.Builder.finish.Goals as goal
+
+pub close_scope-requires : goal.close_scope-requires
+close_scope-requires c =
+    let b = c.builder.inside in
+    let outer : List Tree = trees_of b.outer.items in
+    let some = outer_popped _ _ _ c.in-Some.ensures.items in
+    omega (
+      arith,
+      length-inward b.scopes,
+      ap length c.builder.invariant.scopes_are,
+      length-scopes_from outer [],
+      ap length some,
+      length-append (trees_of c.pop.new.self.items) (shown_sections c.in-Some.parent.sections.items ∷ []),
+    )
 
 pub invariant_of-builder : goal.invariant_of-builder
 invariant_of-builder c =
-    closed _ _ _ _ _ _ _ _ (outer_popped _ _ _ c.in-Some.ensures.items) (c.in_ok-push-in-Some.ensures.ok ∙ ap (add _) (shown_inner _ ∙ ap component (sym c.of-component.ensures))) c.builder.invariant
+    let b = c.builder.inside in
+    let outers : List Tree = trees_of c.pop.new.self.items in
+    let parent : Tree = shown_sections c.in-Some.parent.sections.items in
+    let inner : Tree = shown_sections b.inner.sections.items in
+    let around = outer_popped _ _ _ c.in-Some.ensures.items in
+    let grown = c.in_ok-push-in-Some.ensures.ok ∙ ap (add _) (shown_inner _ ∙ ap component (sym c.of-component.ensures)) in
+    let before = closed_scope b.scopes c.close_scope.new.self (last_of b.scopes) c.close_scope.ensures in
+    let rest = same_tail _ _ _ _ (sym before ∙ (c.builder.invariant.scopes_are ∙ ap (λ us. scope_of inner ∷ scopes_in us) around)) in
+    record {
+      sound = closed _ _ _ _ _ _ _ _ around grown c.builder.invariant.sound;
+      scopes_are =
+          rest ∙ (scopes_from-snoc outers parent [] ∙ ap (λ s. s ∷ scopes_in outers) (sym (ap scope_of grown ∙ scope_bare parent (component inner) refl refl)));
+    }
 
 pub returns-in_ok-push-in-Some-clause-closes : goal.returns-in_ok-push-in-Some-clause-closes
 returns-in_ok-push-in-Some-clause-closes c =

@@ -7,4 +7,4 @@ use Rattle.smith_component.proofs.builder.Builder.offers_component.Goals as goal
 pub returns-else-len-self-clause-depth : goal.returns-else-len-self-clause-depth
 returns-else-len-self-clause-depth c =
     let s = open_of (building_of c.self.inside) in
-    rw (← c.self.view_is) (omega (arith, depth-outer s.outer s.inner, c.self.invariant.limits.depth))
+    rw (← c.self.view_is) (omega (arith, depth-outer s.outer s.inner, c.self.invariant.sound.limits.depth))
