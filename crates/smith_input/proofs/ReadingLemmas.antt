@@ -1,5 +1,5 @@
 -- What reads leave is a tail, and is determined.
-use Rattle.std.proofs.Common.{◌≡◌, ℕ, ◌+◌, ◌*◌, ◌<◌, ◌≤◌, ◌%◌, Bool, true, false, List, drop, refl, ap, sym, ◌∙◌, arith, ⊎_elim}
+use Rattle.std.proofs.Common.{◌∷◌, ◌≡◌, ℕ, ◌+◌, ◌*◌, ◌<◌, ◌≤◌, ◌%◌, Bool, true, false, List, drop, refl, ap, sym, ◌∙◌, arith, ⊎_elim}
 use Rattle.std.proofs.Math.Seq.{drop-drop}
 use Rattle.std.proofs.lemmas.Bool.{cases_lt}
 use Rattle.std.proofs.lemmas.Nat.{mod-mul-add}
@@ -69,3 +69,21 @@ more_within {done} {min} {max} m = ⊎_elim (λ lt. lt) (λ le. absurd (let e : 
 -- below its minimum it goes on
 pub more_past : {done min max : ℕ} {bytes rest : List ℕ} → done < max → More done min max bytes false rest → min ≤ done
 more_past {done} {min} {max} lt m = ⊎_elim (λ below. absurd (let e : false ≡ true = (m.forced lt below).0 in cc)) (λ le. le) (cases_lt done min)
+
+-- the answers of single bytes
+
+pub flips_one : (rest : List ℕ) → Flips (1 ∷ rest) true rest
+flips_one rest = record { bit = (λ _. refl, λ _. refl); left = refl }
+
+pub flips_zero : (rest : List ℕ) → Flips (0 ∷ rest) false rest
+flips_zero rest = record { bit = (λ h. absurd (let z : false ≡ true = h in cc), λ h. absurd (omega arith)); left = refl }
+
+pub more_one : {done min max : ℕ} (rest : List ℕ) → done < max → min ≤ done → More done min max (1 ∷ rest) true rest
+more_one rest lt le = record { full = λ h. absurd (omega arith); forced = λ a h. absurd (omega arith); flipped = λ a h. flips_one rest }
+
+pub more_zero : {done min max : ℕ} (rest : List ℕ) → done < max → min ≤ done → More done min max (0 ∷ rest) false rest
+more_zero rest lt le = record { full = λ h. absurd (omega arith); forced = λ a h. absurd (omega arith); flipped = λ a h. flips_zero rest }
+
+-- a turn that the minimum forces
+pub more_first : {done min max : ℕ} (rest : List ℕ) → done < max → done < min → More done min max rest true rest
+more_first rest lt below = record { full = λ h. absurd (omega arith); forced = λ a h. (refl, refl); flipped = λ a h. absurd (omega arith) }

@@ -1,3 +1,5 @@
 pub mod MadeLemmas
 pub mod MemberLemmas
+pub mod SameLemmas
 pub mod ScopeLemmas
+pub mod ScriptLemmas

@@ -3,6 +3,7 @@ pub mod Grammar
 pub mod Made
 pub mod Places
 pub mod Scope
+pub mod Script
 pub mod Shown
 pub mod Stack
 pub mod Tied

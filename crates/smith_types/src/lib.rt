@@ -2,6 +2,7 @@
 #![tactic(auto)]
 
 pub mod drops;
+pub mod laws;
 pub mod make;
 pub mod scopes;
 pub mod types;

@@ -1,0 +1,122 @@
+-- The bytes, the fuel and the scopes alone decide what is made, and what is left.
+use Rattle.std.proofs.Common.{◌≡◌, ℕ, ◌+◌, ◌-◌, ◌<◌, Bool, true, false, List, [], ◌∷◌, ◌++◌, length, refl, sym, ap, ◌∙◌, subst, arith}
+use Rattle.std.specs.Prelude.{Option, Some, None, slice_get}
+use Rattle.smith_input.specs.Reading.{Reads, Flips, More}
+use Rattle.smith_input.proofs.ReadingLemmas.{reads_unique, flips_unique, more_unique}
+use Rattle.smith_types.specs.Entries.{Primitive, Val, Entry, primitive, indexed, plain, listed, optional, outcome}
+use Rattle.smith_types.specs.Scope.{Scope, defined_places}
+use Rattle.smith_types.specs.Made.{primitives, defined_kinds, ReadsPrimitive, ReadsVal, only_primitive, either_primitive, either_index, ReadsMaybe, absent, present, ReadsMembers, no_more, no_fuel, a_member, tuple_or_bool, MadePrimitive, MadeAs, MadeDefined, Made, spent, of_kind}
+use Rattle.smith_types.specs.declared.make.DefinedKind.{DefinedKind}
+use Rattle.smith_types.specs.declared.make.DefinedKind.TheVariants as kind
+
+primitive_same : (b : List ℕ) (p q : Primitive) (r s : List ℕ) → ReadsPrimitive b p r → ReadsPrimitive b q s → (p ≡ q) × (r ≡ s)
+primitive_same b p q r s x y =
+    let u = reads_unique x.reads y.reads in
+    let e : Some p ≡ Some q = sym x.named ∙ ap (slice_get primitives) u.0 ∙ y.named in
+    (cc, u.1)
+
+-- The bytes may be known by an equation.
+primitive_at : (b c : List ℕ) (p q : Primitive) (r s : List ℕ) → b ≡ c → ReadsPrimitive b p r → ReadsPrimitive c q s → (p ≡ q) × (r ≡ s)
+primitive_at b c p q r s e x y = primitive_same c p q r s (subst (λ z. ReadsPrimitive z p r) e x) y
+
+none_below : (xs : List ℕ) → xs ≡ [] → 0 < length xs → ⊥
+none_below xs e h = omega (arith, ap length e)
+
+none_at : (xs : List ℕ) (k i : ℕ) → xs ≡ [] → slice_get xs k ≡ Some i → ⊥
+none_at xs k i e h = let z : None ≡ Some i = sym (ap (λ ys. slice_get ys k) e) ∙ h in cc
+
+pub val_same : (own : Scope) (b : List ℕ) (v w : Val) (r s : List ℕ) → ReadsVal own b v r → ReadsVal own b w s → (v ≡ w) × (r ≡ s)
+val_same own b v w r s (only_primitive {p = p} n x) (only_primitive {p = q} m y) = let u = primitive_same b p q r s x y in (ap primitive u.0, u.1)
+val_same own b v w r s (only_primitive n x) (either_primitive m c y) = absurd (none_below _ n m)
+val_same own b v w r s (only_primitive n x) (either_index {k = k} {i = i} c d e) = absurd (none_at _ k i n e)
+val_same own b v w r s (either_primitive m c y) (only_primitive n x) = absurd (none_below _ n m)
+val_same own b v w r s (either_primitive {mid = l} {p = p} m c x) (either_primitive {mid = k} {p = q} n d y) =
+    let u = reads_unique c d in
+    let z = primitive_at l k p q r s u.1 x y in
+    (ap primitive z.0, z.1)
+val_same own b v w r s (either_primitive m c x) (either_index d y e) = absurd (let u = (reads_unique c d).0 in omega arith)
+val_same own b v w r s (either_index {k = k} {i = i} c d e) (only_primitive n x) = absurd (none_at _ k i n e)
+val_same own b v w r s (either_index d y e) (either_primitive m c x) = absurd (let u = (reads_unique c d).0 in omega arith)
+val_same own b v w r s (either_index {mid = l} {k = j} {i = i} c x e) (either_index {mid = m} {k = k} {i = n} d y f) =
+    let u = reads_unique c d in
+    let P : List ℕ → Type 0 = λ z. Reads (length (defined_places own)) z j r in
+    let t = reads_unique (subst P u.1 x) y in
+    let g : Some i ≡ Some n = sym e ∙ ap (slice_get (defined_places own)) t.0 ∙ f in
+    (ap indexed (let h : i ≡ n = cc in h), t.1)
+
+val_at : (own : Scope) (b c : List ℕ) (v w : Val) (r s : List ℕ) → b ≡ c → ReadsVal own b v r → ReadsVal own c w s → (v ≡ w) × (r ≡ s)
+val_at own b c v w r s e x y = val_same own c v w r s (subst (λ z. ReadsVal own z v r) e x) y
+
+maybe_same : (own : Scope) (b : List ℕ) (v w : Option Val) (r s : List ℕ) → ReadsMaybe own b v r → ReadsMaybe own b w s → (v ≡ w) × (r ≡ s)
+maybe_same own b v w r s (absent x) (absent y) = (refl, (flips_unique x y).1)
+maybe_same own b v w r s (absent x) (present y z) = absurd (let u : false ≡ true = (flips_unique x y).0 in cc)
+maybe_same own b v w r s (present y z) (absent x) = absurd (let u : true ≡ false = (flips_unique y x).0 in cc)
+maybe_same own b v w r s (present {mid = l} {v = x} f y) (present {mid = m} {v = z} g t) =
+    let u = val_at own l m x z r s (flips_unique f g).1 y t in
+    (ap Some u.0, u.1)
+
+maybe_at : (own : Scope) (b c : List ℕ) (v w : Option Val) (r s : List ℕ) → b ≡ c → ReadsMaybe own b v r → ReadsMaybe own c w s → (v ≡ w) × (r ≡ s)
+maybe_at own b c v w r s e x y = maybe_same own c v w r s (subst (λ z. ReadsMaybe own z v r) e x) y
+
+-- what two readings share
+pub record Same {A : Type 0} (x y : A) (r s : List ℕ) (f g : ℕ) : Type 0 where
+  pub value : x ≡ y
+  pub rest : r ≡ s
+  pub left : f ≡ g
+
+module _ {A : Type 0} {Member : List A → List ℕ → A → List ℕ → Type 0} {min max : ℕ} (one : (so_far : List A) (b : List ℕ) (x y : A) (r s : List ℕ) → Member so_far b x r → Member so_far b y s → (x ≡ y) × (r ≡ s)) where
+  pub members_same : (so_far : List A) (b : List ℕ) (fuel : ℕ) (xs ys : List A) (r s : List ℕ) (f g : ℕ) → ReadsMembers Member min max so_far b fuel xs r f → ReadsMembers Member min max so_far b fuel ys s g → Same xs ys r s f g
+  members_same so_far b fuel xs ys r s f g (no_more m e) (no_more n h) = record { value = refl; rest = (more_unique m n).1; left = e ∙ sym h }
+  members_same so_far b fuel xs ys r s f g (no_more m e) (no_fuel n l h) = absurd (let u : false ≡ true = (more_unique m n).0 in cc)
+  members_same so_far b fuel xs ys r s f g (no_more m e) (a_member n l x t) = absurd (let u : false ≡ true = (more_unique m n).0 in cc)
+  members_same so_far b fuel xs ys r s f g (no_fuel n l h) (no_more m e) = absurd (let u : true ≡ false = (more_unique n m).0 in cc)
+  members_same so_far b fuel xs ys r s f g (no_fuel m l e) (no_fuel n k h) = record { value = refl; rest = (more_unique m n).1; left = e ∙ sym h }
+  members_same so_far b fuel xs ys r s f g (no_fuel m l e) (a_member n k x t) = absurd (omega (arith, l, k))
+  members_same so_far b fuel xs ys r s f g (a_member n l x t) (no_more m e) = absurd (let u : true ≡ false = (more_unique n m).0 in cc)
+  members_same so_far b fuel xs ys r s f g (a_member n k x t) (no_fuel m l e) = absurd (omega (arith, l, k))
+  members_same so_far b fuel xs ys r s f g (a_member {mid = mid} {x = x} {after = after} {xs = us} m k h t) (a_member {mid = low} {x = y} {after = behind} {xs = vs} n l i u) =
+      let a = (more_unique m n).1 in
+      let c = one so_far low x y after behind (subst (λ z. Member so_far z x after) a h) i in
+      let P : List ℕ → Type 0 = λ z. ReadsMembers Member min max (so_far ++ x ∷ []) z (fuel - 1) us r f in
+      let Q : A → Type 0 = λ z. ReadsMembers Member min max (so_far ++ z ∷ []) behind (fuel - 1) us r f in
+      let d = members_same (so_far ++ y ∷ []) behind (fuel - 1) us vs r s f g (subst Q c.0 (subst P c.1 t)) u in
+      record { value = λ j. c.0 j ∷ d.value j; rest = d.rest; left = d.left }
+
+made_primitive_same : (b : List ℕ) (fuel : ℕ) (d e : Entry) (r s : List ℕ) (f g : ℕ) → MadePrimitive b fuel d r f → MadePrimitive b fuel e s g → Same d e r s f g
+made_primitive_same b fuel d e r s f g (p, x, i, j) (q, y, k, l) =
+    let u = primitive_same b p q r s x y in
+    record { value = i ∙ (ap plain u.0 ∙ sym k); rest = u.1; left = j ∙ sym l }
+
+as_same : (own : Scope) (k : DefinedKind) (b : List ℕ) (fuel : ℕ) (d e : Entry) (r s : List ℕ) (f g : ℕ) → MadeAs own k b fuel d r f → MadeAs own k b fuel e s g → Same d e r s f g
+as_same own kind.Primitive b fuel d e r s f g x y = made_primitive_same b fuel d e r s f g x y
+as_same own kind.Record b fuel d e r s f g x y = made_primitive_same b fuel d e r s f g x y
+as_same own kind.Variant b fuel d e r s f g x y = made_primitive_same b fuel d e r s f g x y
+as_same own kind.List b fuel d e r s f g (v, x, i, j) (w, y, k, l) = let u = val_same own b v w r s x y in record { value = i ∙ (ap listed u.0 ∙ sym k); rest = u.1; left = j ∙ sym l }
+as_same own kind.Tuple b fuel d e r s f g (vs, x, i) (ws, y, k) =
+    let u = members_same (λ so_far c v w p q h t. val_same own c v w p q h t) [] b fuel vs ws r s f g x y in
+    record { value = i ∙ (ap tuple_or_bool u.value ∙ sym k); rest = u.rest; left = u.left }
+as_same own kind.Flags b fuel d e r s f g x y = made_primitive_same b fuel d e r s f g x y
+as_same own kind.Enum b fuel d e r s f g x y = made_primitive_same b fuel d e r s f g x y
+as_same own kind.Option b fuel d e r s f g (v, x, i, j) (w, y, k, l) = let u = val_same own b v w r s x y in record { value = i ∙ (ap optional u.0 ∙ sym k); rest = u.1; left = j ∙ sym l }
+as_same own kind.Result b fuel d e r s f g (ok, mid, x, err, z, i, j) (ko, low, y, rre, t, k, l) =
+    let u = maybe_same own b ok ko mid low x y in
+    let w = maybe_at own mid low err rre r s u.1 z t in
+    record { value = i ∙ (ap (λ o. outcome o err) u.0 ∙ ap (outcome ko) w.0) ∙ sym k; rest = w.1; left = j ∙ sym l }
+
+defined_same : (own : Scope) (b : List ℕ) (fuel : ℕ) (d e : Entry) (r s : List ℕ) (f g : ℕ) → MadeDefined own b fuel d r f → MadeDefined own b fuel e s g → Same d e r s f g
+defined_same own b fuel d e r s f g x y =
+    let u = reads_unique x.reads y.reads in
+    let h : Some x.kind ≡ Some y.kind = sym x.named ∙ ap (slice_get defined_kinds) u.0 ∙ y.named in
+    let k : x.kind ≡ y.kind = cc in
+    let P : DefinedKind → Type 0 = λ z. MadeAs own z x.mid fuel d r f in
+    let Q : List ℕ → Type 0 = λ z. MadeAs own y.kind z fuel d r f in
+    as_same own y.kind y.mid fuel d e r s f g (subst Q u.1 (subst P k x.made)) y.made
+
+defined_at : (own : Scope) (b c : List ℕ) (fuel : ℕ) (d e : Entry) (r s : List ℕ) (f g : ℕ) → b ≡ c → MadeDefined own b fuel d r f → MadeDefined own c fuel e s g → Same d e r s f g
+defined_at own b c fuel d e r s f g h x y = defined_same own c fuel d e r s f g (subst (λ z. MadeDefined own z fuel d r f) h x) y
+
+pub made_same : (own : Scope) (outer : List Scope) (b : List ℕ) (fuel : ℕ) (d e : Entry) (r s : List ℕ) (f g : ℕ) → Made own outer b fuel d r f → Made own outer b fuel e s g → Same d e r s f g
+made_same own outer b fuel d e r s f g (spent h x) (spent i y) = defined_same own b 0 d e r s f g x y
+made_same own outer b fuel d e r s f g (spent h x) (of_kind i c y) = absurd (omega (arith, h, i))
+made_same own outer b fuel d e r s f g (of_kind i c y) (spent h x) = absurd (omega (arith, h, i))
+made_same own outer b fuel d e r s f g (of_kind {mid = l} h c x) (of_kind {mid = m} i k y) = defined_at own l m (fuel - 1) d e r s f g (reads_unique c k).1 x y
