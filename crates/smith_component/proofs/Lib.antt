@@ -1,5 +1,7 @@
+pub mod FollowsLemmas
 pub mod FormedLemmas
 pub mod Grows
+pub mod ReachLemmas
 pub mod ReadLemmas
 pub mod RunLemmas
 pub mod ShownLemmas

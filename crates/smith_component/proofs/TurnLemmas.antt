@@ -109,3 +109,28 @@ turn_falls config stack next (x ∷ xs) left2 m t =
 pub falls : (config : Config) (stack : Open) (next : Next) (left left2 : List ℕ) → length stack.outer + 1 ≤ max_depth config → Turn config stack left next left2 → Falls config left stack left2 next
 falls config stack (building next) left left2 m t = turn_falls config stack next left left2 m t
 falls config stack (answered c) left left2 m t = tt
+
+pub last_same : (xs ys : List Tree) (x y : Tree) → xs ++ x ∷ [] ≡ ys ++ y ∷ [] → (xs ≡ ys) × (x ≡ y)
+last_same [] [] x y e = (refl, cc)
+last_same [] (b ∷ []) x y e = absurd (cc)
+last_same [] (b ∷ c ∷ ys) x y e = absurd (cc)
+last_same (a ∷ []) [] x y e = absurd (cc)
+last_same (a ∷ c ∷ xs) [] x y e = absurd (cc)
+last_same (a ∷ xs) (b ∷ ys) x y e =
+    let t : xs ++ x ∷ [] ≡ ys ++ y ∷ [] = cc in
+    let h : a ≡ b = cc in
+    let r = last_same xs ys x y t in
+    (cc, r.1)
+
+pub not_empty : (xs : List Tree) (x : Tree) → xs ++ x ∷ [] ≡ [] → ⊥
+not_empty [] x e = cc
+not_empty (y ∷ xs) x e = cc
+
+-- What closing leads to is decided.
+pub closes_same : (stack : Open) (n m : Next) → Closes stack n → Closes stack m → n ≡ m
+closes_same stack n m (inl (a, b)) (inl (c, d)) = cc
+closes_same stack n m (inl (a, b)) (inr (o, p, c, d)) = absurd (not_empty o p (sym c ∙ a))
+closes_same stack n m (inr (o, p, c, d)) (inl (a, b)) = absurd (not_empty o p (sym c ∙ a))
+closes_same stack n m (inr (o, p, c, d)) (inr (q, r, e, f)) =
+    let s = last_same o q p r (sym c ∙ e) in
+    d ∙ ap (λ x. building (record { outer = x; inner = add p (component stack.inner) })) s.0 ∙ ap (λ x. building (record { outer = q; inner = add x (component stack.inner) })) s.1 ∙ sym f

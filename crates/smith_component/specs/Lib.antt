@@ -5,6 +5,8 @@ pub mod Grammar
 pub mod Limits
 pub mod Refusals
 pub mod Scopes
+pub mod Script
+pub mod Scripted
 pub mod Shown
 pub mod Sizes
 pub mod Sound

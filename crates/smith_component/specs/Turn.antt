@@ -6,7 +6,7 @@ use Rattle.smith_core.specs.declared.config.Config.{Config}
 use Rattle.smith_types.specs.Entries.{Entry}
 use Rattle.smith_types.specs.Made.{Made}
 use Rattle.smith_types.specs.Scope.{Scope, with_type}
-use Rattle.smith_component.specs.Tree.{Tree, Part, ends, custom, core_module, core_types, component, types, canons, imports, add, types_of, inside, modules}
+use Rattle.smith_component.specs.Tree.{Tree, Part, ends, custom, core_module, core_types, component, types, canons, imports, add, own, types_of, core_types_of, imports_in, canons_in, inside, modules}
 use Rattle.smith_component.specs.Limits.{max_depth}
 use Rattle.smith_component.specs.Scopes.{scopes_in}
 use Rattle.smith_component.specs.WellFormed.{scope_of}
@@ -85,11 +85,11 @@ Empty max p stack b next rest = (answer : Bool) × More 0 0 max b answer rest ×
 abbrev pub Does : Config → Item → Open → List ℕ → Next → List ℕ → Type 0
 Does config Finish stack b next rest = (rest ≡ b) × Closes stack next
 Does config Custom stack b next rest = (rest ≡ b) × (next ≡ with_part stack (custom [] []))
-Does config CoreTypes stack b next rest = Empty config.max_types (core_types []) stack b next rest
+Does config CoreTypes stack b next rest = Empty (config.max_types - length (core_types_of stack.inner)) (core_types []) stack b next rest
 Does config Types stack b next rest =
     (xs : List Entry) × TypesRead config (scopes_in stack.outer) (config.max_types - length (types_of stack.inner)) (scope_of stack.inner) 0 b xs rest × (next ≡ with_part stack (types xs))
-Does config Imports stack b next rest = Empty config.max_imports (imports []) stack b next rest
-Does config Canonical stack b next rest = Empty config.max_funcs (canons []) stack b next rest
+Does config Imports stack b next rest = Empty (config.max_imports - length (own imports_in stack.inner)) (imports []) stack b next rest
+Does config Canonical stack b next rest = Empty (config.max_funcs - length (own canons_in stack.inner)) (canons []) stack b next rest
 Does config Module stack b next rest = (rest ≡ b) × (next ≡ with_part stack (core_module core_preamble))
 Does config Component stack b next rest = (rest ≡ b) × (next ≡ with_open stack)
 

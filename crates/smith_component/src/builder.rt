@@ -1,14 +1,15 @@
 //! The builder, turn by turn.
 
-ghost use Rattle.std.specs.Prelude.{◌≡◌, ◌↔◌, ◌+◌, ◌≤◌, length, IfOk, IfErr, IsOk};
+ghost use Rattle.std.specs.Prelude.{◌≡◌, ℕ, List, ◌↔◌, ◌+◌, ◌≤◌, length, IfOk, IfErr, IsOk};
 ghost use Rattle.smith_input.specs.Reading.{IsTail};
 ghost use Rattle.smith_core.specs.Consistent.{IsConsistent};
 ghost use Rattle.smith_component.specs.Building.{open_of};
 ghost use Rattle.smith_component.specs.Limits.{max_depth};
+ghost use Rattle.smith_component.specs.Scripted.{Scripted};
 ghost use Rattle.smith_component.specs.Shown.{shown_sections};
 ghost use Rattle.smith_component.specs.Steps.{next_of, Keeps};
 ghost use Rattle.smith_component.specs.Tree.{ends};
-ghost use Rattle.smith_component.specs.Turn.{Turn, Falls, root};
+ghost use Rattle.smith_component.specs.Turn.{Next, Turn, Falls, root};
 
 mod choose;
 mod nest;
@@ -84,6 +85,7 @@ impl Builder {
     // What the choice names is done.
     fn take_turn(self, u: &mut Unstructured) -> Result<Step, Error>
         ensures turn { IfOk result (λ s. Turn self.config (open_of self) u.old (next_of s) u.new) }
+        ensures follows { (n : Next) (rest : List ℕ) → Scripted self.config (open_of self) u.old n rest → IfOk result (λ s. (next_of s ≡ n) × (u.new ≡ rest)) }
         ensures keeps { IfOk result (Keeps self.config) }
         ensures depth { length (open_of self).outer + 1 ≤ max_depth self.config }
         ensures accepted { IsConsistent self.config }
@@ -105,6 +107,7 @@ impl Builder {
     /// One turn: a choice among what may be done, and that. It refuses for want of memory alone.
     pub fn step(self, u: &mut Unstructured) -> Result<Step, Error>
         ensures turn { IfOk result (λ s. Turn self.config (open_of self) u.old (next_of s) u.new) }
+        ensures follows { (n : Next) (rest : List ℕ) → Scripted self.config (open_of self) u.old n rest → IfOk result (λ s. (next_of s ≡ n) × (u.new ≡ rest)) }
         ensures keeps { IfOk result (Keeps self.config) }
         ensures falls { IfOk result (λ s. Falls self.config u.old (open_of self) u.new (next_of s)) }
         ensures accepted { IsConsistent self.config }

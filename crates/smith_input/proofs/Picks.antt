@@ -59,3 +59,18 @@ reads-pick n k rest h below =
       spells = omega (arith, spelled-big_endian (width_within 8 n) k rest fits);
       left = sym (drop-big_endian (width_within 8 n) k rest);
     }
+
+-- A pick among so many is one byte.
+pub pick-byte : (n k : ℕ) → 2 ≤ n → n ≤ 256 → pick n k ≡ k ∷ []
+unfolding pick
+pick-byte n k two few =
+    ap (λ b. big_endian (if b then 0 else suc (width_within 7 ((n + 255) / 256))) k) many ∙ (ap (λ m. big_endian (suc (width_within 7 m)) k) one ∙ ap (λ d. d ∷ []) (div-one k))
+  where
+    many : nat_le n 1 ≡ false
+    many = grind (arith, nat_tests)
+
+    one : (n + 255) / 256 ≡ 1
+    one = omega arith
+
+    div-one : (k : ℕ) → k / 1 ≡ k
+    div-one k = omega arith

@@ -1,16 +1,17 @@
 //! Parts that are added to the inner component.
 
-ghost use Rattle.std.specs.Prelude.{◌≡◌, ◌-◌, ◌+◌, ◌≤◌, [], map, length, IfOk, IfErr, IsTrue};
+ghost use Rattle.std.specs.Prelude.{◌≡◌, ℕ, List, ◌-◌, ◌+◌, ◌≤◌, [], map, length, IfOk, IfErr, IsTrue};
 ghost use Rattle.smith_input.specs.Reading.{IsTail};
 ghost use Rattle.smith_core.specs.Module.{core_preamble};
 ghost use Rattle.smith_types.specs.Scope.{inward, own_of, outer_of, with_types};
 ghost use Rattle.smith_types.specs.Shown.{shown_shared};
 ghost use Rattle.smith_component.specs.Addable.{IsAddable};
 ghost use Rattle.smith_component.specs.Building.{open_of};
+ghost use Rattle.smith_component.specs.Scripted.{Follows};
 ghost use Rattle.smith_component.specs.Shown.{shown_section};
 ghost use Rattle.smith_component.specs.Steps.{next_of, Keeps};
 ghost use Rattle.smith_component.specs.Tree.{add, custom, core_module};
-ghost use Rattle.smith_component.specs.Turn.{Does, TypesRead, with_part, is_module_offered};
+ghost use Rattle.smith_component.specs.Turn.{Next, Does, TypesRead, with_part, is_module_offered};
 ghost use Rattle.smith_component.specs.WellFormed.{scope_of};
 ghost use Rattle.smith_component.specs.declared.item.Item.TheVariants.{CoreTypes, Types, Imports, Canonical};
 
@@ -96,6 +97,7 @@ impl Builder {
     // An empty core type section. Its loop ends whatever comes.
     pub(crate) fn add_core_types(self, u: &mut Unstructured) -> Result<Step, Error>
         ensures added { IfOk result (λ s. Does self.config CoreTypes (open_of self) u.old (next_of s) u.new) }
+        ensures follows { (n : Next) (rest : List ℕ) → Follows self.config CoreTypes (open_of self) u.old n rest → IfOk result (λ s. (next_of s ≡ n) × (u.new ≡ rest)) }
         ensures keeps { IfOk result (Keeps self.config) }
         ensures memory { IfErr result (λ e. e ≡ Error.OutOfMemory) }
         ensures tail { IsTail u.new u.old }
@@ -108,6 +110,7 @@ impl Builder {
     // An empty import section. Its loop ends whatever comes.
     pub(crate) fn add_imports(self, u: &mut Unstructured) -> Result<Step, Error>
         ensures added { IfOk result (λ s. Does self.config Imports (open_of self) u.old (next_of s) u.new) }
+        ensures follows { (n : Next) (rest : List ℕ) → Follows self.config Imports (open_of self) u.old n rest → IfOk result (λ s. (next_of s ≡ n) × (u.new ≡ rest)) }
         ensures keeps { IfOk result (Keeps self.config) }
         ensures memory { IfErr result (λ e. e ≡ Error.OutOfMemory) }
         ensures tail { IsTail u.new u.old }
@@ -120,6 +123,7 @@ impl Builder {
     // An empty canonical section. Its loop ends whatever comes.
     pub(crate) fn add_canonicals(self, u: &mut Unstructured) -> Result<Step, Error>
         ensures added { IfOk result (λ s. Does self.config Canonical (open_of self) u.old (next_of s) u.new) }
+        ensures follows { (n : Next) (rest : List ℕ) → Follows self.config Canonical (open_of self) u.old n rest → IfOk result (λ s. (next_of s ≡ n) × (u.new ≡ rest)) }
         ensures keeps { IfOk result (Keeps self.config) }
         ensures memory { IfErr result (λ e. e ≡ Error.OutOfMemory) }
         ensures tail { IsTail u.new u.old }
@@ -132,6 +136,7 @@ impl Builder {
     // A type section, with as many types as the component may still have.
     pub(crate) fn add_types(self, u: &mut Unstructured) -> Result<Step, Error>
         ensures added { IfOk result (λ s. Does self.config Types (open_of self) u.old (next_of s) u.new) }
+        ensures follows { (n : Next) (rest : List ℕ) → Follows self.config Types (open_of self) u.old n rest → IfOk result (λ s. (next_of s ≡ n) × (u.new ≡ rest)) }
         ensures keeps { IfOk result (Keeps self.config) }
         ensures memory { IfErr result (λ e. e ≡ Error.OutOfMemory) }
         ensures tail { IsTail u.new u.old }

@@ -1,8 +1,12 @@
 use Rattle.std.proofs.Common.{◌≡◌, refl, sym, subst, ap, ◌∙◌, [], map}
-use Rattle.smith_component.specs.Shown.{shown_func}
+use Rattle.std.proofs.lemmas.Result.{IfOk-weaker}
+use Rattle.smith_input.specs.Reading.{More}
 use Rattle.smith_input.proofs.ReadingLemmas.{more_tail}
-use Rattle.smith_component.specs.Building.{open_of}
+use Rattle.smith_component.specs.Shown.{shown_func}
+use Rattle.smith_component.specs.Building.{Building, open_of}
 use Rattle.smith_component.specs.Tree.{canons}
+use Rattle.smith_component.specs.Turn.{with_part}
+use Rattle.smith_component.proofs.FollowsLemmas.{less_none, no_canons, empty_follows}
 use Rattle.smith_component.proofs.ShownLemmas.{shown_canons}
 use Rattle.smith_component.proofs.SoundLemmas.{Quietly, quietly_shown, addable_empty, scope_bare}
 use Rattle.smith_component.proofs.builder.Builder.add_canonicals.Goals as goal
@@ -18,3 +22,20 @@ add_section-requires c =
 
 pub returns-clause-tail : goal.returns-clause-tail
 returns-clause-tail c = more_tail c.more.ensures
+
+pub returns-clause-added : goal.returns-clause-added
+returns-clause-added c =
+    let stack = open_of c.args.self in
+    let M : Building → Type 0 = λ v. More 0 0 v.config.max_funcs c.args.u.now c.more.result c.more.new.self in
+    let more = less_none _ _ _ _ _ (no_canons _) (subst M c.self.view_is c.more.ensures) in
+    let shown = shown_canons _ ∙ ap (λ xs. canons (map shown_func xs)) c.new-funcs.ensures.items in
+    IfOk-weaker c.add_section.result _ _ (λ s e. (c.more.result, more, e ∙ ap (with_part stack) shown)) c.add_section.ensures.added
+
+pub returns-clause-follows : goal.returns-clause-follows
+returns-clause-follows c n rest f =
+    let stack = open_of c.args.self in
+    let M : Building → Type 0 = λ v. More 0 0 v.config.max_funcs c.args.u.now c.more.result c.more.new.self in
+    let more = less_none _ _ _ _ _ (no_canons _) (subst M c.self.view_is c.more.ensures) in
+    let shown = shown_canons _ ∙ ap (λ xs. canons (map shown_func xs)) c.new-funcs.ensures.items in
+    let r = empty_follows _ (canons []) stack c.args.u.now c.more.result c.more.new.self n rest more f in
+    IfOk-weaker c.add_section.result _ _ (λ s e. (e ∙ (ap (with_part stack) shown ∙ r.0), r.1)) c.add_section.ensures.added

@@ -1,16 +1,19 @@
-use Rattle.std.proofs.Common.{◌≡◌, ◌<◌, ◌≤◌, ◌+◌, ◌-◌, ◌++◌, ◌∷◌, ℕ, refl, sym, subst, ap, ◌∙◌, arith, length, map, List}
+use Rattle.std.proofs.Common.{◌≡◌, ◌<◌, ◌≤◌, ◌+◌, ◌-◌, ◌++◌, ◌∷◌, ◌^◌, ℕ, refl, sym, subst, ap, ◌∙◌, arith, length, map, List}
 use Rattle.std.proofs.lemmas.List.{length-map}
 use Rattle.smith_types.specs.Entries.{Entry}
 use Rattle.smith_types.specs.Scope.{Scope, inward, own_of, outer_of, with_types}
 use Rattle.smith_types.specs.Shown.{shown_shared}
 use Rattle.smith_types.proofs.ScopeLemmas.{split_scopes}
-use Rattle.smith_component.specs.Building.{open_of}
+use Rattle.smith_component.specs.Building.{Building, open_of}
 use Rattle.smith_component.specs.BuilderView.{building_of}
 use Rattle.smith_component.specs.Scopes.{scopes_in}
+use Rattle.smith_component.specs.Scripted.{Follows}
 use Rattle.smith_component.specs.Shown.{shown_sections}
 use Rattle.smith_component.specs.Tree.{types, types_in, types_of, add}
 use Rattle.smith_component.specs.Turn.{Open, TypesRead, building}
 use Rattle.smith_component.specs.WellFormed.{scope_of}
+use Rattle.smith_component.specs.declared.item.Item.TheVariants.{Types}
+use Rattle.smith_component.proofs.FollowsLemmas.{types_follow}
 use Rattle.smith_component.proofs.ShownLemmas.{shown_types}
 use Rattle.smith_component.proofs.SoundLemmas.{addable_types, types_added, own_limits_of, scope_types}
 use Rattle.smith_component.proofs.ReadLemmas.{types_read_formed, types_read_small, types_read_where}
@@ -71,3 +74,14 @@ returns-clause-added c =
     let r = types_read_where es b.config _ _ _ _ _ _ _ _ c.builder.invariant.scopes_are (ap (λ n. b.config.max_types - n) b.inner.counted) c.in_ok-types.ensures.entries in
     rw (← c.builder.view_is)
     (es, r, ap (λ t. building (record { outer = stack.outer; inner = t })) (c.in_ok-push.ensures.ok ∙ ap (add stack.inner) (shown_types _)))
+
+pub returns-clause-follows : goal.returns-clause-follows
+returns-clause-follows c n rest f =
+    let b = c.builder.inside in
+    let stack : Open = open_of (building_of b) in
+    let es : List Entry = map shown_shared c.in_ok-types.types.items in
+    let t = types_read_where es b.config _ _ _ _ _ _ _ _ c.builder.invariant.scopes_are (ap (λ n. b.config.max_types - n) b.inner.counted) c.in_ok-types.ensures.entries in
+    let F : Building → Type 0 = λ z. Follows z.config Types (open_of z) c.args.u.now n rest in
+    let small : b.config.max_types ≤ 2 ^ 64 = omega (arith, c.builder.invariant.sound.consistent.types) in
+    let r = types_follow b.config stack c.args.u.now es c.read_types.new.u n rest small t (subst F (sym c.builder.view_is) f) in
+    (ap (λ t. building (record { outer = stack.outer; inner = t })) (c.in_ok-push.ensures.ok ∙ ap (add stack.inner) (shown_types _)) ∙ r.0, r.1)

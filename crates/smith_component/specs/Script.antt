@@ -1,0 +1,64 @@
+-- The input that a plan is read from.
+use Rattle.std.specs.Prelude.{◌≡◌, ℕ, ◌+◌, ◌-◌, ◌≤◌, List, [], ◌∷◌, ◌++◌, length}
+use Rattle.std.specs.List.{AllByRecursion}
+use Rattle.smith_input.specs.Reading.{pick}
+use Rattle.smith_core.specs.declared.config.Config.{Config}
+use Rattle.smith_types.specs.Entries.{Entry}
+use Rattle.smith_types.specs.Scope.{Scope, with_type}
+use Rattle.smith_types.specs.Script.{script_end, script_type, Lasts}
+use Rattle.smith_component.specs.Tree.{Tree, ends, first, Part, custom, core_module, core_types, component, types, canons, imports, add, types_of, core_types_of, own, imports_in, canons_in}
+use Rattle.smith_component.specs.Grammar.{Spells}
+use Rattle.smith_component.specs.Turn.{more_items, is_module_offered, is_component_offered}
+use Rattle.smith_component.specs.WellFormed.{WellFormed, scope_of}
+use Rattle.smith_component.specs.Limits.{Limits}
+
+-- how many items there are where input is left
+abbrev pub item_total : Config → List Tree → Tree → ℕ
+item_total config outer inner =
+    length (more_items (is_module_offered config (record { outer = outer; inner = inner })) (is_component_offered config (record { outer = outer; inner = inner })))
+
+-- The entries of a type section: a byte before each, and one at the end where there might be another.
+abbrev pub script_types : Config → ℕ → ℕ → Scope → List Entry → List ℕ
+script_types config max done before [] = script_end done max
+script_types config max done before (x ∷ xs) = 1 ∷ script_type config.max_type_size before x ++ script_types config max (done + 1) (with_type before x) xs
+
+-- The rest of a component, where these components are open around it and these parts stand before it.
+abbrev mutual
+  pub script_from : Tree → Config → List Tree → Tree → List ℕ
+  script_from ends config outer before = pick (item_total config outer before) 0
+  script_from (first p t) config outer before = script_part p config outer before ++ script_from t config outer (add before p)
+
+  pub script_part : Part → Config → List Tree → Tree → List ℕ
+  script_part (custom name contents) config outer before = []
+  script_part (core_module text) config outer before = []
+  script_part (core_types ts) config outer before = pick (item_total config outer before) 2 ++ script_end 0 (config.max_types - length (core_types_of before))
+  script_part (component t) config outer before = pick (item_total config outer before) (item_total config outer before - 1) ++ script_from t config (outer ++ before ∷ []) ends
+  script_part (types ts) config outer before = pick (item_total config outer before) 3 ++ script_types config (config.max_types - length (types_of before)) 0 (scope_of before) ts
+  script_part (canons fs) config outer before = pick (item_total config outer before) 5 ++ script_end 0 (config.max_funcs - length (own canons_in before))
+  script_part (imports is) config outer before = pick (item_total config outer before) 4 ++ script_end 0 (config.max_imports - length (own imports_in before))
+
+abbrev pub script : Config → Tree → List ℕ
+script config plan = script_from plan config [] ends
+
+-- A plan that scripts can say: type sections of nameless types for which the fuel lasts, sections without entries, and
+-- components of these.
+abbrev mutual
+  pub IsPlan : Config → Tree → Type 0
+  IsPlan config ends = Unit {0}
+  IsPlan config (first p t) = IsPlanPart config p × IsPlan config t
+
+  pub IsPlanPart : Config → Part → Type 0
+  IsPlanPart config (custom name contents) = ⊥
+  IsPlanPart config (core_module text) = ⊥
+  IsPlanPart config (core_types ts) = Unit {0}
+  IsPlanPart config (component t) = IsPlan config t
+  IsPlanPart config (types ts) = AllByRecursion (Lasts config.max_type_size) ts
+  IsPlanPart config (canons fs) = Unit {0}
+  IsPlanPart config (imports is) = Unit {0}
+
+-- a plan within the limits of a config, which has a spelling
+pub record Within (config : Config) (plan : Tree) : Type 0 where
+  pub scripted : IsPlan config plan
+  pub formed : WellFormed plan
+  pub limits : Limits config plan
+  pub spelled : (b : List ℕ) × Spells plan b
