@@ -1,0 +1,38 @@
+use Rattle.std.proofs.Common.{rules, ◌≡◌, ◌⊎◌, inl, inr, length, ap, arith, sym, ◌∙◌, true, pos, negsuc}
+use Rattle.std.proofs.lemmas.Int.{to_z-of_z}
+use Rattle.std.specs.Prelude.{int_lt}
+use Rattle.std.specs.Int.{w64}
+use Rattle.std.specs.Int.RustNames.{FitsSigned}
+use mir.Val.{to_z}
+use Rattle.smith_core.specs.Numbers.{signed}
+use Rattle.smith_core.proofs.Digits.{signed_last, signed_more, signed_some, signed_short}
+use Rattle.smith_core.proofs.numbers.s64_len.Goals as goal
+use Rattle.smith_core.proofs.numbers.s64_len.Goals.{then-rest-ltminus64, else-rest-ltminus64+then-rest-gt63}
+
+pub overflow_add-length : goal.overflow_add-length
+overflow_add-length c =
+    let n = ap (λ z. length (signed z)) (to_z-of_z w64 c.args.n c.ranges.n) in
+    omega (arith, c.loop-rest.invariant, signed_some (to_z w64 c.loop-rest.rest-bits), signed_short c.args.n c.ranges.n)
+
+pub loop-rest-preserved : goal.loop-rest-preserved
+loop-rest-preserved c =
+    let z = to_z w64 c.loop-rest.rest-bits in
+    let f : FitsSigned w64 c.div_euclid-rest.result = search rules in
+    let outside : (int_lt z (negsuc 63) ≡ true) ⊎ (int_lt (pos 63) z ≡ true) = elim c.if-rest-ltminus64.branch [
+      | then-rest-ltminus64 w ↦ inl w.if-rest-ltminus64.true
+      | else-rest-ltminus64+then-rest-gt63 w ↦ inr w.if-rest-gt63.true
+    ] in
+    let e = ap length (signed_more z outside) in
+    let r = ap (λ y. length (signed y)) (to_z-of_z w64 c.div_euclid-rest.result f ∙ c.div_euclid-rest.ensures) in
+    omega (arith, c.loop-rest.invariant)
+
+pub returns-clause-length : goal.returns-clause-length
+returns-clause-length c =
+    let n = ap (λ z. length (signed z)) (to_z-of_z w64 c.args.n c.ranges.n) in
+    let e = ap length (signed_last (to_z w64 c.loop-rest.rest-bits) c.if-rest-ltminus64.false c.if-rest-gt63.false) in
+    omega (arith, c.loop-rest.invariant)
+
+pub returns-clause-most : goal.returns-clause-most
+returns-clause-most c =
+    let n = ap (λ z. length (signed z)) (to_z-of_z w64 c.args.n c.ranges.n) in
+    omega (arith, c.loop-rest.invariant, signed_some (to_z w64 c.loop-rest.rest-bits), signed_short c.args.n c.ranges.n)

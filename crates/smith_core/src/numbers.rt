@@ -1,0 +1,108 @@
+//! Numbers in LEB128, written at the end of a buffer, and their lengths.
+#![tactic(auto, using(crate::proofs::Steps::writing))]
+
+ghost use Rattle.std.specs.Prelude.{◌≡◌, ℕ, ◌≤◌, length, pos};
+ghost use Rattle.smith_core.specs.Numbers.{unsigned, signed};
+ghost use Rattle.smith_core.specs.Piece.{number, s, s_index, u};
+ghost use Rattle.smith_core.specs.Writing.{Puts, Appends};
+
+use crate::pieces::{settled, write_byte};
+use smith_input::Error;
+
+fn put_u64(out: &mut Vec<u8>, n: u64) -> Result<(), Error>
+    ensures { Puts result out.old out.new (number n) }
+{
+    let mut rest = n;
+    while rest >= 128 {
+        write_byte(out, (rest % 128) as u8 + 128)?;
+        rest /= 128;
+    }
+    write_byte(out, rest as u8)
+}
+
+/// Appends an unsigned number.
+pub fn write_u64(out: &mut Vec<u8>, n: u64) -> Result<(), Error>
+    ensures { Appends result out.old out.new (number n) }
+{
+    let start = out.len();
+    let given = put_u64(out, n);
+    settled(out, start, given)
+}
+
+/// The length of an unsigned number.
+pub fn u64_len(n: u64) -> u32
+    ensures length { result ≡ length (unsigned n) }
+    ensures most { result ≤ 10 }
+{
+    let mut rest = n;
+    let mut length = 1;
+    while rest >= 128 {
+        rest /= 128;
+        length += 1;
+    }
+    length
+}
+
+/// Appends a length, a count or an index.
+pub fn write_u32(out: &mut Vec<u8>, n: u32) -> Result<(), Error>
+    ensures { Appends result out.old out.new (u n) }
+{
+    write_u64(out, u64::from(n))
+}
+
+/// The length of a length, a count or an index.
+pub fn u32_len(n: u32) -> u32
+    ensures length { result ≡ length (unsigned n) }
+    ensures most { result ≤ 5 }
+{
+    u64_len(u64::from(n))
+}
+
+fn put_s64(out: &mut Vec<u8>, n: i64) -> Result<(), Error>
+    ensures { Puts result out.old out.new (s n) }
+{
+    let mut rest = n;
+    while rest < -64 || rest > 63 {
+        write_byte(out, rest.rem_euclid(128) as u8 + 128)?;
+        rest = rest.div_euclid(128);
+    }
+    write_byte(out, rest.rem_euclid(128) as u8)
+}
+
+/// Appends a signed number.
+pub fn write_s64(out: &mut Vec<u8>, n: i64) -> Result<(), Error>
+    ensures { Appends result out.old out.new (s n) }
+{
+    let start = out.len();
+    let given = put_s64(out, n);
+    settled(out, start, given)
+}
+
+/// The length of a signed number.
+pub fn s64_len(n: i64) -> u32
+    ensures length { result ≡ length (signed n) }
+    ensures most { result ≤ 10 }
+{
+    let mut rest = n;
+    let mut length = 1;
+    while rest < -64 || rest > 63 {
+        rest = rest.div_euclid(128);
+        length += 1;
+    }
+    length
+}
+
+/// Appends an index where a value type may stand.
+pub fn write_type_index(out: &mut Vec<u8>, index: u32) -> Result<(), Error>
+    ensures { Appends result out.old out.new (s_index index) }
+{
+    write_s64(out, i64::from(index))
+}
+
+/// The length of an index where a value type may stand.
+pub fn type_index_len(index: u32) -> u32
+    ensures length { result ≡ length (signed (pos index)) }
+    ensures most { result ≤ 5 }
+{
+    s64_len(i64::from(index))
+}
