@@ -1,3 +1,4 @@
+pub mod Clear
 pub mod Digits
 pub mod Joins
 pub mod Loops

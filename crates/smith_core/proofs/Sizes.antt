@@ -1,10 +1,12 @@
 -- The lengths of pieces.
-use Rattle.std.proofs.Common.{◌≡◌, ℕ, suc, ◌+◌, ◌^◌, ◌<◌, ◌≤◌, ◌⊎◌, inl, inr, List, [], ◌∷◌, ◌++◌, length, take, drop, get_or, ap, subst, sym, ◌∙◌, arith, length-append, take_all, Option, Some, None, SomeIff, refl}
+use Rattle.std.proofs.Common.{◌≡◌, ℕ, suc, ◌+◌, ◌^◌, ◌<◌, ◌≤◌, ◌⊎◌, inl, inr, ◌↔◌, Bool, true, false, nat_lt, IsUtf8, List, [], ◌∷◌, ◌++◌, length, take, drop, get_or, ap, subst, sym, ◌∙◌, arith, length-append, take_all, Option, Some, None, SomeIff, refl}
 use Rattle.smith_core.specs.Numbers.{unsigned}
-use Rattle.smith_core.specs.Piece.{Piece, ◌⊕◌, size, byte, u, each, many, framed, sized}
+use Rattle.smith_core.specs.Piece.{Piece, ◌⊕◌, size, byte, bytes, u, s_index, text, each, many, framed, sized}
 use Rattle.smith_core.specs.Writing.{Takes, TakesTooMuch, IsLengthOf, Measures}
 use Rattle.smith_core.proofs.Joins.{assoc, joined, right_none, left_none, size_join, none_join}
-use Rattle.smith_core.proofs.Digits.{u_fits, u_none, u_cases}
+use Rattle.smith_core.proofs.Digits.{u_fits, u_none, u_cases, s_index_fits, s_index_none}
+use Rattle.std.proofs.lemmas.Bool.{ltb-false}
+use borrow.Author.Tests.{ltb-true}
 use Rattle.smith_core.proofs.Loops.{each_more, each_at}
 use Rattle.smith_core.proofs.Raw.{text_is}
 use Rattle.smith_core.proofs.Steps.{framed_bytes, framed_nothing}
@@ -116,5 +118,37 @@ module _ {A : Type 0} (f : A → Piece) where
 
   pub many_count : (xs : List A) → 2 ^ 32 ≤ length xs → TakesTooMuch (many f xs)
   many_count xs h = too_much_left (each f xs) (too_much_u (length xs) h)
+
+-- where there is no spelling
+pub u_none_where : (n : ℕ) → (u n ≡ None) ↔ (2 ^ 32 ≤ n)
+u_none_where n = (λ e. by_size (u_cases n) e, u_none n)
+  where
+    by_size : ((u n ≡ Some (unsigned n)) × (n < 2 ^ 32)) ⊎ ((u n ≡ None) × (2 ^ 32 ≤ n)) → u n ≡ None → 2 ^ 32 ≤ n
+    by_size (inl h) e = let f = h.0 in cc
+    by_size (inr h) e = h.1
+
+behind : (b : List ℕ) → (u (length b) ⊕ Some b ≡ None) ↔ (2 ^ 32 ≤ length b)
+behind b = (λ e. by_part (none_join _ _ e), λ h. ap (λ q. q ⊕ Some b) (u_none (length b) h) ∙ left_none (Some b))
+  where
+    by_part : (u (length b) ≡ None) ⊎ (Some b ≡ None) → 2 ^ 32 ≤ length b
+    by_part (inl e) = (u_none_where (length b)).0 e
+    by_part (inr e) = cc
+
+pub text_none_where : (t : List ℕ) → IsUtf8 t → (text t ≡ None) ↔ (2 ^ 32 ≤ length t)
+text_none_where t h = let e = text_is t h in let w = behind t in (λ n. w.0 (sym e ∙ n), λ l. e ∙ w.1 l)
+
+pub sized_none_where : (id : ℕ) (c : List ℕ) → (sized id (bytes c) ≡ None) ↔ (2 ^ 32 ≤ length c)
+sized_none_where id c = (λ e. by_part (none_join _ _ e), λ h. ap (λ q. byte id ⊕ q) (framed_bytes c ∙ (behind c).1 h) ∙ right_none (byte id))
+  where
+    by_part : (byte id ≡ None) ⊎ (framed (Some c) ≡ None) → 2 ^ 32 ≤ length c
+    by_part (inl e) = cc
+    by_part (inr e) = (behind c).0 (sym (framed_bytes c) ∙ e)
+
+pub s_index_none_where : (n : ℕ) → (s_index n ≡ None) ↔ (2 ^ 32 ≤ n)
+s_index_none_where n = (λ e. by_test (nat_lt n (2 ^ 32)) refl e, s_index_none n)
+  where
+    by_test : (x : Bool) → nat_lt n (2 ^ 32) ≡ x → s_index n ≡ None → 2 ^ 32 ≤ n
+    by_test true f e = let g = s_index_fits n (ltb-true n (2 ^ 32) f) in cc
+    by_test false f e = ltb-false n (2 ^ 32) f
 
 pub ruleset measuring = (left_none, right_none, size_join, none_join, u_cases, text_is, framed_cases)

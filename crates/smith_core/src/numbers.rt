@@ -34,10 +34,10 @@ pub fn u64_len(n: u64) -> u32
     ensures length { result ≡ length (unsigned n) }
     ensures most { result ≤ 10 }
 {
-    let mut rest = n;
+    let mut left = n;
     let mut length = 1;
-    while rest >= 128 {
-        rest /= 128;
+    while left >= 128 {
+        left /= 128;
         length += 1;
     }
     length
@@ -83,10 +83,10 @@ pub fn s64_len(n: i64) -> u32
     ensures length { result ≡ length (signed n) }
     ensures most { result ≤ 10 }
 {
-    let mut rest = n;
+    let mut left = n;
     let mut length = 1;
-    while rest < -64 || rest > 63 {
-        rest = rest.div_euclid(128);
+    while left < -64 || left > 63 {
+        left = left.div_euclid(128);
         length += 1;
     }
     length
@@ -105,4 +105,29 @@ pub fn type_index_len(index: u32) -> u32
     ensures most { result ≤ 5 }
 {
     s64_len(i64::from(index))
+}
+
+#[cfg(test)]
+mod tests {
+    use super::*;
+    use std::test::Fail;
+
+    // The bytes are those of the core specification's and DWARF's examples, or worked out by hand.
+    #[test]
+    fn writes_numbers(rt: HostRuntime) -> Result<(), Fail> {
+        let mut out = Vec::new(rt.alloc());
+        write_u32(&mut out, 64)?;
+        write_u32(&mut out, 624_485)?;
+        write_u64(&mut out, 1 << 35)?;
+        write_s64(&mut out, 64)?;
+        write_s64(&mut out, -1)?;
+        write_s64(&mut out, -65)?;
+        write_type_index(&mut out, 63)?;
+        let expected = [
+            0x40, 0xe5, 0x8e, 0x26, 0x80, 0x80, 0x80, 0x80, 0x80, 0x01, 0xc0, 0x00, 0x7f, 0xbf,
+            0x7f, 0x3f,
+        ];
+        assert_eq!(rt; out.as_slice(), expected.as_slice());
+        Ok(())
+    }
 }

@@ -41,10 +41,10 @@ pub fn settled(out: &mut Vec<u8>, start: usize, given: Result<(), Error>) -> Res
 pub fn write_count(out: &mut Vec<u8>, count: usize) -> Result<(), Error>
     ensures { Appends result out.old out.new (u count) }
 {
-    let Ok(count) = u32::try_from(count) else {
+    if count > u32::MAX as usize {
         return Err(Error::TooLong);
-    };
-    write_u32(out, count)
+    }
+    write_u32(out, count as u32)
 }
 
 /// The length of a written length or count; None exactly where that passes 4,294,967,295.

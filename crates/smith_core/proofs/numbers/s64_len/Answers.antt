@@ -7,32 +7,32 @@ use mir.Val.{to_z}
 use Rattle.smith_core.specs.Numbers.{signed}
 use Rattle.smith_core.proofs.Digits.{signed_last, signed_more, signed_some, signed_short}
 use Rattle.smith_core.proofs.numbers.s64_len.Goals as goal
-use Rattle.smith_core.proofs.numbers.s64_len.Goals.{then-rest-ltminus64, else-rest-ltminus64+then-rest-gt63}
+use Rattle.smith_core.proofs.numbers.s64_len.Goals.{then-left-ltminus64, else-left-ltminus64+then-left-gt63}
 
 pub overflow_add-length : goal.overflow_add-length
 overflow_add-length c =
     let n = ap (λ z. length (signed z)) (to_z-of_z w64 c.args.n c.ranges.n) in
-    omega (arith, c.loop-rest.invariant, signed_some (to_z w64 c.loop-rest.rest-bits), signed_short c.args.n c.ranges.n)
+    omega (arith, c.loop-left.invariant, signed_some (to_z w64 c.loop-left.left-bits), signed_short c.args.n c.ranges.n)
 
-pub loop-rest-preserved : goal.loop-rest-preserved
-loop-rest-preserved c =
-    let z = to_z w64 c.loop-rest.rest-bits in
-    let f : FitsSigned w64 c.div_euclid-rest.result = search rules in
-    let outside : (int_lt z (negsuc 63) ≡ true) ⊎ (int_lt (pos 63) z ≡ true) = elim c.if-rest-ltminus64.branch [
-      | then-rest-ltminus64 w ↦ inl w.if-rest-ltminus64.true
-      | else-rest-ltminus64+then-rest-gt63 w ↦ inr w.if-rest-gt63.true
+pub loop-left-preserved : goal.loop-left-preserved
+loop-left-preserved c =
+    let z = to_z w64 c.loop-left.left-bits in
+    let f : FitsSigned w64 c.div_euclid-left.result = search rules in
+    let outside : (int_lt z (negsuc 63) ≡ true) ⊎ (int_lt (pos 63) z ≡ true) = elim c.if-left-ltminus64.branch [
+      | then-left-ltminus64 w ↦ inl w.if-left-ltminus64.true
+      | else-left-ltminus64+then-left-gt63 w ↦ inr w.if-left-gt63.true
     ] in
     let e = ap length (signed_more z outside) in
-    let r = ap (λ y. length (signed y)) (to_z-of_z w64 c.div_euclid-rest.result f ∙ c.div_euclid-rest.ensures) in
-    omega (arith, c.loop-rest.invariant)
+    let r = ap (λ y. length (signed y)) (to_z-of_z w64 c.div_euclid-left.result f ∙ c.div_euclid-left.ensures) in
+    omega (arith, c.loop-left.invariant)
 
 pub returns-clause-length : goal.returns-clause-length
 returns-clause-length c =
     let n = ap (λ z. length (signed z)) (to_z-of_z w64 c.args.n c.ranges.n) in
-    let e = ap length (signed_last (to_z w64 c.loop-rest.rest-bits) c.if-rest-ltminus64.false c.if-rest-gt63.false) in
-    omega (arith, c.loop-rest.invariant)
+    let e = ap length (signed_last (to_z w64 c.loop-left.left-bits) c.if-left-ltminus64.false c.if-left-gt63.false) in
+    omega (arith, c.loop-left.invariant)
 
 pub returns-clause-most : goal.returns-clause-most
 returns-clause-most c =
     let n = ap (λ z. length (signed z)) (to_z-of_z w64 c.args.n c.ranges.n) in
-    omega (arith, c.loop-rest.invariant, signed_some (to_z w64 c.loop-rest.rest-bits), signed_short c.args.n c.ranges.n)
+    omega (arith, c.loop-left.invariant, signed_some (to_z w64 c.loop-left.left-bits), signed_short c.args.n c.ranges.n)
