@@ -9,6 +9,11 @@ ghost use Rattle.smith_core.specs.Writing.{Puts, Appends};
 use crate::pieces::{settled, write_byte};
 use smith_input::Error;
 
+// A signed number between these is its last byte.
+const LEAST: i64 = -64;
+
+const MOST: i64 = 63;
+
 fn put_u64(out: &mut Vec<u8>, n: u64) -> Result<(), Error>
     ensures { Puts result out.old out.new (number n) }
 {
@@ -62,7 +67,7 @@ fn put_s64(out: &mut Vec<u8>, n: i64) -> Result<(), Error>
     ensures { Puts result out.old out.new (s n) }
 {
     let mut rest = n;
-    while rest < -64 || rest > 63 {
+    while rest < LEAST || rest > MOST {
         write_byte(out, rest.rem_euclid(128) as u8 + 128)?;
         rest = rest.div_euclid(128);
     }
@@ -85,7 +90,7 @@ pub fn s64_len(n: i64) -> u32
 {
     let mut left = n;
     let mut length = 1;
-    while left < -64 || left > 63 {
+    while left < LEAST || left > MOST {
         left = left.div_euclid(128);
         length += 1;
     }

@@ -7,7 +7,7 @@ use mir.Val.{to_z}
 use Rattle.smith_core.specs.Numbers.{signed}
 use Rattle.smith_core.proofs.Digits.{signed_last, signed_more, signed_some, signed_short}
 use Rattle.smith_core.proofs.numbers.s64_len.Goals as goal
-use Rattle.smith_core.proofs.numbers.s64_len.Goals.{then-left-ltminus64, else-left-ltminus64+then-left-gt63}
+use Rattle.smith_core.proofs.numbers.s64_len.Goals.{then-left-lt-LEAST, else-left-lt-LEAST+then-left-gt-MOST}
 
 pub overflow_add-length : goal.overflow_add-length
 overflow_add-length c =
@@ -18,9 +18,9 @@ pub loop-left-preserved : goal.loop-left-preserved
 loop-left-preserved c =
     let z = to_z w64 c.loop-left.left-bits in
     let f : FitsSigned w64 c.div_euclid-left.result = search rules in
-    let outside : (int_lt z (negsuc 63) ≡ true) ⊎ (int_lt (pos 63) z ≡ true) = elim c.if-left-ltminus64.branch [
-      | then-left-ltminus64 w ↦ inl w.if-left-ltminus64.true
-      | else-left-ltminus64+then-left-gt63 w ↦ inr w.if-left-gt63.true
+    let outside : (int_lt z (negsuc 63) ≡ true) ⊎ (int_lt (pos 63) z ≡ true) = elim c.if-left-lt-LEAST.branch [
+      | then-left-lt-LEAST w ↦ inl w.if-left-lt-LEAST.true
+      | else-left-lt-LEAST+then-left-gt-MOST w ↦ inr w.if-left-gt-MOST.true
     ] in
     let e = ap length (signed_more z outside) in
     let r = ap (λ y. length (signed y)) (to_z-of_z w64 c.div_euclid-left.result f ∙ c.div_euclid-left.ensures) in
@@ -29,7 +29,7 @@ loop-left-preserved c =
 pub returns-clause-length : goal.returns-clause-length
 returns-clause-length c =
     let n = ap (λ z. length (signed z)) (to_z-of_z w64 c.args.n c.ranges.n) in
-    let e = ap length (signed_last (to_z w64 c.loop-left.left-bits) c.if-left-ltminus64.false c.if-left-gt63.false) in
+    let e = ap length (signed_last (to_z w64 c.loop-left.left-bits) c.if-left-lt-LEAST.false c.if-left-gt-MOST.false) in
     omega (arith, c.loop-left.invariant)
 
 pub returns-clause-most : goal.returns-clause-most
