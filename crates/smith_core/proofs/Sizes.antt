@@ -48,6 +48,11 @@ pub length_then : (r : Option ℕ) {m n : ℕ} {p q : Piece} → SomeIff r (m + 
 length_then (Some k) {m} {n} {p} {q} s t w = (subst (λ (l : ℕ). Takes l (p ⊕ q)) (sym s.1) (takes_then t w), let e = s.1 in omega (arith, s.0))
 length_then None {m} {n} s t w = too_much_long (takes_then t w) (omega (arith, s))
 
+-- the same, where the second length comes first
+pub length_behind : (r : Option ℕ) {m n : ℕ} {p q : Piece} → SomeIff r (n + m < 2 ^ 32) (n + m) → Takes m p → Takes n q → IsLengthOf r (p ⊕ q)
+length_behind (Some k) {m} {n} {p} {q} s t w = (subst (λ (l : ℕ). Takes l (p ⊕ q)) (let e = s.1 in omega arith) (takes_then t w), let e = s.1 in omega (arith, s.0))
+length_behind None {m} {n} s t w = too_much_long (takes_then t w) (omega (arith, s))
+
 -- Something behind its length has a spelling where what it holds has one of at most 4,294,967,295 bytes.
 pub framed_cases : (p : Piece) → ((framed p ≡ None) × TakesTooMuch p) ⊎ (Takes (size p) p × (size p < 2 ^ 32) × Takes (length (unsigned (size p)) + size p) (framed p))
 framed_cases None = inl (framed_nothing, too_much_none (λ i. None))
