@@ -1,5 +1,7 @@
 -- The lengths of pieces.
-use Rattle.std.proofs.Common.{◌≡◌, ℕ, suc, ◌+◌, ◌^◌, ◌<◌, ◌≤◌, ◌⊎◌, inl, inr, ◌↔◌, Bool, true, false, nat_lt, IsUtf8, List, [], ◌∷◌, ◌++◌, length, take, drop, get_or, ap, subst, sym, ◌∙◌, arith, length-append, take_all, Option, Some, None, SomeIff, refl}
+use Rattle.std.proofs.Common.{◌≡◌, ℕ, suc, ◌+◌, ◌^◌, ◌<◌, ◌≤◌, ◌⊎◌, inl, inr, ◌↔◌, Bool, true, false, nat_lt, IsUtf8, List, [], ◌∷◌, ◌++◌, length, take, drop, get_or, ap, subst, sym, ◌∙◌, arith, length-append, take_all, Option, Some, None, SomeIff, Result, Ok, Err, IsErrAnd, refl}
+use Rattle.smith_input.specs.declared.error.Error.{Error}
+use Rattle.smith_input.specs.declared.error.Error.TheVariants.{TooLong}
 use Rattle.smith_core.specs.Numbers.{unsigned}
 use Rattle.smith_core.specs.Piece.{Piece, ◌⊕◌, size, byte, bytes, u, s_index, text, each, many, framed, sized}
 use Rattle.smith_core.specs.Writing.{Takes, TakesTooMuch, IsLengthOf, Measures}
@@ -123,6 +125,11 @@ module _ {A : Type 0} (f : A → Piece) where
 
   pub many_count : (xs : List A) → 2 ^ 32 ≤ length xs → TakesTooMuch (many f xs)
   many_count xs h = too_much_left (each f xs) (too_much_u (length xs) h)
+
+-- the exit of a `?` that passes on that something is too long
+pub measures_none : (r : Result ℕ Error) (e : Error) {p : Piece} → IsErrAnd r (λ y. y ≡ e) → e ≡ TooLong → p ≡ None → Measures r p
+measures_none (Ok n) e is f g = absurd is
+measures_none (Err y) e is f g = (is ∙ f, g)
 
 -- where there is no spelling
 pub u_none_where : (n : ℕ) → (u n ≡ None) ↔ (2 ^ 32 ≤ n)

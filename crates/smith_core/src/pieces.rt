@@ -6,7 +6,7 @@ ghost use Rattle.std.specs.Prelude.{◌≡◌, ℕ, ◌<◌, ◌≤◌, ◌^◌,
 ghost use Rattle.std.specs.Vec.{vec_len};
 ghost use Rattle.std.specs.declared.vec.Vec.{Vec};
 ghost use Rattle.std.specs.declared.alloc.Global.{Global};
-ghost use Rattle.smith_core.specs.Piece.{Piece, ◌⊕◌, byte, bytes, u, text, sized};
+ghost use Rattle.smith_core.specs.Piece.{Piece, ◌⊕◌, byte, bytes, u, raw, text, sized};
 ghost use Rattle.smith_core.specs.Writing.{Puts, Appends, IsLengthOf};
 
 use crate::numbers::{u32_len, write_u32};
@@ -18,6 +18,20 @@ pub fn write_bytes(out: &mut Vec<u8>, contents: &[u8]) -> Result<(), Error>
 {
     out.extend_from_slice(contents)?;
     Ok(())
+}
+
+/// Appends bytes that fill what is left of a section.
+pub fn write_raw(out: &mut Vec<u8>, contents: &[u8]) -> Result<(), Error>
+    ensures { Appends result out.old out.new (raw contents.now) }
+{
+    write_bytes(out, contents)
+}
+
+/// The length of bytes; None exactly where it passes 4,294,967,295.
+pub fn raw_len(contents: &[u8]) -> Option<u32>
+    ensures { IsLengthOf result (raw contents.now) }
+{
+    u32::try_from(contents.len()).ok()
 }
 
 /// Appends a byte.
