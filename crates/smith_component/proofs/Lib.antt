@@ -6,4 +6,6 @@ pub mod ReadLemmas
 pub mod RunLemmas
 pub mod ShownLemmas
 pub mod SoundLemmas
+pub mod Spelling
 pub mod TurnLemmas
+pub mod Unique

@@ -3,7 +3,9 @@
 
 pub mod builder;
 pub mod component;
+pub mod encode;
 pub mod item;
+pub mod laws;
 pub mod make;
 
 pub use builder::{Builder, Step};

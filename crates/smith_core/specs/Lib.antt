@@ -1,3 +1,4 @@
+pub mod Clear
 pub mod Consistent
 pub mod Defaults
 pub mod Module

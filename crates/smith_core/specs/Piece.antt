@@ -15,6 +15,11 @@ None ⊕ q = None
 (Some a) ⊕ None = None
 (Some a) ⊕ (Some b) = Some (a ++ b)
 
+-- how many bytes the spelling has, and 0 where there is none
+abbrev pub size : Piece → ℕ
+size None = 0
+size (Some b) = length b
+
 abbrev pub byte : ℕ → Piece
 byte n = Some (n ∷ [])
 
@@ -45,7 +50,7 @@ unfoldable pub utf8 : List ℕ → Piece
 utf8 bs = if is_utf8 bs then Some bs else None
 
 -- something behind its length in bytes
-abbrev pub framed : Piece → Piece
+unfoldable pub framed : Piece → Piece
 framed None = None
 framed (Some b) = u (length b) ⊕ Some b
 

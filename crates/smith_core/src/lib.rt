@@ -2,7 +2,10 @@
 #![tactic(auto)]
 
 pub mod config;
+pub mod laws;
 pub mod module;
+pub mod numbers;
+pub mod pieces;
 
 pub use config::Config;
 pub use module::Module;

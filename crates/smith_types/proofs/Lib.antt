@@ -1,5 +1,7 @@
+pub mod Lengths
 pub mod MadeLemmas
 pub mod MemberLemmas
 pub mod SameLemmas
 pub mod ScopeLemmas
 pub mod ScriptLemmas
+pub mod Unique

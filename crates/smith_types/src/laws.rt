@@ -1,7 +1,9 @@
 //! Laws of types. Each function does nothing: its contract is the law.
 
 ghost use Rattle.std.specs.Prelude.{◌≡◌, ◌≤◌, ◌^◌, ℕ, List, ◌++◌, length};
+ghost use Rattle.smith_core.specs.Clear.{IsClear};
 ghost use Rattle.smith_types.specs.Entries.{Entry};
+ghost use Rattle.smith_types.specs.Grammar.{val, maybe_val, entry, core_entry, import_entry};
 ghost use Rattle.smith_types.specs.Made.{Made};
 ghost use Rattle.smith_types.specs.Scope.{Scope};
 ghost use Rattle.smith_types.specs.Script.{Lasts, script_type};
@@ -21,3 +23,13 @@ pub fn scripts_are_read()
         → (left : ℕ) × Made own outer (script_type fuel own e ++ rest) fuel e rest left }
 {
 }
+
+/// No spelling of a type is a prefix of another, and two readings with anything behind are one; so it is with
+/// value types, core types and imports.
+pub fn types_are_clear()
+    ensures types { IsClear entry }
+    ensures value_types { IsClear val }
+    ensures missing { IsClear maybe_val }
+    ensures core_types { IsClear core_entry }
+    ensures imports { IsClear import_entry }
+{}

@@ -2,11 +2,13 @@
 #![tactic(auto)]
 
 pub mod drops;
+pub mod encode;
 pub mod laws;
 pub mod make;
 pub mod scopes;
 pub mod types;
 
+pub use encode::{core_type_len, import_len, type_len, write_core_type, write_import, write_type};
 pub use make::arbitrary_type;
 pub use scopes::{Kind, Scopes};
 pub use types::{

@@ -1,0 +1,5 @@
+use Rattle.smith_component.proofs.Unique.{spells_law}
+use Rattle.smith_component.proofs.laws.one_reading.Goals as goal
+
+pub returns : goal.returns
+returns c = spells_law

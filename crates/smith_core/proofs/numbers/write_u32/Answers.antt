@@ -1,0 +1,10 @@
+use Rattle.std.proofs.Common.{ap, sym, ◌∙◌, subst}
+use Rattle.smith_core.specs.Piece.{Piece, number}
+use Rattle.smith_core.specs.Writing.{Appends}
+use Rattle.smith_core.proofs.Digits.{u_fits}
+use Rattle.smith_core.proofs.numbers.write_u32.Goals as goal
+
+pub returns : goal.returns
+returns c =
+    let e = ap number c.from.ensures ∙ sym (u_fits c.args.n c.ranges.n.fits) in
+    subst (λ (p : Piece). Appends c.write_u64.result c.args.out.now c.write_u64.new.out p) e c.write_u64.ensures

@@ -1,0 +1,62 @@
+//! Laws of spellings. Each function does nothing: its contract is the law.
+
+ghost use Rattle.std.specs.Prelude.{◌≡◌, ◌↔◌, ℕ, ◌+◌, ◌/◌, ◌%◌, ◌^◌, ◌<◌, ◌≤◌, List, [], ◌∷◌, length, None, ℤ, pos, negsuc, ◌≤ℤ◌, ◌<ℤ◌};
+ghost use Rattle.std.specs.Str.{IsUtf8};
+ghost use Rattle.smith_core.specs.Clear.{IsClear, IsExact};
+ghost use Rattle.smith_core.specs.Numbers.{unsigned, signed, low_bits, high_bits};
+ghost use Rattle.smith_core.specs.Piece.{Piece, ◌⊕◌, bytes, u, number, s, s_index, text, raw, many, sized};
+
+/// An unsigned number below 128 is one byte. Any other begins with the byte of its lowest seven bits and 128
+/// more, and goes on as the number without them.
+pub fn unsigned_numbers()
+    ensures last { (n : ℕ) → n < 128 → unsigned n ≡ n ∷ [] }
+    ensures more { (n : ℕ) → 128 ≤ n → unsigned n ≡ (128 + n % 128) ∷ unsigned (n / 128) }
+{}
+
+/// A signed number from -64 to 63 is one byte. Any other begins with the byte of its lowest seven bits and 128
+/// more, and goes on as the number divided by 128, rounded down.
+pub fn signed_numbers()
+    ensures last { (z : ℤ) → negsuc 63 ≤ℤ z → z ≤ℤ pos 63 → signed z ≡ low_bits z ∷ [] }
+    ensures more { (z : ℤ) → pos 63 <ℤ z → signed z ≡ (128 + low_bits z) ∷ signed (high_bits z) }
+    ensures less { (z : ℤ) → z <ℤ negsuc 63 → signed z ≡ (128 + low_bits z) ∷ signed (high_bits z) }
+{}
+
+/// No spelling of a number is a prefix of another of its sort, and two readings with anything behind are one.
+pub fn numbers_are_clear()
+    ensures unsigned { IsClear number }
+    ensures signed { IsClear s }
+    ensures counts { IsClear u }
+    ensures indexes { IsClear s_index }
+{}
+
+/// The same of texts.
+pub fn texts_are_clear()
+    ensures { IsClear text }
+{}
+
+/// The same of lists of what is read in one way.
+pub fn lists_are_clear<T>()
+    ensures { (f : T → Piece) → IsClear f → IsClear (many f) }
+{}
+
+/// The same of sections whose contents are read in one way from beginning to end.
+pub fn sections_are_clear<T>()
+    ensures sections { (id : ℕ) (f : T → Piece) → IsExact f → IsClear (λ x. sized id (f x)) }
+    ensures contents { (id : ℕ) → IsClear (λ c. sized id (bytes c)) }
+{}
+
+/// Bytes that are read in one way with anything behind are so by themselves, and bytes as they are may fill the
+/// rest.
+pub fn contents_are_exact<T>()
+    ensures clear { (f : T → Piece) → IsClear f → IsExact f }
+    ensures filled { (f : T → Piece) → IsClear f → IsExact (λ (x : T × List ℕ). f x.0 ⊕ raw x.1) }
+{}
+
+/// A number has no spelling as a length, a count or an index exactly where it passes 4,294,967,295; nor has a
+/// text or a section exactly where its length does.
+pub fn too_long_has_no_spelling()
+    ensures count { (n : ℕ) → (u n ≡ None) ↔ (2 ^ 32 ≤ n) }
+    ensures index { (n : ℕ) → (s_index n ≡ None) ↔ (2 ^ 32 ≤ n) }
+    ensures text { (t : List ℕ) → IsUtf8 t → (text t ≡ None) ↔ (2 ^ 32 ≤ length t) }
+    ensures section { (id : ℕ) (c : List ℕ) → (sized id (bytes c) ≡ None) ↔ (2 ^ 32 ≤ length c) }
+{}

@@ -1,0 +1,11 @@
+-- The lengths of value types.
+use Rattle.std.proofs.Common.{◌≡◌, ℕ, ◌<◌, ◌^◌, length, refl, ap, sym, Some, None, pos}
+use Rattle.smith_core.specs.Numbers.{signed}
+use Rattle.smith_core.specs.Piece.{size, s_index}
+use Rattle.smith_core.proofs.Digits.{s_index_fits}
+
+-- `s_index_fits`, for `grind`
+pub s_index_is : (n : ℕ) → n < 2 ^ 32 → s_index n ≡ Some (signed (pos n))
+s_index_is n h = s_index_fits n h
+
+pub ruleset vals = (s_index_is)

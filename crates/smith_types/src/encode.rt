@@ -1,0 +1,171 @@
+//! Types in the binary format (Binary.md, type definitions), and the lengths of their spellings. No writer lowers the
+//! capacity of its buffer, and none wants memory where the buffer has room for what it writes.
+#![tactic(auto, using(smith_core::proofs::Steps::writing, smith_core::proofs::Sizes::measuring, crate::proofs::Lengths::vals))]
+
+mod lists;
+
+ghost use Rattle.std.specs.Prelude.{◌≡◌, ◌≤◌, ℕ, map};
+ghost use Rattle.smith_core.specs.Piece.{Piece, ◌⊕◌, byte, s_index, u, many, text};
+ghost use Rattle.smith_core.specs.Writing.{Puts, Appends, Takes, IsLengthOf};
+ghost use Rattle.smith_types.specs.Grammar.{primitive_byte, val, maybe_val, entry, core_entry, import_entry};
+ghost use Rattle.smith_types.specs.Shown.{shown_primitive, shown_val, shown_maybe, shown_defined, shown_type, shown_core_type, shown_import};
+
+use crate::types::{ComponentValType, CoreType, DefType, DefinedType, Import, PrimitiveValType};
+pub use lists::{Spelled, many_len, put_many};
+use smith_core::numbers::{type_index_len, write_type_index};
+use smith_core::pieces::{settled, write_byte};
+use smith_input::Error;
+
+fn code(primitive: PrimitiveValType) -> u8
+    ensures { result ≡ primitive_byte (shown_primitive primitive) }
+{
+    match primitive {
+        PrimitiveValType::Bool => 0x7f,
+        PrimitiveValType::S8 => 0x7e,
+        PrimitiveValType::U8 => 0x7d,
+        PrimitiveValType::S16 => 0x7c,
+        PrimitiveValType::U16 => 0x7b,
+        PrimitiveValType::S32 => 0x7a,
+        PrimitiveValType::U32 => 0x79,
+        PrimitiveValType::S64 => 0x78,
+        PrimitiveValType::U64 => 0x77,
+        PrimitiveValType::F32 => 0x76,
+        PrimitiveValType::F64 => 0x75,
+        PrimitiveValType::Char => 0x74,
+        PrimitiveValType::String => 0x73,
+    }
+}
+
+pub(crate) fn put_val(out: &mut Vec<u8>, ty: ComponentValType) -> Result<(), Error>
+    ensures { Puts result out.old out.new (val (shown_val ty)) }
+{
+    match ty {
+        ComponentValType::Primitive(primitive) => write_byte(out, code(primitive)),
+        ComponentValType::Indexed(index) => write_type_index(out, index),
+    }
+}
+
+pub(crate) fn val_len(ty: ComponentValType) -> u32
+    ensures length { Takes result (val (shown_val ty)) }
+    ensures most { result ≤ 5 }
+{
+    match ty {
+        ComponentValType::Primitive(_) => 1,
+        ComponentValType::Indexed(index) => type_index_len(index),
+    }
+}
+
+fn put_maybe_val(out: &mut Vec<u8>, ty: Option<ComponentValType>) -> Result<(), Error>
+    ensures { Puts result out.old out.new (maybe_val (shown_maybe ty)) }
+{
+    match ty {
+        None => write_byte(out, 0x00),
+        Some(ty) => {
+            write_byte(out, 0x01)?;
+            put_val(out, ty)
+        }
+    }
+}
+
+fn maybe_val_len(ty: Option<ComponentValType>) -> u32
+    ensures length { Takes result (maybe_val (shown_maybe ty)) }
+    ensures most { result ≤ 6 }
+{
+    match ty {
+        None => 1,
+        Some(ty) => 1 + val_len(ty),
+    }
+}
+
+fn put_defined(out: &mut Vec<u8>, ty: &DefinedType) -> Result<(), Error>
+    ensures { Puts result out.old out.new (entry (shown_defined ty.now)) }
+{
+    match ty {
+        DefinedType::Primitive(primitive) => write_byte(out, code(*primitive)),
+        DefinedType::List(list) => {
+            write_byte(out, 0x70)?;
+            put_val(out, list.elem_ty)
+        }
+        DefinedType::Tuple(tuple) => {
+            write_byte(out, 0x6f)?;
+            put_many(out, &tuple.fields)
+        }
+        DefinedType::Option(option) => {
+            write_byte(out, 0x6b)?;
+            put_val(out, option.inner_ty)
+        }
+        DefinedType::Result(result) => {
+            write_byte(out, 0x6a)?;
+            put_maybe_val(out, result.ok_ty)?;
+            put_maybe_val(out, result.err_ty)
+        }
+    }
+}
+
+fn defined_len(ty: &DefinedType) -> Option<u32>
+    ensures { IsLengthOf result (entry (shown_defined ty.now)) }
+{
+    match ty {
+        DefinedType::Primitive(_) => Some(1),
+        DefinedType::List(list) => Some(1 + val_len(list.elem_ty)),
+        DefinedType::Tuple(tuple) => many_len(&tuple.fields)?.checked_add(1),
+        DefinedType::Option(option) => Some(1 + val_len(option.inner_ty)),
+        DefinedType::Result(result) => {
+            Some(1 + maybe_val_len(result.ok_ty) + maybe_val_len(result.err_ty))
+        }
+    }
+}
+
+fn put_type(out: &mut Vec<u8>, ty: &DefType) -> Result<(), Error>
+    ensures { Puts result out.old out.new (entry (shown_type ty.now)) }
+{
+    match ty {
+        DefType::Defined(ty) => put_defined(out, ty),
+    }
+}
+
+/// Appends a type. It is too long where a count in it passes 4,294,967,295.
+pub fn write_type(out: &mut Vec<u8>, ty: &DefType) -> Result<(), Error>
+    ensures { Appends result out.old out.new (entry (shown_type ty.now)) }
+{
+    let start = out.len();
+    let given = put_type(out, ty);
+    settled(out, start, given)
+}
+
+/// The length of a type's spelling; None exactly where it has none of at most 4,294,967,295 bytes.
+pub fn type_len(ty: &DefType) -> Option<u32>
+    ensures { IsLengthOf result (entry (shown_type ty.now)) }
+{
+    match ty {
+        DefType::Defined(ty) => defined_len(ty),
+    }
+}
+
+/// Appends a core type.
+pub fn write_core_type(_out: &mut Vec<u8>, ty: &CoreType) -> Result<(), Error>
+    ensures { Appends result _out.old _out.new (core_entry (shown_core_type ty.now)) }
+{
+    match *ty {}
+}
+
+/// The length of a core type's spelling; None exactly where it has none of at most 4,294,967,295 bytes.
+pub fn core_type_len(ty: &CoreType) -> Option<u32>
+    ensures { IsLengthOf result (core_entry (shown_core_type ty.now)) }
+{
+    match *ty {}
+}
+
+/// Appends an import.
+pub fn write_import(_out: &mut Vec<u8>, import: &Import) -> Result<(), Error>
+    ensures { Appends result _out.old _out.new (import_entry (shown_import import.now)) }
+{
+    match *import {}
+}
+
+/// The length of an import's spelling; None exactly where it has none of at most 4,294,967,295 bytes.
+pub fn import_len(import: &Import) -> Option<u32>
+    ensures { IsLengthOf result (import_entry (shown_import import.now)) }
+{
+    match *import {}
+}
