@@ -2,8 +2,9 @@
 use Rattle.std.proofs.Common.{◌≡◌, ℕ, suc, ◌+◌, ◌≤◌, List, [], ◌∷◌, length, arith, refl, subst}
 use Rattle.smith_core.specs.declared.config.Config.{Config}
 use Rattle.smith_component.specs.Tree.{Tree}
+use Rattle.smith_component.specs.Generates.{RunsTo}
 use Rattle.smith_component.specs.Limits.{max_depth}
-use Rattle.smith_component.specs.Turn.{Open, Next, building, answered, Turn, Turns, Run, root, todo, Falls}
+use Rattle.smith_component.specs.Turn.{Open, Next, building, answered, Turn, Turns, root, todo, Falls}
 
 -- From the start these open components and bytes left were reached: what goes on from there goes on from the start.
 pub record Reached (config : Config) (input : List ℕ) (stack : Open) (left : List ℕ) : Type 0 where
@@ -35,10 +36,10 @@ reached_turn config input stack next left left2 r t f = record {
       (j.0, omega (arith, j.1), j.2);
 }
 
-reached_end : (config : Config) (input : List ℕ) (stack : Open) (c : Tree) (left left2 : List ℕ) → Reached config input stack left → Turn config stack left (answered c) left2 → (k : ℕ) × (k ≤ length input + max_depth config) × Run config input c left2 k
+reached_end : (config : Config) (input : List ℕ) (stack : Open) (c : Tree) (left left2 : List ℕ) → Reached config input stack left → Turn config stack left (answered c) left2 → RunsTo config input c left2
 reached_end config input stack c left left2 r t =
     let j = r.onward (answered c) left2 1 (answered c, left2, t, (refl, refl)) in
-    (j.0, omega (arith, j.1, r.bound, todo_some config left stack), j.2)
+    record { turns = j.0; few = omega (arith, j.1, r.bound, todo_some config left stack); run = j.2 }
 
 -- The same where the config and what comes next are known by equations.
 
@@ -50,7 +51,7 @@ reached_step config same input stack next now left left2 e n r t f =
     let G : Next → Type 0 = λ x. Falls config left stack left2 x in
     reached_turn config input stack next left left2 r (subst Q n (subst P e t)) (subst G n (subst F e f))
 
-pub reached_answer : (config same : Config) (input : List ℕ) (stack : Open) (c : Tree) (now : Next) (left left2 : List ℕ) → same ≡ config → now ≡ answered c → Reached config input stack left → Turn same stack left now left2 → (k : ℕ) × (k ≤ length input + max_depth config) × Run config input c left2 k
+pub reached_answer : (config same : Config) (input : List ℕ) (stack : Open) (c : Tree) (now : Next) (left left2 : List ℕ) → same ≡ config → now ≡ answered c → Reached config input stack left → Turn same stack left now left2 → RunsTo config input c left2
 reached_answer config same input stack c now left left2 e n r t =
     let P : Config → Type 0 = λ x. Turn x stack left now left2 in
     let Q : Next → Type 0 = λ x. Turn config stack left x left2 in

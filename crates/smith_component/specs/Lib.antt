@@ -1,6 +1,7 @@
 pub mod Addable
 pub mod BuilderView
 pub mod Building
+pub mod Generates
 pub mod Grammar
 pub mod Limits
 pub mod Refusals

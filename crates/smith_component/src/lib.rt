@@ -4,6 +4,7 @@
 pub mod builder;
 pub mod component;
 pub mod encode;
+pub mod generation;
 pub mod item;
 pub mod laws;
 pub mod make;
@@ -13,5 +14,6 @@ pub use component::{
     CanonicalSection, Component, CoreTypeSection, CustomSection, Func, ImportSection, Section,
     TypeSection,
 };
+pub use generation::{Generated, generate};
 pub use smith_core::Config;
 pub use smith_input::{Error, Unstructured};

@@ -4,13 +4,13 @@ ghost use Rattle.std.specs.Prelude.{◌≡◌, ℕ, List, ◌+◌, ◌≤◌, �
 ghost use Rattle.smith_input.specs.Reading.{IsTail};
 ghost use Rattle.smith_core.specs.Consistent.{IsConsistent};
 ghost use Rattle.smith_core.specs.Defaults.{IsDefault};
-ghost use Rattle.smith_component.specs.Limits.{Limits, max_depth};
+ghost use Rattle.smith_component.specs.Generates.{RunsTo};
+ghost use Rattle.smith_component.specs.Limits.{Limits};
 ghost use Rattle.smith_component.specs.Refusals.{IsRefusal};
 ghost use Rattle.smith_component.specs.Script.{Within, script};
 ghost use Rattle.smith_component.specs.Shown.{shown};
 ghost use Rattle.smith_component.specs.Sizes.{Sized};
 ghost use Rattle.smith_component.specs.Tree.{Tree};
-ghost use Rattle.smith_component.specs.Turn.{Run};
 ghost use Rattle.smith_component.specs.WellFormed.{WellFormed};
 ghost use Rattle.smith_core.specs.declared.config.Config.{Config};
 
@@ -28,7 +28,7 @@ impl Component {
         ensures limits { IfOk result (λ c. Limits config (shown c)) }
         ensures formed { IfOk result (λ c. WellFormed (shown c)) }
         ensures sizes { IfOk result (λ c. Sized config (shown c)) }
-        ensures run { IfOk result (λ c. (k : ℕ) × (k ≤ length u.old + max_depth config) × Run config u.old (shown c) u.new k) }
+        ensures run { IfOk result (λ c. RunsTo config u.old (shown c) u.new) }
         ensures reach { (plan : Tree) (rest : List ℕ) → Within config plan → u.old ≡ script config plan ++ rest → IfOk result (λ c. (shown c ≡ plan) × (u.new ≡ rest)) }
         ensures accepts { OnOk result (IsConsistent config) }
         ensures refuses { IfErr result (IsRefusal config) }
@@ -49,7 +49,7 @@ impl Component {
         ensures limits { IfOk result (λ c. (config : Config) → IsDefault config → Limits config (shown c)) }
         ensures formed { IfOk result (λ c. WellFormed (shown c)) }
         ensures sizes { IfOk result (λ c. (config : Config) → IsDefault config → Sized config (shown c)) }
-        ensures run { IfOk result (λ c. (config : Config) → IsDefault config → (k : ℕ) × (k ≤ length u.old + max_depth config) × Run config u.old (shown c) u.new k) }
+        ensures run { IfOk result (λ c. (config : Config) → IsDefault config → RunsTo config u.old (shown c) u.new) }
         ensures reach { (config : Config) (plan : Tree) (rest : List ℕ) → IsDefault config → Within config plan → u.old ≡ script config plan ++ rest → IfOk result (λ c. (shown c ≡ plan) × (u.new ≡ rest)) }
         ensures memory { IfErr result (λ e. e ≡ Error.OutOfMemory) }
         ensures tail { IsTail u.new u.old }

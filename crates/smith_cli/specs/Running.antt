@@ -1,0 +1,44 @@
+-- What a run takes from its reader, and what it gives to its writer. `Some` bytes are what a reader has left, or a writer holds; `None` tells nothing.
+use Rattle.std.specs.Prelude.{◌≢◌, ℕ, ◌≤◌, List, length, ⊤, Option}
+use Rattle.std.specs.Io.KnownBytes.{Appends, Consumes, IsAtEnd}
+use Rattle.smith_input.specs.Reading.{IsTail}
+use Rattle.smith_input.specs.declared.error.Error.TheVariants.{OutOfMemory}
+use Rattle.smith_component.specs.declared.Config.{Config}
+use Rattle.smith_component.specs.declared.component.Component.{Component}
+use Rattle.smith_component.specs.Generates.{Generates}
+use Rattle.smith_cli.specs.declared.run.RunError.{RunError}
+use Rattle.smith_cli.specs.declared.run.RunError.TheVariants.{Refused, ReadFault, InputTooLong, WriteFault}
+use Rattle.smith_cli.specs.Page.{page}
+
+-- how many bytes an input may have
+abbrev pub longest_input : ℕ
+longest_input = 1048576
+
+-- The reader gave this input, is at its end, and the input is not too long.
+pub record GivesAll (before after : Option (List ℕ)) (input : List ℕ) : Type 0 where
+  pub given : Consumes before after input
+  pub ended : IsAtEnd after
+  pub within : length input ≤ longest_input
+
+-- The bytes of a component that is made of the input, and how many bytes of the input are left, are written as a page.
+pub record WritesPage (config : Config) (input : List ℕ) (before after : Option (List ℕ)) : Type 0 where
+  pub component : Component
+  pub bytes : List ℕ
+  pub generated : Generates config component bytes
+  pub left : List ℕ
+  pub is_left : IsTail left input
+  pub written : Appends before after (page bytes (length left))
+
+-- It comes only once the whole input is read.
+abbrev pub ComesAfterReading : RunError → Type 0
+ComesAfterReading (Refused error) = error ≢ OutOfMemory
+ComesAfterReading ReadFault = ⊥
+ComesAfterReading InputTooLong = ⊥
+ComesAfterReading WriteFault = ⊤
+
+-- the status that the program ends with
+abbrev pub status_of : RunError → ℕ
+status_of (Refused error) = 1
+status_of ReadFault = 2
+status_of InputTooLong = 2
+status_of WriteFault = 2

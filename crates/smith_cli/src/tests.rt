@@ -1,0 +1,146 @@
+//! What no clause says: the answers of whole runs, faults of readers and writers, and the texts of the program.
+
+mod doubles;
+
+use crate::run::{LONGEST_INPUT, RunError, run};
+use doubles::{Endless, Pieces, Sheet};
+use smith_component::{Config, Error};
+use std::alloc::{AllocError, Global};
+use std::io::Read;
+use std::test::Fail;
+
+const DEFINED_TYPE: &[u8] = &[3, 1, 0, 0, 6, 0, 0, 255];
+
+fn zeros(alloc: Global, length: usize) -> Result<Vec<u8>, AllocError> {
+    vec![in alloc; 0u8; length]
+}
+
+/// What a run answers, and what stands behind a `*` that the writer held before.
+fn run_over<R: Read>(
+    alloc: Global,
+    reader: &mut R,
+) -> Result<(Result<(), RunError>, Vec<u8>), AllocError> {
+    let mut text = Vec::from_slice(alloc, b"*")?;
+    let answer = run(alloc, reader, &mut text, Config::default());
+    Ok((answer, text))
+}
+
+#[test]
+fn the_empty_input_gives_the_empty_component(rt: HostRuntime) -> Result<(), Fail> {
+    let mut reader: &[u8] = &[];
+    let (answer, text) = run_over(rt.alloc(), &mut reader)?;
+    assert_eq!(rt; answer, Ok(()));
+    assert_eq!(rt;
+        text.as_slice(),
+        b"*00 61 73 6d 0d 00 01 00\nleft 0\n".as_slice()
+    );
+    Ok(())
+}
+
+#[test]
+fn a_defined_type_leaves_a_byte(rt: HostRuntime) -> Result<(), Fail> {
+    let mut reader = DEFINED_TYPE;
+    let (answer, text) = run_over(rt.alloc(), &mut reader)?;
+    assert_eq!(rt; answer, Ok(()));
+    assert_eq!(rt;
+        text.as_slice(),
+        b"*00 61 73 6d 0d 00 01 00 07 02 01 79\nleft 1\n".as_slice()
+    );
+    Ok(())
+}
+
+#[test]
+fn the_longest_input_is_read(rt: HostRuntime) -> Result<(), Fail> {
+    let input = zeros(rt.alloc(), LONGEST_INPUT)?;
+    for most in [usize::MAX, 1] {
+        let mut reader = Pieces::new(&input, most);
+        let (answer, text) = run_over(rt.alloc(), &mut reader)?;
+        assert_eq!(rt; answer, Ok(()), "{most} bytes a read");
+        assert_eq!(rt;
+            text.as_slice(),
+            b"*00 61 73 6d 0d 00 01 00\nleft 1048575\n".as_slice()
+        );
+        assert!(rt; reader.reads <= 1_048_577);
+    }
+    Ok(())
+}
+
+#[test]
+fn a_longer_input_is_too_long(rt: HostRuntime) -> Result<(), Fail> {
+    let input = zeros(rt.alloc(), 1_048_577)?;
+    for most in [usize::MAX, 1] {
+        let mut reader = Pieces::new(&input, most);
+        let (answer, text) = run_over(rt.alloc(), &mut reader)?;
+        assert_eq!(rt; answer, Err(RunError::InputTooLong), "{most} bytes a read");
+        assert_eq!(rt; text.as_slice(), b"*".as_slice());
+        assert!(rt; reader.reads <= 1_048_577);
+    }
+    Ok(())
+}
+
+#[test]
+fn an_endless_input_is_too_long(rt: HostRuntime) -> Result<(), Fail> {
+    let mut reader = Endless::new();
+    let (answer, text) = run_over(rt.alloc(), &mut reader)?;
+    assert_eq!(rt; answer, Err(RunError::InputTooLong));
+    assert_eq!(rt; text.as_slice(), b"*".as_slice());
+    assert_eq!(rt; reader.reads, 1_048_577);
+    Ok(())
+}
+
+#[test]
+fn a_failed_read_is_a_read_fault(rt: HostRuntime) -> Result<(), Fail> {
+    for fails_at in [1, 2, 3] {
+        let mut reader = Pieces::failing(DEFINED_TYPE, 3, fails_at);
+        let (answer, text) = run_over(rt.alloc(), &mut reader)?;
+        assert_eq!(rt; answer, Err(RunError::ReadFault), "at read {fails_at}");
+        assert_eq!(rt; text.as_slice(), b"*".as_slice());
+        assert_eq!(rt; reader.reads, fails_at);
+    }
+    Ok(())
+}
+
+#[test]
+fn a_failed_write_is_a_write_fault(rt: HostRuntime) -> Result<(), Fail> {
+    let mut whole = Sheet::new(rt.alloc(), 4, usize::MAX);
+    let mut reader = DEFINED_TYPE;
+    assert_eq!(rt;
+        run(rt.alloc(), &mut reader, &mut whole, Config::default()),
+        Ok(())
+    );
+    assert!(rt; whole.calls > 4);
+    for done in 0..whole.calls {
+        let fails_at = done + 1;
+        let mut sheet = Sheet::new(rt.alloc(), 4, fails_at);
+        let mut reader = DEFINED_TYPE;
+        let answer = run(rt.alloc(), &mut reader, &mut sheet, Config::default());
+        assert_eq!(rt; answer, Err(RunError::WriteFault), "at call {fails_at}");
+        assert!(rt; whole.text.starts_with(&sheet.text));
+    }
+    Ok(())
+}
+
+#[test]
+fn each_error_has_its_line_and_its_status(rt: HostRuntime) -> Result<(), Fail> {
+    let lines = [
+        (
+            RunError::Refused(Error::InconsistentLimits),
+            "InconsistentLimits",
+            1,
+        ),
+        (RunError::Refused(Error::MinimumNotMet), "MinimumNotMet", 1),
+        (RunError::Refused(Error::ModuleRefused), "ModuleRefused", 1),
+        (RunError::Refused(Error::TooLong), "TooLong", 1),
+        (RunError::Refused(Error::OutOfMemory), "OutOfMemory", 1),
+        (RunError::Refused(Error::PartsDisagree), "PartsDisagree", 1),
+        (RunError::ReadFault, "ReadFault", 2),
+        (RunError::InputTooLong, "InputTooLong", 2),
+        (RunError::WriteFault, "WriteFault", 2),
+    ];
+    for (error, line, status) in &lines {
+        let shown = format!(in rt.alloc(); "{error}")?;
+        assert_eq!(rt; shown.as_str(), *line);
+        assert_eq!(rt; error.status(), *status);
+    }
+    Ok(())
+}
