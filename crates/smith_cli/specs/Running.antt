@@ -5,7 +5,8 @@ use Rattle.smith_input.specs.Reading.{IsTail}
 use Rattle.smith_input.specs.declared.error.Error.TheVariants.{OutOfMemory}
 use Rattle.smith_component.specs.declared.Config.{Config}
 use Rattle.smith_component.specs.declared.component.Component.{Component}
-use Rattle.smith_component.specs.Generates.{Generates}
+use Rattle.smith_component.specs.Generates.{Generates, RunsTo, IsGenerateRefusal}
+use Rattle.smith_component.specs.Shown.{shown}
 use Rattle.smith_cli.specs.declared.run.RunError.{RunError}
 use Rattle.smith_cli.specs.declared.run.RunError.TheVariants.{Refused, ReadFault, InputTooLong, WriteFault}
 use Rattle.smith_cli.specs.Page.{page}
@@ -20,13 +21,14 @@ pub record GivesAll (before after : Option (List ℕ)) (input : List ℕ) : Type
   pub ended : IsAtEnd after
   pub within : length input ≤ longest_input
 
--- The bytes of a component that is made of the input, and how many bytes of the input are left, are written as a page.
+-- The bytes of the component that a run of turns makes of the input, and how many bytes it leaves, are written as a page.
 pub record WritesPage (config : Config) (input : List ℕ) (before after : Option (List ℕ)) : Type 0 where
   pub component : Component
   pub bytes : List ℕ
   pub generated : Generates config component bytes
   pub left : List ℕ
   pub is_left : IsTail left input
+  pub run : RunsTo config input (shown component) left
   pub written : Appends before after (page bytes (length left))
 
 -- It comes only once the whole input is read.
@@ -35,6 +37,13 @@ ComesAfterReading (Refused error) = error ≢ OutOfMemory
 ComesAfterReading ReadFault = ⊥
 ComesAfterReading InputTooLong = ⊥
 ComesAfterReading WriteFault = ⊤
+
+-- A refusal is one of the component's making from the input.
+abbrev pub IsRefusedOn : Config → List ℕ → RunError → Type 0
+IsRefusedOn config input (Refused error) = IsGenerateRefusal config input error
+IsRefusedOn config input ReadFault = ⊤
+IsRefusedOn config input InputTooLong = ⊤
+IsRefusedOn config input WriteFault = ⊤
 
 -- the status that the program ends with
 abbrev pub status_of : RunError → ℕ

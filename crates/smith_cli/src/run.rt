@@ -4,7 +4,7 @@ ghost use Rattle.std.specs.Prelude.{◌≡◌, ◌≢◌, ℕ, ◌+◌, ◌<◌,
 ghost use Rattle.std.specs.Io.KnownBytes.{Appends, Consumes, IsAtEnd};
 ghost use Rattle.smith_input.specs.declared.error.Error.TheVariants.{OutOfMemory};
 ghost use Rattle.smith_cli.specs.Page.{page};
-ghost use Rattle.smith_cli.specs.Running.{ComesAfterReading, GivesAll, WritesPage, longest_input, status_of};
+ghost use Rattle.smith_cli.specs.Running.{ComesAfterReading, GivesAll, IsRefusedOn, WritesPage, longest_input, status_of};
 
 use crate::page;
 use smith_component::{Config, Error, Unstructured, generate};
@@ -140,7 +140,8 @@ pub fn run<R: Read, W: Write>(
         × GivesAll (R.remaining reader.old) (R.remaining reader.new) input
         × WritesPage config input (W.contents writer.old) (W.contents writer.new)) }
     ensures whole { IfErr result (λ e. ComesAfterReading e → (input : List ℕ)
-        × GivesAll (R.remaining reader.old) (R.remaining reader.new) input) }
+        × GivesAll (R.remaining reader.old) (R.remaining reader.new) input
+        × IsRefusedOn config input e) }
     ensures unwritten { IfErr result (λ e. e ≢ RunError.WriteFault → writer.new ≡ writer.old) }
     ensures too_long { IsErrOf result RunError.InputTooLong
         → IfSome (R.remaining reader.old) (λ input. longest_input < length input) }

@@ -1,0 +1,48 @@
+//! Large components within a bounded stack.
+
+use smith_component::{Component, Config, Unstructured, generate};
+use std::test::Fail;
+
+#[test]
+fn a_million_sections_are_dropped(rt: HostRuntime) -> Result<(), Fail> {
+    let input = vec![in rt.alloc(); 1u8; 1_000_000]?;
+    let mut u = Unstructured::new(&input);
+    let component = Component::arbitrary(rt.alloc(), &mut u)?;
+    assert_eq!(rt; component.sections().len(), 1_000_000);
+    Ok(())
+}
+
+#[test]
+fn a_million_types_are_dropped(rt: HostRuntime) -> Result<(), Fail> {
+    let config = Config {
+        max_types: 1_000_000,
+        ..Config::default()
+    };
+    let mut input = Vec::new(rt.alloc());
+    input.push(0x03)?;
+    for _ in 0..1_000_000 {
+        input.extend_from_slice(b"\x01\x00\x00\x00")?;
+    }
+    let mut u = Unstructured::new(&input);
+    let generated = generate(rt.alloc(), config, &mut u)?;
+    assert_eq!(rt; generated.bytes.len(), 8 + 1 + 3 + 3 + 1_000_000);
+    Ok(())
+}
+
+#[test]
+fn a_thousand_components_are_written_and_dropped(rt: HostRuntime) -> Result<(), Fail> {
+    let config = Config {
+        max_components: 999,
+        max_nesting_depth: 1000,
+        ..Config::default()
+    };
+    let input = vec![in rt.alloc(); 7u8; 999]?;
+    let mut u = Unstructured::new(&input);
+    let generated = generate(rt.alloc(), config, &mut u)?;
+    assert!(rt; u.is_empty());
+    assert_eq!(rt;
+        generated.component.measure()?,
+        generated.bytes.len() as u128
+    );
+    Ok(())
+}

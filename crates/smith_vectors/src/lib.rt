@@ -1,0 +1,17 @@
+//! Worked examples, as tests. Their expected values were written by hand from the binary format and the reading rules.
+#![tactic(auto)]
+
+#[cfg(test)]
+mod common;
+#[cfg(test)]
+mod components;
+#[cfg(test)]
+mod deep;
+#[cfg(test)]
+mod limits;
+#[cfg(test)]
+mod nested;
+#[cfg(test)]
+mod reader;
+#[cfg(test)]
+mod writers;
