@@ -1,5 +1,5 @@
 -- Well formed trees grow at the inner component.
-use Rattle.std.proofs.Common.{◌≡◌, List, [], ◌∷◌, sym, subst}
+use Rattle.std.proofs.Common.{List, [], ◌∷◌, sym, subst}
 use Rattle.smith_types.specs.Scope.{Scope}
 use Rattle.smith_component.specs.Tree.{Tree, ends, first, Part, component, add, join}
 use Rattle.smith_component.specs.Turn.{tree_so_far}

@@ -1,7 +1,7 @@
 -- How trees grow at the inner component.
-use Rattle.std.proofs.Common.{◌≡◌, ℕ, ◌+◌, ◌≤◌, max, List, [], ◌∷◌, ◌++◌, length, arith, ap, sym, ◌∙◌, refl, subst, length-append, append_assoc, append-nil}
-use Rattle.std.specs.List.{AllByRecursion, flat_map}
-use Rattle.smith_component.specs.Tree.{Tree, ends, first, Part, custom, core_module, core_types, component, types, canons, imports, add, join, parts_of, own, anywhere, anywhere_in, inside, components_in, depth, depth_in}
+use Rattle.std.proofs.Common.{◌≡◌, ◌+◌, ◌≤◌, max, List, [], ◌∷◌, ◌++◌, length, arith, ap, sym, ◌∙◌, refl, subst, length-append, append_assoc, append-nil}
+use Rattle.std.specs.List.{AllByRecursion}
+use Rattle.smith_component.specs.Tree.{Tree, ends, first, Part, custom, core_module, core_types, component, types, canons, imports, add, join, own, anywhere, anywhere_in, inside, components_in, depth, depth_in}
 use Rattle.smith_component.specs.Turn.{tree_so_far}
 
 -- What is open is closed.
@@ -95,7 +95,7 @@ all_so_far P swap (u ∷ outer) t p new ins h =
     let old : AllByRecursion P (inside u ++ (x ∷ inside x)) = subst (AllByRecursion P) (anywhere-add components_in u (component x)) h.1 in (
       swap u x y h.0,
       subst (AllByRecursion P) (sym (anywhere-add components_in u (component y)))
-      (all_both P (inside u) (y ∷ inside y) (all_front P (inside u) (x ∷ inside x) old) (all_so_far P swap outer t p new ins (all_back P (inside u) (x ∷ inside x) old))),
+          (all_both P (inside u) (y ∷ inside y) (all_front P (inside u) (x ∷ inside x) old) (all_so_far P swap outer t p new ins (all_back P (inside u) (x ∷ inside x) old))),
     )
 
 -- It holds in front of what grew.
@@ -107,7 +107,7 @@ all_before P swap (u ∷ outer) t p less h =
     let old : AllByRecursion P (inside u ++ (y ∷ inside y)) = subst (AllByRecursion P) (anywhere-add components_in u (component y)) h.1 in (
       swap u y x h.0,
       subst (AllByRecursion P) (sym (anywhere-add components_in u (component x)))
-      (all_both P (inside u) (x ∷ inside x) (all_front P (inside u) (y ∷ inside y) old) (all_before P swap outer t p less (all_back P (inside u) (y ∷ inside y) old))),
+          (all_both P (inside u) (x ∷ inside x) (all_front P (inside u) (y ∷ inside y) old) (all_before P swap outer t p less (all_back P (inside u) (y ∷ inside y) old))),
     )
 
 -- It holds of the inner component.

@@ -1,6 +1,6 @@
 -- The script of a plan is read as that plan.
-use Rattle.std.proofs.Common.{◌≡◌, ℕ, zero, suc, ◌+◌, ◌-◌, ◌/◌, ◌<◌, ◌≤◌, ◌^◌, max, List, [], ◌∷◌, ◌++◌, length, arith, ap, sym, subst, ◌∙◌, refl, true, false, Bool, inl, inr, append_assoc}
-use Rattle.std.specs.Prelude.{slice_get, Some, ◌⊎◌}
+use Rattle.std.proofs.Common.{◌≡◌, ℕ, zero, suc, ◌+◌, ◌-◌, ◌<◌, ◌≤◌, List, [], ◌∷◌, ◌++◌, length, arith, ap, sym, subst, ◌∙◌, refl, true, false, Bool, inl, inr, append_assoc}
+use Rattle.std.specs.Prelude.{slice_get, Some}
 use Rattle.std.proofs.lemmas.Bool.Decides.{nat_tests}
 use Rattle.std.proofs.lemmas.Option.{slice_get_within}
 use Rattle.smith_input.specs.Reading.{Reads, pick}
@@ -9,13 +9,13 @@ use Rattle.smith_core.specs.declared.config.Config.{Config}
 use Rattle.smith_types.specs.Entries.{Entry}
 use Rattle.smith_types.specs.Scope.{Scope}
 use Rattle.smith_types.specs.Script.{script_end}
-use Rattle.smith_component.specs.Tree.{Tree, ends, first, Part, custom, core_module, core_types, component, types, canons, imports, add, join, types_of, core_types_of, own, types_in, imports_in, canons_in, inside, modules, depth, depth_in, anywhere_in, components_in, modules_in}
-use Rattle.smith_component.specs.WellFormed.{Formed, FormedPart, WellFormed, scope_of}
-use Rattle.smith_component.specs.Scopes.{scopes_in, scopes_from}
+use Rattle.smith_component.specs.Tree.{Tree, ends, first, Part, custom, core_module, core_types, component, types, canons, imports, add, join, types_of, core_types_of, own, types_in, imports_in, canons_in, inside}
+use Rattle.smith_component.specs.WellFormed.{Formed, scope_of}
+use Rattle.smith_component.specs.Scopes.{scopes_in}
 use Rattle.smith_component.specs.Turn.{Open, Next, building, answered, Chooses, Closes, more_items, is_module_offered, is_component_offered, tree_so_far, with_part, root}
-use Rattle.smith_component.specs.Limits.{OwnLimits, Limits, max_depth}
-use Rattle.smith_component.specs.Scripted.{Follows, Scripted, Scripts}
-use Rattle.smith_component.specs.Script.{item_total, script_from, script_part, script_types, script, IsPlan, IsPlanPart, Within}
+use Rattle.smith_component.specs.Limits.{OwnLimits, Limits}
+use Rattle.smith_component.specs.Scripted.{Follows, Scripts}
+use Rattle.smith_component.specs.Script.{item_total, script_from, script_types, script, IsPlan, Within}
 use Rattle.smith_component.specs.declared.item.Item.{Item}
 use Rattle.smith_component.specs.declared.item.Item.TheVariants.{Finish, CoreTypes, Types, Imports, Canonical, Component}
 use Rattle.smith_component.proofs.Grows.{join-ends, join-add, tree_so_far-close, depth-so_far, depth-outer, length-own-add, all_before, all_inner}
@@ -93,13 +93,15 @@ module _ (config : Config) (outer : List Tree) (before : Tree) (next : Next) (le
       let choice : List ℕ = pick (item_total config outer before) place in
       let now : Next = building (record { outer = outer; inner = before }) in
       let R : List ℕ → Type 0 = λ z. Scripts config now z next left (suc m.0) in
-      let whole : ((choice ++ said) ++ later) ++ rest ≡ choice ++ (said ++ (later ++ rest)) = append_assoc (choice ++ said) later rest ∙ append_assoc choice said (later ++ rest) in
-      (suc m.0, subst R (sym whole) (
-        building (record { outer = outer; inner = add before p }),
-        later ++ rest,
-        record { item = item; after = said ++ (later ++ rest); chooses = chooses_pick config outer before place item _ named; follows = f },
-        m.1,
-      ))
+      let whole : ((choice ++ said) ++ later) ++ rest ≡ choice ++ (said ++ (later ++ rest)) = append_assoc (choice ++ said) later rest ∙ append_assoc choice said (later ++ rest) in (
+        suc m.0,
+        subst R (sym whole) (
+          building (record { outer = outer; inner = add before p }),
+          later ++ rest,
+          record { item = item; after = said ++ (later ++ rest); chooses = chooses_pick config outer before place item _ named; follows = f },
+          m.1,
+        ),
+      )
 
 -- what holds behind one part more
 limits_past : (p : Part) (t : Tree) (config : Config) (outer : List Tree) (before : Tree) → Limits config (tree_so_far outer (join before (first p t))) → Limits config (tree_so_far outer (join (add before p) t))
@@ -118,13 +120,15 @@ pub reach_from : (t : Tree) (config : Config) (outer : List Tree) (before : Tree
     → ((n : Next) → Closes (record { outer = outer; inner = join before t }) n → Scripts config n rest next left k) → Leads config outer before next left before (script_from t config outer before ++ rest)
 reach_from ends config outer before rest next left k plan formed l after =
     let c = closes_some outer before in
-    let P : Tree → Type 0 = λ x. Closes (record { outer = outer; inner = x }) c.0 in
-    (suc k, (
-      c.0,
-      rest,
-      record { item = Finish; after = rest; chooses = chooses_pick config outer before 0 Finish rest (front_items _ _).0; follows = (refl, c.1) },
-      after c.0 (subst P (sym (join-ends before)) c.1),
-    ))
+    let P : Tree → Type 0 = λ x. Closes (record { outer = outer; inner = x }) c.0 in (
+      suc k,
+      (
+        c.0,
+        rest,
+        record { item = Finish; after = rest; chooses = chooses_pick config outer before 0 Finish rest (front_items _ _).0; follows = (refl, c.1) },
+        after c.0 (subst P (sym (join-ends before)) c.1),
+      ),
+    )
 reach_from (first (custom name contents) t) config outer before rest next left k plan formed l after = absurd plan.0
 reach_from (first (core_module text) t) config outer before rest next left k plan formed l after = absurd plan.0
 reach_from (first (core_types (x ∷ xs)) t) config outer before rest next left k plan formed l after = elim x [ ]
@@ -159,28 +163,30 @@ reach_from (first (component u) t) config outer before rest next left k plan for
     let F : List Scope → Type 0 = λ ss. Formed u ss ends in
     let inner : Formed u (scopes_in (outer ++ before ∷ [])) ends = subst F (sym (scopes_from-snoc outer before [])) formed.0 in
     let back : (x : Next) → Closes (record { outer = outer ++ before ∷ []; inner = u }) x → Scripts config x (st ++ rest) next left m.0 = λ x c.
-        elim c [
-          | inl (a, b) ↦ absurd (not_empty outer before a)
-          | inr (o, q, a, b) ↦
-              let s = last_same outer o before q a in
-              let T : Next → Type 0 = λ z. Scripts config z (st ++ rest) next left m.0 in
-              subst T (ap (λ z. building (record { outer = z; inner = add before p })) s.0 ∙ ap (λ z. building (record { outer = o; inner = add z p })) s.1 ∙ sym b) m.1
-        ] in
+    elim c [
+      | inl (a, b) ↦ absurd (not_empty outer before a)
+      | inr (o, q, a, b) ↦
+          let s = last_same outer o before q a in
+          let T : Next → Type 0 = λ z. Scripts config z (st ++ rest) next left m.0 in
+          subst T (ap (λ z. building (record { outer = z; inner = add before p })) s.0 ∙ ap (λ z. building (record { outer = o; inner = add z p })) s.1 ∙ sym b) m.1
+    ] in
     let i = reach_from u config (outer ++ before ∷ []) ends (st ++ rest) next left m.0 plan.0 inner there back in
     let now : Next = building (record { outer = outer; inner = before }) in
     let R : List ℕ → Type 0 = λ z. Scripts config now z next left (suc i.0) in
-    let whole : ((choice ++ su) ++ st) ++ rest ≡ choice ++ (su ++ (st ++ rest)) = append_assoc (choice ++ su) st rest ∙ append_assoc choice su (st ++ rest) in
-    (suc i.0, subst R (sym whole) (
-      building (record { outer = outer ++ before ∷ []; inner = ends }),
-      su ++ (st ++ rest),
-      record {
-        item = Component;
-        after = su ++ (st ++ rest);
-        chooses = chooses_pick config outer before (n - 1) Component _ (last_item _ _ (offered_from config outer before u here));
-        follows = (refl, refl);
-      },
-      i.1,
-    ))
+    let whole : ((choice ++ su) ++ st) ++ rest ≡ choice ++ (su ++ (st ++ rest)) = append_assoc (choice ++ su) st rest ∙ append_assoc choice su (st ++ rest) in (
+      suc i.0,
+      subst R (sym whole) (
+        building (record { outer = outer ++ before ∷ []; inner = ends }),
+        su ++ (st ++ rest),
+        record {
+          item = Component;
+          after = su ++ (st ++ rest);
+          chooses = chooses_pick config outer before (n - 1) Component _ (last_item _ _ (offered_from config outer before u here));
+          follows = (refl, refl);
+        },
+        i.1,
+      ),
+    )
 
 pub reach : (config : Config) (plan : Tree) (rest : List ℕ) → Within config plan → (k : ℕ) × Scripts config (building root) (script config plan ++ rest) (answered plan) rest k
 reach config plan rest w =

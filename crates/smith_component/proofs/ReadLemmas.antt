@@ -1,5 +1,5 @@
 -- What a type section reads: well formed types, within their fuel, and a tail of the bytes.
-use Rattle.std.proofs.Common.{◌≡◌, ℕ, ◌+◌, List, [], ◌∷◌, true, false, arith, subst, ap}
+use Rattle.std.proofs.Common.{◌≡◌, ℕ, ◌+◌, List, [], ◌∷◌, arith, subst}
 use Rattle.smith_input.specs.Reading.{IsTail}
 use Rattle.smith_input.proofs.ReadingLemmas.{tail_trans, more_tail}
 use Rattle.smith_core.specs.declared.config.Config.{Config}

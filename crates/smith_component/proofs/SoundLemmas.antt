@@ -1,11 +1,11 @@
 -- What each item keeps.
-use Rattle.std.proofs.Common.{◌≡◌, ℕ, ◌+◌, ◌<◌, ◌≤◌, List, [], ◌∷◌, ◌++◌, length, arith, ap, sym, subst, ◌∙◌, refl, true, Bool, inr, append-nil}
+use Rattle.std.proofs.Common.{◌≡◌, ℕ, ◌+◌, ◌<◌, ◌≤◌, List, [], ◌∷◌, ◌++◌, length, arith, ap, sym, subst, ◌∙◌, refl, true, inr, append-nil}
 use Rattle.std.specs.List.{AllByRecursion}
 use Rattle.std.proofs.lemmas.Bool.Decides.{nat_tests}
 use Rattle.smith_core.specs.declared.config.Config.{Config}
-use Rattle.smith_types.specs.Entries.{Entry, CoreEntry}
-use Rattle.smith_types.specs.Scope.{Scope, empty_scope, with_types}
-use Rattle.smith_component.specs.Tree.{Tree, ends, Part, custom, core_module, core_types, component, types, canons, imports, add, own, inside, modules, names_in, types_in, core_types_in, imports_in, canons_in, components_in, modules_in, anywhere, anywhere_in, depth_in}
+use Rattle.smith_types.specs.Entries.{Entry}
+use Rattle.smith_types.specs.Scope.{Scope, with_types}
+use Rattle.smith_component.specs.Tree.{Tree, ends, Part, custom, core_module, core_types, component, types, canons, imports, add, own, inside, modules, names_in, types_in, core_types_in, imports_in, canons_in, components_in, modules_in, anywhere_in, depth_in}
 use Rattle.smith_component.specs.Turn.{Open, building, Closes, tree_so_far, is_module_offered, is_component_offered}
 use Rattle.smith_component.specs.WellFormed.{FormedPart, WellFormed, scope_of}
 use Rattle.smith_component.specs.Scopes.{scopes_in, scopes_from}

@@ -1,8 +1,8 @@
 -- The spelling of what a component shows.
-use Rattle.std.proofs.Common.{◌≡◌, ℕ, List, [], ◌∷◌, map, refl, ap, sym, ◌∙◌, Some}
-use Rattle.smith_core.specs.Module.{core_preamble, module_text}
+use Rattle.std.proofs.Common.{◌≡◌, List, [], ◌∷◌, map, refl, ap, sym, ◌∙◌}
+use Rattle.smith_core.specs.Module.{module_text}
 use Rattle.smith_core.specs.declared.module.Module.{Module}
-use Rattle.smith_core.specs.Piece.{Piece, ◌⊕◌, bytes, raw, each, many, sized}
+use Rattle.smith_core.specs.Piece.{◌⊕◌, bytes, raw, each, many, sized}
 use Rattle.smith_core.proofs.Loops.{each-map, many-map}
 use Rattle.smith_types.specs.Grammar.{entry, core_entry, import_entry}
 use Rattle.smith_types.specs.Shown.{shown_shared, shown_shared_core, shown_import}

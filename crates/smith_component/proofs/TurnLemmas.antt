@@ -1,13 +1,13 @@
 -- What a turn chooses, and that it lowers what is left to do.
-use Rattle.std.proofs.Common.{◌≡◌, ℕ, zero, suc, ◌+◌, ◌^◌, ◌<◌, ◌≤◌, max, List, [], ◌∷◌, ◌++◌, length, drop, arith, ap, sym, subst, ◌∙◌, refl, true, false, Bool, inl, inr, length-append, length-drop}
-use Rattle.std.specs.Prelude.{slice_get, Some, ◌⊎◌}
-use Rattle.smith_input.specs.Reading.{IsWidth, Reads, More, IsTail}
+use Rattle.std.proofs.Common.{◌≡◌, ℕ, zero, suc, ◌+◌, ◌^◌, ◌≤◌, List, [], ◌∷◌, ◌++◌, length, drop, arith, ap, sym, subst, ◌∙◌, refl, true, false, Bool, inl, inr, length-append, length-drop}
+use Rattle.std.specs.Prelude.{slice_get, Some}
+use Rattle.smith_input.specs.Reading.{IsWidth, Reads, IsTail}
 use Rattle.smith_input.proofs.ReadingLemmas.{width_unique, more_tail}
 use Rattle.smith_core.specs.declared.config.Config.{Config}
 use Rattle.smith_component.specs.Tree.{Tree, ends, Part, custom, core_module, core_types, component, types, canons, imports, add}
 use Rattle.smith_core.specs.Module.{core_preamble}
 use Rattle.smith_component.specs.Limits.{max_depth}
-use Rattle.smith_component.specs.Turn.{Open, Next, building, answered, Turn, Chooses, Closes, Does, items, more_items, is_module_offered, is_component_offered, with_part, with_open, todo, Falls}
+use Rattle.smith_component.specs.Turn.{Open, Next, building, answered, Turn, Closes, Does, more_items, is_module_offered, is_component_offered, with_part, todo, Falls}
 use Rattle.smith_component.specs.declared.item.Item.{Item}
 use Rattle.smith_component.specs.declared.item.Item.TheVariants.{Finish, Custom, CoreTypes, Types, Imports, Canonical, Module, Component}
 use Rattle.smith_component.proofs.ReadLemmas.{types_read_tail}

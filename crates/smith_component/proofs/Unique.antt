@@ -1,9 +1,9 @@
 -- No bytes have two readings.
-use Rattle.std.proofs.Common.{◌≡◌, ℕ, List, [], ◌∷◌, refl, ap, sym, ◌∙◌, arith, Some, None, Bool, true, false, cond, nat_eq}
+use Rattle.std.proofs.Common.{◌≡◌, ℕ, List, ◌∷◌, refl, ap, sym, ◌∙◌, arith, Some, None, Bool, true, false, cond, nat_eq}
 use Rattle.std.specs.List.{starts_with}
-use Rattle.smith_core.specs.Clear.{Rests, Agree, IsClear, IsExact}
+use Rattle.smith_core.specs.Clear.{Agree, IsClear, IsExact}
 use Rattle.smith_core.specs.Module.{core_preamble}
-use Rattle.smith_core.specs.Piece.{Piece, ◌⊕◌, bytes, raw, text, many, sized}
+use Rattle.smith_core.specs.Piece.{Piece, ◌⊕◌, bytes, raw, text, many}
 use Rattle.smith_core.proofs.Clear.{tail, clash, exact, exact_both, exact_raw, clear_text, clear_many, same_section, section_head}
 use Rattle.smith_core.proofs.Raw.{raw_whole}
 use Rattle.smith_types.specs.Grammar.{entry, core_entry, import_entry}

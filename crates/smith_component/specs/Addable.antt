@@ -1,8 +1,8 @@
 -- Which parts may be added to the inner component.
-use Rattle.std.specs.Prelude.{◌≡◌, ℕ, ◌+◌, ◌≤◌, [], length}
+use Rattle.std.specs.Prelude.{◌≡◌, ◌+◌, ◌≤◌, [], length}
 use Rattle.smith_core.specs.declared.config.Config.{Config}
 use Rattle.smith_component.specs.Tree.{Part, add, modules, types_in, modules_in, anywhere_in, components_in, depth_in}
-use Rattle.smith_component.specs.WellFormed.{FormedPart, scope_of}
+use Rattle.smith_component.specs.WellFormed.{FormedPart}
 use Rattle.smith_component.specs.Limits.{OwnLimits}
 use Rattle.smith_component.specs.Turn.{Open, tree_so_far}
 use Rattle.smith_component.specs.Scopes.{scopes_in}

@@ -1,8 +1,8 @@
 -- The limits of a config, as counts over a finished tree.
-use Rattle.std.specs.Prelude.{ℕ, ◌≤◌, List, [], ◌∷◌, length, max}
+use Rattle.std.specs.Prelude.{ℕ, ◌≤◌, ◌∷◌, length, max}
 use Rattle.std.specs.List.{AllByRecursion}
 use Rattle.smith_core.specs.declared.config.Config.{Config}
-use Rattle.smith_component.specs.Tree.{Tree, own, anywhere, inside, modules, depth, types_in, core_types_in, imports_in, canons_in, names_in}
+use Rattle.smith_component.specs.Tree.{Tree, own, inside, modules, depth, types_in, core_types_in, imports_in, canons_in, names_in}
 
 -- how deep components may stand, the root at 1
 abbrev pub max_depth : Config → ℕ

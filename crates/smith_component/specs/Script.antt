@@ -1,5 +1,5 @@
 -- The input that a plan is read from.
-use Rattle.std.specs.Prelude.{◌≡◌, ℕ, ◌+◌, ◌-◌, ◌≤◌, List, [], ◌∷◌, ◌++◌, length}
+use Rattle.std.specs.Prelude.{ℕ, ◌+◌, ◌-◌, List, [], ◌∷◌, ◌++◌, length}
 use Rattle.std.specs.List.{AllByRecursion}
 use Rattle.smith_input.specs.Reading.{pick}
 use Rattle.smith_core.specs.declared.config.Config.{Config}

@@ -1,5 +1,5 @@
 -- What a component shows: its sections as a plain tree, without URLs.
-use Rattle.std.specs.Prelude.{ℕ, List, [], ◌∷◌, map, string_bytes}
+use Rattle.std.specs.Prelude.{List, map, string_bytes}
 use Rattle.smith_core.specs.Module.{module_text}
 use Rattle.smith_types.specs.Shown.{shown_shared, shown_shared_core, shown_import}
 use Rattle.smith_component.specs.Tree.{Tree, Part, Canon, custom, core_module, core_types, component, types, canons, imports, tree_of}

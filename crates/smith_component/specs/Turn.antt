@@ -1,5 +1,5 @@
 -- A turn of the builder, and runs of turns.
-use Rattle.std.specs.Prelude.{◌≡◌, ℕ, ◌+◌, ◌-◌, ◌<◌, ◌≤◌, zero, suc, Bool, true, false, ◌&&◌, List, [], ◌∷◌, ◌++◌, length, slice_get, Option, Some, nat_lt, if◌then◌else◌, ◌⊎◌}
+use Rattle.std.specs.Prelude.{◌≡◌, ℕ, ◌+◌, ◌-◌, ◌≤◌, zero, suc, Bool, true, false, ◌&&◌, List, [], ◌∷◌, ◌++◌, length, slice_get, Some, nat_lt, ◌⊎◌}
 use Rattle.smith_input.specs.Reading.{Reads, More}
 use Rattle.smith_core.specs.Module.{core_preamble}
 use Rattle.smith_core.specs.declared.config.Config.{Config}

@@ -40,7 +40,6 @@ pub struct Builder {
 
 impl Model for Builder {
     ghost use Rattle.smith_component.specs.Building.{Building};
-
     ghost use Rattle.smith_component.specs.contracts.component.Section as section;
     ghost use Rattle.std.specs.Coded.{codes};
 

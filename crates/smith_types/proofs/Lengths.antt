@@ -1,7 +1,7 @@
 -- The lengths of value types.
-use Rattle.std.proofs.Common.{◌≡◌, ℕ, ◌<◌, ◌^◌, length, refl, ap, sym, Some, None, pos}
+use Rattle.std.proofs.Common.{◌≡◌, ℕ, ◌<◌, ◌^◌, Some, pos}
 use Rattle.smith_core.specs.Numbers.{signed}
-use Rattle.smith_core.specs.Piece.{size, s_index}
+use Rattle.smith_core.specs.Piece.{s_index}
 use Rattle.smith_core.proofs.Digits.{s_index_fits}
 
 -- `s_index_fits`, for `grind`

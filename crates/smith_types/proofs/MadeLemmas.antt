@@ -1,14 +1,14 @@
 -- What is made is well formed, no larger than its fuel, and leaves a tail of the bytes.
-use Rattle.std.proofs.Common.{◌≡◌, ℕ, zero, suc, ◌+◌, ◌-◌, ◌<◌, ◌≤◌, Bool, true, false, cond, List, [], ◌∷◌, ◌++◌, length, refl, sym, ap, ◌∙◌, subst, arith, length-append}
+use Rattle.std.proofs.Common.{◌≡◌, ℕ, zero, suc, ◌+◌, ◌-◌, ◌≤◌, Bool, true, false, cond, List, [], ◌∷◌, ◌++◌, length, refl, sym, ap, ◌∙◌, subst, arith, length-append}
 use Rattle.std.specs.List.{AllByRecursion}
-use Rattle.std.specs.Prelude.{Option, Some, None, slice_get}
-use Rattle.smith_input.specs.Reading.{IsTail, More, Reads}
+use Rattle.std.specs.Prelude.{Option, Some, slice_get}
+use Rattle.smith_input.specs.Reading.{IsTail}
 use Rattle.smith_input.proofs.ReadingLemmas.{tail_trans, reads_tail, more_tail, more_within}
-use Rattle.smith_types.specs.Entries.{Val, Entry, primitive, indexed, plain, listed, tuple, optional, outcome}
+use Rattle.smith_types.specs.Entries.{Val, Entry}
 use Rattle.smith_types.specs.Places.{places}
-use Rattle.smith_types.specs.Scope.{Scope, is_defined, defined_places}
+use Rattle.smith_types.specs.Scope.{Scope, is_defined}
 use Rattle.smith_types.specs.WellFormed.{FormedVal, FormedMaybe, FormedEntry, size}
-use Rattle.smith_types.specs.Made.{ReadsPrimitive, ReadsVal, only_primitive, either_primitive, either_index, ReadsMaybe, absent, present, ReadsMembers, no_more, no_fuel, a_member, tuple_or_bool, MadePrimitive, MadeAs, MadeDefined, Made, spent, of_kind}
+use Rattle.smith_types.specs.Made.{ReadsPrimitive, ReadsVal, only_primitive, either_primitive, either_index, ReadsMaybe, absent, present, ReadsMembers, no_more, no_fuel, a_member, tuple_or_bool, MadeAs, MadeDefined, Made, spent, of_kind}
 use Rattle.smith_types.specs.declared.make.DefinedKind.{DefinedKind}
 use Rattle.smith_types.specs.declared.make.DefinedKind.TheVariants as kind
 

@@ -1,6 +1,5 @@
 -- A loop over members, turn by turn: whatever its rest reads from here, the whole reads behind what was read.
-use Rattle.std.proofs.Common.{◌≡◌, ◌+◌, ◌-◌, ◌<◌, ◌≤◌, ℕ, List, [], ◌∷◌, ◌++◌, Bool, true, false, length, refl, sym, ap, ◌∙◌, subst, arith, append-nil, append_assoc}
-use Rattle.std.specs.Prelude.{not}
+use Rattle.std.proofs.Common.{◌≡◌, ◌-◌, ◌≤◌, ℕ, List, [], ◌∷◌, ◌++◌, Bool, true, false, length, refl, sym, ap, ◌∙◌, subst, arith, append-nil, append_assoc}
 use Rattle.smith_input.specs.Reading.{More}
 use Rattle.smith_input.proofs.ReadingLemmas.{more_full}
 use Rattle.smith_types.specs.Made.{ReadsMembers, no_more, no_fuel, a_member}

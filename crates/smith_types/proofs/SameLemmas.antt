@@ -1,7 +1,7 @@
 -- The bytes, the fuel and the scopes alone decide what is made, and what is left.
-use Rattle.std.proofs.Common.{◌≡◌, ℕ, ◌+◌, ◌-◌, ◌<◌, Bool, true, false, List, [], ◌∷◌, ◌++◌, length, refl, sym, ap, ◌∙◌, subst, arith}
+use Rattle.std.proofs.Common.{◌≡◌, ℕ, ◌-◌, ◌<◌, true, false, List, [], ◌∷◌, ◌++◌, length, refl, sym, ap, ◌∙◌, subst, arith}
 use Rattle.std.specs.Prelude.{Option, Some, None, slice_get}
-use Rattle.smith_input.specs.Reading.{Reads, Flips, More}
+use Rattle.smith_input.specs.Reading.{Reads}
 use Rattle.smith_input.proofs.ReadingLemmas.{reads_unique, flips_unique, more_unique}
 use Rattle.smith_types.specs.Entries.{Primitive, Val, Entry, primitive, indexed, plain, listed, optional, outcome}
 use Rattle.smith_types.specs.Scope.{Scope, defined_places}

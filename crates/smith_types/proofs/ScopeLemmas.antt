@@ -1,12 +1,11 @@
 -- Stacks of scopes, and the places of their entries.
 use Rattle.std.proofs.Common.{◌≡◌, ℕ, ◌+◌, ◌<◌, ◌≤◌, Bool, true, false, cond, List, [], ◌∷◌, ◌++◌, length, map, reverse, refl, sym, ap, ◌∙◌, arith, append-nil, append_assoc}
-use Rattle.std.specs.Prelude.{slice_get, Some, if◌then◌else◌}
 use Rattle.std.proofs.lemmas.List.{reverse-append, map-append, length-map, length-reverse}
 use Rattle.std.specs.declared.alloc.Global.{Global}
 use Rattle.std.specs.declared.rc.Rc.{Rc}
 use Rattle.smith_types.specs.Entries.{Entry, plain, listed, tuple, optional, outcome}
 use Rattle.smith_types.specs.Places.{places}
-use Rattle.smith_types.specs.Scope.{Scope, empty_scope, with_type, with_types, shown_scope, inward, own_of, outer_of, is_defined, is_kind}
+use Rattle.smith_types.specs.Scope.{Scope, empty_scope, with_type, with_types, shown_scope, inward, own_of, outer_of, is_defined}
 use Rattle.smith_types.specs.Shown.{shown_type}
 use Rattle.smith_types.specs.Stack.{last_of, AddsType}
 use Rattle.smith_types.specs.Tied.{types_in, IsTied}
@@ -68,9 +67,9 @@ tied_push types defined ty t = record {
     pushed : (es : List Entry) (e : Entry) → places is_defined 0 es ++ length es ∷ [] ≡ places is_defined 0 (es ++ e ∷ [])
     pushed es e =
         sym (
-          places-append is_defined 0 es (e ∷ [])
-          ∙ ap (λ b. places is_defined 0 es ++ cond b ((0 + length es) ∷ []) []) (all_defined e)
-          ∙ ap (λ n. places is_defined 0 es ++ n ∷ []) (let z : 0 + length es ≡ length es = omega arith in z)
+        places-append is_defined 0 es (e ∷ [])
+        ∙ ap (λ b. places is_defined 0 es ++ cond b ((0 + length es) ∷ []) []) (all_defined e)
+        ∙ ap (λ n. places is_defined 0 es ++ n ∷ []) (let z : 0 + length es ≡ length es = omega arith in z)
         )
 
 -- The same, where the new lists and the index are known by equations.

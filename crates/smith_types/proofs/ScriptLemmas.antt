@@ -1,10 +1,10 @@
 -- What a script says is read as that.
 use Rattle.std.proofs.Common.{◌≡◌, ℕ, zero, suc, ◌+◌, ◌-◌, ◌^◌, ◌<◌, ◌≤◌, Bool, true, false, cond, List, [], ◌∷◌, ◌++◌, length, take, refl, sym, ap, ◌∙◌, subst, arith, append_assoc, length-append, nat_eq, nat_le, nat_lt}
 use Rattle.std.specs.List.{AllByRecursion}
-use Rattle.std.specs.Prelude.{Option, Some, None, slice_get, if◌then◌else◌, IsTrue, ◌↔◌}
+use Rattle.std.specs.Prelude.{Option, Some, None, slice_get, if◌then◌else◌}
 use Rattle.std.proofs.lemmas.Option.{slice_get_within}
 use Rattle.std.proofs.lemmas.Bool.Decides.{nat_tests}
-use Rattle.smith_input.specs.Reading.{Reads, Flips, More, pick}
+use Rattle.smith_input.specs.Reading.{Reads, More, pick}
 use Rattle.smith_input.proofs.Picks.{reads-pick}
 use Rattle.smith_input.proofs.ReadingLemmas.{flips_one, flips_zero, more_full, more_one, more_zero, more_first}
 use Rattle.smith_types.specs.Entries.{Primitive, Val, Entry, bool, s8, u8, s16, u16, s32, u32, s64, u64, f32, f64, char, string, primitive, indexed, plain, listed, tuple, optional, outcome}
@@ -12,7 +12,7 @@ use Rattle.smith_types.specs.Places.{places}
 use Rattle.smith_types.specs.Scope.{Scope, defined_places, is_defined}
 use Rattle.smith_types.specs.WellFormed.{FormedVal, FormedMaybe, FormedEntry}
 use Rattle.smith_types.specs.Made.{primitives, defined_kinds, ReadsPrimitive, ReadsVal, only_primitive, either_primitive, either_index, ReadsMaybe, absent, present, ReadsMembers, no_more, a_member, tuple_or_bool, MadeAs, MadeDefined, Made, spent, of_kind}
-use Rattle.smith_types.specs.Script.{place_of, rank_of, script_either, script_val, script_maybe, script_end, script_more, script_members, script_defined, script_type, Lasts}
+use Rattle.smith_types.specs.Script.{place_of, rank_of, script_either, script_val, script_maybe, script_more, script_members, script_defined, script_type, Lasts}
 use Rattle.smith_types.specs.declared.make.DefinedKind.{DefinedKind}
 use Rattle.smith_types.specs.declared.make.DefinedKind.TheVariants as kind
 use Rattle.smith_types.proofs.ScopeLemmas.{length-places}
@@ -132,7 +132,7 @@ module _ {A : Type 0} (Member : List A → List ℕ → A → List ℕ → Type 
       let N : ℕ → Type 0 = λ m. ReadsMembers Member 1 max (so_far ++ x ∷ []) (script_members f max m xs ++ rest) (fuel - 1) xs rest r.0 in
       let Q : List ℕ → Type 0 = λ b. ReadsMembers Member 1 max so_far b fuel (x ∷ xs) rest r.0 in
       let whole : ((script_more (length so_far) ++ f x) ++ later) ++ rest ≡ script_more (length so_far) ++ (f x ++ (later ++ rest)) =
-          append_assoc (script_more (length so_far) ++ f x) later rest ∙ append_assoc (script_more (length so_far)) (f x) (later ++ rest) in
+      append_assoc (script_more (length so_far) ++ f x) later rest ∙ append_assoc (script_more (length so_far)) (f x) (later ++ rest) in
       (r.0, subst Q (sym whole) (a_member (more_read (length so_far) (f x ++ (later ++ rest)) (omega arith)) (omega arith) (one so_far x (later ++ rest) all.0) (subst N n r.1)))
 
 -- the kinds that scripts speak of

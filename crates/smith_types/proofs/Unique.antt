@@ -1,6 +1,6 @@
 -- No bytes begin with two types.
-use Rattle.std.proofs.Common.{◌≡◌, ℕ, ◌<◌, ◌≤◌, inl, inr, List, [], ◌∷◌, refl, ap, sym, ◌∙◌, arith, Some, None, Option, lit≤, lit<, length}
-use Rattle.smith_core.specs.Clear.{Rests, Agree, IsClear}
+use Rattle.std.proofs.Common.{◌≡◌, ℕ, ◌<◌, ◌≤◌, inl, inr, List, [], ◌∷◌, refl, ap, arith, Some, None, Option, lit≤, lit<}
+use Rattle.smith_core.specs.Clear.{Agree, IsClear}
 use Rattle.smith_core.specs.Piece.{Piece, ◌⊕◌, byte, s_index, many}
 use Rattle.smith_core.proofs.Clear.{tail, head, then_head, then_tail, clash, clear_byte, clear_s_index, s_index_head, clear_many, clear_both}
 use Rattle.smith_types.specs.Entries.{Primitive, Val, Entry, CoreEntry, ImportEntry}

@@ -1,5 +1,5 @@
 -- How types are read: the bytes and the fuel give the entry, and leave the rest and what is left of the fuel.
-use Rattle.std.specs.Prelude.{◌≡◌, ℕ, ◌+◌, ◌-◌, ◌<◌, Bool, true, false, List, [], ◌∷◌, ◌++◌, length, Option, Some, None, slice_get}
+use Rattle.std.specs.Prelude.{◌≡◌, ℕ, ◌-◌, ◌<◌, true, false, List, [], ◌∷◌, ◌++◌, length, Option, Some, None, slice_get}
 use Rattle.smith_input.specs.Reading.{Reads, Flips, More}
 use Rattle.smith_types.specs.Entries.{Primitive, Val, Entry, bool, s8, u8, s16, u16, s32, u32, s64, u64, f32, f64, char, string, primitive, indexed, plain, listed, tuple, optional, outcome}
 use Rattle.smith_types.specs.Scope.{Scope, defined_places}

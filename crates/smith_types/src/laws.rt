@@ -13,16 +13,14 @@ ghost use Rattle.smith_types.specs.WellFormed.{FormedEntry};
 pub fn types_are_decided()
     ensures { (own : Scope) (outer : List Scope) (bytes : List ℕ) (fuel : ℕ) (d e : Entry) (rest others : List ℕ) (left more : ℕ) → Made own outer bytes fuel d rest left
         → Made own outer bytes fuel e others more → (d ≡ e) × (rest ≡ others) × (left ≡ more) }
-{
-}
+{}
 
 /// The script of a type that is well formed in its scopes and for which the fuel lasts, followed by any bytes, is
 /// made to that type, and the bytes behind it are left.
 pub fn scripts_are_read()
     ensures { (own : Scope) (outer : List Scope) (fuel : ℕ) (e : Entry) (rest : List ℕ) → FormedEntry e own outer → Lasts fuel e → length own.types ≤ 2 ^ 64
         → (left : ℕ) × Made own outer (script_type fuel own e ++ rest) fuel e rest left }
-{
-}
+{}
 
 /// No spelling of a type is a prefix of another, and two readings with anything behind are one; so it is with
 /// value types, core types and imports.

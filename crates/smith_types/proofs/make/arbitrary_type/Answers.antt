@@ -1,5 +1,4 @@
 use Rattle.std.proofs.lemmas.Result.{IfOk-weaker}
-use Rattle.smith_types.specs.Scope.{inward, own_of, outer_of}
 use Rattle.smith_types.proofs.MadeLemmas.{made_formed, made_size}
 use Rattle.smith_types.proofs.make.arbitrary_type.Goals as goal
 

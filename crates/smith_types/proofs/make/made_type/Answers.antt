@@ -1,10 +1,10 @@
-use Rattle.std.proofs.Common.{◌≡◌, ap, sym, arith, subst, List, ℕ, ◌-◌}
+use Rattle.std.proofs.Common.{◌≡◌, ap, sym, arith, subst, List, ℕ}
 use Rattle.smith_input.specs.Reading.{IsTail}
 use Rattle.smith_input.proofs.ReadingLemmas.{tail_trans, reads_tail}
 use Rattle.smith_types.specs.Entries.{Entry}
 use Rattle.smith_types.specs.Made.{Made, MadeDefined, spent, of_kind}
 use Rattle.smith_types.specs.Scope.{inward, own_of, outer_of}
-use Rattle.smith_types.specs.Shown.{shown_type, shown_shared, shown_defined}
+use Rattle.smith_types.specs.Shown.{shown_type, shown_defined}
 use Rattle.smith_types.proofs.make.made_type.Goals as goal
 use Rattle.smith_types.proofs.make.made_type.Goals.{then-fuel-gt0, else-fuel-gt0}
 

@@ -1,4 +1,4 @@
-use Rattle.std.proofs.Common.{◌≡◌, Bool, subst}
+use Rattle.std.proofs.Common.{Bool, subst}
 use Rattle.smith_input.specs.Reading.{Flips}
 use Rattle.smith_input.proofs.ReadingLemmas.{tail_trans}
 use Rattle.smith_types.specs.Made.{absent, present}

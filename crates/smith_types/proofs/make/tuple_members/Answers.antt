@@ -1,10 +1,6 @@
-use Rattle.std.proofs.Common.{◌≡◌, ◌<◌, ◌≤◌, ℕ, List, [], ◌∷◌, ◌++◌, Bool, true, false, map, length, refl, sym, ap, ◌∙◌, subst, arith, append-nil, append_assoc, length-append}
+use Rattle.std.proofs.Common.{[], ◌∷◌, map, length, ap, ◌∙◌, arith, length-append}
 use Rattle.std.proofs.lemmas.List.{map-append}
-use Rattle.smith_input.specs.Reading.{More}
-use Rattle.smith_input.proofs.ReadingLemmas.{tail_trans, more_tail, more_full}
-use Rattle.smith_types.specs.Entries.{Val}
-use Rattle.smith_types.specs.Made.{ReadsVal, ReadsMembers, no_more, no_fuel, a_member}
-use Rattle.smith_types.specs.Scope.{inward, own_of}
+use Rattle.smith_input.proofs.ReadingLemmas.{tail_trans, more_tail}
 use Rattle.smith_types.specs.Shown.{shown_val}
 use Rattle.smith_types.proofs.MemberLemmas.{stops, spends, goes_on, ends_full}
 use Rattle.smith_types.proofs.make.tuple_members.Goals as goal

@@ -1,6 +1,6 @@
 use Rattle.std.proofs.Common.{◌≡◌, ◌<◌, ℕ, nat_eq, Bool, true, false, List, [], ◌∷◌, map, length, refl, sym, ap, ◌∙◌, arith}
 use Rattle.std.proofs.lemmas.Bool.Decides.{nat_tests}
-use Rattle.smith_types.specs.Entries.{Val, tuple, plain, bool}
+use Rattle.smith_types.specs.Entries.{tuple}
 use Rattle.smith_types.specs.Made.{tuple_or_bool}
 use Rattle.smith_types.specs.Shown.{shown_val}
 use Rattle.smith_types.specs.declared.types.ComponentValType.{ComponentValType}

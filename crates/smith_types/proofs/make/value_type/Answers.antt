@@ -1,8 +1,7 @@
 use Rattle.std.proofs.Common.{◌≡◌, ◌≤◌, ℕ, List, [], ◌∷◌, refl, subst, arith, length}
 use Rattle.smith_input.specs.Reading.{Reads}
-use Rattle.smith_types.specs.Entries.{Val}
-use Rattle.smith_types.specs.Made.{ReadsVal, ReadsPrimitive, only_primitive, either_primitive, either_index}
-use Rattle.smith_types.specs.Scope.{inward, own_of, defined_places}
+use Rattle.smith_types.specs.Made.{ReadsPrimitive, only_primitive, either_primitive, either_index}
+use Rattle.smith_types.specs.Scope.{inward, own_of}
 use Rattle.smith_types.specs.Shown.{shown_primitive}
 use Rattle.smith_types.proofs.make.value_type.Goals as goal
 use Rattle.smith_types.proofs.make.value_type.Goals.{else-defined-gt0-via-then-defined-gt0+else-choose_index-eq1, else-defined-gt0-via-else-defined-gt0}

@@ -1,4 +1,4 @@
-use Rattle.std.proofs.Common.{◌≡◌, refl, sym, subst, ap, ◌∙◌, [], map}
+use Rattle.std.proofs.Common.{refl, subst, ap, ◌∙◌, [], map}
 use Rattle.std.proofs.lemmas.Result.{IfOk-weaker}
 use Rattle.smith_input.specs.Reading.{More}
 use Rattle.smith_input.proofs.ReadingLemmas.{more_tail}

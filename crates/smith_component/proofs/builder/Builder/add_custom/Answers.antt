@@ -1,4 +1,4 @@
-use Rattle.std.proofs.Common.{◌≡◌, refl, ap, ◌∙◌, arith, [], List, ℕ}
+use Rattle.std.proofs.Common.{refl, ap, ◌∙◌, arith, [], List, ℕ}
 use Rattle.smith_component.specs.Building.{open_of}
 use Rattle.smith_component.specs.Tree.{custom}
 use Rattle.smith_component.proofs.ShownLemmas.{shown_custom}

@@ -1,4 +1,4 @@
-use Rattle.std.proofs.Common.{◌≡◌, refl, arith}
+use Rattle.std.proofs.Common.{refl, arith}
 use Rattle.smith_core.specs.Module.{core_preamble}
 use Rattle.smith_component.specs.Building.{open_of}
 use Rattle.smith_component.specs.Tree.{core_module}

@@ -1,16 +1,15 @@
-use Rattle.std.proofs.Common.{◌≡◌, ◌<◌, ◌≤◌, ◌+◌, ◌-◌, ◌++◌, ◌∷◌, ◌^◌, ℕ, refl, sym, subst, ap, ◌∙◌, arith, length, map, List}
+use Rattle.std.proofs.Common.{◌<◌, ◌≤◌, ◌+◌, ◌-◌, ◌∷◌, ◌^◌, refl, sym, subst, ap, ◌∙◌, arith, length, map, List}
 use Rattle.std.proofs.lemmas.List.{length-map}
 use Rattle.smith_types.specs.Entries.{Entry}
-use Rattle.smith_types.specs.Scope.{Scope, inward, own_of, outer_of, with_types}
+use Rattle.smith_types.specs.Scope.{inward, own_of, outer_of, with_types}
 use Rattle.smith_types.specs.Shown.{shown_shared}
 use Rattle.smith_types.proofs.ScopeLemmas.{split_scopes}
 use Rattle.smith_component.specs.Building.{Building, open_of}
 use Rattle.smith_component.specs.BuilderView.{building_of}
-use Rattle.smith_component.specs.Scopes.{scopes_in}
 use Rattle.smith_component.specs.Scripted.{Follows}
 use Rattle.smith_component.specs.Shown.{shown_sections}
-use Rattle.smith_component.specs.Tree.{types, types_in, types_of, add}
-use Rattle.smith_component.specs.Turn.{Open, TypesRead, building}
+use Rattle.smith_component.specs.Tree.{types_in, types_of, add}
+use Rattle.smith_component.specs.Turn.{Open, building}
 use Rattle.smith_component.specs.WellFormed.{scope_of}
 use Rattle.smith_component.specs.declared.item.Item.TheVariants.{Types}
 use Rattle.smith_component.proofs.FollowsLemmas.{types_follow}

@@ -1,9 +1,6 @@
-use Rattle.std.proofs.Common.{◌≡◌, ◌≤◌, ◌++◌, ◌∷◌, [], List, sym, ap, ◌∙◌, refl, arith, length, length-append}
-use Rattle.smith_types.specs.Scope.{Scope, inward, shown_scope}
+use Rattle.std.proofs.Common.{◌∷◌, [], List, sym, ap, ◌∙◌, refl, arith, length, length-append}
 use Rattle.smith_types.specs.Stack.{last_of}
 use Rattle.smith_types.proofs.ScopeLemmas.{length-inward, closed_scope}
-use Rattle.smith_component.specs.Building.{open_of}
-use Rattle.smith_component.specs.BuilderView.{building_of}
 use Rattle.smith_component.specs.Scopes.{scopes_in}
 use Rattle.smith_component.specs.Shown.{shown_sections}
 use Rattle.smith_component.specs.Tree.{Tree, add, component}

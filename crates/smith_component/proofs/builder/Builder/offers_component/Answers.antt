@@ -1,4 +1,4 @@
-use Rattle.std.proofs.Common.{arith, length}
+use Rattle.std.proofs.Common.{arith}
 use Rattle.smith_component.specs.Building.{open_of}
 use Rattle.smith_component.specs.BuilderView.{building_of}
 use Rattle.smith_component.proofs.Grows.{depth-outer}

@@ -1,4 +1,4 @@
-use Rattle.std.proofs.Common.{◌≡◌, ◌+◌, ℕ, List, [], ◌∷◌, ◌++◌, true, false, Bool, subst, sym, ap, ◌∙◌, refl, append-nil, append_assoc, length-append, map, arith, length}
+use Rattle.std.proofs.Common.{◌≡◌, ◌+◌, ℕ, List, [], ◌∷◌, ◌++◌, Bool, subst, sym, ap, ◌∙◌, refl, append-nil, append_assoc, length-append, map, arith, length}
 use Rattle.std.proofs.lemmas.List.{map-append, length-map}
 use Rattle.smith_input.specs.Reading.{More}
 use Rattle.smith_input.proofs.ReadingLemmas.{tail_same, tail_trans, more_tail, more_full}

@@ -1,4 +1,4 @@
-use Rattle.std.proofs.Common.{◌≡◌, ◌+◌, ◌≤◌, ℕ, List, ◌++◌, map, length}
+use Rattle.std.proofs.Common.{◌≡◌, ℕ, List, ◌++◌, map, length}
 use Rattle.smith_input.specs.Reading.{IsTail}
 use Rattle.smith_types.specs.Entries.{Entry}
 use Rattle.smith_types.specs.Scope.{inward, own_of, outer_of, with_types}

@@ -1,4 +1,4 @@
-use Rattle.std.proofs.Common.{◌≡◌, ap, ◌∙◌, subst}
+use Rattle.std.proofs.Common.{ap, ◌∙◌, subst}
 use Rattle.smith_input.proofs.ReadingLemmas.{tail_trans}
 use Rattle.smith_component.specs.Steps.{next_of, Keeps}
 use Rattle.smith_component.specs.declared.builder.Step.{Step}

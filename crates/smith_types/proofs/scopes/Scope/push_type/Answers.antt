@@ -1,4 +1,4 @@
-use Rattle.std.proofs.Common.{◌≡◌, ◌∙◌, ap, ◌++◌, ◌∷◌, []}
+use Rattle.std.proofs.Common.{◌∙◌, ap, ◌++◌, ◌∷◌, []}
 use Rattle.smith_types.proofs.ScopeLemmas.{tied_pushed}
 use Rattle.smith_types.proofs.scopes.Scope.push_type.Goals as goal
 

@@ -1,4 +1,4 @@
-use Rattle.std.proofs.Common.{◌≡◌, ◌<◌, List, sym, subst, length}
+use Rattle.std.proofs.Common.{◌≡◌, List, sym, subst}
 use Rattle.std.specs.Prelude.{slice_get, Some}
 use Rattle.smith_types.specs.Entries.{Entry}
 use Rattle.smith_types.specs.Places.{places}

@@ -1,4 +1,4 @@
-use Rattle.std.proofs.Common.{◌≡◌, ◌<◌, List, ℕ, sym, ap, ◌∙◌, subst, length}
+use Rattle.std.proofs.Common.{◌≡◌, ◌<◌, List, sym, ap, ◌∙◌, subst, length}
 use Rattle.std.specs.Prelude.{IfOk}
 use Rattle.smith_types.specs.Stack.{last_of}
 use Rattle.smith_types.specs.declared.types.DefType.{DefType}

@@ -1,4 +1,4 @@
-use Rattle.std.proofs.Common.{◌≡◌, ap, ◌∙◌}
+use Rattle.std.proofs.Common.{ap, ◌∙◌}
 use Rattle.smith_component.specs.Shown.{shown_sections}
 use Rattle.smith_component.proofs.ShownLemmas.{shown_push, types_pushed}
 use Rattle.smith_component.proofs.builder.open.OpenComponent.push.Goals as goal
