@@ -1,5 +1,5 @@
 -- Two readings of the same bytes, piece by piece.
-use Rattle.std.proofs.Common.{◌≡◌, ℕ, zero, suc, ◌+◌, ◌-◌, ◌*◌, ◌/◌, ◌%◌, ◌^◌, ◌<◌, ◌≤◌, ◌⊎◌, inl, inr, List, [], ◌∷◌, ◌++◌, length, refl, ap, sym, ◌∙◌, arith, nat_lt, true, false, Bool, Some, None, ℤ, pos, negsuc}
+use Rattle.std.proofs.Common.{◌≡◌, ℕ, zero, suc, ◌+◌, ◌-◌, ◌/◌, ◌%◌, ◌^◌, ◌<◌, ◌≤◌, ◌⊎◌, inl, inr, List, [], ◌∷◌, ◌++◌, length, refl, ap, sym, ◌∙◌, arith, nat_lt, true, false, Bool, Some, None, ℤ, pos, negsuc}
 use Rattle.std.proofs.lemmas.Bool.{ltb-false}
 use Rattle.std.proofs.lemmas.List.{append_cancel_left}
 use borrow.Author.Tests.{ltb-true}
@@ -7,7 +7,7 @@ use Rattle.smith_core.specs.Numbers.{digits, unsigned, signed, as_it_is, turned}
 use Rattle.smith_core.specs.Piece.{Piece, ◌⊕◌, u, number, s, s_index, raw, text, utf8, each, many, framed, sized, byte, bytes}
 use Rattle.smith_core.specs.Clear.{Rests, Agree, IsClear, IsExact}
 use Rattle.smith_core.proofs.Raw.{utf8_then, raw_whole}
-use Rattle.smith_core.proofs.Joins.{assoc, left_nil, left_none, right_nil, Parts, parts_are}
+use Rattle.smith_core.proofs.Joins.{assoc, left_nil, left_none, right_nil, parts_are}
 use Rattle.smith_core.proofs.Steps.{framed_bytes, framed_nothing}
 use Rattle.smith_core.proofs.Digits.{digits_more, digits_last, digits_next, u_cases, digits_enough, s_index_fits, s_index_none}
 

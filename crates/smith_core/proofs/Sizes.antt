@@ -1,5 +1,5 @@
 -- The lengths of pieces.
-use Rattle.std.proofs.Common.{◌≡◌, ℕ, suc, ◌+◌, ◌^◌, ◌<◌, ◌≤◌, ◌⊎◌, inl, inr, ◌↔◌, Bool, true, false, nat_lt, IsUtf8, List, [], ◌∷◌, ◌++◌, length, take, drop, get_or, ap, subst, sym, ◌∙◌, arith, length-append, take_all, Option, Some, None, SomeIff, Result, Ok, Err, IsErrAnd, refl}
+use Rattle.std.proofs.Common.{◌≡◌, ℕ, suc, ◌+◌, ◌^◌, ◌<◌, ◌≤◌, ◌⊎◌, inl, inr, ◌↔◌, Bool, true, false, nat_lt, IsUtf8, List, [], ◌∷◌, length, take, drop, get_or, ap, subst, sym, ◌∙◌, arith, take_all, Option, Some, None, SomeIff, Result, Ok, Err, IsErrAnd, refl}
 use Rattle.smith_input.specs.declared.error.Error.{Error}
 use Rattle.smith_input.specs.declared.error.Error.TheVariants.{TooLong}
 use Rattle.smith_core.specs.Numbers.{unsigned}

@@ -1,5 +1,5 @@
 -- How writers follow one another.
-use Rattle.std.proofs.Common.{◌≡◌, ℕ, ◌+◌, ◌<◌, ◌≤◌, ◌⊎◌, inl, inr, List, [], ◌++◌, refl, ap, append_assoc, append-nil, length-append, arith, Some, None, sym, ◌∙◌, subst, Result, Ok, Err, IsErrAnd, is_err, Bool, true, false, nat_le, take, drop, length, take_all}
+use Rattle.std.proofs.Common.{◌≡◌, ℕ, ◌+◌, ◌<◌, ◌≤◌, ◌⊎◌, inl, inr, List, [], ◌++◌, refl, ap, append-nil, length-append, arith, Some, None, sym, ◌∙◌, subst, Result, Ok, Err, IsErrAnd, is_err, Bool, true, false, nat_le, take, drop, length, take_all}
 use Rattle.std.proofs.lemmas.Bool.{leb-true, leb-false}
 use Rattle.std.proofs.lemmas.List.{take-append-drop, take-append-le, length-take, length-take-le}
 use Rattle.std.proofs.Math.Seq.{take-append_seam}
@@ -110,10 +110,6 @@ pub exits : {A : Type 0} (r : Result A Error) (e : Error) {a b : Vec ℕ Global}
 exits (Ok x) e {a} {b} {p} is g d = absurd is
 exits (Err y) e {a} {b} {p} is g d = (g, subst (λ (z : Error). IsDue z a p) (sym is) d)
 
-pub exits_keeping : {A : Type 0} (r : Result A Error) (e : Error) {a b : Vec ℕ Global} {p : Piece} → IsErrAnd r (λ y. y ≡ e) → Keeps a b → IsDue e a p → Appends r a b p
-exits_keeping (Ok x) e {a} {b} {p} is g d = absurd is
-exits_keeping (Err y) e {a} {b} {p} is g d = (g, subst (λ (z : Error). IsDue z a p) (sym is) d)
-
 -- the same behind a piece
 pub exits_then : {A : Type 0} (r : Result A Error) (e : Error) {a b c : Vec ℕ Global} {p q : Piece} → IsErrAnd r (λ y. y ≡ e) → Gains a b p → Begins b c → IsDue e b q → Puts r a c (p ⊕ q)
 exits_then r e is g h d = exits r e is (gains_begins g h) (due_right g d)
@@ -121,9 +117,6 @@ exits_then r e is g h d = exits r e is (gains_begins g h) (due_right g d)
 -- and with more to come
 pub exits_between : {A : Type 0} (r : Result A Error) (e : Error) {a b c : Vec ℕ Global} {p q : Piece} (s : Piece) → IsErrAnd r (λ y. y ≡ e) → Gains a b p → Begins b c → IsDue e b q → Puts r a c (p ⊕ q ⊕ s)
 exits_between r e s is g h d = exits r e is (gains_begins g h) (due_right g (due_left s d))
-
-pub exits_between_keeping : {A : Type 0} (r : Result A Error) (e : Error) {a b c : Vec ℕ Global} {p q : Piece} (s : Piece) → IsErrAnd r (λ y. y ≡ e) → Gains a b p → Keeps b c → IsDue e b q → Puts r a c (p ⊕ q ⊕ s)
-exits_between_keeping r e s is g h d = exits_between r e s is g (keeps_begins h) d
 
 -- a last call whose result is returned
 pub appends_puts : {A : Type 0} (r : Result A Error) (a b : Vec ℕ Global) (p : Piece) → Appends r a b p → Puts r a b p
@@ -161,9 +154,6 @@ sized_is id {n} {p} t = ap (λ q. byte id ⊕ q) (framed_is p t) ∙ sym (assoc 
 
 pub ends_sized : {A : Type 0} (r : Result A Error) (id : ℕ) {n : ℕ} {a b : Vec ℕ Global} (c : Vec ℕ Global) {p : Piece} → Takes n p → Gains a b (byte id ⊕ u n) → Puts r b c p → Puts r a c (sized id p)
 ends_sized r id c {p} t g h = rw (sized_is id t) (ends r c p g h)
-
-pub exits_sized : {A : Type 0} (r : Result A Error) (e : Error) (id : ℕ) {n : ℕ} {a b : Vec ℕ Global} {p : Piece} → IsErrAnd r (λ y. y ≡ e) → Takes n p → Keeps a b × IsDue e a (byte id ⊕ u n) → Puts r a b (sized id p)
-exits_sized r e id {p} is t d = rw (sized_is id t) (exits r e is (keeps_begins d.0) (due_left p d.1))
 
 -- after an error the buffer is cut back
 pub settles_ok : (given : Result (Unit {0}) Error) (old mid : Vec ℕ Global) (p : Piece) → is_err given ≡ false → Puts given old mid p → Appends given old mid p

@@ -1,14 +1,12 @@
 -- Loops over the digits of a number.
-use Rattle.std.proofs.Common.{◌≡◌, ℕ, ◌+◌, ◌/◌, ◌%◌, ◌<◌, ◌≤◌, ◌⊎◌, inl, inr, None, List, [], ◌∷◌, ◌++◌, length, refl, ap, append_assoc, length-append, sym, ◌∙◌, arith, Some, Result, Ok, Err, IsErrAnd, ℤ}
+use Rattle.std.proofs.Common.{◌≡◌, ℕ, ◌+◌, ◌<◌, ◌⊎◌, inl, inr, None, List, [], ◌∷◌, ◌++◌, length, refl, ap, append_assoc, length-append, sym, ◌∙◌, arith, Some, Result, Ok, Err, IsErrAnd}
 use Rattle.std.specs.Vec.{vec_len, vec_capacity}
 use Rattle.std.specs.declared.vec.Vec.{Vec}
 use Rattle.std.specs.declared.alloc.Global.{Global}
 use Rattle.smith_input.specs.declared.error.Error.{Error}
-use Rattle.smith_core.specs.Numbers.{unsigned, signed, low_bits, high_bits}
 use Rattle.smith_core.specs.Piece.{byte}
 use Rattle.smith_core.specs.Writing.{Gains, Begins, Keeps, IsDue, Puts, Appends}
-use Rattle.smith_core.proofs.Digits.{unsigned_last, unsigned_more, unsigned_some, signed_last, signed_more, signed_some}
-use Rattle.smith_core.proofs.Steps.{gained, gains_bytes, gains_begins, begins_then, begins_bytes, keeps_begins, begins_same, exits}
+use Rattle.smith_core.proofs.Steps.{gained, gains_bytes, begins_then, begins_bytes, keeps_begins, begins_same, exits}
 
 -- What was put, and then `left`, is what stood there and then `all`.
 pub record Towards (old : Vec ℕ Global) (all : List ℕ) (new : Vec ℕ Global) (left : List ℕ) : Type 0 where

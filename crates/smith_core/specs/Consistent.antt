@@ -1,5 +1,5 @@
 -- Limits that fit together.
-use Rattle.std.specs.Prelude.{◌≤◌, ◌^◌, ◌<◌}
+use Rattle.std.specs.Prelude.{◌≤◌}
 use Rattle.smith_core.specs.declared.config.Config.{Config}
 
 -- No minimum passes its maximum, what is counted in the written bytes fits 32 bits, and components nest at most 1000 deep.

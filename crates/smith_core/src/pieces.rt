@@ -1,6 +1,6 @@
-//! Writers of bytes, counts, texts and sections at the end of a buffer. None lowers the capacity of the buffer, and none
+//! Writers of bytes, counts, texts and sections at the end of a buffer, and the lengths of what they write. No writer lowers the
+//! capacity of the buffer, and none wants memory where the buffer has room for what it writes.
 #![tactic(auto, using(crate::proofs::Steps::writing, crate::proofs::Sizes::measuring))]
-//! wants memory where the buffer has room for what it writes.
 
 ghost use Rattle.std.specs.Prelude.{◌≡◌, ℕ, ◌<◌, ◌≤◌, ◌^◌, length, Some};
 ghost use Rattle.std.specs.Vec.{vec_len};
@@ -21,10 +21,10 @@ pub fn write_bytes(out: &mut Vec<u8>, contents: &[u8]) -> Result<(), Error>
 }
 
 /// Appends bytes that fill what is left of a section.
-pub fn write_raw(out: &mut Vec<u8>, contents: &[u8]) -> Result<(), Error>
-    ensures { Appends result out.old out.new (raw contents.now) }
+pub fn write_raw(out: &mut Vec<u8>, rest: &[u8]) -> Result<(), Error>
+    ensures { Appends result out.old out.new (raw rest.now) }
 {
-    write_bytes(out, contents)
+    write_bytes(out, rest)
 }
 
 /// The length of bytes; None exactly where it passes 4,294,967,295.

@@ -1,4 +1,4 @@
-use Rattle.std.proofs.Common.{rules, ◌≡◌, ◌+◌, ◌⊎◌, inl, inr, ◌∷◌, [], length, ap, arith, sym, ◌∙◌, true, pos, negsuc, add_comm, subst, ℤ, Some, unsigned_abs}
+use Rattle.std.proofs.Common.{rules, ◌≡◌, ◌+◌, ◌⊎◌, inl, inr, ◌∷◌, [], ap, sym, ◌∙◌, true, pos, negsuc, add_comm, subst, ℤ, unsigned_abs}
 use Rattle.std.proofs.lemmas.Int.{to_z-of_z}
 use Rattle.std.specs.Prelude.{int_lt}
 use Rattle.std.specs.Int.{w64}
@@ -8,7 +8,7 @@ use Rattle.smith_core.specs.Numbers.{signed, low_bits, high_bits}
 use Rattle.smith_core.specs.Piece.{s}
 use Rattle.smith_core.specs.Writing.{Puts}
 use Rattle.smith_core.proofs.Digits.{signed_last, signed_more, signed_some}
-use Rattle.smith_core.proofs.Turns.{Towards, towards_next, towards_exit, towards_end}
+use Rattle.smith_core.proofs.Turns.{towards_next, towards_exit, towards_end}
 use Rattle.smith_core.proofs.numbers.put_s64.Goals as goal
 use Rattle.smith_core.proofs.numbers.put_s64.Goals.{then-rest-lt-LEAST, else-rest-lt-LEAST+then-rest-gt-MOST}
 
