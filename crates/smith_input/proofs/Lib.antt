@@ -1,4 +1,5 @@
 pub mod Kebabs
+pub mod Longest
 pub mod Picks
 pub mod ReadingLemmas
 pub mod TextsLemmas

@@ -42,8 +42,7 @@ character begins k =
 
 -- The characters of the choices. A word must begin behind each hyphen; where one must begin at the end, it is an a.
 abbrev pub characters : Bool → List ℕ → List ℕ
-characters true [] = 97 ∷ []
-characters false [] = []
+characters begins [] = if begins then 97 ∷ [] else []
 characters begins (k ∷ ks) = character begins k ∷ characters (nat_eq (character begins k) 45) ks
 
 -- A name in kebab case: a length of at most max is read, and a choice for each place. A word must begin at the first.
