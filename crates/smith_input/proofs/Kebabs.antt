@@ -85,7 +85,7 @@ begun_more [] ds a b = elim a [ ]
 begun_more (c ∷ cs) ds a b = (a.0, word_more cs ds a.1 b)
 
 -- a name goes on with digits
-kebab_more : (ds : List ℕ) {cs : List ℕ} → AreInWord ds → Kebab cs → Kebab (cs ++ ds)
+pub kebab_more : (ds : List ℕ) {cs : List ℕ} → AreInWord ds → Kebab cs → Kebab (cs ++ ds)
 kebab_more ds b (word {cs = cs} w) = word (begun_more cs ds w b)
 kebab_more ds b (hyphen cs es w k) = rw append_assoc (hyphen cs (es ++ ds) w (kebab_more ds b k))
 
@@ -93,7 +93,7 @@ kebab_appended : (text ds : List ℕ) → AreInWord ds → Kebab text → (n : �
 kebab_appended text ds a k zero = k
 kebab_appended text ds a k (suc n) = kebab_more ds a (kebab_appended text ds a k n)
 
-digits_in_word : (n : ℕ) → n < 2 ^ 64 → AreInWord (decimal n)
+pub digits_in_word : (n : ℕ) → n < 2 ^ 64 → AreInWord (decimal n)
 digits_in_word n h =
     decimal_by_steps
     (λ _ ds. AreInWord ds)

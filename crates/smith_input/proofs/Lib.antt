@@ -1,5 +1,5 @@
 pub mod Kebabs
-pub mod Longest
+pub mod NameSets
 pub mod Picks
 pub mod ReadingLemmas
 pub mod TextsLemmas

@@ -41,6 +41,11 @@ text_tail {text = text} r = tail_trans (length text, r.left) (reads_tail r.count
 pub longest_all : (bytes : List ℕ) → IsUtf8 bytes → IsLongestText bytes bytes
 longest_all bytes u = record { utf8 = u; front = sym (take_all (length bytes) bytes (omega arith)); longest = λ n h k. absurd (omega arith) }
 
+pub longest_front : (bytes text : List ℕ) (n : ℕ) → text ≡ take n bytes → IsValidUpTo bytes n → IsLongestText bytes text
+longest_front bytes text n e v =
+    let len : length text ≡ n = omega (arith, ap length e, length-take n bytes, v.short) in
+    record { utf8 = subst IsUtf8 (sym e) v.front; front = e ∙ ap (λ k. take k bytes) (sym len); longest = λ m h _. v.longest m (omega arith) }
+
 longest_short : (bytes a b : List ℕ) → IsLongestText bytes a → IsLongestText bytes b → length a ≤ length b
 longest_short bytes a b p q =
     ⊎_elim

@@ -47,6 +47,7 @@ fn kebab_string(alloc: Global, max: usize, u: &mut Unstructured) -> Result<Strin
 // The name, with the digits of the set's size at its end while the set has it.
 fn made_unique(alloc: Global, name: String, names: &BTreeSet<String>) -> Result<String, Error>
     ensures unique { IfOk result (λ unique. IsMadeUnique (contains_text names.now) (btree_set_len names.now) (string_bytes name) (string_bytes unique)) }
+    ensures kebab { IfOk result (λ unique. Kebab (string_bytes name) → Kebab (string_bytes unique)) }
     ensures memory { IfErr result (λ e. e ≡ Error.OutOfMemory) }
 {
     let mut unique = name;
