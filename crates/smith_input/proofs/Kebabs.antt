@@ -72,6 +72,23 @@ characters_follow true (next {k = k} {ks = ks} r rs) =
 characters_follow false (next {k = k} {ks = ks} r rs) =
     step_name false (character false k) (characters (nat_eq (character false k) 45) ks) (λ e. absurd (cc e)) (λ _. inside_is k r.below) (characters_follow (nat_eq (character false k) 45) rs)
 
+-- one character behind
+pub spelt_pushed : (name pushed ks : List ℕ) (c r : ℕ) → r ≡ c → pushed ≡ name ++ r ∷ [] → name ++ c ∷ characters (nat_eq c 45) ks ≡ pushed ++ characters (nat_eq r 45) ks
+spelt_pushed name pushed ks c r e p =
+    sym (ap (λ b. b ++ characters (nat_eq r 45) ks) p ∙ (append_assoc name (r ∷ []) (characters (nat_eq r 45) ks) ∙ ap (λ d. name ++ d ∷ characters (nat_eq d 45) ks) e))
+
+pub kebab_counted : {max count place k : ℕ} {bytes after name rest choices : List ℕ} → count ≡ 0 + k → Reads (max - 0 + 1) bytes k after → length choices ≡ place + 0 → place ≡ count → ReadsEach 37 after choices rest → name ≡ characters true choices → ReadsKebab max bytes name rest
+kebab_counted {max} {count} {place} {k} {bytes} {after} {choices = choices} c r l p each n =
+    let same : max - 0 ≡ max = omega arith in
+    let many : k ≡ length choices = omega arith in
+    record {
+      after_count = after;
+      choices = choices;
+      counted = subst (λ m. Reads (m + 1) bytes (length choices) after) same (subst (λ j. Reads (max - 0 + 1) bytes j after) many r);
+      chosen = each;
+      spelt = n;
+    }
+
 -- a name that is read
 pub kebab_is_read : {max : ℕ} {bytes name rest : List ℕ} → ReadsKebab max bytes name rest → Kebab name
 kebab_is_read r = rw (r.spelt) (characters_follow true r.chosen)

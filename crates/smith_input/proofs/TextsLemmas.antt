@@ -1,7 +1,9 @@
 -- Bytes and texts that are read: what is left, that they are determined, and that spelled ones are read.
-use Rattle.std.proofs.Common.{◌≡◌, ℕ, zero, suc, ◌+◌, ◌<◌, ◌≤◌, ◌%◌, ◌^◌, Bool, true, false, IsTrue, List, [], ◌∷◌, ◌++◌, length, take, drop, slice_index, refl, sym, ap, subst, ◌∙◌, arith, ⊎_elim}
+use Rattle.std.proofs.Common.{◌≡◌, ℕ, zero, suc, ◌+◌, ◌-◌, min, ◌<◌, ◌≤◌, ◌%◌, ◌^◌, Bool, true, false, IsTrue, List, [], ◌∷◌, ◌++◌, length, take, drop, slice_index, refl, sym, ap, subst, ◌∙◌, arith, ⊎_elim}
 use Rattle.std.proofs.lemmas.Bool.{cases_lt}
-use Rattle.std.proofs.lemmas.List.{append_assoc, length-take, take_at, drop_at, take_all}
+use Rattle.std.proofs.lemmas.List.{append_assoc, length-take, take_at, take_min, drop_at, take_all}
+use Rattle.std.specs.Prelude.{Result, Ok, Err}
+use Rattle.std.specs.Result.{MatchResult, result_unwrap_or}
 use Rattle.std.specs.Str.{IsUtf8, IsValidUpTo}
 use Rattle.smith_input.specs.Reading.{Reads, Flips, IsTail, pick}
 use Rattle.smith_input.specs.Texts.{ReadsByte, ReadsBytes, ends, follows, IsLongestText, ReadsText, script_bytes, script_text}
@@ -45,6 +47,25 @@ pub longest_front : (bytes text : List ℕ) (n : ℕ) → text ≡ take n bytes 
 longest_front bytes text n e v =
     let len : length text ≡ n = omega (arith, ap length e, length-take n bytes, v.short) in
     record { utf8 = subst IsUtf8 (sym e) v.front; front = e ∙ ap (λ k. take k bytes) (sym len); longest = λ m h _. v.longest m (omega arith) }
+
+-- a front that is tested to be UTF-8 is given as it is
+pub tested_front : {T E : Type 0} (Q : E → Type 0) (now : T → List ℕ) (bytes : List ℕ) (r : Result T E) (other x : T) → MatchResult r (λ s. (now s ≡ bytes) × IsUtf8 bytes) (λ e. ¬ (IsUtf8 bytes) × Q e) → IsUtf8 bytes → x ≡ result_unwrap_or r other → now x ≡ bytes
+tested_front Q now bytes (Ok s) other x m u e = ap now e ∙ m.0
+tested_front Q now bytes (Err f) other x m u e = absurd (m.0 u)
+
+-- a text by its length, cut to what is left
+pub text_cut : {max count k len : ℕ} {bytes after left text got rest : List ℕ} → count ≡ 0 + k → Reads (max - 0 + 1) bytes k after → left ≡ after → len ≡ min count (length left) → IsLongestText (take len left) text → got ≡ text → rest ≡ drop (length text) after → ReadsText max bytes got rest
+text_cut {max} {count} {k} {len} {bytes} {after} {left} {text} {got} {rest} c r l m t g d =
+    let same : max - 0 ≡ max = omega arith in
+    let counted : count ≡ k = omega arith in
+    let cut : take len left ≡ take k after = ap (λ n. take n left) m ∙ (take_min count left ∙ (ap (λ n. take n left) counted ∙ ap (take k) l)) in
+    record {
+      count = k;
+      after_count = after;
+      counted = subst (λ n. Reads (n + 1) bytes k after) same r;
+      longest = subst (λ x. IsLongestText (take k after) x) (sym g) (subst (λ x. IsLongestText x text) cut t);
+      left = d ∙ ap (λ x. drop (length x) after) (sym g);
+    }
 
 longest_short : (bytes a b : List ℕ) → IsLongestText bytes a → IsLongestText bytes b → length a ≤ length b
 longest_short bytes a b p q =
