@@ -1,5 +1,5 @@
 -- Names in kebab case.
-use Rattle.std.proofs.Common.{◌≡◌, nat_eq, nat_lt, nat_le, ℕ, zero, suc, ◌+◌, ◌-◌, ◌<◌, ◌≤◌, ◌^◌, ◌⊎◌, Bool, true, false, if◌then◌else◌, List, [], ◌∷◌, ◌++◌, length, refl, sym, ap, subst, ◌∙◌, arith, inl, inr, ⊎_elim, append_assoc, append-nil, map, ◌%◌}
+use Rattle.std.proofs.Common.{◌≡◌, nat_eq, ℕ, zero, suc, ◌+◌, ◌-◌, ◌<◌, ◌≤◌, ◌^◌, ◌⊎◌, Bool, true, false, List, [], ◌∷◌, ◌++◌, length, refl, sym, ap, subst, ◌∙◌, arith, inl, inr, ⊎_elim, append_assoc, append-nil, map, ◌%◌}
 use Rattle.std.proofs.lemmas.Bool.Decides.{nat_tests}
 use Rattle.std.proofs.lemmas.Bool.{cases_lt}
 use Rattle.std.proofs.lemmas.Fmt.{decimal_by_steps}
@@ -58,10 +58,10 @@ inside_is k h =
     ⊎_elim
     (λ (lt : k < 26). let e = letter_is false k lt in inl (inl (omega (arith, e), omega (arith, e))))
     (λ (ge : 26 ≤ k).
-        ⊎_elim
-        (λ (lt : k < 36). let e = digit_is k ge lt in inl (inr (omega (arith, e), omega (arith, e))))
-        (λ (above : 36 ≤ k). inr (hyphen_is k above))
-        (cases_lt k 36))
+    ⊎_elim
+    (λ (lt : k < 36). let e = digit_is k ge lt in inl (inr (omega (arith, e), omega (arith, e))))
+    (λ (above : 36 ≤ k). inr (hyphen_is k above))
+    (cases_lt k 36))
     (cases_lt k 26)
 
 characters_follow : (begins : Bool) {bytes ks rest : List ℕ} → ReadsEach 37 bytes ks rest → Follows begins (characters begins ks)
@@ -208,10 +208,10 @@ each_read (c ∷ cs) rest f =
     rw (append_assoc (pick 37 (code c)) (script_characters cs) rest)
     (next (reads-pick 37 (code c) (script_characters cs ++ rest) (omega arith) f.0) (each_read cs rest f.1))
 
-pub name_read : (max : ℕ) (name rest : List ℕ) → max ≤ 2 ^ 32 → Kebab name → length name ≤ max → ReadsKebab max (script_name max name ++ rest) name rest
+pub name_read : (max : ℕ) (name rest : List ℕ) → max < 2 ^ 64 → Kebab name → length name ≤ max → ReadsKebab max (script_name max name ++ rest) name rest
 name_read max name rest h k l =
     let counted : Reads (max + 1) (pick (max + 1) (length name) ++ (script_characters name ++ rest)) (length name) (script_characters name ++ rest) =
-        reads-pick (max + 1) (length name) (script_characters name ++ rest) (omega arith) (omega arith) in
+    reads-pick (max + 1) (length name) (script_characters name ++ rest) (omega arith) (omega arith) in
     record {
       after_count = script_characters name ++ rest;
       choices = map code name;

@@ -1,12 +1,12 @@
 -- Bytes and texts that are read: what is left, that they are determined, and that spelled ones are read.
-use Rattle.std.proofs.Common.{◌≡◌, ℕ, zero, suc, ◌+◌, ◌-◌, min, ◌<◌, ◌≤◌, ◌%◌, ◌^◌, Bool, true, false, IsTrue, List, [], ◌∷◌, ◌++◌, length, take, drop, slice_index, refl, sym, ap, subst, ◌∙◌, arith, ⊎_elim}
+use Rattle.std.proofs.Common.{◌≡◌, ℕ, ◌+◌, ◌-◌, min, ◌<◌, ◌≤◌, ◌^◌, true, false, List, [], ◌∷◌, ◌++◌, length, take, drop, slice_index, refl, sym, ap, subst, ◌∙◌, arith, ⊎_elim}
 use Rattle.std.proofs.lemmas.Bool.{cases_lt}
 use Rattle.std.proofs.lemmas.List.{append_assoc, length-take, take_at, take_min, drop_at, take_all}
 use Rattle.std.specs.Prelude.{Result, Ok, Err}
 use Rattle.std.specs.Result.{MatchResult, result_unwrap_or}
 use Rattle.std.specs.Str.{IsUtf8, IsValidUpTo}
 use Rattle.smith_input.specs.Reading.{Reads, Flips, IsTail, pick}
-use Rattle.smith_input.specs.Texts.{ReadsByte, ReadsBytes, ends, follows, IsLongestText, ReadsText, script_bytes, script_text}
+use Rattle.smith_input.specs.Texts.{ReadsBytes, ends, follows, IsLongestText, ReadsText, script_bytes, script_text}
 use Rattle.smith_input.proofs.Picks.{reads-pick}
 use Rattle.smith_input.proofs.ReadingLemmas.{tail_trans, reads_tail, reads_unique, flips_unique}
 
@@ -88,7 +88,7 @@ text_unique {a = a} {b = b} r s =
     let t : a ≡ b = longest_unique (take s.count s.after_count) a b (subst (λ bs. IsLongestText bs a) front r.longest) s.longest in
     (t, r.left ∙ (ap (λ x. drop (length x) r.after_count) t ∙ (ap (λ x. drop (length b) x) d ∙ sym s.left)))
 
-pub text_read : (max : ℕ) (text rest : List ℕ) → max ≤ 2 ^ 32 → IsUtf8 text → length text ≤ max → ReadsText max (script_text max text ++ rest) text rest
+pub text_read : (max : ℕ) (text rest : List ℕ) → max < 2 ^ 64 → IsUtf8 text → length text ≤ max → ReadsText max (script_text max text ++ rest) text rest
 text_read max text rest h u l =
     let counted : Reads (max + 1) (pick (max + 1) (length text) ++ (text ++ rest)) (length text) (text ++ rest) = reads-pick (max + 1) (length text) (text ++ rest) (omega arith) (omega arith) in
     record {

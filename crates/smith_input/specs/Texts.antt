@@ -1,5 +1,5 @@
 -- Bytes of any length and texts of a limited length, as they are read, and how they are spelled.
-use Rattle.std.specs.Prelude.{◌≡◌, ℕ, ◌+◌, ◌<◌, ◌≤◌, Bool, true, false, List, [], ◌∷◌, ◌++◌, length, take, drop, slice_index}
+use Rattle.std.specs.Prelude.{◌≡◌, ℕ, ◌+◌, ◌<◌, ◌≤◌, true, false, List, [], ◌∷◌, ◌++◌, length, take, drop, slice_index}
 use Rattle.std.specs.Str.{IsUtf8}
 use Rattle.smith_input.specs.Reading.{Reads, Flips, pick}
 

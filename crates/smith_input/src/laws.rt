@@ -38,12 +38,12 @@ pub fn bytes_are_read()
 
 /// A spelled text, followed by any bytes, is read as itself.
 pub fn text_is_read()
-    ensures { (max : ℕ) (text rest : List ℕ) → max ≤ 2 ^ 32 → IsUtf8 text → length text ≤ max → ReadsText max (script_text max text ++ rest) text rest }
+    ensures { (max : ℕ) (text rest : List ℕ) → max < 2 ^ 64 → IsUtf8 text → length text ≤ max → ReadsText max (script_text max text ++ rest) text rest }
 {}
 
 /// A spelled name, followed by any bytes, is read as itself.
 pub fn name_is_read()
-    ensures { (max : ℕ) (name rest : List ℕ) → max ≤ 2 ^ 32 → Kebab name → length name ≤ max → ReadsKebab max (script_name max name ++ rest) name rest }
+    ensures { (max : ℕ) (name rest : List ℕ) → max < 2 ^ 64 → Kebab name → length name ≤ max → ReadsKebab max (script_name max name ++ rest) name rest }
 {}
 
 /// A name that none of the names is equal to stays as it was read.

@@ -6,7 +6,7 @@ ghost use Rattle.smith_input.specs.Reading.{IsTail};
 ghost use Rattle.smith_input.specs.Texts.{ReadsText};
 ghost use Rattle.smith_input.specs.Names.{Kebab, character, ReadsKebab, IsMadeUnique, Gains};
 
-use crate::{limited_string, Error, Unstructured};
+use crate::{Error, Unstructured, limited_string};
 use std::alloc::Global;
 use std::collections::BTreeSet;
 
@@ -111,8 +111,8 @@ pub fn unique_url(
     ensures memory { IfErr result (λ e. e ≡ Error.OutOfMemory) }
     ensures tail { IsTail u.new u.old }
 {
-    let name = made_unique(alloc, kebab_string(alloc, max, u)?, names)?;
-    let url = format!(in alloc; "https://example.com/{name}")?;
-    names.insert(name)?;
+    let path = made_unique(alloc, kebab_string(alloc, max, u)?, names)?;
+    let url = format!(in alloc; "https://example.com/{path}")?;
+    names.insert(path)?;
     Ok(url)
 }

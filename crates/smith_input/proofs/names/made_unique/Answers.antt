@@ -1,7 +1,7 @@
-use Rattle.std.proofs.Common.{◌≡◌, ℕ, zero, suc, ◌<◌, ◌≤◌, ◌^◌, length, refl, sym, ap, subst, ◌∙◌, arith, string_bytes, decimal, length-append, true, ◌++◌, ⊎_elim}
+use Rattle.std.proofs.Common.{◌≡◌, suc, length, refl, sym, ap, ◌∙◌, arith, string_bytes, decimal, length-append, true, ◌++◌, ⊎_elim}
 use Rattle.std.specs.BTreeSet.{contains_text, btree_set_len}
 use Rattle.std.proofs.lemmas.Bool.{cases_lt}
-use Rattle.smith_input.specs.Names.{Kebab, appended}
+use Rattle.smith_input.specs.Names.{appended}
 use Rattle.smith_input.proofs.Kebabs.{kebab_more, digits_in_word}
 use Rattle.smith_input.proofs.NameSets.{longest_has}
 use Rattle.smith_input.proofs.names.made_unique.Goals as goal
@@ -26,8 +26,8 @@ loop-alloc-preserved c =
           ⊎_elim
           (λ below. c.loop-alloc.invariant.taken n below)
           (λ at. let here : n ≡ c.loop-alloc.invariant.times = omega arith in
-              ap (λ k. contains_text c.args.names.now (appended (string_bytes c.args.name) (decimal (btree_set_len c.args.names.now)) k)) here
-              ∙ (ap (contains_text c.args.names.now) (sym c.loop-alloc.invariant.name_is) ∙ had))
+          ap (λ k. contains_text c.args.names.now (appended (string_bytes c.args.name) (decimal (btree_set_len c.args.names.now)) k)) here
+          ∙ (ap (contains_text c.args.names.now) (sym c.loop-alloc.invariant.name_is) ∙ had))
           (cases_lt n c.loop-alloc.invariant.times);
       kebab = λ k. rw longer (kebab_more (decimal (btree_set_len c.args.names.now)) (digits_in_word (btree_set_len c.args.names.now) (omega (arith, c.len.ensures.len, c.len.ensures.small))) (c.loop-alloc.invariant.kebab k));
     }

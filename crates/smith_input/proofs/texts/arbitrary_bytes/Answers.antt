@@ -1,4 +1,4 @@
-use Rattle.std.proofs.Common.{◌≡◌, List, [], ◌∷◌, ◌++◌, true, false, subst, append_assoc, append-nil, rules}
+use Rattle.std.proofs.Common.{◌≡◌, [], ◌∷◌, ◌++◌, true, subst, append_assoc, append-nil, rules}
 use Rattle.std.proofs.lemmas.Grind.{common_steps}
 use Rattle.smith_input.specs.Reading.{Flips}
 use Rattle.smith_input.specs.Texts.{ReadsByte, ends, follows}
