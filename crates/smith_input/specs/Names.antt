@@ -1,5 +1,5 @@
--- Names in kebab case: words of a small letter and then small letters or digits, joined by single hyphens.
--- And how they are read, made unique and spelled.
+-- Names in kebab case, as they are read, made unique and spelled. They are the labels in small letters of Explainer.md,
+-- Import and Export Definitions: words of a small letter and then small letters or digits, joined by single hyphens.
 use Rattle.std.specs.Prelude.{◌≡◌, ℕ, zero, suc, ◌+◌, ◌-◌, ◌<◌, ◌≤◌, ◌⊎◌, ◌||◌, Bool, true, false, nat_eq, nat_lt, nat_le, if◌then◌else◌, List, [], ◌∷◌, ◌++◌, length, bytes_eq}
 use Rattle.std.specs.Fmt.{decimal}
 use Rattle.std.specs.BTreeSet.{BTreeSet, contains_text, btree_set_len}
@@ -40,12 +40,14 @@ abbrev pub character : Bool → ℕ → ℕ
 character begins k =
     if nat_lt k 26 then 97 + k else (if nat_lt k 36 then (if begins then 97 + (k - 26) else 48 + (k - 26)) else (if begins then 97 else 45))
 
--- The characters of the choices. A word must begin behind each hyphen; where one must begin at the end, it is an a.
+-- The characters of the choices, where a word must begin or goes on at the first. A word must begin behind each
+-- hyphen; where one must begin behind the last choice, an a stands there.
 abbrev pub characters : Bool → List ℕ → List ℕ
 characters begins [] = if begins then 97 ∷ [] else []
 characters begins (k ∷ ks) = character begins k ∷ characters (nat_eq (character begins k) 45) ks
 
 -- A name in kebab case: a length of at most max is read, and a choice for each place. A word must begin at the first.
+-- The length is not cut to the bytes that are left.
 pub record ReadsKebab (max : ℕ) (bytes name rest : List ℕ) : Type 0 where
   pub after_count : List ℕ
   pub choices : List ℕ
@@ -53,13 +55,13 @@ pub record ReadsKebab (max : ℕ) (bytes name rest : List ℕ) : Type 0 where
   pub chosen : ReadsEach 37 after_count choices rest
   pub spelt : name ≡ characters true choices
 
--- n times the same behind the text
+-- the text, and n times more behind it
 abbrev pub appended : List ℕ → List ℕ → ℕ → List ℕ
 appended text more zero = text
 appended text more (suc n) = appended text more n ++ more
 
--- The name is the text that was read, and behind it the decimal digits of how many names there are, as often
--- as it takes to be none of them.
+-- A text that was read is made a name that is none of the names that there are: their number is appended in
+-- decimal digits, again and again while what stands so far is one of them.
 pub record IsMadeUnique (has : List ℕ → Bool) (size : ℕ) (text name : List ℕ) : Type 0 where
   pub times : ℕ
   pub name_is : name ≡ appended text (decimal size) times
@@ -71,7 +73,8 @@ pub record Gains {A : Type 0} (old new : BTreeSet (String A)) (name : List ℕ) 
   pub has : (q : List ℕ) → contains_text new q ≡ (bytes_eq name q || contains_text old q)
   pub size : btree_set_len new ≡ btree_set_len old + 1
 
--- the choice that gives a character of a name where it stands
+-- the choice that gives a character of a name in kebab case where it stands: a to z are 0 to 25, 0 to 9 are 26 to 35,
+-- and a hyphen is 36
 abbrev pub code : ℕ → ℕ
 code c = if nat_le 97 c then c - 97 else (if nat_le 48 c then 26 + (c - 48) else 36)
 

@@ -13,7 +13,7 @@ pub data ReadsBytes : List ℕ → List ℕ → List ℕ → Type 0 where
   ends : {bytes rest : List ℕ} → Flips bytes false rest → ReadsBytes bytes [] rest
   follows : {bytes mid low rest : List ℕ} {value : ℕ} {values : List ℕ} → Flips bytes true mid → ReadsByte mid value low → ReadsBytes low values rest → ReadsBytes bytes (value ∷ values) rest
 
--- The text is a front of the bytes, and no longer front is UTF-8.
+-- The text is a front of the bytes that is UTF-8, and no longer front is.
 pub record IsLongestText (bytes text : List ℕ) : Type 0 where
   pub utf8 : IsUtf8 text
   pub front : text ≡ take (length text) bytes

@@ -50,6 +50,7 @@ fn made_unique(alloc: Global, name: String, names: &BTreeSet<String>) -> Result<
     ensures kebab { IfOk result (λ unique. Kebab (string_bytes name) → Kebab (string_bytes unique)) }
     ensures memory { IfErr result (λ e. e ≡ Error.OutOfMemory) }
 {
+    // The set's size stays as it is here, so the same digits are appended each time.
     let mut unique = name;
     while names.contains(unique.as_str()) {
         let digits = names.len().to_string(alloc)?;
@@ -59,7 +60,8 @@ fn made_unique(alloc: Global, name: String, names: &BTreeSet<String>) -> Result<
 }
 
 /// A text that was not in the set, and is in it then: one of at most `max` bytes is read, and while the set has
-/// it, the decimal digits of the set's size are appended.
+/// it, the decimal digits of the set's size are appended. So it may be longer than `max`. The error is
+/// `OutOfMemory` alone, and the set is then as before.
 pub fn unique_string(
     alloc: Global,
     max: usize,
@@ -78,8 +80,9 @@ pub fn unique_string(
 }
 
 /// A name in kebab case that was not in the set, and is in it then: one of at most `max` characters is read,
-/// with an `a` at its end where a word is missing there, and while the set has it, the decimal digits of the
-/// set's size are appended.
+/// with an `a` more at its end where a word is missing there, and while the set has it, the decimal digits of
+/// the set's size are appended. So it may be longer than `max`. The error is `OutOfMemory` alone, and the set
+/// is then as before.
 pub fn unique_kebab_string(
     alloc: Global,
     max: usize,
@@ -98,8 +101,9 @@ pub fn unique_kebab_string(
     Ok(name)
 }
 
-/// A URL: `https://example.com/` and a name in kebab case, read and made unique as by `unique_kebab_string`. The
-/// set has the name alone.
+/// A URL: `https://example.com/` and a name in kebab case that was not in the set, read and made unique as by
+/// `unique_kebab_string`. The set has the name alone then, without what stands in front of it. The error is
+/// `OutOfMemory` alone, and the set is then as before.
 pub fn unique_url(
     alloc: Global,
     max: usize,
