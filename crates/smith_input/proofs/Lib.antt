@@ -1,3 +1,6 @@
+pub mod Kebabs
+pub mod NameSets
 pub mod Picks
 pub mod ReadingLemmas
+pub mod TextsLemmas
 pub mod Widths

@@ -1,9 +1,13 @@
-//! The reader of a fuzzer's bytes, and why a call gives up.
+//! The reader of a fuzzer's bytes, the texts and names that it reads, and why a call gives up.
 #![tactic(auto)]
 
 pub mod error;
 pub mod laws;
+pub mod names;
+pub mod texts;
 pub mod unstructured;
 
 pub use error::Error;
+pub use names::{unique_kebab_string, unique_string, unique_url};
+pub use texts::{arbitrary_bytes, limited_string};
 pub use unstructured::Unstructured;

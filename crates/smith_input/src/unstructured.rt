@@ -69,6 +69,14 @@ impl<'a> Unstructured<'a> {
         *first
     }
 
+    // Passes over the next bytes.
+    pub(crate) fn skip(&mut self, count: usize)
+        requires { count ≤ length self.old }
+        ensures { self.new ≡ drop count self.old }
+    {
+        self.bytes = &self.bytes[count..];
+    }
+
     // The number that the next bytes spell.
     fn number(&mut self, width: u32) -> u64
         requires { width ≤ 8 }

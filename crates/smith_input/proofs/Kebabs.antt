@@ -1,0 +1,221 @@
+-- Names in kebab case.
+use Rattle.std.proofs.Common.{◌≡◌, nat_eq, ℕ, zero, suc, ◌+◌, ◌-◌, ◌<◌, ◌≤◌, ◌^◌, ◌⊎◌, Bool, true, false, List, [], ◌∷◌, ◌++◌, length, refl, sym, ap, subst, ◌∙◌, arith, inl, inr, ⊎_elim, append_assoc, append-nil, map, ◌%◌}
+use Rattle.std.proofs.lemmas.Bool.Decides.{nat_tests}
+use Rattle.std.proofs.lemmas.Bool.{cases_lt}
+use Rattle.std.proofs.lemmas.Fmt.{decimal_by_steps}
+use Rattle.std.proofs.lemmas.List.{map-append, length-map}
+use Rattle.std.specs.Fmt.{decimal}
+use Rattle.smith_input.specs.Reading.{Reads, IsTail, pick}
+use Rattle.smith_input.specs.Names.{IsLetter, IsDigit, AreInWord, IsWord, Kebab, word, hyphen, character, characters, ReadsEach, none, next, ReadsKebab, appended, IsMadeUnique, code, script_characters, script_name}
+use Rattle.smith_input.proofs.Picks.{reads-pick}
+use Rattle.smith_input.proofs.ReadingLemmas.{tail_same, tail_trans, reads_tail, reads_unique}
+
+-- what may follow a front of a name, where a word must begin or goes on
+abbrev pub Follows : Bool → List ℕ → Type 0
+Follows true cs = Kebab cs
+Follows false cs = AreInWord cs ⊎ ((ds : List ℕ) × (es : List ℕ) × (cs ≡ ds ++ 45 ∷ es) × AreInWord ds × Kebab es)
+
+begins_word : (c : ℕ) (cs : List ℕ) → IsLetter c → Follows false cs → Follows true (c ∷ cs)
+begins_word c cs l (inl w) = word (l, w)
+begins_word c cs l (inr s) = rw s.2 (hyphen (c ∷ s.0) s.1 (l, s.3) s.4)
+
+in_word : (c : ℕ) (cs : List ℕ) → (IsLetter c ⊎ IsDigit c) → Follows false cs → Follows false (c ∷ cs)
+in_word c cs l (inl w) = inl (l, w)
+in_word c cs l (inr s) = inr (c ∷ s.0, s.1, ap (λ k. c ∷ k) s.2, (l, s.3), s.4)
+
+at_hyphen : (cs : List ℕ) → Follows true cs → Follows false (45 ∷ cs)
+at_hyphen cs k = inr ([], cs, refl, tt, k)
+
+not_hyphen : (c : ℕ) → (IsLetter c ⊎ IsDigit c) → nat_eq c 45 ≡ false
+not_hyphen c l = ⊎_elim (λ (a : IsLetter c). grind (arith, nat_tests)) (λ (d : IsDigit c). grind (arith, nat_tests)) l
+
+is_hyphen : (c : ℕ) → c ≡ 45 → nat_eq c 45 ≡ true
+is_hyphen c h = grind (arith, nat_tests)
+
+-- one character in front
+step_name : (begins : Bool) (c : ℕ) (cs : List ℕ) → (begins ≡ true → IsLetter c) → (begins ≡ false → (IsLetter c ⊎ IsDigit c) ⊎ (c ≡ 45)) → Follows (nat_eq c 45) cs → Follows begins (c ∷ cs)
+step_name true c cs l i f = begins_word c cs (l refl) (subst (λ b. Follows b cs) (not_hyphen c (inl (l refl))) f)
+step_name false c cs l i f =
+    ⊎_elim
+    (λ (w : IsLetter c ⊎ IsDigit c). in_word c cs w (subst (λ b. Follows b cs) (not_hyphen c w) f))
+    (λ (h : c ≡ 45). subst (λ k. Follows false (k ∷ cs)) (sym h) (at_hyphen cs (subst (λ b. Follows b cs) (is_hyphen c h) f)))
+    (i refl)
+
+letter_is : (begins : Bool) (k : ℕ) → k < 26 → character begins k ≡ 97 + k
+letter_is begins k h = grind (arith, nat_tests)
+
+digit_is : (k : ℕ) → 26 ≤ k → k < 36 → character false k ≡ 48 + (k - 26)
+digit_is k g h = grind (arith, nat_tests)
+
+hyphen_is : (k : ℕ) → 36 ≤ k → character false k ≡ 45
+hyphen_is k h = grind (arith, nat_tests)
+
+begun_is_letter : (k : ℕ) → k < 37 → IsLetter (character true k)
+begun_is_letter k h = (grind (arith, nat_tests), grind (arith, nat_tests))
+
+inside_is : (k : ℕ) → k < 37 → (IsLetter (character false k) ⊎ IsDigit (character false k)) ⊎ (character false k ≡ 45)
+inside_is k h =
+    ⊎_elim
+    (λ (lt : k < 26). let e = letter_is false k lt in inl (inl (omega (arith, e), omega (arith, e))))
+    (λ (ge : 26 ≤ k).
+    ⊎_elim
+    (λ (lt : k < 36). let e = digit_is k ge lt in inl (inr (omega (arith, e), omega (arith, e))))
+    (λ (above : 36 ≤ k). inr (hyphen_is k above))
+    (cases_lt k 36))
+    (cases_lt k 26)
+
+characters_follow : (begins : Bool) {bytes ks rest : List ℕ} → ReadsEach 37 bytes ks rest → Follows begins (characters begins ks)
+characters_follow true none = word {cs = 97 ∷ []} ((omega arith, omega arith), tt)
+characters_follow false none = inl tt
+characters_follow true (next {k = k} {ks = ks} r rs) =
+    step_name true (character true k) (characters (nat_eq (character true k) 45) ks) (λ _. begun_is_letter k r.below) (λ e. absurd (cc e)) (characters_follow (nat_eq (character true k) 45) rs)
+characters_follow false (next {k = k} {ks = ks} r rs) =
+    step_name false (character false k) (characters (nat_eq (character false k) 45) ks) (λ e. absurd (cc e)) (λ _. inside_is k r.below) (characters_follow (nat_eq (character false k) 45) rs)
+
+-- one character behind
+pub spelt_pushed : (name pushed ks : List ℕ) (c r : ℕ) → r ≡ c → pushed ≡ name ++ r ∷ [] → name ++ c ∷ characters (nat_eq c 45) ks ≡ pushed ++ characters (nat_eq r 45) ks
+spelt_pushed name pushed ks c r e p =
+    sym (ap (λ b. b ++ characters (nat_eq r 45) ks) p ∙ (append_assoc name (r ∷ []) (characters (nat_eq r 45) ks) ∙ ap (λ d. name ++ d ∷ characters (nat_eq d 45) ks) e))
+
+pub kebab_counted : {max count place k : ℕ} {bytes after name rest choices : List ℕ} → count ≡ 0 + k → Reads (max - 0 + 1) bytes k after → length choices ≡ place + 0 → place ≡ count → ReadsEach 37 after choices rest → name ≡ characters true choices → ReadsKebab max bytes name rest
+kebab_counted {max} {count} {place} {k} {bytes} {after} {choices = choices} c r l p each n =
+    let same : max - 0 ≡ max = omega arith in
+    let many : k ≡ length choices = omega arith in
+    record {
+      after_count = after;
+      choices = choices;
+      counted = subst (λ m. Reads (m + 1) bytes (length choices) after) same (subst (λ j. Reads (max - 0 + 1) bytes j after) many r);
+      chosen = each;
+      spelt = n;
+    }
+
+-- a name that is read
+pub kebab_is_read : {max : ℕ} {bytes name rest : List ℕ} → ReadsKebab max bytes name rest → Kebab name
+kebab_is_read r = rw (r.spelt) (characters_follow true r.chosen)
+
+word_more : (cs ds : List ℕ) → AreInWord cs → AreInWord ds → AreInWord (cs ++ ds)
+word_more [] ds a b = b
+word_more (c ∷ cs) ds a b = (a.0, word_more cs ds a.1 b)
+
+begun_more : (cs ds : List ℕ) → IsWord cs → AreInWord ds → IsWord (cs ++ ds)
+begun_more [] ds a b = elim a [ ]
+begun_more (c ∷ cs) ds a b = (a.0, word_more cs ds a.1 b)
+
+-- a name goes on with digits
+pub kebab_more : (ds : List ℕ) {cs : List ℕ} → AreInWord ds → Kebab cs → Kebab (cs ++ ds)
+kebab_more ds b (word {cs = cs} w) = word (begun_more cs ds w b)
+kebab_more ds b (hyphen cs es w k) = rw append_assoc (hyphen cs (es ++ ds) w (kebab_more ds b k))
+
+kebab_appended : (text ds : List ℕ) → AreInWord ds → Kebab text → (n : ℕ) → Kebab (appended text ds n)
+kebab_appended text ds a k zero = k
+kebab_appended text ds a k (suc n) = kebab_more ds a (kebab_appended text ds a k n)
+
+pub digits_in_word : (n : ℕ) → n < 2 ^ 64 → AreInWord (decimal n)
+digits_in_word n h =
+    decimal_by_steps
+    (λ _ ds. AreInWord ds)
+    (λ k small. (inr (omega arith, omega arith), tt))
+    (λ k ds _ a. word_more ds ((48 + k % 10) ∷ []) a (inr (omega arith, omega arith), tt))
+    n
+    h
+
+pub kebab_is_kept : (has : List ℕ → Bool) (size : ℕ) (text name : List ℕ) → size < 2 ^ 64 → Kebab text → IsMadeUnique has size text name → Kebab name
+kebab_is_kept has size text name h k u = rw (u.name_is) (kebab_appended text (decimal size) (digits_in_word size h) k u.times)
+
+-- what is left, and that all is determined
+each_tail : {n : ℕ} {bytes ks rest : List ℕ} → ReadsEach n bytes ks rest → IsTail rest bytes
+each_tail (none {bytes = bytes}) = tail_same bytes
+each_tail (next r rs) = tail_trans (each_tail rs) (reads_tail r)
+
+pub kebab_tail : {max : ℕ} {bytes name rest : List ℕ} → ReadsKebab max bytes name rest → IsTail rest bytes
+kebab_tail r = tail_trans (each_tail r.chosen) (reads_tail r.counted)
+
+each_unique : {n : ℕ} {bytes other ks js left rest : List ℕ} → ReadsEach n bytes ks left → ReadsEach n other js rest → bytes ≡ other → length ks ≡ length js → (ks ≡ js) × (left ≡ rest)
+each_unique none none e l = (refl, e)
+each_unique none (next r rs) e l = absurd (omega (arith, l))
+each_unique (next r rs) none e l = absurd (omega (arith, l))
+each_unique {n = n} (next {bytes = bytes} {mid = mid} {k = k} {ks = ks} r rs) (next {bytes = other} {mid = amid} {k = j} {ks = js} s ss) e l =
+    let same = reads_unique r (subst (λ b. Reads n b j amid) (sym e) s) in
+    let first : k ≡ j = same.0 in
+    let others = each_unique rs ss same.1 (omega (arith, l)) in
+    let more : ks ≡ js = others.0 in
+    (cc, others.1)
+
+pub kebab_unique : {max : ℕ} {bytes a b left rest : List ℕ} → ReadsKebab max bytes a left → ReadsKebab max bytes b rest → (a ≡ b) × (left ≡ rest)
+kebab_unique r s =
+    let c = reads_unique r.counted s.counted in
+    let same = each_unique r.chosen s.chosen c.1 c.0 in
+    (r.spelt ∙ (ap (characters true) same.0 ∙ sym s.spelt), same.1)
+
+-- spelled names
+abbrev CodesFit : List ℕ → Type 0
+CodesFit [] = Unit {0}
+CodesFit (c ∷ cs) = (code c < 37) × CodesFit cs
+
+letter_code : (c : ℕ) → IsLetter c → (code c < 26) × (97 + code c ≡ c)
+letter_code c l = let e : code c ≡ c - 97 = grind (arith, nat_tests) in (omega (arith, e), omega (arith, e))
+
+digit_code : (c : ℕ) → IsDigit c → (26 ≤ code c) × (code c < 36) × (48 + (code c - 26) ≡ c)
+digit_code c d = let e : code c ≡ 26 + (c - 48) = grind (arith, nat_tests) in (omega (arith, e), omega (arith, e), omega (arith, e))
+
+begun_spelt : (c : ℕ) → IsLetter c → character true (code c) ≡ c
+begun_spelt c l = let k = letter_code c l in letter_is true (code c) k.0 ∙ k.1
+
+inside_spelt : (c : ℕ) → (IsLetter c ⊎ IsDigit c) → character false (code c) ≡ c
+inside_spelt c (inl l) = let k = letter_code c l in letter_is false (code c) k.0 ∙ k.1
+inside_spelt c (inr d) = let k = digit_code c d in digit_is (code c) k.0 k.1 ∙ k.2
+
+inside_fits : (c : ℕ) → (IsLetter c ⊎ IsDigit c) → code c < 37
+inside_fits c (inl l) = let k = letter_code c l in omega (arith, k.0)
+inside_fits c (inr d) = let k = digit_code c d in omega (arith, k.1)
+
+-- one choice in front
+spelt_more : (begins : Bool) (c : ℕ) (ks cs : List ℕ) → character begins (code c) ≡ c → (IsLetter c ⊎ IsDigit c) → characters false ks ≡ cs → characters begins (code c ∷ ks) ≡ c ∷ cs
+spelt_more begins c ks cs e l h = rw (e, not_hyphen c l) (ap (λ x. c ∷ x) h)
+
+word_spelt : (cs ks : List ℕ) → AreInWord cs → characters false (map code cs ++ ks) ≡ cs ++ characters false ks
+word_spelt [] ks a = refl
+word_spelt (c ∷ cs) ks a = spelt_more false c (map code cs ++ ks) (cs ++ characters false ks) (inside_spelt c a.0) a.0 (word_spelt cs ks a.1)
+
+begun_word_spelt : (cs ks : List ℕ) → IsWord cs → characters true (map code cs ++ ks) ≡ cs ++ characters false ks
+begun_word_spelt [] ks a = elim a [ ]
+begun_word_spelt (c ∷ cs) ks a = spelt_more true c (map code cs ++ ks) (cs ++ characters false ks) (begun_spelt c a.0) (inl a.0) (word_spelt cs ks a.1)
+
+name_spelt : {cs : List ℕ} → Kebab cs → characters true (map code cs) ≡ cs
+name_spelt (word {cs = cs} w) = ap (characters true) (sym (append-nil (map code cs))) ∙ (begun_word_spelt cs [] w ∙ append-nil cs)
+name_spelt (hyphen cs ds w k) =
+    ap (characters true) (map-append code cs (45 ∷ ds)) ∙ (begun_word_spelt cs (36 ∷ map code ds) w ∙ ap (λ x. cs ++ 45 ∷ x) (name_spelt k))
+
+word_fits : (cs : List ℕ) → AreInWord cs → CodesFit cs
+word_fits [] a = tt
+word_fits (c ∷ cs) a = (inside_fits c a.0, word_fits cs a.1)
+
+begun_fits : (cs : List ℕ) → IsWord cs → CodesFit cs
+begun_fits [] a = elim a [ ]
+begun_fits (c ∷ cs) a = (inside_fits c (inl a.0), word_fits cs a.1)
+
+fits_more : (cs ds : List ℕ) → CodesFit cs → CodesFit ds → CodesFit (cs ++ ds)
+fits_more [] ds a b = b
+fits_more (c ∷ cs) ds a b = (a.0, fits_more cs ds a.1 b)
+
+name_fits : {cs : List ℕ} → Kebab cs → CodesFit cs
+name_fits (word {cs = cs} w) = begun_fits cs w
+name_fits (hyphen cs ds w k) = fits_more cs (45 ∷ ds) (begun_fits cs w) (omega arith, name_fits k)
+
+each_read : (cs rest : List ℕ) → CodesFit cs → ReadsEach 37 (script_characters cs ++ rest) (map code cs) rest
+each_read [] rest f = none
+each_read (c ∷ cs) rest f =
+    rw (append_assoc (pick 37 (code c)) (script_characters cs) rest)
+    (next (reads-pick 37 (code c) (script_characters cs ++ rest) (omega arith) f.0) (each_read cs rest f.1))
+
+pub name_read : (max : ℕ) (name rest : List ℕ) → max < 2 ^ 64 → Kebab name → length name ≤ max → ReadsKebab max (script_name max name ++ rest) name rest
+name_read max name rest h k l =
+    let counted : Reads (max + 1) (pick (max + 1) (length name) ++ (script_characters name ++ rest)) (length name) (script_characters name ++ rest) =
+    reads-pick (max + 1) (length name) (script_characters name ++ rest) (omega arith) (omega arith) in
+    record {
+      after_count = script_characters name ++ rest;
+      choices = map code name;
+      counted = rw (append_assoc (pick (max + 1) (length name)) (script_characters name) rest, length-map name code) counted;
+      chosen = each_read name rest (name_fits k);
+      spelt = sym (name_spelt k);
+    }

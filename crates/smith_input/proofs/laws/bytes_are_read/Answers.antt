@@ -1,0 +1,5 @@
+use Rattle.smith_input.proofs.TextsLemmas.{bytes_read}
+use Rattle.smith_input.proofs.laws.bytes_are_read.Goals as goal
+
+pub returns : goal.returns
+returns c = bytes_read

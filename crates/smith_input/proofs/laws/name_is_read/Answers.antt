@@ -1,0 +1,5 @@
+use Rattle.smith_input.proofs.Kebabs.{name_read}
+use Rattle.smith_input.proofs.laws.name_is_read.Goals as goal
+
+pub returns : goal.returns
+returns c = name_read

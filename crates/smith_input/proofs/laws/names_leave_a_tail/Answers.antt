@@ -1,0 +1,5 @@
+use Rattle.smith_input.proofs.Kebabs.{kebab_tail}
+use Rattle.smith_input.proofs.laws.names_leave_a_tail.Goals as goal
+
+pub returns : goal.returns
+returns c max bytes name rest r = kebab_tail r

@@ -1,0 +1,5 @@
+use Rattle.smith_input.proofs.Kebabs.{kebab_is_kept}
+use Rattle.smith_input.proofs.laws.unique_names_are_kebab.Goals as goal
+
+pub returns : goal.returns
+returns c = kebab_is_kept

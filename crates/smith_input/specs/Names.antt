@@ -1,0 +1,88 @@
+-- Names in kebab case, as they are read, made unique and spelled. They are the labels in small letters of Explainer.md,
+-- Import and Export Definitions: words of a small letter and then small letters or digits, joined by single hyphens.
+use Rattle.std.specs.Prelude.{◌≡◌, ℕ, zero, suc, ◌+◌, ◌-◌, ◌<◌, ◌≤◌, ◌⊎◌, ◌||◌, Bool, true, false, nat_eq, nat_lt, nat_le, if◌then◌else◌, List, [], ◌∷◌, ◌++◌, length, bytes_eq}
+use Rattle.std.specs.Fmt.{decimal}
+use Rattle.std.specs.BTreeSet.{BTreeSet, contains_text, btree_set_len}
+use Rattle.std.specs.declared.string.String.{String}
+use Rattle.smith_input.specs.Reading.{Reads, pick}
+
+-- a to z
+abbrev pub IsLetter : ℕ → Type 0
+IsLetter c = (97 ≤ c) × (c ≤ 122)
+
+-- 0 to 9
+abbrev pub IsDigit : ℕ → Type 0
+IsDigit c = (48 ≤ c) × (c ≤ 57)
+
+-- small letters and digits
+abbrev pub AreInWord : List ℕ → Type 0
+AreInWord [] = Unit {0}
+AreInWord (c ∷ cs) = (IsLetter c ⊎ IsDigit c) × AreInWord cs
+
+-- a small letter, and then small letters and digits
+abbrev pub IsWord : List ℕ → Type 0
+IsWord [] = ⊥
+IsWord (c ∷ cs) = IsLetter c × AreInWord cs
+
+-- one word, or a word, a hyphen and a name
+pub data Kebab : List ℕ → Type 0 where
+  word : {cs : List ℕ} → IsWord cs → Kebab cs
+  hyphen : (cs ds : List ℕ) → IsWord cs → Kebab ds → Kebab (cs ++ 45 ∷ ds)
+
+-- Choices among n, one read after another.
+pub data ReadsEach (n : ℕ) : List ℕ → List ℕ → List ℕ → Type 0 where
+  none : {bytes : List ℕ} → ReadsEach n bytes [] bytes
+  next : {bytes mid rest : List ℕ} {k : ℕ} {ks : List ℕ} → Reads n bytes k mid → ReadsEach n mid ks rest → ReadsEach n bytes (k ∷ ks) rest
+
+-- The character of a choice among 37, where a word must begin or goes on: 0 to 25 are a to z; 26 to 35 are
+-- 0 to 9, or a to j where a word must begin; 36 is a hyphen, or an a where a word must begin.
+abbrev pub character : Bool → ℕ → ℕ
+character begins k =
+    if nat_lt k 26 then 97 + k else (if nat_lt k 36 then (if begins then 97 + (k - 26) else 48 + (k - 26)) else (if begins then 97 else 45))
+
+-- The characters of the choices, where a word must begin or goes on at the first. A word must begin behind each
+-- hyphen; where one must begin behind the last choice, an a stands there.
+abbrev pub characters : Bool → List ℕ → List ℕ
+characters begins [] = if begins then 97 ∷ [] else []
+characters begins (k ∷ ks) = character begins k ∷ characters (nat_eq (character begins k) 45) ks
+
+-- A name in kebab case: a length of at most max is read, and a choice for each place. A word must begin at the first.
+-- The length is not cut to the bytes that are left.
+pub record ReadsKebab (max : ℕ) (bytes name rest : List ℕ) : Type 0 where
+  pub after_count : List ℕ
+  pub choices : List ℕ
+  pub counted : Reads (max + 1) bytes (length choices) after_count
+  pub chosen : ReadsEach 37 after_count choices rest
+  pub spelt : name ≡ characters true choices
+
+-- the text, and n times more behind it
+abbrev pub appended : List ℕ → List ℕ → ℕ → List ℕ
+appended text more zero = text
+appended text more (suc n) = appended text more n ++ more
+
+-- A text that was read is made a name that is none of the names that there are: their number is appended in
+-- decimal digits, again and again while what stands so far is one of them.
+pub record IsMadeUnique (has : List ℕ → Bool) (size : ℕ) (text name : List ℕ) : Type 0 where
+  pub times : ℕ
+  pub name_is : name ≡ appended text (decimal size) times
+  pub taken : (n : ℕ) → n < times → has (appended text (decimal size) n) ≡ true
+  pub is_new : has name ≡ false
+
+-- The set gains the name, and nothing else changes.
+pub record Gains {A : Type 0} (old new : BTreeSet (String A)) (name : List ℕ) : Type 0 where
+  pub has : (q : List ℕ) → contains_text new q ≡ (bytes_eq name q || contains_text old q)
+  pub size : btree_set_len new ≡ btree_set_len old + 1
+
+-- the choice that gives a character of a name in kebab case where it stands: a to z are 0 to 25, 0 to 9 are 26 to 35,
+-- and a hyphen is 36
+abbrev pub code : ℕ → ℕ
+code c = if nat_le 97 c then c - 97 else (if nat_le 48 c then 26 + (c - 48) else 36)
+
+-- the choices of a name's characters
+abbrev pub script_characters : List ℕ → List ℕ
+script_characters [] = []
+script_characters (c ∷ cs) = pick 37 (code c) ++ script_characters cs
+
+-- a name's length and the choices of its characters, max being below 2 ^ 64
+abbrev pub script_name : ℕ → List ℕ → List ℕ
+script_name max name = pick (max + 1) (length name) ++ script_characters name

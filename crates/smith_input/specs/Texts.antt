@@ -1,0 +1,38 @@
+-- Bytes of any length and texts of a limited length, as they are read, and how they are spelled.
+use Rattle.std.specs.Prelude.{◌≡◌, ℕ, ◌+◌, ◌<◌, ◌≤◌, true, false, List, [], ◌∷◌, ◌++◌, length, take, drop, slice_index}
+use Rattle.std.specs.Str.{IsUtf8}
+use Rattle.smith_input.specs.Reading.{Reads, Flips, pick}
+
+-- One byte is read, zero past the end.
+pub record ReadsByte (bytes : List ℕ) (value : ℕ) (rest : List ℕ) : Type 0 where
+  pub value_is : value ≡ slice_index bytes 0
+  pub left : rest ≡ drop 1 bytes
+
+-- Bytes of any length: a byte follows each true truth value, up to the first false one.
+pub data ReadsBytes : List ℕ → List ℕ → List ℕ → Type 0 where
+  ends : {bytes rest : List ℕ} → Flips bytes false rest → ReadsBytes bytes [] rest
+  follows : {bytes mid low rest : List ℕ} {value : ℕ} {values : List ℕ} → Flips bytes true mid → ReadsByte mid value low → ReadsBytes low values rest → ReadsBytes bytes (value ∷ values) rest
+
+-- The text is a front of the bytes that is UTF-8, and no longer front is.
+pub record IsLongestText (bytes text : List ℕ) : Type 0 where
+  pub utf8 : IsUtf8 text
+  pub front : text ≡ take (length text) bytes
+  pub longest : (n : ℕ) → length text < n → n ≤ length bytes → ¬ (IsUtf8 (take n bytes))
+
+-- A text of at most max bytes: a length is read, and the longest text that begins so many next bytes, or all
+-- that are left where they are fewer, is taken. The others stay unread.
+pub record ReadsText (max : ℕ) (bytes text rest : List ℕ) : Type 0 where
+  pub count : ℕ
+  pub after_count : List ℕ
+  pub counted : Reads (max + 1) bytes count after_count
+  pub longest : IsLongestText (take count after_count) text
+  pub left : rest ≡ drop (length text) after_count
+
+-- a truth value before each byte, and one at the end
+abbrev pub script_bytes : List ℕ → List ℕ
+script_bytes [] = 0 ∷ []
+script_bytes (x ∷ xs) = 1 ∷ x ∷ script_bytes xs
+
+-- the text behind its length, max being below 2 ^ 64
+abbrev pub script_text : ℕ → List ℕ → List ℕ
+script_text max text = pick (max + 1) (length text) ++ text

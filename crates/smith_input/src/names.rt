@@ -1,0 +1,122 @@
+//! Names that are read, and are new to a set of names.
+
+ghost use Rattle.std.specs.Prelude.{◌≡◌, ℕ, ◌<◌, List, codes, string_bytes, ◌++◌, IfOk, IfErr, OnErr};
+ghost use Rattle.std.specs.BTreeSet.{contains_text, btree_set_len};
+ghost use Rattle.smith_input.specs.Reading.{IsTail};
+ghost use Rattle.smith_input.specs.Texts.{ReadsText};
+ghost use Rattle.smith_input.specs.Names.{Kebab, character, ReadsKebab, IsMadeUnique, Gains};
+
+use crate::{Error, Unstructured, limited_string};
+use std::alloc::Global;
+use std::collections::BTreeSet;
+
+// The character of a choice among 37, where a word must begin or goes on.
+fn kebab_character(choice: u8, begins: bool) -> u8
+    requires { choice < 37 }
+    ensures { result ≡ character begins choice }
+{
+    match choice {
+        0..=25 => b'a' + choice,
+        26..=35 if begins => b'a' + (choice - 26),
+        26..=35 => b'0' + (choice - 26),
+        _ if begins => b'a',
+        _ => b'-',
+    }
+}
+
+// A name in kebab case.
+fn kebab_string(alloc: Global, max: usize, u: &mut Unstructured) -> Result<String, Error>
+    ensures read { IfOk result (λ name. ReadsKebab max u.old (string_bytes name) u.new) }
+    ensures memory { IfErr result (λ e. e ≡ Error.OutOfMemory) }
+    ensures tail { IsTail u.new u.old }
+{
+    let mut name = String::new(alloc);
+    let mut begins = true;
+    let count = u.int_in_range(0, max as u64);
+    for _place in 0..count {
+        let character = kebab_character(u.choose_index(37) as u8, begins);
+        begins = character == b'-';
+        name.push(char::from(character))?;
+    }
+    if begins {
+        name.push('a')?;
+    }
+    Ok(name)
+}
+
+// The name, with the digits of the set's size at its end while the set has it.
+fn made_unique(alloc: Global, name: String, names: &BTreeSet<String>) -> Result<String, Error>
+    ensures unique { IfOk result (λ unique. IsMadeUnique (contains_text names.now) (btree_set_len names.now) (string_bytes name) (string_bytes unique)) }
+    ensures kebab { IfOk result (λ unique. Kebab (string_bytes name) → Kebab (string_bytes unique)) }
+    ensures memory { IfErr result (λ e. e ≡ Error.OutOfMemory) }
+{
+    // The set's size stays as it is here, so the same digits are appended each time.
+    let mut unique = name;
+    while names.contains(unique.as_str()) {
+        let digits = names.len().to_string(alloc)?;
+        unique.push_str(digits.as_str())?;
+    }
+    Ok(unique)
+}
+
+/// A text that was not in the set, and is in it then: one of at most `max` bytes is read, and while the set has
+/// it, the decimal digits of the set's size are appended. So it may be longer than `max`. The error is
+/// `OutOfMemory` alone, and the set is then as before.
+pub fn unique_string(
+    alloc: Global,
+    max: usize,
+    names: &mut BTreeSet<String>,
+    u: &mut Unstructured,
+) -> Result<String, Error>
+    ensures read { IfOk result (λ name. (text : List ℕ) × ReadsText max u.old text u.new × IsMadeUnique (contains_text names.old) (btree_set_len names.old) text (string_bytes name)) }
+    ensures gained { IfOk result (λ name. Gains names.old names.new (string_bytes name)) }
+    ensures refused { OnErr result (names.new.keys ≡ names.old.keys) }
+    ensures memory { IfErr result (λ e. e ≡ Error.OutOfMemory) }
+    ensures tail { IsTail u.new u.old }
+{
+    let name = made_unique(alloc, limited_string(alloc, max, u)?, names)?;
+    names.insert(name.clone()?)?;
+    Ok(name)
+}
+
+/// A name in kebab case that was not in the set, and is in it then: one of at most `max` characters is read,
+/// with an `a` more at its end where a word is missing there, and while the set has it, the decimal digits of
+/// the set's size are appended. So it may be longer than `max`. The error is `OutOfMemory` alone, and the set
+/// is then as before.
+pub fn unique_kebab_string(
+    alloc: Global,
+    max: usize,
+    names: &mut BTreeSet<String>,
+    u: &mut Unstructured,
+) -> Result<String, Error>
+    ensures read { IfOk result (λ name. (text : List ℕ) × ReadsKebab max u.old text u.new × IsMadeUnique (contains_text names.old) (btree_set_len names.old) text (string_bytes name)) }
+    ensures kebab { IfOk result (λ name. Kebab (string_bytes name)) }
+    ensures gained { IfOk result (λ name. Gains names.old names.new (string_bytes name)) }
+    ensures refused { OnErr result (names.new.keys ≡ names.old.keys) }
+    ensures memory { IfErr result (λ e. e ≡ Error.OutOfMemory) }
+    ensures tail { IsTail u.new u.old }
+{
+    let name = made_unique(alloc, kebab_string(alloc, max, u)?, names)?;
+    names.insert(name.clone()?)?;
+    Ok(name)
+}
+
+/// A URL: `https://example.com/` and a name in kebab case that was not in the set, read and made unique as by
+/// `unique_kebab_string`. The set has the name alone then, without what stands in front of it. The error is
+/// `OutOfMemory` alone, and the set is then as before.
+pub fn unique_url(
+    alloc: Global,
+    max: usize,
+    names: &mut BTreeSet<String>,
+    u: &mut Unstructured,
+) -> Result<String, Error>
+    ensures read { IfOk result (λ url. (text name : List ℕ) × (string_bytes url ≡ codes "https://example.com/" ++ name) × ReadsKebab max u.old text u.new × IsMadeUnique (contains_text names.old) (btree_set_len names.old) text name × Kebab name × Gains names.old names.new name) }
+    ensures refused { OnErr result (names.new.keys ≡ names.old.keys) }
+    ensures memory { IfErr result (λ e. e ≡ Error.OutOfMemory) }
+    ensures tail { IsTail u.new u.old }
+{
+    let path = made_unique(alloc, kebab_string(alloc, max, u)?, names)?;
+    let url = format!(in alloc; "https://example.com/{path}")?;
+    names.insert(path)?;
+    Ok(url)
+}

@@ -1,0 +1,46 @@
+//! Bytes and texts that are read.
+
+ghost use Rattle.std.specs.Prelude.{◌≡◌, string_bytes, IfOk, IfErr};
+ghost use Rattle.smith_input.specs.Reading.{IsTail};
+ghost use Rattle.smith_input.specs.Texts.{ReadsBytes, IsLongestText, ReadsText};
+
+use crate::{Error, Unstructured};
+use std::alloc::Global;
+use std::str;
+
+/// Bytes of any length: while a truth value is true, one byte follows. The error is `OutOfMemory` alone.
+pub fn arbitrary_bytes(alloc: Global, u: &mut Unstructured) -> Result<Vec<u8>, Error>
+    ensures read { IfOk result (λ bytes. ReadsBytes u.old bytes.items u.new) }
+    ensures memory { IfErr result (λ e. e ≡ Error.OutOfMemory) }
+    ensures tail { IsTail u.new u.old }
+{
+    let mut bytes = Vec::new(alloc);
+    while u.arbitrary_bool() {
+        bytes.push(u.arbitrary_u8())?;
+    }
+    Ok(bytes)
+}
+
+// The longest front that is UTF-8.
+fn longest_text(bytes: &[u8]) -> &str
+    ensures { IsLongestText bytes.now result.now }
+{
+    match str::from_utf8(bytes) {
+        Ok(text) => text,
+        Err(error) => str::from_utf8(&bytes[..error.valid_up_to()]).unwrap_or(""),
+    }
+}
+
+/// A text of at most `max` bytes: a length, cut to the number of bytes left, and the longest front of so many
+/// next bytes that is UTF-8. The rest of them stays unread. The error is `OutOfMemory` alone.
+pub fn limited_string(alloc: Global, max: usize, u: &mut Unstructured) -> Result<String, Error>
+    ensures read { IfOk result (λ text. ReadsText max u.old (string_bytes text) u.new) }
+    ensures memory { IfErr result (λ e. e ≡ Error.OutOfMemory) }
+    ensures tail { IsTail u.new u.old }
+{
+    let count = u.int_in_range(0, max as u64) as usize;
+    let left = u.left();
+    let text = longest_text(&left[..count.min(left.len())]);
+    u.skip(text.len());
+    Ok(String::from_str(alloc, text)?)
+}
