@@ -1,3 +1,4 @@
+pub mod CustomLemmas
 pub mod FollowsLemmas
 pub mod FormedLemmas
 pub mod Grows

@@ -6,10 +6,12 @@ use Rattle.std.proofs.lemmas.Option.{slice_get_within}
 use Rattle.smith_input.specs.Reading.{Reads, pick}
 use Rattle.smith_input.proofs.Picks.{reads-pick, pick-byte}
 use Rattle.smith_core.specs.declared.config.Config.{Config}
+use Rattle.std.specs.List.{AllByRecursion}
+use Rattle.smith_input.specs.Texts.{script_text, script_bytes}
 use Rattle.smith_types.specs.Entries.{Entry}
 use Rattle.smith_types.specs.Scope.{Scope}
 use Rattle.smith_types.specs.Script.{script_end}
-use Rattle.smith_component.specs.Tree.{Tree, ends, first, Part, custom, core_module, core_types, component, types, canons, imports, add, join, types_of, core_types_of, own, types_in, imports_in, canons_in, inside}
+use Rattle.smith_component.specs.Tree.{Tree, ends, first, Part, custom, core_module, core_types, component, types, canons, imports, add, join, types_of, core_types_of, own, types_in, imports_in, canons_in, inside, names_in}
 use Rattle.smith_component.specs.WellFormed.{Formed, scope_of}
 use Rattle.smith_component.specs.Scopes.{scopes_in}
 use Rattle.smith_component.specs.Turn.{Open, Next, building, answered, Chooses, Closes, more_items, is_module_offered, is_component_offered, tree_so_far, with_part, root}
@@ -17,8 +19,8 @@ use Rattle.smith_component.specs.Limits.{OwnLimits, Limits}
 use Rattle.smith_component.specs.Scripted.{Follows, Scripts}
 use Rattle.smith_component.specs.Script.{item_total, script_from, script_types, script, IsPlan, Within}
 use Rattle.smith_component.specs.declared.item.Item.{Item}
-use Rattle.smith_component.specs.declared.item.Item.TheVariants.{Finish, CoreTypes, Types, Imports, Canonical, Component}
-use Rattle.smith_component.proofs.Grows.{join-ends, join-add, tree_so_far-close, depth-so_far, depth-outer, length-own-add, all_before, all_inner}
+use Rattle.smith_component.specs.declared.item.Item.TheVariants.{Finish, Custom, CoreTypes, Types, Imports, Canonical, Component}
+use Rattle.smith_component.proofs.Grows.{all_back, all_before, all_inner, depth-outer, depth-so_far, join-add, join-ends, length-own-add, own-add, tree_so_far-close}
 use Rattle.smith_component.proofs.SoundLemmas.{own_limits-front, own_limits_swap, length-inside-so_far, length-modules-so_far, scopes_from-snoc}
 use Rattle.smith_component.proofs.TurnLemmas.{items_some, not_empty, last_same}
 
@@ -37,11 +39,11 @@ chooses_pick config outer inner place item rest e =
     subst P (sym byte) (record { place = place; reads = subst Q byte (reads-pick n place rest (omega (arith, some.1)) below); named = e })
 
 -- what stands at each place
-front_items : (m c : Bool) → (slice_get (more_items m c) 0 ≡ Some Finish) × (slice_get (more_items m c) 2 ≡ Some CoreTypes) × (slice_get (more_items m c) 3 ≡ Some Types) × (slice_get (more_items m c) 4 ≡ Some Imports) × (slice_get (more_items m c) 5 ≡ Some Canonical)
-front_items true true = (refl, refl, refl, refl, refl)
-front_items true false = (refl, refl, refl, refl, refl)
-front_items false true = (refl, refl, refl, refl, refl)
-front_items false false = (refl, refl, refl, refl, refl)
+front_items : (m c : Bool) → (slice_get (more_items m c) 0 ≡ Some Finish) × (slice_get (more_items m c) 2 ≡ Some CoreTypes) × (slice_get (more_items m c) 3 ≡ Some Types) × (slice_get (more_items m c) 4 ≡ Some Imports) × (slice_get (more_items m c) 5 ≡ Some Canonical) × (slice_get (more_items m c) 1 ≡ Some Custom)
+front_items true true = (refl, refl, refl, refl, refl, refl)
+front_items true false = (refl, refl, refl, refl, refl, refl)
+front_items false true = (refl, refl, refl, refl, refl, refl)
+front_items false false = (refl, refl, refl, refl, refl, refl)
 
 last_item : (m c : Bool) → c ≡ true → slice_get (more_items m c) (length (more_items m c) - 1) ≡ Some Component
 last_item true true e = refl
@@ -103,6 +105,10 @@ module _ (config : Config) (outer : List Tree) (before : Tree) (next : Next) (le
         ),
       )
 
+-- a name that is short enough
+abbrev Fits : List ℕ → Type 0
+Fits name = length name ≤ 1000
+
 -- what holds behind one part more
 limits_past : (p : Part) (t : Tree) (config : Config) (outer : List Tree) (before : Tree) → Limits config (tree_so_far outer (join before (first p t))) → Limits config (tree_so_far outer (join (add before p) t))
 limits_past p t config outer before l = subst (λ x. Limits config (tree_so_far outer x)) (sym (join-add before p t)) l
@@ -110,6 +116,11 @@ limits_past p t config outer before l = subst (λ x. Limits config (tree_so_far 
 after_past : (p : Part) (t : Tree) (config : Config) (outer : List Tree) (before : Tree) (next : Next) (left : List ℕ) (k : ℕ) (rest : List ℕ)
     → ((n : Next) → Closes (record { outer = outer; inner = join before (first p t) }) n → Scripts config n rest next left k) → (n : Next) → Closes (record { outer = outer; inner = join (add before p) t }) n → Scripts config n rest next left k
 after_past p t config outer before next left k rest after n c = after n (subst (λ x. Closes (record { outer = outer; inner = x }) n) (join-add before p t) c)
+
+name_short : (config : Config) (outer : List Tree) (before : Tree) (name contents : List ℕ) → Limits config (tree_so_far outer (add before (custom name contents))) → length name ≤ 1000
+name_short config outer before name contents l =
+    let o = all_inner (OwnLimits config) outer (add before (custom name contents)) l.each in
+    (all_back Fits (own names_in before) (name ∷ []) (subst (AllByRecursion Fits) (own-add names_in before (custom name contents)) o.names)).0
 
 types_fit : (config : Config) (outer : List Tree) (before : Tree) (es : List Entry) → Limits config (tree_so_far outer (add before (types es))) → length (types_of before) + length es ≤ config.max_types
 types_fit config outer before es l =
@@ -129,7 +140,11 @@ reach_from ends config outer before rest next left k plan formed l after =
         after c.0 (subst P (sym (join-ends before)) c.1),
       ),
     )
-reach_from (first (custom name contents) t) config outer before rest next left k plan formed l after = absurd plan.0
+reach_from (first (custom name contents) t) config outer before rest next left k plan formed l after =
+    let p : Part = custom name contents in
+    adds config outer before next left p 1 Custom (script_text 1000 name ++ script_bytes contents) (script_from t config outer (add before p)) rest (front_items _ _).5
+    (name, contents, name_short config outer before name contents (limits_front t config outer (add before p) (limits_past p t config outer before l)), plan.0, refl, refl)
+    (reach_from t config outer (add before p) rest next left k plan.1 formed.1 (limits_past p t config outer before l) (after_past p t config outer before next left k rest after))
 reach_from (first (core_module text) t) config outer before rest next left k plan formed l after = absurd plan.0
 reach_from (first (core_types (x ∷ xs)) t) config outer before rest next left k plan formed l after = elim x [ ]
 reach_from (first (canons (x ∷ xs)) t) config outer before rest next left k plan formed l after = elim x [ ]

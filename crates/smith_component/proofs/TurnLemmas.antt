@@ -10,6 +10,7 @@ use Rattle.smith_component.specs.Limits.{max_depth}
 use Rattle.smith_component.specs.Turn.{Open, Next, building, answered, Turn, Closes, Does, more_items, is_module_offered, is_component_offered, with_part, todo, Falls}
 use Rattle.smith_component.specs.declared.item.Item.{Item}
 use Rattle.smith_component.specs.declared.item.Item.TheVariants.{Finish, Custom, CoreTypes, Types, Imports, Canonical, Module, Component}
+use Rattle.smith_component.proofs.CustomLemmas.{custom_tail}
 use Rattle.smith_component.proofs.ReadLemmas.{types_read_tail}
 use Rattle.smith_component.proofs.SoundLemmas.{component_offered_is}
 
@@ -57,7 +58,7 @@ part_length config stack next p e =
 -- How many components are open after an item, and how many bytes are left.
 does_length : (config : Config) (item : Item) (stack next : Open) (b r : List ℕ) → (item ≡ Component → is_component_offered config stack ≡ true) → length stack.outer + 1 ≤ max_depth config → Does config item stack b (building next) r → (length next.outer + 1 ≤ max_depth config) × (length r ≤ length b)
 does_length config Finish stack next b r e m (d, c) = (omega (arith, closes_length stack next c), omega (arith, ap length d))
-does_length config Custom stack next b r e m (d, c) = (omega (arith, part_length config stack next (custom [] []) c), omega (arith, ap length d))
+does_length config Custom stack next b r e m (name, contents, read, c) = (omega (arith, part_length config stack next (custom name contents) c), tail_length r b (custom_tail b name contents r read))
 does_length config CoreTypes stack next b r e m (a, more, c) = (omega (arith, part_length config stack next (core_types []) c), tail_length r b (more_tail more))
 does_length config Types stack next b r e m (xs, es, c) = (omega (arith, part_length config stack next (types xs) c), tail_length r b (types_read_tail xs config _ _ _ _ b r es))
 does_length config Imports stack next b r e m (a, more, c) = (omega (arith, part_length config stack next (imports []) c), tail_length r b (more_tail more))

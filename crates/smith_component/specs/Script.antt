@@ -1,7 +1,9 @@
 -- The input that a plan is read from.
 use Rattle.std.specs.Prelude.{ℕ, ◌+◌, ◌-◌, List, [], ◌∷◌, ◌++◌, length}
 use Rattle.std.specs.List.{AllByRecursion}
+use Rattle.std.specs.Str.{IsUtf8}
 use Rattle.smith_input.specs.Reading.{pick}
+use Rattle.smith_input.specs.Texts.{script_text, script_bytes}
 use Rattle.smith_core.specs.declared.config.Config.{Config}
 use Rattle.smith_types.specs.Entries.{Entry}
 use Rattle.smith_types.specs.Scope.{Scope, with_type}
@@ -29,7 +31,7 @@ abbrev mutual
   script_from (first p t) config outer before = script_part p config outer before ++ script_from t config outer (add before p)
 
   pub script_part : Part → Config → List Tree → Tree → List ℕ
-  script_part (custom name contents) config outer before = []
+  script_part (custom name contents) config outer before = pick (item_total config outer before) 1 ++ (script_text 1000 name ++ script_bytes contents)
   script_part (core_module text) config outer before = []
   script_part (core_types ts) config outer before = pick (item_total config outer before) 2 ++ script_end 0 (config.max_types - length (core_types_of before))
   script_part (component t) config outer before = pick (item_total config outer before) (item_total config outer before - 1) ++ script_from t config (outer ++ before ∷ []) ends
@@ -40,15 +42,15 @@ abbrev mutual
 abbrev pub script : Config → Tree → List ℕ
 script config plan = script_from plan config [] ends
 
--- A plan that scripts can say: type sections of nameless types for which the fuel lasts, sections without entries, and
--- components of these.
+-- A plan that scripts can say: custom sections, type sections of nameless types for which the fuel lasts, sections without
+-- entries, and components of these.
 abbrev mutual
   pub IsPlan : Config → Tree → Type 0
   IsPlan config ends = Unit {0}
   IsPlan config (first p t) = IsPlanPart config p × IsPlan config t
 
   pub IsPlanPart : Config → Part → Type 0
-  IsPlanPart config (custom name contents) = ⊥
+  IsPlanPart config (custom name contents) = IsUtf8 name
   IsPlanPart config (core_module text) = ⊥
   IsPlanPart config (core_types ts) = Unit {0}
   IsPlanPart config (component t) = IsPlan config t

@@ -1,13 +1,15 @@
 -- A turn of a script, and runs of such turns.
 use Rattle.std.specs.Prelude.{◌≡◌, ℕ, ◌+◌, ◌-◌, ◌≤◌, zero, suc, List, [], ◌++◌, length}
 use Rattle.std.specs.List.{AllByRecursion}
+use Rattle.std.specs.Str.{IsUtf8}
+use Rattle.smith_input.specs.Texts.{script_text, script_bytes}
 use Rattle.smith_core.specs.declared.config.Config.{Config}
 use Rattle.smith_types.specs.Entries.{Entry}
 use Rattle.smith_types.specs.Script.{script_end, Lasts}
 use Rattle.smith_types.specs.WellFormed.{FormedTypes}
 use Rattle.smith_component.specs.Script.{script_types}
 use Rattle.smith_component.specs.Scopes.{scopes_in}
-use Rattle.smith_component.specs.Tree.{Part, core_types, types, canons, imports, own, types_of, core_types_of, imports_in, canons_in}
+use Rattle.smith_component.specs.Tree.{Part, custom, core_types, types, canons, imports, own, types_of, core_types_of, imports_in, canons_in}
 use Rattle.smith_component.specs.Turn.{Open, Next, building, answered, Chooses, Closes, with_part, with_open}
 use Rattle.smith_component.specs.WellFormed.{scope_of}
 use Rattle.smith_component.specs.declared.item.Item.{Item}
@@ -20,7 +22,8 @@ EmptyScript max p stack b next rest = (b ≡ script_end 0 max ++ rest) × (next 
 -- What an item is to do on bytes that begin with its script.
 abbrev pub Follows : Config → Item → Open → List ℕ → Next → List ℕ → Type 0
 Follows config Finish stack b next rest = (rest ≡ b) × Closes stack next
-Follows config Custom stack b next rest = ⊥
+Follows config Custom stack b next rest =
+    (name contents : List ℕ) × (length name ≤ 1000) × IsUtf8 name × (b ≡ script_text 1000 name ++ script_bytes contents ++ rest) × (next ≡ with_part stack (custom name contents))
 Follows config CoreTypes stack b next rest = EmptyScript (config.max_types - length (core_types_of stack.inner)) (core_types []) stack b next rest
 Follows config Types stack b next rest =
     (xs : List Entry) × (length (types_of stack.inner) + length xs ≤ config.max_types) × FormedTypes xs (scope_of stack.inner) (scopes_in stack.outer) × AllByRecursion (Lasts config.max_type_size) xs

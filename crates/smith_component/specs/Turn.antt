@@ -1,6 +1,7 @@
 -- A turn of the builder, and runs of turns.
 use Rattle.std.specs.Prelude.{◌≡◌, ℕ, ◌+◌, ◌-◌, ◌≤◌, zero, suc, Bool, true, false, ◌&&◌, List, [], ◌∷◌, ◌++◌, length, slice_get, Some, nat_lt, ◌⊎◌}
 use Rattle.smith_input.specs.Reading.{Reads, More}
+use Rattle.smith_input.specs.Texts.{ReadsText, ReadsBytes}
 use Rattle.smith_core.specs.Module.{core_preamble}
 use Rattle.smith_core.specs.declared.config.Config.{Config}
 use Rattle.smith_types.specs.Entries.{Entry}
@@ -69,6 +70,10 @@ Closes stack next =
     ((stack.outer ≡ []) × (next ≡ answered stack.inner))
     ⊎ ((outers : List Tree) × (parent : Tree) × (stack.outer ≡ outers ++ parent ∷ []) × (next ≡ building (record { outer = outers; inner = add parent (component stack.inner) })))
 
+-- a custom section: a text of at most 1000 bytes, and then any bytes
+abbrev pub ReadsCustom : List ℕ → List ℕ → List ℕ → List ℕ → Type 0
+ReadsCustom b name contents rest = (mid : List ℕ) × ReadsText 1000 b name mid × ReadsBytes mid contents rest
+
 -- Entries of a type section, the loop having made so many turns of at most max: each has fresh fuel, and stands in the scopes
 -- that the entries before it leave.
 abbrev pub TypesRead : Config → List Scope → ℕ → Scope → ℕ → List ℕ → List Entry → List ℕ → Type 0
@@ -84,7 +89,7 @@ Empty max p stack b next rest = (answer : Bool) × More 0 0 max b answer rest ×
 -- what an item does on the bytes b
 abbrev pub Does : Config → Item → Open → List ℕ → Next → List ℕ → Type 0
 Does config Finish stack b next rest = (rest ≡ b) × Closes stack next
-Does config Custom stack b next rest = (rest ≡ b) × (next ≡ with_part stack (custom [] []))
+Does config Custom stack b next rest = (name contents : List ℕ) × ReadsCustom b name contents rest × (next ≡ with_part stack (custom name contents))
 Does config CoreTypes stack b next rest = Empty (config.max_types - length (core_types_of stack.inner)) (core_types []) stack b next rest
 Does config Types stack b next rest =
     (xs : List Entry) × TypesRead config (scopes_in stack.outer) (config.max_types - length (types_of stack.inner)) (scope_of stack.inner) 0 b xs rest × (next ≡ with_part stack (types xs))

@@ -93,7 +93,7 @@ impl Builder {
     {
         match self.choose_item(u) {
             Item::Finish => self.finish(),
-            Item::Custom => self.add_custom(),
+            Item::Custom => self.add_custom(u),
             Item::CoreTypes => self.add_core_types(u),
             Item::Types => self.add_types(u),
             Item::Imports => self.add_imports(u),

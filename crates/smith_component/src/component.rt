@@ -3,8 +3,10 @@
 ghost use Rattle.std.specs.Prelude.{◌≡◌};
 
 use smith_core::Module;
+use smith_input::{Error, Unstructured, arbitrary_bytes, limited_string};
 use smith_types::drops::drop_last_first;
 use smith_types::{CoreType, DefType, Import};
+use std::alloc::Global;
 use std::rc::Rc;
 
 /// A component: its sections in order. It is dropped from its last section to its first, so that the stack
@@ -82,6 +84,23 @@ impl Drop for TypeSection {
     fn drop(self) {
         let TypeSection { types } = self;
         drop_last_first(types);
+    }
+}
+
+impl CustomSection {
+    ghost use Rattle.std.specs.Prelude.{IfOk, IfErr, string_bytes};
+    ghost use Rattle.smith_input.specs.Reading.{IsTail};
+    ghost use Rattle.smith_component.specs.Turn.{ReadsCustom};
+
+    /// A text of at most 1000 bytes as the name, and then any bytes. It refuses for want of memory alone.
+    pub fn arbitrary(alloc: Global, u: &mut Unstructured) -> Result<CustomSection, Error>
+        ensures read { IfOk result (λ s. ReadsCustom u.old (string_bytes s.name) s.bytes.items u.new) }
+        ensures memory { IfErr result (λ e. e ≡ Error.OutOfMemory) }
+        ensures tail { IsTail u.new u.old }
+    {
+        let name = limited_string(alloc, 1000, u)?;
+        let bytes = arbitrary_bytes(alloc, u)?;
+        Ok(CustomSection { name, bytes })
     }
 }
 

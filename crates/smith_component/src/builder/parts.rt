@@ -10,10 +10,10 @@ ghost use Rattle.smith_component.specs.Building.{open_of};
 ghost use Rattle.smith_component.specs.Scripted.{Follows};
 ghost use Rattle.smith_component.specs.Shown.{shown_section};
 ghost use Rattle.smith_component.specs.Steps.{next_of, Keeps};
-ghost use Rattle.smith_component.specs.Tree.{add, custom, core_module};
+ghost use Rattle.smith_component.specs.Tree.{add, core_module};
 ghost use Rattle.smith_component.specs.Turn.{Next, Does, TypesRead, with_part, is_module_offered};
 ghost use Rattle.smith_component.specs.WellFormed.{scope_of};
-ghost use Rattle.smith_component.specs.declared.item.Item.TheVariants.{CoreTypes, Types, Imports, Canonical};
+ghost use Rattle.smith_component.specs.declared.item.Item.TheVariants.{Custom, CoreTypes, Types, Imports, Canonical};
 
 use crate::builder::{Builder, Step};
 use crate::component::{
@@ -71,17 +71,16 @@ impl Builder {
         Ok(Step::StillBuilding(builder))
     }
 
-    // A custom section without name and bytes.
-    pub(crate) fn add_custom(self) -> Result<Step, Error>
-        ensures added { IfOk result (λ s. next_of s ≡ with_part (open_of self) (custom [] [])) }
+    // A custom section that is read.
+    pub(crate) fn add_custom(self, u: &mut Unstructured) -> Result<Step, Error>
+        ensures added { IfOk result (λ s. Does self.config Custom (open_of self) u.old (next_of s) u.new) }
+        ensures follows { (n : Next) (rest : List ℕ) → Follows self.config Custom (open_of self) u.old n rest → IfOk result (λ s. (next_of s ≡ n) × (u.new ≡ rest)) }
         ensures keeps { IfOk result (Keeps self.config) }
         ensures memory { IfErr result (λ e. e ≡ Error.OutOfMemory) }
+        ensures tail { IsTail u.new u.old }
     {
-        let alloc = self.alloc;
-        self.add_section(Section::Custom(CustomSection {
-            name: String::new(alloc),
-            bytes: Vec::new(alloc),
-        }))
+        let section = CustomSection::arbitrary(self.alloc, u)?;
+        self.add_section(Section::Custom(section))
     }
 
     // A core module without sections.

@@ -10,7 +10,7 @@ returns-in-Finish-clause-follows c n rest s =
     IfOk-weaker c.finish.result _ _ (λ r h. (closes_same _ _ _ h w.1, sym w.0)) c.finish.ensures.closes
 
 pub returns-in-Custom-clause-follows : goal.returns-in-Custom-clause-follows
-returns-in-Custom-clause-follows c n rest s = absurd (wanted _ _ _ _ _ n rest c.in-Custom.ensures.chooses s)
+returns-in-Custom-clause-follows c n rest s = c.add_custom.ensures.follows n rest (wanted _ _ _ _ _ n rest c.in-Custom.ensures.chooses s)
 
 pub returns-in-Module-clause-follows : goal.returns-in-Module-clause-follows
 returns-in-Module-clause-follows c n rest s = absurd (wanted _ _ _ _ _ n rest c.in-Module.ensures.chooses s)
