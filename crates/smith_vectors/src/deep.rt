@@ -5,9 +5,13 @@ use std::test::Fail;
 
 #[test]
 fn a_million_sections_are_dropped(rt: HostRuntime) -> Result<(), Fail> {
-    let input = vec![in rt.alloc(); 1u8; 1_000_000]?;
+    let config = Config {
+        max_imports: 0,
+        ..Config::default()
+    };
+    let input = vec![in rt.alloc(); 4u8; 1_000_000]?;
     let mut u = Unstructured::new(&input);
-    let component = Component::arbitrary(rt.alloc(), &mut u)?;
+    let component = Component::new(rt.alloc(), config, &mut u)?;
     assert_eq!(rt; component.sections().len(), 1_000_000);
     Ok(())
 }

@@ -6,9 +6,13 @@ mod common;
 #[cfg(test)]
 mod components;
 #[cfg(test)]
+mod custom;
+#[cfg(test)]
 mod deep;
 #[cfg(test)]
 mod limits;
+#[cfg(test)]
+mod names;
 #[cfg(test)]
 mod nested;
 #[cfg(test)]
