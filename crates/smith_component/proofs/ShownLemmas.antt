@@ -2,10 +2,10 @@
 use Rattle.std.proofs.Common.{◌≡◌, ℕ, ◌+◌, List, [], ◌∷◌, ◌++◌, map, ap, sym, length, ◌∙◌, refl, arith, string_bytes}
 use Rattle.smith_core.specs.declared.module.Module.{Module}
 use Rattle.smith_core.specs.Module.{module_text}
-use Rattle.smith_types.specs.Shown.{shown_shared, shown_shared_core, shown_import}
+use Rattle.smith_types.specs.Shown.{shown_shared}
 use Rattle.smith_component.specs.Tree.{Tree, first, Part, custom, core_module, core_types, component, types, canons, imports, types_in, types_of, add}
 use Rattle.smith_component.proofs.Grows.{length-own-add}
-use Rattle.smith_component.specs.Shown.{shown, shown_layer, shown_parts, shown_section, shown_sections, shown_func}
+use Rattle.smith_component.specs.Shown.{shown, shown_layer, shown_parts, shown_section, shown_sections}
 use Rattle.smith_component.specs.declared.component.Section.{Section}
 use Rattle.smith_component.specs.declared.component.Component.{Component}
 use Rattle.smith_component.specs.declared.component.CustomSection.{CustomSection}
@@ -28,16 +28,16 @@ shown_custom s = ap shown_section (sym (rolls-Custom s)) ∙ fold-roll-Section P
 pub shown_module : (m : Module) → shown_section (CoreModule m) ≡ core_module (module_text m)
 shown_module m = ap shown_section (sym (rolls-CoreModule m)) ∙ fold-roll-Section Part Tree shown_layer shown_parts (opened.CoreModule m)
 
-pub shown_core_types : (s : CoreTypeSection) → shown_section (CoreTypes s) ≡ core_types (map shown_shared_core s.types.items)
+pub shown_core_types : (s : CoreTypeSection) → shown_section (CoreTypes s) ≡ core_types []
 shown_core_types s = ap shown_section (sym (rolls-CoreTypes s)) ∙ fold-roll-Section Part Tree shown_layer shown_parts (opened.CoreTypes s)
 
 pub shown_types : (s : TypeSection) → shown_section (Types s) ≡ types (map shown_shared s.types.items)
 shown_types s = ap shown_section (sym (rolls-Types s)) ∙ fold-roll-Section Part Tree shown_layer shown_parts (opened.Types s)
 
-pub shown_canons : (s : CanonicalSection) → shown_section (Canonical s) ≡ canons (map shown_func s.funcs.items)
+pub shown_canons : (s : CanonicalSection) → shown_section (Canonical s) ≡ canons []
 shown_canons s = ap shown_section (sym (rolls-Canonical s)) ∙ fold-roll-Section Part Tree shown_layer shown_parts (opened.Canonical s)
 
-pub shown_imports : (s : ImportSection) → shown_section (Imports s) ≡ imports (map shown_import s.imports.items)
+pub shown_imports : (s : ImportSection) → shown_section (Imports s) ≡ imports []
 shown_imports s = ap shown_section (sym (rolls-Imports s)) ∙ fold-roll-Section Part Tree shown_layer shown_parts (opened.Imports s)
 
 pub shown_inner : (c : Component) → shown_section (Inner c) ≡ component (shown c)

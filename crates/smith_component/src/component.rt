@@ -4,8 +4,8 @@ ghost use Rattle.std.specs.Prelude.{◌≡◌};
 
 use smith_core::Module;
 use smith_input::{Error, Unstructured, arbitrary_bytes, limited_string};
+use smith_types::DefType;
 use smith_types::drops::drop_last_first;
-use smith_types::{CoreType, DefType, Import};
 use std::alloc::Global;
 use std::rc::Rc;
 
@@ -37,11 +37,9 @@ pub struct CustomSection {
     pub bytes: Vec<u8>,
 }
 
-/// Core types, each of which is the next entry among the component's core types.
-#[derive(Debug)]
-pub struct CoreTypeSection {
-    pub types: Vec<Rc<CoreType>>,
-}
+/// A section of core types. It has no entries so far.
+#[derive(Debug, Drop)]
+pub struct CoreTypeSection {}
 
 /// Types, each of which is the next entry among the component's types.
 #[derive(Debug)]
@@ -49,34 +47,19 @@ pub struct TypeSection {
     pub types: Vec<Rc<DefType>>,
 }
 
-/// Canonical functions.
+/// A section of canonical functions. It has no entries so far.
 #[derive(Debug, Drop)]
-pub struct CanonicalSection {
-    pub funcs: Vec<Func>,
-}
+pub struct CanonicalSection {}
 
-/// Imports.
+/// A section of imports. It has no entries so far.
 #[derive(Debug, Drop)]
-pub struct ImportSection {
-    pub imports: Vec<Import>,
-}
-
-/// A canonical function. None can be made so far.
-#[derive(Debug, Drop)]
-pub enum Func {}
+pub struct ImportSection {}
 
 impl Drop for Component {
     #[cycle(drop_component)]
     fn drop(self) {
         let Component { sections } = self;
         drop_last_first(sections);
-    }
-}
-
-impl Drop for CoreTypeSection {
-    fn drop(self) {
-        let CoreTypeSection { types } = self;
-        drop_last_first(types);
     }
 }
 

@@ -6,31 +6,24 @@ ghost use Rattle.std.specs.Prelude.{◌≡◌, ◌↔◌, ◌⊎◌, ℕ, ◌^�
 ghost use Rattle.smith_core.specs.Module.{module_text};
 ghost use Rattle.smith_core.specs.Piece.{Piece, ◌⊕◌, bytes, raw, text, many, sized};
 ghost use Rattle.smith_core.specs.Writing.{Puts, Takes, IsLengthOf, Measures};
-ghost use Rattle.smith_component.specs.Grammar.{canon, part, component_text, Spells};
-ghost use Rattle.smith_component.specs.Shown.{shown_func, shown_section, shown};
+ghost use Rattle.smith_component.specs.Grammar.{part, component_text, Spells};
+ghost use Rattle.smith_component.specs.Shown.{shown_section, shown};
 ghost use Rattle.smith_component.specs.Tree.{Tree};
 
-use crate::component::{Component, CustomSection, Func, Section};
+use crate::component::{Component, CustomSection, Section};
 use smith_core::Module;
 use smith_core::numbers::u32_len;
-use smith_core::pieces::{raw_len, text_len, write_bytes, write_head, write_raw, write_text};
+use smith_core::pieces::{
+    raw_len, text_len, write_bytes, write_head, write_raw, write_section, write_text,
+};
 use smith_input::Error;
 use smith_types::encode::{Spelled, many_len, put_many};
 use std::alloc::Global;
 
 const PREAMBLE: [u8; 8] = [0x00, 0x61, 0x73, 0x6d, 0x0d, 0x00, 0x01, 0x00];
 
-impl Spelled for Func {
-    ghost piece = { λ f. canon (shown_func f) };
-
-    fn put(&self, _out: &mut Vec<u8>) -> Result<(), Error> {
-        match *self {}
-    }
-
-    fn spelled_len(&self) -> Option<u32> {
-        match *self {}
-    }
-}
+// The contents of a section without entries: a count of zero.
+const NO_ENTRIES: [u8; 1] = [0x00];
 
 // The length of a custom section's contents.
 fn custom_len(section: &CustomSection) -> Option<u32>
@@ -40,10 +33,10 @@ fn custom_len(section: &CustomSection) -> Option<u32>
     name.checked_add(raw_len(&section.bytes)?)
 }
 
-fn module_len(module: &Module) -> Option<u32>
-    ensures { IsLengthOf result (bytes (module_text module.now)) }
+fn module_len(embedded: &Module) -> Option<u32>
+    ensures { IsLengthOf result (bytes (module_text embedded.now)) }
 {
-    u32::try_from(module.measure().ok()?).ok()
+    u32::try_from(embedded.measure().ok()?).ok()
 }
 
 // The length of a section with contents of this length.
@@ -64,12 +57,12 @@ fn section_len(section: &Section) -> Result<u128, Error>
 {
     match section {
         Section::Custom(section) => sized_len(custom_len(section)),
-        Section::CoreModule(module) => sized_len(module_len(module)),
-        Section::CoreTypes(section) => sized_len(many_len(&section.types)),
+        Section::CoreModule(embedded) => sized_len(module_len(embedded)),
+        Section::CoreTypes(_) => sized_len(raw_len(&NO_ENTRIES)),
         Section::Component(component) => sized_len(inner_len(component)),
         Section::Types(section) => sized_len(many_len(&section.types)),
-        Section::Canonical(section) => sized_len(many_len(&section.funcs)),
-        Section::Imports(section) => sized_len(many_len(&section.imports)),
+        Section::Canonical(_) => sized_len(raw_len(&NO_ENTRIES)),
+        Section::Imports(_) => sized_len(raw_len(&NO_ENTRIES)),
     }
 }
 
@@ -109,14 +102,14 @@ fn put_custom_contents(out: &mut Vec<u8>, section: &CustomSection) -> Result<(),
     write_raw(out, &section.bytes)
 }
 
-fn put_module(out: &mut Vec<u8>, module: &Module) -> Result<(), Error>
-    ensures { Puts result out.old out.new (sized 1 (bytes (module_text module.now))) }
+fn put_module(out: &mut Vec<u8>, embedded: &Module) -> Result<(), Error>
+    ensures { Puts result out.old out.new (sized 1 (bytes (module_text embedded.now))) }
 {
-    let Some(length) = module_len(module) else {
+    let Some(length) = module_len(embedded) else {
         return Err(Error::TooLong);
     };
     write_head(out, 1, length)?;
-    module.write(out)
+    embedded.write(out)
 }
 
 // A section that holds a list.
@@ -147,12 +140,12 @@ fn put_section(out: &mut Vec<u8>, section: &Section) -> Result<(), Error>
 {
     match section {
         Section::Custom(section) => put_custom(out, section),
-        Section::CoreModule(module) => put_module(out, module),
-        Section::CoreTypes(section) => put_listed(out, 3, &section.types),
+        Section::CoreModule(embedded) => put_module(out, embedded),
+        Section::CoreTypes(_) => write_section(out, 3, &NO_ENTRIES),
         Section::Component(component) => put_inner(out, component),
         Section::Types(section) => put_listed(out, 7, &section.types),
-        Section::Canonical(section) => put_listed(out, 8, &section.funcs),
-        Section::Imports(section) => put_listed(out, 10, &section.imports),
+        Section::Canonical(_) => write_section(out, 8, &NO_ENTRIES),
+        Section::Imports(_) => write_section(out, 10, &NO_ENTRIES),
     }
 }
 

@@ -2,7 +2,7 @@
 use Rattle.std.specs.Prelude.{map, Option, Some, None}
 use Rattle.std.specs.declared.alloc.Global.{Global}
 use Rattle.std.specs.declared.rc.Rc.{Rc}
-use Rattle.smith_types.specs.Entries.{Primitive, Val, Entry, CoreEntry, ImportEntry}
+use Rattle.smith_types.specs.Entries.{Primitive, Val, Entry}
 use Rattle.smith_types.specs.Entries.{bool, s8, u8, s16, u16, s32, u32, s64, u64, f32, f64, char, string, primitive, indexed, plain, listed, tuple, optional, outcome}
 use Rattle.smith_types.specs.declared.types.PrimitiveValType.{PrimitiveValType}
 use Rattle.smith_types.specs.declared.types.PrimitiveValType.TheVariants as prim
@@ -12,8 +12,6 @@ use Rattle.smith_types.specs.declared.types.DefinedType.{DefinedType}
 use Rattle.smith_types.specs.declared.types.DefinedType.TheVariants as defined
 use Rattle.smith_types.specs.declared.types.DefType.{DefType}
 use Rattle.smith_types.specs.declared.types.DefType.TheVariants as def
-use Rattle.smith_types.specs.declared.types.CoreType.{CoreType}
-use Rattle.smith_types.specs.declared.types.Import.{Import}
 
 abbrev pub shown_primitive : PrimitiveValType → Primitive
 shown_primitive prim.Bool = bool
@@ -48,15 +46,6 @@ shown_defined (defined.Result t) = outcome (shown_maybe t.ok_ty) (shown_maybe t.
 abbrev pub shown_type : DefType → Entry
 shown_type (def.Defined d) = shown_defined d
 
-abbrev pub shown_core_type : CoreType → CoreEntry
-shown_core_type t = elim t [ ]
-
-abbrev pub shown_import : Import → ImportEntry
-shown_import i = elim i [ ]
-
 -- what a shared type shows
 abbrev pub shown_shared : Rc DefType Global → Entry
 shown_shared t = shown_type t.value
-
-abbrev pub shown_shared_core : Rc CoreType Global → CoreEntry
-shown_shared_core t = shown_core_type t.value

@@ -7,10 +7,10 @@ mod lists;
 ghost use Rattle.std.specs.Prelude.{◌≡◌, ◌≤◌, ℕ, map};
 ghost use Rattle.smith_core.specs.Piece.{Piece, ◌⊕◌, byte, s_index, u, many, text};
 ghost use Rattle.smith_core.specs.Writing.{Puts, Appends, Takes, IsLengthOf};
-ghost use Rattle.smith_types.specs.Grammar.{primitive_byte, val, maybe_val, entry, core_entry, import_entry};
-ghost use Rattle.smith_types.specs.Shown.{shown_primitive, shown_val, shown_maybe, shown_defined, shown_type, shown_core_type, shown_import};
+ghost use Rattle.smith_types.specs.Grammar.{primitive_byte, val, maybe_val, entry};
+ghost use Rattle.smith_types.specs.Shown.{shown_primitive, shown_val, shown_maybe, shown_defined, shown_type};
 
-use crate::types::{ComponentValType, CoreType, DefType, DefinedType, Import, PrimitiveValType};
+use crate::types::{ComponentValType, DefType, DefinedType, PrimitiveValType};
 pub use lists::{Spelled, many_len, put_many};
 use smith_core::numbers::{type_index_len, write_type_index};
 use smith_core::pieces::{settled, write_byte};
@@ -140,32 +140,4 @@ pub fn type_len(ty: &DefType) -> Option<u32>
     match ty {
         DefType::Defined(ty) => defined_len(ty),
     }
-}
-
-/// Appends a core type.
-pub fn write_core_type(_out: &mut Vec<u8>, ty: &CoreType) -> Result<(), Error>
-    ensures { Appends result _out.old _out.new (core_entry (shown_core_type ty.now)) }
-{
-    match *ty {}
-}
-
-/// The length of a core type's spelling; None exactly where it has none of at most 4,294,967,295 bytes.
-pub fn core_type_len(ty: &CoreType) -> Option<u32>
-    ensures { IsLengthOf result (core_entry (shown_core_type ty.now)) }
-{
-    match *ty {}
-}
-
-/// Appends an import.
-pub fn write_import(_out: &mut Vec<u8>, import: &Import) -> Result<(), Error>
-    ensures { Appends result _out.old _out.new (import_entry (shown_import import.now)) }
-{
-    match *import {}
-}
-
-/// The length of an import's spelling; None exactly where it has none of at most 4,294,967,295 bytes.
-pub fn import_len(import: &Import) -> Option<u32>
-    ensures { IsLengthOf result (import_entry (shown_import import.now)) }
-{
-    match *import {}
 }

@@ -8,10 +8,10 @@ pub mod make;
 pub mod scopes;
 pub mod types;
 
-pub use encode::{core_type_len, import_len, type_len, write_core_type, write_import, write_type};
+pub use encode::{type_len, write_type};
 pub use make::arbitrary_type;
 pub use scopes::{Kind, Scopes};
 pub use types::{
-    ComponentValType, CoreType, DefType, DefinedType, Import, ListType, OptionType,
-    PrimitiveValType, ResultType, TupleType,
+    ComponentValType, DefType, DefinedType, ListType, OptionType, PrimitiveValType, ResultType,
+    TupleType,
 };

@@ -66,11 +66,3 @@ pub enum DefinedType {
 pub enum DefType {
     Defined(DefinedType),
 }
-
-/// A core type that a component declares. None can be made so far.
-#[derive(Debug, Drop)]
-pub enum CoreType {}
-
-/// What a component imports. Nothing can be imported so far.
-#[derive(Debug, Drop)]
-pub enum Import {}

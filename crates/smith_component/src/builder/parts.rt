@@ -102,8 +102,7 @@ impl Builder {
         ensures tail { IsTail u.new u.old }
     {
         u.more(0, 0, self.config.max_types);
-        let types = Vec::new(self.alloc);
-        self.add_section(Section::CoreTypes(CoreTypeSection { types }))
+        self.add_section(Section::CoreTypes(CoreTypeSection {}))
     }
 
     // An empty import section. Its loop ends whatever comes.
@@ -115,8 +114,7 @@ impl Builder {
         ensures tail { IsTail u.new u.old }
     {
         u.more(0, 0, self.config.max_imports);
-        let imports = Vec::new(self.alloc);
-        self.add_section(Section::Imports(ImportSection { imports }))
+        self.add_section(Section::Imports(ImportSection {}))
     }
 
     // An empty canonical section. Its loop ends whatever comes.
@@ -128,8 +126,7 @@ impl Builder {
         ensures tail { IsTail u.new u.old }
     {
         u.more(0, 0, self.config.max_funcs);
-        let funcs = Vec::new(self.alloc);
-        self.add_section(Section::Canonical(CanonicalSection { funcs }))
+        self.add_section(Section::Canonical(CanonicalSection {}))
     }
 
     // A type section, with as many types as the component may still have.

@@ -3,14 +3,11 @@
 
 ghost use Rattle.smith_core.specs.Piece.{Piece, many};
 ghost use Rattle.smith_core.specs.Writing.{Puts, IsLengthOf};
-ghost use Rattle.smith_types.specs.Grammar.{val, entry, core_entry, import_entry};
-ghost use Rattle.smith_types.specs.Shown.{shown_val, shown_shared, shown_shared_core, shown_import};
+ghost use Rattle.smith_types.specs.Grammar.{val, entry};
+ghost use Rattle.smith_types.specs.Shown.{shown_val, shown_shared};
 
-use super::{
-    core_type_len, import_len, put_val, type_len, val_len, write_core_type, write_import,
-    write_type,
-};
-use crate::types::{ComponentValType, CoreType, DefType, Import};
+use super::{put_val, type_len, val_len, write_type};
+use crate::types::{ComponentValType, DefType};
 use smith_core::pieces::{count_len, write_count};
 use smith_input::Error;
 use std::rc::Rc;
@@ -71,29 +68,5 @@ impl Spelled for Rc<DefType> {
 
     fn spelled_len(&self) -> Option<u32> {
         type_len(self)
-    }
-}
-
-impl Spelled for Rc<CoreType> {
-    ghost piece = { λ t. core_entry (shown_shared_core t) };
-
-    fn put(&self, out: &mut Vec<u8>) -> Result<(), Error> {
-        write_core_type(out, self)
-    }
-
-    fn spelled_len(&self) -> Option<u32> {
-        core_type_len(self)
-    }
-}
-
-impl Spelled for Import {
-    ghost piece = { λ i. import_entry (shown_import i) };
-
-    fn put(&self, out: &mut Vec<u8>) -> Result<(), Error> {
-        write_import(out, self)
-    }
-
-    fn spelled_len(&self) -> Option<u32> {
-        import_len(self)
     }
 }

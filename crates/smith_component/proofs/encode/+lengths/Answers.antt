@@ -3,7 +3,7 @@ use Rattle.smith_core.specs.Piece.{bytes, ◌⊕◌}
 use Rattle.smith_core.proofs.Joins.{right_none}
 use Rattle.smith_core.proofs.Sizes.{takes_then, takes_bytes, sum_next, sum_all, each_none, measures_none}
 use Rattle.smith_component.specs.Grammar.{preamble}
-use Rattle.smith_component.proofs.Spelling.{text_shown, part_module, part_core_types, part_types, part_canons, part_imports}
+use Rattle.smith_component.proofs.Spelling.{text_shown, part_module, part_core_types, part_types, part_canons, part_imports, raw_zero}
 use Rattle.smith_component.proofs.encode.+lengths.Goals as goal
 
 pub section_len-returns-in-CoreModule-clause-length : goal.section_len-returns-in-CoreModule-clause-length
@@ -12,19 +12,19 @@ section_len-returns-in-CoreModule-clause-length t c =
 
 pub section_len-returns-in-CoreTypes-clause-length : goal.section_len-returns-in-CoreTypes-clause-length
 section_len-returns-in-CoreTypes-clause-length t c =
-    rw (c.in-CoreTypes.is, part_core_types _) (c.sized_len-in-CoreTypes.ensures.length 3 _ (rw c.deref.ensures.value at c.many_len.ensures))
+    rw (c.in-CoreTypes.is, part_core_types _) (c.sized_len-in-CoreTypes.ensures.length 3 _ (rw raw_zero at c.raw_len.ensures))
 
 pub section_len-returns-in-Types-clause-length : goal.section_len-returns-in-Types-clause-length
 section_len-returns-in-Types-clause-length t c =
-    rw (c.in-Types.is, part_types _) (c.sized_len-in-Types.ensures.length 7 _ (rw c.deref-in-Types.ensures.value at c.many_len-in-Types.ensures))
+    rw (c.in-Types.is, part_types _) (c.sized_len-in-Types.ensures.length 7 _ (rw c.deref.ensures.value at c.many_len.ensures))
 
 pub section_len-returns-in-Canonical-clause-length : goal.section_len-returns-in-Canonical-clause-length
 section_len-returns-in-Canonical-clause-length t c =
-    rw (c.in-Canonical.is, part_canons _) (c.sized_len-in-Canonical.ensures.length 8 _ (rw c.deref-in-Canonical.ensures.value at c.many_len-in-Canonical.ensures))
+    rw (c.in-Canonical.is, part_canons _) (c.sized_len-in-Canonical.ensures.length 8 _ (rw raw_zero at c.raw_len-in-Canonical.ensures))
 
 pub section_len-returns-in-Imports-clause-length : goal.section_len-returns-in-Imports-clause-length
 section_len-returns-in-Imports-clause-length t c =
-    rw (c.in-Imports.is, part_imports _) (c.sized_len-in-Imports.ensures.length 10 _ (rw c.deref-in-Imports.ensures.value at c.many_len-in-Imports.ensures))
+    rw (c.in-Imports.is, part_imports _) (c.sized_len-in-Imports.ensures.length 10 _ (rw raw_zero at c.raw_len-in-Imports.ensures))
 
 pub component_len-returns-in_err-total : goal.component_len-returns-in_err-total
 component_len-returns-in_err-total t c =

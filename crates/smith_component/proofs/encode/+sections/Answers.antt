@@ -1,4 +1,4 @@
-use Rattle.smith_core.proofs.Steps.{ends_sized, gains_then}
+use Rattle.smith_core.proofs.Steps.{ends_sized, gains_then, appends_puts}
 use Rattle.smith_core.proofs.Loops.{put_next, put_all, front_exit}
 use Rattle.smith_component.proofs.Spelling.{text_shown, part_module, part_core_types, part_types, part_canons, part_imports}
 use Rattle.smith_component.proofs.encode.+sections.Goals as goal
@@ -10,16 +10,16 @@ pub put_section-returns-in-CoreModule : goal.put_section-returns-in-CoreModule
 put_section-returns-in-CoreModule t c = rw (c.in-CoreModule.is, part_module _) c.put_module.ensures
 
 pub put_section-returns-in-CoreTypes : goal.put_section-returns-in-CoreTypes
-put_section-returns-in-CoreTypes t c = rw (c.in-CoreTypes.is, part_core_types _) (rw c.deref.ensures.value at c.put_listed.ensures)
+put_section-returns-in-CoreTypes t c = rw (c.in-CoreTypes.is, part_core_types _) (appends_puts c.write_section.result _ _ _ c.write_section.ensures)
 
 pub put_section-returns-in-Types : goal.put_section-returns-in-Types
-put_section-returns-in-Types t c = rw (c.in-Types.is, part_types _) (rw c.deref-in-Types.ensures.value at c.put_listed-in-Types.ensures)
+put_section-returns-in-Types t c = rw (c.in-Types.is, part_types _) (rw c.deref.ensures.value at c.put_listed.ensures)
 
 pub put_section-returns-in-Canonical : goal.put_section-returns-in-Canonical
-put_section-returns-in-Canonical t c = rw (c.in-Canonical.is, part_canons _) (rw c.deref-in-Canonical.ensures.value at c.put_listed-in-Canonical.ensures)
+put_section-returns-in-Canonical t c = rw (c.in-Canonical.is, part_canons _) (appends_puts c.write_section-in-Canonical.result _ _ _ c.write_section-in-Canonical.ensures)
 
 pub put_section-returns-in-Imports : goal.put_section-returns-in-Imports
-put_section-returns-in-Imports t c = rw (c.in-Imports.is, part_imports _) (rw c.deref-in-Imports.ensures.value at c.put_listed-in-Imports.ensures)
+put_section-returns-in-Imports t c = rw (c.in-Imports.is, part_imports _) (appends_puts c.write_section-in-Imports.result _ _ _ c.write_section-in-Imports.ensures)
 
 pub put_component-returns-in_err-put_section : goal.put_component-returns-in_err-put_section
 put_component-returns-in_err-put_section t c =

@@ -1,8 +1,7 @@
-use Rattle.std.proofs.Common.{refl, subst, ap, ◌∙◌, [], map}
+use Rattle.std.proofs.Common.{refl, subst, ap, ◌∙◌, []}
 use Rattle.std.proofs.lemmas.Result.{IfOk-weaker}
 use Rattle.smith_input.specs.Reading.{More}
 use Rattle.smith_input.proofs.ReadingLemmas.{more_tail}
-use Rattle.smith_types.specs.Shown.{shown_shared_core}
 use Rattle.smith_component.specs.Building.{Building, open_of}
 use Rattle.smith_component.specs.Tree.{core_types}
 use Rattle.smith_component.specs.Turn.{with_part}
@@ -17,7 +16,7 @@ add_section-requires c =
       addable = addable_empty _ _ (core_types []) tt refl refl refl refl tt refl refl refl;
       quiet = scope_bare (open_of c.args.self).inner (core_types []) refl refl;
     } in
-    let r = quietly_shown c.args.self.config (open_of c.args.self) _ _ (shown_core_types _ ∙ ap (λ xs. core_types (map shown_shared_core xs)) c.new-types.ensures.items) q in
+    let r = quietly_shown c.args.self.config (open_of c.args.self) _ _ (shown_core_types _) q in
     record { quiet = r.quiet; addable = r.addable }
 
 pub returns-clause-tail : goal.returns-clause-tail
@@ -28,7 +27,7 @@ returns-clause-added c =
     let stack = open_of c.args.self in
     let M : Building → Type 0 = λ v. More 0 0 v.config.max_types c.args.u.now c.more.result c.more.new.self in
     let more = less_none _ _ _ _ _ (no_core_types _) (subst M c.self.view_is c.more.ensures) in
-    let shown = shown_core_types _ ∙ ap (λ xs. core_types (map shown_shared_core xs)) c.new-types.ensures.items in
+    let shown = shown_core_types _ in
     IfOk-weaker c.add_section.result _ _ (λ s e. (c.more.result, more, e ∙ ap (with_part stack) shown)) c.add_section.ensures.added
 
 pub returns-clause-follows : goal.returns-clause-follows
@@ -36,6 +35,6 @@ returns-clause-follows c n rest f =
     let stack = open_of c.args.self in
     let M : Building → Type 0 = λ v. More 0 0 v.config.max_types c.args.u.now c.more.result c.more.new.self in
     let more = less_none _ _ _ _ _ (no_core_types _) (subst M c.self.view_is c.more.ensures) in
-    let shown = shown_core_types _ ∙ ap (λ xs. core_types (map shown_shared_core xs)) c.new-types.ensures.items in
+    let shown = shown_core_types _ in
     let r = empty_follows _ (core_types []) stack c.args.u.now c.more.result c.more.new.self n rest more f in
     IfOk-weaker c.add_section.result _ _ (λ s e. (e ∙ (ap (with_part stack) shown ∙ r.0), r.1)) c.add_section.ensures.added

@@ -1,6 +1,5 @@
-use Rattle.std.proofs.Common.{◌≡◌, refl, ap, ◌∙◌, []}
+use Rattle.std.proofs.Common.{refl, ap, ◌∙◌}
 use Rattle.std.proofs.lemmas.Result.{IfOk-weaker}
-use Rattle.smith_input.proofs.ReadingLemmas.{tail_trans}
 use Rattle.smith_component.specs.Building.{open_of}
 use Rattle.smith_component.specs.Tree.{custom}
 use Rattle.smith_component.specs.Turn.{with_part}
