@@ -1,5 +1,5 @@
 -- Scopes: what types stand where (Explainer.md, index spaces).
-use Rattle.std.specs.Prelude.{ℕ, Bool, true, List, [], ◌∷◌, ◌++◌, map, reverse}
+use Rattle.std.specs.Prelude.{ℕ, Bool, true, false, List, [], ◌∷◌, ◌++◌, map, reverse}
 use Rattle.smith_types.specs.Entries.{Entry, CoreEntry, plain, fields, cases, listed, tuple, flags, labels, optional, outcome, function}
 use Rattle.smith_types.specs.Places.{places}
 use Rattle.smith_types.specs.Shown.{shown_type}
