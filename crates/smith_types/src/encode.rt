@@ -7,8 +7,8 @@ mod lists;
 ghost use Rattle.std.specs.Prelude.{◌≡◌, ◌≤◌, ℕ, map};
 ghost use Rattle.smith_core.specs.Piece.{Piece, ◌⊕◌, byte, s_index, u, many, text};
 ghost use Rattle.smith_core.specs.Writing.{Puts, Appends, Takes, IsLengthOf};
-ghost use Rattle.smith_types.specs.Grammar.{primitive_byte, val, maybe_val, field, case, result_of, entry, core_entry, import_entry};
-ghost use Rattle.smith_types.specs.Shown.{shown_primitive, shown_val, shown_maybe, shown_field, shown_case, shown_defined, shown_function, shown_type, shown_core_type, shown_import};
+ghost use Rattle.smith_types.specs.Grammar.{primitive_byte, val, maybe_val, result_of, entry, core_entry, import_entry};
+ghost use Rattle.smith_types.specs.Shown.{shown_primitive, shown_val, shown_maybe, shown_defined, shown_function, shown_type, shown_core_type, shown_import};
 
 use crate::func::FuncType;
 use crate::types::{ComponentValType, CoreType, DefType, DefinedType, Import, PrimitiveValType};

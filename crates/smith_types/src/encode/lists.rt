@@ -4,8 +4,8 @@
 ghost use Rattle.std.specs.Prelude.{ℕ, string_bytes};
 ghost use Rattle.smith_core.specs.Piece.{Piece, ◌⊕◌, byte, many, text};
 ghost use Rattle.smith_core.specs.Writing.{Puts, IsLengthOf};
-ghost use Rattle.smith_types.specs.Grammar.{val, maybe_val, field, case, entry, core_entry, import_entry};
-ghost use Rattle.smith_types.specs.Shown.{shown_val, shown_maybe, shown_field, shown_case, shown_shared, shown_shared_core, shown_import};
+ghost use Rattle.smith_types.specs.Grammar.{val, field, case, entry, core_entry, import_entry};
+ghost use Rattle.smith_types.specs.Shown.{shown_val, shown_field, shown_case, shown_shared, shown_shared_core, shown_import};
 
 use super::{
     core_type_len, import_len, maybe_val_len, put_maybe_val, put_val, type_len, val_len,
