@@ -13,7 +13,7 @@ ghost use Rattle.smith_types.specs.Shown.{shown_primitive, shown_val, shown_mayb
 use crate::func::FuncType;
 use crate::types::{ComponentValType, CoreType, DefType, DefinedType, Import, PrimitiveValType};
 pub use lists::{Spelled, many_len, put_many};
-use lists::{put_row, row_len};
+use lists::{put_tagged, tagged_len};
 use smith_core::numbers::{type_index_len, write_type_index};
 use smith_core::pieces::{settled, write_byte, write_bytes};
 use smith_input::Error;
@@ -106,15 +106,15 @@ fn put_defined(out: &mut Vec<u8>, ty: &DefinedType) -> Result<(), Error>
 {
     match ty {
         DefinedType::Primitive(primitive) => write_byte(out, code(*primitive)),
-        DefinedType::Record(record) => put_row(out, 0x72, &record.fields),
-        DefinedType::Variant(variant) => put_row(out, 0x71, &variant.cases),
+        DefinedType::Record(record) => put_tagged(out, 0x72, &record.fields),
+        DefinedType::Variant(variant) => put_tagged(out, 0x71, &variant.cases),
         DefinedType::List(list) => {
             write_byte(out, 0x70)?;
             put_val(out, list.elem_ty)
         }
-        DefinedType::Tuple(tuple) => put_row(out, 0x6f, &tuple.fields),
-        DefinedType::Flags(flags) => put_row(out, 0x6e, &flags.fields),
-        DefinedType::Enum(labels) => put_row(out, 0x6d, &labels.variants),
+        DefinedType::Tuple(tuple) => put_tagged(out, 0x6f, &tuple.fields),
+        DefinedType::Flags(flags) => put_tagged(out, 0x6e, &flags.fields),
+        DefinedType::Enum(labels) => put_tagged(out, 0x6d, &labels.variants),
         DefinedType::Option(option) => {
             write_byte(out, 0x6b)?;
             put_val(out, option.inner_ty)
@@ -132,12 +132,12 @@ fn defined_len(ty: &DefinedType) -> Option<u32>
 {
     match ty {
         DefinedType::Primitive(_) => Some(1),
-        DefinedType::Record(record) => row_len(&record.fields),
-        DefinedType::Variant(variant) => row_len(&variant.cases),
+        DefinedType::Record(record) => tagged_len(&record.fields),
+        DefinedType::Variant(variant) => tagged_len(&variant.cases),
         DefinedType::List(list) => Some(1 + val_len(list.elem_ty)),
-        DefinedType::Tuple(tuple) => row_len(&tuple.fields),
-        DefinedType::Flags(flags) => row_len(&flags.fields),
-        DefinedType::Enum(labels) => row_len(&labels.variants),
+        DefinedType::Tuple(tuple) => tagged_len(&tuple.fields),
+        DefinedType::Flags(flags) => tagged_len(&flags.fields),
+        DefinedType::Enum(labels) => tagged_len(&labels.variants),
         DefinedType::Option(option) => Some(1 + val_len(option.inner_ty)),
         DefinedType::Result(result) => {
             Some(1 + maybe_val_len(result.ok_ty) + maybe_val_len(result.err_ty))
@@ -148,14 +148,14 @@ fn defined_len(ty: &DefinedType) -> Option<u32>
 fn put_function(out: &mut Vec<u8>, ty: &FuncType) -> Result<(), Error>
     ensures { Puts result out.old out.new (entry (shown_function ty.now)) }
 {
-    put_row(out, 0x40, &ty.params)?;
+    put_tagged(out, 0x40, &ty.params)?;
     put_result(out, ty.result)
 }
 
 fn function_len(ty: &FuncType) -> Option<u32>
     ensures { IsLengthOf result (entry (shown_function ty.now)) }
 {
-    row_len(&ty.params)?.checked_add(result_len(ty.result))
+    tagged_len(&ty.params)?.checked_add(result_len(ty.result))
 }
 
 fn put_type(out: &mut Vec<u8>, ty: &DefType) -> Result<(), Error>

@@ -52,15 +52,16 @@ pub fn many_len<T: Spelled>(items: &[T]) -> Option<u32>
 }
 
 // Puts a list behind the byte that says what it is.
-pub(super) fn put_row<T: Spelled>(out: &mut Vec<u8>, row: u8, items: &[T]) -> Result<(), Error>
-    ensures { Puts result out.old out.new (byte row ⊕ many T.piece items.now) }
+pub(super) fn put_tagged<T: Spelled>(out: &mut Vec<u8>, tag: u8, items: &[T]) -> Result<(), Error>
+    ensures { Puts result out.old out.new (byte tag ⊕ many T.piece items.now) }
 {
-    write_byte(out, row)?;
+    write_byte(out, tag)?;
     put_many(out, items)
 }
 
-pub(super) fn row_len<T: Spelled>(items: &[T]) -> Option<u32>
-    ensures { (row : ℕ) → IsLengthOf result (byte row ⊕ many T.piece items.now) }
+// The length of a list behind the byte that says what it is.
+pub(super) fn tagged_len<T: Spelled>(items: &[T]) -> Option<u32>
+    ensures { (tag : ℕ) → IsLengthOf result (byte tag ⊕ many T.piece items.now) }
 {
     many_len(items)?.checked_add(1)
 }

@@ -7,19 +7,19 @@ use Rattle.smith_types.specs.Shown.{shown_field, shown_case, shown_val}
 use Rattle.smith_types.proofs.encode.put_defined.Goals as goal
 
 pub returns-in-Record : goal.returns-in-Record
-returns-in-Record c = rw (c.in-Record.is, many-map field shown_field _) (rw c.deref.ensures.value at c.put_row.ensures)
+returns-in-Record c = rw (c.in-Record.is, many-map field shown_field _) (rw c.deref.ensures.value at c.put_tagged.ensures)
 
 pub returns-in-Variant : goal.returns-in-Variant
-returns-in-Variant c = rw (c.in-Variant.is, many-map case shown_case _) (rw c.deref-in-Variant.ensures.value at c.put_row-in-Variant.ensures)
+returns-in-Variant c = rw (c.in-Variant.is, many-map case shown_case _) (rw c.deref-in-Variant.ensures.value at c.put_tagged-in-Variant.ensures)
 
 pub returns-in-Tuple : goal.returns-in-Tuple
-returns-in-Tuple c = rw (c.in-Tuple.is, many-map val shown_val _) (rw c.deref-in-Tuple.ensures.value at c.put_row-in-Tuple.ensures)
+returns-in-Tuple c = rw (c.in-Tuple.is, many-map val shown_val _) (rw c.deref-in-Tuple.ensures.value at c.put_tagged-in-Tuple.ensures)
 
 pub returns-in-Flags : goal.returns-in-Flags
-returns-in-Flags c = rw (c.in-Flags.is, many-map text string_bytes _) (rw c.deref-in-Flags.ensures.value at c.put_row-in-Flags.ensures)
+returns-in-Flags c = rw (c.in-Flags.is, many-map text string_bytes _) (rw c.deref-in-Flags.ensures.value at c.put_tagged-in-Flags.ensures)
 
 pub returns-in-Enum : goal.returns-in-Enum
-returns-in-Enum c = rw (c.in-Enum.is, many-map text string_bytes _) (rw c.deref-in-Enum.ensures.value at c.put_row-in-Enum.ensures)
+returns-in-Enum c = rw (c.in-Enum.is, many-map text string_bytes _) (rw c.deref-in-Enum.ensures.value at c.put_tagged-in-Enum.ensures)
 
 pub returns-in_err-put_maybe_val-in-Result : goal.returns-in_err-put_maybe_val-in-Result
 returns-in_err-put_maybe_val-in-Result c =
