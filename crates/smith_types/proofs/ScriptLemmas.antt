@@ -7,7 +7,7 @@ use Rattle.std.proofs.lemmas.Bool.Decides.{nat_tests}
 use Rattle.smith_input.specs.Reading.{Reads, More, pick}
 use Rattle.smith_input.proofs.Picks.{reads-pick}
 use Rattle.smith_input.proofs.ReadingLemmas.{flips_one, flips_zero, more_full, more_one, more_zero, more_first}
-use Rattle.smith_types.specs.Entries.{Primitive, Val, Entry, bool, s8, u8, s16, u16, s32, u32, s64, u64, f32, f64, char, string, primitive, indexed, plain, listed, tuple, optional, outcome}
+use Rattle.smith_types.specs.Entries.{Primitive, Val, Entry, bool, s8, u8, s16, u16, s32, u32, s64, u64, f32, f64, char, string, primitive, indexed, plain, fields, cases, listed, tuple, flags, labels, optional, outcome, function}
 use Rattle.smith_types.specs.Places.{places}
 use Rattle.smith_types.specs.Scope.{Scope, defined_places, is_defined}
 use Rattle.smith_types.specs.WellFormed.{FormedVal, FormedMaybe, FormedEntry}
@@ -154,10 +154,14 @@ some_tuple (v ∷ vs) h = refl
 
 pub defined_read : (own : Scope) (outer : List Scope) (fuel : ℕ) (e : Entry) (rest : List ℕ) → FormedEntry e own outer → Lasts (fuel + 1) e → length own.types ≤ 2 ^ 64 → (left : ℕ) × MadeDefined own (script_defined own e ++ rest) fuel e rest left
 defined_read own outer fuel (plain p) rest f l few = (fuel, kind_read 0 own kind.Primitive _ rest fuel _ fuel (omega arith) refl (p, primitive_read p rest, refl, refl))
+defined_read own outer fuel (fields fs) rest f l few = absurd l
+defined_read own outer fuel (cases cs) rest f l few = absurd l
 defined_read own outer fuel (listed v) rest f l few = (fuel, kind_read 3 own kind.List _ rest fuel _ fuel (omega arith) refl (v, val_read own v rest f few, refl, refl))
 defined_read own outer fuel (tuple vs) rest f l few =
     let r = members_read (λ so_far. ReadsVal own) (script_val own) (FormedVal own) 100 (λ so_far v more h. val_read own v more h few) vs [] fuel rest f.0 (omega (arith, f.1)) (omega (arith, f.2)) (omega (arith, l)) in
     (r.0, kind_read 4 own kind.Tuple _ rest fuel _ r.0 (omega arith) refl (vs, r.1, some_tuple vs f.1))
+defined_read own outer fuel (flags ns) rest f l few = absurd l
+defined_read own outer fuel (labels ns) rest f l few = absurd l
 defined_read own outer fuel (optional v) rest f l few = (fuel, kind_read 7 own kind.Option _ rest fuel _ fuel (omega arith) refl (v, val_read own v rest f few, refl, refl))
 defined_read own outer fuel (outcome ok err) rest f l few =
     let first : List ℕ = script_maybe own ok in
@@ -165,6 +169,7 @@ defined_read own outer fuel (outcome ok err) rest f l few =
     let P : List ℕ → Type 0 = λ b. MadeAs own kind.Result b fuel (outcome ok err) rest fuel in
     let made : P (first ++ (second ++ rest)) = (ok, second ++ rest, maybe_read own ok (second ++ rest) f.0 few, err, maybe_read own err rest f.1 few, refl, refl) in
     (fuel, kind_read 8 own kind.Result (first ++ second) rest fuel _ fuel (omega arith) refl (subst P (sym (append_assoc first second rest)) made))
+defined_read own outer fuel (function ps r) rest f l few = absurd l
 
 -- a type with fuel for two turns, and with less
 type_cases : (own : Scope) (outer : List Scope) (fuel : ℕ) (e : Entry) (rest : List ℕ) → FormedEntry e own outer → Lasts fuel e → length own.types ≤ 2 ^ 64 → (b : Bool) → nat_le 2 fuel ≡ b
@@ -181,10 +186,15 @@ type_cases own outer fuel e rest f l few false h =
   where
     lasts_less : (fuel : ℕ) (e : Entry) → fuel < 2 → Lasts fuel e → Lasts 1 e
     lasts_less fuel (plain p) less l = tt
+    lasts_less fuel (fields fs) less l = absurd l
+    lasts_less fuel (cases cs) less l = absurd l
     lasts_less fuel (listed v) less l = tt
     lasts_less fuel (tuple vs) less l = absurd (omega arith)
+    lasts_less fuel (flags ns) less l = absurd l
+    lasts_less fuel (labels ns) less l = absurd l
     lasts_less fuel (optional v) less l = tt
     lasts_less fuel (outcome ok err) less l = tt
+    lasts_less fuel (function ps r) less l = absurd l
 
 -- What the script of a type says is made of it, and the rest is left.
 pub type_read : (own : Scope) (outer : List Scope) (fuel : ℕ) (e : Entry) (rest : List ℕ) → FormedEntry e own outer → Lasts fuel e → length own.types ≤ 2 ^ 64 → (left : ℕ) × Made own outer (script_type fuel own e ++ rest) fuel e rest left

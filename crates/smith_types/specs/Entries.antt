@@ -9,13 +9,26 @@ pub data Val : Type 0 where
   primitive : Primitive → Val
   indexed : ℕ → Val
 
+-- a name and a value type
+abbrev pub Field : Type 0
+Field = List ℕ × Val
+
+-- a name, and a value type or none
+abbrev pub Case : Type 0
+Case = List ℕ × Option Val
+
 -- a type that a component declares
 pub data Entry : Type 0 where
   plain : Primitive → Entry
+  fields : List Field → Entry
+  cases : List Case → Entry
   listed : Val → Entry
   tuple : List Val → Entry
+  flags : List (List ℕ) → Entry
+  labels : List (List ℕ) → Entry
   optional : Val → Entry
   outcome : Option Val → Option Val → Entry
+  function : List Field → Option Val → Entry
 
 -- a core type that a component declares
 pub data CoreEntry : Type 0 where

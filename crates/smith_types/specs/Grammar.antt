@@ -1,8 +1,8 @@
 -- How types are spelled (Binary.md, type definitions), one line for each row.
-use Rattle.std.specs.Prelude.{ℕ, Option, Some, None}
-use Rattle.smith_core.specs.Piece.{Piece, ◌⊕◌, byte, many, s_index}
-use Rattle.smith_types.specs.Entries.{Primitive, Val, Entry, CoreEntry, ImportEntry}
-use Rattle.smith_types.specs.Entries.{bool, s8, u8, s16, u16, s32, u32, s64, u64, f32, f64, char, string, primitive, indexed, plain, listed, tuple, optional, outcome}
+use Rattle.std.specs.Prelude.{ℕ, [], ◌∷◌, Option, Some, None}
+use Rattle.smith_core.specs.Piece.{Piece, ◌⊕◌, byte, bytes, text, many, s_index}
+use Rattle.smith_types.specs.Entries.{Primitive, Val, Field, Case, Entry, CoreEntry, ImportEntry}
+use Rattle.smith_types.specs.Entries.{bool, s8, u8, s16, u16, s32, u32, s64, u64, f32, f64, char, string, primitive, indexed, plain, fields, cases, listed, tuple, flags, labels, optional, outcome, function}
 
 abbrev pub primitive_byte : Primitive → ℕ
 primitive_byte bool = 0x7f
@@ -28,12 +28,28 @@ abbrev pub maybe_val : Option Val → Piece
 maybe_val None = byte 0x00
 maybe_val (Some v) = byte 0x01 ⊕ val v
 
+abbrev pub field : Field → Piece
+field f = text f.0 ⊕ val f.1
+
+abbrev pub case : Case → Piece
+case c = text c.0 ⊕ maybe_val c.1 ⊕ byte 0x00
+
+-- the result of a function
+abbrev pub result_of : Option Val → Piece
+result_of (Some v) = byte 0x00 ⊕ val v
+result_of None = bytes (0x01 ∷ 0x00 ∷ [])
+
 abbrev pub entry : Entry → Piece
 entry (plain p) = byte (primitive_byte p)
+entry (fields fs) = byte 0x72 ⊕ many field fs
+entry (cases cs) = byte 0x71 ⊕ many case cs
 entry (listed v) = byte 0x70 ⊕ val v
 entry (tuple vs) = byte 0x6f ⊕ many val vs
+entry (flags ns) = byte 0x6e ⊕ many text ns
+entry (labels ns) = byte 0x6d ⊕ many text ns
 entry (optional v) = byte 0x6b ⊕ val v
 entry (outcome ok err) = byte 0x6a ⊕ maybe_val ok ⊕ maybe_val err
+entry (function ps r) = byte 0x40 ⊕ many field ps ⊕ result_of r
 
 abbrev pub core_entry : CoreEntry → Piece
 core_entry t = elim t [ ]

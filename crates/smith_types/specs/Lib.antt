@@ -1,3 +1,4 @@
+pub mod Distinct
 pub mod Entries
 pub mod Grammar
 pub mod Made
@@ -5,6 +6,7 @@ pub mod Places
 pub mod Scope
 pub mod Script
 pub mod Shown
+pub mod Signature
 pub mod Stack
 pub mod Tied
 pub mod WellFormed

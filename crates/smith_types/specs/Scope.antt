@@ -1,6 +1,6 @@
 -- Scopes: what types stand where (Explainer.md, index spaces).
-use Rattle.std.specs.Prelude.{ℕ, Bool, true, List, [], ◌∷◌, ◌++◌, map, reverse}
-use Rattle.smith_types.specs.Entries.{Entry, CoreEntry, plain, listed, tuple, optional, outcome}
+use Rattle.std.specs.Prelude.{ℕ, Bool, true, false, List, [], ◌∷◌, ◌++◌, map, reverse}
+use Rattle.smith_types.specs.Entries.{Entry, CoreEntry, plain, fields, cases, listed, tuple, flags, labels, optional, outcome, function}
 use Rattle.smith_types.specs.Places.{places}
 use Rattle.smith_types.specs.Shown.{shown_type}
 use Rattle.smith_types.specs.declared.scopes.Kind.{Kind}
@@ -26,10 +26,15 @@ with_types s es = record { types = s.types ++ es; core_types = s.core_types }
 -- Is it a type of values, as against one of functions, components or instances?
 abbrev pub is_defined : Entry → Bool
 is_defined (plain p) = true
+is_defined (fields fs) = true
+is_defined (cases cs) = true
 is_defined (listed v) = true
 is_defined (tuple vs) = true
+is_defined (flags ns) = true
+is_defined (labels ns) = true
 is_defined (optional v) = true
 is_defined (outcome ok err) = true
+is_defined (function ps r) = false
 
 abbrev pub is_kind : Kind → Entry → Bool
 is_kind Defined e = is_defined e

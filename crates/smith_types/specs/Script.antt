@@ -1,7 +1,7 @@
 -- The input that a type is read from: what a script says of it.
 use Rattle.std.specs.Prelude.{ℕ, ◌+◌, ◌≤◌, List, [], ◌∷◌, ◌++◌, length, take, Option, Some, None, nat_eq, nat_le, nat_lt, if◌then◌else◌}
 use Rattle.smith_input.specs.Reading.{pick}
-use Rattle.smith_types.specs.Entries.{Primitive, Val, Entry, bool, s8, u8, s16, u16, s32, u32, s64, u64, f32, f64, char, string, primitive, indexed, plain, listed, tuple, optional, outcome}
+use Rattle.smith_types.specs.Entries.{Primitive, Val, Entry, bool, s8, u8, s16, u16, s32, u32, s64, u64, f32, f64, char, string, primitive, indexed, plain, fields, cases, listed, tuple, flags, labels, optional, outcome, function}
 use Rattle.smith_types.specs.Places.{places}
 use Rattle.smith_types.specs.Scope.{Scope, defined_places, is_defined}
 
@@ -50,19 +50,29 @@ script_members f max done (x ∷ xs) = script_more done ++ f x ++ script_members
 
 abbrev pub script_defined : Scope → Entry → List ℕ
 script_defined own (plain p) = pick 9 0 ++ pick 13 (place_of p)
+script_defined own (fields fs) = []
+script_defined own (cases cs) = []
 script_defined own (listed v) = pick 9 3 ++ script_val own v
 script_defined own (tuple vs) = pick 9 4 ++ script_members (script_val own) 100 0 vs
+script_defined own (flags ns) = []
+script_defined own (labels ns) = []
 script_defined own (optional v) = pick 9 7 ++ script_val own v
 script_defined own (outcome ok err) = pick 9 8 ++ (script_maybe own ok ++ script_maybe own err)
+script_defined own (function ps r) = []
 
 -- A type with so much fuel: which of four kinds it is, where the fuel lasts, and then what it is.
 abbrev pub script_type : ℕ → Scope → Entry → List ℕ
 script_type fuel own e = (if nat_le 2 fuel then pick 4 0 else []) ++ script_defined own e
 
--- The fuel lasts for each member.
+-- Scripts say it, and the fuel lasts for each member. They say no types with names so far.
 abbrev pub Lasts : ℕ → Entry → Type 0
 Lasts fuel (plain p) = Unit {0}
+Lasts fuel (fields fs) = ⊥
+Lasts fuel (cases cs) = ⊥
 Lasts fuel (listed v) = Unit {0}
 Lasts fuel (tuple vs) = length vs + 2 ≤ fuel
+Lasts fuel (flags ns) = ⊥
+Lasts fuel (labels ns) = ⊥
 Lasts fuel (optional v) = Unit {0}
 Lasts fuel (outcome ok err) = Unit {0}
+Lasts fuel (function ps r) = ⊥

@@ -1,9 +1,10 @@
 -- The types of the program as plain trees.
-use Rattle.std.specs.Prelude.{map, Option, Some, None}
+use Rattle.std.specs.Prelude.{map, Option, Some, None, string_bytes, String}
 use Rattle.std.specs.declared.alloc.Global.{Global}
 use Rattle.std.specs.declared.rc.Rc.{Rc}
-use Rattle.smith_types.specs.Entries.{Primitive, Val, Entry}
-use Rattle.smith_types.specs.Entries.{bool, s8, u8, s16, u16, s32, u32, s64, u64, f32, f64, char, string, primitive, indexed, plain, listed, tuple, optional, outcome}
+use Rattle.smith_types.specs.Entries.{Primitive, Val, Field, Case, Entry}
+use Rattle.smith_types.specs.Entries.{bool, s8, u8, s16, u16, s32, u32, s64, u64, f32, f64, char, string, primitive, indexed, plain, fields, cases, listed, tuple, flags, labels, optional, outcome, function}
+use Rattle.smith_types.specs.Signature.{Signature}
 use Rattle.smith_types.specs.declared.types.PrimitiveValType.{PrimitiveValType}
 use Rattle.smith_types.specs.declared.types.PrimitiveValType.TheVariants as prim
 use Rattle.smith_types.specs.declared.types.ComponentValType.{ComponentValType}
@@ -36,15 +37,30 @@ abbrev pub shown_maybe : Option ComponentValType → Option Val
 shown_maybe None = None
 shown_maybe (Some v) = Some (shown_val v)
 
+abbrev pub shown_field : String Global × ComponentValType → Field
+shown_field f = (string_bytes f.0, shown_val f.1)
+
+abbrev pub shown_case : String Global × Option ComponentValType → Case
+shown_case c = (string_bytes c.0, shown_maybe c.1)
+
 abbrev pub shown_defined : DefinedType → Entry
 shown_defined (defined.Primitive p) = plain (shown_primitive p)
+shown_defined (defined.Record t) = fields (map shown_field t.fields.items)
+shown_defined (defined.Variant t) = cases (map shown_case t.cases.items)
 shown_defined (defined.List t) = listed (shown_val t.elem_ty)
 shown_defined (defined.Tuple t) = tuple (map shown_val t.fields.items)
+shown_defined (defined.Flags t) = flags (map string_bytes t.fields.items)
+shown_defined (defined.Enum t) = labels (map string_bytes t.variants.items)
 shown_defined (defined.Option t) = optional (shown_val t.inner_ty)
 shown_defined (defined.Result t) = outcome (shown_maybe t.ok_ty) (shown_maybe t.err_ty)
 
+-- a function's type by its signature
+abbrev pub shown_function : Signature → Entry
+shown_function s = function (map (λ p. (p.0, shown_val p.1)) s.params) (shown_maybe s.result)
+
 abbrev pub shown_type : DefType → Entry
 shown_type (def.Defined d) = shown_defined d
+shown_type (def.Func f) = shown_function f.value
 
 -- what a shared type shows
 abbrev pub shown_shared : Rc DefType Global → Entry

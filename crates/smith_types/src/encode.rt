@@ -7,13 +7,15 @@ mod lists;
 ghost use Rattle.std.specs.Prelude.{◌≡◌, ◌≤◌, ℕ, map};
 ghost use Rattle.smith_core.specs.Piece.{Piece, ◌⊕◌, byte, s_index, u, many, text};
 ghost use Rattle.smith_core.specs.Writing.{Puts, Appends, Takes, IsLengthOf};
-ghost use Rattle.smith_types.specs.Grammar.{primitive_byte, val, maybe_val, entry};
-ghost use Rattle.smith_types.specs.Shown.{shown_primitive, shown_val, shown_maybe, shown_defined, shown_type};
+ghost use Rattle.smith_types.specs.Grammar.{primitive_byte, val, maybe_val, result_of, entry};
+ghost use Rattle.smith_types.specs.Shown.{shown_primitive, shown_val, shown_maybe, shown_defined, shown_function, shown_type};
 
+use crate::func::FuncType;
 use crate::types::{ComponentValType, DefType, DefinedType, PrimitiveValType};
 pub use lists::{Spelled, many_len, put_many};
+use lists::{put_tagged, tagged_len};
 use smith_core::numbers::{type_index_len, write_type_index};
-use smith_core::pieces::{settled, write_byte};
+use smith_core::pieces::{settled, write_byte, write_bytes};
 use smith_input::Error;
 
 fn code(primitive: PrimitiveValType) -> u8
@@ -55,7 +57,7 @@ pub(crate) fn val_len(ty: ComponentValType) -> u32
     }
 }
 
-fn put_maybe_val(out: &mut Vec<u8>, ty: Option<ComponentValType>) -> Result<(), Error>
+pub(crate) fn put_maybe_val(out: &mut Vec<u8>, ty: Option<ComponentValType>) -> Result<(), Error>
     ensures { Puts result out.old out.new (maybe_val (shown_maybe ty)) }
 {
     match ty {
@@ -67,7 +69,7 @@ fn put_maybe_val(out: &mut Vec<u8>, ty: Option<ComponentValType>) -> Result<(), 
     }
 }
 
-fn maybe_val_len(ty: Option<ComponentValType>) -> u32
+pub(crate) fn maybe_val_len(ty: Option<ComponentValType>) -> u32
     ensures length { Takes result (maybe_val (shown_maybe ty)) }
     ensures most { result ≤ 6 }
 {
@@ -77,19 +79,42 @@ fn maybe_val_len(ty: Option<ComponentValType>) -> u32
     }
 }
 
+fn put_result(out: &mut Vec<u8>, ty: Option<ComponentValType>) -> Result<(), Error>
+    ensures { Puts result out.old out.new (result_of (shown_maybe ty)) }
+{
+    match ty {
+        Some(ty) => {
+            write_byte(out, 0x00)?;
+            put_val(out, ty)
+        }
+        None => write_bytes(out, &[0x01, 0x00]),
+    }
+}
+
+fn result_len(ty: Option<ComponentValType>) -> u32
+    ensures length { Takes result (result_of (shown_maybe ty)) }
+    ensures most { result ≤ 6 }
+{
+    match ty {
+        Some(ty) => 1 + val_len(ty),
+        None => 2,
+    }
+}
+
 fn put_defined(out: &mut Vec<u8>, ty: &DefinedType) -> Result<(), Error>
     ensures { Puts result out.old out.new (entry (shown_defined ty.now)) }
 {
     match ty {
         DefinedType::Primitive(primitive) => write_byte(out, code(*primitive)),
+        DefinedType::Record(record) => put_tagged(out, 0x72, &record.fields),
+        DefinedType::Variant(variant) => put_tagged(out, 0x71, &variant.cases),
         DefinedType::List(list) => {
             write_byte(out, 0x70)?;
             put_val(out, list.elem_ty)
         }
-        DefinedType::Tuple(tuple) => {
-            write_byte(out, 0x6f)?;
-            put_many(out, &tuple.fields)
-        }
+        DefinedType::Tuple(tuple) => put_tagged(out, 0x6f, &tuple.fields),
+        DefinedType::Flags(flags) => put_tagged(out, 0x6e, &flags.fields),
+        DefinedType::Enum(labels) => put_tagged(out, 0x6d, &labels.variants),
         DefinedType::Option(option) => {
             write_byte(out, 0x6b)?;
             put_val(out, option.inner_ty)
@@ -107,8 +132,12 @@ fn defined_len(ty: &DefinedType) -> Option<u32>
 {
     match ty {
         DefinedType::Primitive(_) => Some(1),
+        DefinedType::Record(record) => tagged_len(&record.fields),
+        DefinedType::Variant(variant) => tagged_len(&variant.cases),
         DefinedType::List(list) => Some(1 + val_len(list.elem_ty)),
-        DefinedType::Tuple(tuple) => many_len(&tuple.fields)?.checked_add(1),
+        DefinedType::Tuple(tuple) => tagged_len(&tuple.fields),
+        DefinedType::Flags(flags) => tagged_len(&flags.fields),
+        DefinedType::Enum(labels) => tagged_len(&labels.variants),
         DefinedType::Option(option) => Some(1 + val_len(option.inner_ty)),
         DefinedType::Result(result) => {
             Some(1 + maybe_val_len(result.ok_ty) + maybe_val_len(result.err_ty))
@@ -116,15 +145,29 @@ fn defined_len(ty: &DefinedType) -> Option<u32>
     }
 }
 
+fn put_function(out: &mut Vec<u8>, ty: &FuncType) -> Result<(), Error>
+    ensures { Puts result out.old out.new (entry (shown_function ty.now)) }
+{
+    put_tagged(out, 0x40, &ty.params)?;
+    put_result(out, ty.result)
+}
+
+fn function_len(ty: &FuncType) -> Option<u32>
+    ensures { IsLengthOf result (entry (shown_function ty.now)) }
+{
+    tagged_len(&ty.params)?.checked_add(result_len(ty.result))
+}
+
 fn put_type(out: &mut Vec<u8>, ty: &DefType) -> Result<(), Error>
     ensures { Puts result out.old out.new (entry (shown_type ty.now)) }
 {
     match ty {
         DefType::Defined(ty) => put_defined(out, ty),
+        DefType::Func(ty) => put_function(out, ty),
     }
 }
 
-/// Appends a type. It is too long where a count in it passes 4,294,967,295.
+/// Appends a type. It is too long where a count or the length of a name in it passes 4,294,967,295.
 pub fn write_type(out: &mut Vec<u8>, ty: &DefType) -> Result<(), Error>
     ensures { Appends result out.old out.new (entry (shown_type ty.now)) }
 {
@@ -139,5 +182,6 @@ pub fn type_len(ty: &DefType) -> Option<u32>
 {
     match ty {
         DefType::Defined(ty) => defined_len(ty),
+        DefType::Func(ty) => function_len(ty),
     }
 }

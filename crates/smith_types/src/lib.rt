@@ -3,6 +3,7 @@
 
 pub mod drops;
 pub mod encode;
+pub mod func;
 pub mod laws;
 pub mod make;
 pub mod scopes;

@@ -78,6 +78,7 @@ impl Scope {
         self.types.reserve(1)?;
         match &*entry {
             DefType::Defined(_) => self.defined.push(index)?,
+            DefType::Func(_) => (),
         }
         self.types.push_reserved(entry);
         Ok(index)

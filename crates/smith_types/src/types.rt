@@ -1,5 +1,8 @@
 //! Types of a component (Explainer.md, type definitions).
 
+use crate::func::FuncType;
+use std::rc::Rc;
+
 /// A primitive value type.
 #[derive(Debug, Clone, Copy, PartialEq, Eq, Hash)]
 pub enum PrimitiveValType {
@@ -51,12 +54,40 @@ pub struct ResultType {
     pub err_ty: Option<ComponentValType>,
 }
 
+/// Named values, from 1 to 100 fields.
+#[derive(Debug, Drop)]
+pub struct RecordType {
+    pub fields: Vec<(String, ComponentValType)>,
+}
+
+/// One of several named cases, from 1 to 100, each with or without a value.
+#[derive(Debug, Drop)]
+pub struct VariantType {
+    pub cases: Vec<(String, Option<ComponentValType>)>,
+}
+
+/// Named truth values, from 1 to 32.
+#[derive(Debug, Drop)]
+pub struct FlagsType {
+    pub fields: Vec<String>,
+}
+
+/// One of several names, from 1 to 100.
+#[derive(Debug, Drop)]
+pub struct EnumType {
+    pub variants: Vec<String>,
+}
+
 /// A type of values.
 #[derive(Debug, Drop)]
 pub enum DefinedType {
     Primitive(PrimitiveValType),
+    Record(RecordType),
+    Variant(VariantType),
     List(ListType),
     Tuple(TupleType),
+    Flags(FlagsType),
+    Enum(EnumType),
     Option(OptionType),
     Result(ResultType),
 }
@@ -65,4 +96,5 @@ pub enum DefinedType {
 #[derive(Debug, Drop)]
 pub enum DefType {
     Defined(DefinedType),
+    Func(Rc<FuncType>),
 }

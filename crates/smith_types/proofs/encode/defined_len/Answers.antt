@@ -1,16 +1,21 @@
-use Rattle.std.proofs.Common.{[], ◌∷◌, arith}
+use Rattle.std.proofs.Common.{string_bytes}
+use Rattle.smith_core.specs.Piece.{text}
 use Rattle.smith_core.proofs.Loops.{many-map}
-use Rattle.smith_core.proofs.Sizes.{length_behind, takes_bytes, too_much_right}
-use Rattle.smith_types.specs.Grammar.{val}
-use Rattle.smith_types.specs.Shown.{shown_val}
+use Rattle.smith_types.specs.Grammar.{field, case, val}
+use Rattle.smith_types.specs.Shown.{shown_field, shown_case, shown_val}
 use Rattle.smith_types.proofs.encode.defined_len.Goals as goal
 
-pub returns-in_err-many_len-in-Tuple : goal.returns-in_err-many_len-in-Tuple
-returns-in_err-many_len-in-Tuple c =
-    rw (c.from_residual.ensures, c.in-Tuple.is, many-map val shown_val _)
-    (too_much_right _ (rw c.deref.ensures.value at (c.in_err-many_len-in-Tuple.ensures {u = tt})))
+pub returns-in-Record : goal.returns-in-Record
+returns-in-Record c = rw (c.in-Record.is, many-map field shown_field _) (rw c.deref.ensures.value at (c.tagged_len.ensures 0x72))
 
-pub returns-in_ok-many_len-in-Tuple : goal.returns-in_ok-many_len-in-Tuple
-returns-in_ok-many_len-in-Tuple c =
-    rw (c.in-Tuple.is, many-map val shown_val _)
-    (length_behind c.checked_add.result c.checked_add.ensures (takes_bytes 1 (0x6f ∷ []) (omega arith)) (rw c.deref.ensures.value at ((c.in_ok-many_len-in-Tuple.ensures {u = tt}).0)))
+pub returns-in-Variant : goal.returns-in-Variant
+returns-in-Variant c = rw (c.in-Variant.is, many-map case shown_case _) (rw c.deref-in-Variant.ensures.value at (c.tagged_len-in-Variant.ensures 0x71))
+
+pub returns-in-Tuple : goal.returns-in-Tuple
+returns-in-Tuple c = rw (c.in-Tuple.is, many-map val shown_val _) (rw c.deref-in-Tuple.ensures.value at (c.tagged_len-in-Tuple.ensures 0x6f))
+
+pub returns-in-Flags : goal.returns-in-Flags
+returns-in-Flags c = rw (c.in-Flags.is, many-map text string_bytes _) (rw c.deref-in-Flags.ensures.value at (c.tagged_len-in-Flags.ensures 0x6e))
+
+pub returns-in-Enum : goal.returns-in-Enum
+returns-in-Enum c = rw (c.in-Enum.is, many-map text string_bytes _) (rw c.deref-in-Enum.ensures.value at (c.tagged_len-in-Enum.ensures 0x6d))
