@@ -4,4 +4,5 @@ pub mod MemberLemmas
 pub mod SameLemmas
 pub mod ScopeLemmas
 pub mod ScriptLemmas
+pub mod SignatureLemmas
 pub mod Unique
