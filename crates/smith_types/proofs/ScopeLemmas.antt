@@ -1,12 +1,15 @@
 -- Stacks of scopes, and the places of their entries.
-use Rattle.std.proofs.Common.{◌≡◌, ℕ, ◌+◌, ◌<◌, ◌≤◌, Bool, true, false, cond, List, [], ◌∷◌, ◌++◌, length, map, reverse, refl, sym, ap, ◌∙◌, arith, append-nil, append_assoc}
+use Rattle.std.proofs.Common.{◌≡◌, ℕ, ◌+◌, ◌<◌, ◌≤◌, Bool, true, false, cond, List, [], ◌∷◌, ◌++◌, get_or, length, map, reverse, refl, sym, ap, ◌∙◌, arith, append-nil, append_assoc}
+use Rattle.std.proofs.Math.ListN.{get_or-map}
 use Rattle.std.proofs.lemmas.List.{reverse-append, map-append, length-map, length-reverse}
 use Rattle.smith_types.specs.Entries.{Entry}
 use Rattle.smith_types.specs.Places.{places}
-use Rattle.smith_types.specs.Scope.{Scope, empty_scope, with_type, with_types, shown_scope, inward, own_of, outer_of}
-use Rattle.smith_types.specs.Shown.{shown_type}
-use Rattle.smith_types.specs.Stack.{last_of, AddsType}
+use Rattle.smith_types.specs.Scope.{Scope, empty_scope, with_type, with_types, shown_scope, inward, own_of, outer_of, is_defined, is_func}
+use Rattle.smith_types.specs.Shown.{shown_type, shown_defined}
+use Rattle.smith_types.specs.Stack.{last_of, scope_at, AddsType}
 use Rattle.smith_types.specs.declared.types.DefType.{DefType}
+use Rattle.smith_types.specs.declared.types.DefinedType.{DefinedType}
+use Rattle.smith_types.specs.declared.types.DefinedType.TheVariants as defined
 
 pub last_of-snoc : (ss : List (List DefType)) (s : List DefType) → last_of (ss ++ s ∷ []) ≡ s
 last_of-snoc [] s = refl
@@ -15,6 +18,10 @@ last_of-snoc (t ∷ r ∷ ss) s = last_of-snoc (r ∷ ss) s
 
 pub last_is : (scopes ss : List (List DefType)) (s : List DefType) → ss ++ s ∷ [] ≡ scopes → last_of scopes ≡ s
 last_is scopes ss s e = ap last_of (sym e) ∙ last_of-snoc ss s
+
+-- what holds of the places in the innermost scope holds of those in the last one
+pub places_last : (test : DefType → Bool) (scopes ss : List (List DefType)) (s : List DefType) (row : List ℕ) → ss ++ s ∷ [] ≡ scopes → row ≡ places test 0 s → row ≡ places test 0 (last_of scopes)
+places_last test scopes ss s row e is = is ∙ ap (places test 0) (sym (last_is scopes ss s e))
 
 pub inward-snoc : (ss : List (List DefType)) (s : List DefType) → inward (ss ++ s ∷ []) ≡ shown_scope s ∷ inward ss
 inward-snoc ss s = ap reverse (map-append shown_scope ss (s ∷ [])) ∙ reverse-append (map shown_scope ss) (shown_scope s ∷ [])
@@ -41,6 +48,30 @@ module _ {A : Type 0} (p : A → Bool) where
   pub length-places : (i : ℕ) (xs : List A) → length (places p i xs) ≤ length xs
   length-places i [] = omega arith
   length-places i (x ∷ xs) = let h = longer (p x) i (places p (i + 1) xs) (length xs) (length-places (i + 1) xs) in omega arith
+
+-- the kind of a defined type
+
+pub shown_is_defined : (d : DefinedType) → is_defined (shown_defined d) ≡ true
+shown_is_defined (defined.Primitive p) = refl
+shown_is_defined (defined.Record t) = refl
+shown_is_defined (defined.Variant t) = refl
+shown_is_defined (defined.List t) = refl
+shown_is_defined (defined.Tuple t) = refl
+shown_is_defined (defined.Flags t) = refl
+shown_is_defined (defined.Enum t) = refl
+shown_is_defined (defined.Option t) = refl
+shown_is_defined (defined.Result t) = refl
+
+pub shown_no_func : (d : DefinedType) → is_func (shown_defined d) ≡ false
+shown_no_func (defined.Primitive p) = refl
+shown_no_func (defined.Record t) = refl
+shown_no_func (defined.Variant t) = refl
+shown_no_func (defined.List t) = refl
+shown_no_func (defined.Tuple t) = refl
+shown_no_func (defined.Flags t) = refl
+shown_no_func (defined.Enum t) = refl
+shown_no_func (defined.Option t) = refl
+shown_no_func (defined.Result t) = refl
 
 pub length-inward : (scopes : List (List DefType)) → length (inward scopes) ≡ length scopes
 length-inward scopes = length-reverse (map shown_scope scopes) ∙ length-map scopes shown_scope
@@ -97,6 +128,17 @@ with_none s = ap (λ ts. record { types = ts; core_types = s.core_types }) (appe
 
 pub with_more : (s : Scope) (es : List Entry) (e : Entry) → with_type (with_types s es) e ≡ with_types s (es ++ e ∷ [])
 with_more s es e = ap (λ ts. record { types = ts; core_types = s.core_types }) (append_assoc s.types es (e ∷ []))
+
+map-reverse : {A B : Type 0} (f : A → B) (xs : List A) → reverse (map f xs) ≡ map f (reverse xs)
+map-reverse f [] = refl
+map-reverse f (x ∷ xs) =
+    reverse-append (f x ∷ []) (map f xs)
+    ∙ (ap (λ ys. ys ++ f x ∷ []) (map-reverse f xs) ∙ sym (map-append f (reverse xs) (x ∷ [])))
+    ∙ ap (map f) (sym (reverse-append (x ∷ []) xs))
+
+-- the scope of a count, as it is shown
+pub scope_shown : (scopes : List (List DefType)) (count : ℕ) → get_or (inward scopes) count empty_scope ≡ shown_scope (scope_at scopes count)
+scope_shown scopes count = ap (λ ss. get_or ss count empty_scope) (map-reverse shown_scope scopes) ∙ get_or-map shown_scope (reverse scopes) count []
 
 -- Scopes of which there is one.
 pub split_scopes : (ss : List Scope) → 0 < length ss → ss ≡ own_of ss ∷ outer_of ss

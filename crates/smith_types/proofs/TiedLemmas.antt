@@ -5,12 +5,11 @@ use Rattle.std.specs.HashMap.{HashMap}
 use Rattle.std.specs.declared.alloc.Global.{Global}
 use Rattle.std.specs.declared.rc.Rc.{Rc}
 use Rattle.std.specs.declared.vec.Vec.{Vec}
-use Rattle.smith_types.specs.Entries.{Entry}
 use Rattle.smith_types.specs.Places.{places}
 use Rattle.smith_types.specs.Rows.{row_of, Notes}
 use Rattle.smith_types.specs.SameSignature.{same_signature}
-use Rattle.smith_types.specs.Scope.{is_kind, is_defined, is_func}
-use Rattle.smith_types.specs.Shown.{shown_type, shown_defined}
+use Rattle.smith_types.specs.Scope.{is_kind}
+use Rattle.smith_types.specs.Shown.{shown_type}
 use Rattle.smith_types.specs.Signature.{Signature}
 use Rattle.smith_types.specs.SignatureLaws.{same_signature_equiv}
 use Rattle.smith_types.specs.Stack.{has_signature}
@@ -19,32 +18,9 @@ use Rattle.smith_types.specs.declared.func.FuncType.{FuncType}
 use Rattle.smith_types.specs.declared.scopes.Kind.{Kind}
 use Rattle.smith_types.specs.declared.scopes.Kind.TheVariants.{Defined, Func}
 use Rattle.smith_types.specs.declared.types.DefinedType.{DefinedType}
-use Rattle.smith_types.specs.declared.types.DefinedType.TheVariants as defined
 use Rattle.smith_types.specs.declared.types.DefType.{DefType}
 use Rattle.smith_types.specs.declared.types.DefType.TheVariants as def
-use Rattle.smith_types.proofs.ScopeLemmas.{places-append}
-
-shown_is_defined : (d : DefinedType) → is_defined (shown_defined d) ≡ true
-shown_is_defined (defined.Primitive p) = refl
-shown_is_defined (defined.Record t) = refl
-shown_is_defined (defined.Variant t) = refl
-shown_is_defined (defined.List t) = refl
-shown_is_defined (defined.Tuple t) = refl
-shown_is_defined (defined.Flags t) = refl
-shown_is_defined (defined.Enum t) = refl
-shown_is_defined (defined.Option t) = refl
-shown_is_defined (defined.Result t) = refl
-
-shown_no_func : (d : DefinedType) → is_func (shown_defined d) ≡ false
-shown_no_func (defined.Primitive p) = refl
-shown_no_func (defined.Record t) = refl
-shown_no_func (defined.Variant t) = refl
-shown_no_func (defined.List t) = refl
-shown_no_func (defined.Tuple t) = refl
-shown_no_func (defined.Flags t) = refl
-shown_no_func (defined.Enum t) = refl
-shown_no_func (defined.Option t) = refl
-shown_no_func (defined.Result t) = refl
+use Rattle.smith_types.proofs.ScopeLemmas.{places-append, shown_is_defined, shown_no_func}
 
 -- one item more at the end
 pushed : {A : Type 0} (p : A → Bool) (xs : List A) (x : A) (b : Bool) → p x ≡ b → places p 0 (xs ++ x ∷ []) ≡ places p 0 xs ++ cond b (length xs ∷ []) []

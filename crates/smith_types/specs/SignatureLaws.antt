@@ -1,6 +1,6 @@
 -- The equality of signatures answers true exactly where they are the same, so it is an equivalence, and equal ones
 -- feed a hasher the same.
-use Rattle.std.specs.Prelude.{◌≡◌, Bool, true, List, [], ◌∷◌, Option, Some, None, refl}
+use Rattle.std.specs.Prelude.{◌≡◌, Bool, true, Option, Some, None, refl}
 use Rattle.std.specs.Cmp.{IsEquivalence, IsPartialEquivalence, partial_equiv_from_equiv}
 use Rattle.std.specs.Cmp.Lexicographic.{bytes_decides, pointwise_decides}
 use Rattle.std.specs.Option.{option_eq}

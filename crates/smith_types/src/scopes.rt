@@ -65,7 +65,12 @@ impl Model for Scopes {
 }
 
 // Puts the index at the end of the row of a function type. Where it refuses, each row is as it was.
-fn note(equal: &mut HashMap<FuncType, Vec<u32>>, alloc: Global, func: &FuncType, index: u32) -> Result<(), Error>
+fn note(
+    equal: &mut HashMap<FuncType, Vec<u32>>,
+    alloc: Global,
+    func: &FuncType,
+    index: u32,
+) -> Result<(), Error>
     ensures ok { OnOk result (Notes func.now index equal.old equal.new) }
     ensures err { OnErr result (SameRows equal.old equal.new) }
     ensures memory { IfErr result (λ e. e ≡ Error.OutOfMemory) }
