@@ -1,8 +1,11 @@
 pub mod Lengths
 pub mod MadeLemmas
 pub mod MemberLemmas
+pub mod RowLemmas
 pub mod SameLemmas
 pub mod ScopeLemmas
 pub mod ScriptLemmas
+pub mod SignatureLemmas
+pub mod TiedLemmas
 pub mod Signatures
 pub mod Unique

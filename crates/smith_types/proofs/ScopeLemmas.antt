@@ -1,31 +1,33 @@
 -- Stacks of scopes, and the places of their entries.
-use Rattle.std.proofs.Common.{◌≡◌, ℕ, ◌+◌, ◌<◌, ◌≤◌, Bool, true, false, cond, List, [], ◌∷◌, ◌++◌, length, map, reverse, refl, sym, ap, ◌∙◌, arith, append-nil, append_assoc}
+use Rattle.std.proofs.Common.{◌≡◌, ℕ, ◌+◌, ◌<◌, ◌≤◌, Bool, true, false, cond, List, [], ◌∷◌, ◌++◌, get_or, length, map, reverse, refl, sym, ap, ◌∙◌, arith, append-nil, append_assoc}
+use Rattle.std.proofs.Math.ListN.{get_or-map}
 use Rattle.std.proofs.lemmas.List.{reverse-append, map-append, length-map, length-reverse}
-use Rattle.std.specs.declared.alloc.Global.{Global}
-use Rattle.std.specs.declared.rc.Rc.{Rc}
-use Rattle.smith_types.specs.Entries.{Entry, plain, listed, tuple, optional, outcome}
+use Rattle.smith_types.specs.Entries.{Entry}
 use Rattle.smith_types.specs.Places.{places}
-use Rattle.smith_types.specs.Scope.{Scope, empty_scope, with_type, with_types, shown_scope, inward, own_of, outer_of, is_defined}
-use Rattle.smith_types.specs.Shown.{shown_type}
-use Rattle.smith_types.specs.Stack.{last_of, AddsType}
-use Rattle.smith_types.specs.Tied.{types_in, IsTied}
-use Rattle.smith_types.specs.declared.scopes.Kind.{Kind}
-use Rattle.smith_types.specs.declared.scopes.Kind.TheVariants.{Defined}
+use Rattle.smith_types.specs.Scope.{Scope, empty_scope, with_type, with_types, shown_scope, inward, own_of, outer_of, is_defined, is_func}
+use Rattle.smith_types.specs.Shown.{shown_type, shown_defined}
+use Rattle.smith_types.specs.Stack.{last_of, scope_at, AddsType}
 use Rattle.smith_types.specs.declared.types.DefType.{DefType}
+use Rattle.smith_types.specs.declared.types.DefinedType.{DefinedType}
+use Rattle.smith_types.specs.declared.types.DefinedType.TheVariants as defined
 
 pub last_of-snoc : (ss : List (List DefType)) (s : List DefType) → last_of (ss ++ s ∷ []) ≡ s
 last_of-snoc [] s = refl
 last_of-snoc (t ∷ []) s = refl
 last_of-snoc (t ∷ r ∷ ss) s = last_of-snoc (r ∷ ss) s
 
+pub last_is : (scopes ss : List (List DefType)) (s : List DefType) → ss ++ s ∷ [] ≡ scopes → last_of scopes ≡ s
+last_is scopes ss s e = ap last_of (sym e) ∙ last_of-snoc ss s
+
+-- what holds of the places in the innermost scope holds of those in the last one
+pub places_last : (test : DefType → Bool) (scopes ss : List (List DefType)) (s : List DefType) (row : List ℕ) → ss ++ s ∷ [] ≡ scopes → row ≡ places test 0 s → row ≡ places test 0 (last_of scopes)
+places_last test scopes ss s row e is = is ∙ ap (places test 0) (sym (last_is scopes ss s e))
+
 pub inward-snoc : (ss : List (List DefType)) (s : List DefType) → inward (ss ++ s ∷ []) ≡ shown_scope s ∷ inward ss
 inward-snoc ss s = ap reverse (map-append shown_scope ss (s ∷ [])) ∙ reverse-append (map shown_scope ss) (shown_scope s ∷ [])
 
 pub own_types : (scopes ss : List (List DefType)) (s : List DefType) → ss ++ s ∷ [] ≡ scopes → (own_of (inward scopes)).types ≡ map shown_type s
 own_types scopes ss s e = ap (λ t. (own_of (inward t)).types) (sym e) ∙ ap (λ t. (own_of t).types) (inward-snoc ss s)
-
-pub kind_is : (k : Kind) → k ≡ Defined
-kind_is Defined = refl
 
 module _ {A : Type 0} (p : A → Bool) where
   push_front : (b : Bool) (i : ℕ) (us vs : List ℕ) → cond b (i ∷ (us ++ vs)) (us ++ vs) ≡ cond b (i ∷ us) us ++ vs
@@ -47,35 +49,29 @@ module _ {A : Type 0} (p : A → Bool) where
   length-places i [] = omega arith
   length-places i (x ∷ xs) = let h = longer (p x) i (places p (i + 1) xs) (length xs) (length-places (i + 1) xs) in omega arith
 
--- every type is a defined one so far
-all_defined : (e : Entry) → is_defined e ≡ true
-all_defined (plain p) = refl
-all_defined (listed v) = refl
-all_defined (tuple vs) = refl
-all_defined (optional v) = refl
-all_defined (outcome ok err) = refl
+-- the kind of a defined type
 
--- What a scope keeps beside its types stays tied to them where it gains one.
-pub tied_push : (types : List DefType) (defined : List ℕ) (ty : DefType) → IsTied types defined → IsTied (types ++ ty ∷ []) (defined ++ length types ∷ [])
-tied_push types defined ty t = record {
-  defined_are =
-      ap (λ ws. ws ++ length types ∷ []) t.defined_are
-      ∙ (ap (λ n. places is_defined 0 (map shown_type types) ++ n ∷ []) (sym (length-map types shown_type)) ∙ pushed (map shown_type types) (shown_type ty))
-      ∙ ap (places is_defined 0) (sym (map-append shown_type types (ty ∷ [])));
-}
-  where
-    pushed : (es : List Entry) (e : Entry) → places is_defined 0 es ++ length es ∷ [] ≡ places is_defined 0 (es ++ e ∷ [])
-    pushed es e =
-        sym (
-        places-append is_defined 0 es (e ∷ [])
-        ∙ ap (λ b. places is_defined 0 es ++ cond b ((0 + length es) ∷ []) []) (all_defined e)
-        ∙ ap (λ n. places is_defined 0 es ++ n ∷ []) (let z : 0 + length es ≡ length es = omega arith in z)
-        )
+pub shown_is_defined : (d : DefinedType) → is_defined (shown_defined d) ≡ true
+shown_is_defined (defined.Primitive p) = refl
+shown_is_defined (defined.Record t) = refl
+shown_is_defined (defined.Variant t) = refl
+shown_is_defined (defined.List t) = refl
+shown_is_defined (defined.Tuple t) = refl
+shown_is_defined (defined.Flags t) = refl
+shown_is_defined (defined.Enum t) = refl
+shown_is_defined (defined.Option t) = refl
+shown_is_defined (defined.Result t) = refl
 
--- The same, where the new lists and the index are known by equations.
-pub tied_pushed : (entries new : List (Rc DefType Global)) (entry : Rc DefType Global) (defined after : List ℕ) (index : ℕ) → new ≡ entries ++ entry ∷ [] → after ≡ defined ++ index ∷ [] → index ≡ length entries → IsTied (types_in entries) defined → IsTied (types_in new) after
-tied_pushed entries new entry defined after index n a i t =
-    rw (n, a, map-append (λ (x : Rc DefType Global). x.value) entries (entry ∷ []), i, sym (length-map entries (λ (x : Rc DefType Global). x.value))) (tied_push (types_in entries) defined entry.value t)
+pub shown_no_func : (d : DefinedType) → is_func (shown_defined d) ≡ false
+shown_no_func (defined.Primitive p) = refl
+shown_no_func (defined.Record t) = refl
+shown_no_func (defined.Variant t) = refl
+shown_no_func (defined.List t) = refl
+shown_no_func (defined.Tuple t) = refl
+shown_no_func (defined.Flags t) = refl
+shown_no_func (defined.Enum t) = refl
+shown_no_func (defined.Option t) = refl
+shown_no_func (defined.Result t) = refl
 
 pub length-inward : (scopes : List (List DefType)) → length (inward scopes) ≡ length scopes
 length-inward scopes = length-reverse (map shown_scope scopes) ∙ length-map scopes shown_scope
@@ -132,6 +128,17 @@ with_none s = ap (λ ts. record { types = ts; core_types = s.core_types }) (appe
 
 pub with_more : (s : Scope) (es : List Entry) (e : Entry) → with_type (with_types s es) e ≡ with_types s (es ++ e ∷ [])
 with_more s es e = ap (λ ts. record { types = ts; core_types = s.core_types }) (append_assoc s.types es (e ∷ []))
+
+map-reverse : {A B : Type 0} (f : A → B) (xs : List A) → reverse (map f xs) ≡ map f (reverse xs)
+map-reverse f [] = refl
+map-reverse f (x ∷ xs) =
+    reverse-append (f x ∷ []) (map f xs)
+    ∙ (ap (λ ys. ys ++ f x ∷ []) (map-reverse f xs) ∙ sym (map-append f (reverse xs) (x ∷ [])))
+    ∙ ap (map f) (sym (reverse-append (x ∷ []) xs))
+
+-- the scope of a count, as it is shown
+pub scope_shown : (scopes : List (List DefType)) (count : ℕ) → get_or (inward scopes) count empty_scope ≡ shown_scope (scope_at scopes count)
+scope_shown scopes count = ap (λ ss. get_or ss count empty_scope) (map-reverse shown_scope scopes) ∙ get_or-map shown_scope (reverse scopes) count []
 
 -- Scopes of which there is one.
 pub split_scopes : (ss : List Scope) → 0 < length ss → ss ≡ own_of ss ∷ outer_of ss

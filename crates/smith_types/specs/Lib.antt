@@ -3,10 +3,13 @@ pub mod Entries
 pub mod Grammar
 pub mod Made
 pub mod Places
+pub mod Rows
+pub mod SameSignature
 pub mod Scope
 pub mod Script
 pub mod Shown
 pub mod Signature
+pub mod SignatureLaws
 pub mod Stack
 pub mod Tied
 pub mod WellFormed

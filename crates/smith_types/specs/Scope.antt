@@ -4,7 +4,7 @@ use Rattle.smith_types.specs.Entries.{Entry, CoreEntry, plain, fields, cases, li
 use Rattle.smith_types.specs.Places.{places}
 use Rattle.smith_types.specs.Shown.{shown_type}
 use Rattle.smith_types.specs.declared.scopes.Kind.{Kind}
-use Rattle.smith_types.specs.declared.scopes.Kind.TheVariants.{Defined}
+use Rattle.smith_types.specs.declared.scopes.Kind.TheVariants.{Defined, Func}
 use Rattle.smith_types.specs.declared.types.DefType.{DefType}
 
 -- what stands before a place in one scope: the types and the core types
@@ -36,8 +36,22 @@ is_defined (optional v) = true
 is_defined (outcome ok err) = true
 is_defined (function ps r) = false
 
+-- Is it a type of functions?
+abbrev pub is_func : Entry → Bool
+is_func (plain p) = false
+is_func (fields fs) = false
+is_func (cases cs) = false
+is_func (listed v) = false
+is_func (tuple vs) = false
+is_func (flags ns) = false
+is_func (labels ns) = false
+is_func (optional v) = false
+is_func (outcome ok err) = false
+is_func (function ps r) = true
+
 abbrev pub is_kind : Kind → Entry → Bool
 is_kind Defined e = is_defined e
+is_kind Func e = is_func e
 
 -- the indexes of the defined types, rising
 abbrev pub defined_places : Scope → List ℕ

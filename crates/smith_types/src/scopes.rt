@@ -2,13 +2,16 @@
 
 ghost use Rattle.std.specs.Prelude.{◌≡◌, ℕ, ◌+◌, ◌<◌, ◌≤◌, [], ◌∷◌, ◌++◌, length, map, Some, slice_get, OnOk, IfOk, OnErr, IfErr};
 ghost use Rattle.smith_types.specs.Places.{places};
+ghost use Rattle.smith_types.specs.Rows.{Notes, SameRows};
 ghost use Rattle.smith_types.specs.Scope.{inward, own_of, is_kind};
 ghost use Rattle.smith_types.specs.Shown.{shown_type};
-ghost use Rattle.smith_types.specs.Stack.{last_of, AddsType};
+ghost use Rattle.smith_types.specs.Stack.{last_of, scope_at, has_signature, AddsType};
 
+use crate::func::FuncType;
 use crate::types::DefType;
 use smith_input::Error;
 use std::alloc::Global;
+use std::collections::HashMap;
 use std::marker::Model;
 use std::mem;
 use std::rc::Rc;
@@ -18,13 +21,18 @@ use std::rc::Rc;
 pub enum Kind {
     /// A defined type, as against that of a function, a component or an instance.
     Defined,
+    /// The type of a function.
+    Func,
 }
 
-// The types of one scope, with the indexes of each kind. Contracts see the types.
+// The types of one scope, with the indexes of each kind and, by each function type, those of its equals. Contracts see
+// the types.
 #[derive(Drop)]
 struct Scope {
     types: Vec<Rc<DefType>>,
     defined: Vec<u32>,
+    funcs: Vec<u32>,
+    equal: HashMap<FuncType, Vec<u32>>,
 }
 
 impl Model for Scope {
@@ -36,7 +44,7 @@ impl Model for Scope {
 
     ghost view = { λ s. types_in s.types.items };
 
-    ghost invariant = { λ s. IsTied (types_in s.types.items) s.defined.items };
+    ghost invariant = { λ s. IsTied (types_in s.types.items) s.defined.items s.funcs.items s.equal };
 }
 
 /// A stack of scopes, never empty. Contracts see the list, outermost first, of the types in each.
@@ -56,6 +64,28 @@ impl Model for Scopes {
     ghost view = { λ s. s.outer.items ++ s.inner ∷ [] };
 }
 
+// Puts the index at the end of the row of a function type. Where it refuses, each row is as it was.
+fn note(
+    equal: &mut HashMap<FuncType, Vec<u32>>,
+    alloc: Global,
+    func: &FuncType,
+    index: u32,
+) -> Result<(), Error>
+    ensures ok { OnOk result (Notes func.now index equal.old equal.new) }
+    ensures err { OnErr result (SameRows equal.old equal.new) }
+    ensures memory { IfErr result (λ e. e ≡ Error.OutOfMemory) }
+{
+    if let Some(row) = equal.get_mut(func) {
+        row.push(index)?;
+        return Ok(());
+    }
+    let mut row = Vec::with_capacity(alloc, 1)?;
+    row.push_reserved(index);
+    let key = func.copied(alloc)?;
+    equal.insert(key, row)?;
+    Ok(())
+}
+
 impl Scope {
     fn new(alloc: Global) -> Scope
         ensures { result ≡ [] }
@@ -63,11 +93,13 @@ impl Scope {
         Scope {
             types: Vec::new(alloc),
             defined: Vec::new(alloc),
+            funcs: Vec::new(alloc),
+            equal: HashMap::new(alloc),
         }
     }
 
     // Adds a type at the end. Each list has room before one of them grows.
-    fn push_type(&mut self, entry: Rc<DefType>) -> Result<u32, Error>
+    fn push_type(&mut self, alloc: Global, entry: Rc<DefType>) -> Result<u32, Error>
         requires { length self.old < 4294967295 }
         ensures ok { OnOk result (self.new ≡ self.old ++ entry.value ∷ []) }
         ensures index { IfOk result (λ i. i ≡ length self.old) }
@@ -78,7 +110,11 @@ impl Scope {
         self.types.reserve(1)?;
         match &*entry {
             DefType::Defined(_) => self.defined.push(index)?,
-            DefType::Func(_) => (),
+            DefType::Func(func) => {
+                self.funcs.reserve(1)?;
+                note(&mut self.equal, alloc, &**func, index)?;
+                self.funcs.push_reserved(index);
+            }
         }
         self.types.push_reserved(entry);
         Ok(index)
@@ -89,6 +125,7 @@ impl Scope {
     {
         match kind {
             Kind::Defined => self.defined.len(),
+            Kind::Func => self.funcs.len(),
         }
     }
 
@@ -98,6 +135,16 @@ impl Scope {
     {
         match kind {
             Kind::Defined => self.defined[k],
+            Kind::Func => self.funcs[k],
+        }
+    }
+
+    fn equals(&self, func: &FuncType) -> &[u32]
+        ensures { result.now ≡ places (has_signature func.now) 0 self.now }
+    {
+        match self.equal.get(func) {
+            Some(row) => row,
+            None => &[],
         }
     }
 }
@@ -145,7 +192,43 @@ impl Scopes {
         ensures err { OnErr result (self.new ≡ self.old) }
         ensures memory { IfErr result (λ e. e ≡ Error.OutOfMemory) }
     {
-        self.inner.push_type(entry)
+        self.inner.push_type(self.alloc, entry)
+    }
+
+    /// How many scopes there are.
+    pub fn depth(&self) -> usize
+        ensures { result ≡ length self.now }
+    {
+        self.outer.len() + 1
+    }
+
+    // The scope of that count, where 0 is the last.
+    fn scope(&self, count: u32) -> &Scope
+        requires { count < length self.now }
+        ensures { result.now ≡ scope_at self.now count }
+    {
+        if count == 0 {
+            &self.inner
+        } else {
+            &self.outer[self.outer.len() - count as usize]
+        }
+    }
+
+    /// How many types the scope of that count has, where 0 is the last.
+    pub fn len(&self, count: u32) -> usize
+        requires { count < length self.now }
+        ensures { result ≡ length (scope_at self.now count) }
+    {
+        self.scope(count).types.len()
+    }
+
+    /// The type with the index `i` in the scope of that count, where 0 is the last.
+    pub fn get(&self, count: u32, i: u32) -> &Rc<DefType>
+        requires scope { count < length self.now }
+        requires entry { i < length (scope_at self.now count) }
+        ensures { slice_get (scope_at self.now count) i ≡ Some result.now.value }
+    {
+        &self.scope(count).types[i as usize]
     }
 
     /// How many entries of the last scope are of that kind.
@@ -161,5 +244,20 @@ impl Scopes {
         ensures { slice_get (places (is_kind kind) 0 (own_of (inward self.now)).types) k ≡ Some result }
     {
         self.inner.kind_at(kind, k)
+    }
+
+    /// How many types of the last scope are function types equal to that one.
+    pub fn equal_len(&self, func: &FuncType) -> usize
+        ensures { result ≡ length (places (has_signature func.now) 0 (last_of self.now)) }
+    {
+        self.inner.equals(func).len()
+    }
+
+    /// The index of the function type of the last scope that equals that one and has `k` earlier such ones.
+    pub fn equal_at(&self, func: &FuncType, k: usize) -> u32
+        requires { k < length (places (has_signature func.now) 0 (last_of self.now)) }
+        ensures { slice_get (places (has_signature func.now) 0 (last_of self.now)) k ≡ Some result }
+    {
+        self.inner.equals(func)[k]
     }
 }

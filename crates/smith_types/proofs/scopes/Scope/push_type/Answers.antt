@@ -1,9 +1,17 @@
-use Rattle.std.proofs.Common.{◌∙◌, ap, ◌++◌, ◌∷◌, []}
-use Rattle.smith_types.proofs.ScopeLemmas.{tied_pushed}
+use Rattle.std.proofs.Common.{◌∷◌, [], ◌++◌, sym, ap, ◌∙◌}
+use Rattle.smith_types.specs.Rows.{row_of}
+use Rattle.smith_types.proofs.TiedLemmas.{pushed_defined, pushed_function}
 use Rattle.smith_types.proofs.scopes.Scope.push_type.Goals as goal
+use Rattle.smith_types.proofs.scopes.Scope.push_type.Goals.{in-Defined+in_ok-push-in-Defined, in-Func+in_ok-reserve-in-Func+in_ok-note-in-Func}
 
 pub invariant_of-self-2 : goal.invariant_of-self-2
 invariant_of-self-2 c =
-    tied_pushed c.self.inside.types.items _ c.args.entry c.self.inside.defined.items _ c.len-index.result
-    (c.push_reserved.ensures.items ∙ ap (λ es. es ++ c.args.entry ∷ []) c.in_ok-reserve.ensures.items)
-    c.in_ok-push.ensures.items (c.len-index.ensures ∙ c.self.inside.types.ok.0) c.self.invariant
+    let at = c.len-index.ensures ∙ c.self.inside.types.ok.0 in
+    elim c.match-deref.branch [
+      | in-Defined+in_ok-push-in-Defined w ↦
+          let listed = c.push_reserved-2.ensures.items ∙ ap (λ s. s.types.items ++ c.args.entry ∷ []) w.self-inside-is ∙ ap (λ es. es ++ c.args.entry ∷ []) c.in_ok-reserve.ensures.items in
+          pushed_defined c.self.inside.types.items c.self.invariant c.len-index.result at c.args.entry c.push_reserved-2.new.self.items listed _ (sym c.deref.ensures ∙ w.in-Defined.is) (ap (λ s. s.defined.items) w.self-inside-is ∙ w.in_ok-push-in-Defined.ensures.items) (ap (λ s. s.funcs.items) w.self-inside-is) (ap (λ s. s.equal) w.self-inside-is)
+      | in-Func+in_ok-reserve-in-Func+in_ok-note-in-Func w ↦
+          let listed = c.push_reserved-2.ensures.items ∙ ap (λ s. s.types.items ++ c.args.entry ∷ []) w.self-inside-is ∙ ap (λ es. es ++ c.args.entry ∷ []) c.in_ok-reserve.ensures.items in
+          pushed_function c.self.inside.types.items c.self.invariant c.len-index.result at c.args.entry c.push_reserved-2.new.self.items listed w.in-Func.func (sym c.deref.ensures ∙ w.in-Func.is) (ap (λ s. s.defined.items) w.self-inside-is) (ap (λ s. s.funcs.items) w.self-inside-is ∙ w.push_reserved.ensures.items ∙ ap (λ is. is ++ c.len-index.result ∷ []) w.in_ok-reserve-in-Func.ensures.items) (let told = rw w.deref-in-Func.ensures at w.in_ok-note-in-Func.ensures.ok in λ s. ap (λ x. row_of x.equal s) w.self-inside-is ∙ told s)
+    ]
