@@ -1,10 +1,24 @@
-use Rattle.std.proofs.Common.{ap, ◌∙◌, subst}
-use Rattle.smith_input.proofs.ReadingLemmas.{tail_trans}
+use Rattle.std.proofs.Common.{ap, ◌∙◌, subst, sym, rules}
+use Rattle.smith_input.proofs.ReadingLemmas.{tail_same, tail_trans}
+use Rattle.smith_component.specs.Turn.{Open}
 use Rattle.smith_component.specs.Steps.{next_of, Keeps}
 use Rattle.smith_component.specs.declared.builder.Step.{Step}
-use Rattle.smith_component.proofs.FollowsLemmas.{passes_step, passes_end}
-use Rattle.smith_component.proofs.RunLemmas.{reached_step, reached_answer}
+use Rattle.smith_component.proofs.FollowsLemmas.{Passes, passes_start, passes_step, passes_end}
+use Rattle.smith_component.proofs.RunLemmas.{Reached, reached_start, reached_step, reached_answer}
 use Rattle.smith_component.proofs.component.Component.new.Goals as goal
+
+pub loop-next-init : goal.loop-next-init
+loop-next-init c =
+    let made = (c.in_ok-builder.ensures {u = tt}).made in
+    let R : Open → Type 0 = λ s. Reached c.args.config c.args.u.now s c.args.u.now in
+    let P : Open → Type 0 = λ s. Passes c.args.config c.args.u.now s c.args.u.now in
+    record {
+      config = made.0;
+      consistent = search rules;
+      tail = tail_same _;
+      reached = subst R (sym made.1) (reached_start _ _);
+      passes = subst P (sym made.1) (passes_start _ _);
+    }
 
 pub loop-next-preserved : goal.loop-next-preserved
 loop-next-preserved c =
