@@ -10,9 +10,10 @@ pub mod scopes;
 pub mod types;
 
 pub use encode::{type_len, write_type};
+pub use func::FuncType;
 pub use make::arbitrary_type;
 pub use scopes::{Kind, Scopes};
 pub use types::{
-    ComponentValType, DefType, DefinedType, ListType, OptionType, PrimitiveValType, ResultType,
-    TupleType,
+    ComponentValType, DefType, DefinedType, EnumType, FlagsType, ListType, OptionType,
+    PrimitiveValType, RecordType, ResultType, TupleType, VariantType,
 };
