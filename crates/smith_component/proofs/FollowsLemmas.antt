@@ -91,7 +91,7 @@ types_read [] config outer max own done rest f l few small = end_read done max r
 types_read (x ∷ xs) config outer max own done rest f l few small =
     let said : List ℕ = script_type config.max_type_size own x in
     let later : List ℕ = script_types config max (done + 1) (with_type own x) xs in
-    let m = type_read own outer config.max_type_size x (later ++ rest) f.0 l.0 (omega arith) in
+    let m = type_read own (omega arith) outer config.max_type_size x (later ++ rest) f.0 l.0 in
     let n = length-append own.types (x ∷ []) in
     let P : List ℕ → Type 0 = λ z. TypesRead config outer max own done (1 ∷ z) (x ∷ xs) rest in
     subst P (sym (append_assoc said later rest)) (

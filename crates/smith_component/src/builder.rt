@@ -1,10 +1,11 @@
 //! The builder, turn by turn.
 
-ghost use Rattle.std.specs.Prelude.{◌≡◌, ℕ, List, ◌↔◌, ◌+◌, ◌≤◌, length, IfOk, IfErr, IsOk};
+ghost use Rattle.std.specs.Prelude.{◌≡◌, ℕ, List, ◌+◌, ◌≤◌, length, IfOk, IfErr};
 ghost use Rattle.smith_input.specs.Reading.{IsTail};
 ghost use Rattle.smith_core.specs.Consistent.{IsConsistent};
 ghost use Rattle.smith_component.specs.Building.{open_of};
 ghost use Rattle.smith_component.specs.Limits.{max_depth};
+ghost use Rattle.smith_component.specs.Refusals.{IsRefusal};
 ghost use Rattle.smith_component.specs.Scripted.{Scripted};
 ghost use Rattle.smith_component.specs.Shown.{shown_sections};
 ghost use Rattle.smith_component.specs.Steps.{next_of, Keeps};
@@ -19,7 +20,7 @@ mod parts;
 use crate::component::Component;
 use crate::item::Item;
 use open::OpenComponent;
-use smith_core::Config;
+use smith_core::{Config, ValType, configured_valtypes};
 use smith_input::{Error, Unstructured};
 use smith_types::Scopes;
 use std::alloc::Global;
@@ -31,6 +32,7 @@ use std::marker::Model;
 pub struct Builder {
     alloc: Global,
     config: Config,
+    valtypes: Vec<ValType>,
     scopes: Scopes,
     outer: Vec<OpenComponent>,
     inner: OpenComponent,
@@ -63,16 +65,18 @@ pub enum Step {
 
 impl Builder {
     /// A builder with one open component, empty. Limits that do not fit together are refused with
-    /// `InconsistentLimits`.
+    /// `InconsistentLimits`, and nothing else but for want of memory.
     pub fn new(alloc: Global, config: Config) -> Result<Builder, Error>
         ensures made { IfOk result (λ b. (b.config ≡ config) × (open_of b ≡ root)) }
-        ensures accepts { IsOk result ↔ IsConsistent config }
-        ensures refuses { IfErr result (λ e. e ≡ Error.InconsistentLimits) }
+        ensures accepted { IfOk result (λ _. IsConsistent config) }
+        ensures refuses { IfErr result (IsRefusal config) }
     {
         config.check()?;
+        let valtypes = configured_valtypes(alloc, &config)?;
         Ok(Builder {
             alloc,
             config,
+            valtypes,
             scopes: Scopes::new(alloc),
             outer: Vec::new(alloc),
             inner: OpenComponent::new(alloc),

@@ -1,4 +1,5 @@
 pub mod Clear
+pub mod Configured
 pub mod Consistent
 pub mod Defaults
 pub mod Module

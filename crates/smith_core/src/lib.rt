@@ -6,6 +6,8 @@ pub mod laws;
 pub mod module;
 pub mod numbers;
 pub mod pieces;
+pub mod types;
 
 pub use config::Config;
 pub use module::Module;
+pub use types::{RefType, ValType, configured_valtypes};

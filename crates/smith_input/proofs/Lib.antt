@@ -1,5 +1,6 @@
 pub mod Kebabs
 pub mod NameSets
+pub mod NewNames
 pub mod Picks
 pub mod ReadingLemmas
 pub mod TextsLemmas

@@ -73,6 +73,22 @@ pub record Gains {A : Type 0} (old new : BTreeSet (String A)) (name : List ℕ) 
   pub has : (q : List ℕ) → contains_text new q ≡ (bytes_eq name q || contains_text old q)
   pub size : btree_set_len new ≡ btree_set_len old + 1
 
+-- Is the text one of the names?
+abbrev pub is_among : List (List ℕ) → List ℕ → Bool
+is_among [] text = false
+is_among (name ∷ names) text = bytes_eq name text || is_among names text
+
+-- A set has these names, each once, and no others.
+pub record Holds {A : Type 0} (set : BTreeSet (String A)) (names : List (List ℕ)) : Type 0 where
+  pub has : (q : List ℕ) → contains_text set q ≡ is_among names q
+  pub size : btree_set_len set ≡ length names
+
+-- A name in kebab case that is read, and made unique among those that were read before it.
+pub record ReadsNew (max : ℕ) (names : List (List ℕ)) (bytes name rest : List ℕ) : Type 0 where
+  pub text : List ℕ
+  pub reads : ReadsKebab max bytes text rest
+  pub unique : IsMadeUnique (is_among names) (length names) text name
+
 -- the choice that gives a character of a name in kebab case where it stands: a to z are 0 to 25, 0 to 9 are 26 to 35,
 -- and a hyphen is 36
 abbrev pub code : ℕ → ℕ

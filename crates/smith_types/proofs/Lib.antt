@@ -1,11 +1,14 @@
+pub mod FunctionSpelling
 pub mod Lengths
 pub mod MadeLemmas
 pub mod MemberLemmas
+pub mod NewLemmas
 pub mod RowLemmas
 pub mod SameLemmas
 pub mod ScopeLemmas
 pub mod ScriptLemmas
+pub mod ScriptMembers
+pub mod ScriptVals
 pub mod SignatureLemmas
 pub mod TiedLemmas
-pub mod Signatures
 pub mod Unique

@@ -1,13 +1,17 @@
 -- The bytes, the fuel and the scopes alone decide what is made, and what is left.
 use Rattle.std.proofs.Common.{◌≡◌, ℕ, ◌-◌, ◌<◌, true, false, List, [], ◌∷◌, ◌++◌, length, refl, sym, ap, ◌∙◌, subst, arith}
 use Rattle.std.specs.Prelude.{Option, Some, None, slice_get}
+use Rattle.smith_input.specs.Names.{ReadsNew}
 use Rattle.smith_input.specs.Reading.{Reads}
+use Rattle.smith_input.proofs.NewNames.{new_unique}
 use Rattle.smith_input.proofs.ReadingLemmas.{reads_unique, flips_unique, more_unique}
-use Rattle.smith_types.specs.Entries.{Primitive, Val, Entry, primitive, indexed, plain, listed, optional, outcome}
+use Rattle.smith_types.specs.Entries.{Primitive, Val, Entry, primitive, indexed, plain, fields, cases, listed, tuple, flags, labels, optional, outcome, function}
 use Rattle.smith_types.specs.Scope.{Scope, defined_places}
-use Rattle.smith_types.specs.Made.{primitives, defined_kinds, ReadsPrimitive, ReadsVal, only_primitive, either_primitive, either_index, ReadsMaybe, absent, present, ReadsMembers, no_more, no_fuel, a_member, tuple_or_bool, MadePrimitive, MadeAs, MadeDefined, Made, spent, of_kind}
-use Rattle.smith_types.specs.declared.make.DefinedKind.{DefinedKind}
-use Rattle.smith_types.specs.declared.make.DefinedKind.TheVariants as kind
+use Rattle.smith_types.specs.Made.{primitives, defined_kinds, ReadsPrimitive, ReadsVal, only_primitive, either_primitive, either_index, ReadsMaybe, absent, present, ReadsMembers, no_more, no_fuel, a_member, ReadsNamed, ReadsResult, or_bool, type_kinds, MadeMembers, MadeAs, MadeDefined, MadeFunction, MadeOf, Made, spent, of_kind}
+use Rattle.smith_types.specs.declared.make.TypeKind.{TypeKind}
+use Rattle.smith_types.specs.declared.make.TypeKind.TheVariants.{Defined, Function, Component, Instance}
+use Rattle.smith_types.specs.declared.make.defined.DefinedKind.{DefinedKind}
+use Rattle.smith_types.specs.declared.make.defined.DefinedKind.TheVariants as kind
 
 primitive_same : (b : List ℕ) (p q : Primitive) (r s : List ℕ) → ReadsPrimitive b p r → ReadsPrimitive b q s → (p ≡ q) × (r ≡ s)
 primitive_same b p q r s x y =
@@ -82,21 +86,34 @@ module _ {A : Type 0} {Member : List A → List ℕ → A → List ℕ → Type 
       let d = members_same (so_far ++ y ∷ []) behind (fuel - 1) us vs r s f g (subst Q c.0 (subst P c.1 t)) u in
       record { value = λ j. c.0 j ∷ d.value j; rest = d.rest; left = d.left }
 
-made_primitive_same : (b : List ℕ) (fuel : ℕ) (d e : Entry) (r s : List ℕ) (f g : ℕ) → MadePrimitive b fuel d r f → MadePrimitive b fuel e s g → Same d e r s f g
-made_primitive_same b fuel d e r s f g (p, x, i, j) (q, y, k, l) =
-    let u = primitive_same b p q r s x y in
-    record { value = i ∙ (ap plain u.0 ∙ sym k); rest = u.1; left = j ∙ sym l }
+-- members of a type, by what each reads
+made_members_same : {A : Type 0} {Member : List A → List ℕ → A → List ℕ → Type 0} {max : ℕ} (one : (so_far : List A) (b : List ℕ) (x y : A) (r s : List ℕ) → Member so_far b x r → Member so_far b y s → (x ≡ y) × (r ≡ s)) (of : List A → Entry) (b : List ℕ) (fuel : ℕ) (d e : Entry) (r s : List ℕ) (f g : ℕ)
+    → MadeMembers Member max of b fuel d r f → MadeMembers Member max of b fuel e s g → Same d e r s f g
+made_members_same one of b fuel d e r s f g (xs, x, i) (ys, y, k) =
+    let u = members_same one [] b fuel xs ys r s f g x y in
+    record { value = i ∙ (ap (or_bool of) u.value ∙ sym k); rest = u.rest; left = u.left }
+
+vals_same : (own : Scope) (so_far : List Val) (b : List ℕ) (v w : Val) (r s : List ℕ) → ReadsVal own b v r → ReadsVal own b w s → (v ≡ w) × (r ≡ s)
+vals_same own so_far b v w r s x y = val_same own b v w r s x y
+
+labels_same : (so_far : List (List ℕ)) (b n m r s : List ℕ) → ReadsNew 100 so_far b n r → ReadsNew 100 so_far b m s → (n ≡ m) × (r ≡ s)
+labels_same so_far b n m r s x y = new_unique x y
+
+named_same : {B : Type 0} {Behind : List ℕ → B → List ℕ → Type 0} → ((b : List ℕ) (x y : B) (r s : List ℕ) → Behind b x r → Behind b y s → (x ≡ y) × (r ≡ s))
+    → (so_far : List (List ℕ × B)) (b : List ℕ) (x y : List ℕ × B) (r s : List ℕ) → ReadsNamed Behind so_far b x r → ReadsNamed Behind so_far b y s → (x ≡ y) × (r ≡ s)
+named_same {Behind = Behind} one so_far b x y r s p q =
+    let n = new_unique p.name q.name in
+    let t = one q.mid x.1 y.1 r s (subst (λ m. Behind m x.1 r) n.1 p.behind) q.behind in
+    (λ j. (n.0 j, t.0 j), t.1)
 
 as_same : (own : Scope) (k : DefinedKind) (b : List ℕ) (fuel : ℕ) (d e : Entry) (r s : List ℕ) (f g : ℕ) → MadeAs own k b fuel d r f → MadeAs own k b fuel e s g → Same d e r s f g
-as_same own kind.Primitive b fuel d e r s f g x y = made_primitive_same b fuel d e r s f g x y
-as_same own kind.Record b fuel d e r s f g x y = made_primitive_same b fuel d e r s f g x y
-as_same own kind.Variant b fuel d e r s f g x y = made_primitive_same b fuel d e r s f g x y
+as_same own kind.Primitive b fuel d e r s f g (p, x, i, j) (q, y, k, l) = let u = primitive_same b p q r s x y in record { value = i ∙ (ap plain u.0 ∙ sym k); rest = u.1; left = j ∙ sym l }
+as_same own kind.Record b fuel d e r s f g x y = made_members_same (named_same (val_same own)) fields b fuel d e r s f g x y
+as_same own kind.Variant b fuel d e r s f g x y = made_members_same (named_same (maybe_same own)) cases b fuel d e r s f g x y
 as_same own kind.List b fuel d e r s f g (v, x, i, j) (w, y, k, l) = let u = val_same own b v w r s x y in record { value = i ∙ (ap listed u.0 ∙ sym k); rest = u.1; left = j ∙ sym l }
-as_same own kind.Tuple b fuel d e r s f g (vs, x, i) (ws, y, k) =
-    let u = members_same (λ so_far c v w p q h t. val_same own c v w p q h t) [] b fuel vs ws r s f g x y in
-    record { value = i ∙ (ap tuple_or_bool u.value ∙ sym k); rest = u.rest; left = u.left }
-as_same own kind.Flags b fuel d e r s f g x y = made_primitive_same b fuel d e r s f g x y
-as_same own kind.Enum b fuel d e r s f g x y = made_primitive_same b fuel d e r s f g x y
+as_same own kind.Tuple b fuel d e r s f g x y = made_members_same (vals_same own) tuple b fuel d e r s f g x y
+as_same own kind.Flags b fuel d e r s f g x y = made_members_same labels_same flags b fuel d e r s f g x y
+as_same own kind.Enum b fuel d e r s f g x y = made_members_same labels_same labels b fuel d e r s f g x y
 as_same own kind.Option b fuel d e r s f g (v, x, i, j) (w, y, k, l) = let u = val_same own b v w r s x y in record { value = i ∙ (ap optional u.0 ∙ sym k); rest = u.1; left = j ∙ sym l }
 as_same own kind.Result b fuel d e r s f g (ok, mid, x, err, z, i, j) (ko, low, y, rre, t, k, l) =
     let u = maybe_same own b ok ko mid low x y in
@@ -112,11 +129,38 @@ defined_same own b fuel d e r s f g x y =
     let Q : List ℕ → Type 0 = λ z. MadeAs own y.kind z fuel d r f in
     as_same own y.kind y.mid fuel d e r s f g (subst Q u.1 (subst P k x.made)) y.made
 
-defined_at : (own : Scope) (b c : List ℕ) (fuel : ℕ) (d e : Entry) (r s : List ℕ) (f g : ℕ) → b ≡ c → MadeDefined own b fuel d r f → MadeDefined own c fuel e s g → Same d e r s f g
-defined_at own b c fuel d e r s f g h x y = defined_same own c fuel d e r s f g (subst (λ z. MadeDefined own z fuel d r f) h x) y
+-- what is read behind the same bytes with the same fuel
+result_at : (own : Scope) (b c : List ℕ) (fuel held : ℕ) (v w : Option Val) (r s : List ℕ) (f g : ℕ) → b ≡ c → fuel ≡ held → ReadsResult own b fuel v r f → ReadsResult own c held w s g → Same v w r s f g
+result_at own b c fuel held v w r s f g h k (vs, x, i) (ws, y, j) =
+    let M : List Val → List ℕ → Val → List ℕ → Type 0 = λ so_far. ReadsVal own in
+    let P : List ℕ → Type 0 = λ z. ReadsMembers M 0 1 [] z fuel vs r f in
+    let Q : ℕ → Type 0 = λ z. ReadsMembers M 0 1 [] c z vs r f in
+    let u = members_same (vals_same own) [] c held vs ws r s f g (subst Q k (subst P h x)) y in
+    record { value = i ∙ (ap (λ zs. slice_get zs 0) u.value ∙ sym j); rest = u.rest; left = u.left }
+
+function_same : (own : Scope) (b : List ℕ) (fuel : ℕ) (d e : Entry) (r s : List ℕ) (f g : ℕ) → MadeFunction own b fuel d r f → MadeFunction own b fuel e s g → Same d e r s f g
+function_same own b fuel d e r s f g x y =
+    let u = members_same (named_same (val_same own)) [] b fuel x.params y.params x.mid y.mid x.held y.held x.taken y.taken in
+    let w = result_at own x.mid y.mid x.held y.held x.result y.result r s f g u.rest u.left x.gives y.gives in
+    record { value = x.is ∙ (ap (λ ps. function ps x.result) u.value ∙ ap (function y.params) w.value) ∙ sym y.is; rest = w.rest; left = w.left }
+
+of_same : (own : Scope) (k : TypeKind) (b : List ℕ) (fuel : ℕ) (d e : Entry) (r s : List ℕ) (f g : ℕ) → MadeOf own k b fuel d r f → MadeOf own k b fuel e s g → Same d e r s f g
+of_same own Defined b fuel d e r s f g x y = defined_same own b fuel d e r s f g x y
+of_same own Function b fuel d e r s f g x y = function_same own b fuel d e r s f g x y
+of_same own Component b fuel d e r s f g x y = defined_same own b fuel d e r s f g x y
+of_same own Instance b fuel d e r s f g x y = defined_same own b fuel d e r s f g x y
+
+kind_at : (own : Scope) (b c : List ℕ) (j k : TypeKind) (fuel : ℕ) (d e : Entry) (r s : List ℕ) (f g : ℕ) → b ≡ c → j ≡ k → MadeOf own j b fuel d r f → MadeOf own k c fuel e s g → Same d e r s f g
+kind_at own b c j k fuel d e r s f g h i x y =
+    let P : TypeKind → Type 0 = λ z. MadeOf own z b fuel d r f in
+    let Q : List ℕ → Type 0 = λ z. MadeOf own k z fuel d r f in
+    of_same own k c fuel d e r s f g (subst Q h (subst P i x)) y
 
 pub made_same : (own : Scope) (outer : List Scope) (b : List ℕ) (fuel : ℕ) (d e : Entry) (r s : List ℕ) (f g : ℕ) → Made own outer b fuel d r f → Made own outer b fuel e s g → Same d e r s f g
 made_same own outer b fuel d e r s f g (spent h x) (spent i y) = defined_same own b 0 d e r s f g x y
-made_same own outer b fuel d e r s f g (spent h x) (of_kind i c y) = absurd (omega (arith, h, i))
-made_same own outer b fuel d e r s f g (of_kind i c y) (spent h x) = absurd (omega (arith, h, i))
-made_same own outer b fuel d e r s f g (of_kind {mid = l} h c x) (of_kind {mid = m} i k y) = defined_at own l m (fuel - 1) d e r s f g (reads_unique c k).1 x y
+made_same own outer b fuel d e r s f g (spent h x) (of_kind i c n y) = absurd (omega (arith, h, i))
+made_same own outer b fuel d e r s f g (of_kind i c n y) (spent h x) = absurd (omega (arith, h, i))
+made_same own outer b fuel d e r s f g (of_kind {kind = j} {mid = l} h c n x) (of_kind {kind = k} {mid = m} i a p y) =
+    let u = reads_unique c a in
+    let t : Some j ≡ Some k = sym n ∙ ap (slice_get type_kinds) u.0 ∙ p in
+    kind_at own l m j k (fuel - 1) d e r s f g u.1 (let z : j ≡ k = cc in z) x y

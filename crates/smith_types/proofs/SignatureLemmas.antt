@@ -6,14 +6,13 @@ use Rattle.std.specs.Cmp.Lexicographic.{pointwise}
 use Rattle.std.specs.Hash.{slice, option, usize}
 use Rattle.std.specs.List.{flat_map}
 use Rattle.std.specs.Prelude.{◌&&◌}
-use Rattle.std.specs.String.{string_bytes}
 use Rattle.std.specs.declared.alloc.Global.{Global}
 use Rattle.std.specs.declared.string.String.{String}
 use Rattle.smith_types.specs.Entries.{Primitive, Val, Field, Entry, bool, s8, u8, s16, u16, s32, u32, s64, u64, f32, f64, char, string, primitive, indexed, plain, fields, cases, listed, tuple, flags, labels, optional, outcome, function}
-use Rattle.smith_types.specs.SameSignature.{Parameter, same_parameter, parameter_input, signature_input}
+use Rattle.smith_types.specs.SameSignature.{same_parameter, parameter_input, signature_input}
 use Rattle.smith_types.specs.Scope.{is_func}
-use Rattle.smith_types.specs.Shown.{shown_primitive, shown_val, shown_maybe, shown_function, shown_type}
-use Rattle.smith_types.specs.Signature.{Signature}
+use Rattle.smith_types.specs.Shown.{shown_primitive, shown_val, shown_maybe, shown_field, shown_function, shown_type}
+use Rattle.smith_types.specs.Signature.{Parameter, Signature, named, signature}
 use Rattle.smith_types.specs.SignatureLaws.{same_signature_Decides}
 use Rattle.smith_types.specs.Stack.{has_signature}
 use Rattle.smith_types.specs.contracts.types.ComponentValTypeHash.TheImpl.{ghosts as val_hash}
@@ -27,9 +26,6 @@ use Rattle.smith_types.proofs.ScopeLemmas.{shown_no_func}
 
 abbrev Stored : Type 0
 Stored = String Global × ComponentValType
-
-abbrev pub named : Stored → Parameter
-named p = (string_bytes p.0, p.1)
 
 pub pointwise-named : (xs ys : List Stored) → pointwise same_parameter (map named xs) (map named ys) ≡ pointwise (λ p q. same_parameter (named p) (named q)) xs ys
 pointwise-named [] [] = refl
@@ -141,3 +137,11 @@ signature_shown s (def.Func f) e = ap shown_function (sym ((same_signature_Decid
 pub shown_signature : (s : Signature) (ty : DefType) → shown_type ty ≡ shown_function s → has_signature s ty ≡ true
 shown_signature s (def.Defined d) e = absurd (false≢true (sym (shown_no_func d) ∙ ap is_func e))
 shown_signature s (def.Func f) e = (same_signature_Decides s f.value).1 (sym (shown_alike f.value s e))
+
+field_named : (ps : List Stored) → map (λ p. (p.0, shown_val p.1)) (map named ps) ≡ map shown_field ps
+field_named [] = refl
+field_named (p ∷ ps) = ap (λ fs. shown_field p ∷ fs) (field_named ps)
+
+-- a function type by its fields
+pub function_shown : (ps : List Stored) (r : Option ComponentValType) → shown_function (signature ps r) ≡ function (map shown_field ps) (shown_maybe r)
+function_shown ps r = ap (λ fs. function fs (shown_maybe r)) (field_named ps)

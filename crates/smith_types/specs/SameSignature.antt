@@ -1,16 +1,11 @@
 -- Equality and hashing of function types: both go by the names and the types.
-use Rattle.std.specs.Prelude.{ℕ, Bool, ◌&&◌, List, ◌++◌, nat_eq}
+use Rattle.std.specs.Prelude.{Bool, ◌&&◌, ◌++◌, nat_eq}
 use Rattle.std.specs.Cmp.Lexicographic.{pointwise}
 use Rattle.std.specs.Hash.{HashWrites, str, slice, option}
 use Rattle.std.specs.Option.{option_eq}
-use Rattle.smith_types.specs.Signature.{Signature}
+use Rattle.smith_types.specs.Signature.{Parameter, Signature}
 use Rattle.smith_types.specs.contracts.types.ComponentValTypePartialEq.TheImpl.{ghosts as val}
 use Rattle.smith_types.specs.contracts.types.ComponentValTypeHash.TheImpl.{ghosts as val_hash}
-use Rattle.smith_types.specs.declared.types.ComponentValType.{ComponentValType}
-
--- a parameter by its value: the bytes of its name, and its type
-abbrev pub Parameter : Type 0
-Parameter = List ℕ × ComponentValType
 
 abbrev pub same_parameter : Parameter → Parameter → Bool
 same_parameter p q = pointwise nat_eq p.0 q.0 && val.eq p.1 q.1

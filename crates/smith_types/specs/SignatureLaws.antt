@@ -8,8 +8,8 @@ use Rattle.std.proofs.Common.{ap, sym, Decides}
 use Rattle.std.proofs.lemmas.Bool.{false≢true}
 use Rattle.std.proofs.lemmas.Bool.Decides.{Decides-and, Decides-eqb, same_from_decides}
 use denote.Enum.Bare.{same_true, true_same}
-use Rattle.smith_types.specs.SameSignature.{Parameter, same_parameter, same_signature, signature_input}
-use Rattle.smith_types.specs.Signature.{Signature}
+use Rattle.smith_types.specs.SameSignature.{same_parameter, same_signature, signature_input}
+use Rattle.smith_types.specs.Signature.{Parameter, Signature}
 use Rattle.smith_types.specs.contracts.types.PrimitiveValType.{the_type}
 use Rattle.smith_types.specs.contracts.types.PrimitiveValTypePartialEq.TheImpl.{ghosts as prim}
 use Rattle.smith_types.specs.contracts.types.ComponentValTypePartialEq.TheImpl.{ghosts as val}

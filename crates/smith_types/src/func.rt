@@ -17,13 +17,11 @@ pub struct FuncType {
 }
 
 impl Model for FuncType {
-    ghost use Rattle.std.specs.Prelude.{map};
-    ghost use Rattle.std.specs.String.{string_bytes};
-    ghost use Rattle.smith_types.specs.Signature.{Signature};
+    ghost use Rattle.smith_types.specs.Signature.{Signature, signature};
 
     ghost Value = { Signature };
 
-    ghost view = { λ f. record { params = map (λ p. (string_bytes p.0, p.1)) f.params.items; result = f.result } };
+    ghost view = { λ f. signature f.params.items f.result };
 }
 
 /// Two function types are equal exactly where their signatures are.

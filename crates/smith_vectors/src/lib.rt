@@ -12,6 +12,8 @@ mod deep;
 #[cfg(test)]
 mod limits;
 #[cfg(test)]
+mod named;
+#[cfg(test)]
 mod names;
 #[cfg(test)]
 mod nested;

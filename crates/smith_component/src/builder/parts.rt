@@ -19,7 +19,7 @@ use crate::builder::{Builder, Step};
 use crate::component::{
     CanonicalSection, CoreTypeSection, CustomSection, ImportSection, Section, TypeSection,
 };
-use smith_core::{Config, Module};
+use smith_core::{Config, Module, ValType};
 use smith_input::{Error, Unstructured};
 use smith_types::{DefType, Scopes, arbitrary_type};
 use std::alloc::Global;
@@ -29,6 +29,7 @@ use std::rc::Rc;
 fn read_types(
     alloc: Global,
     config: &Config,
+    valtypes: &[ValType],
     max: usize,
     scopes: &mut Scopes,
     u: &mut Unstructured,
@@ -48,7 +49,7 @@ fn read_types(
             return Ok(types);
         }
         let mut fuel = config.max_type_size;
-        let made = arbitrary_type(alloc, u, scopes, &mut fuel)?;
+        let made = arbitrary_type(alloc, u, config, valtypes, scopes, &mut fuel)?;
         scopes.push_type(made.clone()?)?;
         types.push(made)?;
     }
@@ -139,7 +140,14 @@ impl Builder {
     {
         let mut builder = self;
         let room = builder.config.max_types - builder.inner.types;
-        let types = read_types(builder.alloc, &builder.config, room, &mut builder.scopes, u)?;
+        let types = read_types(
+            builder.alloc,
+            &builder.config,
+            &builder.valtypes,
+            room,
+            &mut builder.scopes,
+            u,
+        )?;
         builder.inner.push(Section::Types(TypeSection { types }))?;
         Ok(Step::StillBuilding(builder))
     }

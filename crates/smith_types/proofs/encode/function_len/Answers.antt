@@ -1,5 +1,5 @@
 use Rattle.smith_core.proofs.Sizes.{length_then, too_much_left}
-use Rattle.smith_types.proofs.Signatures.{function_is}
+use Rattle.smith_types.proofs.FunctionSpelling.{function_is}
 use Rattle.smith_types.proofs.encode.function_len.Goals as goal
 
 pub returns-in_err-tagged_len : goal.returns-in_err-tagged_len

@@ -1,5 +1,5 @@
 use Rattle.smith_core.proofs.Steps.{ends, exits, due_left}
-use Rattle.smith_types.proofs.Signatures.{function_is}
+use Rattle.smith_types.proofs.FunctionSpelling.{function_is}
 use Rattle.smith_types.proofs.encode.put_function.Goals as goal
 
 pub returns-in_err-put_tagged : goal.returns-in_err-put_tagged

@@ -2,4 +2,4 @@ use Rattle.smith_types.proofs.ScriptLemmas.{type_read}
 use Rattle.smith_types.proofs.laws.scripts_are_read.Goals as goal
 
 pub returns : goal.returns
-returns c = type_read
+returns c own outer fuel e rest f l few = type_read own few outer fuel e rest f l

@@ -40,7 +40,8 @@ push_type-requires c =
     let own = own_of (inward c.args.scopes.now) in
     omega (
       arith,
-      length-last c.loop-done.scopes,
+      length-last c.arbitrary_type.new.scopes,
+      ap (λ s. length (own_of (inward s)).types) c.in_ok-made.ensures.scopes,
       ap (λ s. length s.types) c.loop-done.invariant.own,
       length-append own.types (map shown_shared c.loop-done.types.items),
       length-map c.loop-done.types.items shown_shared,
@@ -55,8 +56,10 @@ loop-done-preserved c =
     let here : Scope = own_of (inward c.loop-done.scopes) in
     let items : List Entry = map shown_shared c.loop-done.types.items in
     let made : Entry = shown_shared c.in_ok-made.made in
-    let g = grown c.loop-done.scopes c.push_type.new.self c.in_ok-clone.field-0.value c.in_ok-push_type.ensures.ok in
-    let next : own_of (inward c.push_type.new.self) ≡ with_type here made = g.own ∙ ap (λ t. with_type here (shown_type t)) c.in_ok-clone.ensures.cases in
+    let kept = c.in_ok-made.ensures.scopes in
+    let g = grown c.arbitrary_type.new.scopes c.push_type.new.self c.in_ok-clone.field-0.value c.in_ok-push_type.ensures.ok in
+    let next : own_of (inward c.push_type.new.self) ≡ with_type here made =
+    g.own ∙ (ap (λ s. with_type (own_of (inward s)) (shown_type c.in_ok-clone.field-0.value)) kept ∙ ap (λ t. with_type here (shown_type t)) c.in_ok-clone.ensures.cases) in
     let all : map shown_shared c.push.new.self.items ≡ items ++ made ∷ [] = ap (map shown_shared) c.in_ok-push.ensures.items ∙ map-append shown_shared c.loop-done.types.items (c.in_ok-made.made ∷ []) in
     let M : Bool → Type 0 = λ b. More c.loop-done.done 0 c.args.max c.loop-done.u b c.more.new.self in
     let O : List Scope → Type 0 = λ o. Made here o c.more.new.self c.args.config.now.max_type_size made c.arbitrary_type.new.u c.arbitrary_type.new.fuel in
@@ -64,8 +67,8 @@ loop-done-preserved c =
       tail = tail_trans c.arbitrary_type.ensures.tail (tail_trans (more_tail c.more.ensures) c.loop-done.invariant.tail);
       count = omega (arith, ap length c.in_ok-push.ensures.items, length-append c.loop-done.types.items (c.in_ok-made.made ∷ []), c.loop-done.invariant.count);
       own = next ∙ (ap (λ s. with_type s made) c.loop-done.invariant.own ∙ (with_more own items made ∙ ap (with_types own) (sym all)));
-      outer = g.outer ∙ c.loop-done.invariant.outer;
-      depth = omega (arith, ap length g.whole, ap length g.was, ap length g.outer, c.loop-done.invariant.depth);
+      outer = g.outer ∙ (ap (λ s. outer_of (inward s)) kept ∙ c.loop-done.invariant.outer);
+      depth = omega (arith, ap length g.whole, ap length g.was, ap length g.outer, ap (λ s. length (inward s)) kept, c.loop-done.invariant.depth);
       onward = λ xs rest r.
           let N : Scope → Type 0 = λ s. TypesRead c.args.config.now outer c.args.max s (c.loop-done.done + 1) c.arbitrary_type.new.u xs rest in
           let E : List Entry → Type 0 = λ es. TypesRead c.args.config.now outer c.args.max own 0 c.args.u.now es rest in

@@ -1,5 +1,5 @@
 use Rattle.std.proofs.Common.{◌≡◌, map, take}
-use Rattle.smith_types.proofs.SignatureLemmas.{named}
+use Rattle.smith_types.specs.Signature.{named}
 use Rattle.smith_types.proofs.func.FuncType.copied.Given as goal
 
 abbrev pub invariant-loop-name : goal.invariant-loop-name

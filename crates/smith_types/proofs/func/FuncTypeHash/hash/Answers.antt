@@ -1,7 +1,8 @@
 use Rattle.std.specs.Hash.{fed_along, fed_then, slice, option}
 use Rattle.smith_types.specs.SameSignature.{parameter_input}
 use Rattle.smith_types.specs.contracts.types.ComponentValTypeHash.TheImpl.{ghosts as val_hash}
-use Rattle.smith_types.proofs.SignatureLemmas.{named, input-named}
+use Rattle.smith_types.specs.Signature.{named}
+use Rattle.smith_types.proofs.SignatureLemmas.{input-named}
 use Rattle.smith_types.proofs.func.FuncTypeHash.hash.Goals as goal
 
 pub returns : goal.returns

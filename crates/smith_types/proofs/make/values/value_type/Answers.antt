@@ -3,8 +3,8 @@ use Rattle.smith_input.specs.Reading.{Reads}
 use Rattle.smith_types.specs.Made.{ReadsPrimitive, only_primitive, either_primitive, either_index}
 use Rattle.smith_types.specs.Scope.{inward, own_of}
 use Rattle.smith_types.specs.Shown.{shown_primitive}
-use Rattle.smith_types.proofs.make.value_type.Goals as goal
-use Rattle.smith_types.proofs.make.value_type.Goals.{else-defined-gt0-via-then-defined-gt0+else-choose_index-eq1, else-defined-gt0-via-else-defined-gt0}
+use Rattle.smith_types.proofs.make.values.value_type.Goals as goal
+use Rattle.smith_types.proofs.make.values.value_type.Goals.{else-defined-gt0-via-then-defined-gt0+else-choose_index-eq1, else-defined-gt0-via-else-defined-gt0}
 
 none : (xs : List ℕ) → length xs ≤ 0 → xs ≡ []
 none [] h = refl

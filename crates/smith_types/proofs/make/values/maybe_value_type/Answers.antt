@@ -2,7 +2,7 @@ use Rattle.std.proofs.Common.{Bool, subst}
 use Rattle.smith_input.specs.Reading.{Flips}
 use Rattle.smith_input.proofs.ReadingLemmas.{tail_trans}
 use Rattle.smith_types.specs.Made.{absent, present}
-use Rattle.smith_types.proofs.make.maybe_value_type.Goals as goal
+use Rattle.smith_types.proofs.make.values.maybe_value_type.Goals as goal
 
 pub returns-then-arbitrary_bool-clause-reads : goal.returns-then-arbitrary_bool-clause-reads
 returns-then-arbitrary_bool-clause-reads c =

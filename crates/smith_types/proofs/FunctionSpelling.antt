@@ -1,20 +1,16 @@
 -- How a function type is spelled, by its fields.
-use Rattle.std.proofs.Common.{◌≡◌, List, map, Option, String, string_bytes, ap, sym, ◌∙◌}
+use Rattle.std.proofs.Common.{◌≡◌, List, map, Option, String, ap, sym, ◌∙◌}
 use Rattle.std.specs.declared.alloc.Global.{Global}
 use Rattle.smith_core.specs.Piece.{◌⊕◌, byte, many}
 use Rattle.smith_core.proofs.Joins.{assoc}
 use Rattle.smith_core.proofs.Loops.{many-map}
 use Rattle.smith_types.specs.Grammar.{field, result_of, entry}
 use Rattle.smith_types.specs.Shown.{shown_val, shown_maybe, shown_field, shown_function}
-use Rattle.smith_types.specs.Signature.{Signature}
+use Rattle.smith_types.specs.Signature.{Signature, named, signature}
 use Rattle.smith_types.specs.declared.types.ComponentValType.{ComponentValType}
 
--- what contracts see of a function type with these fields
-abbrev pub signature : List (String Global × ComponentValType) → Option ComponentValType → Signature
-signature ps r = record { params = map (λ p. (string_bytes p.0, p.1)) ps; result = r }
-
 fields_are : (ps : List (String Global × ComponentValType)) (r : Option ComponentValType) → many field (map (λ p. (p.0, shown_val p.1)) (signature ps r).params) ≡ many (λ p. field (shown_field p)) ps
-fields_are ps r = many-map field (λ p. (p.0, shown_val p.1)) (signature ps r).params ∙ many-map (λ p. field (p.0, shown_val p.1)) (λ p. (string_bytes p.0, p.1)) ps
+fields_are ps r = many-map field (λ p. (p.0, shown_val p.1)) (signature ps r).params ∙ many-map (λ p. field (p.0, shown_val p.1)) named ps
 
 pub function_is : (f : Signature) (ps : List (String Global × ComponentValType)) (r : Option ComponentValType) → signature ps r ≡ f
     → entry (shown_function f) ≡ (byte 0x40 ⊕ many (λ p. field (shown_field p)) ps) ⊕ result_of (shown_maybe r)

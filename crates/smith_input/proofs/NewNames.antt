@@ -1,0 +1,88 @@
+-- Names that are new among those that were read before them.
+use Rattle.std.proofs.Common.{◌≡◌, ℕ, ◌^◌, ◌<◌, ◌≤◌, ◌||◌, Bool, true, false, List, [], ◌∷◌, ◌++◌, length, refl, sym, ap, ◌∙◌, subst, arith, length-append, ⊎_elim, bytes_eq, string_bytes}
+use Rattle.std.specs.declared.string.String.{String}
+use Rattle.std.specs.List.{list_any}
+use Rattle.std.specs.BTreeMap.{is_at}
+use Rattle.std.specs.Cmp.Lexicographic.{slice_cmp}
+use Rattle.std.specs.Ordering.{nat_cmp}
+use Rattle.std.specs.BTreeSet.{BTreeSet, IsEmpty, contains_text, btree_set_len}
+use Rattle.std.specs.Fmt.{decimal}
+use Rattle.std.proofs.lemmas.Bool.{cases_lt}
+use Rattle.smith_input.specs.Reading.{IsTail}
+use Rattle.smith_input.specs.Names.{Kebab, ReadsKebab, IsMadeUnique, Gains, appended, is_among, Holds, ReadsNew, script_name}
+use Rattle.smith_input.proofs.Kebabs.{kebab_is_read, kebab_is_kept, kebab_tail, kebab_unique, name_read}
+
+-- an empty set has no names
+pub holds_none : {A : Type 0} (set : BTreeSet (String A)) → IsEmpty set → btree_set_len set ≡ 0 → Holds set []
+holds_none set e n = record { has = λ q. ap (λ ks. list_any (is_at (λ k. slice_cmp nat_cmp q (string_bytes k))) ks) e; size = n }
+
+or_none : (a b : Bool) → b ≡ false → (a || b) ≡ a
+or_none true b e = refl
+or_none false b e = e
+
+or_turned : (a b c : Bool) → (a || (b || c)) ≡ (b || (a || c))
+or_turned true true c = refl
+or_turned true false c = refl
+or_turned false b c = refl
+
+pub among_more : (names : List (List ℕ)) (name q : List ℕ) → is_among (names ++ name ∷ []) q ≡ (bytes_eq name q || is_among names q)
+among_more [] name q = refl
+among_more (n ∷ ns) name q = ap (λ b. bytes_eq n q || b) (among_more ns name q) ∙ or_turned (bytes_eq n q) (bytes_eq name q) (is_among ns q)
+
+-- a set that gains a name has it at the end
+pub holds_more : {A : Type 0} {old new : BTreeSet (String A)} {names : List (List ℕ)} {name : List ℕ} → Holds old names → Gains old new name → Holds new (names ++ name ∷ [])
+holds_more {names = names} {name = name} h g = record {
+  has = λ q. g.has q ∙ (ap (λ b. bytes_eq name q || b) (h.has q) ∙ sym (among_more names name q));
+  size = omega (arith, g.size, h.size, length-append names (name ∷ []));
+}
+
+-- what is read with a set is new among its names
+pub new_of : {A : Type 0} {set : BTreeSet (String A)} {names : List (List ℕ)} {max : ℕ} {bytes text name rest : List ℕ} → Holds set names → ReadsKebab max bytes text rest → IsMadeUnique (contains_text set) (btree_set_len set) text name → ReadsNew max names bytes name rest
+new_of {names = names} {text = text} {name = name} h r u =
+    let at : (n : ℕ) → appended text (decimal (length names)) n ≡ appended text (decimal _) n = λ n. ap (λ k. appended text (decimal k) n) (sym h.size) in
+    record {
+      text = text;
+      reads = r;
+      unique = record {
+        times = u.times;
+        name_is = u.name_is ∙ sym (at u.times);
+        taken = λ n l. sym (h.has _) ∙ (ap (contains_text _) (at n) ∙ u.taken n l);
+        is_new = sym (h.has name) ∙ u.is_new;
+      };
+    }
+
+-- the names that there are decide what a text is made
+
+earlier : (has : List ℕ → Bool) (size : ℕ) (text a b : List ℕ) (u : IsMadeUnique has size text a) (v : IsMadeUnique has size text b) → u.times < v.times → ⊥
+earlier has size text a b u v l =
+    let t : has a ≡ true = ap has u.name_is ∙ v.taken u.times l in
+    let f : has a ≡ false = u.is_new in
+    let c : true ≡ false = sym t ∙ f in cc
+
+made_unique_same : (has : List ℕ → Bool) (size : ℕ) (text a b : List ℕ) → IsMadeUnique has size text a → IsMadeUnique has size text b → a ≡ b
+made_unique_same has size text a b u v =
+    let e : u.times ≡ v.times = ⊎_elim
+    (λ l. absurd (earlier has size text a b u v l))
+    (λ l. ⊎_elim (λ k. absurd (earlier has size text b a v u k)) (λ k. omega (arith, l, k)) (cases_lt v.times u.times))
+    (cases_lt u.times v.times) in
+    u.name_is ∙ (ap (appended text (decimal size)) e ∙ sym v.name_is)
+
+pub new_tail : {max : ℕ} {names : List (List ℕ)} {bytes name rest : List ℕ} → ReadsNew max names bytes name rest → IsTail rest bytes
+new_tail r = kebab_tail r.reads
+
+pub new_unique : {max : ℕ} {names : List (List ℕ)} {bytes a b left rest : List ℕ} → ReadsNew max names bytes a left → ReadsNew max names bytes b rest → (a ≡ b) × (left ≡ rest)
+new_unique {names = names} {a = a} {b = b} r s =
+    let same = kebab_unique r.reads s.reads in
+    let P : List ℕ → Type 0 = λ t. IsMadeUnique (is_among names) (length names) t a in
+    (made_unique_same (is_among names) (length names) s.text a b (subst P same.0 r.unique) s.unique, same.1)
+
+pub new_kebab : {max : ℕ} {names : List (List ℕ)} {bytes name rest : List ℕ} → length names < 2 ^ 64 → ReadsNew max names bytes name rest → Kebab name
+new_kebab h r = kebab_is_kept _ _ _ _ h (kebab_is_read r.reads) r.unique
+
+-- a spelled name that is none of those before it is read as itself
+pub new_read : (max : ℕ) (names : List (List ℕ)) (name rest : List ℕ) → max < 2 ^ 64 → Kebab name → length name ≤ max → is_among names name ≡ false → ReadsNew max names (script_name max name ++ rest) name rest
+new_read max names name rest h k l n = record {
+  text = name;
+  reads = name_read max name rest h k l;
+  unique = record { times = 0; name_is = refl; taken = λ m b. absurd (omega (arith, b)); is_new = n };
+}

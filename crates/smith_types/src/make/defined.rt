@@ -1,0 +1,155 @@
+//! Defined types from the input.
+
+ghost use Rattle.std.specs.Prelude.{◌≡◌, ◌+◌, ◌-◌, ℕ, List, map, string_bytes, IfOk, IfErr};
+ghost use Rattle.smith_input.specs.Reading.{IsTail};
+ghost use Rattle.smith_types.specs.Entries.{bool, plain, fields, cases, tuple, flags, labels};
+ghost use Rattle.smith_types.specs.Made.{MadeAs, MadeDefined, ReadsMaybe, or_bool};
+ghost use Rattle.smith_types.specs.Scope.{inward, own_of};
+ghost use Rattle.smith_types.specs.Shown.{shown_val, shown_maybe, shown_field, shown_case, shown_defined};
+
+use super::members::members;
+use super::values::{maybe_value_type, primitive_type, value_type};
+use crate::scopes::Scopes;
+use crate::types::{
+    ComponentValType, DefinedType, EnumType, FlagsType, ListType, OptionType, PrimitiveValType,
+    RecordType, ResultType, TupleType, VariantType,
+};
+use smith_input::{Error, Unstructured};
+use std::alloc::Global;
+
+/// What a choice of a defined type is among.
+#[derive(Debug, Clone, Copy, PartialEq, Eq)]
+pub enum DefinedKind {
+    Primitive,
+    Record,
+    Variant,
+    List,
+    Tuple,
+    Flags,
+    Enum,
+    Option,
+    Result,
+}
+
+static DEFINED_KINDS: [DefinedKind; 9] = [
+    DefinedKind::Primitive,
+    DefinedKind::Record,
+    DefinedKind::Variant,
+    DefinedKind::List,
+    DefinedKind::Tuple,
+    DefinedKind::Flags,
+    DefinedKind::Enum,
+    DefinedKind::Option,
+    DefinedKind::Result,
+];
+
+// What a type becomes that would have no member.
+fn bool_type() -> DefinedType
+    ensures { shown_defined result ≡ plain bool }
+{
+    DefinedType::Primitive(PrimitiveValType::Bool)
+}
+
+// A record, or bool where it has no field.
+fn record_type(members: Vec<(String, ComponentValType)>) -> DefinedType
+    ensures { shown_defined result ≡ or_bool fields (map shown_field members.items) }
+{
+    if members.is_empty() {
+        return bool_type();
+    }
+    DefinedType::Record(RecordType { fields: members })
+}
+
+// A variant, or bool where it has no case.
+fn variant_type(members: Vec<(String, Option<ComponentValType>)>) -> DefinedType
+    ensures { shown_defined result ≡ or_bool cases (map shown_case members.items) }
+{
+    if members.is_empty() {
+        return bool_type();
+    }
+    DefinedType::Variant(VariantType { cases: members })
+}
+
+// A tuple, or bool where it has no member.
+fn tuple_type(members: Vec<ComponentValType>) -> DefinedType
+    ensures { shown_defined result ≡ or_bool tuple (map shown_val members.items) }
+{
+    if members.is_empty() {
+        return bool_type();
+    }
+    DefinedType::Tuple(TupleType { fields: members })
+}
+
+// Flags, or bool where there is none.
+fn flags_type(members: Vec<String>) -> DefinedType
+    ensures { shown_defined result ≡ or_bool flags (map string_bytes members.items) }
+{
+    if members.is_empty() {
+        return bool_type();
+    }
+    DefinedType::Flags(FlagsType { fields: members })
+}
+
+// An enum, or bool where it has no label.
+fn enum_type(members: Vec<String>) -> DefinedType
+    ensures { shown_defined result ≡ or_bool labels (map string_bytes members.items) }
+{
+    if members.is_empty() {
+        return bool_type();
+    }
+    DefinedType::Enum(EnumType { variants: members })
+}
+
+// A result, whose two types are read one after the other.
+fn result_type(u: &mut Unstructured, scopes: &Scopes) -> ResultType
+    ensures reads { (mid : List ℕ) × ReadsMaybe (own_of (inward scopes.now)) u.old (shown_maybe result.ok_ty) mid × ReadsMaybe (own_of (inward scopes.now)) mid (shown_maybe result.err_ty) u.new }
+    ensures tail { IsTail u.new u.old }
+{
+    let ok_ty = maybe_value_type(u, scopes);
+    let err_ty = maybe_value_type(u, scopes);
+    ResultType { ok_ty, err_ty }
+}
+
+// A defined type of one kind.
+fn type_of_kind(
+    alloc: Global,
+    u: &mut Unstructured,
+    scopes: &Scopes,
+    fuel: &mut u32,
+    kind: DefinedKind,
+) -> Result<DefinedType, Error>
+    ensures made { IfOk result (λ t. MadeAs (own_of (inward scopes.now)) kind u.old fuel.old (shown_defined t) u.new fuel.new) }
+    ensures memory { IfErr result (λ e. e ≡ Error.OutOfMemory) }
+    ensures tail { IsTail u.new u.old }
+{
+    match kind {
+        DefinedKind::Primitive => Ok(DefinedType::Primitive(primitive_type(u))),
+        DefinedKind::Record => Ok(record_type(members(alloc, u, scopes, fuel, 1, 100)?)),
+        DefinedKind::Variant => Ok(variant_type(members(alloc, u, scopes, fuel, 1, 100)?)),
+        DefinedKind::List => Ok(DefinedType::List(ListType {
+            elem_ty: value_type(u, scopes),
+        })),
+        DefinedKind::Tuple => Ok(tuple_type(members(alloc, u, scopes, fuel, 1, 100)?)),
+        DefinedKind::Flags => Ok(flags_type(members(alloc, u, scopes, fuel, 1, 32)?)),
+        DefinedKind::Enum => Ok(enum_type(members(alloc, u, scopes, fuel, 1, 100)?)),
+        DefinedKind::Option => Ok(DefinedType::Option(OptionType {
+            inner_ty: value_type(u, scopes),
+        })),
+        DefinedKind::Result => Ok(DefinedType::Result(result_type(u, scopes))),
+    }
+}
+
+// A defined type: a choice of nine kinds, and a type of that kind.
+pub(super) fn defined_type(
+    alloc: Global,
+    u: &mut Unstructured,
+    scopes: &Scopes,
+    fuel: &mut u32,
+) -> Result<DefinedType, Error>
+    ensures made { IfOk result (λ t. MadeDefined (own_of (inward scopes.now)) u.old fuel.old (shown_defined t) u.new fuel.new) }
+    ensures memory { IfErr result (λ e. e ≡ Error.OutOfMemory) }
+    ensures tail { IsTail u.new u.old }
+{
+    let kind = *u.choose(&DEFINED_KINDS);
+    type_of_kind(alloc, u, scopes, fuel, kind)
+}

@@ -1,0 +1,47 @@
+//! Function types from the input.
+
+ghost use Rattle.std.specs.Prelude.{◌≡◌, [], IfOk, IfErr};
+ghost use Rattle.smith_input.specs.Reading.{IsTail};
+ghost use Rattle.smith_types.specs.Made.{MadeFunction, ReadsResult};
+ghost use Rattle.smith_types.specs.Scope.{inward, own_of};
+ghost use Rattle.smith_types.specs.Shown.{shown_maybe, shown_function};
+
+use super::burn;
+use super::members::members;
+use super::values::value_type;
+use crate::func::FuncType;
+use crate::scopes::Scopes;
+use crate::types::ComponentValType;
+use smith_input::{Error, Unstructured};
+use std::alloc::Global;
+
+// The result of a function, or none: a loop of at most one turn.
+fn result_of(u: &mut Unstructured, scopes: &Scopes, fuel: &mut u32) -> Option<ComponentValType>
+    ensures reads { ReadsResult (own_of (inward scopes.now)) u.old fuel.old (shown_maybe result) u.new fuel.new }
+    ensures tail { IsTail u.new u.old }
+{
+    if !u.more(0, 0, 1) {
+        return None;
+    }
+    burn(fuel);
+    if *fuel == 0 {
+        return None;
+    }
+    Some(value_type(u, scopes))
+}
+
+// A function type: at most 16 parameters, and then a result or none.
+pub(super) fn function_type(
+    alloc: Global,
+    u: &mut Unstructured,
+    scopes: &Scopes,
+    fuel: &mut u32,
+) -> Result<FuncType, Error>
+    ensures made { IfOk result (λ f. MadeFunction (own_of (inward scopes.now)) u.old fuel.old (shown_function f) u.new fuel.new) }
+    ensures memory { IfErr result (λ e. e ≡ Error.OutOfMemory) }
+    ensures tail { IsTail u.new u.old }
+{
+    let params = members(alloc, u, scopes, fuel, 0, 16)?;
+    let result = result_of(u, scopes, fuel);
+    Ok(FuncType { params, result })
+}

@@ -1,0 +1,60 @@
+//! Value types from the input.
+
+ghost use Rattle.std.specs.Prelude.{◌≡◌};
+ghost use Rattle.smith_input.specs.Reading.{IsTail};
+ghost use Rattle.smith_types.specs.Made.{ReadsPrimitive, ReadsVal, ReadsMaybe};
+ghost use Rattle.smith_types.specs.Scope.{inward, own_of};
+ghost use Rattle.smith_types.specs.Shown.{shown_primitive, shown_val, shown_maybe};
+
+use crate::scopes::{Kind, Scopes};
+use crate::types::{ComponentValType, PrimitiveValType};
+use smith_input::Unstructured;
+
+static PRIMITIVES: [PrimitiveValType; 13] = [
+    PrimitiveValType::Bool,
+    PrimitiveValType::S8,
+    PrimitiveValType::U8,
+    PrimitiveValType::S16,
+    PrimitiveValType::U16,
+    PrimitiveValType::S32,
+    PrimitiveValType::U32,
+    PrimitiveValType::S64,
+    PrimitiveValType::U64,
+    PrimitiveValType::F32,
+    PrimitiveValType::F64,
+    PrimitiveValType::Char,
+    PrimitiveValType::String,
+];
+
+// A primitive value type, by a choice among the thirteen.
+pub(super) fn primitive_type(u: &mut Unstructured) -> PrimitiveValType
+    ensures reads { ReadsPrimitive u.old (shown_primitive result) u.new }
+    ensures tail { IsTail u.new u.old }
+{
+    *u.choose(&PRIMITIVES)
+}
+
+// A value type: primitive, or one of the defined types of the last scope.
+pub(super) fn value_type(u: &mut Unstructured, scopes: &Scopes) -> ComponentValType
+    ensures reads { ReadsVal (own_of (inward scopes.now)) u.old (shown_val result) u.new }
+    ensures tail { IsTail u.new u.old }
+{
+    let defined = scopes.kind_len(Kind::Defined);
+    if defined > 0 && u.choose_index(2) == 1 {
+        let rank = u.choose_index(defined);
+        return ComponentValType::Indexed(scopes.kind_at(Kind::Defined, rank));
+    }
+    ComponentValType::Primitive(primitive_type(u))
+}
+
+// A truth value, and a value type where it is true.
+pub(super) fn maybe_value_type(u: &mut Unstructured, scopes: &Scopes) -> Option<ComponentValType>
+    ensures reads { ReadsMaybe (own_of (inward scopes.now)) u.old (shown_maybe result) u.new }
+    ensures tail { IsTail u.new u.old }
+{
+    if u.arbitrary_bool() {
+        Some(value_type(u, scopes))
+    } else {
+        None
+    }
+}
