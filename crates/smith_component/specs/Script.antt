@@ -42,7 +42,7 @@ abbrev mutual
 abbrev pub script : Config → Tree → List ℕ
 script config plan = script_from plan config [] ends
 
--- A plan that scripts can say: custom sections, type sections of nameless types for which the fuel lasts, sections without
+-- A plan that scripts can say: custom sections, type sections of types for which the fuel lasts, sections without
 -- entries, and components of these.
 abbrev mutual
   pub IsPlan : Config → Tree → Type 0
