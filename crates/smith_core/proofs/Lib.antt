@@ -1,4 +1,8 @@
 pub mod Clear
+pub mod CoreMade
+pub mod CoreScripts
+pub mod CoreSpelling
+pub mod CoreUnique
 pub mod Digits
 pub mod Joins
 pub mod Loops

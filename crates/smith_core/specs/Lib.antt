@@ -1,7 +1,12 @@
 pub mod Clear
 pub mod Configured
 pub mod Consistent
+pub mod CoreFormed
+pub mod CoreReading
+pub mod CoreScript
+pub mod CoreTypes
 pub mod Defaults
+pub mod Entities
 pub mod Module
 pub mod Numbers
 pub mod Piece

@@ -1,9 +1,18 @@
-//! Laws of spellings. Each function does nothing: its contract is the law.
+//! Laws of spellings, and of reads of core types. Each function does nothing: its contract is the law.
 
-ghost use Rattle.std.specs.Prelude.{◌≡◌, ◌↔◌, ℕ, ◌+◌, ◌/◌, ◌%◌, ◌^◌, ◌<◌, ◌≤◌, List, [], ◌∷◌, length, None, ℤ, pos, negsuc, ◌≤ℤ◌, ◌<ℤ◌};
+ghost use Rattle.std.specs.Prelude.{◌≡◌, ◌↔◌, ℕ, ◌+◌, ◌/◌, ◌%◌, ◌^◌, ◌<◌, ◌≤◌, List, [], ◌∷◌, length, None, ℤ, pos, negsuc, ◌≤ℤ◌, ◌<ℤ◌, Bool, ◌++◌};
 ghost use Rattle.std.specs.Str.{IsUtf8};
 ghost use Rattle.smith_core.specs.Clear.{IsClear, IsExact};
+ghost use Rattle.smith_core.specs.CoreFormed.{FormedFunction};
+ghost use Rattle.smith_core.specs.CoreReading.{ReadsMemory, ReadsTable, ReadsTag, ReadsFunction};
+ghost use Rattle.smith_core.specs.CoreScript.{script_function};
+ghost use Rattle.smith_core.specs.CoreTypes.{Function, core_val, core_function};
+ghost use Rattle.smith_core.specs.Entities.{entity, core_import};
 ghost use Rattle.smith_core.specs.Numbers.{unsigned, signed, low_bits, high_bits};
+ghost use Rattle.smith_core.specs.declared.types.MemoryType.{MemoryType};
+ghost use Rattle.smith_core.specs.declared.types.TableType.{TableType};
+ghost use Rattle.smith_core.specs.declared.types.TagType.{TagType};
+ghost use Rattle.smith_core.specs.declared.types.ValType.{ValType};
 ghost use Rattle.smith_core.specs.Piece.{Piece, ◌⊕◌, bytes, u, number, s, s_index, text, raw, many, sized};
 
 /// An unsigned number below 128 is one byte. Any other begins with the byte of its lowest seven bits and 128
@@ -59,4 +68,29 @@ pub fn too_long_has_no_spelling()
     ensures index { (n : ℕ) → (s_index n ≡ None) ↔ (2 ^ 32 ≤ n) }
     ensures text { (t : List ℕ) → IsUtf8 t → (text t ≡ None) ↔ (2 ^ 32 ≤ length t) }
     ensures section { (id : ℕ) (c : List ℕ) → (sized id (bytes c) ≡ None) ↔ (2 ^ 32 ≤ length c) }
+{}
+
+/// No spelling of a core type is a prefix of another of its sort, and two readings with anything behind are one; the
+/// same of what a core module imports or exports, and of its imports.
+pub fn core_types_are_clear()
+    ensures values { IsClear core_val }
+    ensures functions { IsClear core_function }
+    ensures entities { IsClear entity }
+    ensures imports { IsClear core_import }
+{}
+
+/// The bytes alone decide which core type is read, and what is left.
+pub fn core_types_are_decided()
+    ensures memories { (bytes : List ℕ) (m n : MemoryType) (left rest : List ℕ) → ReadsMemory bytes m left → ReadsMemory bytes n rest → (m ≡ n) × (left ≡ rest) }
+    ensures tables { (references : Bool) (bytes : List ℕ) (t o : TableType) (left rest : List ℕ) → ReadsTable references bytes t left → ReadsTable references bytes o rest → (t ≡ o) × (left ≡ rest) }
+    ensures tags { (candidates bytes : List ℕ) (t o : TagType) (left rest : List ℕ) → ReadsTag candidates bytes t left → ReadsTag candidates bytes o rest → (t ≡ o) × (left ≡ rest) }
+    ensures functions { (valtypes : List ValType) (max_results : ℕ) (bytes : List ℕ) (f g : Function) (left rest : List ℕ) → ReadsFunction valtypes max_results bytes f left
+        → ReadsFunction valtypes max_results bytes g rest → (f ≡ g) × (left ≡ rest) }
+{}
+
+/// The script of a function type of these value types, followed by any bytes, is read as that type, and the bytes
+/// behind it are left.
+pub fn core_scripts_are_read()
+    ensures { (valtypes : List ValType) (max_results : ℕ) (f : Function) (rest : List ℕ) → FormedFunction valtypes max_results f → length valtypes ≤ 2 ^ 64
+        → ReadsFunction valtypes max_results (script_function valtypes max_results f ++ rest) f rest }
 {}

@@ -47,3 +47,92 @@ pub fn configured_valtypes(alloc: Global, config: &Config) -> Result<Vec<ValType
     }
     Ok(types)
 }
+
+/// A function type: the types of its parameters and of its results (core specification, Types, Composite Types).
+#[derive(Debug, Drop)]
+pub struct FuncType {
+    pub params: Vec<ValType>,
+    pub results: Vec<ValType>,
+}
+
+/// A global type (core specification, Types, Global Types).
+#[derive(Debug, Clone, Copy, PartialEq, Eq, Hash)]
+pub struct GlobalType {
+    pub val_type: ValType,
+    pub mutable: bool,
+}
+
+/// A table type (core specification, Types, Table Types).
+#[derive(Debug, Clone, Copy, PartialEq, Eq, Hash)]
+pub struct TableType {
+    pub element_type: RefType,
+    /// Whether its indexes have 64 bits.
+    pub table64: bool,
+    pub minimum: u64,
+    pub maximum: Option<u64>,
+}
+
+/// A memory type (core specification, Types, Memory Types).
+#[derive(Debug, Clone, Copy, PartialEq, Eq, Hash)]
+pub struct MemoryType {
+    /// In pages, as the maximum is.
+    pub minimum: u64,
+    pub maximum: Option<u64>,
+    pub shared: bool,
+    /// Whether its addresses have 64 bits.
+    pub memory64: bool,
+}
+
+/// A tag type: the index of a function type (core specification, Types, Tag Types).
+#[derive(Debug, Clone, Copy, PartialEq, Eq, Hash)]
+pub struct TagType {
+    pub func_type_idx: u32,
+}
+
+/// The type of what a module imports or exports (core specification, Types, External Types). A function has the index
+/// of its type.
+#[derive(Debug, Clone, Copy, PartialEq, Eq, Hash)]
+pub enum EntityType {
+    Func(u32),
+    Table(TableType),
+    Memory(MemoryType),
+    Global(GlobalType),
+    Tag(TagType),
+}
+
+/// What sort of thing an import or an export is (core specification, Modules, Imports and Exports).
+#[derive(Debug, Clone, Copy, PartialEq, Eq, Hash)]
+pub enum ExportKind {
+    Func,
+    Table,
+    Memory,
+    Global,
+    Tag,
+}
+
+impl EntityType {
+    ghost use Rattle.std.specs.Prelude.{◌≡◌};
+    ghost use Rattle.smith_core.specs.Entities.{kind_of};
+
+    /// What sort of thing it is.
+    pub fn kind(&self) -> ExportKind
+        ensures { result ≡ kind_of self.now }
+    {
+        match self {
+            EntityType::Func(_) => ExportKind::Func,
+            EntityType::Table(_) => ExportKind::Table,
+            EntityType::Memory(_) => ExportKind::Memory,
+            EntityType::Global(_) => ExportKind::Global,
+            EntityType::Tag(_) => ExportKind::Tag,
+        }
+    }
+}
+
+/// An import of a core module (core specification, Modules, Imports): the names of the module and of the item, and what
+/// the item is.
+#[derive(Debug, Drop)]
+pub struct Import {
+    pub module: String,
+    pub name: String,
+    pub entity_type: EntityType,
+}

@@ -1,0 +1,168 @@
+-- What reads of core types give: tails, types as they should be, and one alone.
+use Rattle.std.proofs.Common.{◌≡◌, ◌<◌, ◌≤◌, ◌⊎◌, inl, inr, ℕ, zero, suc, ◌+◌, ◌-◌, List, [], ◌∷◌, ◌++◌, Bool, true, false, length, refl, sym, ap, ◌∙◌, subst, arith, append-nil, append_assoc}
+use Rattle.std.specs.List.{AllByRecursion}
+use Rattle.std.specs.Prelude.{Option, Some, None, IfSome, slice_get}
+use Rattle.smith_input.specs.Reading.{Reads, More, IsTail}
+use Rattle.smith_input.proofs.ReadingLemmas.{tail_same, tail_trans, reads_tail, more_tail, reads_unique, flips_unique, more_unique, more_full, more_within}
+use Rattle.smith_core.specs.CoreFormed.{FormedLimits, FormedMemory, FormedTable, IsAmong, FormedFunction}
+use Rattle.smith_core.specs.CoreReading.{ReadsBetween, ReadsMaximum, unbounded, bounded, ReadsLimits, ReadsMemory, ReadsElement, only_functions, either, ReadsTable, ReadsTag, ReadsValues, no_more, another, ReadsFunction}
+use Rattle.smith_core.specs.CoreTypes.{Function}
+use Rattle.smith_core.specs.declared.types.MemoryType.{MemoryType}
+use Rattle.smith_core.specs.declared.types.RefType.{RefType}
+use Rattle.smith_core.specs.declared.types.RefType.TheVariants.{FuncRef, ExternRef}
+use Rattle.smith_core.specs.declared.types.TableType.{TableType}
+use Rattle.smith_core.specs.declared.types.TagType.{TagType}
+use Rattle.smith_core.specs.declared.types.ValType.{ValType}
+
+-- What reads leave is a tail.
+maximum_tail : {minimum : ℕ} {bytes : List ℕ} {most : Option ℕ} {rest : List ℕ} → ReadsMaximum minimum bytes most rest → IsTail rest bytes
+maximum_tail (unbounded f) = (1, f.left)
+maximum_tail (bounded f b) = tail_trans (reads_tail b.reads) (1, f.left)
+
+pub limits_tail : {bytes : List ℕ} {minimum : ℕ} {most : Option ℕ} {rest : List ℕ} → ReadsLimits bytes minimum most rest → IsTail rest bytes
+limits_tail r = tail_trans (maximum_tail r.most) (reads_tail r.least.reads)
+
+pub memory_tail : {bytes : List ℕ} {m : MemoryType} {rest : List ℕ} → ReadsMemory bytes m rest → IsTail rest bytes
+memory_tail r = limits_tail r.limits
+
+element_tail : {references : Bool} {bytes : List ℕ} {t : RefType} {rest : List ℕ} → ReadsElement references bytes t rest → IsTail rest bytes
+element_tail (only_functions {bytes = bytes}) = tail_same bytes
+element_tail (either r n) = reads_tail r
+
+pub table_tail : {references : Bool} {bytes : List ℕ} {t : TableType} {rest : List ℕ} → ReadsTable references bytes t rest → IsTail rest bytes
+table_tail r = tail_trans (limits_tail r.limits) (element_tail r.element)
+
+pub tag_tail : {candidates bytes : List ℕ} {t : TagType} {rest : List ℕ} → ReadsTag candidates bytes t rest → IsTail rest bytes
+tag_tail r = reads_tail r.reads
+
+values_tail : {valtypes : List ValType} {max done : ℕ} {bytes : List ℕ} {xs : List ValType} {rest : List ℕ} → ReadsValues valtypes max done bytes xs rest → IsTail rest bytes
+values_tail (no_more m) = more_tail m
+values_tail (another m r n v) = tail_trans (values_tail v) (tail_trans (reads_tail r) (more_tail m))
+
+pub function_tail : {valtypes : List ValType} {max_results : ℕ} {bytes : List ℕ} {f : Function} {rest : List ℕ} → ReadsFunction valtypes max_results bytes f rest → IsTail rest bytes
+function_tail r = tail_trans (values_tail r.results) (values_tail r.params)
+
+-- what a call for a number in a range answers
+pub between : {low high : ℕ} {bytes : List ℕ} {n : ℕ} {rest : List ℕ} → (k : ℕ) × (n ≡ low + k) × Reads (high - low + 1) bytes k rest → ReadsBetween low high bytes n rest
+between x = record { place = x.0; is = x.1; reads = x.2 }
+
+-- What is read is as it should be.
+maximum_formed : {minimum : ℕ} {bytes : List ℕ} {most : Option ℕ} {rest : List ℕ} → minimum ≤ 10 → ReadsMaximum minimum bytes most rest → IfSome most (λ n. (minimum ≤ n) × (n ≤ 20))
+maximum_formed low (unbounded f) = tt
+maximum_formed low (bounded f b) = (omega (arith, b.is), omega (arith, b.is, b.reads.below))
+
+pub limits_formed : {bytes : List ℕ} {minimum : ℕ} {most : Option ℕ} {rest : List ℕ} → ReadsLimits bytes minimum most rest → FormedLimits minimum most
+limits_formed {minimum = minimum} r = let low : minimum ≤ 10 = omega (arith, r.least.is, r.least.reads.below) in record { least = low; most = maximum_formed low r.most }
+
+pub memory_formed : {bytes : List ℕ} {m : MemoryType} {rest : List ℕ} → ReadsMemory bytes m rest → FormedMemory m
+memory_formed r = record { limits = limits_formed r.limits; shared = r.shared; memory64 = r.memory64 }
+
+element_is : (place : ℕ) (t : RefType) → slice_get (FuncRef ∷ ExternRef ∷ []) place ≡ Some t → (t ≡ FuncRef) ⊎ (t ≡ ExternRef)
+element_is zero t e = inl (let z : t ≡ FuncRef = cc in z)
+element_is (suc zero) t e = inr (let z : t ≡ ExternRef = cc in z)
+element_is (suc (suc n)) t e = absurd (let z : None ≡ Some t = e in cc)
+
+pub element_formed : {references : Bool} {bytes : List ℕ} {t : RefType} {rest : List ℕ} → ReadsElement references bytes t rest → (t ≡ FuncRef) ⊎ ((references ≡ true) × (t ≡ ExternRef))
+element_formed (only_functions) = inl refl
+element_formed (either {place = place} {t = t} r n) = elim (element_is place t n) [ inl e ↦ inl e | inr e ↦ inr (refl, e) ]
+
+pub table_formed : {references : Bool} {bytes : List ℕ} {t : TableType} {rest : List ℕ} → ReadsTable references bytes t rest → FormedTable references t
+table_formed r = record { element = element_formed r.element; limits = limits_formed r.limits; table64 = r.table64 }
+
+values_few : {valtypes : List ValType} {max done : ℕ} {bytes : List ℕ} {xs : List ValType} {rest : List ℕ} → done ≤ max → ReadsValues valtypes max done bytes xs rest → done + length xs ≤ max
+values_few h (no_more m) = omega arith
+values_few {max = max} {done = done} h (another m r n v) = let lt : done < max = more_within m in omega (arith, values_few (omega (arith, lt)) v)
+
+values_formed : {valtypes : List ValType} {max done : ℕ} {bytes : List ℕ} {xs : List ValType} {rest : List ℕ} → ReadsValues valtypes max done bytes xs rest → AllByRecursion (IsAmong valtypes) xs
+values_formed (no_more m) = tt
+values_formed (another {place = place} m r n v) = ((place, n), values_formed v)
+
+pub function_formed : {valtypes : List ValType} {max_results : ℕ} {bytes : List ℕ} {f : Function} {rest : List ℕ} → ReadsFunction valtypes max_results bytes f rest → FormedFunction valtypes max_results f
+function_formed r = record {
+  few_params = omega (arith, values_few {done = 0} (omega arith) r.params);
+  few_results = omega (arith, values_few {done = 0} (omega arith) r.results);
+  params = values_formed r.params;
+  results = values_formed r.results;
+}
+
+-- The bytes decide what is read.
+between_unique : {low high : ℕ} {bytes : List ℕ} {m n : ℕ} {left rest : List ℕ} → ReadsBetween low high bytes m left → ReadsBetween low high bytes n rest → (m ≡ n) × (left ≡ rest)
+between_unique r s = let d = reads_unique r.reads s.reads in (omega (arith, r.is, s.is, d.0), d.1)
+
+maximum_unique : {minimum : ℕ} {bytes : List ℕ} {x y : Option ℕ} {left rest : List ℕ} → ReadsMaximum minimum bytes x left → ReadsMaximum minimum bytes y rest → (x ≡ y) × (left ≡ rest)
+maximum_unique (unbounded f) (unbounded g) = (refl, (flips_unique f g).1)
+maximum_unique (unbounded f) (bounded g b) = absurd (let z : false ≡ true = (flips_unique f g).0 in cc)
+maximum_unique (bounded f b) (unbounded g) = absurd (let z : true ≡ false = (flips_unique f g).0 in cc)
+maximum_unique {minimum} (bounded f b) (bounded {n = n} {rest = rest} g c) =
+    let d = between_unique b (subst (λ bs. ReadsBetween minimum 20 bs n rest) (sym (flips_unique f g).1) c) in (ap Some d.0, d.1)
+
+limits_unique : {bytes : List ℕ} {m n : ℕ} {x y : Option ℕ} {left rest : List ℕ} → ReadsLimits bytes m x left → ReadsLimits bytes n y rest → (m ≡ n) × (x ≡ y) × (left ≡ rest)
+limits_unique {y = y} {rest = rest} r s =
+    let l = between_unique r.least s.least in
+    let z : ReadsMaximum _ r.mid y rest = subst (λ bs. ReadsMaximum _ bs y rest) (sym l.1) s.most in
+    let d = maximum_unique r.most (subst (λ k. ReadsMaximum k r.mid y rest) (sym l.0) z) in (l.0, d.0, d.1)
+
+pub memory_unique : {bytes : List ℕ} {m n : MemoryType} {left rest : List ℕ} → ReadsMemory bytes m left → ReadsMemory bytes n rest → (m ≡ n) × (left ≡ rest)
+memory_unique {m = m} {n = n} r s =
+    let d = limits_unique r.limits s.limits in
+    let e : m.shared ≡ n.shared = r.shared ∙ sym s.shared in
+    let f : m.memory64 ≡ n.memory64 = r.memory64 ∙ sym s.memory64 in
+    (λ i. record { minimum = d.0 i; maximum = d.1 i; shared = e i; memory64 = f i }, d.2)
+
+element_unique : {references : Bool} {bytes : List ℕ} {t o : RefType} {left rest : List ℕ} → ReadsElement references bytes t left → ReadsElement references bytes o rest → (t ≡ o) × (left ≡ rest)
+element_unique (only_functions) (only_functions) = (refl, refl)
+element_unique (either {t = t} r n) (either {t = o} s k) =
+    let d = reads_unique r s in
+    let e : Some t ≡ Some o = sym n ∙ ap (slice_get (FuncRef ∷ ExternRef ∷ [])) d.0 ∙ k in (let z : t ≡ o = cc in z, d.1)
+
+pub table_unique : {references : Bool} {bytes : List ℕ} {t o : TableType} {left rest : List ℕ} → ReadsTable references bytes t left → ReadsTable references bytes o rest → (t ≡ o) × (left ≡ rest)
+table_unique {t = t} {o = o} {rest = rest} r s =
+    let e = element_unique r.element s.element in
+    let d = limits_unique r.limits (subst (λ bs. ReadsLimits bs o.minimum o.maximum rest) (sym e.1) s.limits) in
+    let f : t.table64 ≡ o.table64 = r.table64 ∙ sym s.table64 in
+    (λ i. record { element_type = e.0 i; table64 = f i; minimum = d.0 i; maximum = d.1 i }, d.2)
+
+pub tag_unique : {candidates bytes : List ℕ} {t o : TagType} {left rest : List ℕ} → ReadsTag candidates bytes t left → ReadsTag candidates bytes o rest → (t ≡ o) × (left ≡ rest)
+tag_unique {candidates} {t = t} {o = o} r s =
+    let d = reads_unique r.reads s.reads in
+    let e : Some t.func_type_idx ≡ Some o.func_type_idx = sym r.named ∙ ap (slice_get candidates) d.0 ∙ s.named in
+    let f : t.func_type_idx ≡ o.func_type_idx = cc in
+    (λ i. record { func_type_idx = f i }, d.1)
+
+values_unique : {valtypes : List ValType} {max done : ℕ} {bytes other : List ℕ} {xs ys : List ValType} {left rest : List ℕ} → bytes ≡ other → ReadsValues valtypes max done bytes xs left → ReadsValues valtypes max done other ys rest → (xs ≡ ys) × (left ≡ rest)
+values_unique {max = max} {done = done} e (no_more m) (no_more {rest = rest} n) = (refl, (more_unique m (subst (λ bs. More done 0 max bs false rest) (sym e) n)).1)
+values_unique {max = max} {done = done} e (no_more m) (another {mid = mid} n s k w) = absurd (let z : false ≡ true = (more_unique m (subst (λ bs. More done 0 max bs true mid) (sym e) n)).0 in cc)
+values_unique {max = max} {done = done} e (another m r j v) (no_more {rest = rest} n) = absurd (let z : true ≡ false = (more_unique m (subst (λ bs. More done 0 max bs false rest) (sym e) n)).0 in cc)
+values_unique {valtypes} {max = max} {done = done} e (another {x = x} m r j v) (another {mid = mid} {place = place} {after = after} {x = y} n s k w) =
+    let o = more_unique m (subst (λ bs. More done 0 max bs true mid) (sym e) n) in
+    let d = reads_unique r (subst (λ bs. Reads (length valtypes) bs place after) (sym o.1) s) in
+    let f : Some x ≡ Some y = sym j ∙ ap (slice_get valtypes) d.0 ∙ k in
+    let same : x ≡ y = cc in
+    let t = values_unique d.1 v w in (λ i. same i ∷ t.0 i, t.1)
+
+pub function_unique : {valtypes : List ValType} {max_results : ℕ} {bytes : List ℕ} {f g : Function} {left rest : List ℕ} → ReadsFunction valtypes max_results bytes f left → ReadsFunction valtypes max_results bytes g rest → (f ≡ g) × (left ≡ rest)
+function_unique r s =
+    let p = values_unique refl r.params s.params in
+    let q = values_unique p.1 r.results s.results in (λ i. (p.0 i, q.0 i), q.1)
+
+-- A loop over value types, turn by turn: whatever its rest reads from here, the whole reads behind what was read.
+module _ (valtypes : List ValType) (max : ℕ) (start : List ℕ) where
+  -- the rest of the loop, from here on
+  abbrev pub Onward : List ValType → ℕ → List ℕ → Type 0
+  Onward so_far done b = (xs : List ValType) (rest : List ℕ) → ReadsValues valtypes max done b xs rest → ReadsValues valtypes max 0 start (so_far ++ xs) rest
+
+  pub begins : (so_far : List ValType) → so_far ≡ [] → Onward so_far 0 start
+  begins so_far none = λ xs rest r. subst (λ ys. ReadsValues valtypes max 0 start (ys ++ xs) rest) (sym none) r
+
+  pub stops : (so_far : List ValType) (done : ℕ) (b rest : List ℕ) (answer : Bool) → answer ≡ false → More done 0 max b answer rest → Onward so_far done b → ReadsValues valtypes max 0 start so_far rest
+  stops so_far done b rest answer e m onward =
+      subst (λ xs. ReadsValues valtypes max 0 start xs rest) (append-nil so_far) (onward [] rest (no_more (subst (λ a. More done 0 max b a rest) e m)))
+
+  pub ends_full : (so_far : List ValType) (done : ℕ) (b : List ℕ) → max ≤ done → Onward so_far done b → ReadsValues valtypes max 0 start so_far b
+  ends_full so_far done b full onward = stops so_far done b b false refl (more_full b full) onward
+
+  pub goes_on : (so_far next : List ValType) (x : ValType) (done place : ℕ) (b mid after : List ℕ) (answer : Bool) → answer ≡ true → More done 0 max b answer mid → Reads (length valtypes) mid place after → slice_get valtypes place ≡ Some x → next ≡ so_far ++ x ∷ []
+      → Onward so_far done b → Onward next (done + 1) after
+  goes_on so_far next x done place b mid after answer e m r named more onward = λ xs rest v.
+      let whole : so_far ++ x ∷ xs ≡ next ++ xs = sym (append_assoc so_far (x ∷ []) xs) ∙ ap (λ ys. ys ++ xs) (sym more) in
+      subst (λ ys. ReadsValues valtypes max 0 start ys rest) whole (onward (x ∷ xs) rest (another (subst (λ a. More done 0 max b a mid) e m) r named v))

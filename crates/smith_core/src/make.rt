@@ -1,0 +1,165 @@
+//! Core types from the input.
+
+ghost use Rattle.std.specs.Prelude.{◌≡◌, ◌<◌, ◌≤◌, ◌^◌, ◌++◌, ℕ, List, length, IfOk, IfErr};
+ghost use Rattle.smith_input.specs.Reading.{IsTail};
+ghost use Rattle.smith_core.specs.CoreFormed.{FormedMemory, FormedTable, FormedFunction};
+ghost use Rattle.smith_core.specs.CoreReading.{ReadsLimits, ReadsMemory, ReadsElement, ReadsTable, ReadsTag, ReadsValues, ReadsFunction};
+ghost use Rattle.smith_core.specs.CoreScript.{script_function};
+ghost use Rattle.smith_core.specs.CoreTypes.{Function, shown_func};
+
+use crate::config::Config;
+use crate::types::{FuncType, MemoryType, RefType, TableType, TagType, ValType};
+use smith_input::{Error, Unstructured};
+use std::alloc::Global;
+
+static ELEMENT_TYPES: [RefType; 2] = [RefType::FuncRef, RefType::ExternRef];
+
+// A minimum, and a maximum or none.
+fn limits(u: &mut Unstructured) -> (u64, Option<u64>)
+    ensures reads { ReadsLimits u.old result.0 result.1 u.new }
+    ensures tail { IsTail u.new u.old }
+{
+    let minimum = u.int_in_range(0, 10);
+    if u.arbitrary_bool() {
+        let maximum = u.int_in_range(minimum, 20);
+        return (minimum, Some(maximum));
+    }
+    (minimum, None)
+}
+
+/// A memory type: a minimum of at most 10, and a maximum from there to 20 or none. It is not shared, and has addresses
+/// of 32 bits.
+pub fn arbitrary_memtype(u: &mut Unstructured, _config: &Config) -> MemoryType
+    ensures reads { ReadsMemory u.old result u.new }
+    ensures formed { FormedMemory result }
+    ensures tail { IsTail u.new u.old }
+{
+    let (minimum, maximum) = limits(u);
+    MemoryType {
+        minimum,
+        maximum,
+        shared: false,
+        memory64: false,
+    }
+}
+
+// What a table holds: functions, or things from outside where there may be references to those.
+fn element_type(u: &mut Unstructured, references: bool) -> RefType
+    ensures reads { ReadsElement references u.old result u.new }
+    ensures tail { IsTail u.new u.old }
+{
+    if references {
+        *u.choose(&ELEMENT_TYPES)
+    } else {
+        RefType::FuncRef
+    }
+}
+
+/// A table type: what it holds, and limits as those of a memory. It has indexes of 32 bits.
+pub fn arbitrary_table_type(u: &mut Unstructured, config: &Config) -> TableType
+    ensures reads { ReadsTable config.now.reference_types_enabled u.old result u.new }
+    ensures formed { FormedTable config.now.reference_types_enabled result }
+    ensures tail { IsTail u.new u.old }
+{
+    let element_type = element_type(u, config.reference_types_enabled);
+    let (minimum, maximum) = limits(u);
+    TableType {
+        element_type,
+        table64: false,
+        minimum,
+        maximum,
+    }
+}
+
+/// A tag type of one of the function types, given by their indexes.
+pub fn arbitrary_tag_type(u: &mut Unstructured, candidates: &[u32]) -> TagType
+    requires { 0 < length candidates.now }
+    ensures reads { ReadsTag candidates.now u.old result u.new }
+    ensures tail { IsTail u.new u.old }
+{
+    let func_type_idx = *u.choose(candidates);
+    TagType { func_type_idx }
+}
+
+// At most so many value types.
+fn values(
+    alloc: Global,
+    u: &mut Unstructured,
+    valtypes: &[ValType],
+    max: usize,
+) -> Result<Vec<ValType>, Error>
+    requires { 0 < length valtypes.now }
+    ensures reads { IfOk result (λ v. ReadsValues valtypes.now max 0 u.old v.items u.new) }
+    ensures memory { IfErr result (λ e. e ≡ Error.OutOfMemory) }
+    ensures tail { IsTail u.new u.old }
+{
+    let mut types = Vec::new(alloc);
+    for done in 0..max {
+        if !u.more(done, 0, max) {
+            return Ok(types);
+        }
+        let ty = *u.choose(valtypes);
+        types.push(ty)?;
+    }
+    Ok(types)
+}
+
+/// A function type of at most 20 parameters and `max_results` results, each of one of the value types. It refuses for
+/// want of memory alone.
+pub fn arbitrary_func_type(
+    alloc: Global,
+    u: &mut Unstructured,
+    valtypes: &[ValType],
+    max_results: usize,
+) -> Result<FuncType, Error>
+    requires some { 0 < length valtypes.now }
+    requires few { max_results ≤ 20 }
+    ensures reads { IfOk result (λ t. ReadsFunction valtypes.now max_results u.old (shown_func t) u.new) }
+    ensures formed { IfOk result (λ t. FormedFunction valtypes.now max_results (shown_func t)) }
+    ensures script { (f : Function) (rest : List ℕ) → FormedFunction valtypes.now max_results f → length valtypes.now ≤ 2 ^ 64 → u.old ≡ script_function valtypes.now max_results f ++ rest
+        → IfOk result (λ t. (shown_func t ≡ f) × (u.new ≡ rest)) }
+    ensures memory { IfErr result (λ e. e ≡ Error.OutOfMemory) }
+    ensures tail { IsTail u.new u.old }
+{
+    let params = values(alloc, u, valtypes, 20)?;
+    let results = values(alloc, u, valtypes, max_results)?;
+    Ok(FuncType { params, results })
+}
+
+#[cfg(test)]
+mod tests {
+    use super::*;
+    use std::test::Fail;
+
+    // A minimum is a choice among 11, and what a maximum has more than its minimum of 1 one among 20.
+    #[test]
+    fn reads_core_types(rt: HostRuntime) -> Result<(), Fail> {
+        let config = Config::default();
+        let mut u = Unstructured::new(&[12, 1, 3, 1, 10, 0, 9]);
+        let memory = arbitrary_memtype(&mut u, &config);
+        assert_eq!(rt; memory.minimum, 1);
+        assert_eq!(rt; memory.maximum, Some(4));
+        let table = arbitrary_table_type(&mut u, &config);
+        assert_eq!(rt; table.element_type, RefType::ExternRef);
+        assert_eq!(rt; table.minimum, 10);
+        assert_eq!(rt; table.maximum, None);
+        let tag = arbitrary_tag_type(&mut u, &[5, 6]);
+        assert_eq!(rt; tag.func_type_idx, 6);
+        assert_eq!(rt; u.is_empty(), true);
+        Ok(())
+    }
+
+    #[test]
+    fn reads_a_function_type(rt: HostRuntime) -> Result<(), Fail> {
+        let mut u = Unstructured::new(&[1, 1, 1, 0, 0, 1, 1, 7]);
+        let types = [ValType::I32, ValType::I64];
+        let func = arbitrary_func_type(rt.alloc(), &mut u, &types, 1)?;
+        assert_eq!(rt;
+            func.params.as_slice(),
+            [ValType::I64, ValType::I32].as_slice()
+        );
+        assert_eq!(rt; func.results.as_slice(), [ValType::I64].as_slice());
+        assert_eq!(rt; u.left().len(), 1);
+        Ok(())
+    }
+}
