@@ -12,3 +12,4 @@ pub mod ScriptVals
 pub mod SignatureLemmas
 pub mod TiedLemmas
 pub mod Unique
+pub mod UniqueCore

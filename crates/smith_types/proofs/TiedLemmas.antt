@@ -5,18 +5,20 @@ use Rattle.std.specs.HashMap.{HashMap}
 use Rattle.std.specs.declared.alloc.Global.{Global}
 use Rattle.std.specs.declared.rc.Rc.{Rc}
 use Rattle.std.specs.declared.vec.Vec.{Vec}
+use Rattle.smith_core.specs.declared.types.FuncType.{FuncType as CoreFuncType}
 use Rattle.smith_types.specs.Places.{places}
 use Rattle.smith_types.specs.Rows.{row_of, Notes}
 use Rattle.smith_types.specs.SameSignature.{same_signature}
-use Rattle.smith_types.specs.Scope.{is_kind}
-use Rattle.smith_types.specs.Shown.{shown_type}
+use Rattle.smith_types.specs.Scope.{is_defined, is_func, is_core_func, is_core_module}
+use Rattle.smith_types.specs.Shown.{shown_type, shown_core}
 use Rattle.smith_types.specs.Signature.{Signature}
 use Rattle.smith_types.specs.SignatureLaws.{same_signature_equiv}
 use Rattle.smith_types.specs.Stack.{has_signature}
-use Rattle.smith_types.specs.Tied.{types_in, IsTied}
+use Rattle.smith_types.specs.Tied.{types_in, core_types_in, IsTied, IsCoreTied}
 use Rattle.smith_types.specs.declared.func.FuncType.{FuncType}
-use Rattle.smith_types.specs.declared.scopes.Kind.{Kind}
-use Rattle.smith_types.specs.declared.scopes.Kind.TheVariants.{Defined, Func}
+use Rattle.smith_types.specs.declared.core_types.CoreType.{CoreType}
+use Rattle.smith_types.specs.declared.core_types.CoreType.TheVariants as core
+use Rattle.smith_types.specs.declared.core_types.ModuleType.{ModuleType}
 use Rattle.smith_types.specs.declared.types.DefinedType.{DefinedType}
 use Rattle.smith_types.specs.declared.types.DefType.{DefType}
 use Rattle.smith_types.specs.declared.types.DefType.TheVariants as def
@@ -29,18 +31,17 @@ pushed p xs x b e =
     ∙ ap (λ c. places p 0 xs ++ cond c ((0 + length xs) ∷ []) []) e
     ∙ ap (λ n. places p 0 xs ++ cond b (n ∷ []) []) (let z : 0 + length xs ≡ length xs = omega arith in z)
 
-kind_pushed : (k : Kind) (types : List DefType) (ty : DefType) (b : Bool) → is_kind k (shown_type ty) ≡ b
-    → places (is_kind k) 0 (map shown_type (types ++ ty ∷ [])) ≡ places (is_kind k) 0 (map shown_type types) ++ cond b (length types ∷ []) []
-kind_pushed k types ty b e =
-    ap (places (is_kind k) 0) (map-append shown_type types (ty ∷ []))
-    ∙ pushed (is_kind k) (map shown_type types) (shown_type ty) b e
-    ∙ ap (λ n. places (is_kind k) 0 (map shown_type types) ++ cond b (n ∷ []) []) (length-map types shown_type)
+kind_pushed : {X E : Type 0} (shown : X → E) (p : E → Bool) (types : List X) (ty : X) (b : Bool) → p (shown ty) ≡ b → places p 0 (map shown (types ++ ty ∷ [])) ≡ places p 0 (map shown types) ++ cond b (length types ∷ []) []
+kind_pushed shown p types ty b e =
+    ap (places p 0) (map-append shown types (ty ∷ []))
+    ∙ pushed p (map shown types) (shown ty) b e
+    ∙ ap (λ n. places p 0 (map shown types) ++ cond b (n ∷ []) []) (length-map types shown)
 
 module _ {Z S : Type 0} {types : List DefType} {defined funcs : List ℕ} {equal : HashMap Signature (Vec ℕ Z) S} (tied : IsTied types defined funcs equal) where
   tied_defined : (d : DefinedType) → IsTied (types ++ def.Defined d ∷ []) (defined ++ length types ∷ []) funcs equal
   tied_defined d = record {
-    defined_are = ap (λ is. is ++ length types ∷ []) tied.defined_are ∙ sym (kind_pushed Defined types (def.Defined d) true (shown_is_defined d));
-    funcs_are = tied.funcs_are ∙ sym (kind_pushed Func types (def.Defined d) false (shown_no_func d) ∙ append-nil (places (is_kind Func) 0 (map shown_type types)));
+    defined_are = ap (λ is. is ++ length types ∷ []) tied.defined_are ∙ sym (kind_pushed shown_type is_defined types (def.Defined d) true (shown_is_defined d));
+    funcs_are = tied.funcs_are ∙ sym (kind_pushed shown_type is_func types (def.Defined d) false (shown_no_func d) ∙ append-nil (places is_func 0 (map shown_type types)));
     equal_are = λ s. tied.equal_are s ∙ sym (pushed (has_signature s) types (def.Defined d) false refl ∙ append-nil (places (has_signature s) 0 types));
   }
 
@@ -50,8 +51,8 @@ module _ {Z S : Type 0} {types : List DefType} {defined funcs : List ℕ} {equal
 
   tied_function : (f : Rc FuncType Global) {more : HashMap Signature (Vec ℕ Z) S} → Notes f.value (length types) equal more → IsTied (types ++ def.Func f ∷ []) defined (funcs ++ length types ∷ []) more
   tied_function f notes = record {
-    defined_are = tied.defined_are ∙ sym (kind_pushed Defined types (def.Func f) false refl ∙ append-nil (places (is_kind Defined) 0 (map shown_type types)));
-    funcs_are = ap (λ is. is ++ length types ∷ []) tied.funcs_are ∙ sym (kind_pushed Func types (def.Func f) true refl);
+    defined_are = tied.defined_are ∙ sym (kind_pushed shown_type is_defined types (def.Func f) false refl ∙ append-nil (places is_defined 0 (map shown_type types)));
+    funcs_are = ap (λ is. is ++ length types ∷ []) tied.funcs_are ∙ sym (kind_pushed shown_type is_func types (def.Func f) true refl);
     equal_are = λ s.
         notes s
         ∙ row (same_signature f.value s) (row_of equal s) (places (has_signature s) 0 types) (tied.equal_are s)
@@ -76,3 +77,42 @@ module _ {Z S : Type 0} (entries : List Shared) {defined funcs : List ℕ} {equa
 
   pub pushed_function : (f : Rc FuncType Global) {ds more : List ℕ} {m : HashMap Signature (Vec ℕ Z) S} → entry.value ≡ def.Func f → ds ≡ defined → more ≡ funcs ++ i ∷ [] → Notes f.value i equal m → IsTied (types_in new) ds more m
   pushed_function f is pd pf notes = rw (types_are entries new entry (def.Func f) to is, pd, pf, index_is entries i at) (tied_function tied f (let told = rw (index_is entries i at) at notes in told))
+
+-- One core type more.
+
+module _ {types : List CoreType} {funcs modules : List ℕ} (tied : IsCoreTied types funcs modules) where
+  tied_core_func : (f : Rc CoreFuncType Global) → IsCoreTied (types ++ core.Func f ∷ []) (funcs ++ length types ∷ []) modules
+  tied_core_func f = record {
+    funcs_are = ap (λ is. is ++ length types ∷ []) tied.funcs_are ∙ sym (kind_pushed shown_core is_core_func types (core.Func f) true refl);
+    modules_are = tied.modules_are ∙ sym (kind_pushed shown_core is_core_module types (core.Func f) false refl ∙ append-nil (places is_core_module 0 (map shown_core types)));
+  }
+
+  tied_module : (m : Rc ModuleType Global) → IsCoreTied (types ++ core.Module m ∷ []) funcs (modules ++ length types ∷ [])
+  tied_module m = record {
+    funcs_are = tied.funcs_are ∙ sym (kind_pushed shown_core is_core_func types (core.Module m) false refl ∙ append-nil (places is_core_func 0 (map shown_core types)));
+    modules_are = ap (λ is. is ++ length types ∷ []) tied.modules_are ∙ sym (kind_pushed shown_core is_core_module types (core.Module m) true refl);
+  }
+
+abbrev SharedCore : Type 0
+SharedCore = Rc CoreType Global
+
+core_index_is : (entries : List SharedCore) (i : ℕ) → i ≡ length entries → i ≡ length (core_types_in entries)
+core_index_is entries i at = at ∙ sym (length-map entries (λ (e : SharedCore). e.value))
+
+core_types_are : (entries new : List SharedCore) (entry : SharedCore) (ty : CoreType) → new ≡ entries ++ entry ∷ [] → entry.value ≡ ty → core_types_in new ≡ core_types_in entries ++ ty ∷ []
+core_types_are entries new entry ty to is = ap core_types_in to ∙ map-append (λ (e : SharedCore). e.value) entries (entry ∷ []) ∙ ap (λ t. core_types_in entries ++ t ∷ []) is
+
+module _ (entries : List SharedCore) {funcs modules : List ℕ} (tied : IsCoreTied (core_types_in entries) funcs modules) (i : ℕ) (at : i ≡ length entries) (entry : SharedCore) (new : List SharedCore) (to : new ≡ entries ++ entry ∷ []) where
+  pub pushed_core_func : (f : Rc CoreFuncType Global) {fs ms : List ℕ} → entry.value ≡ core.Func f → fs ≡ funcs ++ i ∷ [] → ms ≡ modules → IsCoreTied (core_types_in new) fs ms
+  pushed_core_func f is pf pm = rw (core_types_are entries new entry (core.Func f) to is, pf, pm, core_index_is entries i at) (tied_core_func tied f)
+
+  pub pushed_module : (m : Rc ModuleType Global) {fs ms : List ℕ} → entry.value ≡ core.Module m → fs ≡ funcs → ms ≡ modules ++ i ∷ [] → IsCoreTied (core_types_in new) fs ms
+  pushed_module m is pf pm = rw (core_types_are entries new entry (core.Module m) to is, pf, pm, core_index_is entries i at) (tied_module tied m)
+
+-- what a push leaves as it was
+
+pub core_kept : {entries new : List SharedCore} {funcs modules fs ms : List ℕ} → IsCoreTied (core_types_in entries) funcs modules → new ≡ entries → fs ≡ funcs → ms ≡ modules → IsCoreTied (core_types_in new) fs ms
+core_kept tied pe pf pm = rw (pe, pf, pm) tied
+
+pub types_kept : {Z S : Type 0} {entries new : List Shared} {defined funcs ds fs : List ℕ} {equal m : HashMap Signature (Vec ℕ Z) S} → IsTied (types_in entries) defined funcs equal → new ≡ entries → ds ≡ defined → fs ≡ funcs → m ≡ equal → IsTied (types_in new) ds fs m
+types_kept tied pe pd pf pm = rw (pe, pd, pf, pm) tied

@@ -3,9 +3,9 @@ use Rattle.std.proofs.Common.{◌≡◌, ℕ, ◌<◌, ◌≤◌, inl, inr, List
 use Rattle.smith_core.specs.Clear.{Agree, IsClear}
 use Rattle.smith_core.specs.Piece.{Piece, ◌⊕◌, byte, s_index, text, many}
 use Rattle.smith_core.proofs.Clear.{tail, head, then_head, then_tail, then_agree, clash, clear_byte, clear_s_index, s_index_head, clear_text, clear_many, clear_both}
-use Rattle.smith_types.specs.Entries.{Primitive, Val, Field, Entry, CoreEntry, ImportEntry}
+use Rattle.smith_types.specs.Entries.{Primitive, Val, Field, Entry, ImportEntry}
 use Rattle.smith_types.specs.Entries.{bool, s8, u8, s16, u16, s32, u32, s64, u64, f32, f64, char, string, primitive, indexed, plain, fields, cases, listed, tuple, flags, labels, optional, outcome, function}
-use Rattle.smith_types.specs.Grammar.{primitive_byte, val, maybe_val, field, case, result_of, entry, core_entry, import_entry}
+use Rattle.smith_types.specs.Grammar.{primitive_byte, val, maybe_val, field, case, result_of, entry, import_entry}
 
 primitive_same : (a b : Primitive) → primitive_byte a ≡ primitive_byte b → a ≡ b
 primitive_same bool bool e = refl
@@ -176,12 +176,6 @@ entry_law x y p q b e h = let c = same_tag x y p q b e h in absurd (omega arith)
 
 pub clear_entry : IsClear entry
 clear_entry = record { law = entry_law }
-
-core_law : (x y : CoreEntry) (p q : Piece) (b : List ℕ) → core_entry x ⊕ p ≡ Some b → core_entry y ⊕ q ≡ Some b → Agree x y p q
-core_law x y p q b e h = elim x [ ]
-
-pub clear_core_entry : IsClear core_entry
-clear_core_entry = record { law = core_law }
 
 import_law : (x y : ImportEntry) (p q : Piece) (b : List ℕ) → import_entry x ⊕ p ≡ Some b → import_entry y ⊕ q ≡ Some b → Agree x y p q
 import_law x y p q b e h = elim x [ ]

@@ -1,7 +1,9 @@
 -- How types are spelled (Binary.md, type definitions), one line for each row.
 use Rattle.std.specs.Prelude.{ℕ, [], ◌∷◌, Option, Some, None}
-use Rattle.smith_core.specs.Piece.{Piece, ◌⊕◌, byte, bytes, text, many, s_index}
-use Rattle.smith_types.specs.Entries.{Primitive, Val, Field, Case, Entry, CoreEntry, ImportEntry}
+use Rattle.smith_core.specs.CoreTypes.{core_function}
+use Rattle.smith_core.specs.Entities.{entity}
+use Rattle.smith_core.specs.Piece.{Piece, ◌⊕◌, byte, bytes, text, many, s_index, u}
+use Rattle.smith_types.specs.Entries.{Primitive, Val, Field, Case, Entry, CoreEntry, ModuleDecl, ImportEntry, core_func, core_module, imports, declares, aliases, exports}
 use Rattle.smith_types.specs.Entries.{bool, s8, u8, s16, u16, s32, u32, s64, u64, f32, f64, char, string, primitive, indexed, plain, fields, cases, listed, tuple, flags, labels, optional, outcome, function}
 
 abbrev pub primitive_byte : Primitive → ℕ
@@ -51,8 +53,17 @@ entry (optional v) = byte 0x6b ⊕ val v
 entry (outcome ok err) = byte 0x6a ⊕ maybe_val ok ⊕ maybe_val err
 entry (function ps r) = byte 0x40 ⊕ many field ps ⊕ result_of r
 
+-- what a module type declares
+abbrev pub module_decl : ModuleDecl → Piece
+module_decl (imports m n e) = byte 0x00 ⊕ text m ⊕ text n ⊕ entity e
+module_decl (declares f) = byte 0x01 ⊕ core_function f
+module_decl (aliases count i) = bytes (0x02 ∷ 0x10 ∷ 0x01 ∷ []) ⊕ u count ⊕ u i
+module_decl (exports n e) = byte 0x03 ⊕ text n ⊕ entity e
+
+-- a core type (Binary.md, core type definitions)
 abbrev pub core_entry : CoreEntry → Piece
-core_entry t = elim t [ ]
+core_entry (core_func f) = core_function f
+core_entry (core_module ds) = byte 0x50 ⊕ many module_decl ds
 
 abbrev pub import_entry : ImportEntry → Piece
 import_entry i = elim i [ ]

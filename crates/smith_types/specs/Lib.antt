@@ -1,7 +1,12 @@
+pub mod AbiFront
+pub mod Contents
+pub mod CoreLimits
 pub mod Distinct
 pub mod Entries
+pub mod FormedCore
 pub mod Grammar
 pub mod Made
+pub mod ModuleTypes
 pub mod Places
 pub mod Rows
 pub mod SameSignature

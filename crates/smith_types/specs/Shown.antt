@@ -1,10 +1,15 @@
 -- The types of the program as plain trees.
 use Rattle.std.specs.Prelude.{map, Option, Some, None, string_bytes, String}
+use Rattle.smith_core.specs.CoreTypes.{shown_func}
 use Rattle.std.specs.declared.alloc.Global.{Global}
 use Rattle.std.specs.declared.rc.Rc.{Rc}
-use Rattle.smith_types.specs.Entries.{Primitive, Val, Field, Case, Entry}
+use Rattle.smith_types.specs.Entries.{Primitive, Val, Field, Case, Entry, CoreEntry, ModuleDecl, declares, imports, aliases, exports, core_func, core_module}
 use Rattle.smith_types.specs.Entries.{bool, s8, u8, s16, u16, s32, u32, s64, u64, f32, f64, char, string, primitive, indexed, plain, fields, cases, listed, tuple, flags, labels, optional, outcome, function}
 use Rattle.smith_types.specs.Signature.{Signature}
+use Rattle.smith_types.specs.declared.core_types.CoreType.{CoreType}
+use Rattle.smith_types.specs.declared.core_types.CoreType.TheVariants as core
+use Rattle.smith_types.specs.declared.core_types.ModuleTypeDef.{ModuleTypeDef}
+use Rattle.smith_types.specs.declared.core_types.ModuleTypeDef.TheVariants as declared
 use Rattle.smith_types.specs.declared.types.PrimitiveValType.{PrimitiveValType}
 use Rattle.smith_types.specs.declared.types.PrimitiveValType.TheVariants as prim
 use Rattle.smith_types.specs.declared.types.ComponentValType.{ComponentValType}
@@ -65,3 +70,17 @@ shown_type (def.Func f) = shown_function f.value
 -- what a shared type shows
 abbrev pub shown_shared : Rc DefType Global → Entry
 shown_shared t = shown_type t.value
+
+abbrev pub shown_decl : ModuleTypeDef → ModuleDecl
+shown_decl (declared.FuncDef f) = declares (shown_func f.value)
+shown_decl (declared.Import i) = imports (string_bytes i.module) (string_bytes i.name) i.entity_type
+shown_decl (declared.OuterAlias count i ty) = aliases count i
+shown_decl (declared.Export name entity) = exports (string_bytes name) entity
+
+abbrev pub shown_core : CoreType → CoreEntry
+shown_core (core.Func f) = core_func (shown_func f.value)
+shown_core (core.Module m) = core_module (map shown_decl m.value.defs.items)
+
+-- what a shared core type shows
+abbrev pub shown_shared_core : Rc CoreType Global → CoreEntry
+shown_shared_core t = shown_core t.value

@@ -2,6 +2,7 @@
 //! capacity of its buffer, and none wants memory where the buffer has room for what it writes.
 #![tactic(auto, using(smith_core::proofs::Steps::writing, smith_core::proofs::Sizes::measuring, crate::proofs::Lengths::vals))]
 
+mod core_types;
 mod lists;
 
 ghost use Rattle.std.specs.Prelude.{◌≡◌, ◌≤◌, ℕ, map};
@@ -12,6 +13,7 @@ ghost use Rattle.smith_types.specs.Shown.{shown_primitive, shown_val, shown_mayb
 
 use crate::func::FuncType;
 use crate::types::{ComponentValType, DefType, DefinedType, PrimitiveValType};
+pub use core_types::{core_type_len, write_core_type};
 pub use lists::{Spelled, many_len, put_many};
 use lists::{put_tagged, tagged_len};
 use smith_core::numbers::{type_index_len, write_type_index};

@@ -1,12 +1,13 @@
 //! Scopes: what types stand where (Explainer.md, index spaces).
 
-ghost use Rattle.std.specs.Prelude.{◌≡◌, ℕ, ◌+◌, ◌<◌, ◌≤◌, [], ◌∷◌, ◌++◌, length, map, Some, slice_get, OnOk, IfOk, OnErr, IfErr};
+ghost use Rattle.std.specs.Prelude.{◌≡◌, ℕ, ◌+◌, ◌<◌, ◌≤◌, [], ◌∷◌, ◌++◌, length, Some, slice_get, OnOk, IfOk, OnErr, IfErr};
+ghost use Rattle.smith_types.specs.Contents.{nothing, and_type, and_core_type};
 ghost use Rattle.smith_types.specs.Places.{places};
 ghost use Rattle.smith_types.specs.Rows.{Notes, SameRows};
-ghost use Rattle.smith_types.specs.Scope.{inward, own_of, is_kind};
-ghost use Rattle.smith_types.specs.Shown.{shown_type};
-ghost use Rattle.smith_types.specs.Stack.{last_of, scope_at, has_signature, AddsType};
+ghost use Rattle.smith_types.specs.Scope.{inward, own_of, shown_scope, kind_places};
+ghost use Rattle.smith_types.specs.Stack.{last_of, scope_at, has_signature, AddsType, AddsCoreType};
 
+use crate::core_types::CoreType;
 use crate::func::FuncType;
 use crate::types::DefType;
 use smith_input::Error;
@@ -23,31 +24,37 @@ pub enum Kind {
     Defined,
     /// The type of a function.
     Func,
+    /// A core function type.
+    CoreFunc,
+    /// The type of a core module.
+    CoreModule,
 }
 
-// The types of one scope, with the indexes of each kind and, by each function type, those of its equals. Contracts see
-// the types.
+// The types and core types of one scope, with the indexes of each kind and, by each function type, those of its equals.
+// Contracts see the types and the core types.
 #[derive(Drop)]
 struct Scope {
     types: Vec<Rc<DefType>>,
     defined: Vec<u32>,
     funcs: Vec<u32>,
     equal: HashMap<FuncType, Vec<u32>>,
+    core_types: Vec<Rc<CoreType>>,
+    core_funcs: Vec<u32>,
+    core_modules: Vec<u32>,
 }
 
 impl Model for Scope {
-    ghost use Rattle.std.specs.Prelude.{List, map};
-    ghost use Rattle.smith_types.specs.declared.types.DefType.{DefType};
-    ghost use Rattle.smith_types.specs.Tied.{types_in, IsTied};
+    ghost use Rattle.smith_types.specs.Contents.{Contents};
+    ghost use Rattle.smith_types.specs.Tied.{types_in, core_types_in, IsTied, IsCoreTied};
 
-    ghost Value = { List DefType };
+    ghost Value = { Contents };
 
-    ghost view = { λ s. types_in s.types.items };
+    ghost view = { λ s. record { types = types_in s.types.items; core_types = core_types_in s.core_types.items } };
 
-    ghost invariant = { λ s. IsTied (types_in s.types.items) s.defined.items s.funcs.items s.equal };
+    ghost invariant = { λ s. IsTied (types_in s.types.items) s.defined.items s.funcs.items s.equal × IsCoreTied (core_types_in s.core_types.items) s.core_funcs.items s.core_modules.items };
 }
 
-/// A stack of scopes, never empty. Contracts see the list, outermost first, of the types in each.
+/// A stack of scopes, never empty. Contracts see the list, outermost first, of the types and core types in each.
 #[derive(Drop)]
 pub struct Scopes {
     alloc: Global,
@@ -57,9 +64,9 @@ pub struct Scopes {
 
 impl Model for Scopes {
     ghost use Rattle.std.specs.Prelude.{List, [], ◌∷◌, ◌++◌};
-    ghost use Rattle.smith_types.specs.declared.types.DefType.{DefType};
+    ghost use Rattle.smith_types.specs.Contents.{Contents};
 
-    ghost Value = { List (List DefType) };
+    ghost Value = { List Contents };
 
     ghost view = { λ s. s.outer.items ++ s.inner ∷ [] };
 }
@@ -88,21 +95,24 @@ fn note(
 
 impl Scope {
     fn new(alloc: Global) -> Scope
-        ensures { result ≡ [] }
+        ensures { result ≡ nothing }
     {
         Scope {
             types: Vec::new(alloc),
             defined: Vec::new(alloc),
             funcs: Vec::new(alloc),
             equal: HashMap::new(alloc),
+            core_types: Vec::new(alloc),
+            core_funcs: Vec::new(alloc),
+            core_modules: Vec::new(alloc),
         }
     }
 
     // Adds a type at the end. Each list has room before one of them grows.
     fn push_type(&mut self, alloc: Global, entry: Rc<DefType>) -> Result<u32, Error>
-        requires { length self.old < 4294967295 }
-        ensures ok { OnOk result (self.new ≡ self.old ++ entry.value ∷ []) }
-        ensures index { IfOk result (λ i. i ≡ length self.old) }
+        requires { length self.old.types < 4294967295 }
+        ensures ok { OnOk result (self.new ≡ and_type self.old entry.value) }
+        ensures index { IfOk result (λ i. i ≡ length self.old.types) }
         ensures err { OnErr result (self.new ≡ self.old) }
         ensures memory { IfErr result (λ e. e ≡ Error.OutOfMemory) }
     {
@@ -120,27 +130,38 @@ impl Scope {
         Ok(index)
     }
 
-    fn kind_len(&self, kind: Kind) -> usize
-        ensures { result ≡ length (places (is_kind kind) 0 (map shown_type self.now)) }
+    // Adds a core type at the end. Each list has room before one of them grows.
+    fn push_core_type(&mut self, entry: Rc<CoreType>) -> Result<u32, Error>
+        requires { length self.old.core_types < 4294967295 }
+        ensures ok { OnOk result (self.new ≡ and_core_type self.old entry.value) }
+        ensures index { IfOk result (λ i. i ≡ length self.old.core_types) }
+        ensures err { OnErr result (self.new ≡ self.old) }
+        ensures memory { IfErr result (λ e. e ≡ Error.OutOfMemory) }
     {
-        match kind {
-            Kind::Defined => self.defined.len(),
-            Kind::Func => self.funcs.len(),
+        let index = self.core_types.len() as u32;
+        self.core_types.reserve(1)?;
+        match &*entry {
+            CoreType::Func(_) => self.core_funcs.push(index)?,
+            CoreType::Module(_) => self.core_modules.push(index)?,
         }
+        self.core_types.push_reserved(entry);
+        Ok(index)
     }
 
-    fn kind_at(&self, kind: Kind, k: usize) -> u32
-        requires { k < length (places (is_kind kind) 0 (map shown_type self.now)) }
-        ensures { slice_get (places (is_kind kind) 0 (map shown_type self.now)) k ≡ Some result }
+    // The indexes of the entries of that kind.
+    fn places(&self, kind: Kind) -> &[u32]
+        ensures { result.now ≡ kind_places kind (shown_scope self.now) }
     {
         match kind {
-            Kind::Defined => self.defined[k],
-            Kind::Func => self.funcs[k],
+            Kind::Defined => &self.defined,
+            Kind::Func => &self.funcs,
+            Kind::CoreFunc => &self.core_funcs,
+            Kind::CoreModule => &self.core_modules,
         }
     }
 
     fn equals(&self, func: &FuncType) -> &[u32]
-        ensures { result.now ≡ places (has_signature func.now) 0 self.now }
+        ensures { result.now ≡ places (has_signature func.now) 0 self.now.types }
     {
         match self.equal.get(func) {
             Some(row) => row,
@@ -152,7 +173,7 @@ impl Scope {
 impl Scopes {
     /// One scope, empty.
     pub fn new(alloc: Global) -> Scopes
-        ensures { result ≡ [] ∷ [] }
+        ensures { result ≡ nothing ∷ [] }
     {
         Scopes {
             alloc,
@@ -163,7 +184,7 @@ impl Scopes {
 
     /// Adds an empty scope. It refuses for want of memory alone, and all is as it was then.
     pub fn open_scope(&mut self) -> Result<(), Error>
-        ensures ok { OnOk result (self.new ≡ self.old ++ [] ∷ []) }
+        ensures ok { OnOk result (self.new ≡ self.old ++ nothing ∷ []) }
         ensures err { OnErr result (self.new ≡ self.old) }
         ensures memory { IfErr result (λ e. e ≡ Error.OutOfMemory) }
     {
@@ -186,13 +207,25 @@ impl Scopes {
     /// Adds a type to the last scope, and answers its index there. It refuses for want of memory alone, and all is
     /// as it was then.
     pub fn push_type(&mut self, entry: Rc<DefType>) -> Result<u32, Error>
-        requires { length (last_of self.old) < 4294967295 }
+        requires { length (last_of self.old).types < 4294967295 }
         ensures ok { OnOk result (AddsType self.old entry.value self.new) }
-        ensures index { IfOk result (λ i. i ≡ length (last_of self.old)) }
+        ensures index { IfOk result (λ i. i ≡ length (last_of self.old).types) }
         ensures err { OnErr result (self.new ≡ self.old) }
         ensures memory { IfErr result (λ e. e ≡ Error.OutOfMemory) }
     {
         self.inner.push_type(self.alloc, entry)
+    }
+
+    /// Adds a core type to the last scope, and answers its index there. It refuses for want of memory alone, and all is
+    /// as it was then.
+    pub fn push_core_type(&mut self, entry: Rc<CoreType>) -> Result<u32, Error>
+        requires { length (last_of self.old).core_types < 4294967295 }
+        ensures ok { OnOk result (AddsCoreType self.old entry.value self.new) }
+        ensures index { IfOk result (λ i. i ≡ length (last_of self.old).core_types) }
+        ensures err { OnErr result (self.new ≡ self.old) }
+        ensures memory { IfErr result (λ e. e ≡ Error.OutOfMemory) }
+    {
+        self.inner.push_core_type(entry)
     }
 
     /// How many scopes there are.
@@ -217,46 +250,63 @@ impl Scopes {
     /// How many types the scope of that count has, where 0 is the last.
     pub fn len(&self, count: u32) -> usize
         requires { count < length self.now }
-        ensures { result ≡ length (scope_at self.now count) }
+        ensures { result ≡ length (scope_at self.now count).types }
     {
         self.scope(count).types.len()
+    }
+
+    /// How many core types the scope of that count has, where 0 is the last.
+    pub fn len_core(&self, count: u32) -> usize
+        requires { count < length self.now }
+        ensures { result ≡ length (scope_at self.now count).core_types }
+    {
+        self.scope(count).core_types.len()
     }
 
     /// The type with the index `i` in the scope of that count, where 0 is the last.
     pub fn get(&self, count: u32, i: u32) -> &Rc<DefType>
         requires scope { count < length self.now }
-        requires entry { i < length (scope_at self.now count) }
-        ensures { slice_get (scope_at self.now count) i ≡ Some result.now.value }
+        requires entry { i < length (scope_at self.now count).types }
+        ensures { slice_get (scope_at self.now count).types i ≡ Some result.now.value }
     {
         &self.scope(count).types[i as usize]
     }
 
+    /// The core type with the index `i` in the scope of that count, where 0 is the last.
+    pub fn get_core(&self, count: u32, i: u32) -> &Rc<CoreType>
+        requires scope { count < length self.now }
+        requires entry { i < length (scope_at self.now count).core_types }
+        ensures { slice_get (scope_at self.now count).core_types i ≡ Some result.now.value }
+    {
+        &self.scope(count).core_types[i as usize]
+    }
+
     /// How many entries of the last scope are of that kind.
     pub fn kind_len(&self, kind: Kind) -> usize
-        ensures { result ≡ length (places (is_kind kind) 0 (own_of (inward self.now)).types) }
+        ensures { result ≡ length (kind_places kind (own_of (inward self.now))) }
     {
-        self.inner.kind_len(kind)
+        self.inner.places(kind).len()
     }
 
     /// The index of the entry of the last scope that has `k` earlier ones of its kind.
     pub fn kind_at(&self, kind: Kind, k: usize) -> u32
-        requires { k < length (places (is_kind kind) 0 (own_of (inward self.now)).types) }
-        ensures { slice_get (places (is_kind kind) 0 (own_of (inward self.now)).types) k ≡ Some result }
+        requires { k < length (kind_places kind (own_of (inward self.now))) }
+        ensures { slice_get (kind_places kind (own_of (inward self.now))) k ≡ Some result }
     {
-        self.inner.kind_at(kind, k)
+        self.inner.places(kind)[k]
     }
 
     /// How many types of the last scope are function types equal to that one.
     pub fn equal_len(&self, func: &FuncType) -> usize
-        ensures { result ≡ length (places (has_signature func.now) 0 (last_of self.now)) }
+        ensures { result ≡ length (places (has_signature func.now) 0 (last_of self.now).types) }
     {
         self.inner.equals(func).len()
     }
 
     /// The index of the function type of the last scope that equals that one and has `k` earlier such ones.
     pub fn equal_at(&self, func: &FuncType, k: usize) -> u32
-        requires { k < length (places (has_signature func.now) 0 (last_of self.now)) }
-        ensures { slice_get (places (has_signature func.now) 0 (last_of self.now)) k ≡ Some result }
+        requires { k < length (places (has_signature func.now) 0 (last_of self.now).types) }
+        ensures { slice_get (places (has_signature func.now) 0 (last_of self.now).types) k ≡ Some result }
     {
         self.inner.equals(func)[k]
     }

@@ -18,4 +18,4 @@ bounds-equals-k c =
 pub returns : goal.returns
 returns c =
     let row = places_last (has_signature c.args.func.now) c.args.self.now c.self.inside.outer.items c.self.inside.inner c.equals.result.now c.self.view_is c.equals.ensures in
-    rw row (slice_get-get_or (places (has_signature c.args.func.now) 0 (last_of c.args.self.now)) c.args.k 0 c.requires)
+    rw row (slice_get-get_or (places (has_signature c.args.func.now) 0 (last_of c.args.self.now).types) c.args.k 0 c.requires)

@@ -1,16 +1,16 @@
-use Rattle.std.proofs.Common.{◌≡◌, ◌<◌, List, sym, ap, ◌∙◌, subst, length}
+use Rattle.std.proofs.Common.{◌≡◌, ◌<◌, sym, ap, ◌∙◌, subst, length}
 use Rattle.std.specs.Prelude.{IfOk}
 use Rattle.smith_types.specs.Stack.{last_of}
-use Rattle.smith_types.specs.declared.types.DefType.{DefType}
+use Rattle.smith_types.specs.Contents.{Contents}
 use Rattle.smith_types.proofs.ScopeLemmas.{last_of-snoc}
 use Rattle.smith_types.proofs.scopes.Scopes.push_type.Goals as goal
 
 pub push_type-requires : goal.push_type-requires
 push_type-requires c =
-    let P : List DefType → Type 0 = λ s. length s < 4294967295 in
+    let P : Contents → Type 0 = λ s. length s.types < 4294967295 in
     subst P (ap last_of (sym c.self.view_is) ∙ last_of-snoc c.self.inside.outer.items c.self.inside.inner) c.requires
 
 pub returns-clause-index : goal.returns-clause-index
 returns-clause-index c =
-    let P : List DefType → Type 0 = λ s. IfOk c.push_type.result (λ i. i ≡ length s) in
+    let P : Contents → Type 0 = λ s. IfOk c.push_type.result (λ i. i ≡ length s.types) in
     subst P (sym (ap last_of (sym c.self.view_is) ∙ last_of-snoc c.self.inside.outer.items c.self.inside.inner)) c.push_type.ensures.index

@@ -1,0 +1,32 @@
+//! Core types that a component declares (Explainer.md, core type definitions).
+
+use smith_core::{EntityType, FuncType, Import};
+use std::rc::Rc;
+
+/// A core type.
+#[derive(Debug, Drop)]
+pub enum CoreType {
+    Func(Rc<FuncType>),
+    Module(Rc<ModuleType>),
+}
+
+/// The type of a core module: what it declares, in order.
+#[derive(Debug, Drop)]
+pub struct ModuleType {
+    pub defs: Vec<ModuleTypeDef>,
+}
+
+/// A declaration of a module type. Its function types and its aliases are its own types, which it names by their index.
+#[derive(Debug, Drop)]
+pub enum ModuleTypeDef {
+    FuncDef(Rc<FuncType>),
+    Import(Import),
+    /// Another name for a function type: with count 0 one of the module type's own, with count 1 a core type of the scope
+    /// around it, by its index there.
+    OuterAlias {
+        count: u32,
+        i: u32,
+        ty: Rc<FuncType>,
+    },
+    Export(String, EntityType),
+}
