@@ -6,7 +6,7 @@ use Rattle.std.proofs.lemmas.Bool.Decides.{nat_tests}
 use Rattle.smith_input.specs.Reading.{More}
 use Rattle.smith_input.proofs.ReadingLemmas.{reads_unique, more_unique, more_zero, more_one, more_full}
 use Rattle.smith_core.specs.declared.config.Config.{Config}
-use Rattle.smith_types.specs.Entries.{Entry, CoreEntry, ImportEntry}
+use Rattle.smith_types.specs.Entries.{Entry, ImportEntry}
 use Rattle.smith_types.specs.Made.{Made}
 use Rattle.smith_types.specs.Scope.{Scope, with_type}
 use Rattle.smith_types.specs.Script.{script_end, script_type, Lasts}
@@ -23,11 +23,7 @@ use Rattle.smith_component.proofs.ReachLemmas.{reach}
 use Rattle.smith_component.specs.declared.item.Item.{Item}
 use Rattle.smith_component.specs.declared.item.Item.TheVariants.{Types}
 
--- There are no core types, imports and canonical functions so far.
-
-pub no_core_types : (xs : List CoreEntry) → length xs ≡ 0
-no_core_types [] = refl
-no_core_types (x ∷ xs) = elim x [ ]
+-- There are no imports and canonical functions so far.
 
 pub no_imports : (xs : List ImportEntry) → length xs ≡ 0
 no_imports [] = refl

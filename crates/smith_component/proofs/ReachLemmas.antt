@@ -146,7 +146,7 @@ reach_from (first (custom name contents) t) config outer before rest next left k
     (name, contents, name_short config outer before name contents (limits_front t config outer (add before p) (limits_past p t config outer before l)), plan.0, refl, refl)
     (reach_from t config outer (add before p) rest next left k plan.1 formed.1 (limits_past p t config outer before l) (after_past p t config outer before next left k rest after))
 reach_from (first (core_module text) t) config outer before rest next left k plan formed l after = absurd plan.0
-reach_from (first (core_types (x ∷ xs)) t) config outer before rest next left k plan formed l after = elim x [ ]
+reach_from (first (core_types (x ∷ xs)) t) config outer before rest next left k plan formed l after = absurd (let z : (x ∷ xs) ≡ [] = plan.0 in cc)
 reach_from (first (canons (x ∷ xs)) t) config outer before rest next left k plan formed l after = elim x [ ]
 reach_from (first (imports (x ∷ xs)) t) config outer before rest next left k plan formed l after = elim x [ ]
 reach_from (first (core_types []) t) config outer before rest next left k plan formed l after =

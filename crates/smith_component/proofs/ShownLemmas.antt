@@ -2,8 +2,8 @@
 use Rattle.std.proofs.Common.{◌≡◌, ℕ, ◌+◌, List, [], ◌∷◌, ◌++◌, map, ap, sym, length, ◌∙◌, refl, arith, string_bytes}
 use Rattle.smith_core.specs.declared.module.Module.{Module}
 use Rattle.smith_core.specs.Module.{module_text}
-use Rattle.smith_types.specs.Shown.{shown_shared}
-use Rattle.smith_component.specs.Tree.{Tree, first, Part, custom, core_module, core_types, component, types, canons, imports, types_in, types_of, add}
+use Rattle.smith_types.specs.Shown.{shown_shared, shown_shared_core}
+use Rattle.smith_component.specs.Tree.{Tree, first, Part, custom, core_module, core_types, component, types, canons, imports, own, add}
 use Rattle.smith_component.proofs.Grows.{length-own-add}
 use Rattle.smith_component.specs.Shown.{shown, shown_layer, shown_parts, shown_section, shown_sections}
 use Rattle.smith_component.specs.declared.component.Section.{Section}
@@ -28,8 +28,12 @@ shown_custom s = ap shown_section (sym (rolls-Custom s)) ∙ fold-roll-Section P
 pub shown_module : (m : Module) → shown_section (CoreModule m) ≡ core_module (module_text m)
 shown_module m = ap shown_section (sym (rolls-CoreModule m)) ∙ fold-roll-Section Part Tree shown_layer shown_parts (opened.CoreModule m)
 
-pub shown_core_types : (s : CoreTypeSection) → shown_section (CoreTypes s) ≡ core_types []
+pub shown_core_types : (s : CoreTypeSection) → shown_section (CoreTypes s) ≡ core_types (map shown_shared_core s.types.items)
 shown_core_types s = ap shown_section (sym (rolls-CoreTypes s)) ∙ fold-roll-Section Part Tree shown_layer shown_parts (opened.CoreTypes s)
+
+-- A section with an empty list shows no core types.
+pub shown_no_core_types : (s : CoreTypeSection) → s.types.items ≡ [] → shown_section (CoreTypes s) ≡ core_types []
+shown_no_core_types s e = shown_core_types s ∙ ap (λ ts. core_types (map shown_shared_core ts)) e
 
 pub shown_types : (s : TypeSection) → shown_section (Types s) ≡ types (map shown_shared s.types.items)
 shown_types s = ap shown_section (sym (rolls-Types s)) ∙ fold-roll-Section Part Tree shown_layer shown_parts (opened.Types s)
@@ -45,14 +49,18 @@ shown_inner c = ap shown_section (sym (rolls-Component c)) ∙ fold-roll-Section
 
 pub ruleset sections_shown = (shown_custom, shown_module, shown_core_types, shown_types, shown_canons, shown_imports, shown_inner)
 
--- One section more is counted with its types.
-pub types_pushed : (old new : List Section) (s : Section) (count n : ℕ) → new ≡ old ++ s ∷ [] → n ≡ length (types_in (shown_section s)) → count ≡ length (types_of (shown_sections old)) → count + n ≡ length (types_of (shown_sections new))
-types_pushed old new s count n e m h =
-    omega (arith, m, h, ap (λ x. length (types_of (shown_sections x))) e, ap (λ x. length (types_of x)) (shown_push old s), length-own-add types_in (shown_sections old) (shown_section s))
+-- One section more is counted with what it adds to a list of the component.
+pub own_pushed : {A : Type 0} → (f : Part → List A) (old new : List Section) (s : Section) (count n : ℕ) → new ≡ old ++ s ∷ [] → n ≡ length (f (shown_section s)) → count ≡ length (own f (shown_sections old)) → count + n ≡ length (own f (shown_sections new))
+own_pushed f old new s count n e m h =
+    omega (arith, m, h, ap (λ x. length (own f (shown_sections x))) e, ap (λ x. length (own f x)) (shown_push old s), length-own-add f (shown_sections old) (shown_section s))
 
 -- the open components around the inner one, as plain trees
 abbrev pub trees_of : List OpenComponent → List Tree
 trees_of xs = map shown_sections (map (λ c. c.sections.items) xs)
+
+pub none_open : (xs : List OpenComponent) → length xs ≡ 0 → trees_of xs ≡ []
+none_open [] h = refl
+none_open (x ∷ xs) h = absurd (omega arith)
 
 pub outer_push : (xs : List OpenComponent) (x : OpenComponent) → trees_of (xs ++ x ∷ []) ≡ trees_of xs ++ shown_sections x.sections.items ∷ []
 outer_push [] x = refl

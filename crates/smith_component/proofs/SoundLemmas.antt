@@ -3,13 +3,14 @@ use Rattle.std.proofs.Common.{◌≡◌, ℕ, ◌+◌, ◌<◌, ◌≤◌, List,
 use Rattle.std.specs.List.{AllByRecursion}
 use Rattle.std.proofs.lemmas.Bool.Decides.{nat_tests}
 use Rattle.smith_core.specs.declared.config.Config.{Config}
+use Rattle.smith_types.specs.CoreLimits.{CoreLimits}
 use Rattle.smith_types.specs.Entries.{Entry}
 use Rattle.smith_types.specs.Scope.{Scope, with_types}
 use Rattle.smith_component.specs.Tree.{Tree, ends, Part, custom, core_module, core_types, component, types, canons, imports, add, own, inside, modules, names_in, types_in, core_types_in, imports_in, canons_in, components_in, modules_in, anywhere_in, depth_in}
 use Rattle.smith_component.specs.Turn.{Open, building, Closes, tree_so_far, is_module_offered, is_component_offered}
 use Rattle.smith_component.specs.WellFormed.{FormedPart, WellFormed, scope_of}
 use Rattle.smith_component.specs.Scopes.{scopes_in, scopes_from}
-use Rattle.smith_component.specs.Sizes.{SmallTypes, OwnSizes, Sized}
+use Rattle.smith_component.specs.Sizes.{SmallTypes, SmallCoreTypes, OwnSizes, Sized}
 use Rattle.smith_component.specs.Limits.{OwnLimits, Limits}
 use Rattle.smith_component.specs.Addable.{IsAddable}
 use Rattle.smith_component.specs.Sound.{Sound}
@@ -26,12 +27,13 @@ pub own_limits-add : (config : Config) (t : Tree) (p : Part) → OwnLimits confi
     → length (own core_types_in t) + length (core_types_in p) ≤ config.max_types
     → length (own imports_in t) + length (imports_in p) ≤ config.max_imports
     → length (own canons_in t) + length (canons_in p) ≤ config.max_funcs
-    → Short (names_in p) → OwnLimits config (add t p)
-own_limits-add config t p o ts cs is fs ns = record {
+    → AllByRecursion (CoreLimits config) (core_types_in p) → Short (names_in p) → OwnLimits config (add t p)
+own_limits-add config t p o ts cs is fs ls ns = record {
   types = omega (arith, ts, length-own-add types_in t p);
   core_types = omega (arith, cs, length-own-add core_types_in t p);
   imports = omega (arith, is, length-own-add imports_in t p);
   functions = omega (arith, fs, length-own-add canons_in t p);
+  within_core_types = subst (AllByRecursion (CoreLimits config)) (sym (own-add core_types_in t p)) (all_both _ (own core_types_in t) (core_types_in p) o.within_core_types ls);
   names = subst Short (sym (own-add names_in t p)) (all_both _ (own names_in t) (names_in p) o.names ns);
 }
 
@@ -42,12 +44,13 @@ own_limits-front config t p o = record {
   core_types = omega (arith, o.core_types, length-own-add core_types_in t p);
   imports = omega (arith, o.imports, length-own-add imports_in t p);
   functions = omega (arith, o.functions, length-own-add canons_in t p);
+  within_core_types = all_front _ (own core_types_in t) (core_types_in p) (subst (AllByRecursion (CoreLimits config)) (own-add core_types_in t p) o.within_core_types);
   names = all_front _ (own names_in t) (names_in p) (subst Short (own-add names_in t p) o.names);
 }
 
 pub own_limits-component : (config : Config) (t u : Tree) → OwnLimits config t → OwnLimits config (add t (component u))
 own_limits-component config t u o =
-    own_limits-add config t (component u) o (omega (arith, o.types)) (omega (arith, o.core_types)) (omega (arith, o.imports)) (omega (arith, o.functions)) tt
+    own_limits-add config t (component u) o (omega (arith, o.types)) (omega (arith, o.core_types)) (omega (arith, o.imports)) (omega (arith, o.functions)) tt tt
 
 pub own_limits_swap : (config : Config) → Swaps (OwnLimits config)
 own_limits_swap config u a b o = own_limits-component config u b (own_limits-front config u (component a) o)
@@ -75,11 +78,17 @@ modules_in_own (canons fs) e = refl
 modules_in_own (imports is) e = refl
 
 -- Sizes, where a component grows.
-own_sizes-add : (config : Config) (t : Tree) (p : Part) → OwnSizes config t → SmallTypes config (types_in p) → OwnSizes config (add t p)
-own_sizes-add config t p o small = subst (SmallTypes config) (sym (own-add types_in t p)) (all_both _ (own types_in t) (types_in p) o small)
+own_sizes-add : (config : Config) (t : Tree) (p : Part) → OwnSizes config t → SmallTypes config (types_in p) × SmallCoreTypes config (core_types_in p) → OwnSizes config (add t p)
+own_sizes-add config t p o small = (
+  subst (SmallTypes config) (sym (own-add types_in t p)) (all_both _ (own types_in t) (types_in p) o.0 small.0),
+  subst (SmallCoreTypes config) (sym (own-add core_types_in t p)) (all_both _ (own core_types_in t) (core_types_in p) o.1 small.1),
+)
 
 own_sizes_swap : (config : Config) → Swaps (OwnSizes config)
-own_sizes_swap config u a b o = own_sizes-add config u (component b) (all_front _ (own types_in u) [] (subst (SmallTypes config) (own-add types_in u (component a)) o)) tt
+own_sizes_swap config u a b o =
+    own_sizes-add config u (component b)
+    (all_front _ (own types_in u) [] (subst (SmallTypes config) (own-add types_in u (component a)) o.0), all_front _ (own core_types_in u) [] (subst (SmallCoreTypes config) (own-add core_types_in u (component a)) o.1))
+    (tt, tt)
 
 own_sizes_of : (config : Config) (m n : ℕ) (stack : Open) → Sound config m n stack → OwnSizes config stack.inner
 own_sizes_of config m n stack s = all_inner (OwnSizes config) stack.outer stack.inner s.sized
@@ -126,7 +135,7 @@ sound_open config m n outer inner deep few s =
     let whole : Limits config (tree_so_far outer (add inner (component ends))) = record {
       each =
           all_so_far (OwnLimits config) (own_limits_swap config) outer inner (component ends) (own_limits-component config inner ends (own_limits_of config m n (record { outer = outer; inner = inner }) s))
-          (record { types = omega arith; core_types = omega arith; imports = omega arith; functions = omega arith; names = tt }, tt) s.limits.each;
+          (record { types = omega arith; core_types = omega arith; imports = omega arith; functions = omega arith; within_core_types = tt; names = tt }, tt) s.limits.each;
       modules = omega (arith, length-modules-so_far outer inner (component ends), s.limits.modules);
       components = omega (arith, length-inside-so_far outer inner (component ends), s.components_are);
       depth = omega (arith, depth-so_far outer inner (component ends), s.limits.depth);
@@ -139,7 +148,7 @@ sound_open config m n outer inner deep few s =
       limits = subst (Limits config) (sym e) whole;
       sized =
           subst (Sized config) (sym e)
-          (all_so_far (OwnSizes config) (own_sizes_swap config) outer inner (component ends) (own_sizes-add config inner (component ends) (own_sizes_of config m n (record { outer = outer; inner = inner }) s) tt) (tt, tt) s.sized);
+          (all_so_far (OwnSizes config) (own_sizes_swap config) outer inner (component ends) (own_sizes-add config inner (component ends) (own_sizes_of config m n (record { outer = outer; inner = inner }) s) (tt, tt)) ((tt, tt), tt) s.sized);
     }
 
 -- A part that adds nothing but names and modules.
@@ -151,8 +160,8 @@ addable_bare config stack p f ts cs is fs ns ms none flat = record {
   formed = f;
   own = λ o.
       own_limits-add config stack.inner p o (omega (arith, o.types, ap length ts)) (omega (arith, o.core_types, ap length cs)) (omega (arith, o.imports, ap length is)) (omega (arith, o.functions, ap length fs))
-      ns;
-  sizes = subst (SmallTypes config) (sym ts) tt;
+      (subst (AllByRecursion (CoreLimits config)) (sym cs) tt) ns;
+  sizes = (subst (SmallTypes config) (sym ts) tt, subst (SmallCoreTypes config) (sym cs) tt);
   modules = ms;
   no_component = none;
   flat = flat;
@@ -168,8 +177,8 @@ addable_empty config stack p f ts cs is fs ns ms none flat = addable_bare config
 pub addable_types : (config : Config) (stack : Open) (es : List Entry) → FormedPart (types es) (scopes_in stack.outer) stack.inner → length (own types_in stack.inner) + length es ≤ config.max_types → SmallTypes config es → IsAddable config stack (types es)
 addable_types config stack es f room small = record {
   formed = f;
-  own = λ o. own_limits-add config stack.inner (types es) o room (omega (arith, o.core_types)) (omega (arith, o.imports)) (omega (arith, o.functions)) tt;
-  sizes = small;
+  own = λ o. own_limits-add config stack.inner (types es) o room (omega (arith, o.core_types)) (omega (arith, o.imports)) (omega (arith, o.functions)) tt tt;
+  sizes = (small, tt);
   modules = λ h. omega (arith, h);
   no_component = refl;
   flat = refl;
@@ -238,3 +247,10 @@ quietly_shown config stack p q e h = subst (Quietly config stack) (sym e) h
 
 pub same_tail : (s t : Scope) (ss ts : List Scope) → s ∷ ss ≡ t ∷ ts → ss ≡ ts
 same_tail s t ss ts e = cc
+
+-- What is true of a root that stands alone.
+pub root_kept : (config : Config) (m n : ℕ) (outer : List Tree) (inner t : Tree) → outer ≡ [] → inner ≡ t → Sound config m n (record { outer = outer; inner = inner }) → Limits config t × WellFormed t × Sized config t
+root_kept config m n outer inner t none is s =
+    let alone : Sound config m n (record { outer = []; inner = inner }) = subst (λ o. Sound config m n (record { outer = o; inner = inner })) none s in
+    let root : Sound config m n (record { outer = []; inner = t }) = subst (λ i. Sound config m n (record { outer = []; inner = i })) is alone in
+    (root.limits, root.formed, root.sized)

@@ -6,7 +6,7 @@ use Rattle.smith_core.specs.Numbers.{unsigned, digits}
 use Rattle.smith_core.specs.Piece.{Piece, ◌⊕◌, bytes, raw, u, each, many, sized}
 use Rattle.smith_core.proofs.Loops.{each-map, many-map}
 use Rattle.smith_types.specs.Grammar.{entry, core_entry, import_entry}
-use Rattle.smith_types.specs.Shown.{shown_shared}
+use Rattle.smith_types.specs.Shown.{shown_shared, shown_shared_core}
 use Rattle.smith_component.specs.Grammar.{embedded, canon, preamble, part, parts, component_text}
 use Rattle.smith_component.specs.Shown.{shown, shown_layer, shown_parts, shown_section, shown_sections}
 use Rattle.smith_component.specs.Tree.{Part, Tree, tree_of}
@@ -47,8 +47,8 @@ raw_zero = refl
 pub part_module : (m : Module) → part (shown_section (CoreModule m)) ≡ sized 1 (bytes (module_text m))
 part_module m = ap part (shown_module m) ∙ ap (sized 1) (embedded_text m)
 
-pub part_core_types : (s : CoreTypeSection) → part (shown_section (CoreTypes s)) ≡ sized 3 (bytes (0 ∷ []))
-part_core_types s = ap part (shown_core_types s) ∙ ap (sized 3) (no_entries core_entry)
+pub part_core_types : (s : CoreTypeSection) → part (shown_section (CoreTypes s)) ≡ sized 3 (many (λ t. core_entry (shown_shared_core t)) s.types.items)
+part_core_types s = ap part (shown_core_types s) ∙ ap (sized 3) (many-map core_entry shown_shared_core s.types.items)
 
 pub part_component : (c : Component) → part (shown_section (Inner c)) ≡ sized 4 (component_text (shown c))
 part_component c = ap part (shown_inner c)

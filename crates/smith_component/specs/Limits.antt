@@ -2,6 +2,7 @@
 use Rattle.std.specs.Prelude.{ℕ, ◌≤◌, ◌∷◌, length, max}
 use Rattle.std.specs.List.{AllByRecursion}
 use Rattle.smith_core.specs.declared.config.Config.{Config}
+use Rattle.smith_types.specs.CoreLimits.{CoreLimits}
 use Rattle.smith_component.specs.Tree.{Tree, own, inside, modules, depth, types_in, core_types_in, imports_in, canons_in, names_in}
 
 -- how deep components may stand, the root at 1
@@ -14,6 +15,7 @@ pub record OwnLimits (config : Config) (tree : Tree) : Type 0 where
   pub core_types : length (own core_types_in tree) ≤ config.max_types
   pub imports : length (own imports_in tree) ≤ config.max_imports
   pub functions : length (own canons_in tree) ≤ config.max_funcs
+  pub within_core_types : AllByRecursion (CoreLimits config) (own core_types_in tree)
   pub names : AllByRecursion (λ name. length name ≤ 1000) (own names_in tree)
 
 -- what the whole tree keeps

@@ -1,5 +1,5 @@
 -- The input that a plan is read from.
-use Rattle.std.specs.Prelude.{ℕ, ◌+◌, ◌-◌, List, [], ◌∷◌, ◌++◌, length}
+use Rattle.std.specs.Prelude.{◌≡◌, ℕ, ◌+◌, ◌-◌, List, [], ◌∷◌, ◌++◌, length}
 use Rattle.std.specs.List.{AllByRecursion}
 use Rattle.std.specs.Str.{IsUtf8}
 use Rattle.smith_input.specs.Reading.{pick}
@@ -42,7 +42,7 @@ abbrev mutual
 abbrev pub script : Config → Tree → List ℕ
 script config plan = script_from plan config [] ends
 
--- A plan that scripts can say: custom sections, type sections of types for which the fuel lasts, sections without
+-- A plan that scripts can say: custom sections, type sections of nameless types for which the fuel lasts, sections without
 -- entries, and components of these.
 abbrev mutual
   pub IsPlan : Config → Tree → Type 0
@@ -52,7 +52,7 @@ abbrev mutual
   pub IsPlanPart : Config → Part → Type 0
   IsPlanPart config (custom name contents) = IsUtf8 name
   IsPlanPart config (core_module text) = ⊥
-  IsPlanPart config (core_types ts) = Unit {0}
+  IsPlanPart config (core_types ts) = ts ≡ []
   IsPlanPart config (component t) = IsPlan config t
   IsPlanPart config (types ts) = AllByRecursion (Lasts config.max_type_size) ts
   IsPlanPart config (canons fs) = Unit {0}

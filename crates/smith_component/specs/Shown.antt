@@ -1,7 +1,7 @@
 -- What a component shows: its sections as a plain tree, without URLs.
 use Rattle.std.specs.Prelude.{List, [], map, string_bytes}
 use Rattle.smith_core.specs.Module.{module_text}
-use Rattle.smith_types.specs.Shown.{shown_shared}
+use Rattle.smith_types.specs.Shown.{shown_shared, shown_shared_core}
 use Rattle.smith_component.specs.Tree.{Tree, Part, custom, core_module, core_types, component, types, canons, imports, tree_of}
 use Rattle.smith_component.specs.declared.component.Section.{Section}
 use Rattle.smith_component.specs.declared.component.Component.{Component}
@@ -12,7 +12,7 @@ use Rattle.smith_component.specs.declared.component.Section.TheFolds.{fold-Secti
 abbrev pub shown_layer : Section-F Part Tree → Part
 shown_layer (Custom s) = custom (string_bytes s.name) s.bytes.items
 shown_layer (CoreModule m) = core_module (module_text m)
-shown_layer (CoreTypes s) = core_types []
+shown_layer (CoreTypes s) = core_types (map shown_shared_core s.types.items)
 shown_layer (Inner t) = component t
 shown_layer (Types s) = types (map shown_shared s.types.items)
 shown_layer (Canonical s) = canons []

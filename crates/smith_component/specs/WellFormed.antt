@@ -1,5 +1,6 @@
 -- Which components are well formed: each part is judged by what stands before it (Explainer.md, index spaces).
 use Rattle.std.specs.Prelude.{List, [], ◌∷◌}
+use Rattle.smith_types.specs.FormedCore.{FormedCores}
 use Rattle.smith_types.specs.Scope.{Scope}
 use Rattle.smith_types.specs.WellFormed.{FormedTypes}
 use Rattle.smith_component.specs.Tree.{Tree, Part, ends, first, custom, core_module, core_types, component, types, canons, imports, add, types_of, core_types_of}
@@ -17,7 +18,7 @@ abbrev mutual
   pub FormedPart : Part → List Scope → Tree → Type 0
   FormedPart (custom name contents) outer before = Unit {0}
   FormedPart (core_module text) outer before = Unit {0}
-  FormedPart (core_types ts) outer before = Unit {0}
+  FormedPart (core_types ts) outer before = FormedCores ts (scope_of before)
   FormedPart (component t) outer before = Formed t (scope_of before ∷ outer) ends
   FormedPart (types ts) outer before = FormedTypes ts (scope_of before) outer
   FormedPart (canons fs) outer before = Unit {0}

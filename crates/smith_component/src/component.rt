@@ -4,8 +4,8 @@ ghost use Rattle.std.specs.Prelude.{◌≡◌};
 
 use smith_core::Module;
 use smith_input::{Error, Unstructured, arbitrary_bytes, limited_string};
-use smith_types::DefType;
 use smith_types::drops::drop_last_first;
+use smith_types::{CoreType, DefType};
 use std::alloc::Global;
 use std::rc::Rc;
 
@@ -37,9 +37,11 @@ pub struct CustomSection {
     pub bytes: Vec<u8>,
 }
 
-/// A section of core types. It has no entries so far.
-#[derive(Debug, Drop)]
-pub struct CoreTypeSection {}
+/// Core types, each of which is the next entry among the component's core types.
+#[derive(Debug)]
+pub struct CoreTypeSection {
+    pub types: Vec<Rc<CoreType>>,
+}
 
 /// Types, each of which is the next entry among the component's types.
 #[derive(Debug)]
@@ -60,6 +62,13 @@ impl Drop for Component {
     fn drop(self) {
         let Component { sections } = self;
         drop_last_first(sections);
+    }
+}
+
+impl Drop for CoreTypeSection {
+    fn drop(self) {
+        let CoreTypeSection { types } = self;
+        drop_last_first(types);
     }
 }
 
@@ -107,7 +116,7 @@ impl Component {
 impl Section {
     ghost use Rattle.std.specs.Prelude.{length};
     ghost use Rattle.smith_component.specs.Shown.{shown_section};
-    ghost use Rattle.smith_component.specs.Tree.{types_in, modules_in, anywhere_in};
+    ghost use Rattle.smith_component.specs.Tree.{types_in, core_types_in, modules_in, anywhere_in};
 
     // How many types it declares.
     #[tactic(auto, using(crate::proofs::ShownLemmas::sections_shown))]
@@ -116,6 +125,17 @@ impl Section {
     {
         match self {
             Section::Types(section) => section.types.len(),
+            _ => 0,
+        }
+    }
+
+    // How many core types it declares.
+    #[tactic(auto, using(crate::proofs::ShownLemmas::sections_shown))]
+    pub(crate) fn core_type_count(&self) -> usize
+        ensures { result ≡ length (core_types_in (shown_section self.now)) }
+    {
+        match self {
+            Section::CoreTypes(section) => section.types.len(),
             _ => 0,
         }
     }

@@ -58,7 +58,7 @@ fn section_len(section: &Section) -> Result<u128, Error>
     match section {
         Section::Custom(section) => sized_len(custom_len(section)),
         Section::CoreModule(embedded) => sized_len(module_len(embedded)),
-        Section::CoreTypes(_) => sized_len(raw_len(&NO_ENTRIES)),
+        Section::CoreTypes(section) => sized_len(many_len(&section.types)),
         Section::Component(component) => sized_len(inner_len(component)),
         Section::Types(section) => sized_len(many_len(&section.types)),
         Section::Canonical(_) => sized_len(raw_len(&NO_ENTRIES)),
@@ -141,7 +141,7 @@ fn put_section(out: &mut Vec<u8>, section: &Section) -> Result<(), Error>
     match section {
         Section::Custom(section) => put_custom(out, section),
         Section::CoreModule(embedded) => put_module(out, embedded),
-        Section::CoreTypes(_) => write_section(out, 3, &NO_ENTRIES),
+        Section::CoreTypes(section) => put_listed(out, 3, &section.types),
         Section::Component(component) => put_inner(out, component),
         Section::Types(section) => put_listed(out, 7, &section.types),
         Section::Canonical(_) => write_section(out, 8, &NO_ENTRIES),
@@ -192,8 +192,8 @@ impl Component {
 #[cfg(test)]
 mod tests {
     use super::*;
-    use crate::component::TypeSection;
-    use smith_types::{ComponentValType, DefType, DefinedType, ListType};
+    use crate::component::{CoreTypeSection, TypeSection};
+    use smith_types::{ComponentValType, CoreType, DefType, DefinedType, ListType, ModuleType};
     use std::rc::Rc;
     use std::test::Fail;
 
@@ -222,6 +222,25 @@ mod tests {
             0x73, 0x6d, 0x01, 0x00, 0x00, 0x00,
         ];
         assert_eq!(rt; component.measure()?, 40);
+        assert_eq!(rt; component.to_bytes(alloc)?.as_slice(), expected.as_slice());
+        Ok(())
+    }
+
+    #[test]
+    fn writes_core_types(rt: HostRuntime) -> Result<(), Fail> {
+        let alloc = rt.alloc();
+        let empty = ModuleType {
+            defs: Vec::new(alloc),
+        };
+        let mut types = Vec::new(alloc);
+        types.push(Rc::new(alloc, CoreType::Module(Rc::new(alloc, empty)?))?)?;
+        let mut sections = Vec::new(alloc);
+        sections.push(Section::CoreTypes(CoreTypeSection { types }))?;
+        let component = Component::of(sections);
+        let expected = [
+            0x00, 0x61, 0x73, 0x6d, 0x0d, 0x00, 0x01, 0x00, 3, 3, 1, 0x50, 0,
+        ];
+        assert_eq!(rt; component.measure()?, 13);
         assert_eq!(rt; component.to_bytes(alloc)?.as_slice(), expected.as_slice());
         Ok(())
     }

@@ -102,8 +102,10 @@ impl Builder {
         ensures memory { IfErr result (λ e. e ≡ Error.OutOfMemory) }
         ensures tail { IsTail u.new u.old }
     {
-        u.more(0, 0, self.config.max_types);
-        self.add_section(Section::CoreTypes(CoreTypeSection {}))
+        let room = self.config.max_types - self.inner.core_types;
+        u.more(0, 0, room);
+        let types = Vec::new(self.alloc);
+        self.add_section(Section::CoreTypes(CoreTypeSection { types }))
     }
 
     // An empty import section. Its loop ends whatever comes.

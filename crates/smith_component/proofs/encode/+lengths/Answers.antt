@@ -12,15 +12,15 @@ section_len-returns-in-CoreModule-clause-length t c =
 
 pub section_len-returns-in-CoreTypes-clause-length : goal.section_len-returns-in-CoreTypes-clause-length
 section_len-returns-in-CoreTypes-clause-length t c =
-    rw (c.in-CoreTypes.is, part_core_types _) (c.sized_len-in-CoreTypes.ensures.length 3 _ (rw raw_zero at c.raw_len.ensures))
+    rw (c.in-CoreTypes.is, part_core_types _) (c.sized_len-in-CoreTypes.ensures.length 3 _ (rw c.deref.ensures.value at c.many_len.ensures))
 
 pub section_len-returns-in-Types-clause-length : goal.section_len-returns-in-Types-clause-length
 section_len-returns-in-Types-clause-length t c =
-    rw (c.in-Types.is, part_types _) (c.sized_len-in-Types.ensures.length 7 _ (rw c.deref.ensures.value at c.many_len.ensures))
+    rw (c.in-Types.is, part_types _) (c.sized_len-in-Types.ensures.length 7 _ (rw c.deref-in-Types.ensures.value at c.many_len-in-Types.ensures))
 
 pub section_len-returns-in-Canonical-clause-length : goal.section_len-returns-in-Canonical-clause-length
 section_len-returns-in-Canonical-clause-length t c =
-    rw (c.in-Canonical.is, part_canons _) (c.sized_len-in-Canonical.ensures.length 8 _ (rw raw_zero at c.raw_len-in-Canonical.ensures))
+    rw (c.in-Canonical.is, part_canons _) (c.sized_len-in-Canonical.ensures.length 8 _ (rw raw_zero at c.raw_len.ensures))
 
 pub section_len-returns-in-Imports-clause-length : goal.section_len-returns-in-Imports-clause-length
 section_len-returns-in-Imports-clause-length t c =

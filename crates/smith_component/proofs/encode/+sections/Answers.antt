@@ -10,13 +10,13 @@ pub put_section-returns-in-CoreModule : goal.put_section-returns-in-CoreModule
 put_section-returns-in-CoreModule t c = rw (c.in-CoreModule.is, part_module _) c.put_module.ensures
 
 pub put_section-returns-in-CoreTypes : goal.put_section-returns-in-CoreTypes
-put_section-returns-in-CoreTypes t c = rw (c.in-CoreTypes.is, part_core_types _) (appends_puts c.write_section.result _ _ _ c.write_section.ensures)
+put_section-returns-in-CoreTypes t c = rw (c.in-CoreTypes.is, part_core_types _) (rw c.deref.ensures.value at c.put_listed.ensures)
 
 pub put_section-returns-in-Types : goal.put_section-returns-in-Types
-put_section-returns-in-Types t c = rw (c.in-Types.is, part_types _) (rw c.deref.ensures.value at c.put_listed.ensures)
+put_section-returns-in-Types t c = rw (c.in-Types.is, part_types _) (rw c.deref-in-Types.ensures.value at c.put_listed-in-Types.ensures)
 
 pub put_section-returns-in-Canonical : goal.put_section-returns-in-Canonical
-put_section-returns-in-Canonical t c = rw (c.in-Canonical.is, part_canons _) (appends_puts c.write_section-in-Canonical.result _ _ _ c.write_section-in-Canonical.ensures)
+put_section-returns-in-Canonical t c = rw (c.in-Canonical.is, part_canons _) (appends_puts c.write_section.result _ _ _ c.write_section.ensures)
 
 pub put_section-returns-in-Imports : goal.put_section-returns-in-Imports
 put_section-returns-in-Imports t c = rw (c.in-Imports.is, part_imports _) (appends_puts c.write_section-in-Imports.result _ _ _ c.write_section-in-Imports.ensures)

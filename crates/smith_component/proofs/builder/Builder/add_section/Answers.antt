@@ -3,7 +3,7 @@ use Rattle.smith_component.specs.Building.{Building, open_of}
 use Rattle.smith_component.specs.BuilderView.{building_of}
 use Rattle.smith_component.specs.Scopes.{scopes_in}
 use Rattle.smith_component.specs.Shown.{shown_section}
-use Rattle.smith_component.specs.Tree.{types_in}
+use Rattle.smith_component.specs.Tree.{types_in, core_types_in}
 use Rattle.smith_component.specs.WellFormed.{scope_of}
 use Rattle.smith_component.proofs.Grows.{length-own-add}
 use Rattle.smith_component.proofs.SoundLemmas.{Quietly, part_added, own_limits_of}
@@ -16,7 +16,10 @@ push-requires c =
     let Q : Building → Type 0 = λ v. Quietly v.config (open_of v) (shown_section c.args.section) in
     let q = subst Q (sym c.builder.view_is) (record { addable = c.requires.addable; quiet = c.requires.quiet }) in
     let o = q.addable.own (own_limits_of b.config b.modules b.components stack c.builder.invariant.sound) in
-    omega (arith, o.types, b.inner.counted, length-own-add types_in stack.inner (shown_section c.args.section), c.builder.invariant.sound.consistent.types)
+    record {
+      types = omega (arith, o.types, b.inner.counted, length-own-add types_in stack.inner (shown_section c.args.section), c.builder.invariant.sound.consistent.types);
+      core_types = omega (arith, o.core_types, b.inner.core_counted, length-own-add core_types_in stack.inner (shown_section c.args.section), c.builder.invariant.sound.consistent.types);
+    }
 
 pub invariant_of-builder : goal.invariant_of-builder
 invariant_of-builder c =

@@ -8,7 +8,7 @@ use Rattle.smith_component.specs.Building.{Building, open_of}
 use Rattle.smith_component.specs.BuilderView.{building_of}
 use Rattle.smith_component.specs.Scripted.{Follows}
 use Rattle.smith_component.specs.Shown.{shown_sections}
-use Rattle.smith_component.specs.Tree.{types_in, types_of, add}
+use Rattle.smith_component.specs.Tree.{types_in, types_of, core_types_in, add}
 use Rattle.smith_component.specs.Turn.{Open, building}
 use Rattle.smith_component.specs.WellFormed.{scope_of}
 use Rattle.smith_component.specs.declared.item.Item.TheVariants.{Types}
@@ -36,15 +36,12 @@ push-requires c =
     let b = c.builder.inside in
     let v = c.in_ok-types.types in
     let o = own_limits_of b.config b.modules b.components (open_of (building_of b)) c.builder.invariant.sound in
-    omega (
-      arith,
-      b.inner.counted,
-      o.types,
-      c.builder.invariant.sound.consistent.types,
-      c.in_ok-types.ensures.bound,
-      length-map v.items shown_shared,
-      ap (λ p. length (types_in p)) (shown_types (record { types = v })),
-    )
+    let shows = shown_types (record { types = v }) in
+    record {
+      types =
+          omega (arith, b.inner.counted, o.types, c.builder.invariant.sound.consistent.types, c.in_ok-types.ensures.bound, length-map v.items shown_shared, ap (λ p. length (types_in p)) shows);
+      core_types = omega (arith, b.inner.core_counted, o.core_types, c.builder.invariant.sound.consistent.types, ap (λ p. length (core_types_in p)) shows);
+    }
 
 pub invariant_of-builder : goal.invariant_of-builder
 invariant_of-builder c =
