@@ -1,9 +1,11 @@
 //! What writers write.
 
 use smith_core::pieces::write_section;
-use smith_types::encode::write_type;
+use smith_core::{EntityType, MemoryType, ValType};
+use smith_types::encode::{write_core_type, write_type};
 use smith_types::{
-    ComponentValType, DefType, DefinedType, FuncType, ListType, PrimitiveValType, VariantType,
+    ComponentValType, CoreType, DefType, DefinedType, FuncType, ListType, ModuleType,
+    ModuleTypeDef, PrimitiveValType, VariantType,
 };
 use std::process::Abort;
 use std::rc::Rc;
@@ -51,4 +53,93 @@ fn a_function_type_of_nothing_as_a_section(rt: HostRuntime) -> Result<(), Fail> 
     };
     let ty = DefType::Func(Rc::new(alloc, func)?);
     is_written(&rt, &ty, [7, 5, 1, 0x40, 0, 1, 0].as_slice())
+}
+
+// The core type, as the only entry of a core type section.
+fn is_core_written<R: Abort + AllocGlobal>(
+    rt: &R,
+    ty: &CoreType,
+    expected: &[u8],
+) -> Result<(), Fail> {
+    let mut contents = Vec::new(rt.alloc());
+    contents.push(1)?;
+    write_core_type(&mut contents, ty)?;
+    let mut section = Vec::new(rt.alloc());
+    write_section(&mut section, 3, &contents)?;
+    assert_eq!(rt; section.as_slice(), expected);
+    Ok(())
+}
+
+// A function type of so many i32 to as many as `results`.
+fn of_i32<R: Abort + AllocGlobal>(
+    rt: &R,
+    params: usize,
+    results: usize,
+) -> Result<Rc<smith_core::FuncType>, Fail> {
+    let alloc = rt.alloc();
+    let func = smith_core::FuncType {
+        params: Vec::from_elem(alloc, ValType::I32, params)?,
+        results: Vec::from_elem(alloc, ValType::I32, results)?,
+    };
+    Ok(Rc::new(alloc, func)?)
+}
+
+#[test]
+fn a_core_function_type_of_nothing_as_a_section(rt: HostRuntime) -> Result<(), Fail> {
+    let ty = CoreType::Func(of_i32(&rt, 0, 0)?);
+    is_core_written(&rt, &ty, [3, 4, 1, 0x60, 0, 0].as_slice())
+}
+
+#[test]
+fn a_module_type_without_declarations_as_a_section(rt: HostRuntime) -> Result<(), Fail> {
+    let alloc = rt.alloc();
+    let empty = ModuleType {
+        defs: Vec::new(alloc),
+    };
+    let ty = CoreType::Module(Rc::new(alloc, empty)?);
+    is_core_written(&rt, &ty, [3, 3, 1, 0x50, 0].as_slice())
+}
+
+#[test]
+fn a_module_type_with_an_alias(rt: HostRuntime) -> Result<(), Fail> {
+    let alloc = rt.alloc();
+    let mut defs = Vec::new(alloc);
+    defs.push(ModuleTypeDef::OuterAlias {
+        count: 1,
+        i: 0,
+        ty: of_i32(&rt, 0, 0)?,
+    })?;
+    let ty = CoreType::Module(Rc::new(alloc, ModuleType { defs })?);
+    let expected = [3, 8, 1, 0x50, 1, 0x02, 0x10, 0x01, 1, 0];
+    is_core_written(&rt, &ty, expected.as_slice())
+}
+
+#[test]
+fn a_module_type_that_the_canonical_abi_asks_for(rt: HostRuntime) -> Result<(), Fail> {
+    let alloc = rt.alloc();
+    let memory = MemoryType {
+        minimum: 0,
+        maximum: None,
+        shared: false,
+        memory64: false,
+    };
+    let mut defs = Vec::new(alloc);
+    let name = String::from_str(alloc, "memory")?;
+    defs.push(ModuleTypeDef::Export(name, EntityType::Memory(memory)))?;
+    defs.push(ModuleTypeDef::FuncDef(of_i32(&rt, 4, 1)?))?;
+    let name = String::from_str(alloc, "canonical_abi_realloc")?;
+    defs.push(ModuleTypeDef::Export(name, EntityType::Func(0)))?;
+    defs.push(ModuleTypeDef::FuncDef(of_i32(&rt, 3, 0)?))?;
+    let name = String::from_str(alloc, "canonical_abi_free")?;
+    defs.push(ModuleTypeDef::Export(name, EntityType::Func(1)))?;
+    let ty = CoreType::Module(Rc::new(alloc, ModuleType { defs })?);
+    let expected = [
+        0x03, 0x4d, 0x01, 0x50, 0x05, 0x03, 0x06, 0x6d, 0x65, 0x6d, 0x6f, 0x72, 0x79, 0x02, 0x00,
+        0x00, 0x01, 0x60, 0x04, 0x7f, 0x7f, 0x7f, 0x7f, 0x01, 0x7f, 0x03, 0x15, 0x63, 0x61, 0x6e,
+        0x6f, 0x6e, 0x69, 0x63, 0x61, 0x6c, 0x5f, 0x61, 0x62, 0x69, 0x5f, 0x72, 0x65, 0x61, 0x6c,
+        0x6c, 0x6f, 0x63, 0x00, 0x00, 0x01, 0x60, 0x03, 0x7f, 0x7f, 0x7f, 0x00, 0x03, 0x12, 0x63,
+        0x61, 0x6e, 0x6f, 0x6e, 0x69, 0x63, 0x61, 0x6c, 0x5f, 0x61, 0x62, 0x69, 0x5f, 0x66, 0x72,
+        0x65, 0x65, 0x00, 0x01,
+    ];
+    is_core_written(&rt, &ty, expected.as_slice())
 }
