@@ -1,4 +1,4 @@
--- Which core value types the limits allow (core specification, 2.3.6 Value Types).
+-- Which core value types the limits allow (core specification, Types, Value Types).
 use Rattle.std.specs.Prelude.{Bool, List, [], ◌∷◌, ◌++◌, if◌then◌else◌}
 use Rattle.smith_core.specs.declared.config.Config.{Config}
 use Rattle.smith_core.specs.declared.types.RefType.TheVariants.{FuncRef, ExternRef}

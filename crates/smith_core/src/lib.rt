@@ -17,6 +17,6 @@ pub use entity::{core_import_len, entity_len, write_core_import, write_entity};
 pub use make::{arbitrary_func_type, arbitrary_memtype, arbitrary_table_type, arbitrary_tag_type};
 pub use module::Module;
 pub use types::{
-    EntityType, ExportKind, FuncType, GlobalType, Import, MemoryType, RefType, TableType, TagType, ValType,
-    configured_valtypes,
+    EntityType, ExportKind, FuncType, GlobalType, Import, MemoryType, RefType, TableType, TagType,
+    ValType, configured_valtypes,
 };

@@ -1,4 +1,4 @@
-//! Core value types (core specification, 2.3 Types).
+//! Core value types (core specification, Types).
 
 ghost use Rattle.std.specs.Prelude.{◌≡◌, IfOk, IfErr};
 ghost use Rattle.smith_core.specs.Configured.{configured};
@@ -7,7 +7,7 @@ use crate::config::Config;
 use smith_input::Error;
 use std::alloc::Global;
 
-/// A reference type (core specification, 2.3.4 Heap Types and 2.3.5 Reference Types).
+/// A reference type (core specification, Types, Reference Types).
 #[derive(Debug, Clone, Copy, PartialEq, Eq, Hash)]
 pub enum RefType {
     FuncRef,
@@ -16,7 +16,7 @@ pub enum RefType {
     Concrete { nullable: bool, index: u32 },
 }
 
-/// A value type (core specification, 2.3.6 Value Types).
+/// A value type (core specification, Types, Value Types).
 #[derive(Debug, Clone, Copy, PartialEq, Eq, Hash)]
 pub enum ValType {
     I32,
