@@ -1,5 +1,6 @@
 -- What stands in a module type (Explainer.md, core type definitions): its own types, and what it imports and exports.
-use Rattle.std.specs.Prelude.{ℕ, ◌+◌, zero, suc, Bool, List, [], ◌∷◌, ◌++◌, length, Option, Some, None, slice_get, nat_eq, bytes_eq, if◌then◌else◌}
+use Rattle.std.specs.Prelude.{ℕ, zero, suc, Bool, true, false, List, [], ◌∷◌, length, Option, Some, None, slice_get, nat_eq, bytes_eq, if◌then◌else◌}
+use Rattle.std.specs.List.{filter, flat_map}
 use Rattle.smith_core.specs.CoreTypes.{Function}
 use Rattle.smith_core.specs.Entities.{kind_of}
 use Rattle.smith_core.specs.declared.types.EntityType.{EntityType}
@@ -39,60 +40,64 @@ entity_in (declares f) = []
 entity_in (aliases count i) = []
 entity_in (exports n e) = e ∷ []
 
--- are both of the same sort?
-abbrev pub same_kind : ExportKind → ExportKind → Bool
-same_kind = kinds.eq
+-- all that it imports and exports, in order
+abbrev pub entities_of : List ModuleDecl → List EntityType
+entities_of ds = flat_map entity_in ds
 
--- how many of a list are of a kind
-abbrev pub count_in : ExportKind → List EntityType → ℕ
-count_in k [] = 0
-count_in k (e ∷ es) = if same_kind (kind_of e) k then 1 + count_in k es else count_in k es
+-- Is it of that kind?
+abbrev pub is_of_kind : ExportKind → EntityType → Bool
+is_of_kind k e = kinds.eq (kind_of e) k
 
 -- how many of its imports and exports are of a kind
 abbrev pub count_of : ExportKind → List ModuleDecl → ℕ
-count_of k [] = 0
-count_of k (d ∷ ds) = count_in k (entity_in d) + count_of k ds
+count_of k ds = length (filter (is_of_kind k) (entities_of ds))
+
+-- the name of an import from a module, and that of an export
+abbrev pub name_from : List ℕ → ModuleDecl → List (List ℕ)
+name_from from (imports m n e) = if bytes_eq m from then n ∷ [] else []
+name_from from (declares f) = []
+name_from from (aliases count i) = []
+name_from from (exports n e) = []
+
+abbrev pub export_name : ModuleDecl → List (List ℕ)
+export_name (imports m n e) = []
+export_name (declares f) = []
+export_name (aliases count i) = []
+export_name (exports n e) = n ∷ []
 
 -- the names that are imported from a module
 abbrev pub names_from : List ℕ → List ModuleDecl → List (List ℕ)
-names_from from [] = []
-names_from from (imports m n e ∷ ds) = if bytes_eq m from then n ∷ names_from from ds else names_from from ds
-names_from from (declares f ∷ ds) = names_from from ds
-names_from from (aliases count i ∷ ds) = names_from from ds
-names_from from (exports n e ∷ ds) = names_from from ds
+names_from from ds = flat_map (name_from from) ds
 
 -- the names that are exported
 abbrev pub export_names : List ModuleDecl → List (List ℕ)
-export_names [] = []
-export_names (imports m n e ∷ ds) = export_names ds
-export_names (declares f ∷ ds) = export_names ds
-export_names (aliases count i ∷ ds) = export_names ds
-export_names (exports n e ∷ ds) = n ∷ export_names ds
+export_names ds = flat_map export_name ds
 
 -- Has it no results, as the type of a tag has none?
 abbrev pub is_tag_type : Function → Bool
 is_tag_type f = nat_eq (length f.1) 0
 
--- how many own types it has: function types and outer aliases
-abbrev pub type_count : List ModuleDecl → ℕ
-type_count [] = 0
-type_count (imports m n e ∷ ds) = type_count ds
-type_count (declares f ∷ ds) = 1 + type_count ds
-type_count (aliases count i ∷ ds) = 1 + type_count ds
-type_count (exports n e ∷ ds) = type_count ds
+-- the function type that a declaration is, where it is one
+abbrev pub func_of : ModuleDecl → List Function
+func_of (imports m n e) = []
+func_of (declares f) = f ∷ []
+func_of (aliases count i) = []
+func_of (exports n e) = []
 
 -- the function types that it declares itself
 abbrev pub declared_in : List ModuleDecl → List Function
-declared_in [] = []
-declared_in (imports m n e ∷ ds) = declared_in ds
-declared_in (declares f ∷ ds) = f ∷ declared_in ds
-declared_in (aliases count i ∷ ds) = declared_in ds
-declared_in (exports n e ∷ ds) = declared_in ds
+declared_in ds = flat_map func_of ds
 
--- all that it imports and exports, in order
-abbrev pub entities_of : List ModuleDecl → List EntityType
-entities_of [] = []
-entities_of (d ∷ ds) = entity_in d ++ entities_of ds
+-- Is it one of its own types: a function type or an outer alias?
+abbrev pub is_own_type : ModuleDecl → Bool
+is_own_type (imports m n e) = false
+is_own_type (declares f) = true
+is_own_type (aliases count i) = true
+is_own_type (exports n e) = false
+
+-- how many own types it has
+abbrev pub type_count : List ModuleDecl → ℕ
+type_count ds = length (filter is_own_type ds)
 
 -- No name is imported twice from a module, and none is exported twice.
 pub record HasNewNames (ds : List ModuleDecl) : Type 0 where
