@@ -4,9 +4,8 @@ use Rattle.std.specs.Io.KnownBytes.{Appends, Consumes, IsAtEnd}
 use Rattle.smith_input.specs.Reading.{IsTail}
 use Rattle.smith_input.specs.declared.error.Error.TheVariants.{OutOfMemory}
 use Rattle.smith_component.specs.declared.Config.{Config}
-use Rattle.smith_component.specs.declared.component.Component.{Component}
+use Rattle.smith_component.specs.Tree.{Tree}
 use Rattle.smith_component.specs.Generates.{Generates, RunsTo, IsGenerateRefusal}
-use Rattle.smith_component.specs.Shown.{shown}
 use Rattle.smith_cli.specs.declared.run.RunError.{RunError}
 use Rattle.smith_cli.specs.declared.run.RunError.TheVariants.{Refused, ReadFault, InputTooLong, WriteFault}
 use Rattle.smith_cli.specs.Page.{page}
@@ -23,12 +22,12 @@ pub record GivesAll (before after : Option (List ℕ)) (input : List ℕ) : Type
 
 -- The bytes of the component that a run of turns makes of the input, and how many bytes it leaves, are written as a page.
 pub record WritesPage (config : Config) (input : List ℕ) (before after : Option (List ℕ)) : Type 0 where
-  pub component : Component
+  pub component : Tree
   pub bytes : List ℕ
   pub generated : Generates config component bytes
   pub left : List ℕ
   pub is_left : IsTail left input
-  pub run : RunsTo config input (shown component) left
+  pub run : RunsTo config input component left
   pub written : Appends before after (page bytes (length left))
 
 -- It comes only once the whole input is read.

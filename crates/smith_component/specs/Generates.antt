@@ -6,20 +6,18 @@ use Rattle.smith_input.specs.declared.error.Error.{Error}
 use Rattle.smith_input.specs.declared.error.Error.TheVariants.{InconsistentLimits, MinimumNotMet, ModuleRefused, TooLong, OutOfMemory, PartsDisagree}
 use Rattle.smith_component.specs.Grammar.{component_text, Spells}
 use Rattle.smith_component.specs.Limits.{Limits, max_depth}
-use Rattle.smith_component.specs.Shown.{shown}
 use Rattle.smith_component.specs.Sizes.{Sized}
 use Rattle.smith_component.specs.Tree.{Tree}
 use Rattle.smith_component.specs.Turn.{Run}
 use Rattle.smith_component.specs.WellFormed.{WellFormed}
-use Rattle.smith_component.specs.declared.component.Component.{Component}
 
 -- The bytes have exactly one reading, which is the component's own sections. It is well formed and within the limits, and no
 -- type of it is larger than its fuel was.
-pub record Generates (config : Config) (component : Component) (bytes : List ℕ) : Type 0 where
-  pub reading : (t : Tree) → Spells t bytes ↔ (t ≡ shown component)
-  pub formed : WellFormed (shown component)
-  pub limits : Limits config (shown component)
-  pub sizes : Sized config (shown component)
+pub record Generates (config : Config) (component : Tree) (bytes : List ℕ) : Type 0 where
+  pub reading : (t : Tree) → Spells t bytes ↔ (t ≡ component)
+  pub formed : WellFormed component
+  pub limits : Limits config component
+  pub sizes : Sized config component
 
 -- Turns in a row lead from the input to the tree and the bytes left, at most as many as the input has bytes and components may
 -- nest.

@@ -9,7 +9,7 @@ ghost use Rattle.smith_component.specs.Addable.{IsAddable};
 ghost use Rattle.smith_component.specs.Building.{open_of};
 ghost use Rattle.smith_component.specs.Scripted.{Follows};
 ghost use Rattle.smith_component.specs.Shown.{shown_section};
-ghost use Rattle.smith_component.specs.Steps.{next_of, Keeps};
+ghost use Rattle.smith_component.specs.Steps.{next_of, KeepsSections, StaysSound};
 ghost use Rattle.smith_component.specs.Tree.{add, core_module};
 ghost use Rattle.smith_component.specs.Turn.{Next, Does, TypesRead, with_part, is_module_offered};
 ghost use Rattle.smith_component.specs.WellFormed.{scope_of};
@@ -62,7 +62,8 @@ impl Builder {
         requires quiet { scope_of (add (open_of self).inner (shown_section section)) ≡ scope_of (open_of self).inner }
         requires addable { IsAddable self.config (open_of self) (shown_section section) }
         ensures added { IfOk result (λ s. next_of s ≡ with_part (open_of self) (shown_section section)) }
-        ensures keeps { IfOk result (Keeps self.config) }
+        ensures keeps { IfOk result (StaysSound self.config) }
+        ensures sections { IfOk result (KeepsSections self) }
         ensures memory { IfErr result (λ e. e ≡ Error.OutOfMemory) }
     {
         let mut builder = self;
@@ -76,7 +77,8 @@ impl Builder {
     pub(crate) fn add_custom(self, u: &mut Unstructured) -> Result<Step, Error>
         ensures added { IfOk result (λ s. Does self.config Custom (open_of self) u.old (next_of s) u.new) }
         ensures follows { (n : Next) (rest : List ℕ) → Follows self.config Custom (open_of self) u.old n rest → IfOk result (λ s. (next_of s ≡ n) × (u.new ≡ rest)) }
-        ensures keeps { IfOk result (Keeps self.config) }
+        ensures keeps { IfOk result (StaysSound self.config) }
+        ensures sections { IfOk result (KeepsSections self) }
         ensures memory { IfErr result (λ e. e ≡ Error.OutOfMemory) }
         ensures tail { IsTail u.new u.old }
     {
@@ -88,7 +90,8 @@ impl Builder {
     pub(crate) fn add_module(self) -> Result<Step, Error>
         requires { IsTrue (is_module_offered self.config (open_of self)) }
         ensures added { IfOk result (λ s. next_of s ≡ with_part (open_of self) (core_module core_preamble)) }
-        ensures keeps { IfOk result (Keeps self.config) }
+        ensures keeps { IfOk result (StaysSound self.config) }
+        ensures sections { IfOk result (KeepsSections self) }
         ensures memory { IfErr result (λ e. e ≡ Error.OutOfMemory) }
     {
         self.add_section(Section::CoreModule(Module::empty()))
@@ -98,7 +101,8 @@ impl Builder {
     pub(crate) fn add_core_types(self, u: &mut Unstructured) -> Result<Step, Error>
         ensures added { IfOk result (λ s. Does self.config CoreTypes (open_of self) u.old (next_of s) u.new) }
         ensures follows { (n : Next) (rest : List ℕ) → Follows self.config CoreTypes (open_of self) u.old n rest → IfOk result (λ s. (next_of s ≡ n) × (u.new ≡ rest)) }
-        ensures keeps { IfOk result (Keeps self.config) }
+        ensures keeps { IfOk result (StaysSound self.config) }
+        ensures sections { IfOk result (KeepsSections self) }
         ensures memory { IfErr result (λ e. e ≡ Error.OutOfMemory) }
         ensures tail { IsTail u.new u.old }
     {
@@ -112,7 +116,8 @@ impl Builder {
     pub(crate) fn add_imports(self, u: &mut Unstructured) -> Result<Step, Error>
         ensures added { IfOk result (λ s. Does self.config Imports (open_of self) u.old (next_of s) u.new) }
         ensures follows { (n : Next) (rest : List ℕ) → Follows self.config Imports (open_of self) u.old n rest → IfOk result (λ s. (next_of s ≡ n) × (u.new ≡ rest)) }
-        ensures keeps { IfOk result (Keeps self.config) }
+        ensures keeps { IfOk result (StaysSound self.config) }
+        ensures sections { IfOk result (KeepsSections self) }
         ensures memory { IfErr result (λ e. e ≡ Error.OutOfMemory) }
         ensures tail { IsTail u.new u.old }
     {
@@ -124,7 +129,8 @@ impl Builder {
     pub(crate) fn add_canonicals(self, u: &mut Unstructured) -> Result<Step, Error>
         ensures added { IfOk result (λ s. Does self.config Canonical (open_of self) u.old (next_of s) u.new) }
         ensures follows { (n : Next) (rest : List ℕ) → Follows self.config Canonical (open_of self) u.old n rest → IfOk result (λ s. (next_of s ≡ n) × (u.new ≡ rest)) }
-        ensures keeps { IfOk result (Keeps self.config) }
+        ensures keeps { IfOk result (StaysSound self.config) }
+        ensures sections { IfOk result (KeepsSections self) }
         ensures memory { IfErr result (λ e. e ≡ Error.OutOfMemory) }
         ensures tail { IsTail u.new u.old }
     {
@@ -136,7 +142,8 @@ impl Builder {
     pub(crate) fn add_types(self, u: &mut Unstructured) -> Result<Step, Error>
         ensures added { IfOk result (λ s. Does self.config Types (open_of self) u.old (next_of s) u.new) }
         ensures follows { (n : Next) (rest : List ℕ) → Follows self.config Types (open_of self) u.old n rest → IfOk result (λ s. (next_of s ≡ n) × (u.new ≡ rest)) }
-        ensures keeps { IfOk result (Keeps self.config) }
+        ensures keeps { IfOk result (StaysSound self.config) }
+        ensures sections { IfOk result (KeepsSections self) }
         ensures memory { IfErr result (λ e. e ≡ Error.OutOfMemory) }
         ensures tail { IsTail u.new u.old }
     {

@@ -1,7 +1,7 @@
 use Rattle.std.proofs.Common.{ap, ◌∙◌, subst, sym, rules}
 use Rattle.smith_input.proofs.ReadingLemmas.{tail_same, tail_trans}
 use Rattle.smith_component.specs.Turn.{Open}
-use Rattle.smith_component.specs.Steps.{next_of, Keeps}
+use Rattle.smith_component.specs.Steps.{next_of, StaysSound}
 use Rattle.smith_component.specs.declared.builder.Step.{Step}
 use Rattle.smith_component.proofs.FollowsLemmas.{Passes, passes_start, passes_step, passes_end}
 use Rattle.smith_component.proofs.RunLemmas.{Reached, reached_start, reached_step, reached_answer}
@@ -22,7 +22,7 @@ loop-next-init c =
 
 pub loop-next-preserved : goal.loop-next-preserved
 loop-next-preserved c =
-    let K : Step → Type 0 = Keeps c.loop-next.builder.config in
+    let K : Step → Type 0 = StaysSound c.loop-next.builder.config in
     record {
       config = subst K c.in-StillBuilding.is c.in_ok-next.ensures.keeps ∙ c.loop-next.invariant.config;
       consistent = c.loop-next.invariant.consistent;
