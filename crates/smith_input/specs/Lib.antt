@@ -1,3 +1,4 @@
 pub mod Names
+pub mod Loops
 pub mod Reading
 pub mod Texts
