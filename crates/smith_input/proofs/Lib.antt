@@ -1,9 +1,9 @@
+pub mod Choices
 pub mod Kebabs
 pub mod Loops
 pub mod NameSets
 pub mod NewNames
 pub mod Picks
-pub mod Ranks
 pub mod ReadingLemmas
 pub mod TextsLemmas
 pub mod Widths

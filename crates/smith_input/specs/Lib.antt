@@ -1,4 +1,5 @@
-pub mod Names
-pub mod Loops
 pub mod Reading
+pub mod Choices
+pub mod Loops
 pub mod Texts
+pub mod Names

@@ -1,5 +1,5 @@
--- Loops that ask before each turn whether they make it, and choices among what is offered.
-use Rattle.std.specs.Prelude.{◌≡◌, ℕ, zero, suc, ◌+◌, Bool, true, false, List, [], ◌∷◌, ◌++◌, nat_lt, if◌then◌else◌}
+-- Loops that ask before each turn whether they make it.
+use Rattle.std.specs.Prelude.{◌≡◌, ℕ, ◌+◌, Bool, true, false, List, [], ◌∷◌, ◌++◌, nat_lt, if◌then◌else◌}
 use Rattle.smith_input.specs.Reading.{More}
 
 -- A loop that asks before each turn, `done` turns being made before. Item s bytes x rest t: in the state s the bytes give the
@@ -35,12 +35,3 @@ script_more min done = if nat_lt done min then [] else 1 ∷ []
 abbrev pub script_loop : {S A : Type 0} → (S → A → List ℕ) → (S → A → S) → ℕ → ℕ → ℕ → S → List A → List ℕ
 script_loop script next min max done s [] = script_end done max
 script_loop script next min max done s (x ∷ xs) = script_more min done ++ script s x ++ script_loop script next min max (done + 1) (next s x) xs
-
--- these, where the condition holds
-abbrev pub offered : {A : Type 0} → Bool → List A → List A
-offered condition xs = if condition then xs else []
-
--- the place of the first that is equal to x
-abbrev pub rank_of : {A : Type 0} → (A → A → Bool) → List A → A → ℕ
-rank_of eq [] x = zero
-rank_of eq (y ∷ ys) x = if eq y x then zero else suc (rank_of eq ys x)
