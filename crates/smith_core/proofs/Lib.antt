@@ -1,6 +1,6 @@
 pub mod Clear
-pub mod CoreMade
-pub mod CoreScripts
+pub mod CoreReading
+pub mod CoreScript
 pub mod CoreSpelling
 pub mod CoreUnique
 pub mod Digits

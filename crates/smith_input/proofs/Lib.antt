@@ -1,4 +1,6 @@
+pub mod Choices
 pub mod Kebabs
+pub mod Loops
 pub mod NameSets
 pub mod NewNames
 pub mod Picks

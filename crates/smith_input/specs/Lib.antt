@@ -1,3 +1,6 @@
-pub mod Names
+pub mod Kebab
 pub mod Reading
+pub mod Choices
+pub mod Loops
 pub mod Texts
+pub mod Names
