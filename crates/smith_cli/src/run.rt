@@ -3,7 +3,7 @@
 ghost use Rattle.std.specs.Prelude.{◌≡◌, ◌≢◌, ℕ, ◌+◌, ◌<◌, ◌≤◌, ◌⊎◌, List, Option, length, IfOk, OnOk, IfErr, OnErr, IsErrOf, vec_len};
 ghost use Rattle.std.specs.Io.KnownBytes.{Appends, Consumes, IsAtEnd};
 ghost use Rattle.smith_input.specs.declared.error.Error.TheVariants.{OutOfMemory};
-ghost use Rattle.smith_core.specs.Consistent.{IsConsistent};
+ghost use Rattle.smith_core.specs.Limits.{IsConsistent};
 ghost use Rattle.smith_cli.specs.Page.{page};
 ghost use Rattle.smith_cli.specs.Running.{
   ComesAfterReading,
