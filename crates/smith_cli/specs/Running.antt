@@ -5,7 +5,9 @@ use Rattle.smith_input.specs.Reading.{IsTail}
 use Rattle.smith_input.specs.declared.error.Error.TheVariants.{OutOfMemory}
 use Rattle.smith_component.specs.declared.Config.{Config}
 use Rattle.smith_component.specs.Tree.{Tree}
-use Rattle.smith_component.specs.Generates.{Generates, RunsTo, IsGenerateRefusal}
+use Rattle.smith_component.specs.Generates.{Generates}
+use Rattle.smith_component.specs.Turn.{RunsTo}
+use Rattle.smith_component.specs.Refusals.{IsGenerateRefusal}
 use Rattle.smith_cli.specs.declared.run.RunError.{RunError}
 use Rattle.smith_cli.specs.declared.run.RunError.TheVariants.{Refused, ReadFault, InputTooLong, WriteFault}
 use Rattle.smith_cli.specs.Page.{page}

@@ -3,8 +3,7 @@ use Rattle.std.specs.Prelude.{◌≡◌, ◌⊎◌, List, [], ◌∷◌, ◌++�
 use Rattle.smith_core.specs.declared.config.Config.{Config}
 use Rattle.smith_component.specs.Turn.{Next, building, answered}
 use Rattle.smith_component.specs.WellFormed.{WellFormed}
-use Rattle.smith_component.specs.Limits.{Limits}
-use Rattle.smith_component.specs.Sizes.{Sized}
+use Rattle.smith_component.specs.Limits.{Limits, Sized}
 use Rattle.smith_component.specs.Building.{Building, open_of}
 use Rattle.smith_component.specs.Shown.{shown_sections}
 use Rattle.smith_component.specs.declared.component.Section.{Section}

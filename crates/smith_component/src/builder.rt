@@ -10,7 +10,8 @@ ghost use Rattle.smith_component.specs.Scripted.{Scripted};
 ghost use Rattle.smith_component.specs.Shown.{shown_sections};
 ghost use Rattle.smith_component.specs.Steps.{next_of, KeepsSections, StaysSound};
 ghost use Rattle.smith_component.specs.Tree.{ends};
-ghost use Rattle.smith_component.specs.Turn.{Next, Turn, Falls, root};
+ghost use Rattle.smith_component.specs.Turn.{Next, Turn, Falls};
+ghost use Rattle.smith_component.specs.Open.{root};
 
 mod choose;
 mod nest;

@@ -4,11 +4,10 @@ ghost use Rattle.std.specs.Prelude.{◌≡◌, ℕ, List, ◌+◌, ◌≤◌, �
 ghost use Rattle.smith_input.specs.Reading.{IsTail};
 ghost use Rattle.smith_core.specs.Limits.{IsConsistent};
 ghost use Rattle.smith_core.specs.Limits.{IsDefault};
-ghost use Rattle.smith_component.specs.Generates.{RunsTo};
-ghost use Rattle.smith_component.specs.Limits.{Limits};
+ghost use Rattle.smith_component.specs.Turn.{RunsTo};
+ghost use Rattle.smith_component.specs.Limits.{Limits, Sized};
 ghost use Rattle.smith_component.specs.Refusals.{IsRefusal};
 ghost use Rattle.smith_component.specs.Script.{Within, script};
-ghost use Rattle.smith_component.specs.Sizes.{Sized};
 ghost use Rattle.smith_component.specs.Tree.{Tree};
 ghost use Rattle.smith_component.specs.WellFormed.{WellFormed};
 ghost use Rattle.smith_core.specs.declared.config.Config.{Config};

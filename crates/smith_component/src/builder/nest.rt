@@ -3,7 +3,8 @@
 ghost use Rattle.std.specs.Prelude.{◌≡◌, IfOk, IfErr, IsTrue};
 ghost use Rattle.smith_component.specs.Building.{open_of};
 ghost use Rattle.smith_component.specs.Steps.{next_of, KeepsSections, StaysSound};
-ghost use Rattle.smith_component.specs.Turn.{Closes, with_open, is_component_offered};
+ghost use Rattle.smith_component.specs.Turn.{Closes, with_open};
+ghost use Rattle.smith_component.specs.Open.{is_component_offered};
 
 use crate::builder::open::OpenComponent;
 use crate::builder::{Builder, Step};

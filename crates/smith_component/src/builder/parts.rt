@@ -3,15 +3,16 @@
 ghost use Rattle.std.specs.Prelude.{◌≡◌, ℕ, List, ◌-◌, ◌+◌, ◌≤◌, [], map, length, IfOk, IfErr, IsTrue};
 ghost use Rattle.smith_input.specs.Reading.{IsTail};
 ghost use Rattle.smith_core.specs.Module.{core_preamble};
-ghost use Rattle.smith_types.specs.Scope.{inward, own_of, outer_of, with_types};
+ghost use Rattle.smith_types.specs.Scope.{inward, own_of, outer_of};
 ghost use Rattle.smith_types.specs.Shown.{shown_shared};
-ghost use Rattle.smith_component.specs.Addable.{IsAddable};
+ghost use Rattle.smith_component.specs.Sound.{IsAddable};
 ghost use Rattle.smith_component.specs.Building.{open_of};
 ghost use Rattle.smith_component.specs.Scripted.{Follows};
 ghost use Rattle.smith_component.specs.Shown.{shown_section};
 ghost use Rattle.smith_component.specs.Steps.{next_of, KeepsSections, StaysSound};
 ghost use Rattle.smith_component.specs.Tree.{add, core_module};
-ghost use Rattle.smith_component.specs.Turn.{Next, Does, TypesRead, with_part, is_module_offered};
+ghost use Rattle.smith_component.specs.Turn.{Next, Does, ReadsTypes, with_part};
+ghost use Rattle.smith_component.specs.Open.{is_module_offered};
 ghost use Rattle.smith_component.specs.WellFormed.{scope_of};
 ghost use Rattle.smith_component.specs.declared.item.Item.TheVariants.{Custom, CoreTypes, Types, Imports, Canonical};
 
@@ -35,8 +36,7 @@ fn read_types(
     u: &mut Unstructured,
 ) -> Result<Vec<Rc<DefType>>, Error>
     requires { length (own_of (inward scopes.old)).types + max ≤ 4294967295 }
-    ensures entries { IfOk result (λ v. TypesRead config.now (outer_of (inward scopes.old)) max (own_of (inward scopes.old)) 0 u.old (map shown_shared v.items) u.new) }
-    ensures own { IfOk result (λ v. own_of (inward scopes.new) ≡ with_types (own_of (inward scopes.old)) (map shown_shared v.items)) }
+    ensures entries { IfOk result (λ v. ReadsTypes config.now (outer_of (inward scopes.old)) max (own_of (inward scopes.old)) u.old (map shown_shared v.items) u.new (own_of (inward scopes.new))) }
     ensures outer { IfOk result (λ _. outer_of (inward scopes.new) ≡ outer_of (inward scopes.old)) }
     ensures depth { IfOk result (λ _. length (inward scopes.new) ≡ length (inward scopes.old)) }
     ensures bound { IfOk result (λ v. length v.items ≤ max) }

@@ -4,9 +4,8 @@ use Rattle.smith_types.specs.Scope.{empty_scope}
 use Rattle.smith_types.proofs.ScopeLemmas.{opened_scope}
 use Rattle.smith_component.specs.Building.{Building, open_of}
 use Rattle.smith_component.specs.BuilderView.{building_of}
-use Rattle.smith_component.specs.Scopes.{scopes_in}
+use Rattle.smith_component.specs.Open.{scopes_in, is_component_offered}
 use Rattle.smith_component.specs.Shown.{shown_sections}
-use Rattle.smith_component.specs.Turn.{is_component_offered}
 use Rattle.smith_component.specs.WellFormed.{scope_of}
 use Rattle.smith_component.specs.declared.builder.open.OpenComponent.{OpenComponent}
 use Rattle.smith_component.specs.declared.component.Section.{Section}
