@@ -9,10 +9,11 @@ use Rattle.smith_core.specs.declared.config.Config.{Config}
 use Rattle.smith_types.specs.Entries.{Entry, ImportEntry}
 use Rattle.smith_types.specs.Made.{Made}
 use Rattle.smith_types.specs.Scope.{Scope, with_type}
-use Rattle.smith_types.specs.Script.{script_end, script_type, Lasts}
+use Rattle.smith_input.specs.Loops.{script_end}
+use Rattle.smith_types.specs.Script.{script_type, Lasts}
 use Rattle.smith_types.specs.WellFormed.{FormedTypes}
-use Rattle.smith_types.proofs.SameLemmas.{made_same}
-use Rattle.smith_types.proofs.ScriptLemmas.{type_read}
+use Rattle.smith_types.proofs.Made.{made_same}
+use Rattle.smith_types.proofs.Script.{type_read}
 use Rattle.smith_component.specs.Scopes.{scopes_in}
 use Rattle.smith_component.specs.Script.{script_types, script, Within}
 use Rattle.smith_component.specs.Scripted.{EmptyScript, Follows, Scripted, Scripts}

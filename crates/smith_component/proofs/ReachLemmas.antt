@@ -10,7 +10,7 @@ use Rattle.std.specs.List.{AllByRecursion}
 use Rattle.smith_input.specs.Texts.{script_text, script_bytes}
 use Rattle.smith_types.specs.Entries.{Entry}
 use Rattle.smith_types.specs.Scope.{Scope}
-use Rattle.smith_types.specs.Script.{script_end}
+use Rattle.smith_input.specs.Loops.{script_end}
 use Rattle.smith_component.specs.Tree.{Tree, ends, first, Part, custom, core_module, core_types, component, types, canons, imports, add, join, types_of, core_types_of, own, types_in, imports_in, canons_in, inside, names_in}
 use Rattle.smith_component.specs.WellFormed.{Formed, scope_of}
 use Rattle.smith_component.specs.Scopes.{scopes_in}

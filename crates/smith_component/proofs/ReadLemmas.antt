@@ -6,7 +6,7 @@ use Rattle.smith_core.specs.declared.config.Config.{Config}
 use Rattle.smith_types.specs.Entries.{Entry}
 use Rattle.smith_types.specs.Scope.{Scope, with_type, own_of, outer_of}
 use Rattle.smith_types.specs.WellFormed.{FormedTypes}
-use Rattle.smith_types.proofs.MadeLemmas.{made_tail, made_formed, made_size}
+use Rattle.smith_types.proofs.Made.{made_tail, made_formed, made_size}
 use Rattle.smith_component.specs.Sizes.{SmallTypes}
 use Rattle.smith_component.specs.Turn.{TypesRead}
 

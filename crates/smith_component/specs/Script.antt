@@ -7,7 +7,8 @@ use Rattle.smith_input.specs.Texts.{script_text, script_bytes}
 use Rattle.smith_core.specs.declared.config.Config.{Config}
 use Rattle.smith_types.specs.Entries.{Entry}
 use Rattle.smith_types.specs.Scope.{Scope, with_type}
-use Rattle.smith_types.specs.Script.{script_end, script_type, Lasts}
+use Rattle.smith_input.specs.Loops.{script_end}
+use Rattle.smith_types.specs.Script.{script_type, Lasts}
 use Rattle.smith_component.specs.Tree.{Tree, ends, first, Part, custom, core_module, core_types, component, types, canons, imports, add, types_of, core_types_of, own, imports_in, canons_in}
 use Rattle.smith_component.specs.Grammar.{Spells}
 use Rattle.smith_component.specs.Turn.{more_items, is_module_offered, is_component_offered}

@@ -5,7 +5,8 @@ use Rattle.std.specs.Str.{IsUtf8}
 use Rattle.smith_input.specs.Texts.{script_text, script_bytes}
 use Rattle.smith_core.specs.declared.config.Config.{Config}
 use Rattle.smith_types.specs.Entries.{Entry}
-use Rattle.smith_types.specs.Script.{script_end, Lasts}
+use Rattle.smith_input.specs.Loops.{script_end}
+use Rattle.smith_types.specs.Script.{Lasts}
 use Rattle.smith_types.specs.WellFormed.{FormedTypes}
 use Rattle.smith_component.specs.Script.{script_types}
 use Rattle.smith_component.specs.Scopes.{scopes_in}

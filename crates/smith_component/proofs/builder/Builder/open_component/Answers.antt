@@ -1,6 +1,6 @@
 use Rattle.std.proofs.Common.{◌≡◌, true, sym, ap, subst, ◌∙◌, ◌++◌, ◌∷◌, [], arith}
 use Rattle.smith_types.specs.Scope.{empty_scope}
-use Rattle.smith_types.proofs.ScopeLemmas.{opened_scope}
+use Rattle.smith_types.proofs.Stack.{opened_scope}
 use Rattle.smith_component.specs.Building.{Building, open_of}
 use Rattle.smith_component.specs.BuilderView.{building_of}
 use Rattle.smith_component.specs.Scopes.{scopes_in}

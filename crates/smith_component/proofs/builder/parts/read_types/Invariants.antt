@@ -1,7 +1,8 @@
 use Rattle.std.proofs.Common.{◌≡◌, ℕ, List, ◌++◌, map, length}
 use Rattle.smith_input.specs.Reading.{IsTail}
 use Rattle.smith_types.specs.Entries.{Entry}
-use Rattle.smith_types.specs.Scope.{inward, own_of, outer_of, with_types}
+use Rattle.smith_types.specs.Scopes.{inward}
+use Rattle.smith_types.specs.Scope.{own_of, outer_of, with_types}
 use Rattle.smith_types.specs.Shown.{shown_shared}
 use Rattle.smith_component.specs.Turn.{TypesRead}
 use Rattle.smith_component.proofs.builder.parts.read_types.Given as goal
