@@ -10,10 +10,10 @@ use Rattle.smith_types.specs.Made.{Made}
 use Rattle.smith_types.specs.Scope.{Scope, with_type, with_types, own_of, outer_of}
 use Rattle.smith_types.specs.Script.{script_type, Lasts}
 use Rattle.smith_types.specs.WellFormed.{FormedEntry, FormedTypes}
-use Rattle.smith_types.proofs.MadeLemmas.{made_tail, made_formed, made_size}
-use Rattle.smith_types.proofs.SameLemmas.{made_same}
-use Rattle.smith_types.proofs.ScopeLemmas.{with_none, with_more}
-use Rattle.smith_types.proofs.ScriptLemmas.{type_read}
+use Rattle.smith_types.proofs.Made.{made_tail, made_formed, made_size}
+use Rattle.smith_types.proofs.Made.{made_same}
+use Rattle.smith_types.proofs.Stack.{with_none, with_more}
+use Rattle.smith_types.proofs.Script.{type_read}
 use Rattle.smith_component.specs.Limits.{SmallTypes}
 use Rattle.smith_component.specs.Script.{script_types}
 use Rattle.smith_component.specs.Turn.{ReadsType, ReadsTypes}

@@ -4,7 +4,7 @@ use Rattle.std.specs.List.{AllByRecursion}
 use Rattle.smith_core.specs.declared.config.Config.{Config}
 use Rattle.smith_types.specs.CoreLimits.{CoreLimits}
 use Rattle.smith_types.specs.Entries.{Entry, CoreEntry}
-use Rattle.smith_types.specs.FormedCore.{core_size}
+use Rattle.smith_types.specs.WellFormed.{core_size}
 use Rattle.smith_types.specs.WellFormed.{size}
 use Rattle.smith_component.specs.Tree.{Tree, own, inside, modules, depth, types_in, core_types_in, imports_in, canons_in, names_in}
 

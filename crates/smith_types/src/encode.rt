@@ -8,8 +8,8 @@ mod lists;
 ghost use Rattle.std.specs.Prelude.{◌≡◌, ◌≤◌, ℕ, map};
 ghost use Rattle.smith_core.specs.Piece.{Piece, ◌⊕◌, byte, s_index, u, many, text};
 ghost use Rattle.smith_core.specs.Writing.{Puts, Appends, Takes, IsLengthOf};
-ghost use Rattle.smith_types.specs.Grammar.{primitive_byte, val, maybe_val, result_of, entry};
-ghost use Rattle.smith_types.specs.Shown.{shown_primitive, shown_val, shown_maybe, shown_defined, shown_function, shown_type};
+ghost use Rattle.smith_types.specs.Grammar.{primvaltype, valtype, maybe_valtype, resultlist, defvaltype, functype, entry};
+ghost use Rattle.smith_types.specs.Shown.{shown_defined, shown_type};
 
 use crate::func::FuncType;
 use crate::types::{ComponentValType, DefType, DefinedType, PrimitiveValType};
@@ -21,7 +21,7 @@ use smith_core::pieces::{settled, write_byte, write_bytes};
 use smith_input::Error;
 
 fn code(primitive: PrimitiveValType) -> u8
-    ensures { result ≡ primitive_byte (shown_primitive primitive) }
+    ensures { result ≡ primvaltype primitive }
 {
     match primitive {
         PrimitiveValType::Bool => 0x7f,
@@ -41,7 +41,7 @@ fn code(primitive: PrimitiveValType) -> u8
 }
 
 pub(crate) fn put_val(out: &mut Vec<u8>, ty: ComponentValType) -> Result<(), Error>
-    ensures { Puts result out.old out.new (val (shown_val ty)) }
+    ensures { Puts result out.old out.new (valtype ty) }
 {
     match ty {
         ComponentValType::Primitive(primitive) => write_byte(out, code(primitive)),
@@ -50,7 +50,7 @@ pub(crate) fn put_val(out: &mut Vec<u8>, ty: ComponentValType) -> Result<(), Err
 }
 
 pub(crate) fn val_len(ty: ComponentValType) -> u32
-    ensures length { Takes result (val (shown_val ty)) }
+    ensures length { Takes result (valtype ty) }
     ensures most { result ≤ 5 }
 {
     match ty {
@@ -60,7 +60,7 @@ pub(crate) fn val_len(ty: ComponentValType) -> u32
 }
 
 pub(crate) fn put_maybe_val(out: &mut Vec<u8>, ty: Option<ComponentValType>) -> Result<(), Error>
-    ensures { Puts result out.old out.new (maybe_val (shown_maybe ty)) }
+    ensures { Puts result out.old out.new (maybe_valtype ty) }
 {
     match ty {
         None => write_byte(out, 0x00),
@@ -72,7 +72,7 @@ pub(crate) fn put_maybe_val(out: &mut Vec<u8>, ty: Option<ComponentValType>) -> 
 }
 
 pub(crate) fn maybe_val_len(ty: Option<ComponentValType>) -> u32
-    ensures length { Takes result (maybe_val (shown_maybe ty)) }
+    ensures length { Takes result (maybe_valtype ty) }
     ensures most { result ≤ 6 }
 {
     match ty {
@@ -82,7 +82,7 @@ pub(crate) fn maybe_val_len(ty: Option<ComponentValType>) -> u32
 }
 
 fn put_result(out: &mut Vec<u8>, ty: Option<ComponentValType>) -> Result<(), Error>
-    ensures { Puts result out.old out.new (result_of (shown_maybe ty)) }
+    ensures { Puts result out.old out.new (resultlist ty) }
 {
     match ty {
         Some(ty) => {
@@ -94,7 +94,7 @@ fn put_result(out: &mut Vec<u8>, ty: Option<ComponentValType>) -> Result<(), Err
 }
 
 fn result_len(ty: Option<ComponentValType>) -> u32
-    ensures length { Takes result (result_of (shown_maybe ty)) }
+    ensures length { Takes result (resultlist ty) }
     ensures most { result ≤ 6 }
 {
     match ty {
@@ -104,7 +104,7 @@ fn result_len(ty: Option<ComponentValType>) -> u32
 }
 
 fn put_defined(out: &mut Vec<u8>, ty: &DefinedType) -> Result<(), Error>
-    ensures { Puts result out.old out.new (entry (shown_defined ty.now)) }
+    ensures { Puts result out.old out.new (defvaltype (shown_defined ty.now)) }
 {
     match ty {
         DefinedType::Primitive(primitive) => write_byte(out, code(*primitive)),
@@ -130,7 +130,7 @@ fn put_defined(out: &mut Vec<u8>, ty: &DefinedType) -> Result<(), Error>
 }
 
 fn defined_len(ty: &DefinedType) -> Option<u32>
-    ensures { IsLengthOf result (entry (shown_defined ty.now)) }
+    ensures { IsLengthOf result (defvaltype (shown_defined ty.now)) }
 {
     match ty {
         DefinedType::Primitive(_) => Some(1),
@@ -148,14 +148,14 @@ fn defined_len(ty: &DefinedType) -> Option<u32>
 }
 
 fn put_function(out: &mut Vec<u8>, ty: &FuncType) -> Result<(), Error>
-    ensures { Puts result out.old out.new (entry (shown_function ty.now)) }
+    ensures { Puts result out.old out.new (functype ty.now) }
 {
     put_tagged(out, 0x40, &ty.params)?;
     put_result(out, ty.result)
 }
 
 fn function_len(ty: &FuncType) -> Option<u32>
-    ensures { IsLengthOf result (entry (shown_function ty.now)) }
+    ensures { IsLengthOf result (functype ty.now) }
 {
     tagged_len(&ty.params)?.checked_add(result_len(ty.result))
 }

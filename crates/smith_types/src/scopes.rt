@@ -1,11 +1,8 @@
 //! Scopes: what types stand where (Explainer.md, index spaces).
 
 ghost use Rattle.std.specs.Prelude.{◌≡◌, ℕ, ◌+◌, ◌<◌, ◌≤◌, [], ◌∷◌, ◌++◌, length, Some, slice_get, OnOk, IfOk, OnErr, IfErr};
-ghost use Rattle.smith_types.specs.Contents.{nothing, and_type, and_core_type};
-ghost use Rattle.smith_types.specs.Places.{places};
-ghost use Rattle.smith_types.specs.Rows.{Notes, SameRows};
-ghost use Rattle.smith_types.specs.Scope.{inward, own_of, shown_scope, kind_places};
-ghost use Rattle.smith_types.specs.Stack.{last_of, scope_at, has_signature, AddsType, AddsCoreType};
+ghost use Rattle.smith_types.specs.Scope.{empty_scope, with_type, with_core_type, own_of, places};
+ghost use Rattle.smith_types.specs.Scopes.{inward, shown_scope, kind_places, has_signature, last_of, scope_at, AddsType, AddsCoreType, Notes, SameRows};
 
 use crate::core_types::CoreType;
 use crate::func::FuncType;
@@ -44,14 +41,13 @@ struct Scope {
 }
 
 impl Model for Scope {
-    ghost use Rattle.smith_types.specs.Contents.{Contents};
-    ghost use Rattle.smith_types.specs.Tied.{types_in, core_types_in, IsTied, IsCoreTied};
+    ghost use Rattle.smith_types.specs.Scopes.{Contents, values_of, IsTied, IsCoreTied};
 
     ghost Value = { Contents };
 
-    ghost view = { λ s. record { types = types_in s.types.items; core_types = core_types_in s.core_types.items } };
+    ghost view = { λ s. record { types = values_of s.types.items; core_types = values_of s.core_types.items } };
 
-    ghost invariant = { λ s. IsTied (types_in s.types.items) s.defined.items s.funcs.items s.equal × IsCoreTied (core_types_in s.core_types.items) s.core_funcs.items s.core_modules.items };
+    ghost invariant = { λ s. IsTied (values_of s.types.items) s.defined.items s.funcs.items s.equal × IsCoreTied (values_of s.core_types.items) s.core_funcs.items s.core_modules.items };
 }
 
 /// A stack of scopes, never empty. Contracts see the list, outermost first, of the types and core types in each.
@@ -64,7 +60,7 @@ pub struct Scopes {
 
 impl Model for Scopes {
     ghost use Rattle.std.specs.Prelude.{List, [], ◌∷◌, ◌++◌};
-    ghost use Rattle.smith_types.specs.Contents.{Contents};
+    ghost use Rattle.smith_types.specs.Scopes.{Contents};
 
     ghost Value = { List Contents };
 
@@ -95,7 +91,7 @@ fn note(
 
 impl Scope {
     fn new(alloc: Global) -> Scope
-        ensures { result ≡ nothing }
+        ensures { result ≡ empty_scope }
     {
         Scope {
             types: Vec::new(alloc),
@@ -111,7 +107,7 @@ impl Scope {
     // Adds a type at the end. Each list has room before one of them grows.
     fn push_type(&mut self, alloc: Global, entry: Rc<DefType>) -> Result<u32, Error>
         requires { length self.old.types < 4294967295 }
-        ensures ok { OnOk result (self.new ≡ and_type self.old entry.value) }
+        ensures ok { OnOk result (self.new ≡ with_type self.old entry.value) }
         ensures index { IfOk result (λ i. i ≡ length self.old.types) }
         ensures err { OnErr result (self.new ≡ self.old) }
         ensures memory { IfErr result (λ e. e ≡ Error.OutOfMemory) }
@@ -133,7 +129,7 @@ impl Scope {
     // Adds a core type at the end. Each list has room before one of them grows.
     fn push_core_type(&mut self, entry: Rc<CoreType>) -> Result<u32, Error>
         requires { length self.old.core_types < 4294967295 }
-        ensures ok { OnOk result (self.new ≡ and_core_type self.old entry.value) }
+        ensures ok { OnOk result (self.new ≡ with_core_type self.old entry.value) }
         ensures index { IfOk result (λ i. i ≡ length self.old.core_types) }
         ensures err { OnErr result (self.new ≡ self.old) }
         ensures memory { IfErr result (λ e. e ≡ Error.OutOfMemory) }
@@ -173,7 +169,7 @@ impl Scope {
 impl Scopes {
     /// One scope, empty.
     pub fn new(alloc: Global) -> Scopes
-        ensures { result ≡ nothing ∷ [] }
+        ensures { result ≡ empty_scope ∷ [] }
     {
         Scopes {
             alloc,
@@ -184,7 +180,7 @@ impl Scopes {
 
     /// Adds an empty scope. It refuses for want of memory alone, and all is as it was then.
     pub fn open_scope(&mut self) -> Result<(), Error>
-        ensures ok { OnOk result (self.new ≡ self.old ++ nothing ∷ []) }
+        ensures ok { OnOk result (self.new ≡ self.old ++ empty_scope ∷ []) }
         ensures err { OnErr result (self.new ≡ self.old) }
         ensures memory { IfErr result (λ e. e ≡ Error.OutOfMemory) }
     {

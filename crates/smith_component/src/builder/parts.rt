@@ -3,7 +3,8 @@
 ghost use Rattle.std.specs.Prelude.{◌≡◌, ℕ, List, ◌-◌, ◌+◌, ◌≤◌, [], map, length, IfOk, IfErr, IsTrue};
 ghost use Rattle.smith_input.specs.Reading.{IsTail};
 ghost use Rattle.smith_core.specs.Module.{core_preamble};
-ghost use Rattle.smith_types.specs.Scope.{inward, own_of, outer_of};
+ghost use Rattle.smith_types.specs.Scopes.{inward};
+ghost use Rattle.smith_types.specs.Scope.{own_of, outer_of};
 ghost use Rattle.smith_types.specs.Shown.{shown_shared};
 ghost use Rattle.smith_component.specs.Sound.{IsAddable};
 ghost use Rattle.smith_component.specs.Building.{open_of};

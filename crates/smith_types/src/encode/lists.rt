@@ -4,8 +4,9 @@
 ghost use Rattle.std.specs.Prelude.{ℕ, string_bytes};
 ghost use Rattle.smith_core.specs.Piece.{Piece, ◌⊕◌, byte, many, text};
 ghost use Rattle.smith_core.specs.Writing.{Puts, IsLengthOf};
-ghost use Rattle.smith_types.specs.Grammar.{val, field, case, entry};
-ghost use Rattle.smith_types.specs.Shown.{shown_val, shown_field, shown_case, shown_shared};
+ghost use Rattle.smith_types.specs.Grammar.{valtype, labelvaltype, case, entry};
+ghost use Rattle.smith_types.specs.Shown.{shown_shared};
+ghost use Rattle.smith_types.specs.Signature.{named};
 
 use super::{maybe_val_len, put_maybe_val, put_val, type_len, val_len, write_type};
 use crate::types::{ComponentValType, DefType};
@@ -76,7 +77,7 @@ impl Spelled for String {
 }
 
 impl Spelled for (String, ComponentValType) {
-    ghost piece = { λ f. field (shown_field f) };
+    ghost piece = { λ f. labelvaltype (named f) };
 
     fn put(&self, out: &mut Vec<u8>) -> Result<(), Error> {
         write_text(out, &self.0)?;
@@ -89,7 +90,7 @@ impl Spelled for (String, ComponentValType) {
 }
 
 impl Spelled for (String, Option<ComponentValType>) {
-    ghost piece = { λ c. case (shown_case c) };
+    ghost piece = { λ c. case (named c) };
 
     fn put(&self, out: &mut Vec<u8>) -> Result<(), Error> {
         write_text(out, &self.0)?;
@@ -103,7 +104,7 @@ impl Spelled for (String, Option<ComponentValType>) {
 }
 
 impl Spelled for ComponentValType {
-    ghost piece = { λ v. val (shown_val v) };
+    ghost piece = { valtype };
 
     fn put(&self, out: &mut Vec<u8>) -> Result<(), Error> {
         put_val(out, *self)

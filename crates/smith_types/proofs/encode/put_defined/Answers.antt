@@ -2,18 +2,15 @@ use Rattle.std.proofs.Common.{string_bytes}
 use Rattle.smith_core.specs.Piece.{text}
 use Rattle.smith_core.proofs.Steps.{exits_between}
 use Rattle.smith_core.proofs.Loops.{many-map}
-use Rattle.smith_types.specs.Grammar.{field, case, val}
-use Rattle.smith_types.specs.Shown.{shown_field, shown_case, shown_val}
+use Rattle.smith_types.specs.Grammar.{labelvaltype, case}
+use Rattle.smith_types.specs.Signature.{named}
 use Rattle.smith_types.proofs.encode.put_defined.Goals as goal
 
 pub returns-in-Record : goal.returns-in-Record
-returns-in-Record c = rw (c.in-Record.is, many-map field shown_field _) (rw c.deref.ensures.value at c.put_tagged.ensures)
+returns-in-Record c = rw (c.in-Record.is, many-map labelvaltype named _) (rw c.deref.ensures.value at c.put_tagged.ensures)
 
 pub returns-in-Variant : goal.returns-in-Variant
-returns-in-Variant c = rw (c.in-Variant.is, many-map case shown_case _) (rw c.deref-in-Variant.ensures.value at c.put_tagged-in-Variant.ensures)
-
-pub returns-in-Tuple : goal.returns-in-Tuple
-returns-in-Tuple c = rw (c.in-Tuple.is, many-map val shown_val _) (rw c.deref-in-Tuple.ensures.value at c.put_tagged-in-Tuple.ensures)
+returns-in-Variant c = rw (c.in-Variant.is, many-map case named _) (rw c.deref-in-Variant.ensures.value at c.put_tagged-in-Variant.ensures)
 
 pub returns-in-Flags : goal.returns-in-Flags
 returns-in-Flags c = rw (c.in-Flags.is, many-map text string_bytes _) (rw c.deref-in-Flags.ensures.value at c.put_tagged-in-Flags.ensures)

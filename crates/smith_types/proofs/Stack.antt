@@ -2,16 +2,12 @@
 use Rattle.std.proofs.Common.{◌≡◌, ℕ, ◌+◌, ◌<◌, ◌≤◌, Bool, true, false, cond, List, [], ◌∷◌, ◌++◌, get_or, length, map, reverse, refl, sym, ap, ◌∙◌, arith, append-nil, append_assoc}
 use Rattle.std.proofs.Math.ListN.{get_or-map}
 use Rattle.std.proofs.lemmas.List.{reverse-append, map-append, length-map, length-reverse}
-use Rattle.smith_types.specs.Contents.{Contents, nothing, and_type, and_core_type}
 use Rattle.smith_types.specs.Entries.{Entry, CoreEntry}
-use Rattle.smith_types.specs.Places.{places}
-use Rattle.smith_types.specs.Scope.{Scope, empty_scope, with_type, with_types, with_core_type, with_core_types, shown_scope, inward, own_of, outer_of, is_defined, is_func}
-use Rattle.smith_types.specs.Shown.{shown_type, shown_core, shown_defined}
-use Rattle.smith_types.specs.Stack.{last_of, scope_at, Changes, AddsType, AddsCoreType}
+use Rattle.smith_types.specs.Scope.{Scope, empty_scope, with_type, with_types, with_core_type, with_core_types, own_of, outer_of, places}
+use Rattle.smith_types.specs.Scopes.{Contents, shown_scope, inward, last_of, scope_at, Changes, AddsType, AddsCoreType}
+use Rattle.smith_types.specs.Shown.{shown_type, shown_core}
 use Rattle.smith_types.specs.declared.core_types.CoreType.{CoreType}
 use Rattle.smith_types.specs.declared.types.DefType.{DefType}
-use Rattle.smith_types.specs.declared.types.DefinedType.{DefinedType}
-use Rattle.smith_types.specs.declared.types.DefinedType.TheVariants as defined
 
 pub last_of-snoc : (ss : List Contents) (s : Contents) → last_of (ss ++ s ∷ []) ≡ s
 last_of-snoc [] s = refl
@@ -50,30 +46,6 @@ module _ {A : Type 0} (p : A → Bool) where
   pub length-places : (i : ℕ) (xs : List A) → length (places p i xs) ≤ length xs
   length-places i [] = omega arith
   length-places i (x ∷ xs) = let h = longer (p x) i (places p (i + 1) xs) (length xs) (length-places (i + 1) xs) in omega arith
-
--- the kind of a defined type
-
-pub shown_is_defined : (d : DefinedType) → is_defined (shown_defined d) ≡ true
-shown_is_defined (defined.Primitive p) = refl
-shown_is_defined (defined.Record t) = refl
-shown_is_defined (defined.Variant t) = refl
-shown_is_defined (defined.List t) = refl
-shown_is_defined (defined.Tuple t) = refl
-shown_is_defined (defined.Flags t) = refl
-shown_is_defined (defined.Enum t) = refl
-shown_is_defined (defined.Option t) = refl
-shown_is_defined (defined.Result t) = refl
-
-pub shown_no_func : (d : DefinedType) → is_func (shown_defined d) ≡ false
-shown_no_func (defined.Primitive p) = refl
-shown_no_func (defined.Record t) = refl
-shown_no_func (defined.Variant t) = refl
-shown_no_func (defined.List t) = refl
-shown_no_func (defined.Tuple t) = refl
-shown_no_func (defined.Flags t) = refl
-shown_no_func (defined.Enum t) = refl
-shown_no_func (defined.Option t) = refl
-shown_no_func (defined.Result t) = refl
 
 pub length-inward : (scopes : List Contents) → length (inward scopes) ≡ length scopes
 length-inward scopes = length-reverse (map shown_scope scopes) ∙ length-map scopes shown_scope
@@ -121,16 +93,16 @@ changed g f shows old new a =
 
 pub grown : (old new : List Contents) (ty : DefType) → AddsType old ty new → Grown (λ s. with_type s (shown_type ty)) old new
 grown old new ty a =
-    changed (λ d. and_type d ty) (λ s. with_type s (shown_type ty)) (λ d. ap (λ ts. record { types = ts; core_types = map shown_core d.core_types }) (map-append shown_type d.types (ty ∷ []))) old new a
+    changed (λ d. with_type d ty) (λ s. with_type s (shown_type ty)) (λ d. ap (λ ts. record { types = ts; core_types = map shown_core d.core_types }) (map-append shown_type d.types (ty ∷ []))) old new a
 
 pub grown_core : (old new : List Contents) (ty : CoreType) → AddsCoreType old ty new → Grown (λ s. with_core_type s (shown_core ty)) old new
 grown_core old new ty a =
-    changed (λ d. and_core_type d ty) (λ s. with_core_type s (shown_core ty)) (λ d. ap (λ ts. record { types = map shown_type d.types; core_types = ts }) (map-append shown_core d.core_types (ty ∷ []))) old new a
+    changed (λ d. with_core_type d ty) (λ s. with_core_type s (shown_core ty)) (λ d. ap (λ ts. record { types = map shown_type d.types; core_types = ts }) (map-append shown_core d.core_types (ty ∷ []))) old new a
 
 -- A scope is opened, and closed.
 
-pub opened_scope : (old new : List Contents) → new ≡ old ++ nothing ∷ [] → inward new ≡ empty_scope ∷ inward old
-opened_scope old new e = ap inward e ∙ inward-snoc old nothing
+pub opened_scope : (old new : List Contents) → new ≡ old ++ empty_scope ∷ [] → inward new ≡ empty_scope ∷ inward old
+opened_scope old new e = ap inward e ∙ inward-snoc old empty_scope
 
 pub closed_scope : (old new : List Contents) (last : Contents) → old ≡ new ++ last ∷ [] → inward old ≡ shown_scope last ∷ inward new
 closed_scope old new last e = ap inward e ∙ inward-snoc new last
@@ -156,7 +128,7 @@ map-reverse f (x ∷ xs) =
 
 -- the scope of a count, as it is shown
 pub scope_shown : (scopes : List Contents) (count : ℕ) → get_or (inward scopes) count empty_scope ≡ shown_scope (scope_at scopes count)
-scope_shown scopes count = ap (λ ss. get_or ss count empty_scope) (map-reverse shown_scope scopes) ∙ get_or-map shown_scope (reverse scopes) count nothing
+scope_shown scopes count = ap (λ ss. get_or ss count empty_scope) (map-reverse shown_scope scopes) ∙ get_or-map shown_scope (reverse scopes) count empty_scope
 
 -- Scopes of which there is one.
 pub split_scopes : (ss : List Scope) → 0 < length ss → ss ≡ own_of ss ∷ outer_of ss
