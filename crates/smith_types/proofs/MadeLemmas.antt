@@ -3,7 +3,8 @@ use Rattle.std.proofs.Common.{◌≡◌, ℕ, zero, suc, ◌+◌, ◌-◌, ◌�
 use Rattle.std.proofs.lemmas.List.{length-map, map-append}
 use Rattle.std.specs.List.{AllByRecursion}
 use Rattle.std.specs.Prelude.{Option, Some, slice_get}
-use Rattle.smith_input.specs.Names.{Kebab, ReadsNew}
+use Rattle.smith_input.specs.Kebab.{Kebab}
+use Rattle.smith_input.specs.Names.{ReadsNew}
 use Rattle.smith_input.specs.Reading.{IsTail}
 use Rattle.smith_input.proofs.NewNames.{new_tail, new_kebab}
 use Rattle.smith_input.proofs.ReadingLemmas.{tail_trans, reads_tail, more_tail, more_within}

@@ -4,7 +4,8 @@ use Rattle.std.specs.List.{AllByRecursion}
 use Rattle.std.specs.Prelude.{if◌then◌else◌}
 use Rattle.std.proofs.lemmas.Bool.Decides.{nat_tests}
 use Rattle.std.proofs.lemmas.List.{map-append}
-use Rattle.smith_input.specs.Names.{Kebab, ReadsNew, is_among}
+use Rattle.smith_input.specs.Kebab.{Kebab}
+use Rattle.smith_input.specs.Names.{ReadsNew, is_among}
 use Rattle.smith_input.specs.Reading.{More}
 use Rattle.smith_input.proofs.NewNames.{new_read}
 use Rattle.smith_input.proofs.ReadingLemmas.{more_full, more_one, more_zero, more_first}

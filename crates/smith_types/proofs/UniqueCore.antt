@@ -6,7 +6,8 @@ use Rattle.smith_core.specs.Entities.{entity}
 use Rattle.smith_core.specs.Piece.{Piece, ◌⊕◌, text, many, u}
 use Rattle.smith_core.specs.declared.types.EntityType.{EntityType}
 use Rattle.smith_core.proofs.Clear.{then_head, then_tail, clash, clear_text, clear_u, clear_many, clear_both}
-use Rattle.smith_core.proofs.CoreUnique.{clear_core_function, clear_entity}
+use Rattle.smith_core.proofs.CoreTypes.{clear_core_function}
+use Rattle.smith_core.proofs.Entities.{clear_entity}
 use Rattle.smith_types.specs.Entries.{CoreEntry, ModuleDecl, core_func, core_module, imports, declares, aliases, exports}
 use Rattle.smith_types.specs.Grammar.{module_decl, core_entry}
 

@@ -2,7 +2,7 @@
 -- that allocates anew, and one that frees. Each of them may be missing.
 use Rattle.std.specs.Prelude.{ℕ, Bool, false, ◌&&◌, List, [], ◌∷◌, length, nat_eq, nat_lt, bytes_eq, codes, if◌then◌else◌}
 use Rattle.std.specs.Cmp.Lexicographic.{pointwise}
-use Rattle.smith_core.specs.CoreScript.{same_val}
+use Rattle.smith_core.specs.Equality.{same_val}
 use Rattle.smith_core.specs.CoreTypes.{Function}
 use Rattle.smith_core.specs.declared.types.EntityType.TheVariants.{Func, Memory}
 use Rattle.smith_core.specs.declared.types.ValType.TheVariants.{I32}

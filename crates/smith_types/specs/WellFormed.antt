@@ -1,7 +1,7 @@
 -- Which types are well formed, in the scopes in which they stand (Explainer.md, type definitions, index spaces).
 use Rattle.std.specs.Prelude.{◌≡◌, ℕ, ◌+◌, ◌≤◌, map, true, List, [], ◌∷◌, length, Option, Some, None, slice_get}
 use Rattle.std.specs.List.{AllByRecursion}
-use Rattle.smith_input.specs.Names.{Kebab}
+use Rattle.smith_input.specs.Kebab.{Kebab}
 use Rattle.smith_types.specs.Distinct.{IsDistinct}
 use Rattle.smith_types.specs.Scope.{Scope, with_type, is_defined}
 use Rattle.smith_types.specs.Entries.{Val, Entry, primitive, indexed, plain, fields, cases, listed, tuple, flags, labels, optional, outcome, function}
