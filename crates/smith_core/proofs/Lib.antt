@@ -1,12 +1,10 @@
 pub mod Clear
 pub mod CoreReading
 pub mod CoreScript
-pub mod CoreSpelling
-pub mod CoreUnique
+pub mod CoreTypes
+pub mod Entities
+pub mod Many
 pub mod Digits
-pub mod Joins
-pub mod Loops
-pub mod Raw
+pub mod Piece
 pub mod Sizes
 pub mod Steps
-pub mod Turns
