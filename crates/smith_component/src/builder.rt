@@ -89,7 +89,8 @@ impl Builder {
     // What the choice names is done.
     fn take_turn(self, u: &mut Unstructured) -> Result<Step, Error>
         ensures turn { IfOk result (λ s. Turn self.config (open_of self) u.old (next_of s) u.new) }
-        ensures follows { (n : Next) (rest : List ℕ) → Scripted self.config (open_of self) u.old n rest → IfOk result (λ s. (next_of s ≡ n) × (u.new ≡ rest)) }
+        ensures follows { (n : Next) (rest : List ℕ) → Scripted self.config (open_of self) u.old n rest
+            → IfOk result (λ s. (next_of s ≡ n) × (u.new ≡ rest)) }
         ensures keeps { IfOk result (StaysSound self.config) }
         ensures sections { IfOk result (KeepsSections self) }
         ensures depth { length (open_of self).outer + 1 ≤ max_depth self.config }
@@ -112,7 +113,8 @@ impl Builder {
     /// One turn: a choice among what may be done, and that. It refuses for want of memory alone.
     pub fn step(self, u: &mut Unstructured) -> Result<Step, Error>
         ensures turn { IfOk result (λ s. Turn self.config (open_of self) u.old (next_of s) u.new) }
-        ensures follows { (n : Next) (rest : List ℕ) → Scripted self.config (open_of self) u.old n rest → IfOk result (λ s. (next_of s ≡ n) × (u.new ≡ rest)) }
+        ensures follows { (n : Next) (rest : List ℕ) → Scripted self.config (open_of self) u.old n rest
+            → IfOk result (λ s. (next_of s ≡ n) × (u.new ≡ rest)) }
         ensures keeps { IfOk result (StaysSound self.config) }
         ensures sections { IfOk result (KeepsSections self) }
         ensures falls { IfOk result (λ s. Falls self.config u.old (open_of self) u.new (next_of s)) }

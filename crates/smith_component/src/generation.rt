@@ -39,8 +39,8 @@ pub fn generate(alloc: Global, config: Config, u: &mut Unstructured) -> Result<G
         → IfOk result (λ g. (g.component ≡ plan) × Spells plan g.bytes.items × (u.new ≡ rest)) }
 
     // It is answered, want of memory aside.
-    ensures answers { (plan : Tree) (rest : List ℕ) → IsConsistent config → Within config plan → u.old ≡ script config plan ++ rest
-        → IfErr result (λ e. e ≡ Error.OutOfMemory) }
+    ensures answers { (plan : Tree) (rest : List ℕ) → IsConsistent config → Within config plan
+        → u.old ≡ script config plan ++ rest → IfErr result (λ e. e ≡ Error.OutOfMemory) }
 
     ensures accepts { OnOk result (IsConsistent config) }
     ensures refuses { IfErr result (IsGenerateRefusal config u.old) }

@@ -27,7 +27,8 @@ impl Component {
         ensures formed { IfOk result (λ c. WellFormed c) }
         ensures sizes { IfOk result (λ c. Sized config c) }
         ensures run { IfOk result (λ c. RunsTo config u.old c u.new) }
-        ensures reach { (plan : Tree) (rest : List ℕ) → Within config plan → u.old ≡ script config plan ++ rest → IfOk result (λ c. (c ≡ plan) × (u.new ≡ rest)) }
+        ensures reach { (plan : Tree) (rest : List ℕ) → Within config plan → u.old ≡ script config plan ++ rest
+            → IfOk result (λ c. (c ≡ plan) × (u.new ≡ rest)) }
         ensures accepts { OnOk result (IsConsistent config) }
         ensures refuses { IfErr result (IsRefusal config) }
         ensures unread { ¬ IsConsistent config → u.new ≡ u.old }
@@ -48,7 +49,8 @@ impl Component {
         ensures formed { IfOk result (λ c. WellFormed c) }
         ensures sizes { IfOk result (λ c. (config : Config) → IsDefault config → Sized config c) }
         ensures run { IfOk result (λ c. (config : Config) → IsDefault config → RunsTo config u.old c u.new) }
-        ensures reach { (config : Config) (plan : Tree) (rest : List ℕ) → IsDefault config → Within config plan → u.old ≡ script config plan ++ rest → IfOk result (λ c. (c ≡ plan) × (u.new ≡ rest)) }
+        ensures reach { (config : Config) (plan : Tree) (rest : List ℕ) → IsDefault config → Within config plan
+            → u.old ≡ script config plan ++ rest → IfOk result (λ c. (c ≡ plan) × (u.new ≡ rest)) }
         ensures memory { IfErr result (λ e. e ≡ Error.OutOfMemory) }
         ensures tail { IsTail u.new u.old }
     {

@@ -12,12 +12,10 @@ mod deep;
 #[cfg(test)]
 mod limits;
 #[cfg(test)]
-mod named;
-#[cfg(test)]
 mod names;
 #[cfg(test)]
-mod nested;
-#[cfg(test)]
 mod reader;
+#[cfg(test)]
+mod types;
 #[cfg(test)]
 mod writers;

@@ -34,7 +34,8 @@ impl OpenComponent {
         requires types { self.old.types + length (types_in (shown_section section)) < 2 ^ 64 }
         requires core_types { self.old.core_types + length (core_types_in (shown_section section)) < 2 ^ 64 }
         ensures items { OnOk result (self.new.sections.items ≡ self.old.sections.items ++ section ∷ []) }
-        ensures ok { OnOk result (shown_sections self.new.sections.items ≡ add (shown_sections self.old.sections.items) (shown_section section)) }
+        ensures ok { OnOk result (shown_sections self.new.sections.items
+            ≡ add (shown_sections self.old.sections.items) (shown_section section)) }
         ensures memory { IfErr result (λ e. e ≡ Error.OutOfMemory) }
     {
         let count = section.type_count();

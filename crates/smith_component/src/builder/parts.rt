@@ -1,6 +1,8 @@
 //! Parts that are added to the inner component.
 
-ghost use Rattle.std.specs.Prelude.{◌≡◌, ℕ, List, ◌-◌, ◌+◌, ◌≤◌, [], map, length, IfOk, IfErr, IsTrue};
+ghost use Rattle.std.specs.Prelude.{
+    ◌≡◌, ℕ, List, ◌-◌, ◌+◌, ◌≤◌, [], map, length, IfOk, IfErr, IsTrue
+};
 ghost use Rattle.smith_input.specs.Reading.{IsTail};
 ghost use Rattle.smith_core.specs.Module.{core_preamble};
 ghost use Rattle.smith_types.specs.Scopes.{inward};
@@ -37,7 +39,9 @@ fn read_types(
     u: &mut Unstructured,
 ) -> Result<Vec<Rc<DefType>>, Error>
     requires { length (own_of (inward scopes.old)).types + max ≤ 4294967295 }
-    ensures entries { IfOk result (λ v. ReadsTypes config.now (outer_of (inward scopes.old)) max (own_of (inward scopes.old)) u.old (map shown_shared v.items) u.new (own_of (inward scopes.new))) }
+    ensures entries { IfOk result (λ v.
+        ReadsTypes config.now (outer_of (inward scopes.old)) max (own_of (inward scopes.old))
+            u.old (map shown_shared v.items) u.new (own_of (inward scopes.new))) }
     ensures outer { IfOk result (λ _. outer_of (inward scopes.new) ≡ outer_of (inward scopes.old)) }
     ensures depth { IfOk result (λ _. length (inward scopes.new) ≡ length (inward scopes.old)) }
     ensures bound { IfOk result (λ v. length v.items ≤ max) }
@@ -77,7 +81,8 @@ impl Builder {
     // A custom section that is read.
     pub(crate) fn add_custom(self, u: &mut Unstructured) -> Result<Step, Error>
         ensures added { IfOk result (λ s. Does self.config Custom (open_of self) u.old (next_of s) u.new) }
-        ensures follows { (n : Next) (rest : List ℕ) → Follows self.config Custom (open_of self) u.old n rest → IfOk result (λ s. (next_of s ≡ n) × (u.new ≡ rest)) }
+        ensures follows { (n : Next) (rest : List ℕ) → Follows self.config Custom (open_of self) u.old n rest
+            → IfOk result (λ s. (next_of s ≡ n) × (u.new ≡ rest)) }
         ensures keeps { IfOk result (StaysSound self.config) }
         ensures sections { IfOk result (KeepsSections self) }
         ensures memory { IfErr result (λ e. e ≡ Error.OutOfMemory) }
@@ -101,7 +106,8 @@ impl Builder {
     // An empty core type section. Its loop ends whatever comes.
     pub(crate) fn add_core_types(self, u: &mut Unstructured) -> Result<Step, Error>
         ensures added { IfOk result (λ s. Does self.config CoreTypes (open_of self) u.old (next_of s) u.new) }
-        ensures follows { (n : Next) (rest : List ℕ) → Follows self.config CoreTypes (open_of self) u.old n rest → IfOk result (λ s. (next_of s ≡ n) × (u.new ≡ rest)) }
+        ensures follows { (n : Next) (rest : List ℕ) → Follows self.config CoreTypes (open_of self) u.old n rest
+            → IfOk result (λ s. (next_of s ≡ n) × (u.new ≡ rest)) }
         ensures keeps { IfOk result (StaysSound self.config) }
         ensures sections { IfOk result (KeepsSections self) }
         ensures memory { IfErr result (λ e. e ≡ Error.OutOfMemory) }
@@ -116,7 +122,8 @@ impl Builder {
     // An empty import section. Its loop ends whatever comes.
     pub(crate) fn add_imports(self, u: &mut Unstructured) -> Result<Step, Error>
         ensures added { IfOk result (λ s. Does self.config Imports (open_of self) u.old (next_of s) u.new) }
-        ensures follows { (n : Next) (rest : List ℕ) → Follows self.config Imports (open_of self) u.old n rest → IfOk result (λ s. (next_of s ≡ n) × (u.new ≡ rest)) }
+        ensures follows { (n : Next) (rest : List ℕ) → Follows self.config Imports (open_of self) u.old n rest
+            → IfOk result (λ s. (next_of s ≡ n) × (u.new ≡ rest)) }
         ensures keeps { IfOk result (StaysSound self.config) }
         ensures sections { IfOk result (KeepsSections self) }
         ensures memory { IfErr result (λ e. e ≡ Error.OutOfMemory) }
@@ -129,7 +136,8 @@ impl Builder {
     // An empty canonical section. Its loop ends whatever comes.
     pub(crate) fn add_canonicals(self, u: &mut Unstructured) -> Result<Step, Error>
         ensures added { IfOk result (λ s. Does self.config Canonical (open_of self) u.old (next_of s) u.new) }
-        ensures follows { (n : Next) (rest : List ℕ) → Follows self.config Canonical (open_of self) u.old n rest → IfOk result (λ s. (next_of s ≡ n) × (u.new ≡ rest)) }
+        ensures follows { (n : Next) (rest : List ℕ) → Follows self.config Canonical (open_of self) u.old n rest
+            → IfOk result (λ s. (next_of s ≡ n) × (u.new ≡ rest)) }
         ensures keeps { IfOk result (StaysSound self.config) }
         ensures sections { IfOk result (KeepsSections self) }
         ensures memory { IfErr result (λ e. e ≡ Error.OutOfMemory) }
@@ -142,7 +150,8 @@ impl Builder {
     // A type section, with as many types as the component may still have.
     pub(crate) fn add_types(self, u: &mut Unstructured) -> Result<Step, Error>
         ensures added { IfOk result (λ s. Does self.config Types (open_of self) u.old (next_of s) u.new) }
-        ensures follows { (n : Next) (rest : List ℕ) → Follows self.config Types (open_of self) u.old n rest → IfOk result (λ s. (next_of s ≡ n) × (u.new ≡ rest)) }
+        ensures follows { (n : Next) (rest : List ℕ) → Follows self.config Types (open_of self) u.old n rest
+            → IfOk result (λ s. (next_of s ≡ n) × (u.new ≡ rest)) }
         ensures keeps { IfOk result (StaysSound self.config) }
         ensures sections { IfOk result (KeepsSections self) }
         ensures memory { IfErr result (λ e. e ≡ Error.OutOfMemory) }
