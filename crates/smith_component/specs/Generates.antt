@@ -1,6 +1,6 @@
 -- What is generated.
 use Rattle.std.specs.Prelude.{◌≡◌, ◌↔◌, ℕ, ◌+◌, ◌≤◌, List, None, length}
-use Rattle.smith_core.specs.Consistent.{IsConsistent}
+use Rattle.smith_core.specs.Limits.{IsConsistent}
 use Rattle.smith_core.specs.declared.config.Config.{Config}
 use Rattle.smith_input.specs.declared.error.Error.{Error}
 use Rattle.smith_input.specs.declared.error.Error.TheVariants.{InconsistentLimits, MinimumNotMet, ModuleRefused, TooLong, OutOfMemory, PartsDisagree}

@@ -1,5 +1,5 @@
 -- Which refusal comes.
-use Rattle.smith_core.specs.Consistent.{IsConsistent}
+use Rattle.smith_core.specs.Limits.{IsConsistent}
 use Rattle.smith_core.specs.declared.config.Config.{Config}
 use Rattle.smith_input.specs.declared.error.Error.{Error}
 use Rattle.smith_input.specs.declared.error.Error.TheVariants.{InconsistentLimits, MinimumNotMet, ModuleRefused, TooLong, OutOfMemory, PartsDisagree}

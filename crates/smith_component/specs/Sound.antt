@@ -1,6 +1,6 @@
 -- What is true of a builder at every moment.
 use Rattle.std.specs.Prelude.{◌≡◌, ℕ, List, ◌∷◌, length}
-use Rattle.smith_core.specs.Consistent.{IsConsistent}
+use Rattle.smith_core.specs.Limits.{IsConsistent}
 use Rattle.smith_core.specs.declared.config.Config.{Config}
 use Rattle.smith_types.specs.Scope.{Scope}
 use Rattle.smith_component.specs.Scopes.{scopes_in}

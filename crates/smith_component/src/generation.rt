@@ -2,7 +2,7 @@
 
 ghost use Rattle.std.specs.Prelude.{◌≡◌, ℕ, List, ◌++◌, IfOk, IfErr};
 ghost use Rattle.smith_input.specs.Reading.{IsTail};
-ghost use Rattle.smith_core.specs.Consistent.{IsConsistent};
+ghost use Rattle.smith_core.specs.Limits.{IsConsistent};
 ghost use Rattle.smith_component.specs.Generates.{Generates, RunsTo, IsGenerateRefusal};
 ghost use Rattle.smith_component.specs.Grammar.{Spells};
 ghost use Rattle.smith_component.specs.Script.{Within, script};

@@ -2,8 +2,8 @@
 
 ghost use Rattle.std.specs.Prelude.{◌≡◌, ℕ, List, ◌+◌, ◌≤◌, ◌++◌, length, IfOk, IfErr, OnOk};
 ghost use Rattle.smith_input.specs.Reading.{IsTail};
-ghost use Rattle.smith_core.specs.Consistent.{IsConsistent};
-ghost use Rattle.smith_core.specs.Defaults.{IsDefault};
+ghost use Rattle.smith_core.specs.Limits.{IsConsistent};
+ghost use Rattle.smith_core.specs.Limits.{IsDefault};
 ghost use Rattle.smith_component.specs.Generates.{RunsTo};
 ghost use Rattle.smith_component.specs.Limits.{Limits};
 ghost use Rattle.smith_component.specs.Refusals.{IsRefusal};

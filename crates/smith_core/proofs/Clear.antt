@@ -6,10 +6,9 @@ use borrow.Author.Tests.{ltb-true}
 use Rattle.smith_core.specs.Numbers.{digits, unsigned, signed, as_it_is, turned}
 use Rattle.smith_core.specs.Piece.{Piece, ◌⊕◌, u, number, s, s_index, raw, text, utf8, each, many, framed, sized, byte, bytes}
 use Rattle.smith_core.specs.Clear.{Rests, Agree, IsClear, IsExact}
-use Rattle.smith_core.proofs.Raw.{utf8_then, raw_whole}
-use Rattle.smith_core.proofs.Joins.{assoc, left_nil, left_none, right_nil, parts_are}
+use Rattle.smith_core.proofs.Piece.{utf8_then, raw_whole, assoc, left_nil, left_none, right_nil, parts_are, u_cases, s_index_fits, s_index_none}
 use Rattle.smith_core.proofs.Steps.{framed_bytes, framed_nothing}
-use Rattle.smith_core.proofs.Digits.{digits_more, digits_last, digits_next, u_cases, digits_enough, s_index_fits, s_index_none}
+use Rattle.smith_core.proofs.Digits.{digits_more, digits_last, digits_next, digits_enough}
 
 -- the bytes behind a known front
 pub tail : (a : List ℕ) (p q : Piece) (b : List ℕ) → Some a ⊕ p ≡ Some b → Some a ⊕ q ≡ Some b → Rests p q

@@ -115,28 +115,3 @@ signed_short (negsuc n) h = let f : n < 64 * 128 ^ 9 = omega (arith, h) in digit
 pub signed_index_short : (n : ℕ) → n < 2 ^ 32 → length (signed (pos n)) ≤ 5
 unfolding signed
 signed_index_short n h = digits_short as_it_is 64 4 n n (omega arith)
-
--- numbers with a bound
-pub u_fits : (n : ℕ) → n < 2 ^ 32 → u n ≡ Some (unsigned n)
-unfolding u
-u_fits n h = sym (cond_below n _ (Some (unsigned n)) None h)
-
-pub u_none : (n : ℕ) → 2 ^ 32 ≤ n → u n ≡ None
-unfolding u
-u_none n h = sym (cond_above n _ (Some (unsigned n)) None None h refl)
-
-pub s_index_fits : (n : ℕ) → n < 2 ^ 32 → s_index n ≡ Some (signed (pos n))
-unfolding s_index
-s_index_fits n h = sym (cond_below n _ (Some (signed (pos n))) None h)
-
-pub s_index_none : (n : ℕ) → 2 ^ 32 ≤ n → s_index n ≡ None
-unfolding s_index
-s_index_none n h = sym (cond_above n _ (Some (signed (pos n))) None None h refl)
-
--- both cases, for `grind`
-pub u_cases : (n : ℕ) → ((u n ≡ Some (unsigned n)) × (n < 2 ^ 32)) ⊎ ((u n ≡ None) × (2 ^ 32 ≤ n))
-u_cases n = by_test (nat_lt n (2 ^ 32)) refl
-  where
-    by_test : (x : Bool) → nat_lt n (2 ^ 32) ≡ x → ((u n ≡ Some (unsigned n)) × (n < 2 ^ 32)) ⊎ ((u n ≡ None) × (2 ^ 32 ≤ n))
-    by_test true e = let h = ltb-true n (2 ^ 32) e in inl (u_fits n h, h)
-    by_test false e = let h = ltb-false n (2 ^ 32) e in inr (u_none n h, h)

@@ -3,14 +3,12 @@ use Rattle.std.proofs.Common.{◌≡◌, ℕ, suc, ◌+◌, ◌^◌, ◌<◌, �
 use Rattle.smith_input.specs.declared.error.Error.{Error}
 use Rattle.smith_input.specs.declared.error.Error.TheVariants.{TooLong}
 use Rattle.smith_core.specs.Numbers.{unsigned}
-use Rattle.smith_core.specs.Piece.{Piece, ◌⊕◌, size, byte, bytes, u, s_index, text, each, many, framed, sized}
+use Rattle.smith_core.specs.Piece.{Piece, ◌⊕◌, piece_length, byte, bytes, u, s_index, text, each, many, framed, sized}
 use Rattle.smith_core.specs.Writing.{Takes, TakesTooMuch, IsLengthOf, Measures}
-use Rattle.smith_core.proofs.Joins.{assoc, joined, right_none, left_none, size_join, none_join}
-use Rattle.smith_core.proofs.Digits.{u_fits, u_none, u_cases, s_index_fits, s_index_none}
+use Rattle.smith_core.proofs.Piece.{assoc, joined, right_none, left_none, length_join, none_join, u_fits, u_none, u_cases, s_index_fits, s_index_none, text_is}
 use Rattle.std.proofs.lemmas.Bool.{ltb-false}
 use borrow.Author.Tests.{ltb-true}
-use Rattle.smith_core.proofs.Loops.{each_more, each_at}
-use Rattle.smith_core.proofs.Raw.{text_is}
+use Rattle.smith_core.proofs.Lists.{each_more, each_at}
 use Rattle.smith_core.proofs.Steps.{framed_bytes, framed_nothing}
 
 pub takes_bytes : (n : ℕ) (b : List ℕ) → n ≡ length b → Takes n (Some b)
@@ -20,11 +18,11 @@ pub takes_then : {m n : ℕ} {p q : Piece} → Takes m p → Takes n q → Takes
 takes_then {m} {n} {p} {q} t s =
     record {
       spelled = λ h. elim (none_join p q h) [ inl e ↦ t.spelled e | inr e ↦ s.spelled e ];
-      long = elim (size_join p q) [ inl e ↦ absurd (elim (none_join p q e) [ inl f ↦ t.spelled f | inr f ↦ s.spelled f ]) | inr e ↦ omega (arith, t.long, s.long) ];
+      long = elim (length_join p q) [ inl e ↦ absurd (elim (none_join p q e) [ inl f ↦ t.spelled f | inr f ↦ s.spelled f ]) | inr e ↦ omega (arith, t.long, s.long) ];
     }
 
 pub takes_u : (n : ℕ) → n < 2 ^ 32 → Takes (length (unsigned n)) (u n)
-takes_u n h = let e = u_fits n h in record { spelled = λ f. cc; long = sym (ap size e) }
+takes_u n h = let e = u_fits n h in record { spelled = λ f. cc; long = sym (ap piece_length e) }
 
 -- what is too long
 pub too_much_none : {p : Piece} → p ≡ None → TakesTooMuch p
@@ -33,8 +31,8 @@ too_much_none e = record { is = inl e }
 pub too_much_long : {n : ℕ} {p : Piece} → Takes n p → 2 ^ 32 ≤ n → TakesTooMuch p
 too_much_long t h = record { is = inr (omega (arith, t.long)) }
 
-too_much_join : (p q : Piece) → 2 ^ 32 ≤ size p + size q → (p ⊕ q ≡ None) ⊎ (2 ^ 32 ≤ size (p ⊕ q))
-too_much_join p q h = elim (size_join p q) [ inl e ↦ inl e | inr e ↦ inr (omega arith) ]
+too_much_join : (p q : Piece) → 2 ^ 32 ≤ piece_length p + piece_length q → (p ⊕ q ≡ None) ⊎ (2 ^ 32 ≤ piece_length (p ⊕ q))
+too_much_join p q h = elim (length_join p q) [ inl e ↦ inl e | inr e ↦ inr (omega arith) ]
 
 pub too_much_left : {p : Piece} (q : Piece) → TakesTooMuch p → TakesTooMuch (p ⊕ q)
 too_much_left {p} q t = record { is = elim t.is [ inl e ↦ inl (ap (λ x. x ⊕ q) e ∙ left_none q) | inr h ↦ too_much_join p q (omega arith) ] }
@@ -56,7 +54,7 @@ length_behind (Some k) {m} {n} {p} {q} s t w = (subst (λ (l : ℕ). Takes l (p 
 length_behind None {m} {n} s t w = too_much_long (takes_then t w) (omega (arith, s))
 
 -- Something behind its length has a spelling where what it holds has one of at most 4,294,967,295 bytes.
-pub framed_cases : (p : Piece) → ((framed p ≡ None) × TakesTooMuch p) ⊎ (Takes (size p) p × (size p < 2 ^ 32) × Takes (length (unsigned (size p)) + size p) (framed p))
+pub framed_cases : (p : Piece) → ((framed p ≡ None) × TakesTooMuch p) ⊎ (Takes (piece_length p) p × (piece_length p < 2 ^ 32) × Takes (length (unsigned (piece_length p)) + piece_length p) (framed p))
 framed_cases None = inl (framed_nothing, too_much_none (λ i. None))
 framed_cases (Some b) = by_count (u_cases (length b))
   where
@@ -73,11 +71,11 @@ framed_none p t = elim (framed_cases p) [ inl h ↦ h.0 | inr h ↦ absurd (elim
 pub takes_framed : {n : ℕ} {p : Piece} → Takes n p → n < 2 ^ 32 → Takes (length (unsigned n) + n) (framed p)
 takes_framed {n} {p} t l = by_count (framed_cases p)
   where
-    too_short : (p ≡ None) ⊎ (2 ^ 32 ≤ size p) → ⊥
+    too_short : (p ≡ None) ⊎ (2 ^ 32 ≤ piece_length p) → ⊥
     too_short (inl e) = t.spelled e
     too_short (inr m) = omega (arith, t.long)
 
-    by_count : ((framed p ≡ None) × TakesTooMuch p) ⊎ (Takes (size p) p × (size p < 2 ^ 32) × Takes (length (unsigned (size p)) + size p) (framed p)) → Takes (length (unsigned n) + n) (framed p)
+    by_count : ((framed p ≡ None) × TakesTooMuch p) ⊎ (Takes (piece_length p) p × (piece_length p < 2 ^ 32) × Takes (length (unsigned (piece_length p)) + piece_length p) (framed p)) → Takes (length (unsigned n) + n) (framed p)
     by_count (inl h) = absurd (too_short h.1.is)
     by_count (inr h) = subst (λ (k : ℕ). Takes (length (unsigned k) + k) (framed p)) (sym t.long) h.2
 
@@ -163,4 +161,4 @@ s_index_none_where n = (λ e. by_test (nat_lt n (2 ^ 32)) refl e, s_index_none n
     by_test true f e = let g = s_index_fits n (ltb-true n (2 ^ 32) f) in cc
     by_test false f e = ltb-false n (2 ^ 32) f
 
-pub ruleset measuring = (left_none, right_none, size_join, none_join, u_cases, text_is, framed_cases)
+pub ruleset measuring = (left_none, right_none, length_join, none_join, u_cases, text_is, framed_cases)

@@ -1,5 +1,5 @@
 -- How writers follow one another.
-use Rattle.std.proofs.Common.{◌≡◌, ℕ, ◌+◌, ◌<◌, ◌≤◌, ◌⊎◌, inl, inr, List, [], ◌++◌, refl, ap, append-nil, length-append, arith, Some, None, sym, ◌∙◌, subst, Result, Ok, Err, IsErrAnd, is_err, Bool, true, false, nat_le, take, drop, length, take_all}
+use Rattle.std.proofs.Common.{◌≡◌, ℕ, ◌+◌, ◌<◌, ◌≤◌, ◌⊎◌, inl, inr, List, [], ◌++◌, refl, ap, append-nil, length-append, arith, Some, None, sym, ◌∙◌, subst, Result, Ok, Err, IsErrAnd, is_err, Bool, true, false, nat_le, take, drop, length, take_all, ◌∷◌, append_assoc}
 use Rattle.std.proofs.lemmas.Bool.{leb-true, leb-false}
 use Rattle.std.proofs.lemmas.List.{take-append-drop, take-append-le, length-take, length-take-le}
 use Rattle.std.proofs.Math.Seq.{take-append_seam}
@@ -8,10 +8,9 @@ use Rattle.std.specs.declared.vec.Vec.{Vec}
 use Rattle.std.specs.declared.alloc.Global.{Global}
 use Rattle.smith_input.specs.declared.error.Error.{Error}
 use Rattle.smith_input.specs.declared.error.Error.TheVariants.{TooLong, OutOfMemory}
-use Rattle.smith_core.specs.Piece.{Piece, ◌⊕◌, size, byte, u, framed, sized}
+use Rattle.smith_core.specs.Piece.{Piece, ◌⊕◌, piece_length, byte, u, framed, sized}
 use Rattle.smith_core.specs.Writing.{Gains, Begins, Keeps, IsDue, Puts, Appends, Takes}
-use Rattle.smith_core.proofs.Raw.{text_is}
-use Rattle.smith_core.proofs.Joins.{assoc, right_none, left_none, joined, size_join}
+use Rattle.smith_core.proofs.Piece.{text_is, assoc, right_none, left_none, joined, length_join}
 
 pub take_take : (i j : ℕ) (xs : List ℕ) → i ≤ j → take i (take j xs) ≡ take i xs
 take_take i j xs h = take_cases (nat_le j (length xs)) refl
@@ -69,7 +68,7 @@ pub gains_then : {a b c : Vec ℕ Global} {p q : Piece} → Gains a b p → Gain
 gains_then {a} {b} {c} {p} {q} g h =
     let x = gains_some g in
     let y = gains_some h in
-    let l : size (p ⊕ q) ≡ size p + size q = ap (λ z. size (z ⊕ q)) x.1 ∙ ap (λ z. size (Some x.0 ⊕ z)) y.1 ∙ ap size (joined x.0 y.0) ∙ length-append x.0 y.0 ∙ ap (λ z. size z + length y.0) (sym x.1) ∙ ap (λ z. size p + size z) (sym y.1) in
+    let l : piece_length (p ⊕ q) ≡ piece_length p + piece_length q = ap (λ z. piece_length (z ⊕ q)) x.1 ∙ ap (λ z. piece_length (Some x.0 ⊕ z)) y.1 ∙ ap piece_length (joined x.0 y.0) ∙ length-append x.0 y.0 ∙ ap (λ z. piece_length z + length y.0) (sym x.1) ∙ ap (λ z. piece_length p + piece_length z) (sym y.1) in
     record {
       is = h.is ∙ ap (λ z. z ⊕ q) g.is ∙ assoc (Some a.items) p q;
       begins = begins_then g.begins h.begins;
@@ -83,23 +82,23 @@ pub gains_keeps : {a b c : Vec ℕ Global} {p : Piece} → Gains a b p → Keeps
 gains_keeps g k = gains_begins g (keeps_begins k)
 
 -- errors
-pub due_memory : {old : Vec ℕ Global} (p : Piece) → vec_capacity old < vec_len old + size p → IsDue OutOfMemory old p
+pub due_memory : {old : Vec ℕ Global} (p : Piece) → vec_capacity old < vec_len old + piece_length p → IsDue OutOfMemory old p
 due_memory p h = record { only = inr refl; too_long = λ e. cc; full = λ _. inr h }
 
 pub due_none : {old : Vec ℕ Global} {p : Piece} → p ≡ None → IsDue TooLong old p
 due_none e = record { only = inl refl; too_long = λ _. e; full = λ h. cc }
 
-full_left : (a : Vec ℕ Global) (p q : Piece) → (p ≡ None) ⊎ (vec_capacity a < vec_len a + size p) → (p ⊕ q ≡ None) ⊎ (vec_capacity a < vec_len a + size (p ⊕ q))
+full_left : (a : Vec ℕ Global) (p q : Piece) → (p ≡ None) ⊎ (vec_capacity a < vec_len a + piece_length p) → (p ⊕ q ≡ None) ⊎ (vec_capacity a < vec_len a + piece_length (p ⊕ q))
 full_left a p q (inl n) = inl (ap (λ x. x ⊕ q) n ∙ left_none q)
-full_left a p q (inr h) = elim (size_join p q) [ inl n ↦ inl n | inr l ↦ inr (omega arith) ]
+full_left a p q (inr h) = elim (length_join p q) [ inl n ↦ inl n | inr l ↦ inr (omega arith) ]
 
 pub due_left : {e : Error} {a : Vec ℕ Global} {p : Piece} (q : Piece) → IsDue e a p → IsDue e a (p ⊕ q)
 due_left {e} {a} {p} q d =
     record { only = d.only; too_long = λ h. ap (λ x. x ⊕ q) (d.too_long h) ∙ left_none q; full = λ h. full_left a p q (d.full h) }
 
-full_right : (a b : Vec ℕ Global) (p q : Piece) → Gains a b p → (q ≡ None) ⊎ (vec_capacity b < vec_len b + size q) → (p ⊕ q ≡ None) ⊎ (vec_capacity a < vec_len a + size (p ⊕ q))
+full_right : (a b : Vec ℕ Global) (p q : Piece) → Gains a b p → (q ≡ None) ⊎ (vec_capacity b < vec_len b + piece_length q) → (p ⊕ q ≡ None) ⊎ (vec_capacity a < vec_len a + piece_length (p ⊕ q))
 full_right a b p q g (inl n) = inl (ap (λ x. p ⊕ x) n ∙ right_none p)
-full_right a b p q g (inr h) = elim (size_join p q) [ inl n ↦ inl n | inr l ↦ inr (omega (arith, g.length, g.begins.capacity)) ]
+full_right a b p q g (inr h) = elim (length_join p q) [ inl n ↦ inl n | inr l ↦ inr (omega (arith, g.length, g.begins.capacity)) ]
 
 pub due_right : {e : Error} {a b : Vec ℕ Global} {p q : Piece} → Gains a b p → IsDue e b q → IsDue e a (p ⊕ q)
 due_right {e} {a} {b} {p} {q} g d =
@@ -170,4 +169,39 @@ settles_err (Err x) old mid new start p e f c l h = (
   h.1,
 )
 
-pub ruleset writing = (take_take, gains_bytes, gains_nothing, gains_then, keeps_begins, left_none, right_none, size_join, framed_bytes, text_is, ends, ends_appending, ends_third, ends_third_appending)
+-- loops over the digits of a number
+
+-- What was put, and then `left`, is what stood there and then `all`.
+pub record Towards (old : Vec ℕ Global) (all : List ℕ) (new : Vec ℕ Global) (left : List ℕ) : Type 0 where
+  pub begun : Begins old new
+  pub is : new.items ++ left ≡ old.items ++ all
+
+pub towards_start : (old : Vec ℕ Global) (all : List ℕ) → Towards old all old all
+towards_start old all = record { begun = begins_same; is = refl }
+
+pub towards_next : (old : Vec ℕ Global) (all : List ℕ) (mid new : Vec ℕ Global) (x : ℕ) (left rest : List ℕ) → Towards old all mid left → left ≡ x ∷ rest → Gains mid new (byte x) → Towards old all new rest
+towards_next old all mid new x left rest t e g =
+    let f = gained (x ∷ []) g in
+    record {
+      begun = begins_then t.begun (begins_bytes (x ∷ []) f g.begins.capacity);
+      is = ap (λ l. l ++ rest) f ∙ append_assoc mid.items (x ∷ []) rest ∙ ap (λ l. mid.items ++ l) (sym e) ∙ t.is;
+    }
+
+pub towards_exit : {A : Type 0} (r : Result A Error) (e : Error) (old : Vec ℕ Global) (all : List ℕ) (mid new : Vec ℕ Global) (x : ℕ) (left : List ℕ) → IsErrAnd r (λ y. y ≡ e) → Towards old all mid left → 0 < length left → Keeps mid new × IsDue e mid (byte x) → Puts r old new (Some all)
+towards_exit r e old all mid new x left is t h d =
+    exits r e is (begins_then t.begun (keeps_begins d.0)) (record {
+      only = d.1.only;
+      too_long = λ z. let w = d.1.too_long z in cc;
+      full = λ z. inr (full_byte (d.1.full z) (ap length t.is));
+    }) where
+      full_byte : (byte x ≡ None) ⊎ (vec_capacity mid < vec_len mid + 1) → length (mid.items ++ left) ≡ length (old.items ++ all) → vec_capacity old < vec_len old + length all
+      full_byte (inl n) l = cc
+      full_byte (inr m) l = omega (arith, t.begun.capacity, length-append mid.items left, length-append old.items all, old.ok.0, mid.ok.0)
+
+pub towards_end : {A : Type 0} (r : Result A Error) (old : Vec ℕ Global) (all : List ℕ) (mid new : Vec ℕ Global) (x : ℕ) (left : List ℕ) → Towards old all mid left → left ≡ x ∷ [] → Appends r mid new (byte x) → Puts r old new (Some all)
+towards_end (Ok v) old all mid new x left t e g =
+    gains_bytes all (gained (x ∷ []) g ∙ ap (λ l. mid.items ++ l) (sym e) ∙ t.is) (omega (arith, t.begun.capacity, g.begins.capacity))
+towards_end {A} (Err y) old all mid new x left t e d =
+    towards_exit {A = A} (Err y) y old all mid new x left refl t (let l = ap length e in omega arith) d
+
+pub ruleset writing = (take_take, gains_bytes, gains_nothing, gains_then, keeps_begins, left_none, right_none, length_join, framed_bytes, text_is, ends, ends_appending, ends_third, ends_third_appending)

@@ -1,6 +1,6 @@
 -- Which core types are made.
-use Rattle.std.specs.Prelude.{◌≡◌, ℕ, ◌≤◌, ◌⊎◌, Bool, true, false, List, length, Option, Some, IfSome, slice_get}
-use Rattle.std.specs.List.{AllByRecursion}
+use Rattle.std.specs.Prelude.{◌≡◌, ℕ, ◌≤◌, ◌⊎◌, Bool, true, false, List, length, Option, IfSome}
+use Rattle.std.specs.List.{AllByRecursion, Contains}
 use Rattle.smith_core.specs.CoreTypes.{Function}
 use Rattle.smith_core.specs.declared.types.MemoryType.{MemoryType}
 use Rattle.smith_core.specs.declared.types.RefType.TheVariants.{FuncRef, ExternRef}
@@ -24,13 +24,9 @@ pub record FormedTable (references : Bool) (t : TableType) : Type 0 where
   pub limits : FormedLimits t.minimum t.maximum
   pub table64 : t.table64 ≡ false
 
--- it is one of them
-abbrev pub IsAmong : List ValType → ValType → Type 0
-IsAmong valtypes x = (place : ℕ) × (slice_get valtypes place ≡ Some x)
-
 -- at most 20 parameters and so many results, each of one of the value types
 pub record FormedFunction (valtypes : List ValType) (max_results : ℕ) (f : Function) : Type 0 where
   pub few_params : length f.0 ≤ 20
   pub few_results : length f.1 ≤ max_results
-  pub params : AllByRecursion (IsAmong valtypes) f.0
-  pub results : AllByRecursion (IsAmong valtypes) f.1
+  pub params : AllByRecursion (Contains valtypes) f.0
+  pub results : AllByRecursion (Contains valtypes) f.1

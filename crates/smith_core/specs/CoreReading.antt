@@ -1,6 +1,8 @@
 -- How core types are read: the bytes give the type, and leave the rest.
-use Rattle.std.specs.Prelude.{◌≡◌, ℕ, ◌+◌, ◌-◌, Bool, true, false, List, [], ◌∷◌, length, Option, Some, None, slice_get}
-use Rattle.smith_input.specs.Reading.{Reads, Flips, More}
+use Rattle.std.specs.Prelude.{◌≡◌, ℕ, ◌+◌, ◌-◌, Bool, true, false, List, [], ◌∷◌, Option, Some, None}
+use Rattle.smith_input.specs.Choices.{ReadsAmong}
+use Rattle.smith_input.specs.Loops.{Loop, Never}
+use Rattle.smith_input.specs.Reading.{Reads, Flips}
 use Rattle.smith_core.specs.CoreTypes.{Function}
 use Rattle.smith_core.specs.declared.types.MemoryType.{MemoryType}
 use Rattle.smith_core.specs.declared.types.RefType.{RefType}
@@ -35,7 +37,7 @@ pub record ReadsMemory (bytes : List ℕ) (m : MemoryType) (rest : List ℕ) : T
 -- What a table holds: a choice of two where there are reference types as value types, else functions, with no byte read.
 pub data ReadsElement : Bool → List ℕ → RefType → List ℕ → Type 0 where
   only_functions : {bytes : List ℕ} → ReadsElement false bytes FuncRef bytes
-  either : {bytes : List ℕ} {place : ℕ} {t : RefType} {rest : List ℕ} → Reads 2 bytes place rest → slice_get (FuncRef ∷ ExternRef ∷ []) place ≡ Some t → ReadsElement true bytes t rest
+  either : {bytes : List ℕ} {t : RefType} {rest : List ℕ} → ReadsAmong (FuncRef ∷ ExternRef ∷ []) bytes t rest → ReadsElement true bytes t rest
 
 -- a table type (Types, Table Types), where there are reference types as value types or not
 pub record ReadsTable (references : Bool) (bytes : List ℕ) (t : TableType) (rest : List ℕ) : Type 0 where
@@ -45,19 +47,19 @@ pub record ReadsTable (references : Bool) (bytes : List ℕ) (t : TableType) (re
   pub table64 : t.table64 ≡ false
 
 -- a tag type (Types, Tag Types): one of the indexes
-pub record ReadsTag (candidates : List ℕ) (bytes : List ℕ) (t : TagType) (rest : List ℕ) : Type 0 where
-  pub place : ℕ
-  pub reads : Reads (length candidates) bytes place rest
-  pub named : slice_get candidates place ≡ Some t.func_type_idx
+abbrev pub ReadsTag : List ℕ → List ℕ → TagType → List ℕ → Type 0
+ReadsTag candidates bytes t rest = ReadsAmong candidates bytes t.func_type_idx rest
 
--- Value types behind so many others, each a choice, and at most max with those.
-pub data ReadsValues (valtypes : List ValType) (max : ℕ) : ℕ → List ℕ → List ValType → List ℕ → Type 0 where
-  no_more : {done : ℕ} {bytes rest : List ℕ} → More done 0 max bytes false rest → ReadsValues valtypes max done bytes [] rest
-  another : {done : ℕ} {bytes mid : List ℕ} {place : ℕ} {after : List ℕ} {x : ValType} {xs : List ValType} {rest : List ℕ} → More done 0 max bytes true mid → Reads (length valtypes) mid place after → slice_get valtypes place ≡ Some x
-      → ReadsValues valtypes max (done + 1) after xs rest → ReadsValues valtypes max done bytes (x ∷ xs) rest
+-- a value type of a loop: one of these
+abbrev pub ReadsValue : List ValType → Unit {0} → List ℕ → ValType → List ℕ → Unit {0} → Type 0
+ReadsValue valtypes s bytes x rest t = ReadsAmong valtypes bytes x rest
+
+-- at most max value types, each one of these
+abbrev pub ReadsValues : List ValType → ℕ → List ℕ → List ValType → List ℕ → Type 0
+ReadsValues valtypes max bytes xs rest = Loop Never (ReadsValue valtypes) 0 max 0 tt bytes xs rest tt
 
 -- a function type (Types, Composite Types): at most 20 parameters, and then the results
 pub record ReadsFunction (valtypes : List ValType) (max_results : ℕ) (bytes : List ℕ) (f : Function) (rest : List ℕ) : Type 0 where
   pub mid : List ℕ
-  pub params : ReadsValues valtypes 20 0 bytes f.0 mid
-  pub results : ReadsValues valtypes max_results 0 mid f.1 rest
+  pub params : ReadsValues valtypes 20 bytes f.0 mid
+  pub results : ReadsValues valtypes max_results mid f.1 rest

@@ -16,9 +16,9 @@ None ⊕ q = None
 (Some a) ⊕ (Some b) = Some (a ++ b)
 
 -- how many bytes the spelling has, and 0 where there is none
-abbrev pub size : Piece → ℕ
-size None = 0
-size (Some b) = length b
+abbrev pub piece_length : Piece → ℕ
+piece_length None = 0
+piece_length (Some b) = length b
 
 abbrev pub byte : ℕ → Piece
 byte n = Some (n ∷ [])

@@ -5,7 +5,7 @@ use Rattle.std.specs.declared.vec.Vec.{Vec}
 use Rattle.std.specs.declared.alloc.Global.{Global}
 use Rattle.smith_input.specs.declared.error.Error.{Error}
 use Rattle.smith_input.specs.declared.error.Error.TheVariants.{TooLong, OutOfMemory}
-use Rattle.smith_core.specs.Piece.{Piece, ◌⊕◌, size}
+use Rattle.smith_core.specs.Piece.{Piece, ◌⊕◌, piece_length}
 
 -- new begins with what old held, and the writer gave up no room
 pub record Begins (old new : Vec ℕ Global) : Type 0 where
@@ -21,14 +21,14 @@ pub record Keeps (old new : Vec ℕ Global) : Type 0 where
 pub record Gains (old new : Vec ℕ Global) (p : Piece) : Type 0 where
   pub is : Some new.items ≡ Some old.items ⊕ p
   pub begins : Begins old new
-  pub length : vec_len new ≡ vec_len old + size p
+  pub length : vec_len new ≡ vec_len old + piece_length p
 
 -- A writer of the piece may answer this error: what is too long has no spelling, and memory can be lacking only where old
 -- had no room for the spelling.
 pub record IsDue (e : Error) (old : Vec ℕ Global) (p : Piece) : Type 0 where
   pub only : (e ≡ TooLong) ⊎ (e ≡ OutOfMemory)
   pub too_long : e ≡ TooLong → p ≡ None
-  pub full : e ≡ OutOfMemory → (p ≡ None) ⊎ (vec_capacity old < vec_len old + size p)
+  pub full : e ≡ OutOfMemory → (p ≡ None) ⊎ (vec_capacity old < vec_len old + piece_length p)
 
 -- A writer put the piece behind what was there. After an error a part of it may stand there.
 abbrev pub Puts : {A : Type 0} → Result A Error → Vec ℕ Global → Vec ℕ Global → Piece → Type 0
@@ -43,11 +43,11 @@ Appends (Err e) old new p = Keeps old new × IsDue e old p
 -- the piece has a spelling, of n bytes
 pub record Takes (n : ℕ) (p : Piece) : Type 0 where
   pub spelled : ¬ (p ≡ None)
-  pub long : n ≡ size p
+  pub long : n ≡ piece_length p
 
 -- the piece has no spelling of at most 4,294,967,295 bytes
 pub record TakesTooMuch (p : Piece) : Type 0 where
-  pub is : (p ≡ None) ⊎ (2 ^ 32 ≤ size p)
+  pub is : (p ≡ None) ⊎ (2 ^ 32 ≤ piece_length p)
 
 -- The length of the piece's spelling, or None exactly where it has none of at most 4,294,967,295 bytes.
 abbrev pub IsLengthOf : Option ℕ → Piece → Type 0

@@ -54,7 +54,7 @@ pub struct Config {
 }
 
 impl Default for Config {
-    ghost use Rattle.smith_core.specs.Defaults.{IsDefault};
+    ghost use Rattle.smith_core.specs.Limits.{IsDefault};
 
     ghost is_default = { IsDefault };
 
@@ -89,7 +89,7 @@ impl Default for Config {
 }
 
 impl Config {
-    ghost use Rattle.smith_core.specs.Consistent.{IsConsistent};
+    ghost use Rattle.smith_core.specs.Limits.{IsConsistent};
 
     /// Accepts limits that fit together: no minimum passes its maximum, counts that are written are at most
     /// 4,294,967,295, and the nesting depth is at most 1000. Others are refused with `InconsistentLimits`.

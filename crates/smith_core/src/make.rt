@@ -89,7 +89,7 @@ fn values(
     max: usize,
 ) -> Result<Vec<ValType>, Error>
     requires { 0 < length valtypes.now }
-    ensures reads { IfOk result (λ v. ReadsValues valtypes.now max 0 u.old v.items u.new) }
+    ensures reads { IfOk result (λ v. ReadsValues valtypes.now max u.old v.items u.new) }
     ensures memory { IfErr result (λ e. e ≡ Error.OutOfMemory) }
     ensures tail { IsTail u.new u.old }
 {

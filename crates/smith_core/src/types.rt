@@ -1,7 +1,7 @@
 //! Core value types (core specification, Types).
 
 ghost use Rattle.std.specs.Prelude.{◌≡◌, IfOk, IfErr};
-ghost use Rattle.smith_core.specs.Configured.{configured};
+ghost use Rattle.smith_core.specs.Limits.{configured};
 
 use crate::config::Config;
 use smith_input::Error;

@@ -1,8 +1,9 @@
 -- Choices among the items of a list: what they leave, that they are determined, and what a script says.
 use Rattle.std.proofs.Common.{◌≡◌, ℕ, zero, suc, ◌≤◌, ◌^◌, Bool, true, false, List, [], ◌∷◌, ◌++◌, length, refl, sym, ap, ◌∙◌}
 use Rattle.std.proofs.lemmas.Bool.{false≢true}
-use Rattle.std.proofs.lemmas.Option.{slice_get_within}
+use Rattle.std.proofs.lemmas.Option.{slice_get_within, get_or_from_slice_get, slice_get_read}
 use Rattle.std.specs.Bool.{Decides}
+use Rattle.std.specs.List.{Contains}
 use Rattle.std.specs.Prelude.{Some, None, slice_get, if◌then◌else◌}
 use Rattle.smith_input.specs.Choices.{ReadsAmong, rank_of, script_among}
 use Rattle.smith_input.specs.Reading.{Reads, IsTail}
@@ -22,6 +23,9 @@ among_same {xs = xs} {x = x} {y = y} r s =
     let e : Some x ≡ Some y = sym r.named ∙ ap (slice_get xs) d.0 ∙ s.named in
     (let z : x ≡ y = cc in z, d.1)
 
+pub among_contains : {A : Type 0} {xs : List A} {bytes : List ℕ} {x : A} {rest : List ℕ} → ReadsAmong xs bytes x rest → Contains xs x
+among_contains {xs = xs} {x = x} r = (r.place, slice_get_within xs r.place x r.named, get_or_from_slice_get xs r.place x x r.named)
+
 module _ {A : Type 0} (eq : A → A → Bool) (decides : (x y : A) → Decides (eq x y) (x ≡ y)) where
   rank_cases : (y x : A) (ys : List A) → ((k : ℕ) → slice_get ys k ≡ Some x → slice_get ys (rank_of eq ys x) ≡ Some x) → (k : ℕ) → slice_get (y ∷ ys) k ≡ Some x → (b : Bool) → eq y x ≡ b → slice_get (y ∷ ys) (if b then zero else suc (rank_of eq ys x)) ≡ Some x
   rank_cases y x ys later k f true e = ap Some ((decides y x).0 e)
@@ -38,3 +42,6 @@ module _ {A : Type 0} (eq : A → A → Bool) (decides : (x y : A) → Decides (
   among_read xs x k rest many f =
       let found = rank_found xs x k f in
       record { place = rank_of eq xs x; reads = reads-pick (length xs) (rank_of eq xs x) rest many (slice_get_within xs (rank_of eq xs x) x found); named = found }
+
+  pub among_written : (xs : List A) (x : A) (rest : List ℕ) → length xs ≤ 2 ^ 64 → Contains xs x → ReadsAmong xs (script_among eq xs x ++ rest) x rest
+  among_written xs x rest many c = among_read xs x c.0 rest many (slice_get_read xs (length xs) c.0 x refl c.1 (sym c.2))

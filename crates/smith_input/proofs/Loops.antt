@@ -85,6 +85,11 @@ module _ (min max : ℕ) where
   pub end_read : (done : ℕ) (rest : List ℕ) → min ≤ done → done ≤ max → More done min max (script_end done max ++ rest) false rest
   end_read done rest some few = end_cases done rest some few (nat_lt done max) refl
 
+-- what all items are holds along the list
+pub along_all : {S A : Type 0} (P : A → Type 0) (next : S → A → S) (s : S) (xs : List A) → AllByRecursion P xs → Along (λ s x. P x) next s xs
+along_all P next s [] all = tt
+along_all P next s (x ∷ xs) all = (all.0, along_all P next (next s x) xs all.1)
+
 -- A script of a loop is read as its items, where each item's script is read as that item in the state before it.
 pub loop_read : {S A : Type 0} {Ends : S → List ℕ → List ℕ → S → Type 0} {Item : S → List ℕ → A → List ℕ → S → Type 0} {min max : ℕ} (script : S → A → List ℕ) (next : S → A → S) (P : S → A → Type 0)
     → ((s : S) (x : A) (rest : List ℕ) → P s x → Item s (script s x ++ rest) x rest (next s x))

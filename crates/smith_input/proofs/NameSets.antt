@@ -9,7 +9,7 @@ use Rattle.std.specs.Ordering.{is_eq, nat_cmp}
 use Rattle.std.specs.Cmp.Lexicographic.{slice_cmp}
 use Rattle.std.proofs.lemmas.Map.Text.{is_eq-slice_cmp, btree_set_updates_text}
 use Rattle.std.proofs.lemmas.Slice.Eq.{bytes_eq-Decides}
-use Rattle.smith_input.specs.Names.{Gains}
+use Rattle.smith_input.specs.Names.{GainsName}
 
 abbrev pub longest : {A : Type 0} → List (String A) → ℕ
 longest [] = 0
@@ -28,7 +28,7 @@ cond_or true b = refl
 cond_or false b = refl
 
 -- a name that was not in a set is put into it
-pub gains : {A : Type 0} (key : String A) (name : List ℕ) (old new : BTreeSet (String A)) (added : Bool) → string_bytes key ≡ name → contains_text old name ≡ false → UpdatesBy string_cmp (λ k. slice_cmp nat_cmp (string_bytes key) (string_bytes k)) old new true → added ≡ not (contains_text old (string_bytes key)) → btree_set_len new ≡ btree_set_len old + (if added then 1 else 0) → Gains old new name
+pub gains : {A : Type 0} (key : String A) (name : List ℕ) (old new : BTreeSet (String A)) (added : Bool) → string_bytes key ≡ name → contains_text old name ≡ false → UpdatesBy string_cmp (λ k. slice_cmp nat_cmp (string_bytes key) (string_bytes k)) old new true → added ≡ not (contains_text old (string_bytes key)) → btree_set_len new ≡ btree_set_len old + (if added then 1 else 0) → GainsName old new name
 gains key name old new added e absent updates a len =
     let is_added : added ≡ true = a ∙ ap not (ap (contains_text old) e ∙ absent) in
     record {

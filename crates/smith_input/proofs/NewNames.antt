@@ -9,7 +9,8 @@ use Rattle.std.specs.BTreeSet.{BTreeSet, IsEmpty, contains_text, btree_set_len}
 use Rattle.std.specs.Fmt.{decimal}
 use Rattle.std.proofs.lemmas.Bool.{cases_lt}
 use Rattle.smith_input.specs.Reading.{IsTail}
-use Rattle.smith_input.specs.Names.{Kebab, ReadsKebab, IsMadeUnique, Gains, appended, is_among, Holds, ReadsNew, script_name}
+use Rattle.smith_input.specs.Kebab.{Kebab}
+use Rattle.smith_input.specs.Names.{ReadsKebab, IsMadeUnique, GainsName, appended, is_among, Holds, ReadsNew, script_name}
 use Rattle.smith_input.proofs.Kebabs.{kebab_is_read, kebab_is_kept, kebab_tail, kebab_unique, name_read}
 
 -- an empty set has no names
@@ -30,7 +31,7 @@ among_more [] name q = refl
 among_more (n ∷ ns) name q = ap (λ b. bytes_eq n q || b) (among_more ns name q) ∙ or_turned (bytes_eq n q) (bytes_eq name q) (is_among ns q)
 
 -- a set that gains a name has it at the end
-pub holds_more : {A : Type 0} {old new : BTreeSet (String A)} {names : List (List ℕ)} {name : List ℕ} → Holds old names → Gains old new name → Holds new (names ++ name ∷ [])
+pub holds_more : {A : Type 0} {old new : BTreeSet (String A)} {names : List (List ℕ)} {name : List ℕ} → Holds old names → GainsName old new name → Holds new (names ++ name ∷ [])
 holds_more {names = names} {name = name} h g = record {
   has = λ q. g.has q ∙ (ap (λ b. bytes_eq name q || b) (h.has q) ∙ sym (among_more names name q));
   size = omega (arith, g.size, h.size, length-append names (name ∷ []));

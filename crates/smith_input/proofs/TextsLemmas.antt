@@ -8,7 +8,7 @@ use Rattle.std.specs.Str.{IsUtf8, IsValidUpTo}
 use Rattle.smith_input.specs.Reading.{Reads, Flips, IsTail, pick}
 use Rattle.smith_input.specs.Texts.{ReadsBytes, ends, follows, IsLongestText, ReadsText, script_bytes, script_text}
 use Rattle.smith_input.proofs.Picks.{reads-pick}
-use Rattle.smith_input.proofs.ReadingLemmas.{tail_trans, reads_tail, reads_unique, flips_unique}
+use Rattle.smith_input.proofs.ReadingLemmas.{tail_trans, reads_tail, reads_unique, flips_unique, flips_one, flips_zero}
 
 pub bytes_tail : {bytes values rest : List ℕ} → ReadsBytes bytes values rest → IsTail rest bytes
 bytes_tail (ends f) = (1, f.left)
@@ -26,15 +26,9 @@ bytes_unique (follows {bytes = bytes} {mid = mid} {low = low} {value = value} {v
     let i : values ≡ avalues = h.0 in
     (cc, h.1)
 
-flips_true : (rest : List ℕ) → Flips (1 ∷ rest) true rest
-flips_true rest = record { bit = ((λ _. refl), (λ _. refl)); left = refl }
-
-flips_false : (rest : List ℕ) → Flips (0 ∷ rest) false rest
-flips_false rest = record { bit = ((λ e. absurd (cc e)), (λ e. absurd (omega (arith, e)))); left = refl }
-
 pub bytes_read : (values rest : List ℕ) → ReadsBytes (script_bytes values ++ rest) values rest
-bytes_read [] rest = ends (flips_false rest)
-bytes_read (x ∷ xs) rest = follows (flips_true (x ∷ script_bytes xs ++ rest)) (record { value_is = refl; left = refl }) (bytes_read xs rest)
+bytes_read [] rest = ends (flips_zero rest)
+bytes_read (x ∷ xs) rest = follows (flips_one (x ∷ script_bytes xs ++ rest)) (record { value_is = refl; left = refl }) (bytes_read xs rest)
 
 pub text_tail : {max : ℕ} {bytes text rest : List ℕ} → ReadsText max bytes text rest → IsTail rest bytes
 text_tail {text = text} r = tail_trans (length text, r.left) (reads_tail r.counted)

@@ -1,3 +1,4 @@
+pub mod Kebab
 pub mod Reading
 pub mod Choices
 pub mod Loops

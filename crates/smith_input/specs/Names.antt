@@ -1,33 +1,10 @@
--- Names in kebab case, as they are read, made unique and spelled. They are the labels in small letters of Explainer.md,
--- Import and Export Definitions: words of a small letter and then small letters or digits, joined by single hyphens.
-use Rattle.std.specs.Prelude.{◌≡◌, ℕ, zero, suc, ◌+◌, ◌-◌, ◌<◌, ◌≤◌, ◌⊎◌, ◌||◌, Bool, true, false, nat_eq, nat_lt, nat_le, if◌then◌else◌, List, [], ◌∷◌, ◌++◌, length, bytes_eq}
+-- Names in kebab case, as they are read, made unique among those that there are, and scripted.
+use Rattle.std.specs.Prelude.{◌≡◌, ℕ, zero, suc, ◌+◌, ◌-◌, ◌<◌, ◌||◌, Bool, true, false, nat_eq, nat_lt, nat_le, if◌then◌else◌, List, [], ◌∷◌, ◌++◌, length, bytes_eq}
 use Rattle.std.specs.Fmt.{decimal}
+use Rattle.std.specs.List.{list_any}
 use Rattle.std.specs.BTreeSet.{BTreeSet, contains_text, btree_set_len}
 use Rattle.std.specs.declared.string.String.{String}
 use Rattle.smith_input.specs.Reading.{Reads, pick}
-
--- a to z
-abbrev pub IsLetter : ℕ → Type 0
-IsLetter c = (97 ≤ c) × (c ≤ 122)
-
--- 0 to 9
-abbrev pub IsDigit : ℕ → Type 0
-IsDigit c = (48 ≤ c) × (c ≤ 57)
-
--- small letters and digits
-abbrev pub AreInWord : List ℕ → Type 0
-AreInWord [] = Unit {0}
-AreInWord (c ∷ cs) = (IsLetter c ⊎ IsDigit c) × AreInWord cs
-
--- a small letter, and then small letters and digits
-abbrev pub IsWord : List ℕ → Type 0
-IsWord [] = ⊥
-IsWord (c ∷ cs) = IsLetter c × AreInWord cs
-
--- one word, or a word, a hyphen and a name
-pub data Kebab : List ℕ → Type 0 where
-  word : {cs : List ℕ} → IsWord cs → Kebab cs
-  hyphen : (cs ds : List ℕ) → IsWord cs → Kebab ds → Kebab (cs ++ 45 ∷ ds)
 
 -- Choices among n, one read after another.
 pub data ReadsEach (n : ℕ) : List ℕ → List ℕ → List ℕ → Type 0 where
@@ -40,8 +17,8 @@ abbrev pub character : Bool → ℕ → ℕ
 character begins k =
     if nat_lt k 26 then 97 + k else (if nat_lt k 36 then (if begins then 97 + (k - 26) else 48 + (k - 26)) else (if begins then 97 else 45))
 
--- The characters of the choices, where a word must begin or goes on at the first. A word must begin behind each
--- hyphen; where one must begin behind the last choice, an a stands there.
+-- The characters of the choices, where a word must begin or goes on at the first. A word must begin after each
+-- hyphen; where one must begin after the last choice, an a stands there.
 abbrev pub characters : Bool → List ℕ → List ℕ
 characters begins [] = if begins then 97 ∷ [] else []
 characters begins (k ∷ ks) = character begins k ∷ characters (nat_eq (character begins k) 45) ks
@@ -55,7 +32,7 @@ pub record ReadsKebab (max : ℕ) (bytes name rest : List ℕ) : Type 0 where
   pub chosen : ReadsEach 37 after_count choices rest
   pub spelt : name ≡ characters true choices
 
--- the text, and n times more behind it
+-- the text, and then n times more
 abbrev pub appended : List ℕ → List ℕ → ℕ → List ℕ
 appended text more zero = text
 appended text more (suc n) = appended text more n ++ more
@@ -69,14 +46,13 @@ pub record IsMadeUnique (has : List ℕ → Bool) (size : ℕ) (text name : List
   pub is_new : has name ≡ false
 
 -- The set gains the name, and nothing else changes.
-pub record Gains {A : Type 0} (old new : BTreeSet (String A)) (name : List ℕ) : Type 0 where
+pub record GainsName {A : Type 0} (old new : BTreeSet (String A)) (name : List ℕ) : Type 0 where
   pub has : (q : List ℕ) → contains_text new q ≡ (bytes_eq name q || contains_text old q)
   pub size : btree_set_len new ≡ btree_set_len old + 1
 
 -- Is the text one of the names?
 abbrev pub is_among : List (List ℕ) → List ℕ → Bool
-is_among [] text = false
-is_among (name ∷ names) text = bytes_eq name text || is_among names text
+is_among names text = list_any (λ name. bytes_eq name text) names
 
 -- A set has these names, each once, and no others.
 pub record Holds {A : Type 0} (set : BTreeSet (String A)) (names : List (List ℕ)) : Type 0 where

@@ -4,7 +4,8 @@ ghost use Rattle.std.specs.Prelude.{◌≡◌, ℕ, ◌^◌, ◌<◌, ◌≤◌,
 ghost use Rattle.std.specs.Str.{IsUtf8};
 ghost use Rattle.smith_input.specs.Reading.{Reads, Flips, More, IsTail, pick};
 ghost use Rattle.smith_input.specs.Texts.{ReadsBytes, ReadsText, script_bytes, script_text};
-ghost use Rattle.smith_input.specs.Names.{Kebab, ReadsKebab, IsMadeUnique, script_name};
+ghost use Rattle.smith_input.specs.Kebab.{Kebab};
+ghost use Rattle.smith_input.specs.Names.{ReadsKebab, IsMadeUnique, script_name};
 
 /// A spelled pick, followed by any bytes, is read as itself.
 pub fn pick_is_read()

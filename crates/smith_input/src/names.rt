@@ -4,7 +4,8 @@ ghost use Rattle.std.specs.Prelude.{◌≡◌, ℕ, ◌<◌, List, codes, string
 ghost use Rattle.std.specs.BTreeSet.{contains_text, btree_set_len};
 ghost use Rattle.smith_input.specs.Reading.{IsTail};
 ghost use Rattle.smith_input.specs.Texts.{ReadsText};
-ghost use Rattle.smith_input.specs.Names.{Kebab, character, ReadsKebab, IsMadeUnique, Gains};
+ghost use Rattle.smith_input.specs.Kebab.{Kebab};
+ghost use Rattle.smith_input.specs.Names.{character, ReadsKebab, IsMadeUnique, GainsName};
 
 use crate::{Error, Unstructured, limited_string};
 use std::alloc::Global;
@@ -69,7 +70,7 @@ pub fn unique_string(
     u: &mut Unstructured,
 ) -> Result<String, Error>
     ensures read { IfOk result (λ name. (text : List ℕ) × ReadsText max u.old text u.new × IsMadeUnique (contains_text names.old) (btree_set_len names.old) text (string_bytes name)) }
-    ensures gained { IfOk result (λ name. Gains names.old names.new (string_bytes name)) }
+    ensures gained { IfOk result (λ name. GainsName names.old names.new (string_bytes name)) }
     ensures refused { OnErr result (names.new.keys ≡ names.old.keys) }
     ensures memory { IfErr result (λ e. e ≡ Error.OutOfMemory) }
     ensures tail { IsTail u.new u.old }
@@ -91,7 +92,7 @@ pub fn unique_kebab_string(
 ) -> Result<String, Error>
     ensures read { IfOk result (λ name. (text : List ℕ) × ReadsKebab max u.old text u.new × IsMadeUnique (contains_text names.old) (btree_set_len names.old) text (string_bytes name)) }
     ensures kebab { IfOk result (λ name. Kebab (string_bytes name)) }
-    ensures gained { IfOk result (λ name. Gains names.old names.new (string_bytes name)) }
+    ensures gained { IfOk result (λ name. GainsName names.old names.new (string_bytes name)) }
     ensures refused { OnErr result (names.new.keys ≡ names.old.keys) }
     ensures memory { IfErr result (λ e. e ≡ Error.OutOfMemory) }
     ensures tail { IsTail u.new u.old }
@@ -110,7 +111,7 @@ pub fn unique_url(
     names: &mut BTreeSet<String>,
     u: &mut Unstructured,
 ) -> Result<String, Error>
-    ensures read { IfOk result (λ url. (text name : List ℕ) × (string_bytes url ≡ codes "https://example.com/" ++ name) × ReadsKebab max u.old text u.new × IsMadeUnique (contains_text names.old) (btree_set_len names.old) text name × Kebab name × Gains names.old names.new name) }
+    ensures read { IfOk result (λ url. (text name : List ℕ) × (string_bytes url ≡ codes "https://example.com/" ++ name) × ReadsKebab max u.old text u.new × IsMadeUnique (contains_text names.old) (btree_set_len names.old) text name × Kebab name × GainsName names.old names.new name) }
     ensures refused { OnErr result (names.new.keys ≡ names.old.keys) }
     ensures memory { IfErr result (λ e. e ≡ Error.OutOfMemory) }
     ensures tail { IsTail u.new u.old }

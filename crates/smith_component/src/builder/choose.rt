@@ -2,7 +2,7 @@
 
 ghost use Rattle.std.specs.Prelude.{◌≡◌, ◌+◌, ◌≤◌, length};
 ghost use Rattle.smith_input.specs.Reading.{IsTail};
-ghost use Rattle.smith_core.specs.Consistent.{IsConsistent};
+ghost use Rattle.smith_core.specs.Limits.{IsConsistent};
 ghost use Rattle.smith_component.specs.Building.{open_of};
 ghost use Rattle.smith_component.specs.Limits.{max_depth};
 ghost use Rattle.smith_component.specs.Turn.{Chooses, is_module_offered, is_component_offered, more_items};

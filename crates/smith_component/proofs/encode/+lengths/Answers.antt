@@ -1,6 +1,6 @@
 use Rattle.std.proofs.Common.{◌≤◌, ◌*◌, ◌^◌, ap, arith, refl, ◌∙◌}
 use Rattle.smith_core.specs.Piece.{bytes, ◌⊕◌}
-use Rattle.smith_core.proofs.Joins.{right_none}
+use Rattle.smith_core.proofs.Piece.{right_none}
 use Rattle.smith_core.proofs.Sizes.{takes_then, takes_bytes, sum_next, sum_all, each_none, measures_none}
 use Rattle.smith_component.specs.Grammar.{preamble}
 use Rattle.smith_component.proofs.Spelling.{text_shown, part_module, part_core_types, part_types, part_canons, part_imports, raw_zero}

@@ -1,5 +1,5 @@
 use Rattle.std.proofs.lemmas.List.{get_or_default}
-use Rattle.smith_core.proofs.Loops.{put_none, put_next, loop_done, loop_exit}
+use Rattle.smith_core.proofs.Lists.{put_none, put_next, loop_done, loop_exit}
 use Rattle.smith_core.proofs.encode.put_vals.Goals as goal
 
 pub loop-ty-init : goal.loop-ty-init

@@ -1,5 +1,5 @@
 use Rattle.std.proofs.Common.{arith}
-use Rattle.smith_core.proofs.CoreSpelling.{takes_concrete}
+use Rattle.smith_core.proofs.CoreTypes.{takes_concrete}
 use Rattle.smith_core.proofs.encode.ref_len.Goals as goal
 
 pub returns-in-Concrete-clause-length : goal.returns-in-Concrete-clause-length

@@ -1,4 +1,4 @@
-use Rattle.smith_core.proofs.CoreScripts.{function_read}
+use Rattle.smith_core.proofs.CoreScript.{function_read}
 use Rattle.smith_core.proofs.laws.core_scripts_are_read.Goals as goal
 
 pub returns : goal.returns

@@ -1,4 +1,5 @@
-use Rattle.smith_core.proofs.CoreUnique.{clear_core_val, clear_core_function, clear_entity, clear_core_import}
+use Rattle.smith_core.proofs.CoreTypes.{clear_core_val, clear_core_function}
+use Rattle.smith_core.proofs.Entities.{clear_entity, clear_core_import}
 use Rattle.smith_core.proofs.laws.core_types_are_clear.Goals as goal
 
 pub returns-clause-values : goal.returns-clause-values

@@ -1,4 +1,4 @@
-use Rattle.smith_core.proofs.CoreMade.{memory_unique, table_unique, tag_unique, function_unique}
+use Rattle.smith_core.proofs.CoreReading.{memory_unique, table_unique, tag_unique, function_unique}
 use Rattle.smith_core.proofs.laws.core_types_are_decided.Goals as goal
 
 pub returns-clause-memories : goal.returns-clause-memories

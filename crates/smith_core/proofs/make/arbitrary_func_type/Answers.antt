@@ -1,5 +1,5 @@
-use Rattle.smith_core.proofs.CoreMade.{function_formed}
-use Rattle.smith_core.proofs.CoreScripts.{function_scripted}
+use Rattle.smith_core.proofs.CoreReading.{function_formed}
+use Rattle.smith_core.proofs.CoreScript.{function_scripted}
 use Rattle.smith_core.proofs.make.arbitrary_func_type.Goals as goal
 
 pub returns-clause-formed : goal.returns-clause-formed

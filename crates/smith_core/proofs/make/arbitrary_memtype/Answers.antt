@@ -1,5 +1,5 @@
 use Rattle.std.proofs.Common.{refl}
-use Rattle.smith_core.proofs.CoreMade.{limits_formed}
+use Rattle.smith_core.proofs.CoreReading.{limits_formed}
 use Rattle.smith_core.proofs.make.arbitrary_memtype.Goals as goal
 
 pub returns-clause-formed : goal.returns-clause-formed

@@ -1,5 +1,5 @@
 use Rattle.std.proofs.Common.{refl}
-use Rattle.smith_core.proofs.CoreMade.{element_formed, limits_formed}
+use Rattle.smith_core.proofs.CoreReading.{element_formed, limits_formed}
 use Rattle.smith_core.proofs.make.arbitrary_table_type.Goals as goal
 
 pub returns-clause-formed : goal.returns-clause-formed

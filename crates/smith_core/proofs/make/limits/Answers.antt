@@ -1,7 +1,7 @@
 use Rattle.std.proofs.Common.{subst}
 use Rattle.smith_input.specs.Reading.{Flips}
 use Rattle.smith_core.specs.CoreReading.{unbounded, bounded}
-use Rattle.smith_core.proofs.CoreMade.{between}
+use Rattle.smith_core.proofs.CoreReading.{between}
 use Rattle.smith_core.proofs.make.limits.Goals as goal
 
 pub returns-then-arbitrary_bool-clause-reads : goal.returns-then-arbitrary_bool-clause-reads

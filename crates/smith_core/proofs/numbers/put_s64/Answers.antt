@@ -8,9 +8,9 @@ use Rattle.smith_core.specs.Numbers.{signed, low_bits, high_bits}
 use Rattle.smith_core.specs.Piece.{s}
 use Rattle.smith_core.specs.Writing.{Puts}
 use Rattle.smith_core.proofs.Digits.{signed_last, signed_more, signed_some}
-use Rattle.smith_core.proofs.Turns.{towards_next, towards_exit, towards_end}
-use Rattle.smith_core.proofs.numbers.put_s64.Goals as goal
+use Rattle.smith_core.proofs.Steps.{towards_next, towards_exit, towards_end}
 use Rattle.smith_core.proofs.numbers.put_s64.Goals.{then-rest-lt-LEAST, else-rest-lt-LEAST+then-rest-gt-MOST}
+use Rattle.smith_core.proofs.numbers.put_s64.Goals as goal
 
 pub returns-in_err-write_byte : goal.returns-in_err-write_byte
 returns-in_err-write_byte c =

@@ -1,6 +1,6 @@
 use Rattle.std.proofs.Common.{unsigned_abs}
 use Rattle.smith_core.specs.Numbers.{signed}
-use Rattle.smith_core.proofs.Turns.{Towards}
+use Rattle.smith_core.proofs.Steps.{Towards}
 use Rattle.smith_core.proofs.numbers.put_s64.Given as goal
 
 abbrev pub invariant-loop-rest : goal.invariant-loop-rest

@@ -1,7 +1,7 @@
 use Rattle.std.proofs.Common.{◌∷◌, ap, ◌∙◌, add_comm, ◌/◌, ◌%◌}
 use Rattle.smith_core.specs.Numbers.{unsigned}
 use Rattle.smith_core.proofs.Digits.{unsigned_last, unsigned_more, unsigned_some}
-use Rattle.smith_core.proofs.Turns.{towards_next, towards_exit, towards_end}
+use Rattle.smith_core.proofs.Steps.{towards_next, towards_exit, towards_end}
 use Rattle.smith_core.proofs.numbers.put_u64.Goals as goal
 
 pub returns-in_err-write_byte : goal.returns-in_err-write_byte

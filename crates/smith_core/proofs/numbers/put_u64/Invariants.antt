@@ -1,5 +1,5 @@
 use Rattle.smith_core.specs.Numbers.{unsigned}
-use Rattle.smith_core.proofs.Turns.{Towards}
+use Rattle.smith_core.proofs.Steps.{Towards}
 use Rattle.smith_core.proofs.numbers.put_u64.Given as goal
 
 abbrev pub invariant-loop-rest : goal.invariant-loop-rest

@@ -6,8 +6,8 @@ use Rattle.std.specs.Int.RustNames.{FitsSigned}
 use mir.Val.{to_z}
 use Rattle.smith_core.specs.Numbers.{signed}
 use Rattle.smith_core.proofs.Digits.{signed_last, signed_more, signed_some, signed_short}
-use Rattle.smith_core.proofs.numbers.s64_len.Goals as goal
 use Rattle.smith_core.proofs.numbers.s64_len.Goals.{then-left-lt-LEAST, else-left-lt-LEAST+then-left-gt-MOST}
+use Rattle.smith_core.proofs.numbers.s64_len.Goals as goal
 
 pub overflow_add-length : goal.overflow_add-length
 overflow_add-length c =

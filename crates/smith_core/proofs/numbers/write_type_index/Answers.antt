@@ -4,7 +4,7 @@ use Rattle.std.specs.Int.{w64}
 use Rattle.std.specs.Int.RustNames.{FitsSigned}
 use Rattle.smith_core.specs.Piece.{Piece, s}
 use Rattle.smith_core.specs.Writing.{Appends}
-use Rattle.smith_core.proofs.Digits.{s_index_fits}
+use Rattle.smith_core.proofs.Piece.{s_index_fits}
 use Rattle.smith_core.proofs.numbers.write_type_index.Goals as goal
 
 pub returns : goal.returns

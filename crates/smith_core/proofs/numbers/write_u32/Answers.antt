@@ -1,7 +1,7 @@
 use Rattle.std.proofs.Common.{ap, sym, ◌∙◌, subst}
 use Rattle.smith_core.specs.Piece.{Piece, number}
 use Rattle.smith_core.specs.Writing.{Appends}
-use Rattle.smith_core.proofs.Digits.{u_fits}
+use Rattle.smith_core.proofs.Piece.{u_fits}
 use Rattle.smith_core.proofs.numbers.write_u32.Goals as goal
 
 pub returns : goal.returns

@@ -1,6 +1,6 @@
 use Rattle.std.proofs.Common.{arith}
 use Rattle.smith_core.proofs.Steps.{due_none, keeps_same}
-use Rattle.smith_core.proofs.Digits.{u_none}
+use Rattle.smith_core.proofs.Piece.{u_none}
 use Rattle.smith_core.proofs.pieces.write_count.Goals as goal
 
 pub returns-then-count : goal.returns-then-count

@@ -1,5 +1,5 @@
 use Rattle.std.proofs.Common.{arith}
-use Rattle.smith_core.proofs.Raw.{raw_is}
+use Rattle.smith_core.proofs.Piece.{raw_is}
 use Rattle.smith_core.proofs.pieces.write_raw.Goals as goal
 
 pub returns : goal.returns

@@ -1,7 +1,8 @@
 use Rattle.std.proofs.Common.{◌≡◌, ℕ, ◌+◌, ◌-◌, ◌<◌, true, length, string_bytes}
 use Rattle.std.specs.BTreeSet.{contains_text, btree_set_len}
 use Rattle.std.specs.Fmt.{decimal}
-use Rattle.smith_input.specs.Names.{Kebab, appended}
+use Rattle.smith_input.specs.Kebab.{Kebab}
+use Rattle.smith_input.specs.Names.{appended}
 use Rattle.smith_input.proofs.NameSets.{longest}
 use Rattle.smith_input.proofs.names.made_unique.Given as goal
 

@@ -1,4 +1,4 @@
-use Rattle.smith_core.proofs.Loops.{put_none, put_next, loop_done, loop_exit}
+use Rattle.smith_core.proofs.Lists.{put_none, put_next, loop_done, loop_exit}
 use Rattle.smith_types.proofs.encode.lists.put_many.Goals as goal
 
 pub loop-item-init : goal.loop-item-init

@@ -1,4 +1,4 @@
-use Rattle.smith_core.proofs.Loops.{Put}
+use Rattle.smith_core.proofs.Lists.{Put}
 use Rattle.smith_types.proofs.encode.lists.put_many.Given as goal
 
 abbrev pub invariant-loop-item : goal.invariant-loop-item

@@ -1,4 +1,4 @@
--- Loops that put one after another.
+-- Lists: pieces one after another, and loops that put them.
 use Rattle.std.proofs.Common.{◌≡◌, ℕ, suc, ◌+◌, ◌<◌, ◌≤◌, List, [], ◌∷◌, ◌++◌, length, map, take, drop, get_or, refl, ap, subst, sym, ◌∙◌, Result, IsErrAnd, take_all}
 use Rattle.std.proofs.lemmas.List.{take_more, take-append-drop, length-map}
 use Rattle.std.proofs.Math.Seq.{drop-cons}
@@ -7,7 +7,7 @@ use Rattle.std.specs.declared.alloc.Global.{Global}
 use Rattle.smith_input.specs.declared.error.Error.{Error}
 use Rattle.smith_core.specs.Piece.{Piece, ◌⊕◌, each, many, u}
 use Rattle.smith_core.specs.Writing.{Gains, Begins, Keeps, IsDue, Puts}
-use Rattle.smith_core.proofs.Joins.{assoc, right_nil, left_nil}
+use Rattle.smith_core.proofs.Piece.{assoc, right_nil, left_nil}
 use Rattle.smith_core.proofs.Steps.{gains_then, gains_nothing, due_left, due_right, exits, gains_begins, keeps_begins}
 
 module _ {A : Type 0} (f : A → Piece) where

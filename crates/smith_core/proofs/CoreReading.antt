@@ -1,11 +1,14 @@
--- What reads of core types give: tails, types as they should be, and one alone.
-use Rattle.std.proofs.Common.{◌≡◌, ◌<◌, ◌≤◌, ◌⊎◌, inl, inr, ℕ, zero, suc, ◌+◌, ◌-◌, List, [], ◌∷◌, ◌++◌, Bool, true, false, length, refl, sym, ap, ◌∙◌, subst, arith, append-nil, append_assoc}
-use Rattle.std.specs.List.{AllByRecursion}
+-- Core types that are read: what is left, that they are as they should be, and that they are determined.
+use Rattle.std.proofs.Common.{◌≡◌, ◌≤◌, ◌⊎◌, inl, inr, ℕ, zero, suc, ◌+◌, ◌-◌, List, [], ◌∷◌, Bool, true, false, length, refl, sym, ap, ◌∙◌, subst, arith}
+use Rattle.std.specs.List.{AllByRecursion, Contains}
 use Rattle.std.specs.Prelude.{Option, Some, None, IfSome, slice_get}
-use Rattle.smith_input.specs.Reading.{Reads, More, IsTail}
-use Rattle.smith_input.proofs.ReadingLemmas.{tail_same, tail_trans, reads_tail, more_tail, reads_unique, flips_unique, more_unique, more_full, more_within}
-use Rattle.smith_core.specs.CoreFormed.{FormedLimits, FormedMemory, FormedTable, IsAmong, FormedFunction}
-use Rattle.smith_core.specs.CoreReading.{ReadsBetween, ReadsMaximum, unbounded, bounded, ReadsLimits, ReadsMemory, ReadsElement, only_functions, either, ReadsTable, ReadsTag, ReadsValues, no_more, another, ReadsFunction}
+use Rattle.smith_input.specs.Choices.{ReadsAmong}
+use Rattle.smith_input.specs.Reading.{Reads, IsTail}
+use Rattle.smith_input.proofs.Choices.{among_tail, among_same, among_contains}
+use Rattle.smith_input.proofs.Loops.{loop_tail, loop_few, loop_all, loop_same}
+use Rattle.smith_input.proofs.ReadingLemmas.{tail_same, tail_trans, reads_tail, reads_unique, flips_unique}
+use Rattle.smith_core.specs.CoreFormed.{FormedLimits, FormedMemory, FormedTable, FormedFunction}
+use Rattle.smith_core.specs.CoreReading.{ReadsBetween, ReadsMaximum, unbounded, bounded, ReadsLimits, ReadsMemory, ReadsElement, only_functions, either, ReadsTable, ReadsTag, ReadsValues, ReadsFunction}
 use Rattle.smith_core.specs.CoreTypes.{Function}
 use Rattle.smith_core.specs.declared.types.MemoryType.{MemoryType}
 use Rattle.smith_core.specs.declared.types.RefType.{RefType}
@@ -27,17 +30,16 @@ memory_tail r = limits_tail r.limits
 
 element_tail : {references : Bool} {bytes : List ℕ} {t : RefType} {rest : List ℕ} → ReadsElement references bytes t rest → IsTail rest bytes
 element_tail (only_functions {bytes = bytes}) = tail_same bytes
-element_tail (either r n) = reads_tail r
+element_tail (either r) = among_tail r
 
 pub table_tail : {references : Bool} {bytes : List ℕ} {t : TableType} {rest : List ℕ} → ReadsTable references bytes t rest → IsTail rest bytes
 table_tail r = tail_trans (limits_tail r.limits) (element_tail r.element)
 
 pub tag_tail : {candidates bytes : List ℕ} {t : TagType} {rest : List ℕ} → ReadsTag candidates bytes t rest → IsTail rest bytes
-tag_tail r = reads_tail r.reads
+tag_tail r = among_tail r
 
-values_tail : {valtypes : List ValType} {max done : ℕ} {bytes : List ℕ} {xs : List ValType} {rest : List ℕ} → ReadsValues valtypes max done bytes xs rest → IsTail rest bytes
-values_tail (no_more m) = more_tail m
-values_tail (another m r n v) = tail_trans (values_tail v) (tail_trans (reads_tail r) (more_tail m))
+values_tail : {valtypes : List ValType} {max : ℕ} {bytes : List ℕ} {xs : List ValType} {rest : List ℕ} → ReadsValues valtypes max bytes xs rest → IsTail rest bytes
+values_tail {bytes = bytes} {xs = xs} {rest = rest} l = loop_tail (λ s b r t e. absurd e) (λ s b x r t i. among_tail i) 0 tt bytes xs rest tt l
 
 pub function_tail : {valtypes : List ValType} {max_results : ℕ} {bytes : List ℕ} {f : Function} {rest : List ℕ} → ReadsFunction valtypes max_results bytes f rest → IsTail rest bytes
 function_tail r = tail_trans (values_tail r.results) (values_tail r.params)
@@ -64,23 +66,21 @@ element_is (suc (suc n)) t e = absurd (let z : None ≡ Some t = e in cc)
 
 pub element_formed : {references : Bool} {bytes : List ℕ} {t : RefType} {rest : List ℕ} → ReadsElement references bytes t rest → (t ≡ FuncRef) ⊎ ((references ≡ true) × (t ≡ ExternRef))
 element_formed (only_functions) = inl refl
-element_formed (either {place = place} {t = t} r n) = elim (element_is place t n) [ inl e ↦ inl e | inr e ↦ inr (refl, e) ]
+element_formed (either {t = t} r) = elim (element_is r.place t r.named) [ inl e ↦ inl e | inr e ↦ inr (refl, e) ]
 
 pub table_formed : {references : Bool} {bytes : List ℕ} {t : TableType} {rest : List ℕ} → ReadsTable references bytes t rest → FormedTable references t
 table_formed r = record { element = element_formed r.element; limits = limits_formed r.limits; table64 = r.table64 }
 
-values_few : {valtypes : List ValType} {max done : ℕ} {bytes : List ℕ} {xs : List ValType} {rest : List ℕ} → done ≤ max → ReadsValues valtypes max done bytes xs rest → done + length xs ≤ max
-values_few h (no_more m) = omega arith
-values_few {max = max} {done = done} h (another m r n v) = let lt : done < max = more_within m in omega (arith, values_few (omega (arith, lt)) v)
+values_few : {valtypes : List ValType} {max : ℕ} {bytes : List ℕ} {xs : List ValType} {rest : List ℕ} → ReadsValues valtypes max bytes xs rest → length xs ≤ max
+values_few {max = max} {bytes = bytes} {xs = xs} {rest = rest} l = let few : 0 + length xs ≤ max = loop_few 0 tt bytes xs rest tt (omega arith) l in omega arith
 
-values_formed : {valtypes : List ValType} {max done : ℕ} {bytes : List ℕ} {xs : List ValType} {rest : List ℕ} → ReadsValues valtypes max done bytes xs rest → AllByRecursion (IsAmong valtypes) xs
-values_formed (no_more m) = tt
-values_formed (another {place = place} m r n v) = ((place, n), values_formed v)
+values_formed : {valtypes : List ValType} {max : ℕ} {bytes : List ℕ} {xs : List ValType} {rest : List ℕ} → ReadsValues valtypes max bytes xs rest → AllByRecursion (Contains valtypes) xs
+values_formed {valtypes} {bytes = bytes} {xs = xs} {rest = rest} l = loop_all (Contains valtypes) (λ s b x r t i. among_contains i) 0 tt bytes xs rest tt l
 
 pub function_formed : {valtypes : List ValType} {max_results : ℕ} {bytes : List ℕ} {f : Function} {rest : List ℕ} → ReadsFunction valtypes max_results bytes f rest → FormedFunction valtypes max_results f
 function_formed r = record {
-  few_params = omega (arith, values_few {done = 0} (omega arith) r.params);
-  few_results = omega (arith, values_few {done = 0} (omega arith) r.results);
+  few_params = values_few r.params;
+  few_results = values_few r.results;
   params = values_formed r.params;
   results = values_formed r.results;
 }
@@ -111,9 +111,7 @@ memory_unique {m = m} {n = n} r s =
 
 element_unique : {references : Bool} {bytes : List ℕ} {t o : RefType} {left rest : List ℕ} → ReadsElement references bytes t left → ReadsElement references bytes o rest → (t ≡ o) × (left ≡ rest)
 element_unique (only_functions) (only_functions) = (refl, refl)
-element_unique (either {t = t} r n) (either {t = o} s k) =
-    let d = reads_unique r s in
-    let e : Some t ≡ Some o = sym n ∙ ap (slice_get (FuncRef ∷ ExternRef ∷ [])) d.0 ∙ k in (let z : t ≡ o = cc in z, d.1)
+element_unique (either r) (either s) = among_same r s
 
 pub table_unique : {references : Bool} {bytes : List ℕ} {t o : TableType} {left rest : List ℕ} → ReadsTable references bytes t left → ReadsTable references bytes o rest → (t ≡ o) × (left ≡ rest)
 table_unique {t = t} {o = o} {rest = rest} r s =
@@ -123,46 +121,14 @@ table_unique {t = t} {o = o} {rest = rest} r s =
     (λ i. record { element_type = e.0 i; table64 = f i; minimum = d.0 i; maximum = d.1 i }, d.2)
 
 pub tag_unique : {candidates bytes : List ℕ} {t o : TagType} {left rest : List ℕ} → ReadsTag candidates bytes t left → ReadsTag candidates bytes o rest → (t ≡ o) × (left ≡ rest)
-tag_unique {candidates} {t = t} {o = o} r s =
-    let d = reads_unique r.reads s.reads in
-    let e : Some t.func_type_idx ≡ Some o.func_type_idx = sym r.named ∙ ap (slice_get candidates) d.0 ∙ s.named in
-    let f : t.func_type_idx ≡ o.func_type_idx = cc in
-    (λ i. record { func_type_idx = f i }, d.1)
+tag_unique r s = let d = among_same r s in (λ i. record { func_type_idx = d.0 i }, d.1)
 
-values_unique : {valtypes : List ValType} {max done : ℕ} {bytes other : List ℕ} {xs ys : List ValType} {left rest : List ℕ} → bytes ≡ other → ReadsValues valtypes max done bytes xs left → ReadsValues valtypes max done other ys rest → (xs ≡ ys) × (left ≡ rest)
-values_unique {max = max} {done = done} e (no_more m) (no_more {rest = rest} n) = (refl, (more_unique m (subst (λ bs. More done 0 max bs false rest) (sym e) n)).1)
-values_unique {max = max} {done = done} e (no_more m) (another {mid = mid} n s k w) = absurd (let z : false ≡ true = (more_unique m (subst (λ bs. More done 0 max bs true mid) (sym e) n)).0 in cc)
-values_unique {max = max} {done = done} e (another m r j v) (no_more {rest = rest} n) = absurd (let z : true ≡ false = (more_unique m (subst (λ bs. More done 0 max bs false rest) (sym e) n)).0 in cc)
-values_unique {valtypes} {max = max} {done = done} e (another {x = x} m r j v) (another {mid = mid} {place = place} {after = after} {x = y} n s k w) =
-    let o = more_unique m (subst (λ bs. More done 0 max bs true mid) (sym e) n) in
-    let d = reads_unique r (subst (λ bs. Reads (length valtypes) bs place after) (sym o.1) s) in
-    let f : Some x ≡ Some y = sym j ∙ ap (slice_get valtypes) d.0 ∙ k in
-    let same : x ≡ y = cc in
-    let t = values_unique d.1 v w in (λ i. same i ∷ t.0 i, t.1)
+values_unique : {valtypes : List ValType} {max : ℕ} {bytes : List ℕ} {xs ys : List ValType} {left rest : List ℕ} → ReadsValues valtypes max bytes xs left → ReadsValues valtypes max bytes ys rest → (xs ≡ ys) × (left ≡ rest)
+values_unique {bytes = bytes} {xs = xs} {ys = ys} {left = left} {rest = rest} l m =
+    let d = loop_same (λ s b r q t u e f. absurd e) (λ s b x r q t u e i. e) (λ s b x y r q t u i j. let c = among_same i j in (c.0, c.1, refl)) 0 tt bytes xs ys left rest tt tt l m in
+    (d.0, d.1)
 
 pub function_unique : {valtypes : List ValType} {max_results : ℕ} {bytes : List ℕ} {f g : Function} {left rest : List ℕ} → ReadsFunction valtypes max_results bytes f left → ReadsFunction valtypes max_results bytes g rest → (f ≡ g) × (left ≡ rest)
-function_unique r s =
-    let p = values_unique refl r.params s.params in
-    let q = values_unique p.1 r.results s.results in (λ i. (p.0 i, q.0 i), q.1)
-
--- A loop over value types, turn by turn: whatever its rest reads from here, the whole reads behind what was read.
-module _ (valtypes : List ValType) (max : ℕ) (start : List ℕ) where
-  -- the rest of the loop, from here on
-  abbrev pub Onward : List ValType → ℕ → List ℕ → Type 0
-  Onward so_far done b = (xs : List ValType) (rest : List ℕ) → ReadsValues valtypes max done b xs rest → ReadsValues valtypes max 0 start (so_far ++ xs) rest
-
-  pub begins : (so_far : List ValType) → so_far ≡ [] → Onward so_far 0 start
-  begins so_far none = λ xs rest r. subst (λ ys. ReadsValues valtypes max 0 start (ys ++ xs) rest) (sym none) r
-
-  pub stops : (so_far : List ValType) (done : ℕ) (b rest : List ℕ) (answer : Bool) → answer ≡ false → More done 0 max b answer rest → Onward so_far done b → ReadsValues valtypes max 0 start so_far rest
-  stops so_far done b rest answer e m onward =
-      subst (λ xs. ReadsValues valtypes max 0 start xs rest) (append-nil so_far) (onward [] rest (no_more (subst (λ a. More done 0 max b a rest) e m)))
-
-  pub ends_full : (so_far : List ValType) (done : ℕ) (b : List ℕ) → max ≤ done → Onward so_far done b → ReadsValues valtypes max 0 start so_far b
-  ends_full so_far done b full onward = stops so_far done b b false refl (more_full b full) onward
-
-  pub goes_on : (so_far next : List ValType) (x : ValType) (done place : ℕ) (b mid after : List ℕ) (answer : Bool) → answer ≡ true → More done 0 max b answer mid → Reads (length valtypes) mid place after → slice_get valtypes place ≡ Some x → next ≡ so_far ++ x ∷ []
-      → Onward so_far done b → Onward next (done + 1) after
-  goes_on so_far next x done place b mid after answer e m r named more onward = λ xs rest v.
-      let whole : so_far ++ x ∷ xs ≡ next ++ xs = sym (append_assoc so_far (x ∷ []) xs) ∙ ap (λ ys. ys ++ xs) (sym more) in
-      subst (λ ys. ReadsValues valtypes max 0 start ys rest) whole (onward (x ∷ xs) rest (another (subst (λ a. More done 0 max b a mid) e m) r named v))
+function_unique {valtypes} {max_results} {g = g} {rest = rest} r s =
+    let p = values_unique r.params s.params in
+    let q = values_unique r.results (subst (λ b. ReadsValues valtypes max_results b g.1 rest) (sym p.1) s.results) in (λ i. (p.0 i, q.0 i), q.1)
