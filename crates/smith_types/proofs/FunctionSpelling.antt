@@ -3,7 +3,7 @@ use Rattle.std.proofs.Common.{◌≡◌, List, map, Option, String, ap, sym, ◌
 use Rattle.std.specs.declared.alloc.Global.{Global}
 use Rattle.smith_core.specs.Piece.{◌⊕◌, byte, many}
 use Rattle.smith_core.proofs.Piece.{assoc}
-use Rattle.smith_core.proofs.Lists.{many-map}
+use Rattle.smith_core.proofs.Many.{many-map}
 use Rattle.smith_types.specs.Grammar.{field, result_of, entry}
 use Rattle.smith_types.specs.Shown.{shown_val, shown_maybe, shown_field, shown_function}
 use Rattle.smith_types.specs.Signature.{Signature, named, signature}

@@ -14,11 +14,14 @@ ghost use Rattle.smith_types.specs.Shown.{shown_primitive, shown_val, shown_mayb
 use crate::func::FuncType;
 use crate::types::{ComponentValType, DefType, DefinedType, PrimitiveValType};
 pub use core_types::{core_type_len, write_core_type};
-pub use lists::{Spelled, many_len, put_many};
-use lists::{put_tagged, tagged_len};
-use smith_core::numbers::{type_index_len, write_type_index};
-use smith_core::pieces::{settled, write_byte, write_bytes};
+use smith_core::{
+    Spelled, put_tagged, tagged_len, type_index_len, write_byte, write_bytes, write_spelled,
+    write_type_index,
+};
 use smith_input::Error;
+
+/// The binary format of components, as the name of a format.
+pub struct ComponentFormat {}
 
 fn code(primitive: PrimitiveValType) -> u8
     ensures { result ≡ primitive_byte (shown_primitive primitive) }
@@ -169,13 +172,23 @@ fn put_type(out: &mut Vec<u8>, ty: &DefType) -> Result<(), Error>
     }
 }
 
+impl Spelled<ComponentFormat> for DefType {
+    ghost piece = { λ t. entry (shown_type t) };
+
+    fn put(&self, out: &mut Vec<u8>) -> Result<(), Error> {
+        put_type(out, self)
+    }
+
+    fn spelled_len(&self) -> Option<u32> {
+        type_len(self)
+    }
+}
+
 /// Appends a type. It is too long where a count or the length of a name in it passes 4,294,967,295.
 pub fn write_type(out: &mut Vec<u8>, ty: &DefType) -> Result<(), Error>
     ensures { Appends result out.old out.new (entry (shown_type ty.now)) }
 {
-    let start = out.len();
-    let given = put_type(out, ty);
-    settled(out, start, given)
+    write_spelled(out, ty)
 }
 
 /// The length of a type's spelling; None exactly where it has none of at most 4,294,967,295 bytes.
