@@ -3,7 +3,7 @@ pub mod CoreReading
 pub mod CoreScript
 pub mod CoreTypes
 pub mod Entities
-pub mod Lists
+pub mod Many
 pub mod Digits
 pub mod Piece
 pub mod Sizes

@@ -8,7 +8,7 @@ use Rattle.smith_core.specs.Writing.{Takes, TakesTooMuch, IsLengthOf, Measures}
 use Rattle.smith_core.proofs.Piece.{assoc, joined, right_none, left_none, length_join, none_join, u_fits, u_none, u_cases, s_index_fits, s_index_none, text_is}
 use Rattle.std.proofs.lemmas.Bool.{ltb-false}
 use borrow.Author.Tests.{ltb-true}
-use Rattle.smith_core.proofs.Lists.{each_more, each_at}
+use Rattle.smith_core.proofs.Many.{each_more, each_at}
 use Rattle.smith_core.proofs.Steps.{framed_bytes, framed_nothing}
 
 pub takes_bytes : (n : ℕ) (b : List ℕ) → n ≡ length b → Takes n (Some b)
@@ -42,6 +42,11 @@ too_much_right p {q} t = record { is = elim t.is [ inl e ↦ inl (ap (λ x. p �
 
 pub too_much_u : (n : ℕ) → 2 ^ 32 ≤ n → TakesTooMuch (u n)
 too_much_u n h = too_much_none (u_none n h)
+
+-- a length that may pass what 32 bits hold
+pub length_is : (r : Option ℕ) {k n : ℕ} {p : Piece} → SomeIff r (k < 2 ^ 32) k → Takes n p → k ≡ n → IsLengthOf r p
+length_is (Some m) {k} {n} {p} s t e = (subst (λ (l : ℕ). Takes l p) (sym (s.1 ∙ e)) t, let f = s.1 in omega (arith, s.0))
+length_is None {k} {n} s t e = too_much_long t (omega (arith, s))
 
 -- a sum that may pass what 32 bits hold
 pub length_then : (r : Option ℕ) {m n : ℕ} {p q : Piece} → SomeIff r (m + n < 2 ^ 32) (m + n) → Takes m p → Takes n q → IsLengthOf r (p ⊕ q)

@@ -9,7 +9,7 @@ use Rattle.std.specs.declared.alloc.Global.{Global}
 use Rattle.smith_input.specs.declared.error.Error.{Error}
 use Rattle.smith_input.specs.declared.error.Error.TheVariants.{TooLong, OutOfMemory}
 use Rattle.smith_core.specs.Piece.{Piece, ◌⊕◌, piece_length, byte, u, framed, sized}
-use Rattle.smith_core.specs.Writing.{Gains, Begins, Keeps, IsDue, Puts, Appends, Takes}
+use Rattle.smith_core.specs.Writing.{Gains, Begins, Keeps, IsDue, Puts, Appends, Takes, WantsMemoryFor}
 use Rattle.smith_core.proofs.Piece.{text_is, assoc, right_none, left_none, joined, length_join}
 
 pub take_take : (i j : ℕ) (xs : List ℕ) → i ≤ j → take i (take j xs) ≡ take i xs
@@ -168,6 +168,11 @@ settles_err (Err x) old mid new start p e f c l h = (
   },
   h.1,
 )
+
+-- what has an encoding may want memory
+pub wants_some : {A : Type 0} (r : Result A Error) {p : Piece} {b : List ℕ} → p ≡ Some b → WantsMemoryFor r p
+wants_some (Ok x) e = tt
+wants_some (Err x) e = λ _ n. cc
 
 -- loops over the digits of a number
 

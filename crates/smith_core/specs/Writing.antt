@@ -1,5 +1,5 @@
 -- What a writer did to a buffer, and how long a piece is.
-use Rattle.std.specs.Prelude.{◌≡◌, ℕ, ◌+◌, ◌^◌, ◌<◌, ◌≤◌, ◌⊎◌, take, Option, Some, None, Result, Ok, Err}
+use Rattle.std.specs.Prelude.{◌≡◌, ℕ, ◌+◌, ◌^◌, ◌<◌, ◌≤◌, ◌⊎◌, take, Option, Some, None, Result, Ok, Err, IfErr}
 use Rattle.std.specs.Vec.{vec_len, vec_capacity}
 use Rattle.std.specs.declared.vec.Vec.{Vec}
 use Rattle.std.specs.declared.alloc.Global.{Global}
@@ -39,6 +39,10 @@ Puts (Err e) old new p = Begins old new × IsDue e old p
 abbrev pub Appends : {A : Type 0} → Result A Error → Vec ℕ Global → Vec ℕ Global → Piece → Type 0
 Appends (Ok _) old new p = Gains old new p
 Appends (Err e) old new p = Keeps old new × IsDue e old p
+
+-- Want of memory is answered only for a piece that has an encoding: what is too long is answered as too long.
+abbrev pub WantsMemoryFor : {A : Type 0} → Result A Error → Piece → Type 0
+WantsMemoryFor r p = IfErr r (λ e. e ≡ OutOfMemory → ¬ (p ≡ None))
 
 -- the piece has a spelling, of n bytes
 pub record Takes (n : ℕ) (p : Piece) : Type 0 where

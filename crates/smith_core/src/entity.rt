@@ -7,9 +7,10 @@ ghost use Rattle.std.specs.Prelude.{◌≡◌, ◌≤◌, Bool};
 ghost use Rattle.smith_core.specs.Entities.{bit, maximum, limits, table_type, global_type, tag_type, entity, shown_import, core_import};
 ghost use Rattle.smith_core.specs.Writing.{Puts, Appends, Takes, IsLengthOf};
 
+use crate::buffer::{CoreFormat, Spelled, write_byte, write_spelled};
 use crate::encode::{core_val_len, put_core_val, put_ref, ref_len};
 use crate::numbers::{u32_len, u64_len, write_u32, write_u64};
-use crate::pieces::{settled, text_len, write_byte, write_text};
+use crate::pieces::{text_len, write_text};
 use crate::types::{EntityType, GlobalType, Import, TableType, TagType};
 use smith_input::Error;
 
@@ -114,15 +115,6 @@ fn put_entity(out: &mut Vec<u8>, ty: &EntityType) -> Result<(), Error>
     }
 }
 
-/// Appends what is imported or exported.
-pub fn write_entity(out: &mut Vec<u8>, ty: &EntityType) -> Result<(), Error>
-    ensures { Appends result out.old out.new (entity ty.now) }
-{
-    let start = out.len();
-    let given = put_entity(out, ty);
-    settled(out, start, given)
-}
-
 fn some_entity_len(ty: &EntityType) -> u32
     ensures length { Takes result (entity ty.now) }
     ensures most { result ≤ 28 }
@@ -138,6 +130,25 @@ fn some_entity_len(ty: &EntityType) -> u32
     }
 }
 
+impl Spelled<CoreFormat> for EntityType {
+    ghost piece = { λ t. entity t };
+
+    fn put(&self, out: &mut Vec<u8>) -> Result<(), Error> {
+        put_entity(out, self)
+    }
+
+    fn spelled_len(&self) -> Option<u32> {
+        Some(some_entity_len(self))
+    }
+}
+
+/// Appends what is imported or exported.
+pub fn write_entity(out: &mut Vec<u8>, ty: &EntityType) -> Result<(), Error>
+    ensures { Appends result out.old out.new (entity ty.now) }
+{
+    write_spelled(out, ty)
+}
+
 /// The length of its spelling, which always has one of at most 4,294,967,295 bytes.
 pub fn entity_len(ty: &EntityType) -> Option<u32>
     ensures { IsLengthOf result (entity ty.now) }
@@ -145,99 +156,31 @@ pub fn entity_len(ty: &EntityType) -> Option<u32>
     Some(some_entity_len(ty))
 }
 
-fn put_core_import(out: &mut Vec<u8>, import: &Import) -> Result<(), Error>
-    ensures { Puts result out.old out.new (core_import (shown_import import.now)) }
-{
-    write_text(out, &import.module)?;
-    write_text(out, &import.name)?;
-    put_entity(out, &import.entity_type)
+impl Spelled<CoreFormat> for Import {
+    ghost piece = { λ i. core_import (shown_import i) };
+
+    fn put(&self, out: &mut Vec<u8>) -> Result<(), Error> {
+        write_text(out, &self.module)?;
+        write_text(out, &self.name)?;
+        put_entity(out, &self.entity_type)
+    }
+
+    fn spelled_len(&self) -> Option<u32> {
+        let after = text_len(&self.name)?.checked_add(some_entity_len(&self.entity_type))?;
+        text_len(&self.module)?.checked_add(after)
+    }
 }
 
 /// Appends an import. It is too long where the length of a name passes 4,294,967,295.
 pub fn write_core_import(out: &mut Vec<u8>, import: &Import) -> Result<(), Error>
     ensures { Appends result out.old out.new (core_import (shown_import import.now)) }
 {
-    let start = out.len();
-    let given = put_core_import(out, import);
-    settled(out, start, given)
+    write_spelled(out, import)
 }
 
-/// The length of an import's spelling; None exactly where it has none of at most 4,294,967,295 bytes.
+/// The length of an import's encoding; None exactly where it has none of at most 4,294,967,295 bytes.
 pub fn core_import_len(import: &Import) -> Option<u32>
     ensures { IsLengthOf result (core_import (shown_import import.now)) }
 {
-    let behind = text_len(&import.name)?.checked_add(some_entity_len(&import.entity_type))?;
-    text_len(&import.module)?.checked_add(behind)
-}
-
-#[cfg(test)]
-mod tests {
-    use super::*;
-    use crate::types::{MemoryType, RefType, ValType};
-    use std::test::Fail;
-
-    // The bytes are worked out by hand from the core specification's binary format.
-    #[test]
-    fn writes_entities(rt: HostRuntime) -> Result<(), Fail> {
-        let memory = EntityType::Memory(MemoryType {
-            minimum: 0,
-            maximum: None,
-            shared: false,
-            memory64: false,
-        });
-        let wide = EntityType::Memory(MemoryType {
-            minimum: 1,
-            maximum: Some(128),
-            shared: true,
-            memory64: true,
-        });
-        let table = EntityType::Table(TableType {
-            element_type: RefType::FuncRef,
-            table64: false,
-            minimum: 1,
-            maximum: Some(2),
-        });
-        let fixed = EntityType::Global(GlobalType {
-            val_type: ValType::I32,
-            mutable: false,
-        });
-        let nullable = ValType::Ref(RefType::Concrete {
-            nullable: true,
-            index: 64,
-        });
-        let mutable = EntityType::Global(GlobalType {
-            val_type: nullable,
-            mutable: true,
-        });
-        let mut out = Vec::new(rt.alloc());
-        for entity in [memory, wide, table, fixed, mutable] {
-            write_entity(&mut out, &entity)?;
-        }
-        write_entity(&mut out, &EntityType::Tag(TagType { func_type_idx: 3 }))?;
-        write_entity(&mut out, &EntityType::Func(128))?;
-        let expected = [
-            0x02, 0x00, 0x00, 0x02, 0x07, 0x01, 0x80, 0x01, 0x01, 0x70, 0x01, 0x01, 0x02, 0x03,
-            0x7f, 0x00, 0x03, 0x63, 0xc0, 0x00, 0x01, 0x04, 0x00, 0x03, 0x00, 0x80, 0x01,
-        ];
-        assert_eq!(rt; out.as_slice(), expected.as_slice());
-        assert_eq!(rt; entity_len(&wide), Some(5));
-        assert_eq!(rt; entity_len(&table), Some(5));
-        assert_eq!(rt; entity_len(&mutable), Some(5));
-        Ok(())
-    }
-
-    #[test]
-    fn writes_an_import(rt: HostRuntime) -> Result<(), Fail> {
-        let import = Import {
-            module: String::from_str(rt.alloc(), "m")?,
-            name: String::new(rt.alloc()),
-            entity_type: EntityType::Func(0),
-        };
-        let mut out = Vec::new(rt.alloc());
-        write_core_import(&mut out, &import)?;
-        let expected = [0x01, 0x6d, 0x00, 0x00, 0x00];
-        assert_eq!(rt; out.as_slice(), expected.as_slice());
-        assert_eq!(rt; core_import_len(&import), Some(5));
-        Ok(())
-    }
+    import.spelled_len()
 }

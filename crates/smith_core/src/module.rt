@@ -5,7 +5,7 @@ ghost use Rattle.smith_core.specs.Module.{module_text};
 ghost use Rattle.smith_core.specs.Piece.{bytes};
 ghost use Rattle.smith_core.specs.Writing.{Appends, Measures};
 
-use crate::pieces::write_bytes;
+use crate::buffer::write_bytes;
 use smith_input::Error;
 
 /// A core module. One without sections is all there is so far: its text is the core preamble.

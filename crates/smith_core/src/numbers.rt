@@ -1,12 +1,12 @@
 //! Numbers in LEB128, written at the end of a buffer, and their lengths.
-#![tactic(auto, using(crate::proofs::Steps::writing))]
+#![tactic(auto, using(crate::proofs::Steps::writing, crate::proofs::Sizes::measuring))]
 
 ghost use Rattle.std.specs.Prelude.{◌≡◌, ℕ, ◌≤◌, length, pos};
 ghost use Rattle.smith_core.specs.Numbers.{unsigned, signed};
 ghost use Rattle.smith_core.specs.Piece.{number, s, s_index, u};
-ghost use Rattle.smith_core.specs.Writing.{Puts, Appends};
+ghost use Rattle.smith_core.specs.Writing.{Puts, Appends, IsLengthOf, WantsMemoryFor};
 
-use crate::pieces::{settled, write_byte};
+use crate::buffer::{CoreFormat, Spelled, write_byte, write_spelled};
 use smith_input::Error;
 
 // A signed number between these is its last byte.
@@ -25,13 +25,23 @@ fn put_u64(out: &mut Vec<u8>, n: u64) -> Result<(), Error>
     write_byte(out, rest as u8)
 }
 
+impl Spelled<CoreFormat> for u64 {
+    ghost piece = { λ n. number n };
+
+    fn put(&self, out: &mut Vec<u8>) -> Result<(), Error> {
+        put_u64(out, *self)
+    }
+
+    fn spelled_len(&self) -> Option<u32> {
+        Some(u64_len(*self))
+    }
+}
+
 /// Appends an unsigned number.
 pub fn write_u64(out: &mut Vec<u8>, n: u64) -> Result<(), Error>
     ensures { Appends result out.old out.new (number n) }
 {
-    let start = out.len();
-    let given = put_u64(out, n);
-    settled(out, start, given)
+    write_spelled(out, &n)
 }
 
 /// The length of an unsigned number.
@@ -50,7 +60,8 @@ pub fn u64_len(n: u64) -> u32
 
 /// Appends a length, a count or an index.
 pub fn write_u32(out: &mut Vec<u8>, n: u32) -> Result<(), Error>
-    ensures { Appends result out.old out.new (u n) }
+    ensures written { Appends result out.old out.new (u n) }
+    ensures full { WantsMemoryFor result (u n) }
 {
     write_u64(out, u64::from(n))
 }
@@ -74,13 +85,23 @@ fn put_s64(out: &mut Vec<u8>, n: i64) -> Result<(), Error>
     write_byte(out, rest.rem_euclid(128) as u8)
 }
 
+impl Spelled<CoreFormat> for i64 {
+    ghost piece = { λ n. s n };
+
+    fn put(&self, out: &mut Vec<u8>) -> Result<(), Error> {
+        put_s64(out, *self)
+    }
+
+    fn spelled_len(&self) -> Option<u32> {
+        Some(s64_len(*self))
+    }
+}
+
 /// Appends a signed number.
 pub fn write_s64(out: &mut Vec<u8>, n: i64) -> Result<(), Error>
     ensures { Appends result out.old out.new (s n) }
 {
-    let start = out.len();
-    let given = put_s64(out, n);
-    settled(out, start, given)
+    write_spelled(out, &n)
 }
 
 /// The length of a signed number.
@@ -99,7 +120,8 @@ pub fn s64_len(n: i64) -> u32
 
 /// Appends an index where a value type may stand.
 pub fn write_type_index(out: &mut Vec<u8>, index: u32) -> Result<(), Error>
-    ensures { Appends result out.old out.new (s_index index) }
+    ensures written { Appends result out.old out.new (s_index index) }
+    ensures full { WantsMemoryFor result (s_index index) }
 {
     write_s64(out, i64::from(index))
 }
@@ -112,27 +134,21 @@ pub fn type_index_len(index: u32) -> u32
     s64_len(i64::from(index))
 }
 
-#[cfg(test)]
-mod tests {
-    use super::*;
-    use std::test::Fail;
-
-    // The bytes are those of the core specification's and DWARF's examples, or worked out by hand.
-    #[test]
-    fn writes_numbers(rt: HostRuntime) -> Result<(), Fail> {
-        let mut out = Vec::new(rt.alloc());
-        write_u32(&mut out, 64)?;
-        write_u32(&mut out, 624_485)?;
-        write_u64(&mut out, 1 << 35)?;
-        write_s64(&mut out, 64)?;
-        write_s64(&mut out, -1)?;
-        write_s64(&mut out, -65)?;
-        write_type_index(&mut out, 63)?;
-        let expected = [
-            0x40, 0xe5, 0x8e, 0x26, 0x80, 0x80, 0x80, 0x80, 0x80, 0x01, 0xc0, 0x00, 0x7f, 0xbf,
-            0x7f, 0x3f,
-        ];
-        assert_eq!(rt; out.as_slice(), expected.as_slice());
-        Ok(())
+/// Appends a length or a count. It is too long where it passes 4,294,967,295.
+pub fn write_count(out: &mut Vec<u8>, count: usize) -> Result<(), Error>
+    ensures written { Appends result out.old out.new (u count) }
+    ensures full { WantsMemoryFor result (u count) }
+{
+    if count > u32::MAX as usize {
+        return Err(Error::TooLong);
     }
+    write_u32(out, count as u32)
+}
+
+/// The length of a written length or count; None exactly where that passes 4,294,967,295.
+pub fn count_len(count: usize) -> Option<u32>
+    ensures { IsLengthOf result (u count) }
+{
+    let count = u32::try_from(count).ok()?;
+    Some(u32_len(count))
 }

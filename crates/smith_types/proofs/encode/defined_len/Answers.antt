@@ -3,7 +3,7 @@ use Rattle.smith_core.specs.Piece.{text}
 use Rattle.smith_core.proofs.Lists.{many-map}
 use Rattle.smith_types.specs.Grammar.{labelvaltype, case}
 use Rattle.smith_types.specs.Signature.{named}
-use Rattle.smith_types.proofs.encode.defined_len.Goals as goal
+use Rattle.smith_types.proofs.encode.defined.defined_len.Goals as goal
 
 pub returns-in-Record : goal.returns-in-Record
 returns-in-Record c = rw (c.in-Record.is, many-map labelvaltype named _) (rw c.deref.ensures.value at (c.tagged_len.ensures 0x72))

@@ -1,6 +1,6 @@
 use Rattle.std.proofs.Common.{arith}
 use Rattle.smith_core.proofs.Sizes.{sum_none, sum_next, sum_all, each_too_much, each_reaches, many_too_much, length_then}
-use Rattle.smith_types.proofs.encode.lists.many_len.Goals as goal
+use Rattle.smith_core.proofs.lists.many_len.Goals as goal
 
 pub loop-item-init : goal.loop-item-init
 loop-item-init g c = sum_none _ _
