@@ -1,7 +1,7 @@
 use Rattle.std.proofs.Common.{string_bytes}
 use Rattle.smith_core.specs.Piece.{text}
 use Rattle.smith_core.proofs.Steps.{exits_between}
-use Rattle.smith_core.proofs.Lists.{many-map}
+use Rattle.smith_core.proofs.Many.{many-map}
 use Rattle.smith_types.specs.Grammar.{labelvaltype, case}
 use Rattle.smith_types.specs.Signature.{named}
 use Rattle.smith_types.proofs.encode.defined.put_defined.Goals as goal
