@@ -8,3 +8,4 @@ pub mod Digits
 pub mod Piece
 pub mod Sizes
 pub mod Steps
+pub mod TooLong

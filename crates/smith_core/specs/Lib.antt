@@ -9,4 +9,5 @@ pub mod CoreReading
 pub mod Equality
 pub mod CoreScript
 pub mod Writing
+pub mod TooLong
 pub mod Clear

@@ -23,8 +23,8 @@ pub record Gains (old new : Vec ℕ Global) (p : Piece) : Type 0 where
   pub begins : Begins old new
   pub length : vec_len new ≡ vec_len old + piece_length p
 
--- A writer of the piece may answer this error: what is too long has no spelling, and memory can be lacking only where old
--- had no room for the spelling.
+-- A writer of the piece may answer this error. What is too long has no encoding. Memory is lacking where old had no room for
+-- the encoding; of a piece of several parts that has none, it may be lacking too, for the parts before the one that is too long.
 pub record IsDue (e : Error) (old : Vec ℕ Global) (p : Piece) : Type 0 where
   pub only : (e ≡ TooLong) ⊎ (e ≡ OutOfMemory)
   pub too_long : e ≡ TooLong → p ≡ None
@@ -40,7 +40,7 @@ abbrev pub Appends : {A : Type 0} → Result A Error → Vec ℕ Global → Vec 
 Appends (Ok _) old new p = Gains old new p
 Appends (Err e) old new p = Keeps old new × IsDue e old p
 
--- Want of memory is answered only for a piece that has an encoding: what is too long is answered as too long.
+-- Memory is lacking only for a piece that has an encoding: what is too long is answered as too long, whatever room there is.
 abbrev pub WantsMemoryFor : {A : Type 0} → Result A Error → Piece → Type 0
 WantsMemoryFor r p = IfErr r (λ e. e ≡ OutOfMemory → ¬ (p ≡ None))
 

@@ -1,18 +1,21 @@
 //! Laws of spellings, and of reads of core types. Each function does nothing: its contract is the law.
 
-ghost use Rattle.std.specs.Prelude.{◌≡◌, ◌↔◌, ℕ, ◌+◌, ◌/◌, ◌%◌, ◌^◌, ◌<◌, ◌≤◌, List, [], ◌∷◌, length, None, ℤ, pos, negsuc, ◌≤ℤ◌, ◌<ℤ◌, Bool, ◌++◌};
+ghost use Rattle.std.specs.Prelude.{◌≡◌, ◌↔◌, ◌⊎◌, ℕ, ◌+◌, ◌/◌, ◌%◌, ◌^◌, ◌<◌, ◌≤◌, List, [], ◌∷◌, length, None, ℤ, pos, negsuc, ◌≤ℤ◌, ◌<ℤ◌, Bool, ◌++◌};
+ghost use Rattle.std.specs.List.{AllByRecursion, Any};
 ghost use Rattle.std.specs.Str.{IsUtf8};
 ghost use Rattle.smith_core.specs.Clear.{IsClear, IsExact};
 ghost use Rattle.smith_core.specs.CoreFormed.{FormedFunction};
 ghost use Rattle.smith_core.specs.CoreReading.{ReadsMemory, ReadsTable, ReadsTag, ReadsFunction};
 ghost use Rattle.smith_core.specs.CoreScript.{script_function};
 ghost use Rattle.smith_core.specs.CoreTypes.{Function, core_val, core_function};
-ghost use Rattle.smith_core.specs.Entities.{entity, core_import};
+ghost use Rattle.smith_core.specs.Entities.{CoreImport, entity, core_import};
 ghost use Rattle.smith_core.specs.Numbers.{unsigned, signed, low_bits, high_bits};
 ghost use Rattle.smith_core.specs.declared.types.MemoryType.{MemoryType};
 ghost use Rattle.smith_core.specs.declared.types.TableType.{TableType};
 ghost use Rattle.smith_core.specs.declared.types.TagType.{TagType};
 ghost use Rattle.smith_core.specs.declared.types.ValType.{ValType};
+ghost use Rattle.smith_core.specs.TooLong.{ValTooLong, FunctionTooLong, EntityTooLong, ImportTooLong};
+ghost use Rattle.smith_core.specs.declared.types.EntityType.{EntityType};
 ghost use Rattle.smith_core.specs.Piece.{Piece, ◌⊕◌, bytes, u, number, s, s_index, text, raw, many, sized};
 
 /// An unsigned number below 128 is one byte. Any other begins with the byte of its lowest seven bits and 128
@@ -68,6 +71,25 @@ pub fn too_long_has_no_spelling()
     ensures index { (n : ℕ) → (s_index n ≡ None) ↔ (2 ^ 32 ≤ n) }
     ensures text { (t : List ℕ) → IsUtf8 t → (text t ≡ None) ↔ (2 ^ 32 ≤ length t) }
     ensures section { (id : ℕ) (c : List ℕ) → (sized id (bytes c) ≡ None) ↔ (2 ^ 32 ≤ length c) }
+{}
+
+/// A list has no encoding exactly where its count passes 4,294,967,295 or one of its members has none.
+pub fn long_lists_have_no_encoding<T>()
+    ensures { (f : T → Piece) (xs : List T) → (many f xs ≡ None) ↔ ((2 ^ 32 ≤ length xs) ⊎ Any (λ x. f x ≡ None) xs) }
+{}
+
+/// Bytes as they are always have an encoding.
+pub fn bytes_have_an_encoding()
+    ensures { (bs : List ℕ) → AllByRecursion (λ b. b < 256) bs → ¬ (raw bs ≡ None) }
+{}
+
+/// A core type has no encoding exactly where a count or an index in it passes 4,294,967,295; nor has what a core module
+/// imports or exports, nor an import exactly where that or the length of a name does.
+pub fn long_core_types_have_no_encoding()
+    ensures values { (v : ValType) → (core_val v ≡ None) ↔ ValTooLong v }
+    ensures functions { (f : Function) → (core_function f ≡ None) ↔ FunctionTooLong f }
+    ensures entities { (e : EntityType) → (entity e ≡ None) ↔ EntityTooLong e }
+    ensures imports { (i : CoreImport) → IsUtf8 i.0 → IsUtf8 i.1 → (core_import i ≡ None) ↔ ImportTooLong i }
 {}
 
 /// No spelling of a core type is a prefix of another of its sort, and two readings with anything behind are one; the

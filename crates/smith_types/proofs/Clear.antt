@@ -6,7 +6,8 @@ use Rattle.smith_core.specs.Entities.{entity}
 use Rattle.smith_core.specs.Piece.{Piece, ◌⊕◌, byte, s_index, text, many, u}
 use Rattle.smith_core.specs.declared.types.EntityType.{EntityType}
 use Rattle.smith_core.proofs.Clear.{tail, head, then_head, then_tail, then_agree, clash, clear_byte, clear_s_index, s_index_head, clear_text, clear_u, clear_many, clear_both}
-use Rattle.smith_core.proofs.CoreUnique.{clear_core_function, clear_entity}
+use Rattle.smith_core.proofs.CoreTypes.{clear_core_function}
+use Rattle.smith_core.proofs.Entities.{clear_entity}
 use Rattle.smith_types.specs.Entries.{DefValType, primitive_type, record_type, variant_type, list_type, tuple_type, flags_type, enum_type, option_type, result_type}
 use Rattle.smith_types.specs.Entries.{Field, Signature, Entry, defined, function, CoreEntry, core_func, core_module, ModuleDecl, imports, declares, aliases, exports, ImportEntry}
 use Rattle.smith_types.specs.Grammar.{primvaltype, valtype, maybe_valtype, labelvaltype, case, resultlist, defvaltype, functype, entry, moduledecl, core_entry, import_entry}

@@ -2,7 +2,7 @@
 use Rattle.std.proofs.Common.{◌≡◌, ℕ, ◌<◌, ◌^◌, Some, pos}
 use Rattle.smith_core.specs.Numbers.{signed}
 use Rattle.smith_core.specs.Piece.{s_index}
-use Rattle.smith_core.proofs.Digits.{s_index_fits}
+use Rattle.smith_core.proofs.Piece.{s_index_fits}
 
 -- `s_index_fits`, for `grind`
 pub s_index_is : (n : ℕ) → n < 2 ^ 32 → s_index n ≡ Some (signed (pos n))

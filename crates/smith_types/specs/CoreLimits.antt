@@ -1,8 +1,8 @@
 -- The limits of a config within a core type.
 use Rattle.std.specs.Prelude.{ℕ, ◌≤◌, List, if◌then◌else◌}
-use Rattle.std.specs.List.{AllByRecursion}
-use Rattle.smith_core.specs.Configured.{configured}
-use Rattle.smith_core.specs.CoreFormed.{FormedFunction, IsAmong}
+use Rattle.std.specs.List.{AllByRecursion, Contains}
+use Rattle.smith_core.specs.Limits.{configured}
+use Rattle.smith_core.specs.CoreFormed.{FormedFunction}
 use Rattle.smith_core.specs.declared.config.Config.{Config}
 use Rattle.smith_core.specs.declared.types.EntityType.{EntityType}
 use Rattle.smith_core.specs.declared.types.EntityType.TheVariants.{Func, Table, Memory, Global, Tag}
@@ -20,7 +20,7 @@ abbrev pub GlobalLimits : Config → EntityType → Type 0
 GlobalLimits config (Func i) = Unit {0}
 GlobalLimits config (Table t) = Unit {0}
 GlobalLimits config (Memory m) = Unit {0}
-GlobalLimits config (Global g) = IsAmong (configured config) g.val_type
+GlobalLimits config (Global g) = Contains (configured config) g.val_type
 GlobalLimits config (Tag t) = Unit {0}
 
 -- a module type of these declarations

@@ -6,13 +6,13 @@ use Rattle.std.specs.List.{filter, flat_map, IsDistinct}
 use Rattle.std.specs.Option.{option_to_list}
 use Rattle.smith_core.specs.CoreTypes.{Function}
 use Rattle.smith_core.specs.Entities.{kind_of}
+use Rattle.smith_core.specs.Equality.{same_val}
 use Rattle.smith_core.specs.declared.types.EntityType.{EntityType}
 use Rattle.smith_core.specs.declared.types.EntityType.TheVariants.{Func, Table, Memory, Global, Tag}
 use Rattle.smith_core.specs.declared.types.ExportKind.{ExportKind}
 use Rattle.smith_core.specs.declared.types.ExportKind.TheVariants as kind
 use Rattle.smith_core.specs.declared.types.ValType.TheVariants.{I32}
 use Rattle.smith_core.specs.contracts.types.ExportKindPartialEq.TheImpl.{ghosts as kinds}
-use Rattle.smith_core.specs.contracts.types.ValTypePartialEq.TheImpl.{ghosts as values}
 use Rattle.smith_types.specs.Entries.{CoreEntry, ModuleDecl, core_func, core_module, imports, declares, aliases, exports}
 
 -- a core function type, where it is one
@@ -116,7 +116,7 @@ abbrev pub free : Function
 free = (I32 ∷ I32 ∷ I32 ∷ [], [])
 
 abbrev pub same_function : Function → Function → Bool
-same_function f g = pointwise values.eq f.0 g.0 && pointwise values.eq f.1 g.1
+same_function f g = pointwise same_val f.0 g.0 && pointwise same_val f.1 g.1
 
 -- Does it declare that function type?
 abbrev pub is_type : Function → ModuleDecl → Bool

@@ -7,7 +7,7 @@ use Rattle.smith_core.specs.CoreFormed.{FormedMemory, FormedTable}
 use Rattle.smith_core.specs.CoreTypes.{Function}
 use Rattle.smith_core.specs.declared.types.EntityType.{EntityType}
 use Rattle.smith_core.specs.declared.types.EntityType.TheVariants.{Func, Table, Memory, Global, Tag}
-use Rattle.smith_input.specs.Names.{Kebab}
+use Rattle.smith_input.specs.Kebab.{Kebab}
 use Rattle.smith_types.specs.Entries.{DefValType, primitive_type, record_type, variant_type, list_type, tuple_type, flags_type, enum_type, option_type, result_type}
 use Rattle.smith_types.specs.Entries.{Entry, defined, function, CoreEntry, core_func, core_module, ModuleDecl, imports, declares, aliases, exports}
 use Rattle.smith_types.specs.ModuleTypes.{adds, aliased, is_tag_type, HasNewNames, after_front}

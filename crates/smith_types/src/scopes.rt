@@ -5,11 +5,13 @@ ghost use Rattle.smith_types.specs.Scope.{empty_scope, with_type, with_core_type
 ghost use Rattle.smith_types.specs.Scopes.{inward, shown_scope, kind_places, has_signature, last_of, scope_at, AddsType, AddsCoreType, Notes, SameRows};
 
 use crate::core_types::CoreType;
+use crate::drops::drop_last_first;
 use crate::func::FuncType;
 use crate::types::DefType;
 use smith_input::Error;
 use std::alloc::Global;
 use std::collections::HashMap;
+use std::hash::{BuildHasherDefault, DefaultHasher};
 use std::marker::Model;
 use std::mem;
 use std::rc::Rc;
@@ -27,14 +29,18 @@ pub enum Kind {
     CoreModule,
 }
 
+// The indexes of the equals of each function type. The names in them come from the input: a hasher that such names can
+// steer would make the map slow, and SipHash is none.
+type Equals = HashMap<FuncType, Vec<u32>, BuildHasherDefault<DefaultHasher>>;
+
 // The types and core types of one scope, with the indexes of each kind and, by each function type, those of its equals.
-// Contracts see the types and the core types.
-#[derive(Drop)]
+// Contracts see the types and the core types. It drops its types from the last to the first, since each holds none after
+// it; the code says so, and a test alone shows it.
 struct Scope {
     types: Vec<Rc<DefType>>,
     defined: Vec<u32>,
     funcs: Vec<u32>,
-    equal: HashMap<FuncType, Vec<u32>>,
+    equal: Equals,
     core_types: Vec<Rc<CoreType>>,
     core_funcs: Vec<u32>,
     core_modules: Vec<u32>,
@@ -50,8 +56,9 @@ impl Model for Scope {
     ghost invariant = { λ s. IsTied (values_of s.types.items) s.defined.items s.funcs.items s.equal × IsCoreTied (values_of s.core_types.items) s.core_funcs.items s.core_modules.items };
 }
 
-/// A stack of scopes, never empty. Contracts see the list, outermost first, of the types and core types in each.
-#[derive(Drop)]
+/// A stack of scopes, never empty. Contracts see the list, outermost first, of the types and core types in each. It is
+/// dropped from the last scope to the first, and each scope from its last type to its first, so that the stack that this
+/// takes does not grow with the number of types. This order is the code's, and shown by a test alone.
 pub struct Scopes {
     alloc: Global,
     outer: Vec<Scope>,
@@ -67,9 +74,37 @@ impl Model for Scopes {
     ghost view = { λ s. s.outer.items ++ s.inner ∷ [] };
 }
 
+impl Drop for Scope {
+    fn drop(self) {
+        let Scope {
+            types,
+            defined: _,
+            funcs: _,
+            equal: _,
+            core_types,
+            core_funcs: _,
+            core_modules: _,
+        } = self;
+        drop_last_first(types);
+        drop_last_first(core_types);
+    }
+}
+
+impl Drop for Scopes {
+    fn drop(self) {
+        let Scopes {
+            alloc: _,
+            outer,
+            inner,
+        } = self;
+        drop(inner);
+        drop_last_first(outer);
+    }
+}
+
 // Puts the index at the end of the row of a function type. Where it refuses, each row is as it was.
 fn note(
-    equal: &mut HashMap<FuncType, Vec<u32>>,
+    equal: &mut Equals,
     alloc: Global,
     func: &FuncType,
     index: u32,
@@ -97,7 +132,7 @@ impl Scope {
             types: Vec::new(alloc),
             defined: Vec::new(alloc),
             funcs: Vec::new(alloc),
-            equal: HashMap::new(alloc),
+            equal: HashMap::with_hasher(alloc, BuildHasherDefault::default()),
             core_types: Vec::new(alloc),
             core_funcs: Vec::new(alloc),
             core_modules: Vec::new(alloc),

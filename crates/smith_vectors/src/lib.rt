@@ -6,6 +6,8 @@ mod common;
 #[cfg(test)]
 mod components;
 #[cfg(test)]
+mod core_encoding;
+#[cfg(test)]
 mod custom;
 #[cfg(test)]
 mod deep;

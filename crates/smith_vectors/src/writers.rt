@@ -1,7 +1,6 @@
 //! What writers write.
 
-use smith_core::pieces::write_section;
-use smith_core::{EntityType, MemoryType, ValType};
+use smith_core::{EntityType, MemoryType, ValType, write_section};
 use smith_types::encode::{write_core_type, write_type};
 use smith_types::{
     ComponentValType, CoreType, DefType, DefinedType, FuncType, ListType, ModuleType,

@@ -7,12 +7,12 @@ ghost use Rattle.smith_core.specs.Writing.{Puts, Appends, IsLengthOf};
 ghost use Rattle.smith_types.specs.Grammar.{moduledecl, core_entry};
 ghost use Rattle.smith_types.specs.Shown.{shown_decl, shown_core, shown_shared_core};
 
-use super::lists::{Spelled, put_tagged, tagged_len};
+use super::values::ComponentFormat;
 use crate::core_types::{CoreType, ModuleTypeDef};
-use smith_core::numbers::{u32_len, write_u32};
-use smith_core::pieces::{settled, text_len, write_byte, write_bytes, write_text};
 use smith_core::{
-    core_import_len, entity_len, func_type_len, write_core_import, write_entity, write_func_type,
+    Spelled, core_import_len, entity_len, func_type_len, put_tagged, tagged_len, text_len, u32_len,
+    write_byte, write_bytes, write_core_import, write_entity, write_func_type, write_spelled,
+    write_text, write_u32,
 };
 use smith_input::Error;
 use std::rc::Rc;
@@ -57,7 +57,7 @@ fn decl_len(decl: &ModuleTypeDef) -> Option<u32>
     }
 }
 
-impl Spelled for ModuleTypeDef {
+impl Spelled<ComponentFormat> for ModuleTypeDef {
     ghost piece = { λ d. moduledecl (shown_decl d) };
 
     fn put(&self, out: &mut Vec<u8>) -> Result<(), Error> {
@@ -69,7 +69,7 @@ impl Spelled for ModuleTypeDef {
     }
 }
 
-impl Spelled for Rc<CoreType> {
+impl Spelled<ComponentFormat> for Rc<CoreType> {
     ghost piece = { λ t. core_entry (shown_shared_core t) };
 
     fn put(&self, out: &mut Vec<u8>) -> Result<(), Error> {
@@ -90,13 +90,23 @@ fn put_core_type(out: &mut Vec<u8>, ty: &CoreType) -> Result<(), Error>
     }
 }
 
+impl Spelled<ComponentFormat> for CoreType {
+    ghost piece = { λ t. core_entry (shown_core t) };
+
+    fn put(&self, out: &mut Vec<u8>) -> Result<(), Error> {
+        put_core_type(out, self)
+    }
+
+    fn spelled_len(&self) -> Option<u32> {
+        core_type_len(self)
+    }
+}
+
 /// Appends a core type. It is too long where a length or a count in it passes 4,294,967,295.
 pub fn write_core_type(out: &mut Vec<u8>, ty: &CoreType) -> Result<(), Error>
     ensures { Appends result out.old out.new (core_entry (shown_core ty.now)) }
 {
-    let start = out.len();
-    let given = put_core_type(out, ty);
-    settled(out, start, given)
+    write_spelled(out, ty)
 }
 
 /// The length of a core type's spelling; None exactly where it has none of at most 4,294,967,295 bytes.

@@ -1,4 +1,4 @@
-use Rattle.smith_core.proofs.Loops.{many-map}
+use Rattle.smith_core.proofs.Many.{many-map}
 use Rattle.smith_types.specs.Grammar.{moduledecl}
 use Rattle.smith_types.specs.Shown.{shown_decl}
 use Rattle.smith_types.proofs.encode.core_types.put_core_type.Goals as goal

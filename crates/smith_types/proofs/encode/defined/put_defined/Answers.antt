@@ -1,10 +1,10 @@
 use Rattle.std.proofs.Common.{string_bytes}
 use Rattle.smith_core.specs.Piece.{text}
 use Rattle.smith_core.proofs.Steps.{exits_between}
-use Rattle.smith_core.proofs.Loops.{many-map}
+use Rattle.smith_core.proofs.Many.{many-map}
 use Rattle.smith_types.specs.Grammar.{labelvaltype, case}
 use Rattle.smith_types.specs.Signature.{named}
-use Rattle.smith_types.proofs.encode.put_defined.Goals as goal
+use Rattle.smith_types.proofs.encode.defined.put_defined.Goals as goal
 
 pub returns-in-Record : goal.returns-in-Record
 returns-in-Record c = rw (c.in-Record.is, many-map labelvaltype named _) (rw c.deref.ensures.value at c.put_tagged.ensures)
