@@ -5,7 +5,7 @@ use Rattle.smith_core.specs.Clear.{Agree, IsClear, IsExact}
 use Rattle.smith_core.specs.Module.{core_preamble}
 use Rattle.smith_core.specs.Piece.{Piece, ◌⊕◌, bytes, raw, text, many}
 use Rattle.smith_core.proofs.Clear.{tail, clash, exact, exact_both, exact_raw, clear_text, clear_many, same_section, section_head}
-use Rattle.smith_core.proofs.Raw.{raw_whole}
+use Rattle.smith_core.proofs.Piece.{raw_whole}
 use Rattle.smith_types.specs.Grammar.{entry, core_entry, import_entry}
 use Rattle.smith_types.proofs.Clear.{clear_entry, clear_import_entry}
 use Rattle.smith_types.proofs.Clear.{clear_core_entry}

@@ -1,7 +1,18 @@
 //! Parts that are added to the inner component.
 
 ghost use Rattle.std.specs.Prelude.{
-    ◌≡◌, ℕ, List, ◌-◌, ◌+◌, ◌≤◌, [], map, length, IfOk, IfErr, IsTrue
+  ◌≡◌,
+  ℕ,
+  List,
+  ◌-◌,
+  ◌+◌,
+  ◌≤◌,
+  [],
+  map,
+  length,
+  IfOk,
+  IfErr,
+  IsTrue,
 };
 ghost use Rattle.smith_input.specs.Reading.{IsTail};
 ghost use Rattle.smith_core.specs.Module.{core_preamble};
@@ -41,7 +52,7 @@ fn read_types(
     requires { length (own_of (inward scopes.old)).types + max ≤ 4294967295 }
     ensures entries { IfOk result (λ v.
         ReadsTypes config.now (outer_of (inward scopes.old)) max (own_of (inward scopes.old))
-            u.old (map shown_shared v.items) u.new (own_of (inward scopes.new))) }
+        u.old (map shown_shared v.items) u.new (own_of (inward scopes.new))) }
     ensures outer { IfOk result (λ _. outer_of (inward scopes.new) ≡ outer_of (inward scopes.old)) }
     ensures depth { IfOk result (λ _. length (inward scopes.new) ≡ length (inward scopes.old)) }
     ensures bound { IfOk result (λ v. length v.items ≤ max) }
