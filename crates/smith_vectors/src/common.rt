@@ -23,6 +23,7 @@ pub fn small_limits() -> Config {
 }
 
 /// An input, the bytes of the component that it gives, after the preamble, and what it leaves.
+#[derive(Clone, Copy)]
 pub struct Row<'a> {
     pub name: &'a str,
     pub input: &'a [u8],
@@ -36,8 +37,18 @@ pub fn check<R: Abort + AllocGlobal>(rt: &R, config: Config, row: &Row<'_>) -> R
     let generated = generate(rt.alloc(), config, &mut u)?;
     let mut expected = Vec::from_slice(rt.alloc(), PREAMBLE)?;
     expected.extend_from_slice(row.gives)?;
-    assert_eq!(rt; generated.bytes.as_slice(), expected.as_slice(), "{}", row.name);
-    assert_eq!(rt; generated.component.measure()?, expected.len() as u128, "{}", row.name);
+    assert_eq!(rt;
+        generated.bytes.as_slice(),
+        expected.as_slice(),
+        "{}",
+        row.name
+    );
+    assert_eq!(rt;
+        generated.component.measure()?,
+        expected.len() as u128,
+        "{}",
+        row.name
+    );
     assert_eq!(rt; u.left(), row.leaves, "{}", row.name);
     Ok(())
 }

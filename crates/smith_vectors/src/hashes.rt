@@ -67,6 +67,9 @@ fn function_types_of_one_hash_are_told_apart_in_time(rt: HostRuntime) -> Result<
     let mut u = Unstructured::new(&input);
     let component = Component::new(rt.alloc(), config, &mut u)?;
     assert!(rt; u.is_empty());
-    assert_eq!(rt; component.measure()?, 8 + 1 + 4 + 3 + 20_000 * (2 + 16 * 10 + 2));
+    assert_eq!(rt;
+        component.measure()?,
+        8 + 1 + 4 + 3 + 20_000 * (2 + 16 * 10 + 2)
+    );
     Ok(())
 }

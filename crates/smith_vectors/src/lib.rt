@@ -12,6 +12,8 @@ mod custom;
 #[cfg(test)]
 mod deep;
 #[cfg(test)]
+mod hashes;
+#[cfg(test)]
 mod limits;
 #[cfg(test)]
 mod names;

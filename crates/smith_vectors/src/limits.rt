@@ -8,12 +8,48 @@ use std::test::Fail;
 fn inconsistent_limits() -> [(&'static str, Config); 6] {
     let small = small_limits();
     [
-        ("min_types past max_types", Config { min_types: 11, ..small }),
-        ("min_imports past max_imports", Config { min_imports: 11, ..small }),
-        ("min_funcs past max_funcs", Config { min_funcs: 11, ..small }),
-        ("a nesting past 1000", Config { max_nesting_depth: 1001, ..small }),
-        ("types past 32 bits", Config { max_types: 4_294_967_296, ..small }),
-        ("instances past 32 bits", Config { max_instances: 4_294_967_296, ..small }),
+        (
+            "min_types past max_types",
+            Config {
+                min_types: 11,
+                ..small
+            },
+        ),
+        (
+            "min_imports past max_imports",
+            Config {
+                min_imports: 11,
+                ..small
+            },
+        ),
+        (
+            "min_funcs past max_funcs",
+            Config {
+                min_funcs: 11,
+                ..small
+            },
+        ),
+        (
+            "a nesting past 1000",
+            Config {
+                max_nesting_depth: 1001,
+                ..small
+            },
+        ),
+        (
+            "types past 32 bits",
+            Config {
+                max_types: 4_294_967_296,
+                ..small
+            },
+        ),
+        (
+            "instances past 32 bits",
+            Config {
+                max_instances: 4_294_967_296,
+                ..small
+            },
+        ),
     ]
 }
 
@@ -23,9 +59,15 @@ fn limits_that_do_not_fit_together_are_refused_before_a_byte_is_read(rt: HostRun
         for input in [b"" as &[u8], b"\x03\x01\x00"] {
             let mut u = Unstructured::new(input);
             let refused = generate(rt.alloc(), config, &mut u);
-            assert!(rt; matches!(refused, Err(Error::InconsistentLimits)), "generate: {name}");
+            assert!(rt;
+                matches!(refused, Err(Error::InconsistentLimits)),
+                "generate: {name}"
+            );
             let refused = Component::new(rt.alloc(), config, &mut u);
-            assert!(rt; matches!(refused, Err(Error::InconsistentLimits)), "Component::new: {name}");
+            assert!(rt;
+                matches!(refused, Err(Error::InconsistentLimits)),
+                "Component::new: {name}"
+            );
             assert_eq!(rt; u.left(), input, "{name}");
         }
     }
