@@ -16,19 +16,22 @@ ghost use Rattle.smith_types.specs.declared.types.DefType.{DefType};
 
 /// The scopes, the bytes and the fuel alone decide which type is made, and what is left of both.
 pub fn types_are_decided()
-    ensures { (own : Scope) (outer : List Scope) (bytes : List ℕ) (fuel : ℕ) (d e : Entry) (rest others : List ℕ) (left more : ℕ) → Made own outer bytes fuel d rest left
-        → Made own outer bytes fuel e others more → (d ≡ e) × (rest ≡ others) × (left ≡ more) }
+    ensures { (own : Scope) (outer : List Scope) (bytes : List ℕ) (fuel : ℕ)
+        → (d e : Entry) (rest others : List ℕ) (left more : ℕ)
+        → Made own outer bytes fuel d rest left → Made own outer bytes fuel e others more
+        → (d ≡ e) × (rest ≡ others) × (left ≡ more) }
 {}
 
 /// The script of a type that is well formed in its scopes and for which the fuel lasts, followed by any bytes, is
 /// made to that type, and the bytes after it are left.
 pub fn scripts_are_read()
-    ensures { (own : Scope) (outer : List Scope) (fuel : ℕ) (e : Entry) (rest : List ℕ) → FormedEntry e own outer → Lasts fuel e → length own.types ≤ 2 ^ 64
+    ensures { (own : Scope) (outer : List Scope) (fuel : ℕ) (e : Entry) (rest : List ℕ)
+        → FormedEntry e own outer → Lasts fuel e → length own.types ≤ 2 ^ 64
         → (left : ℕ) × Made own outer (script_type fuel own e ++ rest) fuel e rest left }
 {}
 
-/// Two function types are compared as equal exactly where their signatures are the same, and a type is one of a signature
-/// exactly where it is shown as the function of it.
+/// Two function types are compared as equal exactly where their signatures are the same, and a type is one of a
+/// signature exactly where it is shown as the function of it.
 pub fn signatures_are_told()
     ensures equal { (a b : Signature) → (same_signature a b ≡ true) ↔ (a ≡ b) }
     ensures shown { (s : Signature) (t : DefType) → (has_signature s t ≡ true) ↔ (shown_type t ≡ function s) }
