@@ -4,7 +4,8 @@
 #![tactic(auto, using(crate::proofs::Steps::writing, crate::proofs::Sizes::measuring))]
 
 ghost use Rattle.std.specs.Prelude.{◌≡◌, ◌≤◌, Bool};
-ghost use Rattle.smith_core.specs.Entities.{bit, maximum, limits, table_type, global_type, tag_type, entity, shown_import, core_import};
+ghost use Rattle.smith_core.specs.Entities.{bit, maximum, limits, table_type, global_type, tag_type, entity};
+ghost use Rattle.smith_core.specs.Entities.{shown_import, core_import};
 ghost use Rattle.smith_core.specs.Writing.{Puts, Appends, Takes, IsLengthOf};
 
 use crate::buffer::{CoreFormat, Spelled, write_byte, write_spelled};
