@@ -1,5 +1,5 @@
 //! Imports of a core module and what it imports or exports, in the binary format (core specification, Binary Format,
-//! Types and Import Section), and the lengths of their spellings. No writer lowers the capacity of its buffer, and none
+//! Types and Import Section), and the lengths of their encodings. No writer lowers the capacity of its buffer, and none
 //! wants memory where the buffer has room for what it writes.
 #![tactic(auto, using(crate::proofs::Steps::writing, crate::proofs::Sizes::measuring))]
 
@@ -150,7 +150,7 @@ pub fn write_entity(out: &mut Vec<u8>, ty: &EntityType) -> Result<(), Error>
     write_spelled(out, ty)
 }
 
-/// The length of its spelling, which always has one of at most 4,294,967,295 bytes.
+/// The length of its encoding, which always has one of at most 4,294,967,295 bytes.
 pub fn entity_len(ty: &EntityType) -> Option<u32>
     ensures { IsLengthOf result (entity ty.now) }
 {

@@ -1,4 +1,4 @@
-//! Laws of spellings, and of reads of core types. Each function does nothing: its contract is the law.
+//! Laws of encodings, and of reads of core types. Each function does nothing: its contract is the law.
 
 ghost use Rattle.std.specs.Prelude.{◌≡◌, ◌↔◌, ◌⊎◌, ℕ, ◌+◌, ◌/◌, ◌%◌, ◌^◌, ◌<◌, ◌≤◌, List, [], ◌∷◌, length, None};
 ghost use Rattle.std.specs.Prelude.{ℤ, pos, negsuc, ◌≤ℤ◌, ◌<ℤ◌, Bool};
@@ -32,7 +32,7 @@ pub fn signed_numbers()
     ensures less { (z : ℤ) → z <ℤ negsuc 63 → signed z ≡ (128 + low_bits z) ∷ signed (high_bits z) }
 {}
 
-/// No spelling of a number is a prefix of another of its sort, and two readings with anything behind are one.
+/// No encoding of a number is a prefix of another of its sort, and two readings with anything after are one.
 pub fn numbers_are_clear()
     ensures unsigned { IsClear number }
     ensures signed { IsClear s }
@@ -56,14 +56,14 @@ pub fn sections_are_clear<T>()
     ensures contents { (id : ℕ) → IsClear (λ c. sized id (bytes c)) }
 {}
 
-/// Bytes that are read in one way with anything behind are so by themselves, and bytes as they are may fill the
+/// Bytes that are read in one way with anything after are so by themselves, and bytes as they are may fill the
 /// rest.
 pub fn contents_are_exact<T>()
     ensures clear { (f : T → Piece) → IsClear f → IsExact f }
     ensures filled { (f : T → Piece) → IsClear f → IsExact (λ (x : T × List ℕ). f x.0 ⊕ raw x.1) }
 {}
 
-/// A number has no spelling as a length, a count or an index exactly where it passes 4,294,967,295; nor has a
+/// A number has no encoding as a length, a count or an index exactly where it passes 4,294,967,295; nor has a
 /// text or a section exactly where its length does.
 pub fn too_long_has_no_encoding()
     ensures count { (n : ℕ) → (u n ≡ None) ↔ (2 ^ 32 ≤ n) }
@@ -91,7 +91,7 @@ pub fn long_core_types_have_no_encoding()
     ensures imports { (i : CoreImport) → IsUtf8 i.0 → IsUtf8 i.1 → (core_import i ≡ None) ↔ ImportTooLong i }
 {}
 
-/// No spelling of a core type is a prefix of another of its sort, and two readings with anything behind are one; the
+/// No encoding of a core type is a prefix of another of its sort, and two readings with anything after are one; the
 /// same of what a core module imports or exports, and of its imports.
 pub fn core_types_are_clear()
     ensures values { IsClear core_val }

@@ -21,12 +21,12 @@ pub record Reads (n : ℕ) (bytes : List ℕ) (k : ℕ) (rest : List ℕ) : Type
   pub spells : spelled width bytes ≡ k + turns * n
   pub left : rest ≡ drop width bytes
 
--- A truth value is the lowest bit of one byte.
+-- A boolean is the lowest bit of one byte.
 pub record Flips (bytes : List ℕ) (answer : Bool) (rest : List ℕ) : Type 0 where
   pub bit : IsTrue answer ↔ (slice_index bytes 0 % 2 ≡ 1)
   pub left : rest ≡ drop 1 bytes
 
--- Whether a loop that has made so many turns makes another: not from max on, surely below min, and else by a truth value.
+-- Whether a loop that has made so many turns makes another: not from max on, surely below min, and else by a boolean.
 pub record More (done min max : ℕ) (bytes : List ℕ) (answer : Bool) (rest : List ℕ) : Type 0 where
   pub full : max ≤ done → (answer ≡ false) × (rest ≡ bytes)
   pub forced : done < max → done < min → (answer ≡ true) × (rest ≡ bytes)
