@@ -1,5 +1,5 @@
 use Rattle.smith_core.proofs.Sizes.{u_none_where, s_index_none_where, text_none_where, sized_none_where}
-use Rattle.smith_core.proofs.laws.too_long_has_no_spelling.Goals as goal
+use Rattle.smith_core.proofs.laws.too_long_has_no_encoding.Goals as goal
 
 pub returns-clause-count : goal.returns-clause-count
 returns-clause-count c = u_none_where
