@@ -1,11 +1,11 @@
 -- Types that have no encoding.
-use Rattle.std.proofs.Common.{◌≡◌, ℕ, ◌⊎◌, inl, inr, ◌↔◌, Bool, true, false, IsUtf8, List, [], ◌∷◌, length, refl, ap, sym, ◌∙◌, Some, None, Option}
+use Rattle.std.proofs.Common.{◌≡◌, ℕ, inl, inr, ◌↔◌, Bool, true, false, List, [], ◌∷◌, length, refl, sym, ◌∙◌, Some, None, Option}
 use Rattle.std.specs.Str.{is_utf8}
 use Rattle.std.proofs.lemmas.Bool.{false≢true}
 use Rattle.std.proofs.lemmas.Str.{IsUtf8-from_is_utf8, is_utf8-from_IsUtf8}
 use Rattle.smith_core.specs.CoreTypes.{core_function}
 use Rattle.smith_core.specs.Entities.{entity}
-use Rattle.smith_core.specs.Piece.{Piece, ◌⊕◌, u, s_index, utf8, text, many}
+use Rattle.smith_core.specs.Piece.{◌⊕◌, u, utf8, text, many}
 use Rattle.smith_core.proofs.Piece.{right_none}
 use Rattle.smith_core.proofs.Sizes.{u_none_where, s_index_none_where, text_none_where}
 use Rattle.smith_core.proofs.TooLong.{join_none, after_bytes, before_bytes, bytes_none, many_none_where, function_none_where, entity_none_where}

@@ -1,7 +1,8 @@
 //! Laws of types. Each function does nothing: its contract is the law.
 
-ghost use Rattle.std.specs.Prelude.{◌≡◌, ◌↔◌, ◌≤◌, ◌^◌, ℕ, true, List, ◌++◌, length, None};
+ghost use Rattle.std.specs.Prelude.{◌≡◌, ◌↔◌, ◌≤◌, ◌^◌, ℕ, true, List, length, None};
 ghost use Rattle.smith_core.specs.Clear.{IsClear};
+ghost use Rattle.smith_input.specs.Reading.{IsDecided, IsReadAs};
 ghost use Rattle.smith_types.specs.Entries.{Signature, Entry, function, CoreEntry};
 ghost use Rattle.smith_types.specs.Grammar.{valtype, maybe_valtype, entry, core_entry};
 ghost use Rattle.smith_types.specs.Made.{Made};
@@ -16,18 +17,15 @@ ghost use Rattle.smith_types.specs.declared.types.DefType.{DefType};
 
 /// The scopes, the bytes and the fuel alone decide which type is made, and what is left of both.
 pub fn types_are_decided()
-    ensures { (own : Scope) (outer : List Scope) (bytes : List ℕ) (fuel : ℕ)
-        → (d e : Entry) (rest others : List ℕ) (left more : ℕ)
-        → Made own outer bytes fuel d rest left → Made own outer bytes fuel e others more
-        → (d ≡ e) × (rest ≡ others) × (left ≡ more) }
+    ensures { (own : Scope) (outer : List Scope) (fuel : ℕ)
+        → IsDecided (λ bytes (made : Entry × ℕ) rest. Made own outer bytes fuel made.0 rest made.1) }
 {}
 
-/// The script of a type that is well formed in its scopes and for which the fuel lasts, followed by any bytes, is
-/// made to that type, and the bytes after it are left.
+/// The script of a type that is well formed in its scopes and for which the fuel lasts is read as that type.
 pub fn scripts_are_read()
-    ensures { (own : Scope) (outer : List Scope) (fuel : ℕ) (e : Entry) (rest : List ℕ)
+    ensures { (own : Scope) (outer : List Scope) (fuel : ℕ) (e : Entry)
         → FormedEntry e own outer → Lasts fuel e → length own.types ≤ 2 ^ 64
-        → (left : ℕ) × Made own outer (script_type fuel own e ++ rest) fuel e rest left }
+        → IsReadAs (λ bytes made rest. (left : ℕ) × Made own outer bytes fuel made rest left) (script_type fuel own e) e }
 {}
 
 /// Two function types are compared as equal exactly where their signatures are the same, and a type is one of a
