@@ -25,7 +25,8 @@ pub fn types_are_decided()
 pub fn scripts_are_read()
     ensures { (own : Scope) (outer : List Scope) (fuel : ℕ) (e : Entry)
         → FormedEntry e own outer → Lasts fuel e → length own.types ≤ 2 ^ 64
-        → IsReadAs (λ bytes made rest. (left : ℕ) × Made own outer bytes fuel made rest left) (script_type fuel own e) e }
+        → IsReadAs (λ bytes made rest. (left : ℕ) × Made own outer bytes fuel made rest left)
+        (script_type fuel own e) e }
 {}
 
 /// Two function types are compared as equal exactly where their signatures are the same, and a type is one of a
