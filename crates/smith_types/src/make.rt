@@ -24,7 +24,7 @@ use smith_input::{Error, Unstructured};
 use std::alloc::Global;
 use std::rc::Rc;
 
-/// What a choice of a type is among.
+/// What a choice of a type is among. Public since contracts speak of it.
 #[derive(Debug, Clone, Copy, PartialEq, Eq)]
 pub enum TypeKind {
     Defined,

@@ -20,7 +20,7 @@ use crate::types::{
 use smith_input::{Error, Unstructured};
 use std::alloc::Global;
 
-/// What a choice of a defined type is among.
+/// What a choice of a defined type is among. Public since contracts speak of it.
 #[derive(Debug, Clone, Copy, PartialEq, Eq)]
 pub enum DefinedKind {
     Primitive,
