@@ -10,7 +10,7 @@ use Rattle.smith_core.proofs.Piece.{utf8_then, raw_whole, assoc, left_nil, left_
 use Rattle.smith_core.proofs.Steps.{framed_bytes, framed_nothing}
 use Rattle.smith_core.proofs.Digits.{digits_more, digits_last, digits_next, digits_enough}
 
--- the bytes behind a known front
+-- the bytes after a known prefix
 pub tail : (a : List ℕ) (p q : Piece) (b : List ℕ) → Some a ⊕ p ≡ Some b → Some a ⊕ q ≡ Some b → Rests p q
 unfolding ◌⊕◌
 tail a None q b e f = cc
@@ -72,7 +72,7 @@ clear_byte f same =
           record { same = same x y (let z = a.same in cc); rests = a.rests };
     }
 
--- spellings are told apart by their bytes, whatever is behind them
+-- encodings are told apart by their bytes, whatever is after them
 pub closed : {A : Type 0} (f : A → List ℕ) → ((x y : A) (a c : List ℕ) → f x ++ a ≡ f y ++ c → (x ≡ y) × (a ≡ c)) → IsClear (λ x. Some (f x))
 closed f told =
     record {
@@ -179,7 +179,7 @@ clear_number = closed unsigned unsigned_clear
 pub clear_s : IsClear s
 clear_s = closed signed signed_clear
 
--- a number that has a spelling
+-- a number that has an encoding
 u_is : (n : ℕ) (p : Piece) (b : List ℕ) → u n ⊕ p ≡ Some b → number n ⊕ p ≡ Some b
 u_is n p b e = by_size (u_cases n)
   where
@@ -227,7 +227,7 @@ clear_text = record {
       same_length t r p q n.rests.rest n.same (utf8_then t p n.rests.rest n.rests.first) (utf8_then r q n.rests.rest n.rests.second);
 }
 
--- What is behind its length: the same contents, and the same bytes behind them.
+-- What stands after its length: the same contents, and the same bytes after them.
 pub record SameContents (c d p q : Piece) : Type 0 where
   pub contents : List ℕ
   pub first : c ≡ Some contents

@@ -1,4 +1,4 @@
--- The spellings of core types: how many bytes they take, and that no bytes begin with two.
+-- The encodings of core types: how many bytes they take, and that no bytes begin with two.
 use Rattle.std.proofs.Common.{◌≡◌, ℕ, ◌+◌, ◌*◌, ◌≤◌, Bool, true, false, List, [], ◌∷◌, refl, ap, arith, Some, None, Option, ◌<◌, ◌^◌, length, sym, subst}
 use Rattle.smith_core.specs.Clear.{Rests, Agree, IsClear}
 use Rattle.smith_core.specs.CoreTypes.{ref_val, core_val, core_function, Function}

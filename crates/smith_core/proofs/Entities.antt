@@ -1,4 +1,4 @@
--- No bytes begin with two spellings of what a core module imports or exports, or of its imports.
+-- No bytes begin with two encodings of what a core module imports or exports, or of its imports.
 use Rattle.std.proofs.Common.{◌≡◌, ℕ, ◌+◌, ◌*◌, ◌≤◌, Bool, true, false, List, [], ◌∷◌, refl, ap, arith, Some, None, Option}
 use Rattle.smith_core.specs.Clear.{Rests, Agree, IsClear}
 use Rattle.smith_core.specs.CoreTypes.{ref_val, core_val, core_function, Function}
@@ -43,7 +43,7 @@ maximum_law None (Some n) p q b f e h = cc
 maximum_law (Some m) None p q b f e h = cc
 maximum_law (Some m) (Some n) p q b f e h = let r = clear_number.law m n p q b e h in record { same = ap Some r.same; rests = r.rests }
 
--- the same limits, and the same bytes behind them
+-- the same limits, and the same bytes after them
 record SameLimits (s t w v : Bool) (m n : ℕ) (x y : Option ℕ) (p q : Piece) : Type 0 where
   shared : s ≡ t
   wide : w ≡ v

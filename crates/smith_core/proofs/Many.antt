@@ -49,7 +49,7 @@ module _ {A : Type 0} (f : A → Piece) where
   pub each_exit_keeping : {T : Type 0} (r : Result T Error) (e : Error) (xs : List A) (i : ℕ) (x : A) {a c : Vec ℕ Global} → IsErrAnd r (λ y. y ≡ e) → (b : Vec ℕ Global) → Put xs i a b → i < length xs → x ≡ get_or xs i x → Keeps b c × IsDue e b (f x) → Puts r a c (each f xs)
   each_exit_keeping r e xs i x is b p h at d = each_exit r e xs i x is b p h at (keeps_begins d.0, d.1)
 
-  -- the same behind a front, as the count
+  -- the same after a prefix, as the count
   pub front_exit : {T : Type 0} (r : Result T Error) (e : Error) (xs : List A) (i : ℕ) (x : A) {a b c : Vec ℕ Global} {front : Piece} → IsErrAnd r (λ y. y ≡ e) → Gains a b front → (h : Vec ℕ Global) → Put xs i b h → i < length xs → x ≡ get_or xs i x → Begins h c × IsDue e h (f x) → Puts r a c (front ⊕ each f xs)
   front_exit r e xs i x is n h p lt at d = exits r e is (gains_begins n (gains_begins p.is d.0)) (due_right n (each_due xs i x e p lt at d.1))
 

@@ -1,4 +1,4 @@
--- Pieces: how they are joined, bytes as they are, texts, and numbers that have a spelling.
+-- Pieces: how they are joined, bytes as they are, texts, and numbers that have an encoding.
 use Rattle.std.proofs.Common.{◌≡◌, ℕ, ◌+◌, ◌⊎◌, inl, inr, length-append, List, [], ◌++◌, refl, ap, append_assoc, Some, None, append-nil, ◌<◌, length, get_or, sym, ◌∙◌, IsUtf8, Bool, true, false, cond, nat_lt, zero, suc, ◌*◌, ◌/◌, ◌%◌, ◌^◌, ◌≤◌, ◌∷◌, arith, ℤ, pos, negsuc}
 use Rattle.smith_core.specs.Piece.{Piece, ◌⊕◌, piece_length, raw, utf8, text, u, s_index}
 use Rattle.std.specs.List.{list_all}
@@ -45,7 +45,7 @@ pub joined : (a b : List ℕ) → Some a ⊕ Some b ≡ Some (a ++ b)
 unfolding ◌⊕◌
 joined a b = refl
 
--- the length of two pieces, if both have a spelling
+-- the length of two pieces, if both have an encoding
 pub length_join : (p q : Piece) → (p ⊕ q ≡ None) ⊎ (piece_length (p ⊕ q) ≡ piece_length p + piece_length q)
 unfolding ◌⊕◌
 length_join None q = inl refl
@@ -102,7 +102,7 @@ pub raw_whole : (t b : List ℕ) → raw t ≡ Some b → t ≡ b
 unfolding raw
 raw_whole t b e = guard (list_all (λ c. nat_lt c 256) t) t b e
 
--- numbers that have a spelling
+-- numbers that have an encoding
 -- numbers with a bound
 pub u_fits : (n : ℕ) → n < 2 ^ 32 → u n ≡ Some (unsigned n)
 unfolding u

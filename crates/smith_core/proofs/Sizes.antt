@@ -58,7 +58,7 @@ pub length_behind : (r : Option ℕ) {m n : ℕ} {p q : Piece} → SomeIff r (n 
 length_behind (Some k) {m} {n} {p} {q} s t w = (subst (λ (l : ℕ). Takes l (p ⊕ q)) (let e = s.1 in omega arith) (takes_then t w), let e = s.1 in omega (arith, s.0))
 length_behind None {m} {n} s t w = too_much_long (takes_then t w) (omega (arith, s))
 
--- Something behind its length has a spelling where what it holds has one of at most 4,294,967,295 bytes.
+-- Something after its length has an encoding where what it holds has one of at most 4,294,967,295 bytes.
 pub framed_cases : (p : Piece) → ((framed p ≡ None) × TakesTooMuch p) ⊎ (Takes (piece_length p) p × (piece_length p < 2 ^ 32) × Takes (length (unsigned (piece_length p)) + piece_length p) (framed p))
 framed_cases None = inl (framed_nothing, too_much_none (λ i. None))
 framed_cases (Some b) = by_count (u_cases (length b))
@@ -115,7 +115,7 @@ module _ {A : Type 0} (f : A → Piece) where
   each_reaches xs i x m n h e s t l =
       subst (λ (q : Piece). TakesTooMuch q) (sym (each_at f xs i x h e ∙ sym (assoc (each f (take i xs)) (f x) (each f (drop (suc i) xs))))) (too_much_left _ (too_much_long (takes_then s.is t) l))
 
-  -- one of them has no spelling
+  -- one of them has no encoding
   pub each_none : (xs : List A) (i : ℕ) (x : A) → i < length xs → x ≡ get_or xs i x → f x ≡ None → each f xs ≡ None
   each_none xs i x h e n = each_at f xs i x h e ∙ ap (λ q. each f (take i xs) ⊕ (q ⊕ each f (drop (suc i) xs))) n ∙ ap (λ q. each f (take i xs) ⊕ q) (left_none _) ∙ right_none _
 
@@ -134,7 +134,7 @@ pub measures_none : (r : Result ℕ Error) (e : Error) {p : Piece} → IsErrAnd 
 measures_none (Ok n) e is f g = absurd is
 measures_none (Err y) e is f g = (is ∙ f, g)
 
--- where there is no spelling
+-- where there is no encoding
 pub u_none_where : (n : ℕ) → (u n ≡ None) ↔ (2 ^ 32 ≤ n)
 u_none_where n = (λ e. by_size (u_cases n) e, u_none n)
   where

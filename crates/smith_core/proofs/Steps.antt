@@ -60,7 +60,7 @@ unfolding ◌⊕◌
 spelled a b None e = cc
 spelled a b (Some s) e = (s, refl)
 
--- what was put has a spelling
+-- what was put has an encoding
 pub gains_some : {old new : Vec ℕ Global} {p : Piece} → Gains old new p → (s : List ℕ) × (p ≡ Some s)
 gains_some {old} {new} {p} g = spelled old.items new.items p g.is
 
@@ -109,7 +109,7 @@ pub exits : {A : Type 0} (r : Result A Error) (e : Error) {a b : Vec ℕ Global}
 exits (Ok x) e {a} {b} {p} is g d = absurd is
 exits (Err y) e {a} {b} {p} is g d = (g, subst (λ (z : Error). IsDue z a p) (sym is) d)
 
--- the same behind a piece
+-- the same after a piece
 pub exits_then : {A : Type 0} (r : Result A Error) (e : Error) {a b c : Vec ℕ Global} {p q : Piece} → IsErrAnd r (λ y. y ≡ e) → Gains a b p → Begins b c → IsDue e b q → Puts r a c (p ⊕ q)
 exits_then r e is g h d = exits r e is (gains_begins g h) (due_right g d)
 
@@ -135,7 +135,7 @@ ends_third r d s g h k = ends r d _ g (ends r d s h k)
 pub ends_third_appending : {A : Type 0} (r : Result A Error) {a b c : Vec ℕ Global} (d : Vec ℕ Global) {p q : Piece} (s : Piece) → Gains a b p → Gains b c q → Appends r c d s → Puts r a d (p ⊕ q ⊕ s)
 ends_third_appending r {a} {b} {c} d s g h k = ends_third r d s g h (appends_puts r c d s k)
 
--- contents behind their length
+-- contents after their length
 pub framed_bytes : (b : List ℕ) → framed (Some b) ≡ u (length b) ⊕ Some b
 unfolding framed
 framed_bytes b = refl

@@ -17,7 +17,7 @@ pub record ReadsBetween (low high : ℕ) (bytes : List ℕ) (n : ℕ) (rest : Li
   pub is : n ≡ low + place
   pub reads : Reads (high - low + 1) bytes place rest
 
--- a truth value, and a maximum from the minimum to 20 where it is true
+-- a boolean, and a maximum from the minimum to 20 where it is true
 pub data ReadsMaximum (minimum : ℕ) : List ℕ → Option ℕ → List ℕ → Type 0 where
   unbounded : {bytes rest : List ℕ} → Flips bytes false rest → ReadsMaximum minimum bytes None rest
   bounded : {bytes mid : List ℕ} {n : ℕ} {rest : List ℕ} → Flips bytes true mid → ReadsBetween minimum 20 mid n rest → ReadsMaximum minimum bytes (Some n) rest

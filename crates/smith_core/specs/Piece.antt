@@ -4,7 +4,7 @@ use Rattle.std.specs.Str.{is_utf8}
 use Rattle.std.specs.Prelude.{ℕ, ◌^◌, List, [], ◌∷◌, ◌++◌, length, Option, Some, None, nat_lt, if◌then◌else◌, ℤ, pos}
 use Rattle.smith_core.specs.Numbers.{unsigned, signed}
 
--- the bytes of something, or None where it has no spelling
+-- the bytes of something, or None where it has no encoding
 abbrev pub Piece : Type 0
 Piece = Option (List ℕ)
 
@@ -15,7 +15,7 @@ None ⊕ q = None
 (Some a) ⊕ None = None
 (Some a) ⊕ (Some b) = Some (a ++ b)
 
--- how many bytes the spelling has, and 0 where there is none
+-- how many bytes the encoding has, and 0 where there is none
 abbrev pub piece_length : Piece → ℕ
 piece_length None = 0
 piece_length (Some b) = length b
@@ -49,7 +49,7 @@ raw bs = if list_all (λ b. nat_lt b 256) bs then Some bs else None
 unfoldable pub utf8 : List ℕ → Piece
 utf8 bs = if is_utf8 bs then Some bs else None
 
--- something behind its length in bytes
+-- something after its length in bytes
 unfoldable pub framed : Piece → Piece
 framed None = None
 framed (Some b) = u (length b) ⊕ Some b
@@ -63,7 +63,7 @@ abbrev pub each : {A : Type 0} → (A → Piece) → List A → Piece
 each f [] = Some []
 each f (x ∷ xs) = f x ⊕ each f xs
 
--- a list behind its count (core specification, Binary Format, Conventions, Lists)
+-- a list after its count (core specification, Binary Format, Conventions, Lists)
 abbrev pub many : {A : Type 0} → (A → Piece) → List A → Piece
 many f xs = u (length xs) ⊕ each f xs
 

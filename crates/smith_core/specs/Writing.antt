@@ -30,7 +30,7 @@ pub record IsDue (e : Error) (old : Vec ℕ Global) (p : Piece) : Type 0 where
   pub too_long : e ≡ TooLong → p ≡ None
   pub full : e ≡ OutOfMemory → (p ≡ None) ⊎ (vec_capacity old < vec_len old + piece_length p)
 
--- A writer put the piece behind what was there. After an error a part of it may stand there.
+-- A writer put the piece after what was there. After an error a part of it may stand there.
 abbrev pub Puts : {A : Type 0} → Result A Error → Vec ℕ Global → Vec ℕ Global → Piece → Type 0
 Puts (Ok _) old new p = Gains old new p
 Puts (Err e) old new p = Begins old new × IsDue e old p
@@ -44,21 +44,21 @@ Appends (Err e) old new p = Keeps old new × IsDue e old p
 abbrev pub WantsMemoryFor : {A : Type 0} → Result A Error → Piece → Type 0
 WantsMemoryFor r p = IfErr r (λ e. e ≡ OutOfMemory → ¬ (p ≡ None))
 
--- the piece has a spelling, of n bytes
+-- the piece has an encoding, of n bytes
 pub record Takes (n : ℕ) (p : Piece) : Type 0 where
   pub spelled : ¬ (p ≡ None)
   pub long : n ≡ piece_length p
 
--- the piece has no spelling of at most 4,294,967,295 bytes
+-- the piece has no encoding of at most 4,294,967,295 bytes
 pub record TakesTooMuch (p : Piece) : Type 0 where
   pub is : (p ≡ None) ⊎ (2 ^ 32 ≤ piece_length p)
 
--- The length of the piece's spelling, or None exactly where it has none of at most 4,294,967,295 bytes.
+-- The length of the piece's encoding, or None exactly where it has none of at most 4,294,967,295 bytes.
 abbrev pub IsLengthOf : Option ℕ → Piece → Type 0
 IsLengthOf (Some n) p = Takes n p × (n < 2 ^ 32)
 IsLengthOf None p = TakesTooMuch p
 
--- The length of the piece's spelling, or TooLong exactly where it has none.
+-- The length of the piece's encoding, or TooLong exactly where it has none.
 abbrev pub Measures : Result ℕ Error → Piece → Type 0
 Measures (Ok n) p = Takes n p
 Measures (Err e) p = (e ≡ TooLong) × (p ≡ None)

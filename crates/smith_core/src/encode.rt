@@ -1,5 +1,5 @@
 //! Value types and function types in the binary format (core specification, Binary Format, Types), and the lengths of
-//! their spellings. No writer lowers the capacity of its buffer, and none wants memory where the buffer has room for
+//! their encodings. No writer lowers the capacity of its buffer, and none wants memory where the buffer has room for
 //! what it writes.
 #![tactic(auto, using(crate::proofs::Steps::writing, crate::proofs::Sizes::measuring))]
 
@@ -50,7 +50,7 @@ pub(crate) fn put_core_val(out: &mut Vec<u8>, ty: ValType) -> Result<(), Error>
     }
 }
 
-/// The length of a value type's spelling.
+/// The length of a value type's encoding.
 pub fn core_val_len(ty: ValType) -> u32
     ensures length { Takes result (core_val ty) }
     ensures most { result ≤ 6 }

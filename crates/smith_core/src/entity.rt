@@ -1,10 +1,11 @@
 //! Imports of a core module and what it imports or exports, in the binary format (core specification, Binary Format,
-//! Types and Import Section), and the lengths of their spellings. No writer lowers the capacity of its buffer, and none
+//! Types and Import Section), and the lengths of their encodings. No writer lowers the capacity of its buffer, and none
 //! wants memory where the buffer has room for what it writes.
 #![tactic(auto, using(crate::proofs::Steps::writing, crate::proofs::Sizes::measuring))]
 
 ghost use Rattle.std.specs.Prelude.{◌≡◌, ◌≤◌, Bool};
-ghost use Rattle.smith_core.specs.Entities.{bit, maximum, limits, table_type, global_type, tag_type, entity, shown_import, core_import};
+ghost use Rattle.smith_core.specs.Entities.{bit, maximum, limits, table_type, global_type, tag_type, entity};
+ghost use Rattle.smith_core.specs.Entities.{shown_import, core_import};
 ghost use Rattle.smith_core.specs.Writing.{Puts, Appends, Takes, IsLengthOf};
 
 use crate::buffer::{CoreFormat, Spelled, write_byte, write_spelled};
@@ -149,7 +150,7 @@ pub fn write_entity(out: &mut Vec<u8>, ty: &EntityType) -> Result<(), Error>
     write_spelled(out, ty)
 }
 
-/// The length of its spelling, which always has one of at most 4,294,967,295 bytes.
+/// The length of its encoding, which always has one of at most 4,294,967,295 bytes.
 pub fn entity_len(ty: &EntityType) -> Option<u32>
     ensures { IsLengthOf result (entity ty.now) }
 {

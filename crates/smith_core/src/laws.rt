@@ -1,8 +1,10 @@
-//! Laws of spellings, and of reads of core types. Each function does nothing: its contract is the law.
+//! Laws of encodings, and of reads of core types. Each function does nothing: its contract is the law.
 
-ghost use Rattle.std.specs.Prelude.{◌≡◌, ◌↔◌, ◌⊎◌, ℕ, ◌+◌, ◌/◌, ◌%◌, ◌^◌, ◌<◌, ◌≤◌, List, [], ◌∷◌, length, None, ℤ, pos, negsuc, ◌≤ℤ◌, ◌<ℤ◌, Bool, ◌++◌};
+ghost use Rattle.std.specs.Prelude.{◌≡◌, ◌↔◌, ◌⊎◌, ℕ, ◌+◌, ◌/◌, ◌%◌, ◌^◌, ◌<◌, ◌≤◌, List, [], ◌∷◌, length, None};
+ghost use Rattle.std.specs.Prelude.{ℤ, pos, negsuc, ◌≤ℤ◌, ◌<ℤ◌, Bool};
 ghost use Rattle.std.specs.List.{AllByRecursion, Any};
 ghost use Rattle.std.specs.Str.{IsUtf8};
+ghost use Rattle.smith_input.specs.Reading.{IsDecided, IsReadAs};
 ghost use Rattle.smith_core.specs.Clear.{IsClear, IsExact};
 ghost use Rattle.smith_core.specs.CoreFormed.{FormedFunction};
 ghost use Rattle.smith_core.specs.CoreReading.{ReadsMemory, ReadsTable, ReadsTag, ReadsFunction};
@@ -10,9 +12,6 @@ ghost use Rattle.smith_core.specs.CoreScript.{script_function};
 ghost use Rattle.smith_core.specs.CoreTypes.{Function, core_val, core_function};
 ghost use Rattle.smith_core.specs.Entities.{CoreImport, entity, core_import};
 ghost use Rattle.smith_core.specs.Numbers.{unsigned, signed, low_bits, high_bits};
-ghost use Rattle.smith_core.specs.declared.types.MemoryType.{MemoryType};
-ghost use Rattle.smith_core.specs.declared.types.TableType.{TableType};
-ghost use Rattle.smith_core.specs.declared.types.TagType.{TagType};
 ghost use Rattle.smith_core.specs.declared.types.ValType.{ValType};
 ghost use Rattle.smith_core.specs.TooLong.{ValTooLong, FunctionTooLong, EntityTooLong, ImportTooLong};
 ghost use Rattle.smith_core.specs.declared.types.EntityType.{EntityType};
@@ -33,7 +32,7 @@ pub fn signed_numbers()
     ensures less { (z : ℤ) → z <ℤ negsuc 63 → signed z ≡ (128 + low_bits z) ∷ signed (high_bits z) }
 {}
 
-/// No spelling of a number is a prefix of another of its sort, and two readings with anything behind are one.
+/// No encoding of a number is a prefix of another of its sort, and two readings with anything after are one.
 pub fn numbers_are_clear()
     ensures unsigned { IsClear number }
     ensures signed { IsClear s }
@@ -57,16 +56,16 @@ pub fn sections_are_clear<T>()
     ensures contents { (id : ℕ) → IsClear (λ c. sized id (bytes c)) }
 {}
 
-/// Bytes that are read in one way with anything behind are so by themselves, and bytes as they are may fill the
+/// Bytes that are read in one way with anything after are so by themselves, and bytes as they are may fill the
 /// rest.
 pub fn contents_are_exact<T>()
     ensures clear { (f : T → Piece) → IsClear f → IsExact f }
     ensures filled { (f : T → Piece) → IsClear f → IsExact (λ (x : T × List ℕ). f x.0 ⊕ raw x.1) }
 {}
 
-/// A number has no spelling as a length, a count or an index exactly where it passes 4,294,967,295; nor has a
+/// A number has no encoding as a length, a count or an index exactly where it passes 4,294,967,295; nor has a
 /// text or a section exactly where its length does.
-pub fn too_long_has_no_spelling()
+pub fn too_long_has_no_encoding()
     ensures count { (n : ℕ) → (u n ≡ None) ↔ (2 ^ 32 ≤ n) }
     ensures index { (n : ℕ) → (s_index n ≡ None) ↔ (2 ^ 32 ≤ n) }
     ensures text { (t : List ℕ) → IsUtf8 t → (text t ≡ None) ↔ (2 ^ 32 ≤ length t) }
@@ -92,7 +91,7 @@ pub fn long_core_types_have_no_encoding()
     ensures imports { (i : CoreImport) → IsUtf8 i.0 → IsUtf8 i.1 → (core_import i ≡ None) ↔ ImportTooLong i }
 {}
 
-/// No spelling of a core type is a prefix of another of its sort, and two readings with anything behind are one; the
+/// No encoding of a core type is a prefix of another of its sort, and two readings with anything after are one; the
 /// same of what a core module imports or exports, and of its imports.
 pub fn core_types_are_clear()
     ensures values { IsClear core_val }
@@ -103,16 +102,15 @@ pub fn core_types_are_clear()
 
 /// The bytes alone decide which core type is read, and what is left.
 pub fn core_types_are_decided()
-    ensures memories { (bytes : List ℕ) (m n : MemoryType) (left rest : List ℕ) → ReadsMemory bytes m left → ReadsMemory bytes n rest → (m ≡ n) × (left ≡ rest) }
-    ensures tables { (references : Bool) (bytes : List ℕ) (t o : TableType) (left rest : List ℕ) → ReadsTable references bytes t left → ReadsTable references bytes o rest → (t ≡ o) × (left ≡ rest) }
-    ensures tags { (candidates bytes : List ℕ) (t o : TagType) (left rest : List ℕ) → ReadsTag candidates bytes t left → ReadsTag candidates bytes o rest → (t ≡ o) × (left ≡ rest) }
-    ensures functions { (valtypes : List ValType) (max_results : ℕ) (bytes : List ℕ) (f g : Function) (left rest : List ℕ) → ReadsFunction valtypes max_results bytes f left
-        → ReadsFunction valtypes max_results bytes g rest → (f ≡ g) × (left ≡ rest) }
+    ensures memories { IsDecided ReadsMemory }
+    ensures tables { (references : Bool) → IsDecided (ReadsTable references) }
+    ensures tags { (candidates : List ℕ) → IsDecided (ReadsTag candidates) }
+    ensures functions { (valtypes : List ValType) (max_results : ℕ) → IsDecided (ReadsFunction valtypes max_results) }
 {}
 
-/// The script of a function type of these value types, followed by any bytes, is read as that type, and the bytes
-/// behind it are left.
+/// The script of a function type of these value types is read as that type.
 pub fn core_scripts_are_read()
-    ensures { (valtypes : List ValType) (max_results : ℕ) (f : Function) (rest : List ℕ) → FormedFunction valtypes max_results f → length valtypes ≤ 2 ^ 64
-        → ReadsFunction valtypes max_results (script_function valtypes max_results f ++ rest) f rest }
+    ensures { (valtypes : List ValType) (max_results : ℕ) (f : Function) → FormedFunction valtypes max_results f
+        → length valtypes ≤ 2 ^ 64
+        → IsReadAs (ReadsFunction valtypes max_results) (script_function valtypes max_results f) f }
 {}

@@ -21,7 +21,7 @@ pub use laws::{
     bytes_have_an_encoding, contents_are_exact, core_scripts_are_read, core_types_are_clear,
     core_types_are_decided, lists_are_clear, long_core_types_have_no_encoding,
     long_lists_have_no_encoding, numbers_are_clear, sections_are_clear, signed_numbers,
-    texts_are_clear, too_long_has_no_spelling, unsigned_numbers,
+    texts_are_clear, too_long_has_no_encoding, unsigned_numbers,
 };
 pub use lists::{many_len, put_many, put_tagged, tagged_len};
 pub use make::{arbitrary_func_type, arbitrary_memtype, arbitrary_table_type, arbitrary_tag_type};

@@ -3,7 +3,8 @@
 ghost use Rattle.std.specs.Prelude.{◌≡◌, ◌<◌, ◌≤◌, ◌^◌, ◌++◌, ℕ, List, length, IfOk, IfErr};
 ghost use Rattle.smith_input.specs.Reading.{IsTail};
 ghost use Rattle.smith_core.specs.CoreFormed.{FormedMemory, FormedTable, FormedFunction};
-ghost use Rattle.smith_core.specs.CoreReading.{ReadsLimits, ReadsMemory, ReadsElement, ReadsTable, ReadsTag, ReadsValues, ReadsFunction};
+ghost use Rattle.smith_core.specs.CoreReading.{ReadsLimits, ReadsMemory, ReadsElement, ReadsTable, ReadsTag};
+ghost use Rattle.smith_core.specs.CoreReading.{ReadsValues, ReadsFunction};
 ghost use Rattle.smith_core.specs.CoreScript.{script_function};
 ghost use Rattle.smith_core.specs.CoreTypes.{Function, shown_func};
 
@@ -116,7 +117,8 @@ pub fn arbitrary_func_type(
     requires few { max_results ≤ 20 }
     ensures reads { IfOk result (λ t. ReadsFunction valtypes.now max_results u.old (shown_func t) u.new) }
     ensures formed { IfOk result (λ t. FormedFunction valtypes.now max_results (shown_func t)) }
-    ensures script { (f : Function) (rest : List ℕ) → FormedFunction valtypes.now max_results f → length valtypes.now ≤ 2 ^ 64 → u.old ≡ script_function valtypes.now max_results f ++ rest
+    ensures script { (f : Function) (rest : List ℕ) → FormedFunction valtypes.now max_results f
+        → length valtypes.now ≤ 2 ^ 64 → u.old ≡ script_function valtypes.now max_results f ++ rest
         → IfOk result (λ t. (shown_func t ≡ f) × (u.new ≡ rest)) }
     ensures memory { IfErr result (λ e. e ≡ Error.OutOfMemory) }
     ensures tail { IsTail u.new u.old }

@@ -11,7 +11,7 @@ use Rattle.smith_input.specs.Names.{character, characters, ReadsEach, none, next
 use Rattle.smith_input.proofs.Picks.{reads-pick}
 use Rattle.smith_input.proofs.ReadingLemmas.{tail_same, tail_trans, reads_tail, reads_unique}
 
--- what may follow a front of a name, where a word must begin or goes on
+-- what may follow a prefix of a name, where a word must begin or goes on
 abbrev pub Follows : Bool → List ℕ → Type 0
 Follows true cs = Kebab cs
 Follows false cs = AreInWord cs ⊎ ((ds : List ℕ) × (es : List ℕ) × (cs ≡ ds ++ 45 ∷ es) × AreInWord ds × Kebab es)
@@ -73,7 +73,7 @@ characters_follow true (next {k = k} {ks = ks} r rs) =
 characters_follow false (next {k = k} {ks = ks} r rs) =
     step_name false (character false k) (characters (nat_eq (character false k) 45) ks) (λ e. absurd (cc e)) (λ _. inside_is k r.below) (characters_follow (nat_eq (character false k) 45) rs)
 
--- one character behind
+-- one character after
 pub spelt_pushed : (name pushed ks : List ℕ) (c r : ℕ) → r ≡ c → pushed ≡ name ++ r ∷ [] → name ++ c ∷ characters (nat_eq c 45) ks ≡ pushed ++ characters (nat_eq r 45) ks
 spelt_pushed name pushed ks c r e p =
     sym (ap (λ b. b ++ characters (nat_eq r 45) ks) p ∙ (append_assoc name (r ∷ []) (characters (nat_eq r 45) ks) ∙ ap (λ d. name ++ d ∷ characters (nat_eq d 45) ks) e))

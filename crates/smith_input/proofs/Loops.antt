@@ -106,7 +106,7 @@ loop_read {Ends = Ends} {Item = Item} {min = min} {max = max} script next P one 
     (sym whole)
     (an_item (more_read min max done (script s x ++ (later ++ rest)) (omega arith)) (one s x (later ++ rest) all.0) r)
 
--- A loop turn by turn: whatever its rest reads from here, the whole reads that behind what was read.
+-- A loop turn by turn: whatever its rest reads from here, the whole reads that after what was read.
 module _ {S A : Type 0} (Ends : S → List ℕ → List ℕ → S → Type 0) (Item : S → List ℕ → A → List ℕ → S → Type 0) (min max : ℕ) (first : S) (start : List ℕ) where
   -- the rest of the loop, from here on
   abbrev pub Onward : List A → ℕ → S → List ℕ → Type 0

@@ -33,7 +33,7 @@ bytes_read (x ∷ xs) rest = follows (flips_one (x ∷ script_bytes xs ++ rest))
 pub text_tail : {max : ℕ} {bytes text rest : List ℕ} → ReadsText max bytes text rest → IsTail rest bytes
 text_tail {text = text} r = tail_trans (length text, r.left) (reads_tail r.counted)
 
--- where all is UTF-8, all is the longest front
+-- where all is UTF-8, all is the longest prefix
 pub longest_all : (bytes : List ℕ) → IsUtf8 bytes → IsLongestText bytes bytes
 longest_all bytes u = record { utf8 = u; front = sym (take_all (length bytes) bytes (omega arith)); longest = λ n h k. absurd (omega arith) }
 
@@ -42,7 +42,7 @@ longest_front bytes text n e v =
     let len : length text ≡ n = omega (arith, ap length e, length-take n bytes, v.short) in
     record { utf8 = subst IsUtf8 (sym e) v.front; front = e ∙ ap (λ k. take k bytes) (sym len); longest = λ m h _. v.longest m (omega arith) }
 
--- a front that is tested to be UTF-8 is given as it is
+-- a prefix that is tested to be UTF-8 is given as it is
 pub tested_front : {T E : Type 0} (Q : E → Type 0) (now : T → List ℕ) (bytes : List ℕ) (r : Result T E) (other x : T) → MatchResult r (λ s. (now s ≡ bytes) × IsUtf8 bytes) (λ e. ¬ (IsUtf8 bytes) × Q e) → IsUtf8 bytes → x ≡ result_unwrap_or r other → now x ≡ bytes
 tested_front Q now bytes (Ok s) other x m u e = ap now e ∙ m.0
 tested_front Q now bytes (Err f) other x m u e = absurd (m.0 u)

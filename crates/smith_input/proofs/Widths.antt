@@ -22,7 +22,7 @@ spelled_last (suc w) (x ∷ bytes) = omega (arith, spelled_last w bytes, ap (λ 
 pub spelled_more : (w : ℕ) (bytes : List ℕ) → spelled (w + 1) bytes ≡ spelled w bytes * 256 + get_or bytes w 0
 spelled_more w bytes = rw add-one (spelled_last w bytes)
 
--- one byte fits behind w bytes
+-- one byte fits after w bytes
 pub byte_fits : (n w b : ℕ) → n < 256 ^ w → b < 256 → n * 256 + b < 256 ^ (w + 1)
 byte_fits n w b h k = omega (arith, power_more w)
 

@@ -1,9 +1,10 @@
 -- Names in kebab case, as they are read, made unique among those that there are, and scripted.
-use Rattle.std.specs.Prelude.{◌≡◌, ℕ, zero, suc, ◌+◌, ◌-◌, ◌<◌, ◌||◌, Bool, true, false, nat_eq, nat_lt, nat_le, if◌then◌else◌, List, [], ◌∷◌, ◌++◌, length, bytes_eq}
+use Rattle.std.specs.Prelude.{◌≡◌, ℕ, zero, suc, ◌+◌, ◌-◌, ◌<◌, ◌||◌, Bool, true, false, nat_eq, nat_lt, nat_le, if◌then◌else◌, List, [], ◌∷◌, ◌++◌, length, bytes_eq, codes}
 use Rattle.std.specs.Fmt.{decimal}
 use Rattle.std.specs.List.{list_any}
 use Rattle.std.specs.BTreeSet.{BTreeSet, contains_text, btree_set_len}
 use Rattle.std.specs.declared.string.String.{String}
+use Rattle.smith_input.specs.Kebab.{Kebab}
 use Rattle.smith_input.specs.Reading.{Reads, pick}
 
 -- Choices among n, one read after another.
@@ -45,10 +46,23 @@ pub record IsMadeUnique (has : List ℕ → Bool) (size : ℕ) (text name : List
   pub taken : (n : ℕ) → n < times → has (appended text (decimal size) n) ≡ true
   pub is_new : has name ≡ false
 
+-- The text is made unique among the names of a set.
+abbrev pub IsUniqueIn : {A : Type 0} → BTreeSet (String A) → List ℕ → List ℕ → Type 0
+IsUniqueIn set text name = IsMadeUnique (contains_text set) (btree_set_len set) text name
+
+-- A text is read, and made unique among the names of a set.
+abbrev pub ReadsUnique : {A : Type 0} → (List ℕ → List ℕ → List ℕ → Type 0) → BTreeSet (String A) → List ℕ → List ℕ → List ℕ → Type 0
+ReadsUnique Read set bytes name rest = (text : List ℕ) × Read bytes text rest × IsUniqueIn set text name
+
 -- The set gains the name, and nothing else changes.
 pub record GainsName {A : Type 0} (old new : BTreeSet (String A)) (name : List ℕ) : Type 0 where
   pub has : (q : List ℕ) → contains_text new q ≡ (bytes_eq name q || contains_text old q)
   pub size : btree_set_len new ≡ btree_set_len old + 1
+
+-- A URL: the host, and a name in kebab case that is read, made unique among the names of a set, and gained by that.
+abbrev pub ReadsUrl : {A : Type 0} → ℕ → BTreeSet (String A) → BTreeSet (String A) → List ℕ → List ℕ → List ℕ → Type 0
+ReadsUrl max old new bytes url rest =
+    (text name : List ℕ) × (url ≡ codes "https://example.com/" ++ name) × ReadsKebab max bytes text rest × IsUniqueIn old text name × Kebab name × GainsName old new name
 
 -- Is the text one of the names?
 abbrev pub is_among : List (List ℕ) → List ℕ → Bool

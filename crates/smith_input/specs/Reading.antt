@@ -1,5 +1,5 @@
 -- What a read answers, and which bytes it leaves. A byte past the end counts as zero, and nothing is taken for it.
-use Rattle.std.specs.Prelude.{◌≡◌, ℕ, zero, suc, ◌+◌, ◌*◌, ◌/◌, ◌^◌, ◌%◌, ◌<◌, ◌≤◌, ◌↔◌, Bool, true, false, IsTrue, List, [], ◌∷◌, drop, slice_index, nat_le, if◌then◌else◌}
+use Rattle.std.specs.Prelude.{◌≡◌, ℕ, zero, suc, ◌+◌, ◌*◌, ◌/◌, ◌^◌, ◌%◌, ◌<◌, ◌≤◌, ◌↔◌, Bool, true, false, IsTrue, List, [], ◌∷◌, ◌++◌, drop, slice_index, nat_le, if◌then◌else◌}
 
 -- the number that the first w bytes spell, most significant first, with zeros past the end
 abbrev pub spelled : ℕ → List ℕ → ℕ
@@ -21,12 +21,12 @@ pub record Reads (n : ℕ) (bytes : List ℕ) (k : ℕ) (rest : List ℕ) : Type
   pub spells : spelled width bytes ≡ k + turns * n
   pub left : rest ≡ drop width bytes
 
--- A truth value is the lowest bit of one byte.
+-- A boolean is the lowest bit of one byte.
 pub record Flips (bytes : List ℕ) (answer : Bool) (rest : List ℕ) : Type 0 where
   pub bit : IsTrue answer ↔ (slice_index bytes 0 % 2 ≡ 1)
   pub left : rest ≡ drop 1 bytes
 
--- Whether a loop that has made so many turns makes another: not from max on, surely below min, and else by a truth value.
+-- Whether a loop that has made so many turns makes another: not from max on, surely below min, and else by a boolean.
 pub record More (done min max : ℕ) (bytes : List ℕ) (answer : Bool) (rest : List ℕ) : Type 0 where
   pub full : max ≤ done → (answer ≡ false) × (rest ≡ bytes)
   pub forced : done < max → done < min → (answer ≡ true) × (rest ≡ bytes)
@@ -35,6 +35,18 @@ pub record More (done min max : ℕ) (bytes : List ℕ) (answer : Bool) (rest : 
 -- the bytes without some of the first
 abbrev pub IsTail : List ℕ → List ℕ → Type 0
 IsTail rest bytes = (n : ℕ) × (rest ≡ drop n bytes)
+
+-- The bytes alone decide what is read, and what is left.
+abbrev pub IsDecided : {A : Type 0} → (List ℕ → A → List ℕ → Type 0) → Type 0
+IsDecided {A} Read = (bytes : List ℕ) (x y : A) (left rest : List ℕ) → Read bytes x left → Read bytes y rest → (x ≡ y) × (left ≡ rest)
+
+-- What is read leaves a tail of the bytes.
+abbrev pub LeavesTail : {A : Type 0} → (List ℕ → A → List ℕ → Type 0) → Type 0
+LeavesTail {A} Read = (bytes : List ℕ) (x : A) (rest : List ℕ) → Read bytes x rest → IsTail rest bytes
+
+-- This script, followed by any bytes, is read as x, and those bytes are left.
+abbrev pub IsReadAs : {A : Type 0} → (List ℕ → A → List ℕ → Type 0) → List ℕ → A → Type 0
+IsReadAs Read script x = (rest : List ℕ) → Read (script ++ rest) x rest
 
 -- k in w bytes, most significant first, k being below 256 ^ w
 abbrev pub big_endian : ℕ → ℕ → List ℕ

@@ -8,12 +8,12 @@ pub record ReadsByte (bytes : List ℕ) (value : ℕ) (rest : List ℕ) : Type 0
   pub value_is : value ≡ slice_index bytes 0
   pub left : rest ≡ drop 1 bytes
 
--- Bytes of any length: a byte follows each true truth value, up to the first false one.
+-- Bytes of any length: a byte follows each boolean that is true, up to the first that is false.
 pub data ReadsBytes : List ℕ → List ℕ → List ℕ → Type 0 where
   ends : {bytes rest : List ℕ} → Flips bytes false rest → ReadsBytes bytes [] rest
   follows : {bytes mid low rest : List ℕ} {value : ℕ} {values : List ℕ} → Flips bytes true mid → ReadsByte mid value low → ReadsBytes low values rest → ReadsBytes bytes (value ∷ values) rest
 
--- The text is a front of the bytes that is UTF-8, and no longer front is.
+-- The text is a prefix of the bytes that is UTF-8, and no longer prefix is.
 pub record IsLongestText (bytes text : List ℕ) : Type 0 where
   pub utf8 : IsUtf8 text
   pub front : text ≡ take (length text) bytes
@@ -28,11 +28,11 @@ pub record ReadsText (max : ℕ) (bytes text rest : List ℕ) : Type 0 where
   pub longest : IsLongestText (take count after_count) text
   pub left : rest ≡ drop (length text) after_count
 
--- a truth value before each byte, and one at the end
+-- a boolean before each byte, and one at the end
 abbrev pub script_bytes : List ℕ → List ℕ
 script_bytes [] = 0 ∷ []
 script_bytes (x ∷ xs) = 1 ∷ x ∷ script_bytes xs
 
--- the text behind its length, max being below 2 ^ 64
+-- the text after its length, max being below 2 ^ 64
 abbrev pub script_text : ℕ → List ℕ → List ℕ
 script_text max text = pick (max + 1) (length text) ++ text

@@ -1,11 +1,10 @@
 //! Names that are read, and are new to a set of names.
 
-ghost use Rattle.std.specs.Prelude.{◌≡◌, ℕ, ◌<◌, List, codes, string_bytes, ◌++◌, IfOk, IfErr, OnErr};
-ghost use Rattle.std.specs.BTreeSet.{contains_text, btree_set_len};
+ghost use Rattle.std.specs.Prelude.{◌≡◌, ◌<◌, string_bytes, IfOk, IfErr, OnErr};
 ghost use Rattle.smith_input.specs.Reading.{IsTail};
 ghost use Rattle.smith_input.specs.Texts.{ReadsText};
 ghost use Rattle.smith_input.specs.Kebab.{Kebab};
-ghost use Rattle.smith_input.specs.Names.{character, ReadsKebab, IsMadeUnique, GainsName};
+ghost use Rattle.smith_input.specs.Names.{character, ReadsKebab, IsUniqueIn, ReadsUnique, ReadsUrl, GainsName};
 
 use crate::{Error, Unstructured, limited_string};
 use std::alloc::Global;
@@ -47,7 +46,7 @@ fn kebab_string(alloc: Global, max: usize, u: &mut Unstructured) -> Result<Strin
 
 // The name, with the digits of the set's size at its end while the set has it.
 fn made_unique(alloc: Global, name: String, names: &BTreeSet<String>) -> Result<String, Error>
-    ensures unique { IfOk result (λ unique. IsMadeUnique (contains_text names.now) (btree_set_len names.now) (string_bytes name) (string_bytes unique)) }
+    ensures unique { IfOk result (λ unique. IsUniqueIn names.now (string_bytes name) (string_bytes unique)) }
     ensures kebab { IfOk result (λ unique. Kebab (string_bytes name) → Kebab (string_bytes unique)) }
     ensures memory { IfErr result (λ e. e ≡ Error.OutOfMemory) }
 {
@@ -69,7 +68,7 @@ pub fn unique_string(
     names: &mut BTreeSet<String>,
     u: &mut Unstructured,
 ) -> Result<String, Error>
-    ensures read { IfOk result (λ name. (text : List ℕ) × ReadsText max u.old text u.new × IsMadeUnique (contains_text names.old) (btree_set_len names.old) text (string_bytes name)) }
+    ensures read { IfOk result (λ name. ReadsUnique (ReadsText max) names.old u.old (string_bytes name) u.new) }
     ensures gained { IfOk result (λ name. GainsName names.old names.new (string_bytes name)) }
     ensures refused { OnErr result (names.new.keys ≡ names.old.keys) }
     ensures memory { IfErr result (λ e. e ≡ Error.OutOfMemory) }
@@ -90,7 +89,7 @@ pub fn unique_kebab_string(
     names: &mut BTreeSet<String>,
     u: &mut Unstructured,
 ) -> Result<String, Error>
-    ensures read { IfOk result (λ name. (text : List ℕ) × ReadsKebab max u.old text u.new × IsMadeUnique (contains_text names.old) (btree_set_len names.old) text (string_bytes name)) }
+    ensures read { IfOk result (λ name. ReadsUnique (ReadsKebab max) names.old u.old (string_bytes name) u.new) }
     ensures kebab { IfOk result (λ name. Kebab (string_bytes name)) }
     ensures gained { IfOk result (λ name. GainsName names.old names.new (string_bytes name)) }
     ensures refused { OnErr result (names.new.keys ≡ names.old.keys) }
@@ -111,7 +110,7 @@ pub fn unique_url(
     names: &mut BTreeSet<String>,
     u: &mut Unstructured,
 ) -> Result<String, Error>
-    ensures read { IfOk result (λ url. (text name : List ℕ) × (string_bytes url ≡ codes "https://example.com/" ++ name) × ReadsKebab max u.old text u.new × IsMadeUnique (contains_text names.old) (btree_set_len names.old) text name × Kebab name × GainsName names.old names.new name) }
+    ensures read { IfOk result (λ url. ReadsUrl max names.old names.new u.old (string_bytes url) u.new) }
     ensures refused { OnErr result (names.new.keys ≡ names.old.keys) }
     ensures memory { IfErr result (λ e. e ≡ Error.OutOfMemory) }
     ensures tail { IsTail u.new u.old }

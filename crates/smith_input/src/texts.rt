@@ -8,7 +8,7 @@ use crate::{Error, Unstructured};
 use std::alloc::Global;
 use std::str;
 
-/// Bytes of any length: while a truth value is true, one byte follows. The error is `OutOfMemory` alone.
+/// Bytes of any length: while a boolean is true, one byte follows. The error is `OutOfMemory` alone.
 pub fn arbitrary_bytes(alloc: Global, u: &mut Unstructured) -> Result<Vec<u8>, Error>
     ensures read { IfOk result (λ bytes. ReadsBytes u.old bytes.items u.new) }
     ensures memory { IfErr result (λ e. e ≡ Error.OutOfMemory) }
@@ -21,7 +21,7 @@ pub fn arbitrary_bytes(alloc: Global, u: &mut Unstructured) -> Result<Vec<u8>, E
     Ok(bytes)
 }
 
-// The longest front that is UTF-8.
+// The longest prefix that is UTF-8.
 fn longest_text(bytes: &[u8]) -> &str
     ensures { IsLongestText bytes.now result.now }
 {
@@ -31,7 +31,7 @@ fn longest_text(bytes: &[u8]) -> &str
     }
 }
 
-/// A text of at most `max` bytes: a length, cut to the number of bytes left, and the longest front of so many
+/// A text of at most `max` bytes: a length, cut to the number of bytes left, and the longest prefix of so many
 /// next bytes that is UTF-8. The rest of them stays unread. The error is `OutOfMemory` alone.
 pub fn limited_string(alloc: Global, max: usize, u: &mut Unstructured) -> Result<String, Error>
     ensures read { IfOk result (λ text. ReadsText max u.old (string_bytes text) u.new) }

@@ -1,6 +1,7 @@
 //! The reader.
 
-ghost use Rattle.std.specs.Prelude.{◌≡◌, ℕ, ◌+◌, ◌-◌, ◌^◌, ◌<◌, ◌≤◌, ◌↔◌, IsTrue, [], length, slice_get, slice_index, drop, Some};
+ghost use Rattle.std.specs.Prelude.{◌≡◌, ℕ, ◌+◌, ◌-◌, ◌^◌, ◌<◌, ◌≤◌, ◌↔◌, IsTrue, [], length, Some};
+ghost use Rattle.std.specs.Prelude.{slice_get, slice_index, drop};
 ghost use Rattle.smith_input.specs.Reading.{IsWidth, Reads, Flips, More, spelled};
 
 use std::marker::Model;
@@ -138,7 +139,7 @@ impl<'a> Unstructured<'a> {
         self.int_in_range(1, u64::from(q)) <= u64::from(p)
     }
 
-    /// A truth value: the lowest bit of one byte.
+    /// A boolean: the lowest bit of one byte.
     pub fn arbitrary_bool(&mut self) -> bool
         ensures { Flips self.old result self.new }
     {
@@ -146,7 +147,7 @@ impl<'a> Unstructured<'a> {
     }
 
     /// Whether a loop that has made `done` turns makes another: not from `max` on, surely below `min`, neither
-    /// with a read, and else by a truth value.
+    /// with a read, and else by a boolean.
     pub fn more(&mut self, done: usize, min: usize, max: usize) -> bool
         requires { min ≤ max }
         ensures { More done min max self.old result self.new }

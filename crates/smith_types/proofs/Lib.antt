@@ -7,3 +7,4 @@ pub mod Script
 pub mod Signature
 pub mod Stack
 pub mod Tied
+pub mod TooLong

@@ -2,4 +2,4 @@ use Rattle.smith_core.proofs.CoreScript.{function_read}
 use Rattle.smith_core.proofs.laws.core_scripts_are_read.Goals as goal
 
 pub returns : goal.returns
-returns c = function_read
+returns c valtypes max_results f h many rest = function_read valtypes max_results f rest h many

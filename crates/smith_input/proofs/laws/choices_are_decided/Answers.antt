@@ -2,4 +2,4 @@ use Rattle.smith_input.proofs.ReadingLemmas.{reads_unique}
 use Rattle.smith_input.proofs.laws.choices_are_decided.Goals as goal
 
 pub returns : goal.returns
-returns c n j k bytes left rest r s = reads_unique r s
+returns c n bytes j k left rest r s = reads_unique r s
