@@ -7,6 +7,7 @@ pub mod ReadLemmas
 pub mod RunLemmas
 pub mod ShownLemmas
 pub mod SoundLemmas
+pub mod TooLong
 pub mod Spelling
 pub mod TurnLemmas
 pub mod Unique
