@@ -1,6 +1,6 @@
 -- A builder's fields, and what is true of them.
 use Rattle.std.specs.Prelude.{map}
-use Rattle.smith_types.specs.Scope.{inward}
+use Rattle.smith_types.specs.Scopes.{inward}
 use Rattle.smith_component.specs.Building.{Building, open_of}
 use Rattle.smith_component.specs.Sound.{Standing}
 use Rattle.smith_component.specs.declared.builder.Builder.TheInside.{Inside}

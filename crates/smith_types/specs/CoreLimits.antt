@@ -8,8 +8,8 @@ use Rattle.smith_core.specs.declared.types.EntityType.{EntityType}
 use Rattle.smith_core.specs.declared.types.EntityType.TheVariants.{Func, Table, Memory, Global, Tag}
 use Rattle.smith_core.specs.declared.types.ExportKind.TheVariants as kind
 use Rattle.smith_types.specs.Entries.{CoreEntry, ModuleDecl, core_func, core_module}
-use Rattle.smith_types.specs.FormedCore.{core_size}
 use Rattle.smith_types.specs.ModuleTypes.{declared_in, entities_of, type_count, count_of}
+use Rattle.smith_types.specs.WellFormed.{core_size}
 
 -- how many results a core function may have
 abbrev pub max_results : Config → ℕ

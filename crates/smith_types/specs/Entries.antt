@@ -2,35 +2,38 @@
 use Rattle.std.specs.Prelude.{ℕ, List, Option}
 use Rattle.smith_core.specs.CoreTypes.{Function}
 use Rattle.smith_core.specs.declared.types.EntityType.{EntityType}
+use Rattle.smith_types.specs.declared.types.ComponentValType.{ComponentValType}
+use Rattle.smith_types.specs.declared.types.PrimitiveValType.{PrimitiveValType}
 
-pub data Primitive : Type 0 where
-  bool s8 u8 s16 u16 s32 u32 s64 u64 f32 f64 char string : Primitive
-
--- a value type in use: a primitive one, or a defined type by its index
-pub data Val : Type 0 where
-  primitive : Primitive → Val
-  indexed : ℕ → Val
-
--- a name and a value type
+-- a name and a value type: a field of a record, or a parameter of a function
 abbrev pub Field : Type 0
-Field = List ℕ × Val
+Field = List ℕ × ComponentValType
 
--- a name, and a value type or none
+-- a case of a variant: a name, and a value type or none
 abbrev pub Case : Type 0
-Case = List ℕ × Option Val
+Case = List ℕ × Option ComponentValType
 
--- a type that a component declares
+-- a type of values (Explainer.md, defvaltype)
+pub data DefValType : Type 0 where
+  primitive_type : PrimitiveValType → DefValType
+  record_type : List Field → DefValType
+  variant_type : List Case → DefValType
+  list_type : ComponentValType → DefValType
+  tuple_type : List ComponentValType → DefValType
+  flags_type : List (List ℕ) → DefValType
+  enum_type : List (List ℕ) → DefValType
+  option_type : ComponentValType → DefValType
+  result_type : Option ComponentValType → Option ComponentValType → DefValType
+
+-- a type of functions: the parameters, and the type of the result
+pub record Signature : Type 0 where
+  pub params : List Field
+  pub result : Option ComponentValType
+
+-- a type that a component declares (Explainer.md, deftype)
 pub data Entry : Type 0 where
-  plain : Primitive → Entry
-  fields : List Field → Entry
-  cases : List Case → Entry
-  listed : Val → Entry
-  tuple : List Val → Entry
-  flags : List (List ℕ) → Entry
-  labels : List (List ℕ) → Entry
-  optional : Val → Entry
-  outcome : Option Val → Option Val → Entry
-  function : List Field → Option Val → Entry
+  defined : DefValType → Entry
+  function : Signature → Entry
 
 -- What a module type declares: a function type, an import by two names, an outer alias by its count of scopes and its index, or
 -- an export by its name.

@@ -1,12 +1,18 @@
--- What stands in a module type (Explainer.md, core type definitions): its own types, and what it imports and exports.
-use Rattle.std.specs.Prelude.{ℕ, zero, suc, Bool, true, false, List, [], ◌∷◌, length, Option, Some, None, slice_get, nat_eq, bytes_eq, if◌then◌else◌}
-use Rattle.std.specs.List.{filter, flat_map}
+-- What stands in a module type (Explainer.md, core type definitions): its own types, what it imports and exports, and what it
+-- begins with for the canonical ABI.
+use Rattle.std.specs.Prelude.{ℕ, zero, suc, Bool, true, false, ◌&&◌, List, [], ◌∷◌, length, Option, Some, None, slice_get, nat_eq, nat_lt, bytes_eq, codes, if◌then◌else◌}
+use Rattle.std.specs.Cmp.Lexicographic.{pointwise}
+use Rattle.std.specs.List.{filter, flat_map, IsDistinct}
+use Rattle.std.specs.Option.{option_to_list}
 use Rattle.smith_core.specs.CoreTypes.{Function}
 use Rattle.smith_core.specs.Entities.{kind_of}
+use Rattle.smith_core.specs.Equality.{same_val}
 use Rattle.smith_core.specs.declared.types.EntityType.{EntityType}
+use Rattle.smith_core.specs.declared.types.EntityType.TheVariants.{Func, Table, Memory, Global, Tag}
 use Rattle.smith_core.specs.declared.types.ExportKind.{ExportKind}
+use Rattle.smith_core.specs.declared.types.ExportKind.TheVariants as kind
+use Rattle.smith_core.specs.declared.types.ValType.TheVariants.{I32}
 use Rattle.smith_core.specs.contracts.types.ExportKindPartialEq.TheImpl.{ghosts as kinds}
-use Rattle.smith_types.specs.Distinct.{IsDistinct}
 use Rattle.smith_types.specs.Entries.{CoreEntry, ModuleDecl, core_func, core_module, imports, declares, aliases, exports}
 
 -- a core function type, where it is one
@@ -22,15 +28,11 @@ aliased around own zero i = slice_get own i
 aliased around own (suc zero) i = func_in (slice_get around i)
 aliased around own (suc (suc n)) i = None
 
-abbrev pub one_or_none : {A : Type 0} → Option A → List A
-one_or_none None = []
-one_or_none (Some x) = x ∷ []
-
 -- what a declaration adds to the module type's own types
 abbrev pub adds : List CoreEntry → List Function → ModuleDecl → List Function
 adds around own (imports m n e) = []
 adds around own (declares f) = f ∷ []
-adds around own (aliases count i) = one_or_none (aliased around own count i)
+adds around own (aliases count i) = option_to_list (aliased around own count i)
 adds around own (exports n e) = []
 
 -- what a declaration imports or exports
@@ -73,6 +75,11 @@ names_from from ds = flat_map (name_from from) ds
 abbrev pub export_names : List ModuleDecl → List (List ℕ)
 export_names ds = flat_map export_name ds
 
+-- No name is imported twice from a module, and none is exported twice.
+pub record HasNewNames (ds : List ModuleDecl) : Type 0 where
+  pub imported : (from : List ℕ) → IsDistinct bytes_eq (names_from from ds)
+  pub exported : IsDistinct bytes_eq (export_names ds)
+
 -- Has it no results, as the type of a tag has none?
 abbrev pub is_tag_type : Function → Bool
 is_tag_type f = nat_eq (length f.1) 0
@@ -99,7 +106,58 @@ is_own_type (exports n e) = false
 abbrev pub type_count : List ModuleDecl → ℕ
 type_count ds = length (filter is_own_type ds)
 
--- No name is imported twice from a module, and none is exported twice.
-pub record HasNewNames (ds : List ModuleDecl) : Type 0 where
-  pub imported : (from : List ℕ) → IsDistinct (names_from from ds)
-  pub exported : IsDistinct (export_names ds)
+-- What the canonical ABI asks of a module (CanonicalABI.md, memory management): an export of a memory, a function that
+-- allocates anew, and one that frees. Each of them may be missing.
+
+abbrev pub realloc : Function
+realloc = (I32 ∷ I32 ∷ I32 ∷ I32 ∷ [], I32 ∷ [])
+
+abbrev pub free : Function
+free = (I32 ∷ I32 ∷ I32 ∷ [], [])
+
+abbrev pub same_function : Function → Function → Bool
+same_function f g = pointwise same_val f.0 g.0 && pointwise same_val f.1 g.1
+
+-- Does it declare that function type?
+abbrev pub is_type : Function → ModuleDecl → Bool
+is_type f (imports m n e) = false
+is_type f (declares g) = same_function f g
+is_type f (aliases count i) = false
+is_type f (exports n e) = false
+
+-- Is it a function of the type i?
+abbrev pub is_function_of : ℕ → EntityType → Bool
+is_function_of i (Func j) = nat_eq i j
+is_function_of i (Table t) = false
+is_function_of i (Memory m) = false
+is_function_of i (Global g) = false
+is_function_of i (Tag t) = false
+
+-- Is it the export by that name of what passes the test?
+abbrev pub is_export : List ℕ → (EntityType → Bool) → ModuleDecl → Bool
+is_export name test (imports m n e) = false
+is_export name test (declares f) = false
+is_export name test (aliases count i) = false
+is_export name test (exports n e) = bytes_eq n name && test e
+
+-- the declarations after the export of a memory
+abbrev pub after_memory : List ModuleDecl → List ModuleDecl
+after_memory [] = []
+after_memory (d ∷ ds) = if is_export (codes "memory") (is_of_kind kind.Memory) d then ds else d ∷ ds
+
+-- the declarations after a function type and the export of a function of that type, which has the index i
+abbrev pub after_function : List ℕ → Function → ℕ → List ModuleDecl → List ModuleDecl
+after_function name f i [] = []
+after_function name f i (d ∷ []) = d ∷ []
+after_function name f i (d ∷ e ∷ ds) = if is_type f d && is_export name (is_function_of i) e then ds else d ∷ e ∷ ds
+
+abbrev pub after_realloc : List ModuleDecl → List ModuleDecl
+after_realloc ds = after_function (codes "canonical_abi_realloc") realloc 0 ds
+
+-- The type of the one that frees is the second where the other function stands before it.
+abbrev pub after_free : List ModuleDecl → List ModuleDecl
+after_free ds = after_function (codes "canonical_abi_free") free (if nat_lt (length (after_realloc ds)) (length ds) then 1 else 0) (after_realloc ds)
+
+-- the declarations after what the canonical ABI asks
+abbrev pub after_front : List ModuleDecl → List ModuleDecl
+after_front ds = after_free (after_memory ds)

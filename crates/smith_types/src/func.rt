@@ -17,7 +17,8 @@ pub struct FuncType {
 }
 
 impl Model for FuncType {
-    ghost use Rattle.smith_types.specs.Signature.{Signature, signature};
+    ghost use Rattle.smith_types.specs.Entries.{Signature};
+    ghost use Rattle.smith_types.specs.Signature.{signature};
 
     ghost Value = { Signature };
 
@@ -26,8 +27,7 @@ impl Model for FuncType {
 
 /// Two function types are equal exactly where their signatures are.
 impl PartialEq for FuncType {
-    ghost use Rattle.smith_types.specs.SameSignature.{same_signature};
-    ghost use Rattle.smith_types.specs.SignatureLaws.{same_signature_per};
+    ghost use Rattle.smith_types.specs.Signature.{same_signature, same_signature_per};
 
     ghost eq = { same_signature };
 
@@ -39,14 +39,13 @@ impl PartialEq for FuncType {
 }
 
 impl Eq for FuncType {
-    ghost use Rattle.smith_types.specs.SignatureLaws.{same_signature_equiv};
+    ghost use Rattle.smith_types.specs.Signature.{same_signature_equiv};
 
     ghost laws = { same_signature_equiv };
 }
 
 impl Hash for FuncType {
-    ghost use Rattle.smith_types.specs.SameSignature.{signature_input};
-    ghost use Rattle.smith_types.specs.SignatureLaws.{signature_input_respects};
+    ghost use Rattle.smith_types.specs.Signature.{signature_input, signature_input_respects};
 
     ghost hash_input = { signature_input };
 

@@ -3,7 +3,7 @@
 ghost use Rattle.std.specs.Prelude.{◌≡◌, ◌≤◌, ◌^◌, ℕ, List, ◌++◌, length};
 ghost use Rattle.smith_core.specs.Clear.{IsClear};
 ghost use Rattle.smith_types.specs.Entries.{Entry};
-ghost use Rattle.smith_types.specs.Grammar.{val, maybe_val, entry, core_entry, import_entry};
+ghost use Rattle.smith_types.specs.Grammar.{valtype, maybe_valtype, entry, core_entry, import_entry};
 ghost use Rattle.smith_types.specs.Made.{Made};
 ghost use Rattle.smith_types.specs.Scope.{Scope};
 ghost use Rattle.smith_types.specs.Script.{Lasts, script_type};
@@ -26,8 +26,8 @@ pub fn scripts_are_read()
 /// value types, core types and imports.
 pub fn types_are_clear()
     ensures types { IsClear entry }
-    ensures value_types { IsClear val }
-    ensures missing { IsClear maybe_val }
+    ensures value_types { IsClear valtype }
+    ensures missing { IsClear maybe_valtype }
     ensures core_types { IsClear core_entry }
     ensures imports { IsClear import_entry }
 {}

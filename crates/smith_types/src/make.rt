@@ -8,7 +8,8 @@ mod values;
 ghost use Rattle.std.specs.Prelude.{◌≡◌, ◌+◌, ◌-◌, ◌≤◌, IfOk, IfErr};
 ghost use Rattle.smith_input.specs.Reading.{IsTail};
 ghost use Rattle.smith_types.specs.Made.{Made, MadeOf};
-ghost use Rattle.smith_types.specs.Scope.{inward, own_of, outer_of};
+ghost use Rattle.smith_types.specs.Scope.{own_of, outer_of};
+ghost use Rattle.smith_types.specs.Scopes.{inward};
 ghost use Rattle.smith_types.specs.Shown.{shown_type, shown_shared};
 ghost use Rattle.smith_types.specs.WellFormed.{FormedEntry, size};
 

@@ -1,18 +1,17 @@
 //! Scopes: what types stand where (Explainer.md, index spaces).
 
 ghost use Rattle.std.specs.Prelude.{◌≡◌, ℕ, ◌+◌, ◌<◌, ◌≤◌, [], ◌∷◌, ◌++◌, length, Some, slice_get, OnOk, IfOk, OnErr, IfErr};
-ghost use Rattle.smith_types.specs.Contents.{nothing, and_type, and_core_type};
-ghost use Rattle.smith_types.specs.Places.{places};
-ghost use Rattle.smith_types.specs.Rows.{Notes, SameRows};
-ghost use Rattle.smith_types.specs.Scope.{inward, own_of, shown_scope, kind_places};
-ghost use Rattle.smith_types.specs.Stack.{last_of, scope_at, has_signature, AddsType, AddsCoreType};
+ghost use Rattle.smith_types.specs.Scope.{empty_scope, with_type, with_core_type, own_of, places};
+ghost use Rattle.smith_types.specs.Scopes.{inward, shown_scope, kind_places, has_signature, last_of, scope_at, AddsType, AddsCoreType, Notes, SameRows};
 
 use crate::core_types::CoreType;
+use crate::drops::drop_last_first;
 use crate::func::FuncType;
 use crate::types::DefType;
 use smith_input::Error;
 use std::alloc::Global;
 use std::collections::HashMap;
+use std::hash::{BuildHasherDefault, DefaultHasher};
 use std::marker::Model;
 use std::mem;
 use std::rc::Rc;
@@ -30,32 +29,36 @@ pub enum Kind {
     CoreModule,
 }
 
+// The indexes of the equals of each function type. The names in them come from the input: a hasher that such names can
+// steer would make the map slow, and SipHash is none.
+type Equals = HashMap<FuncType, Vec<u32>, BuildHasherDefault<DefaultHasher>>;
+
 // The types and core types of one scope, with the indexes of each kind and, by each function type, those of its equals.
-// Contracts see the types and the core types.
-#[derive(Drop)]
+// Contracts see the types and the core types. It drops its types from the last to the first, since each holds none after
+// it; the code says so, and a test alone shows it.
 struct Scope {
     types: Vec<Rc<DefType>>,
     defined: Vec<u32>,
     funcs: Vec<u32>,
-    equal: HashMap<FuncType, Vec<u32>>,
+    equal: Equals,
     core_types: Vec<Rc<CoreType>>,
     core_funcs: Vec<u32>,
     core_modules: Vec<u32>,
 }
 
 impl Model for Scope {
-    ghost use Rattle.smith_types.specs.Contents.{Contents};
-    ghost use Rattle.smith_types.specs.Tied.{types_in, core_types_in, IsTied, IsCoreTied};
+    ghost use Rattle.smith_types.specs.Scopes.{Contents, values_of, IsTied, IsCoreTied};
 
     ghost Value = { Contents };
 
-    ghost view = { λ s. record { types = types_in s.types.items; core_types = core_types_in s.core_types.items } };
+    ghost view = { λ s. record { types = values_of s.types.items; core_types = values_of s.core_types.items } };
 
-    ghost invariant = { λ s. IsTied (types_in s.types.items) s.defined.items s.funcs.items s.equal × IsCoreTied (core_types_in s.core_types.items) s.core_funcs.items s.core_modules.items };
+    ghost invariant = { λ s. IsTied (values_of s.types.items) s.defined.items s.funcs.items s.equal × IsCoreTied (values_of s.core_types.items) s.core_funcs.items s.core_modules.items };
 }
 
-/// A stack of scopes, never empty. Contracts see the list, outermost first, of the types and core types in each.
-#[derive(Drop)]
+/// A stack of scopes, never empty. Contracts see the list, outermost first, of the types and core types in each. It is
+/// dropped from the last scope to the first, and each scope from its last type to its first, so that the stack that this
+/// takes does not grow with the number of types. This order is the code's, and shown by a test alone.
 pub struct Scopes {
     alloc: Global,
     outer: Vec<Scope>,
@@ -64,16 +67,44 @@ pub struct Scopes {
 
 impl Model for Scopes {
     ghost use Rattle.std.specs.Prelude.{List, [], ◌∷◌, ◌++◌};
-    ghost use Rattle.smith_types.specs.Contents.{Contents};
+    ghost use Rattle.smith_types.specs.Scopes.{Contents};
 
     ghost Value = { List Contents };
 
     ghost view = { λ s. s.outer.items ++ s.inner ∷ [] };
 }
 
+impl Drop for Scope {
+    fn drop(self) {
+        let Scope {
+            types,
+            defined: _,
+            funcs: _,
+            equal: _,
+            core_types,
+            core_funcs: _,
+            core_modules: _,
+        } = self;
+        drop_last_first(types);
+        drop_last_first(core_types);
+    }
+}
+
+impl Drop for Scopes {
+    fn drop(self) {
+        let Scopes {
+            alloc: _,
+            outer,
+            inner,
+        } = self;
+        drop(inner);
+        drop_last_first(outer);
+    }
+}
+
 // Puts the index at the end of the row of a function type. Where it refuses, each row is as it was.
 fn note(
-    equal: &mut HashMap<FuncType, Vec<u32>>,
+    equal: &mut Equals,
     alloc: Global,
     func: &FuncType,
     index: u32,
@@ -95,13 +126,13 @@ fn note(
 
 impl Scope {
     fn new(alloc: Global) -> Scope
-        ensures { result ≡ nothing }
+        ensures { result ≡ empty_scope }
     {
         Scope {
             types: Vec::new(alloc),
             defined: Vec::new(alloc),
             funcs: Vec::new(alloc),
-            equal: HashMap::new(alloc),
+            equal: HashMap::with_hasher(alloc, BuildHasherDefault::default()),
             core_types: Vec::new(alloc),
             core_funcs: Vec::new(alloc),
             core_modules: Vec::new(alloc),
@@ -111,7 +142,7 @@ impl Scope {
     // Adds a type at the end. Each list has room before one of them grows.
     fn push_type(&mut self, alloc: Global, entry: Rc<DefType>) -> Result<u32, Error>
         requires { length self.old.types < 4294967295 }
-        ensures ok { OnOk result (self.new ≡ and_type self.old entry.value) }
+        ensures ok { OnOk result (self.new ≡ with_type self.old entry.value) }
         ensures index { IfOk result (λ i. i ≡ length self.old.types) }
         ensures err { OnErr result (self.new ≡ self.old) }
         ensures memory { IfErr result (λ e. e ≡ Error.OutOfMemory) }
@@ -133,7 +164,7 @@ impl Scope {
     // Adds a core type at the end. Each list has room before one of them grows.
     fn push_core_type(&mut self, entry: Rc<CoreType>) -> Result<u32, Error>
         requires { length self.old.core_types < 4294967295 }
-        ensures ok { OnOk result (self.new ≡ and_core_type self.old entry.value) }
+        ensures ok { OnOk result (self.new ≡ with_core_type self.old entry.value) }
         ensures index { IfOk result (λ i. i ≡ length self.old.core_types) }
         ensures err { OnErr result (self.new ≡ self.old) }
         ensures memory { IfErr result (λ e. e ≡ Error.OutOfMemory) }
@@ -173,7 +204,7 @@ impl Scope {
 impl Scopes {
     /// One scope, empty.
     pub fn new(alloc: Global) -> Scopes
-        ensures { result ≡ nothing ∷ [] }
+        ensures { result ≡ empty_scope ∷ [] }
     {
         Scopes {
             alloc,
@@ -184,7 +215,7 @@ impl Scopes {
 
     /// Adds an empty scope. It refuses for want of memory alone, and all is as it was then.
     pub fn open_scope(&mut self) -> Result<(), Error>
-        ensures ok { OnOk result (self.new ≡ self.old ++ nothing ∷ []) }
+        ensures ok { OnOk result (self.new ≡ self.old ++ empty_scope ∷ []) }
         ensures err { OnErr result (self.new ≡ self.old) }
         ensures memory { IfErr result (λ e. e ≡ Error.OutOfMemory) }
     {

@@ -4,10 +4,10 @@
 ghost use Rattle.std.specs.Prelude.{ℕ, map};
 ghost use Rattle.smith_core.specs.Piece.{Piece, ◌⊕◌, byte, bytes, many, text, u};
 ghost use Rattle.smith_core.specs.Writing.{Puts, Appends, IsLengthOf};
-ghost use Rattle.smith_types.specs.Grammar.{module_decl, core_entry};
+ghost use Rattle.smith_types.specs.Grammar.{moduledecl, core_entry};
 ghost use Rattle.smith_types.specs.Shown.{shown_decl, shown_core, shown_shared_core};
 
-use super::ComponentFormat;
+use super::values::ComponentFormat;
 use crate::core_types::{CoreType, ModuleTypeDef};
 use smith_core::{
     Spelled, core_import_len, entity_len, func_type_len, put_tagged, tagged_len, text_len, u32_len,
@@ -18,7 +18,7 @@ use smith_input::Error;
 use std::rc::Rc;
 
 fn put_decl(out: &mut Vec<u8>, decl: &ModuleTypeDef) -> Result<(), Error>
-    ensures { Puts result out.old out.new (module_decl (shown_decl decl.now)) }
+    ensures { Puts result out.old out.new (moduledecl (shown_decl decl.now)) }
 {
     match decl {
         ModuleTypeDef::Import(import) => {
@@ -43,7 +43,7 @@ fn put_decl(out: &mut Vec<u8>, decl: &ModuleTypeDef) -> Result<(), Error>
 }
 
 fn decl_len(decl: &ModuleTypeDef) -> Option<u32>
-    ensures { IsLengthOf result (module_decl (shown_decl decl.now)) }
+    ensures { IsLengthOf result (moduledecl (shown_decl decl.now)) }
 {
     match decl {
         ModuleTypeDef::Import(import) => core_import_len(import)?.checked_add(1),
@@ -58,7 +58,7 @@ fn decl_len(decl: &ModuleTypeDef) -> Option<u32>
 }
 
 impl Spelled<ComponentFormat> for ModuleTypeDef {
-    ghost piece = { λ d. module_decl (shown_decl d) };
+    ghost piece = { λ d. moduledecl (shown_decl d) };
 
     fn put(&self, out: &mut Vec<u8>) -> Result<(), Error> {
         put_decl(out, self)

@@ -2,10 +2,13 @@
 
 ghost use Rattle.std.specs.Prelude.{◌≡◌, ◌+◌, ◌-◌, ℕ, List, map, string_bytes, IfOk, IfErr};
 ghost use Rattle.smith_input.specs.Reading.{IsTail};
-ghost use Rattle.smith_types.specs.Entries.{bool, plain, fields, cases, tuple, flags, labels};
+ghost use Rattle.smith_types.specs.Entries.{primitive_type, record_type, variant_type, tuple_type, flags_type, enum_type};
 ghost use Rattle.smith_types.specs.Made.{MadeAs, MadeDefined, ReadsMaybe, or_bool};
-ghost use Rattle.smith_types.specs.Scope.{inward, own_of};
-ghost use Rattle.smith_types.specs.Shown.{shown_val, shown_maybe, shown_field, shown_case, shown_defined};
+ghost use Rattle.smith_types.specs.Scope.{own_of};
+ghost use Rattle.smith_types.specs.Scopes.{inward};
+ghost use Rattle.smith_types.specs.Shown.{shown_defined};
+ghost use Rattle.smith_types.specs.Signature.{named};
+ghost use Rattle.smith_types.specs.declared.types.PrimitiveValType.TheVariants as prim;
 
 use super::members::members;
 use super::values::{maybe_value_type, primitive_type, value_type};
@@ -45,14 +48,14 @@ static DEFINED_KINDS: [DefinedKind; 9] = [
 
 // What a type becomes that would have no member.
 fn bool_type() -> DefinedType
-    ensures { shown_defined result ≡ plain bool }
+    ensures { shown_defined result ≡ primitive_type prim.Bool }
 {
     DefinedType::Primitive(PrimitiveValType::Bool)
 }
 
 // A record, or bool where it has no field.
 fn record_type(members: Vec<(String, ComponentValType)>) -> DefinedType
-    ensures { shown_defined result ≡ or_bool fields (map shown_field members.items) }
+    ensures { shown_defined result ≡ or_bool record_type (map named members.items) }
 {
     if members.is_empty() {
         return bool_type();
@@ -62,7 +65,7 @@ fn record_type(members: Vec<(String, ComponentValType)>) -> DefinedType
 
 // A variant, or bool where it has no case.
 fn variant_type(members: Vec<(String, Option<ComponentValType>)>) -> DefinedType
-    ensures { shown_defined result ≡ or_bool cases (map shown_case members.items) }
+    ensures { shown_defined result ≡ or_bool variant_type (map named members.items) }
 {
     if members.is_empty() {
         return bool_type();
@@ -72,7 +75,7 @@ fn variant_type(members: Vec<(String, Option<ComponentValType>)>) -> DefinedType
 
 // A tuple, or bool where it has no member.
 fn tuple_type(members: Vec<ComponentValType>) -> DefinedType
-    ensures { shown_defined result ≡ or_bool tuple (map shown_val members.items) }
+    ensures { shown_defined result ≡ or_bool tuple_type members.items }
 {
     if members.is_empty() {
         return bool_type();
@@ -82,7 +85,7 @@ fn tuple_type(members: Vec<ComponentValType>) -> DefinedType
 
 // Flags, or bool where there is none.
 fn flags_type(members: Vec<String>) -> DefinedType
-    ensures { shown_defined result ≡ or_bool flags (map string_bytes members.items) }
+    ensures { shown_defined result ≡ or_bool flags_type (map string_bytes members.items) }
 {
     if members.is_empty() {
         return bool_type();
@@ -92,7 +95,7 @@ fn flags_type(members: Vec<String>) -> DefinedType
 
 // An enum, or bool where it has no label.
 fn enum_type(members: Vec<String>) -> DefinedType
-    ensures { shown_defined result ≡ or_bool labels (map string_bytes members.items) }
+    ensures { shown_defined result ≡ or_bool enum_type (map string_bytes members.items) }
 {
     if members.is_empty() {
         return bool_type();
@@ -102,7 +105,7 @@ fn enum_type(members: Vec<String>) -> DefinedType
 
 // A result, whose two types are read one after the other.
 fn result_type(u: &mut Unstructured, scopes: &Scopes) -> ResultType
-    ensures reads { (mid : List ℕ) × ReadsMaybe (own_of (inward scopes.now)) u.old (shown_maybe result.ok_ty) mid × ReadsMaybe (own_of (inward scopes.now)) mid (shown_maybe result.err_ty) u.new }
+    ensures reads { (mid : List ℕ) × ReadsMaybe (own_of (inward scopes.now)) u.old result.ok_ty mid × ReadsMaybe (own_of (inward scopes.now)) mid result.err_ty u.new }
     ensures tail { IsTail u.new u.old }
 {
     let ok_ty = maybe_value_type(u, scopes);

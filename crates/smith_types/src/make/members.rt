@@ -3,10 +3,12 @@
 ghost use Rattle.std.specs.Prelude.{◌≡◌, ◌≤◌, ℕ, List, [], ◌∷◌, ◌++◌, map, refl, string_bytes, IfOk, IfErr};
 ghost use Rattle.smith_input.specs.Names.{Holds, ReadsNew};
 ghost use Rattle.smith_input.specs.Reading.{IsTail};
-ghost use Rattle.smith_types.specs.Entries.{Val, Field, Case};
+ghost use Rattle.smith_types.specs.Entries.{Field, Case};
 ghost use Rattle.smith_types.specs.Made.{ReadsVal, ReadsMaybe, ReadsNamed, ReadsMembers};
-ghost use Rattle.smith_types.specs.Scope.{Scope, inward, own_of};
-ghost use Rattle.smith_types.specs.Shown.{shown_val, shown_field, shown_case};
+ghost use Rattle.smith_types.specs.Scope.{Scope, own_of};
+ghost use Rattle.smith_types.specs.Scopes.{inward};
+ghost use Rattle.smith_types.specs.Signature.{named};
+ghost use Rattle.smith_types.specs.declared.types.ComponentValType.{ComponentValType as Val};
 
 use super::burn;
 use super::values::{maybe_value_type, value_type};
@@ -51,7 +53,7 @@ pub(super) fn members<M: Member>(
     max: usize,
 ) -> Result<Vec<M>, Error>
     requires { min ≤ max }
-    ensures reads { IfOk result (λ v. ReadsMembers (M.reads_member (own_of (inward scopes.now))) min max [] u.old fuel.old (map M.shown v.items) u.new fuel.new) }
+    ensures reads { IfOk result (λ v. ReadsMembers (M.reads_member (own_of (inward scopes.now))) min max u.old fuel.old (map M.shown v.items) u.new fuel.new) }
     ensures memory { IfErr result (λ e. e ≡ Error.OutOfMemory) }
     ensures tail { IsTail u.new u.old }
 {
@@ -74,7 +76,7 @@ pub(super) fn members<M: Member>(
 impl Member for ComponentValType {
     ghost Shown = { Val };
 
-    ghost shown = { shown_val };
+    ghost shown = { λ v. v };
 
     ghost names_of = { λ _. [] };
 
@@ -116,7 +118,7 @@ impl Member for String {
 impl Member for (String, ComponentValType) {
     ghost Shown = { Field };
 
-    ghost shown = { shown_field };
+    ghost shown = { λ f. named f };
 
     ghost names_of = { map (λ f. f.0) };
 
@@ -138,7 +140,7 @@ impl Member for (String, ComponentValType) {
 impl Member for (String, Option<ComponentValType>) {
     ghost Shown = { Case };
 
-    ghost shown = { shown_case };
+    ghost shown = { λ c. named c };
 
     ghost names_of = { map (λ c. c.0) };
 

@@ -2,9 +2,10 @@
 
 ghost use Rattle.std.specs.Prelude.{◌≡◌};
 ghost use Rattle.smith_input.specs.Reading.{IsTail};
-ghost use Rattle.smith_types.specs.Made.{ReadsPrimitive, ReadsVal, ReadsMaybe};
-ghost use Rattle.smith_types.specs.Scope.{inward, own_of};
-ghost use Rattle.smith_types.specs.Shown.{shown_primitive, shown_val, shown_maybe};
+ghost use Rattle.smith_input.specs.Choices.{ReadsAmong};
+ghost use Rattle.smith_types.specs.Made.{primitives, ReadsVal, ReadsMaybe};
+ghost use Rattle.smith_types.specs.Scope.{own_of};
+ghost use Rattle.smith_types.specs.Scopes.{inward};
 
 use crate::scopes::{Kind, Scopes};
 use crate::types::{ComponentValType, PrimitiveValType};
@@ -28,7 +29,7 @@ static PRIMITIVES: [PrimitiveValType; 13] = [
 
 // A primitive value type, by a choice among the thirteen.
 pub(super) fn primitive_type(u: &mut Unstructured) -> PrimitiveValType
-    ensures reads { ReadsPrimitive u.old (shown_primitive result) u.new }
+    ensures reads { ReadsAmong primitives u.old result u.new }
     ensures tail { IsTail u.new u.old }
 {
     *u.choose(&PRIMITIVES)
@@ -36,7 +37,7 @@ pub(super) fn primitive_type(u: &mut Unstructured) -> PrimitiveValType
 
 // A value type: primitive, or one of the defined types of the last scope.
 pub(super) fn value_type(u: &mut Unstructured, scopes: &Scopes) -> ComponentValType
-    ensures reads { ReadsVal (own_of (inward scopes.now)) u.old (shown_val result) u.new }
+    ensures reads { ReadsVal (own_of (inward scopes.now)) u.old result u.new }
     ensures tail { IsTail u.new u.old }
 {
     let defined = scopes.kind_len(Kind::Defined);
@@ -49,7 +50,7 @@ pub(super) fn value_type(u: &mut Unstructured, scopes: &Scopes) -> ComponentValT
 
 // A truth value, and a value type where it is true.
 pub(super) fn maybe_value_type(u: &mut Unstructured, scopes: &Scopes) -> Option<ComponentValType>
-    ensures reads { ReadsMaybe (own_of (inward scopes.now)) u.old (shown_maybe result) u.new }
+    ensures reads { ReadsMaybe (own_of (inward scopes.now)) u.old result u.new }
     ensures tail { IsTail u.new u.old }
 {
     if u.arbitrary_bool() {

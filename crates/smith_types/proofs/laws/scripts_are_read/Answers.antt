@@ -1,4 +1,4 @@
-use Rattle.smith_types.proofs.ScriptLemmas.{type_read}
+use Rattle.smith_types.proofs.Script.{type_read}
 use Rattle.smith_types.proofs.laws.scripts_are_read.Goals as goal
 
 pub returns : goal.returns

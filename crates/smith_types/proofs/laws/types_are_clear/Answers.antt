@@ -1,5 +1,4 @@
-use Rattle.smith_types.proofs.Unique.{clear_entry, clear_val, clear_maybe, clear_import_entry}
-use Rattle.smith_types.proofs.UniqueCore.{clear_core_entry}
+use Rattle.smith_types.proofs.Clear.{clear_entry, clear_val, clear_maybe, clear_core_entry, clear_import_entry}
 use Rattle.smith_types.proofs.laws.types_are_clear.Goals as goal
 
 pub returns-clause-types : goal.returns-clause-types

@@ -1,4 +1,4 @@
-use Rattle.smith_types.proofs.SameLemmas.{made_same}
+use Rattle.smith_types.proofs.Made.{made_same}
 use Rattle.smith_types.proofs.laws.types_are_decided.Goals as goal
 
 pub returns : goal.returns

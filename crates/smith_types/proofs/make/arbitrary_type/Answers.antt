@@ -1,9 +1,10 @@
 use Rattle.std.proofs.Common.{sym, subst, ◌+◌, ◌≤◌}
-use Rattle.smith_types.specs.Scope.{inward, own_of, outer_of}
+use Rattle.smith_types.specs.Scope.{own_of, outer_of}
+use Rattle.smith_types.specs.Scopes.{inward}
 use Rattle.smith_types.specs.Shown.{shown_type}
 use Rattle.smith_types.specs.WellFormed.{FormedEntry, size}
 use Rattle.smith_types.specs.declared.types.DefType.{DefType}
-use Rattle.smith_types.proofs.MadeLemmas.{made_formed, made_size}
+use Rattle.smith_types.proofs.Made.{made_formed, made_size}
 use Rattle.smith_types.proofs.make.arbitrary_type.Goals as goal
 
 pub returns-clause-formed : goal.returns-clause-formed

@@ -1,12 +1,11 @@
 use Rattle.std.specs.Hash.{fed_along, fed_then, slice, option}
-use Rattle.smith_types.specs.SameSignature.{parameter_input}
 use Rattle.smith_types.specs.contracts.types.ComponentValTypeHash.TheImpl.{ghosts as val_hash}
-use Rattle.smith_types.specs.Signature.{named}
-use Rattle.smith_types.proofs.SignatureLemmas.{input-named}
+use Rattle.smith_types.specs.Signature.{named, field_input}
+use Rattle.smith_types.proofs.Signature.{input-named}
 use Rattle.smith_types.proofs.func.FuncTypeHash.hash.Goals as goal
 
 pub returns : goal.returns
 returns g c =
-    let us = slice (λ p. parameter_input (named p)) c.self.inside.params.items in
+    let us = slice (λ p. field_input (named p)) c.self.inside.params.items in
     let vs = option val_hash.hash_input c.self.inside.result in
     rw (← c.self.view_is) (fed_along g.H.Hasher.write c.args.state.now c.hash-2.new.state (input-named c.self.inside.params.items c.self.inside.result) (fed_then g.H.Hasher.write c.args.state.now c.hash.new.state c.hash-2.new.state us vs c.hash.ensures c.hash-2.ensures))

@@ -1,4 +1,4 @@
-use Rattle.smith_types.proofs.SignatureLemmas.{pointwise-named}
+use Rattle.smith_types.proofs.Signature.{pointwise-named}
 use Rattle.smith_types.proofs.func.FuncTypePartialEq.eq.Goals as goal
 
 pub returns-then-eq : goal.returns-then-eq

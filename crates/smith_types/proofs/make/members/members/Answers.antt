@@ -1,8 +1,9 @@
-use Rattle.std.proofs.Common.{[], ◌∷◌, map, length, sym, ap, ◌∙◌, subst, arith, length-append}
+use Rattle.std.proofs.Common.{[], ◌∷◌, map, length, sym, ap, ◌∙◌, subst, arith}
 use Rattle.smith_input.specs.Names.{Holds}
+use Rattle.smith_input.proofs.Loops.{begins, stops, ends_early, goes_on, ends_full}
 use Rattle.smith_input.proofs.NewNames.{holds_none}
 use Rattle.smith_input.proofs.ReadingLemmas.{tail_same, tail_trans, more_tail}
-use Rattle.smith_types.proofs.MemberLemmas.{pushed, begins, stops, spends, goes_on, ends_full}
+use Rattle.smith_types.proofs.Members.{pushed, starts, spends, has_read_as}
 use Rattle.smith_types.proofs.make.members.members.Goals as goal
 
 pub loop-done-init : goal.loop-done-init
@@ -10,16 +11,15 @@ loop-done-init g c =
     let none = ap (map g.M.Member.shown) c.new-members.ensures.items in
     record {
       tail = tail_same _;
-      count = ap length none;
       names = subst (Holds c.new-names.result) (sym (ap g.M.Member.names_of none ∙ g.met.M.Member.no_names)) (holds_none _ c.new-names.ensures.empty c.new-names.ensures.len);
-      onward = begins _ _ _ _ _ _ none;
+      onward = starts _ _ none;
     }
 
 pub returns-then-not-more-clause-reads : goal.returns-then-not-more-clause-reads
-returns-then-not-more-clause-reads g c = stops _ _ _ _ _ _ _ _ _ _ _ c.loop-done.invariant.count c.if-not-more.true c.more.ensures c.loop-done.invariant.onward
+returns-then-not-more-clause-reads g c = stops _ _ _ _ _ _ _ _ _ _ _ _ c.if-not-more.true c.more.ensures c.loop-done.invariant.onward
 
 pub returns-then-fuel-eq0-clause-reads : goal.returns-then-fuel-eq0-clause-reads
-returns-then-fuel-eq0-clause-reads g c = spends _ _ _ _ _ _ _ _ _ _ _ _ c.loop-done.invariant.count c.if-not-more.false c.more.ensures c.burn.ensures c.if-fuel-eq0.true c.loop-done.invariant.onward
+returns-then-fuel-eq0-clause-reads g c = ends_early _ _ _ _ _ _ _ _ _ _ _ _ _ _ c.if-not-more.false c.more.ensures (spends _ _ c.burn.ensures c.if-fuel-eq0.true) c.loop-done.invariant.onward
 
 pub loop-done-preserved : goal.loop-done-preserved
 loop-done-preserved g c =
@@ -29,13 +29,12 @@ loop-done-preserved g c =
     let next = pushed shown c.loop-done.members.items c.push.new.self.items c.in_ok-member.member c.in_ok-push.ensures.items in
     record {
       tail = tail_trans c.in_ok-member.ensures.tail (tail_trans (more_tail c.more.ensures) c.loop-done.invariant.tail);
-      count = omega (arith, ap length next, length-append so_far (x ∷ []), c.loop-done.invariant.count);
       names = subst (λ ns. Holds c.read.new.names (g.M.Member.names_of ns)) (sym next) (c.in_ok-member.ensures.names so_far c.loop-done.invariant.names);
-      onward = goes_on _ _ _ _ _ _ _ _ _ _ _ _ _ _ _ c.loop-done.invariant.count c.if-not-more.false c.more.ensures c.burn.ensures c.if-fuel-eq0.false (c.in_ok-member.ensures.read so_far c.loop-done.invariant.names) next c.loop-done.invariant.onward;
+      onward = goes_on _ _ _ _ _ _ so_far _ x _ _ _ _ _ _ _ c.if-not-more.false c.more.ensures (has_read_as _ _ x c.burn.ensures c.if-fuel-eq0.false (c.in_ok-member.ensures.read so_far c.loop-done.invariant.names) next) next c.loop-done.invariant.onward;
     }
 
 pub returns-clause-reads : goal.returns-clause-reads
-returns-clause-reads g c = ends_full _ _ _ _ _ _ _ _ _ c.loop-done.invariant.count c.loop-done-test.false c.loop-done.invariant.onward
+returns-clause-reads g c = ends_full _ _ _ _ _ _ _ _ _ _ c.loop-done-test.false c.loop-done.invariant.onward
 
 pub returns-in_err-push-clause-tail : goal.returns-in_err-push-clause-tail
 returns-in_err-push-clause-tail g c = tail_trans c.in_ok-member.ensures.tail (tail_trans (more_tail c.more.ensures) c.loop-done.invariant.tail)

@@ -1,17 +1,21 @@
 use Rattle.std.proofs.Common.{◌≡◌, ℕ, List, [], ◌++◌, map, length}
+use Rattle.smith_input.specs.Loops.{Loop}
 use Rattle.smith_input.specs.Names.{Holds}
 use Rattle.smith_input.specs.Reading.{IsTail}
-use Rattle.smith_types.specs.Made.{ReadsMembers}
-use Rattle.smith_types.specs.Scope.{inward, own_of}
+use Rattle.smith_types.specs.Made.{IsSpent, ReadsMember}
+use Rattle.smith_types.specs.Scope.{own_of}
+use Rattle.smith_types.specs.Scopes.{inward}
 use Rattle.smith_types.proofs.make.members.members.Given as goal
 
--- The set has the names so far, and whatever the rest of the loop reads, the whole loop reads it behind what was read.
+-- The set has the names so far, and whatever the rest of the loop reads, the whole loop reads it after what was read.
 abbrev pub invariant-loop-done : goal.invariant-loop-done
-invariant-loop-done g l = record {
-  tail : IsTail l.u l.fn.u;
-  count : length (map g.M.Member.shown l.members.items) ≡ l.done;
-  names : Holds l.names (g.M.Member.names_of (map g.M.Member.shown l.members.items));
-  onward :
-      (xs : List g.M.Member.Shown) (rest : List ℕ) (left : ℕ) → ReadsMembers (g.M.Member.reads_member (own_of (inward l.scopes))) l.min l.max (map g.M.Member.shown l.members.items) l.u l.fuel xs rest left
-      → ReadsMembers (g.M.Member.reads_member (own_of (inward l.scopes))) l.min l.max [] l.fn.u l.fn.fuel (map g.M.Member.shown l.members.items ++ xs) rest left;
-}
+invariant-loop-done g l =
+    let Item = ReadsMember (g.M.Member.reads_member (own_of (inward l.scopes))) in
+    let so_far = map g.M.Member.shown l.members.items in
+    record {
+      tail : IsTail l.u l.fn.u;
+      names : Holds l.names (g.M.Member.names_of so_far);
+      onward :
+          (xs : List g.M.Member.Shown) (rest : List ℕ) (t : List g.M.Member.Shown × ℕ) → Loop IsSpent Item l.min l.max l.done (so_far, l.fuel) l.u xs rest t
+          → Loop IsSpent Item l.min l.max 0 ([], l.fn.fuel) l.fn.u (so_far ++ xs) rest t;
+    }

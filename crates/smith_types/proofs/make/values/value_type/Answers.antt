@@ -1,8 +1,7 @@
 use Rattle.std.proofs.Common.{◌≡◌, ◌≤◌, ℕ, List, [], ◌∷◌, refl, subst, arith, length}
+use Rattle.smith_input.specs.Choices.{ReadsAmong}
 use Rattle.smith_input.specs.Reading.{Reads}
-use Rattle.smith_types.specs.Made.{ReadsPrimitive, only_primitive, either_primitive, either_index}
-use Rattle.smith_types.specs.Scope.{inward, own_of}
-use Rattle.smith_types.specs.Shown.{shown_primitive}
+use Rattle.smith_types.specs.Made.{primitives, only_primitive, either_primitive, either_index}
 use Rattle.smith_types.proofs.make.values.value_type.Goals as goal
 use Rattle.smith_types.proofs.make.values.value_type.Goals.{else-defined-gt0-via-then-defined-gt0+else-choose_index-eq1, else-defined-gt0-via-else-defined-gt0}
 
@@ -14,12 +13,13 @@ pub returns-then-choose_index-eq1-clause-reads : goal.returns-then-choose_index-
 returns-then-choose_index-eq1-clause-reads c =
     let P : ℕ → Type 0 = λ k. Reads 2 c.args.u.now k c.choose_index.new.self in
     let Q : ℕ → Type 0 = λ n. Reads n c.choose_index.new.self c.choose_index-rank.result c.choose_index-rank.new.self in
-    either_index (subst P c.if-choose_index-eq1.true c.choose_index.ensures) (subst Q c.kind_len-defined.ensures c.choose_index-rank.ensures) c.kind_at.ensures
+    either_index
+    (subst P c.if-choose_index-eq1.true c.choose_index.ensures)
+    (record { place = c.choose_index-rank.result; reads = subst Q c.kind_len-defined.ensures c.choose_index-rank.ensures; named = c.kind_at.ensures })
 
 pub returns-clause-reads : goal.returns-clause-reads
 returns-clause-reads c =
-    let own = own_of (inward c.args.scopes.now) in
-    let R : List ℕ → Type 0 = λ b. ReadsPrimitive b (shown_primitive c.primitive_type.result) c.primitive_type.new.u in
+    let R : List ℕ → Type 0 = λ b. ReadsAmong primitives b c.primitive_type.result c.primitive_type.new.u in
     elim c.else-defined-gt0.branch [
       | else-defined-gt0-via-then-defined-gt0+else-choose_index-eq1 w ↦
           let P : ℕ → Type 0 = λ k. Reads 2 c.args.u.now k w.choose_index.new.self in

@@ -1,5 +1,5 @@
 use Rattle.std.proofs.Common.{◌∷◌, [], ◌++◌, sym, ap, ◌∙◌}
-use Rattle.smith_types.proofs.TiedLemmas.{pushed_core_func, pushed_module, types_kept}
+use Rattle.smith_types.proofs.Tied.{pushed_core_func, pushed_module, types_kept}
 use Rattle.smith_types.proofs.scopes.Scope.push_core_type.Goals as goal
 use Rattle.smith_types.proofs.scopes.Scope.push_core_type.Goals.{in-Func+in_ok-push-in-Func, in-Module+in_ok-push-in-Module}
 

@@ -1,6 +1,6 @@
 use Rattle.std.proofs.Common.{◌∷◌, [], ◌++◌, sym, ap, ◌∙◌}
-use Rattle.smith_types.specs.Rows.{row_of}
-use Rattle.smith_types.proofs.TiedLemmas.{pushed_defined, pushed_function, core_kept}
+use Rattle.smith_types.specs.Scopes.{row_of}
+use Rattle.smith_types.proofs.Tied.{pushed_defined, pushed_function, core_kept}
 use Rattle.smith_types.proofs.scopes.Scope.push_type.Goals as goal
 use Rattle.smith_types.proofs.scopes.Scope.push_type.Goals.{in-Defined+in_ok-push-in-Defined, in-Func+in_ok-reserve-in-Func+in_ok-note-in-Func}
 

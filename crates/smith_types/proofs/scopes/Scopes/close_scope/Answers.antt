@@ -1,7 +1,7 @@
 use Rattle.std.proofs.Common.{◌≡◌, List, [], ◌∷◌, ◌++◌, sym, ap, ◌∙◌}
-use Rattle.smith_types.specs.Stack.{last_of}
-use Rattle.smith_types.specs.Contents.{Contents}
-use Rattle.smith_types.proofs.ScopeLemmas.{last_of-snoc}
+use Rattle.smith_types.specs.Scopes.{last_of}
+use Rattle.smith_types.specs.Scopes.{Contents}
+use Rattle.smith_types.proofs.Stack.{last_of-snoc}
 use Rattle.smith_types.proofs.scopes.Scopes.close_scope.Goals as goal
 
 pub returns-in-Some : goal.returns-in-Some

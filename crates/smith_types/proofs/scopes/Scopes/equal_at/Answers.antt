@@ -1,8 +1,8 @@
 use Rattle.std.proofs.Common.{◌<◌, rules, length}
 use Rattle.std.proofs.lemmas.Option.{slice_get-get_or}
-use Rattle.smith_types.specs.Places.{places}
-use Rattle.smith_types.specs.Stack.{has_signature, last_of}
-use Rattle.smith_types.proofs.ScopeLemmas.{places_last}
+use Rattle.smith_types.specs.Scope.{places}
+use Rattle.smith_types.specs.Scopes.{has_signature, last_of}
+use Rattle.smith_types.proofs.Stack.{places_last}
 use Rattle.smith_types.proofs.scopes.Scopes.equal_at.Goals as goal
 
 pub offset_bounds-equals-k : goal.offset_bounds-equals-k

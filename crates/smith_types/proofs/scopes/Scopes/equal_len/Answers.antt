@@ -1,6 +1,6 @@
 use Rattle.std.proofs.Common.{ap, length}
-use Rattle.smith_types.specs.Stack.{has_signature}
-use Rattle.smith_types.proofs.ScopeLemmas.{places_last}
+use Rattle.smith_types.specs.Scopes.{has_signature}
+use Rattle.smith_types.proofs.Stack.{places_last}
 use Rattle.smith_types.proofs.scopes.Scopes.equal_len.Goals as goal
 
 pub returns : goal.returns

@@ -1,8 +1,8 @@
 use Rattle.std.proofs.Common.{◌≡◌, ◌<◌, sym, ap, ◌∙◌, subst, length}
 use Rattle.std.specs.Prelude.{IfOk}
-use Rattle.smith_types.specs.Stack.{last_of}
-use Rattle.smith_types.specs.Contents.{Contents}
-use Rattle.smith_types.proofs.ScopeLemmas.{last_of-snoc}
+use Rattle.smith_types.specs.Scopes.{last_of}
+use Rattle.smith_types.specs.Scopes.{Contents}
+use Rattle.smith_types.proofs.Stack.{last_of-snoc}
 use Rattle.smith_types.proofs.scopes.Scopes.push_core_type.Goals as goal
 
 pub push_core_type-requires : goal.push_core_type-requires

@@ -1,0 +1,229 @@
+-- Loops over members: what they leave, how many they read, that they are determined, and what a script says of them.
+use Rattle.std.proofs.Common.{◌≡◌, ℕ, ◌+◌, ◌-◌, ◌<◌, ◌≤◌, ◌^◌, false, List, [], ◌∷◌, ◌++◌, map, length, refl, sym, ap, ◌∙◌, subst, arith, append-nil, append_assoc, length-append}
+use Rattle.std.proofs.lemmas.List.{length-map, map-append, map-id}
+use Rattle.std.specs.List.{AllByRecursion}
+use Rattle.smith_input.specs.Loops.{Loop, after_all, Along, script_more, script_loop}
+use Rattle.smith_input.specs.Kebab.{Kebab}
+use Rattle.smith_input.specs.Names.{ReadsNew, is_among}
+use Rattle.smith_input.specs.Reading.{IsTail}
+use Rattle.smith_input.proofs.Loops.{loop_tail, loop_gives, loop_all, loop_few, loop_same, loop_read}
+use Rattle.smith_input.proofs.NewNames.{new_tail, new_unique, new_kebab, new_read}
+use Rattle.smith_input.proofs.ReadingLemmas.{tail_trans, tail_is}
+use Rattle.smith_types.specs.Made.{IsSpent, ReadsMember, ReadsMembers, ReadsNamed}
+use Rattle.smith_types.specs.Script.{script_members, script_label, AreShort}
+use Rattle.smith_types.specs.WellFormed.{Named}
+use Rattle.smith_types.proofs.Names.{AreNew, new_distinct, distinct_new, none_before}
+
+-- tails
+
+pub members_tail : {A : Type 0} {Member : List A → List ℕ → A → List ℕ → Type 0} {min max : ℕ} → ((so_far : List A) (b : List ℕ) (x : A) (rest : List ℕ) → Member so_far b x rest → IsTail rest b)
+    → (b : List ℕ) (fuel : ℕ) (xs : List A) (rest : List ℕ) (left : ℕ) → ReadsMembers Member min max b fuel xs rest left → IsTail rest b
+members_tail one b fuel xs rest left l = loop_tail (λ s c r t e. tail_is e.stays) (λ s c x r t i. one s.0 c x r i.member) 0 ([], fuel) b xs rest (xs, left) l
+
+pub named_tail : {B : Type 0} {After : List ℕ → B → List ℕ → Type 0} → ((b : List ℕ) (y : B) (rest : List ℕ) → After b y rest → IsTail rest b) → (so_far : List (List ℕ × B)) (b : List ℕ) (x : List ℕ × B) (rest : List ℕ) → ReadsNamed After so_far b x rest → IsTail rest b
+named_tail one so_far b x rest r = tail_trans (one r.mid x.1 rest r.after) (new_tail r.name)
+
+-- how many there are, and how much fuel they take
+
+module _ {A : Type 0} {Member : List A → List ℕ → A → List ℕ → Type 0} {min max : ℕ} (b : List ℕ) (fuel : ℕ) (xs : List A) (rest : List ℕ) (left : ℕ) (l : ReadsMembers Member min max b fuel xs rest left) where
+  pub members_few : length xs ≤ max
+  members_few = let few = loop_few 0 ([], fuel) b xs rest (xs, left) (omega arith) l in omega (arith, few)
+
+  pub members_size : length xs + left ≤ fuel
+  members_size =
+      loop_gives
+      (λ s ys t. length ys + t.1 ≤ s.1)
+      (λ s. omega arith)
+      (λ s c r t e. let none = ap (λ z. z.1) e.state in omega (arith, none))
+      (λ s t u c x r ys i le. let less = ap (λ z. z.1) i.state in let lasts = i.lasts in omega (arith, less, lasts, le))
+      0
+      ([], fuel)
+      b
+      xs
+      rest
+      (xs, left)
+      l
+
+  -- each is as it should be
+  pub members_all : (P : A → Type 0) → ((so_far : List A) (c : List ℕ) (x : A) (r : List ℕ) → Member so_far c x r → P x) → AllByRecursion P xs
+  members_all P one = loop_all P (λ s c x r t i. one s.0 c x r i.member) 0 ([], fuel) b xs rest (xs, left) l
+
+-- members with names, of which none is that of a member before it
+module _ {A : Type 0} {Member : List A → List ℕ → A → List ℕ → Type 0} {min max : ℕ} (name : A → List ℕ) (one : (so_far : List A) (b : List ℕ) (x : A) (rest : List ℕ) → Member so_far b x rest → (mid : List ℕ) × ReadsNew 100 (map name so_far) b (name x) mid) where
+  members_new : (b : List ℕ) (fuel : ℕ) (xs : List A) (rest : List ℕ) (left : ℕ) → ReadsMembers Member min max b fuel xs rest left → AreNew [] (map name xs)
+  members_new b fuel xs rest left l =
+      loop_gives
+      (λ s ys t. AreNew (map name s.0) (map name ys))
+      (λ s. tt)
+      (λ s c r t e. tt)
+      (λ s t u c x r ys i later.
+      let more : map name t.0 ≡ map name s.0 ++ name x ∷ [] = ap (λ z. map name z.0) i.state ∙ map-append name s.0 (x ∷ []) in
+      ((one s.0 c x r i.member).1.unique.is_new, subst (λ ns. AreNew ns (map name ys)) more later))
+      0
+      ([], fuel)
+      b
+      xs
+      rest
+      (xs, left)
+      l
+
+  members_kebab : (b : List ℕ) (fuel : ℕ) (xs : List A) (rest : List ℕ) (left : ℕ) → max ≤ 100 → ReadsMembers Member min max b fuel xs rest left → AllByRecursion Kebab (map name xs)
+  members_kebab b fuel xs rest left h l =
+      loop_gives
+      (λ s ys t. length s.0 + length ys ≤ 100 → AllByRecursion Kebab (map name ys))
+      (λ s few. tt)
+      (λ s c r t e few. tt)
+      (λ s t u c x r ys i later few.
+      let more : length t.0 ≡ length s.0 + 1 = ap (λ z. length z.0) i.state ∙ length-append s.0 (x ∷ []) in
+      let below : length (map name s.0) < 2 ^ 64 = omega (arith, length-map s.0 name, few) in
+      (new_kebab below (one s.0 c x r i.member).1, later (omega (arith, more, few))))
+      0
+      ([], fuel)
+      b
+      xs
+      rest
+      (xs, left)
+      l
+      (let most = members_few b fuel xs rest left l in omega (arith, most, h))
+
+  pub members_named : (b : List ℕ) (fuel : ℕ) (xs : List A) (rest : List ℕ) (left : ℕ) → max ≤ 100 → ReadsMembers Member min max b fuel xs rest left → Named (map name xs)
+  members_named b fuel xs rest left h l = (members_kebab b fuel xs rest left h l, new_distinct [] (map name xs) (members_new b fuel xs rest left l))
+
+pub named_name : {B : Type 0} {After : List ℕ → B → List ℕ → Type 0} → (so_far : List (List ℕ × B)) (b : List ℕ) (x : List ℕ × B) (rest : List ℕ) → ReadsNamed After so_far b x rest → (mid : List ℕ) × ReadsNew 100 (map (λ y. y.0) so_far) b x.0 mid
+named_name so_far b x rest r = (r.mid, r.name)
+
+label_name : (so_far : List (List ℕ)) (b x rest : List ℕ) → ReadsNew 100 so_far b x rest → (mid : List ℕ) × ReadsNew 100 (map (λ y. y) so_far) b x mid
+label_name so_far b x rest r = (rest, subst (λ ns. ReadsNew 100 ns b x rest) (sym (map-id so_far)) r)
+
+pub labels_named : {min max : ℕ} (b : List ℕ) (fuel : ℕ) (xs : List (List ℕ)) (rest : List ℕ) (left : ℕ) → max ≤ 100 → ReadsMembers (ReadsNew 100) min max b fuel xs rest left → Named xs
+labels_named b fuel xs rest left h l = subst Named (map-id xs) (members_named (λ x. x) label_name b fuel xs rest left h l)
+
+-- what two readings share
+pub record Same {A : Type 0} (x y : A) (r s : List ℕ) (f g : ℕ) : Type 0 where
+  pub value : x ≡ y
+  pub rest : r ≡ s
+  pub left : f ≡ g
+
+pub members_same : {A : Type 0} {Member : List A → List ℕ → A → List ℕ → Type 0} {min max : ℕ} → ((so_far : List A) (b : List ℕ) (x y : A) (r s : List ℕ) → Member so_far b x r → Member so_far b y s → (x ≡ y) × (r ≡ s))
+    → (b : List ℕ) (fuel : ℕ) (xs ys : List A) (r s : List ℕ) (f g : ℕ) → ReadsMembers Member min max b fuel xs r f → ReadsMembers Member min max b fuel ys s g → Same xs ys r s f g
+members_same one b fuel xs ys r s f g l m =
+    let d =
+    loop_same
+    (λ w c p q t u e h. (e.stays ∙ sym h.stays, e.state ∙ sym h.state))
+    (λ w c x p q t u e i. let none = e.spent in let some = i.lasts in omega (arith, none, some))
+    (λ w c x y p q t u i j.
+    let v = one w.0 c x y p q i.member j.member in
+    (v.0, v.1, i.state ∙ (ap (λ z. (w.0 ++ z ∷ [], w.1 - 1)) v.0 ∙ sym j.state)))
+    0
+    ([], fuel)
+    b
+    xs
+    ys
+    r
+    s
+    (xs, f)
+    (ys, g)
+    l
+    m
+    in
+    record { value = d.0; rest = d.1; left = ap (λ z. z.1) d.2 }
+
+pub named_same : {B : Type 0} {After : List ℕ → B → List ℕ → Type 0} → ((b : List ℕ) (x y : B) (r s : List ℕ) → After b x r → After b y s → (x ≡ y) × (r ≡ s))
+    → (so_far : List (List ℕ × B)) (b : List ℕ) (x y : List ℕ × B) (r s : List ℕ) → ReadsNamed After so_far b x r → ReadsNamed After so_far b y s → (x ≡ y) × (r ≡ s)
+named_same {After = After} one so_far b x y r s p q =
+    let n = new_unique p.name q.name in
+    let t = one q.mid x.1 y.1 r s (subst (λ m. After m x.1 r) n.1 p.after) q.after in
+    (λ j. (n.0 j, t.0 j), t.1)
+
+-- scripts
+
+-- A script that takes no heed of the state is the same in all of them.
+any_state : {S A : Type 0} (f : A → List ℕ) (next : S → A → S) (min max done : ℕ) (s : S) (xs : List A) → script_loop (λ (u : Unit {0}) x. f x) (λ u x. u) min max done tt xs ≡ script_loop (λ t x. f x) next min max done s xs
+any_state f next min max done s [] = refl
+any_state f next min max done s (x ∷ xs) = ap (λ later. script_more min done ++ f x ++ later) (any_state f next min max (done + 1) (next s x) xs)
+
+-- each member is as it should be after those before it
+abbrev pub Ready : {A : Type 0} → (List A → A → Type 0) → List A → List A → Type 0
+Ready P so_far xs = Along P (λ ys x. ys ++ x ∷ []) so_far xs
+
+module _ {A : Type 0} where
+  abbrev next_member : List A × ℕ → A → List A × ℕ
+  next_member s x = (s.0 ++ x ∷ [], s.1 - 1)
+
+  after_members : (so_far : List A) (fuel : ℕ) (xs : List A) → after_all next_member (so_far, fuel) xs ≡ (so_far ++ xs, fuel - length xs)
+  after_members so_far fuel [] = λ i. (sym (append-nil so_far) i, (let z : fuel ≡ fuel - 0 = omega arith in z) i)
+  after_members so_far fuel (x ∷ xs) =
+      after_members (so_far ++ x ∷ []) (fuel - 1) xs
+      ∙ (λ i. (append_assoc so_far (x ∷ []) xs i, (let z : fuel - 1 - length xs ≡ fuel - length (x ∷ xs) = omega arith in z) i))
+
+  lasts_along : (P : List A → A → Type 0) (so_far : List A) (fuel : ℕ) (xs : List A) → Ready P so_far xs → length xs + 1 ≤ fuel → Along (λ s x. P s.0 x × (0 < s.1 - 1)) next_member (so_far, fuel) xs
+  lasts_along P so_far fuel [] all lasts = tt
+  lasts_along P so_far fuel (x ∷ xs) all lasts = ((all.0, omega arith), lasts_along P (so_far ++ x ∷ []) (fuel - 1) xs all.1 (omega arith))
+
+  -- A script of members is read as them.
+  pub members_read : {min max : ℕ} (Member : List A → List ℕ → A → List ℕ → Type 0) (f : A → List ℕ) (P : List A → A → Type 0) → ((so_far : List A) (x : A) (rest : List ℕ) → P so_far x → Member so_far (f x ++ rest) x rest)
+      → (xs : List A) (fuel : ℕ) (rest : List ℕ) → Ready P [] xs → min ≤ length xs → length xs ≤ max → length xs + 1 ≤ fuel
+      → (left : ℕ) × (left + length xs ≡ fuel) × ReadsMembers Member min max (script_members f min max xs ++ rest) fuel xs rest left
+  members_read {min = min} {max = max} Member f P one xs fuel rest all some few lasts =
+      let read =
+      loop_read {Ends = IsSpent} {Item = ReadsMember Member} {min = min} {max = max} (λ s x. f x) next_member (λ s x. P s.0 x × (0 < s.1 - 1))
+      (λ s x more p. record { lasts = p.1; member = one s.0 x more p.0; state = refl })
+      xs 0 ([], fuel) rest (lasts_along P [] fuel xs all lasts) (omega (arith, some)) (omega (arith, few))
+      in
+      let B : List ℕ → Type 0 = λ said. Loop IsSpent (ReadsMember Member) min max 0 ([], fuel) (said ++ rest) xs rest (after_all next_member ([], fuel) xs) in
+      let T : List A × ℕ → Type 0 = λ t. Loop IsSpent (ReadsMember Member) min max 0 ([], fuel) (script_members f min max xs ++ rest) xs rest t in
+      (fuel - length xs, omega arith, subst T (after_members [] fuel xs) (subst B (sym (any_state f next_member min max 0 ([], fuel) xs)) read))
+
+-- A member has a name that can be read and is new, and what stands after that is as it should be.
+abbrev pub IsReady : {A : Type 0} → (A → List ℕ) → (A → Type 0) → List A → A → Type 0
+IsReady name Q so_far x = Kebab (name x) × (length (name x) ≤ 100) × (is_among (map name so_far) (name x) ≡ false) × Q x
+
+module _ {A : Type 0} (name : A → List ℕ) (Q : A → Type 0) where
+  each_ready : (xs so_far : List A) → AllByRecursion Kebab (map name xs) → AreShort (map name xs) → AreNew (map name so_far) (map name xs) → AllByRecursion Q xs → Ready (IsReady name Q) so_far xs
+  each_ready [] so_far k s n q = tt
+  each_ready (x ∷ xs) so_far k s n q =
+      ((k.0, s.0, n.0, q.0), each_ready xs (so_far ++ x ∷ []) k.1 s.1 (subst (λ ns. AreNew ns (map name xs)) (sym (map-append name so_far (x ∷ []))) n.1) q.1)
+
+  pub named_ready : (xs : List A) → Named (map name xs) → AreShort (map name xs) → AllByRecursion Q xs → Ready (IsReady name Q) [] xs
+  named_ready xs n s q = each_ready xs [] n.0 s (distinct_new [] (map name xs) (none_before (map name xs)) n.1) q
+
+-- a name, and what stands after it
+pub named_read : {B : Type 0} (After : List ℕ → B → List ℕ → Type 0) (f : B → List ℕ) (Q : B → Type 0) → ((x : B) (rest : List ℕ) → Q x → After (f x ++ rest) x rest)
+    → (so_far : List (List ℕ × B)) (x : List ℕ × B) (rest : List ℕ) → IsReady (λ y. y.0) (λ y. Q y.1) so_far x → ReadsNamed After so_far ((script_label x.0 ++ f x.1) ++ rest) x rest
+named_read After f Q one so_far x rest (k, s, n, q) =
+    let P : List ℕ → Type 0 = λ b. ReadsNamed After so_far b x rest in
+    subst P (sym (append_assoc (script_label x.0) (f x.1) rest))
+    (record { mid = f x.1 ++ rest; name = new_read 100 (map (λ y. y.0) so_far) x.0 (f x.1 ++ rest) (omega arith) k s n; after = one x.1 rest q })
+
+pub label_read : (so_far : List (List ℕ)) (n rest : List ℕ) → IsReady (λ y. y) (λ y. Unit {0}) so_far n → ReadsNew 100 so_far (script_label n ++ rest) n rest
+label_read so_far n rest (k, s, w, _) = subst (λ ns. ReadsNew 100 ns (script_label n ++ rest) n rest) (map-id so_far) (new_read 100 (map (λ y. y) so_far) n rest (omega arith) k s w)
+
+pub all_unit : {A : Type 0} (xs : List A) → AllByRecursion (λ x. Unit {0}) xs
+all_unit [] = tt
+all_unit (x ∷ xs) = (tt, all_unit xs)
+
+-- a list with one item more, as it is shown
+pub pushed : {X A : Type 0} (shown : X → A) (old new : List X) (x : X) → new ≡ old ++ x ∷ [] → map shown new ≡ map shown old ++ shown x ∷ []
+pushed shown old new x e = ap (map shown) e ∙ map-append shown old (x ∷ [])
+
+-- The same turn by turn, as the program takes them.
+
+-- no fuel is left
+pub spends : {A : Type 0} {so_far : List A} {b : List ℕ} (held left : ℕ) → left ≡ held - 1 → left ≡ 0 → IsSpent (so_far, held) b b (so_far, left)
+spends {so_far = so_far} held left burnt none = record { spent = omega arith; stays = refl; state = ap (λ n. (so_far, n)) none }
+
+module _ {A : Type 0} {Member : List A → List ℕ → A → List ℕ → Type 0} where
+  -- nothing was read
+  pub starts : {min max : ℕ} {b : List ℕ} (fuel : ℕ) (so_far : List A) → so_far ≡ [] → (xs : List A) (rest : List ℕ) (t : List A × ℕ) → Loop IsSpent (ReadsMember Member) min max 0 (so_far, fuel) b xs rest t → Loop IsSpent (ReadsMember Member) min max 0 ([], fuel) b (so_far ++ xs) rest t
+  starts {min = min} {max = max} {b = b} fuel so_far none xs rest t l =
+      let P : List A → Type 0 = λ ys. Loop IsSpent (ReadsMember Member) min max 0 ([], fuel) b (ys ++ xs) rest t in
+      let Q : List A → Type 0 = λ ys. Loop IsSpent (ReadsMember Member) min max 0 (ys, fuel) b xs rest t in
+      subst P (sym none) (subst Q none l)
+
+  -- a member was read
+  pub has_read : {so_far : List A} {b rest : List ℕ} (held left : ℕ) (x : A) → left ≡ held - 1 → (left ≡ 0 → ⊥) → Member so_far b x rest → ReadsMember Member (so_far, held) b x rest (so_far ++ x ∷ [], left)
+  has_read {so_far = so_far} held left x burnt some one = record { lasts = omega arith; member = one; state = ap (λ n. (so_far ++ x ∷ [], n)) burnt }
+
+  -- a member was read, and stands with those so far
+  pub has_read_as : {so_far next : List A} {b rest : List ℕ} (held left : ℕ) (x : A) → left ≡ held - 1 → (left ≡ 0 → ⊥) → Member so_far b x rest → next ≡ so_far ++ x ∷ [] → ReadsMember Member (so_far, held) b x rest (next, left)
+  has_read_as {so_far = so_far} held left x burnt some one more = record { lasts = omega arith; member = one; state = λ i. (more i, burnt i) }

@@ -1,0 +1,253 @@
+-- What the script of a type says is made of it.
+use Rattle.std.proofs.Common.{◌≡◌, ℕ, zero, suc, ◌+◌, ◌-◌, ◌^◌, ◌<◌, ◌≤◌, Bool, true, false, cond, List, [], ◌∷◌, ◌++◌, length, map, refl, sym, ap, ◌∙◌, subst, arith, append_assoc, nat_le, nat_eq, Decides, lit≤}
+use Rattle.std.proofs.lemmas.Bool.Decides.{nat_tests, Decides-eqb}
+use Rattle.std.proofs.lemmas.List.{map-id}
+use Rattle.std.specs.List.{AllByRecursion}
+use Rattle.std.specs.Option.{option_to_list}
+use Rattle.std.specs.Prelude.{Option, Some, None, slice_get, if◌then◌else◌}
+use denote.Enum.Bare.{same_true, true_same}
+use Rattle.smith_input.specs.Choices.{ReadsAmong, script_among}
+use Rattle.smith_input.specs.Names.{ReadsNew}
+use Rattle.smith_input.specs.Reading.{pick}
+use Rattle.smith_input.proofs.Choices.{among_read}
+use Rattle.smith_input.proofs.Picks.{reads-pick}
+use Rattle.smith_input.proofs.ReadingLemmas.{flips_one, flips_zero}
+use Rattle.smith_types.specs.Entries.{DefValType, primitive_type, record_type, variant_type, list_type, tuple_type, flags_type, enum_type, option_type, result_type}
+use Rattle.smith_types.specs.Entries.{Field, Case, Signature, Entry, defined, function}
+use Rattle.smith_types.specs.Made.{primitives, defined_kinds, type_kinds, ReadsVal, only_primitive, either_primitive, either_index, ReadsMaybe, absent, present, ReadsNamed}
+use Rattle.smith_types.specs.Made.{or_bool, MadeMembers, MadeAs, MadeDefined, MadeFunction, Made, spent_type, of_kind}
+use Rattle.smith_types.specs.Scope.{Scope, places, defined_places, is_defined}
+use Rattle.smith_types.specs.Script.{script_primitive, script_val, script_maybe, script_label, script_field, script_case, script_members, script_kind, script_defined, script_function, script_type_kind, script_type}
+use Rattle.smith_types.specs.Script.{AreShort, LastsDefined, Lasts}
+use Rattle.smith_types.specs.WellFormed.{FormedVal, FormedMaybe, FormedDefined, FormedEntry, Named}
+use Rattle.smith_types.specs.contracts.make.TypeKind.{the_type as type_kind_type}
+use Rattle.smith_types.specs.contracts.make.TypeKindPartialEq.TheImpl.{ghosts as types}
+use Rattle.smith_types.specs.contracts.make.defined.DefinedKind.{the_type as defined_kind_type}
+use Rattle.smith_types.specs.contracts.make.defined.DefinedKindPartialEq.TheImpl.{ghosts as kinds}
+use Rattle.smith_types.specs.contracts.types.PrimitiveValType.{the_type as primitive_type_type}
+use Rattle.smith_types.specs.contracts.types.PrimitiveValTypePartialEq.TheImpl.{ghosts as prims}
+use Rattle.smith_types.specs.declared.make.TypeKind.{TypeKind}
+use Rattle.smith_types.specs.declared.make.TypeKind.TheVariants.{Defined, Function}
+use Rattle.smith_types.specs.declared.make.defined.DefinedKind.{DefinedKind}
+use Rattle.smith_types.specs.declared.make.defined.DefinedKind.TheVariants as kind
+use Rattle.smith_types.specs.declared.types.ComponentValType.{ComponentValType}
+use Rattle.smith_types.specs.declared.types.ComponentValType.TheVariants.{Primitive, Indexed}
+use Rattle.smith_types.specs.declared.types.PrimitiveValType.{PrimitiveValType}
+use Rattle.smith_types.specs.declared.types.PrimitiveValType.TheVariants as prim
+use Rattle.smith_types.proofs.Members.{Ready, members_read, IsReady, named_ready, named_read, label_read, all_unit}
+use Rattle.smith_types.proofs.Stack.{length-places}
+
+-- choices
+
+primitive_Decides : (a b : PrimitiveValType) → Decides (prims.eq a b) (a ≡ b)
+primitive_Decides a b = (same_true primitive_type_type tt a b, true_same primitive_type_type a b)
+
+kind_Decides : (a b : DefinedKind) → Decides (kinds.eq a b) (a ≡ b)
+kind_Decides a b = (same_true defined_kind_type tt a b, true_same defined_kind_type a b)
+
+type_kind_Decides : (a b : TypeKind) → Decides (types.eq a b) (a ≡ b)
+type_kind_Decides a b = (same_true type_kind_type tt a b, true_same type_kind_type a b)
+
+primitive_place : (p : PrimitiveValType) → (k : ℕ) × (slice_get primitives k ≡ Some p)
+primitive_place prim.Bool = (0, refl)
+primitive_place prim.S8 = (1, refl)
+primitive_place prim.U8 = (2, refl)
+primitive_place prim.S16 = (3, refl)
+primitive_place prim.U16 = (4, refl)
+primitive_place prim.S32 = (5, refl)
+primitive_place prim.U32 = (6, refl)
+primitive_place prim.S64 = (7, refl)
+primitive_place prim.U64 = (8, refl)
+primitive_place prim.F32 = (9, refl)
+primitive_place prim.F64 = (10, refl)
+primitive_place prim.Char = (11, refl)
+primitive_place prim.String = (12, refl)
+
+primitive_read : (p : PrimitiveValType) (rest : List ℕ) → ReadsAmong primitives (script_primitive p ++ rest) p rest
+primitive_read p rest = let at = primitive_place p in among_read prims.eq primitive_Decides primitives p at.0 rest (lit≤ tt) at.1
+
+kind_place : (k : DefinedKind) → (n : ℕ) × (slice_get defined_kinds n ≡ Some k)
+kind_place kind.Primitive = (0, refl)
+kind_place kind.Record = (1, refl)
+kind_place kind.Variant = (2, refl)
+kind_place kind.List = (3, refl)
+kind_place kind.Tuple = (4, refl)
+kind_place kind.Flags = (5, refl)
+kind_place kind.Enum = (6, refl)
+kind_place kind.Option = (7, refl)
+kind_place kind.Result = (8, refl)
+
+-- the kind that a script says
+kind_read : (own : Scope) (k : DefinedKind) (said rest : List ℕ) (fuel : ℕ) (t : DefValType) (left : ℕ) → MadeAs own k (said ++ rest) fuel t rest left → MadeDefined own ((script_kind k ++ said) ++ rest) fuel t rest left
+kind_read own k said rest fuel t left made =
+    let P : List ℕ → Type 0 = λ b. MadeDefined own b fuel t rest left in
+    let at = kind_place k in
+    subst P (sym (append_assoc (script_kind k) said rest)) (record {
+      kind = k;
+      mid = said ++ rest;
+      choice = among_read kinds.eq kind_Decides defined_kinds k at.0 (said ++ rest) (lit≤ tt) at.1;
+      made = made;
+    })
+
+type_kind_read : (k : TypeKind) (at : ℕ) (rest : List ℕ) → slice_get type_kinds at ≡ Some k → ReadsAmong type_kinds (script_type_kind k ++ rest) k rest
+type_kind_read k at rest named = among_read types.eq type_kind_Decides type_kinds k at rest (lit≤ tt) named
+
+-- value types
+
+-- A defined type stands among the places of the defined types.
+place_split : (x : Entry) (xs : List Entry) (n i : ℕ) → (k : ℕ) × (slice_get (places is_defined (n + 1) xs) k ≡ Some i) → (b : Bool) → is_defined x ≡ b → (k : ℕ) × (slice_get (cond b (n ∷ places is_defined (n + 1) xs) (places is_defined (n + 1) xs)) k ≡ Some i)
+place_split x xs n i later true t = (suc later.0, later.1)
+place_split x xs n i later false t = later
+
+place_found : (es : List Entry) (n i : ℕ) (e : Entry) → slice_get es i ≡ Some e → is_defined e ≡ true → (k : ℕ) × (slice_get (places is_defined n es) k ≡ Some (n + i))
+place_found [] n i e h t = absurd (cc)
+place_found (x ∷ xs) n zero e h t =
+    let same : x ≡ e = cc in
+    let yes : is_defined x ≡ true = ap is_defined same ∙ t in
+    (0, ap (λ b. slice_get (cond b (n ∷ places is_defined (n + 1) xs) (places is_defined (n + 1) xs)) 0) yes ∙ ap Some (let z : n ≡ n + 0 = omega arith in z))
+place_found (x ∷ xs) n (suc j) e h t =
+    let later = place_found xs (n + 1) j e h t in
+    let at : n + 1 + j ≡ n + suc j = omega arith in
+    place_split x xs n (n + suc j) (later.0, later.1 ∙ ap Some at) (is_defined x) refl
+
+val_primitive : (own : Scope) (p : PrimitiveValType) (rest : List ℕ) (b : Bool) → nat_eq (length (defined_places own)) 0 ≡ b → ReadsVal own ((if b then [] else pick 2 0) ++ (script_primitive p ++ rest)) (Primitive p) rest
+val_primitive own p rest true e = only_primitive (none (defined_places own) e) (primitive_read p rest)
+  where
+    none : (xs : List ℕ) → nat_eq (length xs) 0 ≡ true → xs ≡ []
+    none [] h = refl
+    none (x ∷ xs) h = absurd (clash (length (x ∷ xs)) (omega arith) h)
+      where
+        clash : (n : ℕ) → 0 < n → nat_eq n 0 ≡ true → ⊥
+        clash n p h = grind (arith, nat_tests)
+val_primitive own p rest false e = either_primitive (some (length (defined_places own)) e) (reads-pick 2 0 (script_primitive p ++ rest) (omega arith) (omega arith)) (primitive_read p rest)
+  where
+    some : (n : ℕ) → nat_eq n 0 ≡ false → 0 < n
+    some n h = grind (arith, nat_tests)
+
+module _ (own : Scope) (few : length own.types ≤ 2 ^ 64) where
+  val_read : (v : ComponentValType) (rest : List ℕ) → FormedVal own v → ReadsVal own (script_val own v ++ rest) v rest
+  val_read (Primitive p) rest f =
+      let P : List ℕ → Type 0 = λ b. ReadsVal own b (Primitive p) rest in
+      subst P (sym (append_assoc (if nat_eq (length (defined_places own)) 0 then [] else pick 2 0) (script_primitive p) rest)) (val_primitive own p rest (nat_eq (length (defined_places own)) 0) refl)
+  val_read (Indexed i) rest (e, at, t) =
+      let found = place_found own.types 0 i e at t in
+      let named : slice_get (defined_places own) found.0 ≡ Some i = found.1 ∙ ap Some (let z : 0 + i ≡ i = omega arith in z) in
+      let said : List ℕ = script_among nat_eq (defined_places own) i in
+      let P : List ℕ → Type 0 = λ b. ReadsVal own b (Indexed i) rest in
+      subst P (sym (append_assoc (pick 2 1) said rest))
+      (either_index (reads-pick 2 1 (said ++ rest) (omega arith) (omega arith)) (among_read nat_eq Decides-eqb (defined_places own) i found.0 rest (omega (arith, length-places is_defined 0 own.types)) named))
+
+  maybe_read : (v : Option ComponentValType) (rest : List ℕ) → FormedMaybe own v → ReadsMaybe own (script_maybe own v ++ rest) v rest
+  maybe_read None rest f = absent (flips_zero rest)
+  maybe_read (Some v) rest f = present (flips_one (script_val own v ++ rest)) (val_read v rest f)
+
+  field_read : (so_far : List Field) (x : Field) (rest : List ℕ) → IsReady (λ y. y.0) (λ y. FormedVal own y.1) so_far x → ReadsNamed (ReadsVal own) so_far (script_field own x ++ rest) x rest
+  field_read so_far x rest r = named_read (ReadsVal own) (script_val own) (FormedVal own) val_read so_far x rest r
+
+  case_read : (so_far : List Case) (x : Case) (rest : List ℕ) → IsReady (λ y. y.0) (λ y. FormedMaybe own y.1) so_far x → ReadsNamed (ReadsMaybe own) so_far (script_case own x ++ rest) x rest
+  case_read so_far x rest r = named_read (ReadsMaybe own) (script_maybe own) (FormedMaybe own) maybe_read so_far x rest r
+
+  vals_ready : (vs so_far : List ComponentValType) → AllByRecursion (FormedVal own) vs → Ready (λ so_far. FormedVal own) so_far vs
+  vals_ready [] so_far all = tt
+  vals_ready (v ∷ vs) so_far all = (all.0, vals_ready vs (so_far ++ v ∷ []) all.1)
+
+  -- defined types
+
+  some_members : {A : Type 0} (of : List A → DefValType) (xs : List A) → 1 ≤ length xs → of xs ≡ or_bool of xs
+  some_members of [] h = absurd (omega arith)
+  some_members of (x ∷ xs) h = refl
+
+  -- a type of members, each of which its script says
+  made_members : {A : Type 0} (Member : List A → List ℕ → A → List ℕ → Type 0) (f : A → List ℕ) (P : List A → A → Type 0) (max : ℕ) (of : List A → DefValType) → ((so_far : List A) (x : A) (rest : List ℕ) → P so_far x → Member so_far (f x ++ rest) x rest)
+      → (xs : List A) (fuel : ℕ) (rest : List ℕ) → Ready P [] xs → 1 ≤ length xs → length xs ≤ max → length xs + 1 ≤ fuel → (left : ℕ) × MadeMembers Member max of (script_members f 1 max xs ++ rest) fuel (of xs) rest left
+  made_members Member f P max of one xs fuel rest ready some few lasts =
+      let r = members_read Member f P one xs fuel rest ready some few lasts in
+      (r.0, (xs, r.2, some_members of xs some))
+
+  labels_made : (max : ℕ) (of : List (List ℕ) → DefValType) (ns : List (List ℕ)) (fuel : ℕ) (rest : List ℕ) → Named ns → AreShort ns → 1 ≤ length ns → length ns ≤ max → length ns + 1 ≤ fuel → (left : ℕ) × MadeMembers (ReadsNew 100) max of (script_members script_label 1 max ns ++ rest) fuel (of ns) rest left
+  labels_made max of ns fuel rest n s some most lasts =
+      let same = sym (map-id ns) in
+      made_members (ReadsNew 100) script_label (IsReady (λ y. y) (λ y. Unit {0})) max of label_read ns fuel rest (named_ready (λ y. y) (λ y. Unit {0}) ns (subst Named same n) (subst AreShort same s) (all_unit ns)) some most lasts
+
+  defined_read : (fuel : ℕ) (t : DefValType) (rest : List ℕ) → FormedDefined t own → LastsDefined (fuel + 1) t → (left : ℕ) × MadeDefined own (script_defined own t ++ rest) fuel t rest left
+  defined_read fuel (primitive_type p) rest f l = (fuel, kind_read own kind.Primitive _ rest fuel _ fuel (p, primitive_read p rest, refl, refl))
+  defined_read fuel (record_type fs) rest f l =
+      let r = made_members (ReadsNamed (ReadsVal own)) (script_field own) (IsReady (λ y. y.0) (λ y. FormedVal own y.1)) 100 record_type field_read fs fuel rest (named_ready (λ y. y.0) (λ y. FormedVal own y.1) fs f.0 l.0 f.1) f.2 f.3 (omega (arith, l.1)) in
+      (r.0, kind_read own kind.Record _ rest fuel _ r.0 r.1)
+  defined_read fuel (variant_type cs) rest f l =
+      let r = made_members (ReadsNamed (ReadsMaybe own)) (script_case own) (IsReady (λ y. y.0) (λ y. FormedMaybe own y.1)) 100 variant_type case_read cs fuel rest (named_ready (λ y. y.0) (λ y. FormedMaybe own y.1) cs f.0 l.0 f.1) f.2 f.3 (omega (arith, l.1)) in
+      (r.0, kind_read own kind.Variant _ rest fuel _ r.0 r.1)
+  defined_read fuel (list_type v) rest f l = (fuel, kind_read own kind.List _ rest fuel _ fuel (v, val_read v rest f, refl, refl))
+  defined_read fuel (tuple_type vs) rest f l =
+      let r = made_members (λ so_far. ReadsVal own) (script_val own) (λ so_far. FormedVal own) 100 tuple_type (λ so_far v more h. val_read v more h) vs fuel rest (vals_ready vs [] f.0) f.1 f.2 (omega (arith, l)) in
+      (r.0, kind_read own kind.Tuple _ rest fuel _ r.0 r.1)
+  defined_read fuel (flags_type ns) rest f l =
+      let r = labels_made 32 flags_type ns fuel rest f.0 l.0 f.1 f.2 (omega (arith, l.1)) in
+      (r.0, kind_read own kind.Flags _ rest fuel _ r.0 r.1)
+  defined_read fuel (enum_type ns) rest f l =
+      let r = labels_made 100 enum_type ns fuel rest f.0 l.0 f.1 f.2 (omega (arith, l.1)) in
+      (r.0, kind_read own kind.Enum _ rest fuel _ r.0 r.1)
+  defined_read fuel (option_type v) rest f l = (fuel, kind_read own kind.Option _ rest fuel _ fuel (v, val_read v rest f, refl, refl))
+  defined_read fuel (result_type ok err) rest f l =
+      let first : List ℕ = script_maybe own ok in
+      let second : List ℕ = script_maybe own err in
+      let P : List ℕ → Type 0 = λ b. MadeAs own kind.Result b fuel (result_type ok err) rest fuel in
+      let made : P (first ++ (second ++ rest)) = (ok, second ++ rest, maybe_read ok (second ++ rest) f.0, err, maybe_read err rest f.1, refl, refl) in
+      (fuel, kind_read own kind.Result (first ++ second) rest fuel _ fuel (subst P (sym (append_assoc first second rest)) made))
+
+  -- functions
+
+  one_all : (r : Option ComponentValType) → FormedMaybe own r → AllByRecursion (FormedVal own) (option_to_list r)
+  one_all None f = tt
+  one_all (Some v) f = (f, tt)
+
+  at_most_one : (r : Option ComponentValType) → length (option_to_list r) ≤ 1
+  at_most_one None = omega arith
+  at_most_one (Some v) = omega arith
+
+  function_read : (outer : List Scope) (fuel : ℕ) (s : Signature) (rest : List ℕ) → FormedEntry (function s) own outer → Lasts (fuel + 1) (function s) → (left : ℕ) × MadeFunction own (script_function own s ++ rest) fuel s rest left
+  function_read outer fuel s rest f l =
+      let said : List ℕ = script_members (script_field own) 0 16 s.params in
+      let gives : List ℕ = script_members (script_val own) 0 1 (option_to_list s.result) in
+      let p = members_read {min = 0} {max = 16} (ReadsNamed (ReadsVal own)) (script_field own) (IsReady (λ y. y.0) (λ y. FormedVal own y.1)) field_read s.params fuel (gives ++ rest) (named_ready (λ y. y.0) (λ y. FormedVal own y.1) s.params f.0 l.0 f.1) (omega arith) f.2 (omega (arith, l.1)) in
+      let g = members_read {min = 0} {max = 1} (λ so_far. ReadsVal own) (script_val own) (λ so_far. FormedVal own) (λ so_far v more h. val_read v more h) (option_to_list s.result) p.0 rest (vals_ready (option_to_list s.result) [] (one_all s.result f.3)) (omega arith) (at_most_one s.result) (omega (arith, p.1, l.1)) in
+      let P : List ℕ → Type 0 = λ b. MadeFunction own b fuel s rest g.0 in
+      (g.0, subst P (sym (append_assoc said gives rest)) (record { mid = gives ++ rest; held = p.0; takes = p.2; gives = g.2 }))
+
+  -- types
+
+  -- a type of values with fuel for two turns, and with less
+  values_read : (outer : List Scope) (fuel : ℕ) (t : DefValType) (rest : List ℕ) → FormedDefined t own → LastsDefined fuel t → (b : Bool) → nat_le 2 fuel ≡ b
+      → (left : ℕ) × Made own outer ((if b then script_type_kind Defined else []) ++ (script_defined own t ++ rest)) fuel (defined t) rest left
+  values_read outer fuel t rest f l true h =
+      let two : 2 ≤ fuel = grind (arith, nat_tests) in
+      let same : fuel ≡ fuel - 1 + 1 = omega arith in
+      let r = defined_read (fuel - 1) t rest f (subst (λ n. LastsDefined n t) same l) in
+      (r.0, of_kind (omega arith) (type_kind_read Defined 0 (script_defined own t ++ rest) refl) (t, r.1, refl))
+  values_read outer fuel t rest f l false h =
+      let less : fuel < 2 = grind (arith, nat_tests) in
+      let r = defined_read 0 t rest f (lasts_less fuel t less l) in
+      (r.0, spent_type (omega arith) (t, r.1, refl))
+    where
+      lasts_less : (fuel : ℕ) (t : DefValType) → fuel < 2 → LastsDefined fuel t → LastsDefined 1 t
+      lasts_less fuel (primitive_type p) less l = tt
+      lasts_less fuel (record_type fs) less l = absurd (omega (arith, l.1))
+      lasts_less fuel (variant_type cs) less l = absurd (omega (arith, l.1))
+      lasts_less fuel (list_type v) less l = tt
+      lasts_less fuel (tuple_type vs) less l = absurd (omega arith)
+      lasts_less fuel (flags_type ns) less l = absurd (omega (arith, l.1))
+      lasts_less fuel (enum_type ns) less l = absurd (omega (arith, l.1))
+      lasts_less fuel (option_type v) less l = tt
+      lasts_less fuel (result_type ok err) less l = tt
+
+  -- What the script of a type says is made of it, and the rest is left.
+  pub type_read : (outer : List Scope) (fuel : ℕ) (e : Entry) (rest : List ℕ) → FormedEntry e own outer → Lasts fuel e → (left : ℕ) × Made own outer (script_type fuel own e ++ rest) fuel e rest left
+  type_read outer fuel (defined t) rest f l =
+      let r = values_read outer fuel t rest f l (nat_le 2 fuel) refl in
+      let P : List ℕ → Type 0 = λ b. Made own outer b fuel (defined t) rest r.0 in
+      (r.0, subst P (sym (append_assoc (if nat_le 2 fuel then script_type_kind Defined else []) (script_defined own t) rest)) r.1)
+  type_read outer fuel (function s) rest f l =
+      let same : fuel ≡ fuel - 1 + 1 = omega (arith, l.1) in
+      let m = function_read outer (fuel - 1) s rest f (subst (λ n. Lasts n (function s)) same l) in
+      let P : List ℕ → Type 0 = λ b. Made own outer b fuel (function s) rest m.0 in
+      (m.0, subst P (sym (append_assoc (script_type_kind Function) (script_function own s) rest)) (of_kind (omega (arith, l.1)) (type_kind_read Function 1 (script_function own s ++ rest) refl) (s, m.1, refl)))
