@@ -1,5 +1,5 @@
 pub mod Clear
-pub mod Lengths
+pub mod Encoding
 pub mod Made
 pub mod Members
 pub mod Names

@@ -1,6 +1,6 @@
 //! Types in the binary format (Binary.md, type definitions), and the lengths of their encodings. No writer lowers the
 //! capacity of its buffer, and none wants memory where the buffer has room for what it writes.
-#![tactic(auto, using(crate::proofs::Lengths::encoding))]
+#![tactic(auto, using(crate::proofs::Encoding::encoding))]
 
 mod core_types;
 mod defined;

@@ -1,5 +1,5 @@
 //! Core types in the binary format (Binary.md, core type definitions).
-#![tactic(auto, using(crate::proofs::Lengths::encoding))]
+#![tactic(auto, using(crate::proofs::Encoding::encoding))]
 
 ghost use Rattle.std.specs.Prelude.{ℕ, map};
 ghost use Rattle.smith_core.specs.Piece.{Piece, ◌⊕◌, byte, bytes, many, text, u};

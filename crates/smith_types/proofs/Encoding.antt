@@ -1,4 +1,4 @@
--- The lengths of value types.
+-- What proves the steps of writers and of length calls.
 use Rattle.std.proofs.Common.{◌≡◌, ℕ, ◌<◌, ◌^◌, Some, pos}
 use Rattle.smith_core.specs.Numbers.{signed}
 use Rattle.smith_core.specs.Piece.{s_index}
