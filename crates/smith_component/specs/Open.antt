@@ -1,6 +1,6 @@
 -- Components that are open, and what a turn may choose among.
-use Rattle.std.specs.Prelude.{ℕ, ◌+◌, Bool, ◌&&◌, List, [], ◌∷◌, ◌++◌, length, nat_lt}
-use Rattle.smith_input.specs.Script.{offered}
+use Rattle.std.specs.Prelude.{ℕ, ◌+◌, Bool, true, ◌&&◌, List, [], ◌∷◌, length, nat_lt}
+use Rattle.smith_input.specs.Script.{offers_of}
 use Rattle.smith_core.specs.declared.config.Config.{Config}
 use Rattle.smith_types.specs.Scope.{Scope}
 use Rattle.smith_component.specs.Tree.{Tree, ends, component, add, inside, modules}
@@ -42,7 +42,17 @@ is_component_offered config stack =
 -- what a turn chooses among where input is left, in order
 abbrev pub more_items : Bool → Bool → List Item
 more_items with_module with_component =
-    (Finish ∷ Custom ∷ CoreTypes ∷ Types ∷ Imports ∷ Canonical ∷ []) ++ offered with_module (Module ∷ []) ++ offered with_component (Component ∷ [])
+    offers_of (
+    (true, Finish)
+    ∷ (true, Custom)
+    ∷ (true, CoreTypes)
+    ∷ (true, Types)
+    ∷ (true, Imports)
+    ∷ (true, Canonical)
+    ∷ (with_module, Module)
+    ∷ (with_component, Component)
+    ∷ []
+    )
 
 abbrev pub items_with_input : Config → Open → List Item
 items_with_input config stack = more_items (is_module_offered config stack) (is_component_offered config stack)

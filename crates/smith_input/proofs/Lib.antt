@@ -3,6 +3,7 @@ pub mod Kebabs
 pub mod Loops
 pub mod NameSets
 pub mod NewNames
+pub mod Offered
 pub mod Picks
 pub mod ReadingLemmas
 pub mod TextsLemmas

@@ -5,6 +5,11 @@ use Rattle.std.specs.Prelude.{ℕ, zero, suc, ◌+◌, ◌-◌, ◌/◌, ◌^◌
 abbrev pub offered : {A : Type 0} → Bool → List A → List A
 offered condition xs = if condition then xs else []
 
+-- What a choice is among: each item whose condition holds, in order.
+abbrev pub offers_of : {A : Type 0} → List (Bool × A) → List A
+offers_of [] = []
+offers_of (o ∷ os) = if o.0 then o.1 ∷ offers_of os else offers_of os
+
 -- k in w bytes, most significant first, k being below 256 ^ w
 abbrev pub big_endian : ℕ → ℕ → List ℕ
 big_endian zero k = []

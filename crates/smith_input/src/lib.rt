@@ -4,10 +4,12 @@
 mod error;
 pub mod laws;
 mod names;
+mod offers;
 mod texts;
 mod unstructured;
 
 pub use error::Error;
 pub use names::{unique_kebab_string, unique_string, unique_url};
+pub use offers::choose_offered;
 pub use texts::{arbitrary_bytes, limited_string};
 pub use unstructured::Unstructured;

@@ -1,6 +1,7 @@
 //! What reads answer.
 
 use smith_component::Unstructured;
+use smith_input::choose_offered;
 
 #[test]
 fn a_choice_among_257_reads_two_bytes(rt: HostRuntime) {
@@ -46,4 +47,13 @@ fn a_loop_reads_between_its_minimum_and_its_maximum(rt: HostRuntime) {
 fn a_choice_names_an_item(rt: HostRuntime) {
     let mut u = Unstructured::new(b"\x04");
     assert_eq!(rt; *u.choose(&[10u8, 20, 30]), 20);
+}
+
+#[test]
+fn a_choice_is_among_what_is_offered(rt: HostRuntime) {
+    let mut u = Unstructured::new(b"\x01\x01");
+    let offers = [(false, 10u8), (true, 20), (true, 30)];
+    assert_eq!(rt; choose_offered(&mut u, &offers), Some(30));
+    assert_eq!(rt; choose_offered(&mut u, &[(false, 10u8)]), None);
+    assert_eq!(rt; u.left(), b"\x01".as_slice());
 }

@@ -5,45 +5,12 @@ ghost use Rattle.smith_input.specs.Reading.{IsTail};
 ghost use Rattle.smith_core.specs.Limits.{IsConsistent};
 ghost use Rattle.smith_component.specs.Building.{open_of};
 ghost use Rattle.smith_component.specs.Limits.{max_depth};
-ghost use Rattle.smith_component.specs.Open.{is_module_offered, is_component_offered, items, more_items};
+ghost use Rattle.smith_component.specs.Open.{is_module_offered, is_component_offered, items};
 ghost use Rattle.smith_input.specs.Choices.{ReadsAmong};
 
 use crate::builder::Builder;
 use crate::item::Item;
-use smith_input::Unstructured;
-
-static WITH_MODULE: [Item; 8] = [
-    Item::Finish,
-    Item::Custom,
-    Item::CoreTypes,
-    Item::Types,
-    Item::Imports,
-    Item::Canonical,
-    Item::Module,
-    Item::Component,
-];
-
-static WITHOUT_MODULE: [Item; 7] = [
-    Item::Finish,
-    Item::Custom,
-    Item::CoreTypes,
-    Item::Types,
-    Item::Imports,
-    Item::Canonical,
-    Item::Component,
-];
-
-// The items where input is left.
-fn items_offered(with_module: bool, with_component: bool) -> &'static [Item]
-    ensures { result.now ≡ more_items with_module with_component }
-{
-    match (with_module, with_component) {
-        (true, true) => &WITH_MODULE,
-        (true, false) => &WITH_MODULE[..7],
-        (false, true) => &WITHOUT_MODULE,
-        (false, false) => &WITHOUT_MODULE[..6],
-    }
-}
+use smith_input::{Unstructured, choose_offered};
 
 impl Builder {
     // May a core module be embedded?
@@ -75,8 +42,16 @@ impl Builder {
         if u.is_empty() {
             return Item::Finish;
         }
-        let items = items_offered(with_module, with_component);
-        let place = u.choose_index(items.len());
-        items[place]
+        let offers = [
+            (true, Item::Finish),
+            (true, Item::Custom),
+            (true, Item::CoreTypes),
+            (true, Item::Types),
+            (true, Item::Imports),
+            (true, Item::Canonical),
+            (with_module, Item::Module),
+            (with_component, Item::Component),
+        ];
+        choose_offered(u, &offers).unwrap_or(Item::Finish)
     }
 }
