@@ -1,5 +1,5 @@
 pub mod Clear
-pub mod Lengths
+pub mod Encoding
 pub mod Made
 pub mod Members
 pub mod Names
@@ -7,3 +7,4 @@ pub mod Script
 pub mod Signature
 pub mod Stack
 pub mod Tied
+pub mod TooLong

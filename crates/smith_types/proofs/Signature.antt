@@ -11,7 +11,7 @@ use Rattle.std.specs.declared.string.String.{String}
 use Rattle.smith_core.specs.Piece.{◌⊕◌, byte, many}
 use Rattle.smith_core.proofs.Piece.{assoc}
 use Rattle.smith_core.proofs.Many.{many-map}
-use Rattle.smith_types.specs.Entries.{Signature, Entry, defined, function}
+use Rattle.smith_types.specs.Entries.{Signature, function}
 use Rattle.smith_types.specs.Grammar.{labelvaltype, resultlist, functype}
 use Rattle.smith_types.specs.Scopes.{has_signature}
 use Rattle.smith_types.specs.Shown.{shown_type}

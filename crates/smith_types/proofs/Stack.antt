@@ -1,10 +1,9 @@
 -- Stacks of scopes, and the places of their entries.
-use Rattle.std.proofs.Common.{◌≡◌, ℕ, ◌+◌, ◌<◌, ◌≤◌, Bool, true, false, cond, List, [], ◌∷◌, ◌++◌, get_or, length, map, reverse, refl, sym, ap, ◌∙◌, arith, append-nil, append_assoc}
-use Rattle.std.proofs.Math.ListN.{get_or-map}
+use Rattle.std.proofs.Common.{◌≡◌, ℕ, ◌+◌, ◌<◌, ◌≤◌, Bool, true, false, cond, List, [], ◌∷◌, ◌++◌, length, map, reverse, refl, sym, ap, ◌∙◌, arith, append-nil, append_assoc}
 use Rattle.std.proofs.lemmas.List.{reverse-append, map-append, length-map, length-reverse}
 use Rattle.smith_types.specs.Entries.{Entry, CoreEntry}
 use Rattle.smith_types.specs.Scope.{Scope, empty_scope, with_type, with_types, with_core_type, with_core_types, own_of, outer_of, places}
-use Rattle.smith_types.specs.Scopes.{Contents, shown_scope, inward, last_of, scope_at, Changes, AddsType, AddsCoreType}
+use Rattle.smith_types.specs.Scopes.{Contents, shown_scope, inward, last_of, Changes, AddsType, AddsCoreType}
 use Rattle.smith_types.specs.Shown.{shown_type, shown_core}
 use Rattle.smith_types.specs.declared.core_types.CoreType.{CoreType}
 use Rattle.smith_types.specs.declared.types.DefType.{DefType}
@@ -118,17 +117,6 @@ with_core_more s es e = ap (λ ts. record { types = s.types; core_types = ts }) 
 
 pub with_more : (s : Scope) (es : List Entry) (e : Entry) → with_type (with_types s es) e ≡ with_types s (es ++ e ∷ [])
 with_more s es e = ap (λ ts. record { types = ts; core_types = s.core_types }) (append_assoc s.types es (e ∷ []))
-
-map-reverse : {A B : Type 0} (f : A → B) (xs : List A) → reverse (map f xs) ≡ map f (reverse xs)
-map-reverse f [] = refl
-map-reverse f (x ∷ xs) =
-    reverse-append (f x ∷ []) (map f xs)
-    ∙ (ap (λ ys. ys ++ f x ∷ []) (map-reverse f xs) ∙ sym (map-append f (reverse xs) (x ∷ [])))
-    ∙ ap (map f) (sym (reverse-append (x ∷ []) xs))
-
--- the scope of a count, as it is shown
-pub scope_shown : (scopes : List Contents) (count : ℕ) → get_or (inward scopes) count empty_scope ≡ shown_scope (scope_at scopes count)
-scope_shown scopes count = ap (λ ss. get_or ss count empty_scope) (map-reverse shown_scope scopes) ∙ get_or-map shown_scope (reverse scopes) count empty_scope
 
 -- Scopes of which there is one.
 pub split_scopes : (ss : List Scope) → 0 < length ss → ss ≡ own_of ss ∷ outer_of ss

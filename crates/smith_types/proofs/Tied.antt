@@ -76,16 +76,13 @@ module _ {Z S : Type 0} {types : List DefType} {defined funcs : List ℕ} {equal
 
 -- The same, as a push leaves the lists and the map.
 
-abbrev Shared : Type 0
-Shared = Rc DefType Global
+index_is : {X : Type 0} (entries : List (Rc X Global)) (i : ℕ) → i ≡ length entries → i ≡ length (values_of entries)
+index_is {X} entries i at = at ∙ sym (length-map entries (λ (e : Rc X Global). e.value))
 
-index_is : (entries : List Shared) (i : ℕ) → i ≡ length entries → i ≡ length (values_of entries)
-index_is entries i at = at ∙ sym (length-map entries (λ (e : Shared). e.value))
+types_are : {X : Type 0} (entries new : List (Rc X Global)) (entry : Rc X Global) (ty : X) → new ≡ entries ++ entry ∷ [] → entry.value ≡ ty → values_of new ≡ values_of entries ++ ty ∷ []
+types_are {X} entries new entry ty to is = ap values_of to ∙ map-append (λ (e : Rc X Global). e.value) entries (entry ∷ []) ∙ ap (λ t. values_of entries ++ t ∷ []) is
 
-types_are : (entries new : List Shared) (entry : Shared) (ty : DefType) → new ≡ entries ++ entry ∷ [] → entry.value ≡ ty → values_of new ≡ values_of entries ++ ty ∷ []
-types_are entries new entry ty to is = ap values_of to ∙ map-append (λ (e : Shared). e.value) entries (entry ∷ []) ∙ ap (λ t. values_of entries ++ t ∷ []) is
-
-module _ {Z S : Type 0} (entries : List Shared) {defined funcs : List ℕ} {equal : HashMap Signature (Vec ℕ Z) S} (tied : IsTied (values_of entries) defined funcs equal) (i : ℕ) (at : i ≡ length entries) (entry : Shared) (new : List Shared) (to : new ≡ entries ++ entry ∷ []) where
+module _ {Z S : Type 0} (entries : List (Rc DefType Global)) {defined funcs : List ℕ} {equal : HashMap Signature (Vec ℕ Z) S} (tied : IsTied (values_of entries) defined funcs equal) (i : ℕ) (at : i ≡ length entries) (entry : Rc DefType Global) (new : List (Rc DefType Global)) (to : new ≡ entries ++ entry ∷ []) where
   pub pushed_defined : (d : DefinedType) {more fs : List ℕ} {m : HashMap Signature (Vec ℕ Z) S} → entry.value ≡ def.Defined d → more ≡ defined ++ i ∷ [] → fs ≡ funcs → m ≡ equal → IsTied (values_of new) more fs m
   pushed_defined d is pd pf pm = rw (types_are entries new entry (def.Defined d) to is, pd, pf, pm, index_is entries i at) (tied_defined tied d)
 
@@ -107,26 +104,17 @@ module _ {types : List CoreType} {funcs modules : List ℕ} (tied : IsCoreTied t
     modules_are = ap (λ is. is ++ length types ∷ []) tied.modules_are ∙ sym (kind_pushed shown_core is_core_module types (core.Module m) true refl);
   }
 
-abbrev SharedCore : Type 0
-SharedCore = Rc CoreType Global
-
-core_index_is : (entries : List SharedCore) (i : ℕ) → i ≡ length entries → i ≡ length (values_of entries)
-core_index_is entries i at = at ∙ sym (length-map entries (λ (e : SharedCore). e.value))
-
-core_types_are : (entries new : List SharedCore) (entry : SharedCore) (ty : CoreType) → new ≡ entries ++ entry ∷ [] → entry.value ≡ ty → values_of new ≡ values_of entries ++ ty ∷ []
-core_types_are entries new entry ty to is = ap values_of to ∙ map-append (λ (e : SharedCore). e.value) entries (entry ∷ []) ∙ ap (λ t. values_of entries ++ t ∷ []) is
-
-module _ (entries : List SharedCore) {funcs modules : List ℕ} (tied : IsCoreTied (values_of entries) funcs modules) (i : ℕ) (at : i ≡ length entries) (entry : SharedCore) (new : List SharedCore) (to : new ≡ entries ++ entry ∷ []) where
+module _ (entries : List (Rc CoreType Global)) {funcs modules : List ℕ} (tied : IsCoreTied (values_of entries) funcs modules) (i : ℕ) (at : i ≡ length entries) (entry : Rc CoreType Global) (new : List (Rc CoreType Global)) (to : new ≡ entries ++ entry ∷ []) where
   pub pushed_core_func : (f : Rc CoreFuncType Global) {fs ms : List ℕ} → entry.value ≡ core.Func f → fs ≡ funcs ++ i ∷ [] → ms ≡ modules → IsCoreTied (values_of new) fs ms
-  pushed_core_func f is pf pm = rw (core_types_are entries new entry (core.Func f) to is, pf, pm, core_index_is entries i at) (tied_core_func tied f)
+  pushed_core_func f is pf pm = rw (types_are entries new entry (core.Func f) to is, pf, pm, index_is entries i at) (tied_core_func tied f)
 
   pub pushed_module : (m : Rc ModuleType Global) {fs ms : List ℕ} → entry.value ≡ core.Module m → fs ≡ funcs → ms ≡ modules ++ i ∷ [] → IsCoreTied (values_of new) fs ms
-  pushed_module m is pf pm = rw (core_types_are entries new entry (core.Module m) to is, pf, pm, core_index_is entries i at) (tied_module tied m)
+  pushed_module m is pf pm = rw (types_are entries new entry (core.Module m) to is, pf, pm, index_is entries i at) (tied_module tied m)
 
 -- what a push leaves as it was
 
-pub core_kept : {entries new : List SharedCore} {funcs modules fs ms : List ℕ} → IsCoreTied (values_of entries) funcs modules → new ≡ entries → fs ≡ funcs → ms ≡ modules → IsCoreTied (values_of new) fs ms
+pub core_kept : {entries new : List (Rc CoreType Global)} {funcs modules fs ms : List ℕ} → IsCoreTied (values_of entries) funcs modules → new ≡ entries → fs ≡ funcs → ms ≡ modules → IsCoreTied (values_of new) fs ms
 core_kept tied pe pf pm = rw (pe, pf, pm) tied
 
-pub types_kept : {Z S : Type 0} {entries new : List Shared} {defined funcs ds fs : List ℕ} {equal m : HashMap Signature (Vec ℕ Z) S} → IsTied (values_of entries) defined funcs equal → new ≡ entries → ds ≡ defined → fs ≡ funcs → m ≡ equal → IsTied (values_of new) ds fs m
+pub types_kept : {Z S : Type 0} {entries new : List (Rc DefType Global)} {defined funcs ds fs : List ℕ} {equal m : HashMap Signature (Vec ℕ Z) S} → IsTied (values_of entries) defined funcs equal → new ≡ entries → ds ≡ defined → fs ≡ funcs → m ≡ equal → IsTied (values_of new) ds fs m
 types_kept tied pe pd pf pm = rw (pe, pd, pf, pm) tied

@@ -1,6 +1,7 @@
 pub mod Entries
 pub mod Scope
 pub mod Grammar
+pub mod TooLong
 pub mod ModuleTypes
 pub mod WellFormed
 pub mod CoreLimits

@@ -29,7 +29,7 @@ pub data ReadsVal (own : Scope) : List ℕ → ComponentValType → List ℕ →
   either_primitive : {bytes mid : List ℕ} {p : PrimitiveValType} {rest : List ℕ} → 0 < length (defined_places own) → Reads 2 bytes 0 mid → ReadsAmong primitives mid p rest → ReadsVal own bytes (Primitive p) rest
   either_index : {bytes mid : List ℕ} {i : ℕ} {rest : List ℕ} → Reads 2 bytes 1 mid → ReadsAmong (defined_places own) mid i rest → ReadsVal own bytes (Indexed i) rest
 
--- a truth value, and a value type where it is true
+-- a boolean, and a value type where it is true
 pub data ReadsMaybe (own : Scope) : List ℕ → Option ComponentValType → List ℕ → Type 0 where
   absent : {bytes rest : List ℕ} → Flips bytes false rest → ReadsMaybe own bytes None rest
   present : {bytes mid : List ℕ} {v : ComponentValType} {rest : List ℕ} → Flips bytes true mid → ReadsVal own mid v rest → ReadsMaybe own bytes (Some v) rest

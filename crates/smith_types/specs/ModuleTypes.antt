@@ -1,11 +1,11 @@
 -- What stands in a module type (Explainer.md, core type definitions): its own types, what it imports and exports, and what it
 -- begins with for the canonical ABI.
-use Rattle.std.specs.Prelude.{ℕ, zero, suc, Bool, true, false, ◌&&◌, List, [], ◌∷◌, length, Option, Some, None, slice_get, nat_eq, nat_lt, bytes_eq, codes, if◌then◌else◌}
+use Rattle.std.specs.Prelude.{ℕ, zero, suc, ◌+◌, Bool, false, ◌&&◌, List, [], ◌∷◌, ◌++◌, map, length, Option, Some, None, slice_get, nat_eq, nat_lt, bytes_eq, codes, if◌then◌else◌}
 use Rattle.std.specs.Cmp.Lexicographic.{pointwise}
-use Rattle.std.specs.List.{filter, flat_map, IsDistinct}
+use Rattle.std.specs.List.{filter, flat_map, list_any, IsDistinct}
 use Rattle.std.specs.Option.{option_to_list}
 use Rattle.smith_core.specs.CoreTypes.{Function}
-use Rattle.smith_core.specs.Entities.{kind_of}
+use Rattle.smith_core.specs.Entities.{CoreImport, kind_of}
 use Rattle.smith_core.specs.Equality.{same_val}
 use Rattle.smith_core.specs.declared.types.EntityType.{EntityType}
 use Rattle.smith_core.specs.declared.types.EntityType.TheVariants.{Func, Table, Memory, Global, Tag}
@@ -28,52 +28,67 @@ aliased around own zero i = slice_get own i
 aliased around own (suc zero) i = func_in (slice_get around i)
 aliased around own (suc (suc n)) i = None
 
+-- The parts of a declaration, each where it has one.
+
+-- the function type that it declares
+abbrev pub func_of : ModuleDecl → List Function
+func_of (imports m n e) = []
+func_of (declares f) = f ∷ []
+func_of (aliases count i) = []
+func_of (exports n e) = []
+
+-- the outer alias: its count of scopes, and its index
+abbrev pub alias_of : ModuleDecl → List (ℕ × ℕ)
+alias_of (imports m n e) = []
+alias_of (declares f) = []
+alias_of (aliases count i) = (count, i) ∷ []
+alias_of (exports n e) = []
+
+-- what it imports, after the two names
+abbrev pub import_of : ModuleDecl → List CoreImport
+import_of (imports m n e) = (m, n, e) ∷ []
+import_of (declares f) = []
+import_of (aliases count i) = []
+import_of (exports n e) = []
+
+-- what it exports, after the name
+abbrev pub export_of : ModuleDecl → List (List ℕ × EntityType)
+export_of (imports m n e) = []
+export_of (declares f) = []
+export_of (aliases count i) = []
+export_of (exports n e) = (n, e) ∷ []
+
 -- what a declaration adds to the module type's own types
 abbrev pub adds : List CoreEntry → List Function → ModuleDecl → List Function
-adds around own (imports m n e) = []
-adds around own (declares f) = f ∷ []
-adds around own (aliases count i) = option_to_list (aliased around own count i)
-adds around own (exports n e) = []
+adds around own d = func_of d ++ flat_map (λ a. option_to_list (aliased around own a.0 a.1)) (alias_of d)
 
--- what a declaration imports or exports
-abbrev pub entity_in : ModuleDecl → List EntityType
-entity_in (imports m n e) = e ∷ []
-entity_in (declares f) = []
-entity_in (aliases count i) = []
-entity_in (exports n e) = e ∷ []
+-- the function types that the declarations declare themselves
+abbrev pub declared_in : List ModuleDecl → List Function
+declared_in ds = flat_map func_of ds
 
--- all that it imports and exports, in order
+-- how many own types there are: function types and outer aliases
+abbrev pub type_count : List ModuleDecl → ℕ
+type_count ds = length (flat_map func_of ds) + length (flat_map alias_of ds)
+
+-- all that is imported and exported, in order
 abbrev pub entities_of : List ModuleDecl → List EntityType
-entities_of ds = flat_map entity_in ds
+entities_of ds = flat_map (λ d. map (λ i. i.2) (import_of d) ++ map (λ x. x.1) (export_of d)) ds
 
 -- Is it of that kind?
 abbrev pub is_of_kind : ExportKind → EntityType → Bool
 is_of_kind k e = kinds.eq (kind_of e) k
 
--- how many of its imports and exports are of a kind
+-- how many of the imports and exports are of a kind
 abbrev pub count_of : ExportKind → List ModuleDecl → ℕ
 count_of k ds = length (filter (is_of_kind k) (entities_of ds))
 
--- the name of an import from a module, and that of an export
-abbrev pub name_from : List ℕ → ModuleDecl → List (List ℕ)
-name_from from (imports m n e) = if bytes_eq m from then n ∷ [] else []
-name_from from (declares f) = []
-name_from from (aliases count i) = []
-name_from from (exports n e) = []
-
-abbrev pub export_name : ModuleDecl → List (List ℕ)
-export_name (imports m n e) = []
-export_name (declares f) = []
-export_name (aliases count i) = []
-export_name (exports n e) = n ∷ []
-
 -- the names that are imported from a module
 abbrev pub names_from : List ℕ → List ModuleDecl → List (List ℕ)
-names_from from ds = flat_map (name_from from) ds
+names_from from ds = map (λ i. i.1) (filter (λ i. bytes_eq i.0 from) (flat_map import_of ds))
 
 -- the names that are exported
 abbrev pub export_names : List ModuleDecl → List (List ℕ)
-export_names ds = flat_map export_name ds
+export_names ds = map (λ x. x.0) (flat_map export_of ds)
 
 -- No name is imported twice from a module, and none is exported twice.
 pub record HasNewNames (ds : List ModuleDecl) : Type 0 where
@@ -83,28 +98,6 @@ pub record HasNewNames (ds : List ModuleDecl) : Type 0 where
 -- Has it no results, as the type of a tag has none?
 abbrev pub is_tag_type : Function → Bool
 is_tag_type f = nat_eq (length f.1) 0
-
--- the function type that a declaration is, where it is one
-abbrev pub func_of : ModuleDecl → List Function
-func_of (imports m n e) = []
-func_of (declares f) = f ∷ []
-func_of (aliases count i) = []
-func_of (exports n e) = []
-
--- the function types that it declares itself
-abbrev pub declared_in : List ModuleDecl → List Function
-declared_in ds = flat_map func_of ds
-
--- Is it one of its own types: a function type or an outer alias?
-abbrev pub is_own_type : ModuleDecl → Bool
-is_own_type (imports m n e) = false
-is_own_type (declares f) = true
-is_own_type (aliases count i) = true
-is_own_type (exports n e) = false
-
--- how many own types it has
-abbrev pub type_count : List ModuleDecl → ℕ
-type_count ds = length (filter is_own_type ds)
 
 -- What the canonical ABI asks of a module (CanonicalABI.md, memory management): an export of a memory, a function that
 -- allocates anew, and one that frees. Each of them may be missing.
@@ -120,10 +113,7 @@ same_function f g = pointwise same_val f.0 g.0 && pointwise same_val f.1 g.1
 
 -- Does it declare that function type?
 abbrev pub is_type : Function → ModuleDecl → Bool
-is_type f (imports m n e) = false
-is_type f (declares g) = same_function f g
-is_type f (aliases count i) = false
-is_type f (exports n e) = false
+is_type f d = list_any (same_function f) (func_of d)
 
 -- Is it a function of the type i?
 abbrev pub is_function_of : ℕ → EntityType → Bool
@@ -135,10 +125,7 @@ is_function_of i (Tag t) = false
 
 -- Is it the export by that name of what passes the test?
 abbrev pub is_export : List ℕ → (EntityType → Bool) → ModuleDecl → Bool
-is_export name test (imports m n e) = false
-is_export name test (declares f) = false
-is_export name test (aliases count i) = false
-is_export name test (exports n e) = bytes_eq n name && test e
+is_export name test d = list_any (λ x. bytes_eq x.0 name && test x.1) (export_of d)
 
 -- the declarations after the export of a memory
 abbrev pub after_memory : List ModuleDecl → List ModuleDecl

@@ -5,7 +5,7 @@ use Rattle.std.specs.declared.alloc.Global.{Global}
 use Rattle.std.specs.declared.rc.Rc.{Rc}
 use Rattle.std.specs.declared.vec.Vec.{Vec}
 use Rattle.smith_types.specs.Entries.{Signature}
-use Rattle.smith_types.specs.Scope.{ScopeOf, Scope, empty_scope, with_type, with_core_type, places, is_defined, is_func, is_core_func, is_core_module}
+use Rattle.smith_types.specs.Scope.{ScopeOf, Scope, empty_scope, with_type, with_core_type, own_of, outer_of, places, is_defined, is_func, is_core_func, is_core_module}
 use Rattle.smith_types.specs.Shown.{shown_type, shown_core}
 use Rattle.smith_types.specs.Signature.{same_signature}
 use Rattle.smith_types.specs.declared.core_types.CoreType.{CoreType}
@@ -25,6 +25,13 @@ shown_scope d = record { types = map shown_type d.types; core_types = map shown_
 -- the scopes as plain trees, innermost first
 abbrev pub inward : List Contents → List Scope
 inward scopes = reverse (map shown_scope scopes)
+
+-- the innermost scope as plain trees, and those around it
+abbrev pub own_scope : List Contents → Scope
+own_scope scopes = own_of (inward scopes)
+
+abbrev pub outer_scopes : List Contents → List Scope
+outer_scopes scopes = outer_of (inward scopes)
 
 -- the last scope
 abbrev pub last_of : List Contents → Contents

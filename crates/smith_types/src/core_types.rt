@@ -21,8 +21,8 @@ pub struct ModuleType {
 pub enum ModuleTypeDef {
     FuncDef(Rc<FuncType>),
     Import(Import),
-    /// Another name for a function type: with count 0 one of the module type's own, with count 1 a core type of the scope
-    /// around it, by its index there.
+    /// Another name for a function type: with count 0 one of the module type's own, with count 1 a core type of the
+    /// scope around it, by its index there.
     OuterAlias {
         count: u32,
         i: u32,

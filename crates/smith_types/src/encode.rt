@@ -1,6 +1,6 @@
 //! Types in the binary format (Binary.md, type definitions), and the lengths of their encodings. No writer lowers the
 //! capacity of its buffer, and none wants memory where the buffer has room for what it writes.
-#![tactic(auto, using(smith_core::proofs::Steps::writing, smith_core::proofs::Sizes::measuring, crate::proofs::Lengths::vals))]
+#![tactic(auto, using(crate::proofs::Encoding::encoding))]
 
 mod core_types;
 mod defined;
@@ -85,7 +85,7 @@ pub fn write_type(out: &mut Vec<u8>, ty: &DefType) -> Result<(), Error>
     write_spelled(out, ty)
 }
 
-/// The length of a type's spelling; None exactly where it has none of at most 4,294,967,295 bytes.
+/// The length of a type's encoding; None exactly where it has none of at most 4,294,967,295 bytes.
 pub fn type_len(ty: &DefType) -> Option<u32>
     ensures { IsLengthOf result (entry (shown_type ty.now)) }
 {

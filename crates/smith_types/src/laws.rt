@@ -1,33 +1,53 @@
 //! Laws of types. Each function does nothing: its contract is the law.
 
-ghost use Rattle.std.specs.Prelude.{◌≡◌, ◌≤◌, ◌^◌, ℕ, List, ◌++◌, length};
+ghost use Rattle.std.specs.Prelude.{◌≡◌, ◌↔◌, ◌≤◌, ◌^◌, ℕ, true, List, length, None};
 ghost use Rattle.smith_core.specs.Clear.{IsClear};
-ghost use Rattle.smith_types.specs.Entries.{Entry};
-ghost use Rattle.smith_types.specs.Grammar.{valtype, maybe_valtype, entry, core_entry, import_entry};
+ghost use Rattle.smith_input.specs.Reading.{IsDecided, IsReadAs};
+ghost use Rattle.smith_types.specs.Entries.{Signature, Entry, function, CoreEntry};
+ghost use Rattle.smith_types.specs.Grammar.{valtype, maybe_valtype, entry, core_entry};
 ghost use Rattle.smith_types.specs.Made.{Made};
 ghost use Rattle.smith_types.specs.Scope.{Scope};
+ghost use Rattle.smith_types.specs.Scopes.{has_signature};
 ghost use Rattle.smith_types.specs.Script.{Lasts, script_type};
+ghost use Rattle.smith_types.specs.Shown.{shown_type};
+ghost use Rattle.smith_types.specs.Signature.{same_signature};
+ghost use Rattle.smith_types.specs.TooLong.{EntryTooLong, CoreEntryTooLong};
 ghost use Rattle.smith_types.specs.WellFormed.{FormedEntry};
+ghost use Rattle.smith_types.specs.declared.types.DefType.{DefType};
 
 /// The scopes, the bytes and the fuel alone decide which type is made, and what is left of both.
 pub fn types_are_decided()
-    ensures { (own : Scope) (outer : List Scope) (bytes : List ℕ) (fuel : ℕ) (d e : Entry) (rest others : List ℕ) (left more : ℕ) → Made own outer bytes fuel d rest left
-        → Made own outer bytes fuel e others more → (d ≡ e) × (rest ≡ others) × (left ≡ more) }
+    ensures { (own : Scope) (outer : List Scope) (fuel : ℕ)
+        → IsDecided (λ bytes (made : Entry × ℕ) rest. Made own outer bytes fuel made.0 rest made.1) }
 {}
 
-/// The script of a type that is well formed in its scopes and for which the fuel lasts, followed by any bytes, is
-/// made to that type, and the bytes behind it are left.
+/// The script of a type that is well formed in its scopes and for which the fuel lasts is read as that type.
 pub fn scripts_are_read()
-    ensures { (own : Scope) (outer : List Scope) (fuel : ℕ) (e : Entry) (rest : List ℕ) → FormedEntry e own outer → Lasts fuel e → length own.types ≤ 2 ^ 64
-        → (left : ℕ) × Made own outer (script_type fuel own e ++ rest) fuel e rest left }
+    ensures { (own : Scope) (outer : List Scope) (fuel : ℕ) (e : Entry)
+        → FormedEntry e own outer → Lasts fuel e → length own.types ≤ 2 ^ 64
+        → IsReadAs (λ bytes made rest. (left : ℕ) × Made own outer bytes fuel made rest left)
+        (script_type fuel own e) e }
 {}
 
-/// No spelling of a type is a prefix of another, and two readings with anything behind are one; so it is with
-/// value types, core types and imports.
+/// Two function types are compared as equal exactly where their signatures are the same, and a type is one of a
+/// signature exactly where it is shown as the function of it.
+pub fn signatures_are_told()
+    ensures equal { (a b : Signature) → (same_signature a b ≡ true) ↔ (a ≡ b) }
+    ensures shown { (s : Signature) (t : DefType) → (has_signature s t ≡ true) ↔ (shown_type t ≡ function s) }
+{}
+
+/// No encoding of a type is a prefix of another, and two readings with anything after them are one; so it is with value
+/// types and core types.
 pub fn types_are_clear()
     ensures types { IsClear entry }
     ensures value_types { IsClear valtype }
     ensures missing { IsClear maybe_valtype }
     ensures core_types { IsClear core_entry }
-    ensures imports { IsClear import_entry }
+{}
+
+/// A type whose names are UTF-8 has no encoding exactly where a count, the length of a name or an index in it passes
+/// 4,294,967,295; so it is with core types.
+pub fn long_types_have_no_encoding()
+    ensures types { (e : Entry) → (entry e ≡ None) ↔ EntryTooLong e }
+    ensures core_types { (e : CoreEntry) → (core_entry e ≡ None) ↔ CoreEntryTooLong e }
 {}

@@ -1,6 +1,7 @@
 //! Types from the input.
 
 mod defined;
+mod fuel;
 mod function;
 mod members;
 mod values;
@@ -8,8 +9,7 @@ mod values;
 ghost use Rattle.std.specs.Prelude.{◌≡◌, ◌+◌, ◌-◌, ◌≤◌, IfOk, IfErr};
 ghost use Rattle.smith_input.specs.Reading.{IsTail};
 ghost use Rattle.smith_types.specs.Made.{Made, MadeOf};
-ghost use Rattle.smith_types.specs.Scope.{own_of, outer_of};
-ghost use Rattle.smith_types.specs.Scopes.{inward};
+ghost use Rattle.smith_types.specs.Scopes.{own_scope, outer_scopes};
 ghost use Rattle.smith_types.specs.Shown.{shown_type, shown_shared};
 ghost use Rattle.smith_types.specs.WellFormed.{FormedEntry, size};
 
@@ -17,13 +17,14 @@ use crate::scopes::Scopes;
 use crate::types::DefType;
 pub use defined::DefinedKind;
 use defined::defined_type;
+use fuel::burn;
 use function::function_type;
 use smith_core::{Config, ValType};
 use smith_input::{Error, Unstructured};
 use std::alloc::Global;
 use std::rc::Rc;
 
-/// What a choice of a type is among.
+/// What a choice of a type is among. Public since contracts speak of it.
 #[derive(Debug, Clone, Copy, PartialEq, Eq)]
 pub enum TypeKind {
     Defined,
@@ -39,13 +40,6 @@ static TYPE_KINDS: [TypeKind; 4] = [
     TypeKind::Instance,
 ];
 
-// Takes one from the fuel, unless none is left.
-fn burn(fuel: &mut u32)
-    ensures { fuel.new ≡ fuel.old - 1 }
-{
-    *fuel = fuel.saturating_sub(1);
-}
-
 // A type of one kind. Those of components and instances are defined types so far.
 fn type_of(
     alloc: Global,
@@ -54,7 +48,7 @@ fn type_of(
     fuel: &mut u32,
     kind: TypeKind,
 ) -> Result<DefType, Error>
-    ensures made { IfOk result (λ t. MadeOf (own_of (inward scopes.now)) kind u.old fuel.old (shown_type t) u.new fuel.new) }
+    ensures made { IfOk result (λ t. MadeOf (own_scope scopes.now) kind u.old fuel.old (shown_type t) u.new fuel.new) }
     ensures memory { IfErr result (λ e. e ≡ Error.OutOfMemory) }
     ensures tail { IsTail u.new u.old }
 {
@@ -76,7 +70,8 @@ fn made_type(
     scopes: &Scopes,
     fuel: &mut u32,
 ) -> Result<DefType, Error>
-    ensures made { IfOk result (λ t. Made (own_of (inward scopes.now)) (outer_of (inward scopes.now)) u.old fuel.old (shown_type t) u.new fuel.new) }
+    ensures made { IfOk result (λ t. Made (own_scope scopes.now) (outer_scopes scopes.now) u.old fuel.old
+        (shown_type t) u.new fuel.new) }
     ensures memory { IfErr result (λ e. e ≡ Error.OutOfMemory) }
     ensures tail { IsTail u.new u.old }
 {
@@ -92,10 +87,10 @@ fn made_type(
 /// fuel is left at first, a choice of four kinds is read: a defined type, and that of a function, a component or an
 /// instance, of which the last two are defined types so far. Else it is a defined type.
 ///
-/// A record, variant, tuple or enum has from 1 to 100 members and flags have from 1 to 32, or it is `bool` where it would
-/// have none; a function has at most 16 parameters. Names within one type are in kebab case and distinct. The type is
-/// well formed in the scopes, and no larger than the fuel that it took. It refuses for want of memory alone. The scopes
-/// stay as they are.
+/// A record, variant, tuple or enum has from 1 to 100 members and flags have from 1 to 32, or it is `bool` where it
+/// would have none; a function has at most 16 parameters. Names within one type are in kebab case and distinct. The
+/// type is well formed in the scopes, and no larger than the fuel that it took. It refuses for want of memory alone.
+/// The scopes stay as they are.
 pub fn arbitrary_type(
     alloc: Global,
     u: &mut Unstructured,
@@ -104,8 +99,9 @@ pub fn arbitrary_type(
     scopes: &mut Scopes,
     fuel: &mut u32,
 ) -> Result<Rc<DefType>, Error>
-    ensures made { IfOk result (λ t. Made (own_of (inward scopes.old)) (outer_of (inward scopes.old)) u.old fuel.old (shown_shared t) u.new fuel.new) }
-    ensures formed { IfOk result (λ t. FormedEntry (shown_shared t) (own_of (inward scopes.old)) (outer_of (inward scopes.old))) }
+    ensures made { IfOk result (λ t. Made (own_scope scopes.old) (outer_scopes scopes.old) u.old fuel.old
+        (shown_shared t) u.new fuel.new) }
+    ensures formed { IfOk result (λ t. FormedEntry (shown_shared t) (own_scope scopes.old) (outer_scopes scopes.old)) }
     ensures size { IfOk result (λ t. size (shown_shared t) + fuel.new ≤ fuel.old) }
     ensures scopes { scopes.new ≡ scopes.old }
     ensures memory { IfErr result (λ e. e ≡ Error.OutOfMemory) }

@@ -1,8 +1,10 @@
 //! Scopes: what types stand where (Explainer.md, index spaces).
 
-ghost use Rattle.std.specs.Prelude.{◌≡◌, ℕ, ◌+◌, ◌<◌, ◌≤◌, [], ◌∷◌, ◌++◌, length, Some, slice_get, OnOk, IfOk, OnErr, IfErr};
-ghost use Rattle.smith_types.specs.Scope.{empty_scope, with_type, with_core_type, own_of, places};
-ghost use Rattle.smith_types.specs.Scopes.{inward, shown_scope, kind_places, has_signature, last_of, scope_at, AddsType, AddsCoreType, Notes, SameRows};
+ghost use Rattle.std.specs.Prelude.{◌≡◌, ℕ, ◌+◌, ◌<◌, ◌≤◌, [], ◌∷◌, ◌++◌, length, Some, slice_get};
+ghost use Rattle.std.specs.Prelude.{OnOk, IfOk, OnErr, IfErr};
+ghost use Rattle.smith_types.specs.Scope.{empty_scope, with_type, with_core_type, places};
+ghost use Rattle.smith_types.specs.Scopes.{own_scope, shown_scope, kind_places, has_signature, last_of, scope_at};
+ghost use Rattle.smith_types.specs.Scopes.{AddsType, AddsCoreType, Notes, SameRows};
 
 use crate::core_types::CoreType;
 use crate::drops::drop_last_first;
@@ -34,8 +36,8 @@ pub enum Kind {
 type Equals = HashMap<FuncType, Vec<u32>, BuildHasherDefault<DefaultHasher>>;
 
 // The types and core types of one scope, with the indexes of each kind and, by each function type, those of its equals.
-// Contracts see the types and the core types. It drops its types from the last to the first, since each holds none after
-// it; the code says so, and a test alone shows it.
+// Contracts see the types and the core types. It drops its types from the last to the first, since each holds none
+// after it; the code says so, and a test alone shows it.
 struct Scope {
     types: Vec<Rc<DefType>>,
     defined: Vec<u32>,
@@ -53,12 +55,13 @@ impl Model for Scope {
 
     ghost view = { λ s. record { types = values_of s.types.items; core_types = values_of s.core_types.items } };
 
-    ghost invariant = { λ s. IsTied (values_of s.types.items) s.defined.items s.funcs.items s.equal × IsCoreTied (values_of s.core_types.items) s.core_funcs.items s.core_modules.items };
+    ghost invariant = { λ s. IsTied (values_of s.types.items) s.defined.items s.funcs.items s.equal
+        × IsCoreTied (values_of s.core_types.items) s.core_funcs.items s.core_modules.items };
 }
 
 /// A stack of scopes, never empty. Contracts see the list, outermost first, of the types and core types in each. It is
-/// dropped from the last scope to the first, and each scope from its last type to its first, so that the stack that this
-/// takes does not grow with the number of types. This order is the code's, and shown by a test alone.
+/// dropped from the last scope to the first, and each scope from its last type to its first, so that the stack that
+/// this takes does not grow with the number of types. This order is the code's, and shown by a test alone.
 pub struct Scopes {
     alloc: Global,
     outer: Vec<Scope>,
@@ -103,12 +106,7 @@ impl Drop for Scopes {
 }
 
 // Puts the index at the end of the row of a function type. Where it refuses, each row is as it was.
-fn note(
-    equal: &mut Equals,
-    alloc: Global,
-    func: &FuncType,
-    index: u32,
-) -> Result<(), Error>
+fn note(equal: &mut Equals, alloc: Global, func: &FuncType, index: u32) -> Result<(), Error>
     ensures ok { OnOk result (Notes func.now index equal.old equal.new) }
     ensures err { OnErr result (SameRows equal.old equal.new) }
     ensures memory { IfErr result (λ e. e ≡ Error.OutOfMemory) }
@@ -314,15 +312,15 @@ impl Scopes {
 
     /// How many entries of the last scope are of that kind.
     pub fn kind_len(&self, kind: Kind) -> usize
-        ensures { result ≡ length (kind_places kind (own_of (inward self.now))) }
+        ensures { result ≡ length (kind_places kind (own_scope self.now)) }
     {
         self.inner.places(kind).len()
     }
 
     /// The index of the entry of the last scope that has `k` earlier ones of its kind.
     pub fn kind_at(&self, kind: Kind, k: usize) -> u32
-        requires { k < length (kind_places kind (own_of (inward self.now))) }
-        ensures { slice_get (kind_places kind (own_of (inward self.now))) k ≡ Some result }
+        requires { k < length (kind_places kind (own_scope self.now)) }
+        ensures { slice_get (kind_places kind (own_scope self.now)) k ≡ Some result }
     {
         self.inner.places(kind)[k]
     }

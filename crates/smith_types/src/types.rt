@@ -66,7 +66,7 @@ pub struct VariantType {
     pub cases: Vec<(String, Option<ComponentValType>)>,
 }
 
-/// Named truth values, from 1 to 32.
+/// Named booleans, from 1 to 32.
 #[derive(Debug, Drop)]
 pub struct FlagsType {
     pub fields: Vec<String>,

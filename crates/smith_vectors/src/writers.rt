@@ -1,10 +1,9 @@
 //! What writers write.
 
 use smith_core::{EntityType, MemoryType, ValType, write_section};
-use smith_types::encode::{write_core_type, write_type};
 use smith_types::{
     ComponentValType, CoreType, DefType, DefinedType, FuncType, ListType, ModuleType,
-    ModuleTypeDef, PrimitiveValType, VariantType,
+    ModuleTypeDef, PrimitiveValType, VariantType, write_core_type, write_type,
 };
 use std::process::Abort;
 use std::rc::Rc;

@@ -1,5 +1,5 @@
 //! Core types in the binary format (Binary.md, core type definitions).
-#![tactic(auto, using(smith_core::proofs::Steps::writing, smith_core::proofs::Sizes::measuring))]
+#![tactic(auto, using(crate::proofs::Encoding::encoding))]
 
 ghost use Rattle.std.specs.Prelude.{ℕ, map};
 ghost use Rattle.smith_core.specs.Piece.{Piece, ◌⊕◌, byte, bytes, many, text, u};
@@ -109,7 +109,7 @@ pub fn write_core_type(out: &mut Vec<u8>, ty: &CoreType) -> Result<(), Error>
     write_spelled(out, ty)
 }
 
-/// The length of a core type's spelling; None exactly where it has none of at most 4,294,967,295 bytes.
+/// The length of a core type's encoding; None exactly where it has none of at most 4,294,967,295 bytes.
 pub fn core_type_len(ty: &CoreType) -> Option<u32>
     ensures { IsLengthOf result (core_entry (shown_core ty.now)) }
 {

@@ -1,5 +1,5 @@
 //! Types of values in the binary format (Binary.md, type definitions).
-#![tactic(auto, using(smith_core::proofs::Steps::writing, smith_core::proofs::Sizes::measuring, crate::proofs::Lengths::vals))]
+#![tactic(auto, using(crate::proofs::Encoding::encoding))]
 
 ghost use Rattle.std.specs.Prelude.{map};
 ghost use Rattle.smith_core.specs.Piece.{◌⊕◌, byte, many, text};

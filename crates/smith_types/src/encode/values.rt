@@ -1,5 +1,5 @@
 //! Value types in the binary format (Binary.md, type definitions), and lists of them.
-#![tactic(auto, using(smith_core::proofs::Steps::writing, smith_core::proofs::Sizes::measuring, crate::proofs::Lengths::vals))]
+#![tactic(auto, using(crate::proofs::Encoding::encoding))]
 
 ghost use Rattle.std.specs.Prelude.{◌≡◌, ◌≤◌};
 ghost use Rattle.smith_core.specs.Piece.{◌⊕◌, byte, s_index};

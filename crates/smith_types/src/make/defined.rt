@@ -2,10 +2,10 @@
 
 ghost use Rattle.std.specs.Prelude.{◌≡◌, ◌+◌, ◌-◌, ℕ, List, map, string_bytes, IfOk, IfErr};
 ghost use Rattle.smith_input.specs.Reading.{IsTail};
-ghost use Rattle.smith_types.specs.Entries.{primitive_type, record_type, variant_type, tuple_type, flags_type, enum_type};
+ghost use Rattle.smith_types.specs.Entries.{primitive_type, record_type, variant_type};
+ghost use Rattle.smith_types.specs.Entries.{tuple_type, flags_type, enum_type};
 ghost use Rattle.smith_types.specs.Made.{MadeAs, MadeDefined, ReadsMaybe, or_bool};
-ghost use Rattle.smith_types.specs.Scope.{own_of};
-ghost use Rattle.smith_types.specs.Scopes.{inward};
+ghost use Rattle.smith_types.specs.Scopes.{own_scope};
 ghost use Rattle.smith_types.specs.Shown.{shown_defined};
 ghost use Rattle.smith_types.specs.Signature.{named};
 ghost use Rattle.smith_types.specs.declared.types.PrimitiveValType.TheVariants as prim;
@@ -20,7 +20,7 @@ use crate::types::{
 use smith_input::{Error, Unstructured};
 use std::alloc::Global;
 
-/// What a choice of a defined type is among.
+/// What a choice of a defined type is among. Public since contracts speak of it.
 #[derive(Debug, Clone, Copy, PartialEq, Eq)]
 pub enum DefinedKind {
     Primitive,
@@ -105,7 +105,8 @@ fn enum_type(members: Vec<String>) -> DefinedType
 
 // A result, whose two types are read one after the other.
 fn result_type(u: &mut Unstructured, scopes: &Scopes) -> ResultType
-    ensures reads { (mid : List ℕ) × ReadsMaybe (own_of (inward scopes.now)) u.old result.ok_ty mid × ReadsMaybe (own_of (inward scopes.now)) mid result.err_ty u.new }
+    ensures reads { (mid : List ℕ) × ReadsMaybe (own_scope scopes.now) u.old result.ok_ty mid
+        × ReadsMaybe (own_scope scopes.now) mid result.err_ty u.new }
     ensures tail { IsTail u.new u.old }
 {
     let ok_ty = maybe_value_type(u, scopes);
@@ -121,7 +122,8 @@ fn type_of_kind(
     fuel: &mut u32,
     kind: DefinedKind,
 ) -> Result<DefinedType, Error>
-    ensures made { IfOk result (λ t. MadeAs (own_of (inward scopes.now)) kind u.old fuel.old (shown_defined t) u.new fuel.new) }
+    ensures made { IfOk result (λ t.
+        MadeAs (own_scope scopes.now) kind u.old fuel.old (shown_defined t) u.new fuel.new) }
     ensures memory { IfErr result (λ e. e ≡ Error.OutOfMemory) }
     ensures tail { IsTail u.new u.old }
 {
@@ -149,7 +151,8 @@ pub(super) fn defined_type(
     scopes: &Scopes,
     fuel: &mut u32,
 ) -> Result<DefinedType, Error>
-    ensures made { IfOk result (λ t. MadeDefined (own_of (inward scopes.now)) u.old fuel.old (shown_defined t) u.new fuel.new) }
+    ensures made { IfOk result (λ t.
+        MadeDefined (own_scope scopes.now) u.old fuel.old (shown_defined t) u.new fuel.new) }
     ensures memory { IfErr result (λ e. e ≡ Error.OutOfMemory) }
     ensures tail { IsTail u.new u.old }
 {

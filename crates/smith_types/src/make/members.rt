@@ -5,12 +5,12 @@ ghost use Rattle.smith_input.specs.Names.{Holds, ReadsNew};
 ghost use Rattle.smith_input.specs.Reading.{IsTail};
 ghost use Rattle.smith_types.specs.Entries.{Field, Case};
 ghost use Rattle.smith_types.specs.Made.{ReadsVal, ReadsMaybe, ReadsNamed, ReadsMembers};
-ghost use Rattle.smith_types.specs.Scope.{Scope, own_of};
-ghost use Rattle.smith_types.specs.Scopes.{inward};
+ghost use Rattle.smith_types.specs.Scope.{Scope};
+ghost use Rattle.smith_types.specs.Scopes.{own_scope};
 ghost use Rattle.smith_types.specs.Signature.{named};
 ghost use Rattle.smith_types.specs.declared.types.ComponentValType.{ComponentValType as Val};
 
-use super::burn;
+use super::fuel::burn;
 use super::values::{maybe_value_type, value_type};
 use crate::scopes::Scopes;
 use crate::types::ComponentValType;
@@ -28,15 +28,17 @@ pub(super) trait Member: Drop {
 
     ghost reads_member: { Scope → List Shown → List ℕ → Shown → List ℕ → Type 0 };
 
-    // A member behind those so far, whose names the set has.
+    // A member after those so far, whose names the set has.
     fn read(
         alloc: Global,
         u: &mut Unstructured,
         scopes: &Scopes,
         names: &mut BTreeSet<String>,
     ) -> Result<Self, Error>
-        ensures read { (so_far : List Shown) → Holds names.old (names_of so_far) → IfOk result (λ m. reads_member (own_of (inward scopes.now)) so_far u.old (shown m) u.new) }
-        ensures names { (so_far : List Shown) → Holds names.old (names_of so_far) → IfOk result (λ m. Holds names.new (names_of (so_far ++ shown m ∷ []))) }
+        ensures read { (so_far : List Shown) → Holds names.old (names_of so_far)
+            → IfOk result (λ m. reads_member (own_scope scopes.now) so_far u.old (shown m) u.new) }
+        ensures names { (so_far : List Shown) → Holds names.old (names_of so_far)
+            → IfOk result (λ m. Holds names.new (names_of (so_far ++ shown m ∷ []))) }
         ensures memory { IfErr result (λ e. e ≡ Error.OutOfMemory) }
         ensures tail { IsTail u.new u.old };
 
@@ -53,7 +55,8 @@ pub(super) fn members<M: Member>(
     max: usize,
 ) -> Result<Vec<M>, Error>
     requires { min ≤ max }
-    ensures reads { IfOk result (λ v. ReadsMembers (M.reads_member (own_of (inward scopes.now))) min max u.old fuel.old (map M.shown v.items) u.new fuel.new) }
+    ensures reads { IfOk result (λ v. ReadsMembers (M.reads_member (own_scope scopes.now)) min max u.old fuel.old
+        (map M.shown v.items) u.new fuel.new) }
     ensures memory { IfErr result (λ e. e ≡ Error.OutOfMemory) }
     ensures tail { IsTail u.new u.old }
 {

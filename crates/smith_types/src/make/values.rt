@@ -4,8 +4,7 @@ ghost use Rattle.std.specs.Prelude.{◌≡◌};
 ghost use Rattle.smith_input.specs.Reading.{IsTail};
 ghost use Rattle.smith_input.specs.Choices.{ReadsAmong};
 ghost use Rattle.smith_types.specs.Made.{primitives, ReadsVal, ReadsMaybe};
-ghost use Rattle.smith_types.specs.Scope.{own_of};
-ghost use Rattle.smith_types.specs.Scopes.{inward};
+ghost use Rattle.smith_types.specs.Scopes.{own_scope};
 
 use crate::scopes::{Kind, Scopes};
 use crate::types::{ComponentValType, PrimitiveValType};
@@ -37,7 +36,7 @@ pub(super) fn primitive_type(u: &mut Unstructured) -> PrimitiveValType
 
 // A value type: primitive, or one of the defined types of the last scope.
 pub(super) fn value_type(u: &mut Unstructured, scopes: &Scopes) -> ComponentValType
-    ensures reads { ReadsVal (own_of (inward scopes.now)) u.old result u.new }
+    ensures reads { ReadsVal (own_scope scopes.now) u.old result u.new }
     ensures tail { IsTail u.new u.old }
 {
     let defined = scopes.kind_len(Kind::Defined);
@@ -48,9 +47,9 @@ pub(super) fn value_type(u: &mut Unstructured, scopes: &Scopes) -> ComponentValT
     ComponentValType::Primitive(primitive_type(u))
 }
 
-// A truth value, and a value type where it is true.
+// A boolean, and a value type where it is true.
 pub(super) fn maybe_value_type(u: &mut Unstructured, scopes: &Scopes) -> Option<ComponentValType>
-    ensures reads { ReadsMaybe (own_of (inward scopes.now)) u.old result u.new }
+    ensures reads { ReadsMaybe (own_scope scopes.now) u.old result u.new }
     ensures tail { IsTail u.new u.old }
 {
     if u.arbitrary_bool() {

@@ -2,6 +2,6 @@ use Rattle.smith_types.proofs.Made.{made_same}
 use Rattle.smith_types.proofs.laws.types_are_decided.Goals as goal
 
 pub returns : goal.returns
-returns c own outer bytes fuel d e rest others left more x y =
-    let s = made_same own outer bytes fuel d e rest others left more x y in
-    (s.value, s.rest, s.left)
+returns c own outer fuel bytes x y left rest r s =
+    let d = made_same own outer bytes fuel x.0 y.0 left rest x.1 y.1 r s in
+    (λ i. (d.value i, d.left i), d.rest)

@@ -1,6 +1,6 @@
-use Rattle.std.proofs.Common.{[], ◌∷◌, map, length, sym, ap, ◌∙◌, subst, arith}
+use Rattle.std.proofs.Common.{map, sym, ap, ◌∙◌, subst}
 use Rattle.smith_input.specs.Names.{Holds}
-use Rattle.smith_input.proofs.Loops.{begins, stops, ends_early, goes_on, ends_full}
+use Rattle.smith_input.proofs.Loops.{stops, ends_early, goes_on, ends_full}
 use Rattle.smith_input.proofs.NewNames.{holds_none}
 use Rattle.smith_input.proofs.ReadingLemmas.{tail_same, tail_trans, more_tail}
 use Rattle.smith_types.proofs.Members.{pushed, starts, spends, has_read_as}

@@ -1,4 +1,4 @@
-use Rattle.std.proofs.Common.{◌≡◌, ℕ, List, [], ◌++◌, map, length}
+use Rattle.std.proofs.Common.{ℕ, List, [], ◌++◌, map}
 use Rattle.smith_input.specs.Loops.{Loop}
 use Rattle.smith_input.specs.Names.{Holds}
 use Rattle.smith_input.specs.Reading.{IsTail}

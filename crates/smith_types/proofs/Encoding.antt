@@ -1,11 +1,14 @@
--- The lengths of value types.
+-- What proves the steps of writers and of length calls.
 use Rattle.std.proofs.Common.{◌≡◌, ℕ, ◌<◌, ◌^◌, Some, pos}
 use Rattle.smith_core.specs.Numbers.{signed}
 use Rattle.smith_core.specs.Piece.{s_index}
 use Rattle.smith_core.proofs.Piece.{s_index_fits}
+use Rattle.smith_core.proofs.Sizes.{measuring}
+use Rattle.smith_core.proofs.Steps.{writing}
 
 -- `s_index_fits`, for `grind`
 pub s_index_is : (n : ℕ) → n < 2 ^ 32 → s_index n ≡ Some (signed (pos n))
 s_index_is n h = s_index_fits n h
 
-pub ruleset vals = (s_index_is)
+-- the steps of writers and of length calls
+pub ruleset encoding = (writing, measuring, s_index_is)
