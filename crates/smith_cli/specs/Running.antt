@@ -1,12 +1,13 @@
 -- What a run takes from its reader, and what it gives to its writer. `Some` bytes are what a reader has left, or a writer holds; `None` tells nothing.
-use Rattle.std.specs.Prelude.{◌≢◌, ℕ, ◌≤◌, List, length, ⊤, Option}
+use Rattle.std.specs.Prelude.{◌≢◌, ℕ, ◌≡◌, ◌+◌, ◌≤◌, List, length, ⊤, Option, Result, Ok, Err}
 use Rattle.std.specs.Io.KnownBytes.{Appends, Consumes, IsAtEnd}
 use Rattle.smith_input.specs.Reading.{IsTail}
 use Rattle.smith_input.specs.declared.error.Error.TheVariants.{OutOfMemory}
 use Rattle.smith_component.specs.declared.Config.{Config}
-use Rattle.smith_component.specs.declared.component.Component.{Component}
-use Rattle.smith_component.specs.Generates.{Generates, RunsTo, IsGenerateRefusal}
-use Rattle.smith_component.specs.Shown.{shown}
+use Rattle.smith_component.specs.Tree.{Tree}
+use Rattle.smith_component.specs.Generates.{Generates}
+use Rattle.smith_component.specs.Turn.{RunsTo}
+use Rattle.smith_component.specs.Refusals.{IsGenerateRefusal}
 use Rattle.smith_cli.specs.declared.run.RunError.{RunError}
 use Rattle.smith_cli.specs.declared.run.RunError.TheVariants.{Refused, ReadFault, InputTooLong, WriteFault}
 use Rattle.smith_cli.specs.Page.{page}
@@ -21,14 +22,20 @@ pub record GivesAll (before after : Option (List ℕ)) (input : List ℕ) : Type
   pub ended : IsAtEnd after
   pub within : length input ≤ longest_input
 
+-- The reader gave one byte more than an input may have.
+pub record GivesTooMuch (before after : Option (List ℕ)) : Type 0 where
+  pub taken : List ℕ
+  pub given : Consumes before after taken
+  pub past : length taken ≡ longest_input + 1
+
 -- The bytes of the component that a run of turns makes of the input, and how many bytes it leaves, are written as a page.
 pub record WritesPage (config : Config) (input : List ℕ) (before after : Option (List ℕ)) : Type 0 where
-  pub component : Component
+  pub component : Tree
   pub bytes : List ℕ
   pub generated : Generates config component bytes
   pub left : List ℕ
   pub is_left : IsTail left input
-  pub run : RunsTo config input (shown component) left
+  pub run : RunsTo config input component left
   pub written : Appends before after (page bytes (length left))
 
 -- It comes only once the whole input is read.
@@ -51,3 +58,8 @@ status_of (Refused error) = 1
 status_of ReadFault = 2
 status_of InputTooLong = 2
 status_of WriteFault = 2
+
+-- the same of a whole run: 0 where it did not give up
+abbrev pub status_of_answer : {A : Type 0} → Result A RunError → ℕ
+status_of_answer (Ok _) = 0
+status_of_answer (Err error) = status_of error

@@ -1,10 +1,20 @@
 //! From a reader of a fuzzer's bytes to the page of a component.
 
-ghost use Rattle.std.specs.Prelude.{◌≡◌, ◌≢◌, ℕ, ◌+◌, ◌<◌, ◌≤◌, ◌⊎◌, List, Option, length, IfOk, OnOk, IfErr, OnErr, IfSome, IsErrOf, vec_len};
+ghost use Rattle.std.specs.Prelude.{◌≡◌, ◌≢◌, ℕ, ◌+◌, ◌<◌, ◌≤◌, ◌⊎◌, List, Option, length, IfOk, OnOk, IfErr, OnErr, IsErrOf, vec_len};
 ghost use Rattle.std.specs.Io.KnownBytes.{Appends, Consumes, IsAtEnd};
 ghost use Rattle.smith_input.specs.declared.error.Error.TheVariants.{OutOfMemory};
+ghost use Rattle.smith_core.specs.Limits.{IsConsistent};
 ghost use Rattle.smith_cli.specs.Page.{page};
-ghost use Rattle.smith_cli.specs.Running.{ComesAfterReading, GivesAll, IsRefusedOn, WritesPage, longest_input, status_of};
+ghost use Rattle.smith_cli.specs.Running.{
+  ComesAfterReading,
+  GivesAll,
+  GivesTooMuch,
+  IsRefusedOn,
+  WritesPage,
+  longest_input,
+  status_of,
+  status_of_answer,
+};
 
 use crate::page;
 use smith_component::{Config, Error, Unstructured, generate};
@@ -81,6 +91,7 @@ fn read_some<R: Read>(
         → Consumes before (R.remaining reader.old) input.old.items
         → Consumes before (R.remaining reader.new) input.new.items) }
     ensures grows { IfOk result (λ count. vec_len input.new ≡ vec_len input.old + count) }
+    ensures bound { OnOk result (vec_len input.new ≤ longest_input + 1) }
     ensures end { IfOk result (λ count. count ≡ 0
         → (input.new.items ≡ input.old.items) × IsAtEnd (R.remaining reader.new)) }
     ensures fault { IfErr result (λ e. (e ≡ RunError.Refused OutOfMemory) ⊎ (e ≡ RunError.ReadFault)) }
@@ -101,7 +112,7 @@ fn read_input<R: Read>(alloc: Global, reader: &mut R) -> Result<Vec<u8>, RunErro
     ensures fault { IfErr result (λ e.
         (e ≡ RunError.Refused OutOfMemory) ⊎ (e ≡ RunError.ReadFault) ⊎ (e ≡ RunError.InputTooLong)) }
     ensures too_long { IsErrOf result RunError.InputTooLong
-        → IfSome (R.remaining reader.old) (λ input. longest_input < length input) }
+        → GivesTooMuch (R.remaining reader.old) (R.remaining reader.new) }
 {
     let mut chunk = [0u8; CHUNK];
     let mut input = Vec::new(alloc);
@@ -139,16 +150,32 @@ pub fn run<R: Read, W: Write>(
     ensures written { OnOk result ((input : List ℕ)
         × GivesAll (R.remaining reader.old) (R.remaining reader.new) input
         × WritesPage config input (W.contents writer.old) (W.contents writer.new)) }
+    ensures accepts { OnOk result (IsConsistent config) }
     ensures whole { IfErr result (λ e. ComesAfterReading e → (input : List ℕ)
         × GivesAll (R.remaining reader.old) (R.remaining reader.new) input
         × IsRefusedOn config input e) }
     ensures unwritten { IfErr result (λ e. e ≢ RunError.WriteFault → writer.new ≡ writer.old) }
     ensures too_long { IsErrOf result RunError.InputTooLong
-        → IfSome (R.remaining reader.old) (λ input. longest_input < length input) }
+        → GivesTooMuch (R.remaining reader.old) (R.remaining reader.new) }
 {
     let input = read_input(alloc, reader)?;
     let mut unstructured = Unstructured::new(&input);
     let generated = generate(alloc, config, &mut unstructured)?;
     let text = page::page(alloc, &generated.bytes, unstructured.left().len())?;
     write_page(writer, &text)
+}
+
+/// Tells how a run ended: where it gave up, the name of the refusal or the fault goes to `errors` as a line of its own.
+/// The answer is the status that the program ends with, 0 where the page is written. A failed write of the name is
+/// ignored, since the status tells enough.
+pub fn report<W: Write>(errors: &mut W, answer: Result<(), RunError>) -> u8
+    ensures { result ≡ status_of_answer answer }
+{
+    match answer {
+        Ok(()) => 0,
+        Err(error) => {
+            let _ = writeln!(errors, "{error}");
+            error.status()
+        }
+    }
 }

@@ -2,7 +2,7 @@
 
 mod doubles;
 
-use crate::run::{LONGEST_INPUT, RunError, run};
+use crate::run::{LONGEST_INPUT, RunError, report, run};
 use doubles::{Endless, Pieces, Sheet};
 use smith_component::{Config, Error};
 use std::alloc::{AllocError, Global};
@@ -137,10 +137,40 @@ fn each_error_has_its_line_and_its_status(rt: HostRuntime) -> Result<(), Fail> {
         (RunError::InputTooLong, "InputTooLong", 2),
         (RunError::WriteFault, "WriteFault", 2),
     ];
-    for (error, line, status) in &lines {
-        let shown = format!(in rt.alloc(); "{error}")?;
-        assert_eq!(rt; shown.as_str(), *line);
-        assert_eq!(rt; error.status(), *status);
+    for (error, line, status) in lines {
+        let mut errors = Vec::new(rt.alloc());
+        assert_eq!(rt; report(&mut errors, Err(error)), status, "{line}");
+        assert_eq!(rt;
+            errors.as_slice(),
+            format!(in rt.alloc(); "{line}\n")?.as_bytes()
+        );
+    }
+    let mut errors = Vec::new(rt.alloc());
+    assert_eq!(rt; report(&mut errors, Ok(())), 0);
+    assert_eq!(rt; errors.len(), 0);
+    Ok(())
+}
+
+#[test]
+fn a_failed_line_leaves_the_status(rt: HostRuntime) -> Result<(), Fail> {
+    let mut errors = Sheet::new(rt.alloc(), 4, 1);
+    assert_eq!(rt; report(&mut errors, Err(RunError::ReadFault)), 2);
+    Ok(())
+}
+
+#[test]
+fn limits_that_do_not_fit_together_are_refused(rt: HostRuntime) -> Result<(), Fail> {
+    let config = Config {
+        min_types: 11,
+        max_types: 10,
+        ..Config::default()
+    };
+    for input in [&[] as &[u8], DEFINED_TYPE] {
+        let mut reader = input;
+        let mut text = Vec::new(rt.alloc());
+        let answer = run(rt.alloc(), &mut reader, &mut text, config);
+        assert_eq!(rt; answer, Err(RunError::Refused(Error::InconsistentLimits)));
+        assert_eq!(rt; text.len(), 0);
     }
     Ok(())
 }

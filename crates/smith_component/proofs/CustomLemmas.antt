@@ -7,7 +7,8 @@ use Rattle.smith_input.specs.Texts.{ReadsText, script_text, script_bytes}
 use Rattle.smith_input.proofs.ReadingLemmas.{tail_trans}
 use Rattle.smith_input.proofs.TextsLemmas.{text_read, text_unique, text_tail, bytes_read, bytes_unique, bytes_tail}
 use Rattle.smith_component.specs.Tree.{custom}
-use Rattle.smith_component.specs.Turn.{Open, Next, ReadsCustom, with_part}
+use Rattle.smith_component.specs.Open.{Open}
+use Rattle.smith_component.specs.Turn.{Next, ReadsCustom, with_part}
 
 pub custom_short : (b name contents rest : List ℕ) → ReadsCustom b name contents rest → length name ≤ 1000
 custom_short b name contents rest (mid, t, bs) =

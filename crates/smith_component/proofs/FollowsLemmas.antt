@@ -1,36 +1,39 @@
 -- What is done follows a script.
-use Rattle.std.proofs.Common.{◌≡◌, ℕ, zero, suc, ◌+◌, ◌-◌, ◌<◌, ◌≤◌, ◌^◌, Bool, true, false, List, [], ◌∷◌, ◌++◌, length, arith, refl, sym, ap, ◌∙◌, subst, append_assoc, nat_lt, length-append}
+use Rattle.std.proofs.Common.{◌≡◌, ℕ, zero, suc, ◌+◌, ◌-◌, ◌≤◌, ◌^◌, Bool, false, List, [], ◌∷◌, ◌++◌, length, arith, refl, sym, ap, ◌∙◌, subst}
 use Rattle.std.specs.List.{AllByRecursion}
-use Rattle.std.specs.Prelude.{Some, slice_get, if◌then◌else◌}
-use Rattle.std.proofs.lemmas.Bool.Decides.{nat_tests}
+use Rattle.smith_input.specs.Choices.{ReadsAmong}
+use Rattle.smith_input.specs.Loops.{script_end}
 use Rattle.smith_input.specs.Reading.{More}
-use Rattle.smith_input.proofs.ReadingLemmas.{reads_unique, more_unique, more_zero, more_one, more_full}
+use Rattle.smith_input.proofs.Choices.{among_same}
+use Rattle.smith_input.proofs.Loops.{end_read}
+use Rattle.smith_input.proofs.ReadingLemmas.{more_unique}
 use Rattle.smith_core.specs.declared.config.Config.{Config}
 use Rattle.smith_types.specs.Entries.{Entry, ImportEntry}
-use Rattle.smith_types.specs.Made.{Made}
 use Rattle.smith_types.specs.Scope.{Scope, with_type}
-use Rattle.smith_input.specs.Loops.{script_end}
-use Rattle.smith_types.specs.Script.{script_type, Lasts}
+use Rattle.smith_types.specs.Script.{Lasts}
 use Rattle.smith_types.specs.WellFormed.{FormedTypes}
-use Rattle.smith_types.proofs.Made.{made_same}
-use Rattle.smith_types.proofs.Script.{type_read}
-use Rattle.smith_component.specs.Scopes.{scopes_in}
-use Rattle.smith_component.specs.Script.{script_types, script, Within}
-use Rattle.smith_component.specs.Scripted.{EmptyScript, Follows, Scripted, Scripts}
-use Rattle.smith_component.specs.Tree.{Tree, Canon, Part, types, types_of}
-use Rattle.smith_component.specs.Turn.{Open, Next, building, answered, root, Chooses, items, TypesRead, with_part}
-use Rattle.smith_component.specs.WellFormed.{scope_of}
+use Rattle.smith_component.specs.Limits.{OwnLimits}
+use Rattle.smith_component.specs.Open.{Open, root, items, scopes_in}
+use Rattle.smith_component.specs.Script.{item_of, script_part, script, IsPlanPart, Within}
+use Rattle.smith_component.specs.Scripted.{AddsPart, Follows, Scripted, Scripts}
+use Rattle.smith_component.specs.Tree.{Tree, Canon, Part, custom, core_module, core_types, component, types, canons, imports, add, own, names_in, types_in, types_of, core_types_of, imports_in, canons_in}
+use Rattle.smith_component.specs.Turn.{Next, building, answered, ReadsCustom, ReadsTypes, with_part}
+use Rattle.smith_component.specs.WellFormed.{FormedPart, scope_of}
+use Rattle.smith_component.proofs.CustomLemmas.{custom_follows}
+use Rattle.smith_component.proofs.Grows.{all_back, own-add, length-own-add}
 use Rattle.smith_component.proofs.ReachLemmas.{reach}
+use Rattle.smith_component.proofs.ReadLemmas.{types_same, types_read}
+use Rattle.smith_component.proofs.SoundLemmas.{Short}
 use Rattle.smith_component.specs.declared.item.Item.{Item}
-use Rattle.smith_component.specs.declared.item.Item.TheVariants.{Types}
+use Rattle.smith_component.specs.declared.item.Item.TheVariants.{Finish, Custom, CoreTypes, Types, Imports, Canonical, Module, Component}
 
 -- There are no imports and canonical functions so far.
 
-pub no_imports : (xs : List ImportEntry) → length xs ≡ 0
+pub no_imports : (xs : List ImportEntry) → xs ≡ []
 no_imports [] = refl
 no_imports (x ∷ xs) = elim x [ ]
 
-pub no_canons : (xs : List Canon) → length xs ≡ 0
+pub no_canons : (xs : List Canon) → xs ≡ []
 no_canons [] = refl
 no_canons (x ∷ xs) = elim x [ ]
 
@@ -38,83 +41,107 @@ no_canons (x ∷ xs) = elim x [ ]
 pub less_none : (max count : ℕ) (b : List ℕ) (answer : Bool) (rest : List ℕ) → count ≡ 0 → More 0 0 max b answer rest → More 0 0 (max - count) b answer rest
 less_none max count b answer rest none m = let e : max ≡ max - count = omega arith in subst (λ n. More 0 0 n b answer rest) e m
 
--- What a choice is, where the bytes are known.
-pub chooses_same : (config : Config) (stack : Open) (left : List ℕ) (i j : Item) (after behind : List ℕ) → Chooses config stack left i after → Chooses config stack left j behind → (i ≡ j) × (after ≡ behind)
-chooses_same config stack left i j after behind c d =
-    let r = reads_unique c.reads d.reads in
-    let e : Some i ≡ Some j = sym c.named ∙ ap (slice_get (items config stack left)) r.0 ∙ d.named in
-    (cc, r.1)
-
 -- What a script wants of the item that was chosen.
-pub wanted : (config : Config) (stack : Open) (left : List ℕ) (item : Item) (after : List ℕ) (next : Next) (rest : List ℕ) → Chooses config stack left item after → Scripted config stack left next rest → Follows config item stack after next rest
+pub wanted : (config : Config) (stack : Open) (left : List ℕ) (item : Item) (after : List ℕ) (next : Next) (rest : List ℕ) → ReadsAmong (items config stack left) left item after → Scripted config stack left next rest → Follows config item stack after next rest
 wanted config stack left item after next rest c s =
-    let e = chooses_same config stack left item s.item after s.after c s.chooses in
+    let e = among_same c s.chooses in
     let P : Item → Type 0 = λ i. Follows config i stack after next rest in
     let Q : List ℕ → Type 0 = λ a. Follows config s.item stack a next rest in
-    subst P (sym e.0) (subst Q (sym e.1) s.follows)
+    subst P (sym e.0) (subst Q (sym e.1) s.does)
 
--- the end of a loop that has no minimum
-end_cases : (done max : ℕ) (rest : List ℕ) (b : Bool) → nat_lt done max ≡ b → More done 0 max ((if b then 0 ∷ [] else []) ++ rest) false rest
-end_cases done max rest true e = more_zero rest (let z : done < max = grind (arith, nat_tests) in z) (omega arith)
-end_cases done max rest false e = more_full rest (let z : max ≤ done = grind (arith, nat_tests) in z)
+-- a part that an item adds
+abbrev IsOf : Item → Part → Type 0
+IsOf Finish p = ⊥
+IsOf Custom p = (name contents : List ℕ) × (p ≡ custom name contents)
+IsOf CoreTypes p = (ts : List _) × (p ≡ core_types ts)
+IsOf Types p = (ts : List Entry) × (p ≡ types ts)
+IsOf Imports p = p ≡ imports []
+IsOf Canonical p = p ≡ canons []
+IsOf Module p = (text : List ℕ) × (p ≡ core_module text)
+IsOf Component p = (t : Tree) × (p ≡ component t)
 
-pub end_read : (done max : ℕ) (rest : List ℕ) → More done 0 max (script_end done max ++ rest) false rest
-end_read done max rest = end_cases done max rest (nat_lt done max) refl
+is_of : (p : Part) → IsOf (item_of p) p
+is_of (custom name contents) = (name, contents, refl)
+is_of (core_module text) = (text, refl)
+is_of (core_types ts) = (ts, refl)
+is_of (component t) = (t, refl)
+is_of (types ts) = (ts, refl)
+is_of (canons fs) = ap canons (no_canons fs)
+is_of (imports is) = ap imports (no_imports is)
+
+-- What a script says of the part that an item adds, where it is known which part that is.
+pub record Says (config : Config) (stack : Open) (p : Part) (b : List ℕ) (next : Next) (rest : List ℕ) : Type 0 where
+  pub planned : IsPlanPart config p
+  pub formed : FormedPart p (scopes_in stack.outer) stack.inner
+  pub limits : OwnLimits config (add stack.inner p)
+  pub begins : b ≡ script_part p config stack.outer stack.inner ++ rest
+  pub leads : next ≡ with_part stack p
+
+says : {config : Config} {item : Item} {stack : Open} {b : List ℕ} {next : Next} {rest : List ℕ} → (a : AddsPart config item stack b next rest) → (p : Part) → a.part ≡ p → Says config stack p b next rest
+says {config} {item} {stack} {b} {next} {rest} a p e =
+    subst (λ q. Says config stack q b next rest) e (record { planned = a.planned; formed = a.formed; limits = a.limits; begins = a.begins; leads = a.leads })
+
+added_part : {config : Config} {item : Item} {stack : Open} {b : List ℕ} {next : Next} {rest : List ℕ} → (a : AddsPart config item stack b next rest) → IsOf item a.part
+added_part a = subst (λ i. IsOf i a.part) a.named (is_of a.part)
 
 -- A section without entries leaves what its script leaves.
-pub empty_follows : (max : ℕ) (p : Part) (stack : Open) (b : List ℕ) (answer : Bool) (r : List ℕ) (next : Next) (rest : List ℕ) → More 0 0 max b answer r → EmptyScript max p stack b next rest → (with_part stack p ≡ next) × (r ≡ rest)
-empty_follows max p stack b answer r next rest m (e, n) =
+empty_follows : (max : ℕ) (p : Part) (stack : Open) (b : List ℕ) (answer : Bool) (r : List ℕ) (next : Next) (rest : List ℕ) → More 0 0 max b answer r → b ≡ script_end 0 max ++ rest → next ≡ with_part stack p → (with_part stack p ≡ next) × (r ≡ rest)
+empty_follows max p stack b answer r next rest m e n =
     let P : List ℕ → Type 0 = λ z. More 0 0 max z answer r in
-    (sym n, (more_unique (subst P e m) (end_read 0 max rest)).1)
+    (sym n, (more_unique (subst P e m) (end_read 0 max 0 rest (omega arith) (omega arith))).1)
 
--- Types that are read from the bytes are decided.
-types_same : (xs ys : List Entry) (config : Config) (outer : List Scope) (max : ℕ) (own : Scope) (done : ℕ) (b r s : List ℕ) → TypesRead config outer max own done b xs r → TypesRead config outer max own done b ys s → (xs ≡ ys) × (r ≡ s)
-types_same [] [] config outer max own done b r s x y = (refl, (more_unique x y).1)
-types_same [] (y ∷ ys) config outer max own done b r s x (mid, more, after, left, made, rest) = absurd (let z : false ≡ true = (more_unique x more).0 in cc)
-types_same (x ∷ xs) [] config outer max own done b r s (mid, more, after, left, made, rest) y = absurd (let z : true ≡ false = (more_unique more y).0 in cc)
-types_same (x ∷ xs) (y ∷ ys) config outer max own done b r s (mid, more, after, left, made, rest) (low, again, behind, held, other, others) =
-    let a = (more_unique more again).1 in
-    let P : List ℕ → Type 0 = λ z. Made own outer z config.max_type_size x after left in
-    let m = made_same own outer low config.max_type_size x y after behind left held (subst P a made) other in
-    let Q : List ℕ → Type 0 = λ z. TypesRead config outer max (with_type own x) (done + 1) z xs r in
-    let R : Entry → Type 0 = λ z. TypesRead config outer max (with_type own z) (done + 1) behind xs r in
-    let t = types_same xs ys config outer max (with_type own y) (done + 1) behind r s (subst R m.value (subst Q m.rest rest)) others in
-    (λ i. m.value i ∷ t.0 i, t.1)
+module _ (config : Config) (stack : Open) (b : List ℕ) (r : List ℕ) (next : Next) (rest : List ℕ) where
+  pub core_types_follow : {answer : Bool} → More 0 0 (config.max_types - length (core_types_of stack.inner)) b answer r → Follows config CoreTypes stack b next rest → (with_part stack (core_types []) ≡ next) × (r ≡ rest)
+  core_types_follow m a =
+      let p = added_part a in
+      let q = says a (core_types p.0) p.1 in
+      let s = says a (core_types []) (p.1 ∙ ap core_types q.planned) in
+      empty_follows _ (core_types []) stack b _ r next rest m s.begins s.leads
 
--- The script of types is read as those.
-types_read : (xs : List Entry) (config : Config) (outer : List Scope) (max : ℕ) (own : Scope) (done : ℕ) (rest : List ℕ) → FormedTypes xs own outer → AllByRecursion (Lasts config.max_type_size) xs → done + length xs ≤ max → length own.types + length xs ≤ 2 ^ 64
-    → TypesRead config outer max own done (script_types config max done own xs ++ rest) xs rest
-types_read [] config outer max own done rest f l few small = end_read done max rest
-types_read (x ∷ xs) config outer max own done rest f l few small =
-    let said : List ℕ = script_type config.max_type_size own x in
-    let later : List ℕ = script_types config max (done + 1) (with_type own x) xs in
-    let m = type_read own (omega arith) outer config.max_type_size x (later ++ rest) f.0 l.0 in
-    let n = length-append own.types (x ∷ []) in
-    let P : List ℕ → Type 0 = λ z. TypesRead config outer max own done (1 ∷ z) (x ∷ xs) rest in
-    subst P (sym (append_assoc said later rest)) (
-      said ++ (later ++ rest),
-      more_one (said ++ (later ++ rest)) (omega arith) (omega arith),
-      later ++ rest,
-      m.0,
-      m.1,
-      types_read xs config outer max (with_type own x) (done + 1) rest f.1 l.1 (omega arith) (omega (arith, n)),
-    )
+  pub imports_follow : {answer : Bool} → More 0 0 (config.max_imports - length (own imports_in stack.inner)) b answer r → Follows config Imports stack b next rest → (with_part stack (imports []) ≡ next) × (r ≡ rest)
+  imports_follow m a =
+      let s = says a (imports []) (added_part a) in
+      empty_follows _ (imports []) stack b _ r next rest m s.begins s.leads
 
--- Types that were read are those of the script.
-pub types_follow : (config : Config) (stack : Open) (b : List ℕ) (xs : List Entry) (r : List ℕ) (next : Next) (rest : List ℕ) → config.max_types ≤ 2 ^ 64 → TypesRead config (scopes_in stack.outer) (config.max_types - length (types_of stack.inner)) (scope_of stack.inner) 0 b xs r → Follows config Types stack b next rest
-    → (with_part stack (types xs) ≡ next) × (r ≡ rest)
-types_follow config stack b xs r next rest small t (ys, few, f, l, e, n) =
-    let room : ℕ = config.max_types - length (types_of stack.inner) in
-    let T : List ℕ → Type 0 = λ z. TypesRead config (scopes_in stack.outer) room (scope_of stack.inner) 0 z ys rest in
-    let s = types_same xs ys config (scopes_in stack.outer) room (scope_of stack.inner) 0 b r rest t (subst T (sym e) (types_read ys config (scopes_in stack.outer) room (scope_of stack.inner) 0 rest f l (omega (arith, few)) (omega (arith, few)))) in
-    (ap (λ z. with_part stack (types z)) s.0 ∙ sym n, s.1)
+  pub canons_follow : {answer : Bool} → More 0 0 (config.max_funcs - length (own canons_in stack.inner)) b answer r → Follows config Canonical stack b next rest → (with_part stack (canons []) ≡ next) × (r ≡ rest)
+  canons_follow m a =
+      let s = says a (canons []) (added_part a) in
+      empty_follows _ (canons []) stack b _ r next rest m s.begins s.leads
+
+  -- A custom section that was read is that of the script.
+  pub custom_said : {name contents : List ℕ} → ReadsCustom b name contents r → Follows config Custom stack b next rest → (with_part stack (custom name contents) ≡ next) × (r ≡ rest)
+  custom_said {name} {contents} read a =
+      let p = added_part a in
+      let s = says a (custom p.0 p.1) p.2 in
+      let short : Short (p.0 ∷ []) = all_back _ (own names_in stack.inner) (p.0 ∷ []) (subst Short (own-add names_in stack.inner (custom p.0 p.1)) s.limits.names) in
+      custom_follows stack b name contents r next rest read (p.0, p.1, short.0, s.planned, s.begins, s.leads)
+
+  -- Types that were read are those of the script.
+  pub types_follow : {xs : List Entry} {scope : Scope} → config.max_types ≤ 2 ^ 64 → ReadsTypes config (scopes_in stack.outer) (config.max_types - length (types_of stack.inner)) (scope_of stack.inner) b xs r scope → Follows config Types stack b next rest
+      → (with_part stack (types xs) ≡ next) × (r ≡ rest)
+  types_follow {xs} {scope} small t a =
+      let p = added_part a in
+      let ys : List Entry = p.0 in
+      let s = says a (types ys) p.1 in
+      let few : length (types_of stack.inner) + length ys ≤ config.max_types = omega (arith, s.limits.types, length-own-add types_in stack.inner (types ys)) in
+      let room : ℕ = config.max_types - length (types_of stack.inner) in
+      let T : List ℕ → Type 0 = λ z. ReadsTypes config (scopes_in stack.outer) room (scope_of stack.inner) z xs r scope in
+      let d = types_same config (scopes_in stack.outer) (subst T s.begins t) (types_read config (scopes_in stack.outer) ys room (scope_of stack.inner) rest s.formed s.planned (omega (arith, few)) (omega (arith, few))) in
+      (ap (λ z. with_part stack (types z)) d.0 ∙ sym s.leads, d.1)
+
+-- A core module is in no script.
+pub no_module : (config : Config) (stack : Open) (b : List ℕ) (next : Next) (rest : List ℕ) → Follows config Module stack b next rest → ⊥
+no_module config stack b next rest a =
+    let p = added_part a in
+    let s = says a (core_module p.0) p.1 in
+    s.planned
 
 -- Each scripted run from the start passes through here.
-pub record Passes (config : Config) (input : List ℕ) (stack : Open) (left : List ℕ) : Type 0 where
+pub record Passed (config : Config) (input : List ℕ) (stack : Open) (left : List ℕ) : Type 0 where
   pub here : (c : Tree) (r : List ℕ) (k : ℕ) → Scripts config (building root) input (answered c) r k → (j : ℕ) × Scripts config (building stack) left (answered c) r j
 
-pub passes_start : (config : Config) (input : List ℕ) → Passes config input root input
-passes_start config input = record { here = λ c r k s. (k, s) }
+pub passed_start : (config : Config) (input : List ℕ) → Passed config input root input
+passed_start config input = record { here = λ c r k s. (k, s) }
 
 next_run : (config : Config) (stack : Open) (left : List ℕ) (now : Next) (left2 : List ℕ) (c : Tree) (r : List ℕ) (j : ℕ) → ((n : Next) (x : List ℕ) → Scripted config stack left n x → (now ≡ n) × (left2 ≡ x)) → Scripts config (building stack) left (answered c) r j
     → (i : ℕ) × Scripts config now left2 (answered c) r i
@@ -125,8 +152,8 @@ next_run config stack left now left2 c r (suc j) f (mid, left1, one, more) =
     let Q : List ℕ → Type 0 = λ b. Scripts config mid b (answered c) r j in
     (j, subst P (sym e.0) (subst Q (sym e.1) more))
 
-pub passes_step : (config same : Config) (input : List ℕ) (stack next : Open) (now : Next) (left left2 : List ℕ) → same ≡ config → now ≡ building next → Passes config input stack left → ((n : Next) (x : List ℕ) → Scripted same stack left n x → (now ≡ n) × (left2 ≡ x)) → Passes config input next left2
-passes_step config same input stack next now left left2 e n p f = record {
+pub passed_step : (config same : Config) (input : List ℕ) (stack next : Open) (now : Next) (left left2 : List ℕ) → same ≡ config → now ≡ building next → Passed config input stack left → ((n : Next) (x : List ℕ) → Scripted same stack left n x → (now ≡ n) × (left2 ≡ x)) → Passed config input next left2
+passed_step config same input stack next now left left2 e n p f = record {
   here = λ c r k s.
       let h = p.here c r k s in
       let F : Config → Type 0 = λ z. (n : Next) (x : List ℕ) → Scripted z stack left n x → (now ≡ n) × (left2 ≡ x) in
@@ -139,9 +166,9 @@ answer_is : (config : Config) (a c : Tree) (b r : List ℕ) (k : ℕ) → Script
 answer_is config a c b r zero s = (let e : answered c ≡ answered a = s.0 in cc, sym s.1)
 answer_is config a c b r (suc k) s = absurd s
 
-pub passes_end : (config same : Config) (input : List ℕ) (stack : Open) (a : Tree) (now : Next) (left left2 : List ℕ) (plan : Tree) (rest : List ℕ) → same ≡ config → now ≡ answered a → Passes config input stack left → ((n : Next) (x : List ℕ) → Scripted same stack left n x → (now ≡ n) × (left2 ≡ x))
+pub passed_end : (config same : Config) (input : List ℕ) (stack : Open) (a : Tree) (now : Next) (left left2 : List ℕ) (plan : Tree) (rest : List ℕ) → same ≡ config → now ≡ answered a → Passed config input stack left → ((n : Next) (x : List ℕ) → Scripted same stack left n x → (now ≡ n) × (left2 ≡ x))
     → Within config plan → input ≡ script config plan ++ rest → (a ≡ plan) × (left2 ≡ rest)
-passes_end config same input stack a now left left2 plan rest e n p f w i =
+passed_end config same input stack a now left left2 plan rest e n p f w i =
     let r = reach config plan rest w in
     let S : List ℕ → Type 0 = λ z. Scripts config (building root) z (answered plan) rest r.0 in
     let h = p.here plan rest r.0 (subst S (sym i) r.1) in

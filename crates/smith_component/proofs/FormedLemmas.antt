@@ -2,8 +2,7 @@
 use Rattle.std.proofs.Common.{List, [], ◌∷◌, sym, subst}
 use Rattle.smith_types.specs.Scope.{Scope}
 use Rattle.smith_component.specs.Tree.{Tree, ends, first, Part, component, add, join}
-use Rattle.smith_component.specs.Turn.{tree_so_far}
-use Rattle.smith_component.specs.Scopes.{scopes_from}
+use Rattle.smith_component.specs.Open.{tree_so_far, scopes_from}
 use Rattle.smith_component.specs.WellFormed.{Formed, FormedPart, scope_of}
 use Rattle.smith_component.proofs.Grows.{join-ends, join-add}
 

@@ -2,7 +2,7 @@
 use Rattle.std.proofs.Common.{◌≡◌, ◌+◌, ◌≤◌, max, List, [], ◌∷◌, ◌++◌, length, arith, ap, sym, ◌∙◌, refl, subst, length-append, append_assoc, append-nil}
 use Rattle.std.specs.List.{AllByRecursion}
 use Rattle.smith_component.specs.Tree.{Tree, ends, first, Part, custom, core_module, core_types, component, types, canons, imports, add, join, own, anywhere, anywhere_in, inside, components_in, depth, depth_in}
-use Rattle.smith_component.specs.Turn.{tree_so_far}
+use Rattle.smith_component.specs.Open.{tree_so_far}
 
 -- What is open is closed.
 pub tree_so_far-close : (outer : List Tree) (u t : Tree) → tree_so_far (outer ++ u ∷ []) t ≡ tree_so_far outer (add u (component t))

@@ -1,53 +1,57 @@
 -- The script of a plan is read as that plan.
-use Rattle.std.proofs.Common.{◌≡◌, ℕ, zero, suc, ◌+◌, ◌-◌, ◌<◌, ◌≤◌, List, [], ◌∷◌, ◌++◌, length, arith, ap, sym, subst, ◌∙◌, refl, true, false, Bool, inl, inr, append_assoc}
+use Rattle.std.proofs.Common.{◌≡◌, ℕ, zero, suc, ◌+◌, ◌<◌, ◌≤◌, ◌^◌, List, [], ◌∷◌, ◌++◌, length, arith, ap, sym, subst, ◌∙◌, refl, true, false, Bool, inl, inr, append_assoc}
+use Rattle.std.specs.Bool.{Decides}
 use Rattle.std.specs.Prelude.{slice_get, Some}
 use Rattle.std.proofs.lemmas.Bool.Decides.{nat_tests}
 use Rattle.std.proofs.lemmas.Option.{slice_get_within}
-use Rattle.smith_input.specs.Reading.{Reads, pick}
-use Rattle.smith_input.proofs.Picks.{reads-pick, pick-byte}
+use denote.Enum.Bare.{same_true, true_same}
+use Rattle.smith_input.specs.Choices.{ReadsAmong, rank_of}
+use Rattle.smith_input.specs.Reading.{pick}
+use Rattle.smith_input.proofs.Choices.{rank_found, among_read}
+use Rattle.smith_input.proofs.Picks.{pick-byte}
 use Rattle.smith_core.specs.declared.config.Config.{Config}
-use Rattle.std.specs.List.{AllByRecursion}
-use Rattle.smith_input.specs.Texts.{script_text, script_bytes}
-use Rattle.smith_types.specs.Entries.{Entry}
 use Rattle.smith_types.specs.Scope.{Scope}
-use Rattle.smith_input.specs.Loops.{script_end}
-use Rattle.smith_component.specs.Tree.{Tree, ends, first, Part, custom, core_module, core_types, component, types, canons, imports, add, join, types_of, core_types_of, own, types_in, imports_in, canons_in, inside, names_in}
-use Rattle.smith_component.specs.WellFormed.{Formed, scope_of}
-use Rattle.smith_component.specs.Scopes.{scopes_in}
-use Rattle.smith_component.specs.Turn.{Open, Next, building, answered, Chooses, Closes, more_items, is_module_offered, is_component_offered, tree_so_far, with_part, root}
+use Rattle.smith_component.specs.Tree.{Tree, ends, first, Part, custom, core_module, core_types, component, types, canons, imports, add, join, inside}
+use Rattle.smith_component.specs.WellFormed.{Formed}
 use Rattle.smith_component.specs.Limits.{OwnLimits, Limits}
+use Rattle.smith_component.specs.Open.{Open, root, more_items, items, items_with_input, is_module_offered, is_component_offered, tree_so_far, scopes_in}
+use Rattle.smith_component.specs.Turn.{Next, building, answered, Closes, with_part}
 use Rattle.smith_component.specs.Scripted.{Follows, Scripts}
-use Rattle.smith_component.specs.Script.{item_total, script_from, script_types, script, IsPlan, Within}
+use Rattle.smith_component.specs.Script.{item_of, script_item, script_part, script_from, script, IsPlan, Within}
+use Rattle.smith_component.specs.contracts.item.Item.{the_type}
+use Rattle.smith_component.specs.contracts.item.ItemPartialEq.TheImpl.{ghosts as equal}
 use Rattle.smith_component.specs.declared.item.Item.{Item}
 use Rattle.smith_component.specs.declared.item.Item.TheVariants.{Finish, Custom, CoreTypes, Types, Imports, Canonical, Component}
-use Rattle.smith_component.proofs.Grows.{all_back, all_before, all_inner, depth-outer, depth-so_far, join-add, join-ends, length-own-add, own-add, tree_so_far-close}
+use Rattle.smith_component.proofs.Grows.{all_before, all_inner, depth-outer, depth-so_far, join-add, join-ends, tree_so_far-close}
 use Rattle.smith_component.proofs.SoundLemmas.{own_limits-front, own_limits_swap, length-inside-so_far, length-modules-so_far, scopes_from-snoc}
 use Rattle.smith_component.proofs.TurnLemmas.{items_some, not_empty, last_same}
 
--- The bytes of a choice are read as that choice.
-pub chooses_pick : (config : Config) (outer : List Tree) (inner : Tree) (place : ℕ) (item : Item) (rest : List ℕ)
-    → slice_get (more_items (is_module_offered config (record { outer = outer; inner = inner })) (is_component_offered config (record { outer = outer; inner = inner }))) place ≡ Some item
-    → Chooses config (record { outer = outer; inner = inner }) (pick (item_total config outer inner) place ++ rest) item rest
-chooses_pick config outer inner place item rest e =
+item_Decides : (a b : Item) → Decides (equal.eq a b) (a ≡ b)
+item_Decides a b = (same_true the_type tt a b, true_same the_type a b)
+
+-- The script of an item that is offered is read as that item.
+pub item_read : (config : Config) (outer : List Tree) (inner : Tree) (item : Item) (place : ℕ) (rest : List ℕ)
+    → slice_get (items_with_input config (record { outer = outer; inner = inner })) place ≡ Some item
+    → ReadsAmong (items config (record { outer = outer; inner = inner }) (script_item config outer inner item ++ rest)) (script_item config outer inner item ++ rest) item rest
+item_read config outer inner item place rest e =
     let stack : Open = record { outer = outer; inner = inner } in
-    let n : ℕ = item_total config outer inner in
+    let xs : List Item = items_with_input config stack in
     let some = items_some (is_module_offered config stack) (is_component_offered config stack) in
-    let below : place < n = slice_get_within (more_items (is_module_offered config stack) (is_component_offered config stack)) place item e in
-    let byte : pick n place ≡ place ∷ [] = pick-byte n place (omega (arith, some.0)) (omega (arith, some.1)) in
-    let P : List ℕ → Type 0 = λ b. Chooses config stack (b ++ rest) item rest in
-    let Q : List ℕ → Type 0 = λ b. Reads n (b ++ rest) place rest in
-    subst P (sym byte) (record { place = place; reads = subst Q byte (reads-pick n place rest (omega (arith, some.1)) below); named = e })
+    let at : ℕ = rank_of equal.eq xs item in
+    let below : at < length xs = slice_get_within xs at item (rank_found equal.eq item_Decides xs item place e) in
+    let byte : pick (length xs) at ≡ at ∷ [] = pick-byte (length xs) at (omega (arith, some.0)) (omega (arith, some.1)) in
+    let P : List ℕ → Type 0 = λ b. ReadsAmong (items config stack (b ++ rest)) (b ++ rest) item rest in
+    let Q : List ℕ → Type 0 = λ b. ReadsAmong xs (b ++ rest) item rest in
+    subst P (sym byte) (subst Q byte (among_read equal.eq item_Decides xs item place rest (omega (arith, some.1)) e))
 
 -- what stands at each place
-front_items : (m c : Bool) → (slice_get (more_items m c) 0 ≡ Some Finish) × (slice_get (more_items m c) 2 ≡ Some CoreTypes) × (slice_get (more_items m c) 3 ≡ Some Types) × (slice_get (more_items m c) 4 ≡ Some Imports) × (slice_get (more_items m c) 5 ≡ Some Canonical) × (slice_get (more_items m c) 1 ≡ Some Custom)
-front_items true true = (refl, refl, refl, refl, refl, refl)
-front_items true false = (refl, refl, refl, refl, refl, refl)
-front_items false true = (refl, refl, refl, refl, refl, refl)
-front_items false false = (refl, refl, refl, refl, refl, refl)
+front : (config : Config) (outer : List Tree) (before : Tree) → let xs = items_with_input config (record { outer = outer; inner = before }) in
+    (slice_get xs 0 ≡ Some Finish) × (slice_get xs 1 ≡ Some Custom) × (slice_get xs 2 ≡ Some CoreTypes) × (slice_get xs 3 ≡ Some Types) × (slice_get xs 4 ≡ Some Imports) × (slice_get xs 5 ≡ Some Canonical)
+front config outer before = (refl, refl, refl, refl, refl, refl)
 
-last_item : (m c : Bool) → c ≡ true → slice_get (more_items m c) (length (more_items m c) - 1) ≡ Some Component
-last_item true true e = refl
-last_item false true e = refl
+last_item : (m c : Bool) → c ≡ true → (place : ℕ) × (slice_get (more_items m c) place ≡ Some Component)
+last_item true true e = (7, refl)
+last_item false true e = (6, refl)
 last_item m false e = absurd (cc)
 
 -- What is within the limits is so in front.
@@ -87,12 +91,13 @@ module _ (config : Config) (outer : List Tree) (before : Tree) (next : Next) (le
   abbrev pub Leads : Tree → List ℕ → Type 0
   Leads inner b = (j : ℕ) × Scripts config (building (record { outer = outer; inner = inner })) b next left j
 
-  adds : (p : Part) (place : ℕ) (item : Item) (said later rest : List ℕ)
-      → slice_get (more_items (is_module_offered config (record { outer = outer; inner = before })) (is_component_offered config (record { outer = outer; inner = before }))) place ≡ Some item
-      → Follows config item (record { outer = outer; inner = before }) (said ++ (later ++ rest)) (with_part (record { outer = outer; inner = before }) p) (later ++ rest)
-      → Leads (add before p) (later ++ rest) → Leads before (((pick (item_total config outer before) place ++ said) ++ later) ++ rest)
-  adds p place item said later rest named f m =
-      let choice : List ℕ = pick (item_total config outer before) place in
+  adds : (p : Part) (place : ℕ) (later rest : List ℕ)
+      → slice_get (items_with_input config (record { outer = outer; inner = before })) place ≡ Some (item_of p)
+      → Follows config (item_of p) (record { outer = outer; inner = before }) (script_part p config outer before ++ (later ++ rest)) (with_part (record { outer = outer; inner = before }) p) (later ++ rest)
+      → Leads (add before p) (later ++ rest) → Leads before (((script_item config outer before (item_of p) ++ script_part p config outer before) ++ later) ++ rest)
+  adds p place later rest named f m =
+      let choice : List ℕ = script_item config outer before (item_of p) in
+      let said : List ℕ = script_part p config outer before in
       let now : Next = building (record { outer = outer; inner = before }) in
       let R : List ℕ → Type 0 = λ z. Scripts config now z next left (suc m.0) in
       let whole : ((choice ++ said) ++ later) ++ rest ≡ choice ++ (said ++ (later ++ rest)) = append_assoc (choice ++ said) later rest ∙ append_assoc choice said (later ++ rest) in (
@@ -100,14 +105,10 @@ module _ (config : Config) (outer : List Tree) (before : Tree) (next : Next) (le
         subst R (sym whole) (
           building (record { outer = outer; inner = add before p }),
           later ++ rest,
-          record { item = item; after = said ++ (later ++ rest); chooses = chooses_pick config outer before place item _ named; follows = f },
+          record { item = item_of p; after = said ++ (later ++ rest); chooses = item_read config outer before (item_of p) place _ named; does = f },
           m.1,
         ),
       )
-
--- a name that is short enough
-abbrev Fits : List ℕ → Type 0
-Fits name = length name ≤ 1000
 
 -- what holds behind one part more
 limits_past : (p : Part) (t : Tree) (config : Config) (outer : List Tree) (before : Tree) → Limits config (tree_so_far outer (join before (first p t))) → Limits config (tree_so_far outer (join (add before p) t))
@@ -117,15 +118,9 @@ after_past : (p : Part) (t : Tree) (config : Config) (outer : List Tree) (before
     → ((n : Next) → Closes (record { outer = outer; inner = join before (first p t) }) n → Scripts config n rest next left k) → (n : Next) → Closes (record { outer = outer; inner = join (add before p) t }) n → Scripts config n rest next left k
 after_past p t config outer before next left k rest after n c = after n (subst (λ x. Closes (record { outer = outer; inner = x }) n) (join-add before p t) c)
 
-name_short : (config : Config) (outer : List Tree) (before : Tree) (name contents : List ℕ) → Limits config (tree_so_far outer (add before (custom name contents))) → length name ≤ 1000
-name_short config outer before name contents l =
-    let o = all_inner (OwnLimits config) outer (add before (custom name contents)) l.each in
-    (all_back Fits (own names_in before) (name ∷ []) (subst (AllByRecursion Fits) (own-add names_in before (custom name contents)) o.names)).0
-
-types_fit : (config : Config) (outer : List Tree) (before : Tree) (es : List Entry) → Limits config (tree_so_far outer (add before (types es))) → length (types_of before) + length es ≤ config.max_types
-types_fit config outer before es l =
-    let o = all_inner (OwnLimits config) outer (add before (types es)) l.each in
-    omega (arith, o.types, length-own-add types_in before (types es))
+-- the limits of a component that has one part more
+part_limits : (p : Part) (t : Tree) (config : Config) (outer : List Tree) (before : Tree) → Limits config (tree_so_far outer (join before (first p t))) → OwnLimits config (add before p)
+part_limits p t config outer before l = all_inner (OwnLimits config) outer (add before p) (limits_front t config outer (add before p) (limits_past p t config outer before l)).each
 
 pub reach_from : (t : Tree) (config : Config) (outer : List Tree) (before : Tree) (rest : List ℕ) (next : Next) (left : List ℕ) (k : ℕ) → IsPlan config t → Formed t (scopes_in outer) before → Limits config (tree_so_far outer (join before t))
     → ((n : Next) → Closes (record { outer = outer; inner = join before t }) n → Scripts config n rest next left k) → Leads config outer before next left before (script_from t config outer before ++ rest)
@@ -136,42 +131,41 @@ reach_from ends config outer before rest next left k plan formed l after =
       (
         c.0,
         rest,
-        record { item = Finish; after = rest; chooses = chooses_pick config outer before 0 Finish rest (front_items _ _).0; follows = (refl, c.1) },
+        record { item = Finish; after = rest; chooses = item_read config outer before Finish 0 rest (front config outer before).0; does = (refl, c.1) },
         after c.0 (subst P (sym (join-ends before)) c.1),
       ),
     )
 reach_from (first (custom name contents) t) config outer before rest next left k plan formed l after =
     let p : Part = custom name contents in
-    adds config outer before next left p 1 Custom (script_text 1000 name ++ script_bytes contents) (script_from t config outer (add before p)) rest (front_items _ _).5
-    (name, contents, name_short config outer before name contents (limits_front t config outer (add before p) (limits_past p t config outer before l)), plan.0, refl, refl)
+    adds config outer before next left p 1 (script_from t config outer (add before p)) rest (front config outer before).1
+    (record { part = p; named = refl; planned = plan.0; formed = formed.0; limits = part_limits p t config outer before l; begins = refl; leads = refl })
     (reach_from t config outer (add before p) rest next left k plan.1 formed.1 (limits_past p t config outer before l) (after_past p t config outer before next left k rest after))
-reach_from (first (core_module text) t) config outer before rest next left k plan formed l after = absurd plan.0
-reach_from (first (core_types (x ∷ xs)) t) config outer before rest next left k plan formed l after = absurd (let z : (x ∷ xs) ≡ [] = plan.0 in cc)
-reach_from (first (canons (x ∷ xs)) t) config outer before rest next left k plan formed l after = elim x [ ]
-reach_from (first (imports (x ∷ xs)) t) config outer before rest next left k plan formed l after = elim x [ ]
-reach_from (first (core_types []) t) config outer before rest next left k plan formed l after =
-    let p : Part = core_types [] in
-    adds config outer before next left p 2 CoreTypes (script_end 0 (config.max_types - length (core_types_of before))) (script_from t config outer (add before p)) rest (front_items _ _).1 (refl, refl)
-    (reach_from t config outer (add before p) rest next left k plan.1 formed.1 (limits_past p t config outer before l) (after_past p t config outer before next left k rest after))
-reach_from (first (imports []) t) config outer before rest next left k plan formed l after =
-    let p : Part = imports [] in
-    adds config outer before next left p 4 Imports (script_end 0 (config.max_imports - length (own imports_in before))) (script_from t config outer (add before p)) rest (front_items _ _).3 (refl, refl)
-    (reach_from t config outer (add before p) rest next left k plan.1 formed.1 (limits_past p t config outer before l) (after_past p t config outer before next left k rest after))
-reach_from (first (canons []) t) config outer before rest next left k plan formed l after =
-    let p : Part = canons [] in
-    adds config outer before next left p 5 Canonical (script_end 0 (config.max_funcs - length (own canons_in before))) (script_from t config outer (add before p)) rest (front_items _ _).4 (refl, refl)
+reach_from (first (core_types ts) t) config outer before rest next left k plan formed l after =
+    let p : Part = core_types ts in
+    adds config outer before next left p 2 (script_from t config outer (add before p)) rest (front config outer before).2
+    (record { part = p; named = refl; planned = plan.0; formed = formed.0; limits = part_limits p t config outer before l; begins = refl; leads = refl })
     (reach_from t config outer (add before p) rest next left k plan.1 formed.1 (limits_past p t config outer before l) (after_past p t config outer before next left k rest after))
 reach_from (first (types es) t) config outer before rest next left k plan formed l after =
     let p : Part = types es in
-    adds config outer before next left p 3 Types (script_types config (config.max_types - length (types_of before)) 0 (scope_of before) es) (script_from t config outer (add before p)) rest (front_items _ _).2
-    (es, types_fit config outer before es (limits_front t config outer (add before p) (limits_past p t config outer before l)), formed.0, plan.0, refl, refl)
+    adds config outer before next left p 3 (script_from t config outer (add before p)) rest (front config outer before).3
+    (record { part = p; named = refl; planned = plan.0; formed = formed.0; limits = part_limits p t config outer before l; begins = refl; leads = refl })
     (reach_from t config outer (add before p) rest next left k plan.1 formed.1 (limits_past p t config outer before l) (after_past p t config outer before next left k rest after))
+reach_from (first (imports is) t) config outer before rest next left k plan formed l after =
+    let p : Part = imports is in
+    adds config outer before next left p 4 (script_from t config outer (add before p)) rest (front config outer before).4
+    (record { part = p; named = refl; planned = plan.0; formed = formed.0; limits = part_limits p t config outer before l; begins = refl; leads = refl })
+    (reach_from t config outer (add before p) rest next left k plan.1 formed.1 (limits_past p t config outer before l) (after_past p t config outer before next left k rest after))
+reach_from (first (canons fs) t) config outer before rest next left k plan formed l after =
+    let p : Part = canons fs in
+    adds config outer before next left p 5 (script_from t config outer (add before p)) rest (front config outer before).5
+    (record { part = p; named = refl; planned = plan.0; formed = formed.0; limits = part_limits p t config outer before l; begins = refl; leads = refl })
+    (reach_from t config outer (add before p) rest next left k plan.1 formed.1 (limits_past p t config outer before l) (after_past p t config outer before next left k rest after))
+reach_from (first (core_module text) t) config outer before rest next left k plan formed l after = absurd plan.0
 reach_from (first (component u) t) config outer before rest next left k plan formed l after =
     let p : Part = component u in
-    let n : ℕ = item_total config outer before in
     let st : List ℕ = script_from t config outer (add before p) in
     let su : List ℕ = script_from u config (outer ++ before ∷ []) ends in
-    let choice : List ℕ = pick n (n - 1) in
+    let choice : List ℕ = script_item config outer before Component in
     let m = reach_from t config outer (add before p) rest next left k plan.1 formed.1 (limits_past p t config outer before l) (after_past p t config outer before next left k rest after) in
     let here : Limits config (tree_so_far outer (add before p)) = limits_front t config outer (add before p) (limits_past p t config outer before l) in
     let there : Limits config (tree_so_far (outer ++ before ∷ []) u) = subst (Limits config) (sym (tree_so_far-close outer before u)) here in
@@ -186,6 +180,7 @@ reach_from (first (component u) t) config outer before rest next left k plan for
           subst T (ap (λ z. building (record { outer = z; inner = add before p })) s.0 ∙ ap (λ z. building (record { outer = o; inner = add z p })) s.1 ∙ sym b) m.1
     ] in
     let i = reach_from u config (outer ++ before ∷ []) ends (st ++ rest) next left m.0 plan.0 inner there back in
+    let last = last_item (is_module_offered config (record { outer = outer; inner = before })) (is_component_offered config (record { outer = outer; inner = before })) (offered_from config outer before u here) in
     let now : Next = building (record { outer = outer; inner = before }) in
     let R : List ℕ → Type 0 = λ z. Scripts config now z next left (suc i.0) in
     let whole : ((choice ++ su) ++ st) ++ rest ≡ choice ++ (su ++ (st ++ rest)) = append_assoc (choice ++ su) st rest ∙ append_assoc choice su (st ++ rest) in (
@@ -196,8 +191,8 @@ reach_from (first (component u) t) config outer before rest next left k plan for
         record {
           item = Component;
           after = su ++ (st ++ rest);
-          chooses = chooses_pick config outer before (n - 1) Component _ (last_item _ _ (offered_from config outer before u here));
-          follows = (refl, refl);
+          chooses = item_read config outer before Component last.0 _ last.1;
+          does = (refl, refl);
         },
         i.1,
       ),

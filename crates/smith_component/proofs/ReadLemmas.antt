@@ -1,33 +1,80 @@
--- What a type section reads: well formed types, within their fuel, and a tail of the bytes.
-use Rattle.std.proofs.Common.{◌≡◌, ℕ, ◌+◌, List, [], ◌∷◌, arith, subst}
+-- What a type section reads: well formed types, within their fuel, a tail of the bytes; and what its script says.
+use Rattle.std.proofs.Common.{◌≡◌, ℕ, ◌+◌, ◌≤◌, ◌^◌, List, [], ◌∷◌, ◌++◌, length, arith, refl, sym, ap, ◌∙◌, subst, length-append, append_assoc}
+use Rattle.std.specs.List.{AllByRecursion}
+use Rattle.smith_input.specs.Loops.{Along, Never, after_all, script_loop}
 use Rattle.smith_input.specs.Reading.{IsTail}
-use Rattle.smith_input.proofs.ReadingLemmas.{tail_trans, more_tail}
+use Rattle.smith_input.proofs.Loops.{loop_tail, loop_gives, loop_all, loop_same, loop_read}
 use Rattle.smith_core.specs.declared.config.Config.{Config}
 use Rattle.smith_types.specs.Entries.{Entry}
-use Rattle.smith_types.specs.Scope.{Scope, with_type, own_of, outer_of}
-use Rattle.smith_types.specs.WellFormed.{FormedTypes}
+use Rattle.smith_types.specs.Made.{Made}
+use Rattle.smith_types.specs.Scope.{Scope, with_type, with_types, own_of, outer_of}
+use Rattle.smith_types.specs.Script.{script_type, Lasts}
+use Rattle.smith_types.specs.WellFormed.{FormedEntry, FormedTypes}
 use Rattle.smith_types.proofs.Made.{made_tail, made_formed, made_size}
-use Rattle.smith_component.specs.Sizes.{SmallTypes}
-use Rattle.smith_component.specs.Turn.{TypesRead}
+use Rattle.smith_types.proofs.Made.{made_same}
+use Rattle.smith_types.proofs.Stack.{with_none, with_more}
+use Rattle.smith_types.proofs.Script.{type_read}
+use Rattle.smith_component.specs.Limits.{SmallTypes}
+use Rattle.smith_component.specs.Script.{script_types}
+use Rattle.smith_component.specs.Turn.{ReadsType, ReadsTypes}
 
-pub types_read_formed : (xs : List Entry) (config : Config) (outer : List Scope) (max : ℕ) (own : Scope) (done : ℕ) (b rest : List ℕ) → TypesRead config outer max own done b xs rest → FormedTypes xs own outer
-types_read_formed [] config outer max own done b rest r = tt
-types_read_formed (x ∷ xs) config outer max own done b rest (mid, more, after, left, made, r) =
-    (made_formed own outer mid config.max_type_size x after left made, types_read_formed xs config outer max (with_type own x) (done + 1) after rest r)
+module _ (config : Config) (outer : List Scope) where
+  pub types_read_formed : {max : ℕ} {own next : Scope} {b rest : List ℕ} {xs : List Entry} → ReadsTypes config outer max own b xs rest next → FormedTypes xs own outer
+  types_read_formed {max = max} {own = own} {next = next} {b = b} {rest = rest} {xs = xs} r =
+      loop_gives (λ s ys t. FormedTypes ys s outer) (λ s. tt) (λ s c q t e. absurd e) one 0 own b xs rest next r
+    where
+      one : (s t u : Scope) (c : List ℕ) (x : Entry) (q : List ℕ) (ys : List Entry) → ReadsType config outer s c x q t → FormedTypes ys t outer → FormedTypes (x ∷ ys) s outer
+      one s t u c x q ys (left, made, e) f = (made_formed s outer c config.max_type_size x q left made, subst (λ z. FormedTypes ys z outer) e f)
 
-pub types_read_small : (xs : List Entry) (config : Config) (outer : List Scope) (max : ℕ) (own : Scope) (done : ℕ) (b rest : List ℕ) → TypesRead config outer max own done b xs rest → SmallTypes config xs
-types_read_small [] config outer max own done b rest r = tt
-types_read_small (x ∷ xs) config outer max own done b rest (mid, more, after, left, made, r) =
-    (omega (arith, made_size own outer mid config.max_type_size x after left made), types_read_small xs config outer max (with_type own x) (done + 1) after rest r)
+  pub types_read_small : {max : ℕ} {own next : Scope} {b rest : List ℕ} {xs : List Entry} → ReadsTypes config outer max own b xs rest next → SmallTypes config xs
+  types_read_small {own = own} {next = next} {b = b} {rest = rest} {xs = xs} r =
+      loop_all _ (λ s c x q t (left, made, e). let z = made_size s outer c config.max_type_size x q left made in omega (arith, z)) 0 own b xs rest next r
 
-pub types_read_tail : (xs : List Entry) (config : Config) (outer : List Scope) (max : ℕ) (own : Scope) (done : ℕ) (b rest : List ℕ) → TypesRead config outer max own done b xs rest → IsTail rest b
-types_read_tail [] config outer max own done b rest r = more_tail r
-types_read_tail (x ∷ xs) config outer max own done b rest (mid, more, after, left, made, r) =
-    tail_trans (types_read_tail xs config outer max (with_type own x) (done + 1) after rest r) (tail_trans (made_tail own outer mid config.max_type_size x after left made) (more_tail more))
+  pub types_read_tail : {max : ℕ} {own next : Scope} {b rest : List ℕ} {xs : List Entry} → ReadsTypes config outer max own b xs rest next → IsTail rest b
+  types_read_tail {own = own} {next = next} {b = b} {rest = rest} {xs = xs} r =
+      loop_tail (λ s c q t e. absurd e) (λ s c x q t (left, made, e). made_tail s outer c config.max_type_size x q left made) 0 own b xs rest next r
+
+  -- The scope has what was read.
+  pub types_read_scope : {max : ℕ} {own next : Scope} {b rest : List ℕ} {xs : List Entry} → ReadsTypes config outer max own b xs rest next → next ≡ with_types own xs
+  types_read_scope {own = own} {next = next} {b = b} {rest = rest} {xs = xs} r =
+      loop_gives (λ s ys t. t ≡ with_types s ys) (λ s. sym (with_none s)) (λ s c q t e. absurd e) one 0 own b xs rest next r
+    where
+      one : (s t u : Scope) (c : List ℕ) (x : Entry) (q : List ℕ) (ys : List Entry) → ReadsType config outer s c x q t → u ≡ with_types t ys → u ≡ with_types s (x ∷ ys)
+      one s t u c x q ys (left, made, e) f = f ∙ (ap (λ z. with_types z ys) e ∙ with_behind s x ys)
+        where
+          with_behind : (s : Scope) (x : Entry) (ys : List Entry) → with_types (with_type s x) ys ≡ with_types s (x ∷ ys)
+          with_behind s x ys = ap (λ ts. record { types = ts; core_types = s.core_types }) (append_assoc s.types (x ∷ []) ys)
+
+  -- They are determined.
+  pub types_same : {max : ℕ} {own next other : Scope} {b r s : List ℕ} {xs ys : List Entry} → ReadsTypes config outer max own b xs r next → ReadsTypes config outer max own b ys s other → (xs ≡ ys) × (r ≡ s)
+  types_same {own = own} {next = next} {other = other} {b = b} {r = r} {s = s} {xs = xs} {ys = ys} x y =
+      let d = loop_same (λ s c q p t u e f. absurd e) (λ s c x q p t u e i. e) one 0 own b xs ys r s next other x y in (d.0, d.1)
+    where
+      one : (s : Scope) (c : List ℕ) (x y : Entry) (q p : List ℕ) (t u : Scope) → ReadsType config outer s c x q t → ReadsType config outer s c y p u → (x ≡ y) × (q ≡ p) × (t ≡ u)
+      one s c x y q p t u (left, made, e) (held, other, f) =
+          let m = made_same s outer c config.max_type_size x y q p left held made other in
+          (m.value, m.rest, e ∙ (ap (with_type s) m.value ∙ sym f))
+
+  -- A type may stand in a scope, and its script can say it.
+  abbrev Said : Scope → Entry → Type 0
+  Said s x = FormedEntry x s outer × Lasts config.max_type_size x × (length s.types ≤ 2 ^ 64)
+
+  all_said : (xs : List Entry) (own : Scope) → FormedTypes xs own outer → AllByRecursion (Lasts config.max_type_size) xs → length own.types + length xs ≤ 2 ^ 64 → Along Said with_type own xs
+  all_said [] own f l small = tt
+  all_said (x ∷ xs) own f l small = ((f.0, l.0, omega arith), all_said xs (with_type own x) f.1 l.1 (omega (arith, length-append own.types (x ∷ []))))
+
+  -- Their script is read as them.
+  pub types_read : (xs : List Entry) (max : ℕ) (own : Scope) (rest : List ℕ) → FormedTypes xs own outer → AllByRecursion (Lasts config.max_type_size) xs → length xs ≤ max → length own.types + length xs ≤ 2 ^ 64
+      → ReadsTypes config outer max own (script_types config max own xs ++ rest) xs rest (after_all with_type own xs)
+  types_read xs max own rest f l few small =
+      loop_read (script_type config.max_type_size) with_type Said one xs 0 own rest (all_said xs own f l small) (omega arith) (omega arith)
+    where
+      one : (s : Scope) (x : Entry) (rest : List ℕ) → Said s x → ReadsType config outer s (script_type config.max_type_size s x ++ rest) x rest (with_type s x)
+      one s x rest (formed, lasts, small) = let m = type_read s small outer config.max_type_size x rest formed lasts in (m.0, m.1, refl)
 
 -- The same where the scopes and the room are known by equations.
-pub types_read_where : (xs : List Entry) (config : Config) (scopes outer : List Scope) (own : Scope) (max room done : ℕ) (b rest : List ℕ) → scopes ≡ own ∷ outer → max ≡ room → TypesRead config (outer_of scopes) max (own_of scopes) done b xs rest → TypesRead config outer room own done b xs rest
-types_read_where xs config scopes outer own max room done b rest e m r =
-    let P : ℕ → Type 0 = λ n. TypesRead config outer n own done b xs rest in
-    let Q : List Scope → Type 0 = λ ss. TypesRead config (outer_of ss) max (own_of ss) done b xs rest in
+pub types_read_where : (config : Config) (scopes outer : List Scope) (own : Scope) (max room : ℕ) {next : Scope} {b rest : List ℕ} {xs : List Entry} → scopes ≡ own ∷ outer → max ≡ room → ReadsTypes config (outer_of scopes) max (own_of scopes) b xs rest next → ReadsTypes config outer room own b xs rest next
+types_read_where config scopes outer own max room {next} {b} {rest} {xs} e m r =
+    let P : ℕ → Type 0 = λ n. ReadsTypes config outer n own b xs rest next in
+    let Q : List Scope → Type 0 = λ ss. ReadsTypes config (outer_of ss) max (own_of ss) b xs rest next in
     subst P m (subst Q e r)

@@ -2,9 +2,9 @@
 use Rattle.std.proofs.Common.{◌≡◌, ℕ, suc, ◌+◌, ◌≤◌, List, [], ◌∷◌, length, arith, refl, subst}
 use Rattle.smith_core.specs.declared.config.Config.{Config}
 use Rattle.smith_component.specs.Tree.{Tree}
-use Rattle.smith_component.specs.Generates.{RunsTo}
+use Rattle.smith_component.specs.Turn.{RunsTo, Next, building, answered, Turn, Turns, todo, Falls}
 use Rattle.smith_component.specs.Limits.{max_depth}
-use Rattle.smith_component.specs.Turn.{Open, Next, building, answered, Turn, Turns, root, todo, Falls}
+use Rattle.smith_component.specs.Open.{Open, root}
 
 -- From the start these open components and bytes left were reached: what goes on from there goes on from the start.
 pub record Reached (config : Config) (input : List ℕ) (stack : Open) (left : List ℕ) : Type 0 where

@@ -7,13 +7,11 @@ use Rattle.smith_types.specs.CoreLimits.{CoreLimits}
 use Rattle.smith_types.specs.Entries.{Entry}
 use Rattle.smith_types.specs.Scope.{Scope, with_types}
 use Rattle.smith_component.specs.Tree.{Tree, ends, Part, custom, core_module, core_types, component, types, canons, imports, add, own, inside, modules, names_in, types_in, core_types_in, imports_in, canons_in, components_in, modules_in, anywhere_in, depth_in}
-use Rattle.smith_component.specs.Turn.{Open, building, Closes, tree_so_far, is_module_offered, is_component_offered}
+use Rattle.smith_component.specs.Open.{Open, tree_so_far, is_module_offered, is_component_offered, scopes_in, scopes_from}
+use Rattle.smith_component.specs.Turn.{building, Closes}
 use Rattle.smith_component.specs.WellFormed.{FormedPart, WellFormed, scope_of}
-use Rattle.smith_component.specs.Scopes.{scopes_in, scopes_from}
-use Rattle.smith_component.specs.Sizes.{SmallTypes, SmallCoreTypes, OwnSizes, Sized}
-use Rattle.smith_component.specs.Limits.{OwnLimits, Limits}
-use Rattle.smith_component.specs.Addable.{IsAddable}
-use Rattle.smith_component.specs.Sound.{Sound}
+use Rattle.smith_component.specs.Limits.{SmallTypes, SmallCoreTypes, OwnSizes, Sized, OwnLimits, Limits}
+use Rattle.smith_component.specs.Sound.{IsAddable, Sound}
 use Rattle.smith_component.proofs.FormedLemmas.{formed_so_far}
 use Rattle.smith_component.proofs.Grows.{tree_so_far-close, depth-so_far, length-anywhere-so_far, IsSteady, depth-outer, own-add, length-own-add, all_both, all_front, all_so_far, all_inner, Swaps}
 

@@ -1,13 +1,15 @@
 -- What a turn chooses, and that it lowers what is left to do.
 use Rattle.std.proofs.Common.{◌≡◌, ℕ, zero, suc, ◌+◌, ◌^◌, ◌≤◌, List, [], ◌∷◌, ◌++◌, length, drop, arith, ap, sym, subst, ◌∙◌, refl, true, false, Bool, inl, inr, length-append, length-drop}
 use Rattle.std.specs.Prelude.{slice_get, Some}
+use Rattle.smith_input.specs.Choices.{ReadsAmong}
 use Rattle.smith_input.specs.Reading.{IsWidth, Reads, IsTail}
 use Rattle.smith_input.proofs.ReadingLemmas.{width_unique, more_tail}
 use Rattle.smith_core.specs.declared.config.Config.{Config}
 use Rattle.smith_component.specs.Tree.{Tree, ends, Part, custom, core_module, core_types, component, types, canons, imports, add}
 use Rattle.smith_core.specs.Module.{core_preamble}
 use Rattle.smith_component.specs.Limits.{max_depth}
-use Rattle.smith_component.specs.Turn.{Open, Next, building, answered, Turn, Closes, Does, more_items, is_module_offered, is_component_offered, with_part, todo, Falls}
+use Rattle.smith_component.specs.Open.{Open, more_items, is_module_offered, is_component_offered, items}
+use Rattle.smith_component.specs.Turn.{Next, building, answered, Turn, Closes, Does, with_part, todo, Falls}
 use Rattle.smith_component.specs.declared.item.Item.{Item}
 use Rattle.smith_component.specs.declared.item.Item.TheVariants.{Finish, Custom, CoreTypes, Types, Imports, Canonical, Module, Component}
 use Rattle.smith_component.proofs.CustomLemmas.{custom_tail}
@@ -60,7 +62,7 @@ does_length : (config : Config) (item : Item) (stack next : Open) (b r : List �
 does_length config Finish stack next b r e m (d, c) = (omega (arith, closes_length stack next c), omega (arith, ap length d))
 does_length config Custom stack next b r e m (name, contents, read, c) = (omega (arith, part_length config stack next (custom name contents) c), tail_length r b (custom_tail b name contents r read))
 does_length config CoreTypes stack next b r e m (a, more, c) = (omega (arith, part_length config stack next (core_types []) c), tail_length r b (more_tail more))
-does_length config Types stack next b r e m (xs, es, c) = (omega (arith, part_length config stack next (types xs) c), tail_length r b (types_read_tail xs config _ _ _ _ b r es))
+does_length config Types stack next b r e m (xs, scope, es, c) = (omega (arith, part_length config stack next (types xs) c), tail_length r b (types_read_tail config _ es))
 does_length config Imports stack next b r e m (a, more, c) = (omega (arith, part_length config stack next (imports []) c), tail_length r b (more_tail more))
 does_length config Canonical stack next b r e m (a, more, c) = (omega (arith, part_length config stack next (canons []) c), tail_length r b (more_tail more))
 does_length config Module stack next b r e m (d, c) = (omega (arith, part_length config stack next (core_module core_preamble) c), omega (arith, ap length d))
@@ -70,7 +72,7 @@ does_length config Component stack next b r e m (d, c) =
     (omega (arith, o.0, length-append stack.outer (stack.inner ∷ []), ap (λ n. length n.outer) f), omega (arith, ap length d))
 
 -- What stands at each place.
-pub component_offered : (m c : Bool) (place : ℕ) → slice_get (more_items m c) place ≡ Some Component → c ≡ true
+component_offered : (m c : Bool) (place : ℕ) → slice_get (more_items m c) place ≡ Some Component → c ≡ true
 component_offered m true place e = refl
 component_offered true false zero e = cc
 component_offered true false (suc zero) e = cc
@@ -87,6 +89,34 @@ component_offered false false (suc (suc (suc zero))) e = cc
 component_offered false false (suc (suc (suc (suc zero)))) e = cc
 component_offered false false (suc (suc (suc (suc (suc zero))))) e = cc
 component_offered false false (suc (suc (suc (suc (suc (suc place)))))) e = cc
+
+module_offered : (m c : Bool) (place : ℕ) → slice_get (more_items m c) place ≡ Some Module → m ≡ true
+module_offered true c place e = refl
+module_offered false true zero e = cc
+module_offered false true (suc zero) e = cc
+module_offered false true (suc (suc zero)) e = cc
+module_offered false true (suc (suc (suc zero))) e = cc
+module_offered false true (suc (suc (suc (suc zero)))) e = cc
+module_offered false true (suc (suc (suc (suc (suc zero))))) e = cc
+module_offered false true (suc (suc (suc (suc (suc (suc zero)))))) e = cc
+module_offered false true (suc (suc (suc (suc (suc (suc (suc place))))))) e = cc
+module_offered false false zero e = cc
+module_offered false false (suc zero) e = cc
+module_offered false false (suc (suc zero)) e = cc
+module_offered false false (suc (suc (suc zero))) e = cc
+module_offered false false (suc (suc (suc (suc zero)))) e = cc
+module_offered false false (suc (suc (suc (suc (suc zero))))) e = cc
+module_offered false false (suc (suc (suc (suc (suc (suc place)))))) e = cc
+
+-- What is chosen was offered.
+
+pub chosen_module : (config : Config) (stack : Open) (left after : List ℕ) → ReadsAmong (items config stack left) left Module after → is_module_offered config stack ≡ true
+chosen_module config stack [] after r = absurd (let e : Module ≡ Finish = only_finish r.place Module r.named in cc)
+chosen_module config stack (x ∷ xs) after r = module_offered (is_module_offered config stack) (is_component_offered config stack) r.place r.named
+
+pub chosen_component : (config : Config) (stack : Open) (left after : List ℕ) → ReadsAmong (items config stack left) left Component after → is_component_offered config stack ≡ true
+chosen_component config stack [] after r = absurd (let e : Component ≡ Finish = only_finish r.place Component r.named in cc)
+chosen_component config stack (x ∷ xs) after r = component_offered (is_module_offered config stack) (is_component_offered config stack) r.place r.named
 
 does_finish : (config : Config) (stack : Open) (item : Item) (b r : List ℕ) (next : Next) → item ≡ Finish → Does config item stack b next r → (r ≡ b) × Closes stack next
 does_finish config stack item b r next e d = let P : Item → Type 0 = λ i. Does config i stack b next r in subst P e d

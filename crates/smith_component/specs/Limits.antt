@@ -1,8 +1,11 @@
--- The limits of a config, as counts over a finished tree.
-use Rattle.std.specs.Prelude.{ℕ, ◌≤◌, ◌∷◌, length, max}
+-- The limits of a config, as counts over a finished tree, and how large types are.
+use Rattle.std.specs.Prelude.{ℕ, ◌≤◌, List, ◌∷◌, length, max}
 use Rattle.std.specs.List.{AllByRecursion}
 use Rattle.smith_core.specs.declared.config.Config.{Config}
 use Rattle.smith_types.specs.CoreLimits.{CoreLimits}
+use Rattle.smith_types.specs.Entries.{Entry, CoreEntry}
+use Rattle.smith_types.specs.WellFormed.{core_size}
+use Rattle.smith_types.specs.WellFormed.{size}
 use Rattle.smith_component.specs.Tree.{Tree, own, inside, modules, depth, types_in, core_types_in, imports_in, canons_in, names_in}
 
 -- how deep components may stand, the root at 1
@@ -24,3 +27,18 @@ pub record Limits (config : Config) (tree : Tree) : Type 0 where
   pub modules : length (modules tree) ≤ config.max_modules
   pub components : length (inside tree) ≤ config.max_components
   pub depth : depth tree ≤ max_depth config
+
+-- No type is larger than its fuel was.
+abbrev pub SmallTypes : Config → List Entry → Type 0
+SmallTypes config es = AllByRecursion (λ e. size e ≤ config.max_type_size) es
+
+-- nor is a core type
+abbrev pub SmallCoreTypes : Config → List CoreEntry → Type 0
+SmallCoreTypes config es = AllByRecursion (λ e. core_size e ≤ config.max_type_size) es
+
+abbrev pub OwnSizes : Config → Tree → Type 0
+OwnSizes config t = SmallTypes config (own types_in t) × SmallCoreTypes config (own core_types_in t)
+
+-- the same in the components at every depth
+abbrev pub Sized : Config → Tree → Type 0
+Sized config tree = AllByRecursion (OwnSizes config) (tree ∷ inside tree)

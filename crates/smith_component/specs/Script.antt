@@ -1,50 +1,62 @@
 -- The input that a plan is read from.
-use Rattle.std.specs.Prelude.{◌≡◌, ℕ, ◌+◌, ◌-◌, List, [], ◌∷◌, ◌++◌, length}
+use Rattle.std.specs.Prelude.{◌≡◌, ℕ, ◌-◌, Bool, List, [], ◌∷◌, ◌++◌, length}
 use Rattle.std.specs.List.{AllByRecursion}
 use Rattle.std.specs.Str.{IsUtf8}
-use Rattle.smith_input.specs.Reading.{pick}
+use Rattle.smith_input.specs.Choices.{script_among}
+use Rattle.smith_input.specs.Loops.{script_end, script_loop}
 use Rattle.smith_input.specs.Texts.{script_text, script_bytes}
 use Rattle.smith_core.specs.declared.config.Config.{Config}
 use Rattle.smith_types.specs.Entries.{Entry}
 use Rattle.smith_types.specs.Scope.{Scope, with_type}
-use Rattle.smith_input.specs.Loops.{script_end}
 use Rattle.smith_types.specs.Script.{script_type, Lasts}
 use Rattle.smith_component.specs.Tree.{Tree, ends, first, Part, custom, core_module, core_types, component, types, canons, imports, add, types_of, core_types_of, own, imports_in, canons_in}
 use Rattle.smith_component.specs.Grammar.{Spells}
-use Rattle.smith_component.specs.Turn.{more_items, is_module_offered, is_component_offered}
+use Rattle.smith_component.specs.Open.{Open, items_with_input}
 use Rattle.smith_component.specs.WellFormed.{WellFormed, scope_of}
 use Rattle.smith_component.specs.Limits.{Limits}
+use Rattle.smith_component.specs.contracts.item.ItemPartialEq.TheImpl.{ghosts as equal}
+use Rattle.smith_component.specs.declared.item.Item.{Item}
+use Rattle.smith_component.specs.declared.item.Item.TheVariants as item
 
--- how many items there are where input is left
-abbrev pub item_total : Config → List Tree → Tree → ℕ
-item_total config outer inner =
-    length (more_items (is_module_offered config (record { outer = outer; inner = inner })) (is_component_offered config (record { outer = outer; inner = inner })))
+-- the item that adds a part of this sort
+abbrev pub item_of : Part → Item
+item_of (custom name contents) = item.Custom
+item_of (core_module text) = item.Module
+item_of (core_types ts) = item.CoreTypes
+item_of (component t) = item.Component
+item_of (types ts) = item.Types
+item_of (canons fs) = item.Canonical
+item_of (imports is) = item.Imports
+
+-- the choice of an item
+abbrev pub script_item : Config → List Tree → Tree → Item → List ℕ
+script_item config outer before chosen = script_among equal.eq (items_with_input config (record { outer = outer; inner = before })) chosen
 
 -- The entries of a type section: a byte before each, and one at the end where there might be another.
-abbrev pub script_types : Config → ℕ → ℕ → Scope → List Entry → List ℕ
-script_types config max done before [] = script_end done max
-script_types config max done before (x ∷ xs) = 1 ∷ script_type config.max_type_size before x ++ script_types config max (done + 1) (with_type before x) xs
+abbrev pub script_types : Config → ℕ → Scope → List Entry → List ℕ
+script_types config max own ts = script_loop (script_type config.max_type_size) with_type 0 max 0 own ts
 
--- The rest of a component, where these components are open around it and these parts stand before it.
+-- The rest of a component, where these components are open around it and these parts stand before it; and what follows the choice
+-- of its item in the script of a part.
 abbrev mutual
   pub script_from : Tree → Config → List Tree → Tree → List ℕ
-  script_from ends config outer before = pick (item_total config outer before) 0
-  script_from (first p t) config outer before = script_part p config outer before ++ script_from t config outer (add before p)
+  script_from ends config outer before = script_item config outer before item.Finish
+  script_from (first p t) config outer before = script_item config outer before (item_of p) ++ script_part p config outer before ++ script_from t config outer (add before p)
 
   pub script_part : Part → Config → List Tree → Tree → List ℕ
-  script_part (custom name contents) config outer before = pick (item_total config outer before) 1 ++ (script_text 1000 name ++ script_bytes contents)
+  script_part (custom name contents) config outer before = script_text 1000 name ++ script_bytes contents
   script_part (core_module text) config outer before = []
-  script_part (core_types ts) config outer before = pick (item_total config outer before) 2 ++ script_end 0 (config.max_types - length (core_types_of before))
-  script_part (component t) config outer before = pick (item_total config outer before) (item_total config outer before - 1) ++ script_from t config (outer ++ before ∷ []) ends
-  script_part (types ts) config outer before = pick (item_total config outer before) 3 ++ script_types config (config.max_types - length (types_of before)) 0 (scope_of before) ts
-  script_part (canons fs) config outer before = pick (item_total config outer before) 5 ++ script_end 0 (config.max_funcs - length (own canons_in before))
-  script_part (imports is) config outer before = pick (item_total config outer before) 4 ++ script_end 0 (config.max_imports - length (own imports_in before))
+  script_part (core_types ts) config outer before = script_end 0 (config.max_types - length (core_types_of before))
+  script_part (component t) config outer before = script_from t config (outer ++ before ∷ []) ends
+  script_part (types ts) config outer before = script_types config (config.max_types - length (types_of before)) (scope_of before) ts
+  script_part (canons fs) config outer before = script_end 0 (config.max_funcs - length (own canons_in before))
+  script_part (imports is) config outer before = script_end 0 (config.max_imports - length (own imports_in before))
 
 abbrev pub script : Config → Tree → List ℕ
 script config plan = script_from plan config [] ends
 
--- A plan that scripts can say: custom sections, type sections of nameless types for which the fuel lasts, sections without
--- entries, and components of these.
+-- A plan that scripts can say: custom sections, type sections for which the fuel lasts, sections without entries, and components
+-- of these.
 abbrev mutual
   pub IsPlan : Config → Tree → Type 0
   IsPlan config ends = Unit {0}

@@ -1,14 +1,12 @@
--- What is true of a builder at every moment.
-use Rattle.std.specs.Prelude.{◌≡◌, ℕ, List, ◌∷◌, length}
+-- What is true of a builder at every moment, and which parts keep it true.
+use Rattle.std.specs.Prelude.{◌≡◌, ℕ, ◌+◌, ◌≤◌, List, [], ◌∷◌, length}
 use Rattle.smith_core.specs.Limits.{IsConsistent}
 use Rattle.smith_core.specs.declared.config.Config.{Config}
 use Rattle.smith_types.specs.Scope.{Scope}
-use Rattle.smith_component.specs.Scopes.{scopes_in}
-use Rattle.smith_component.specs.Sizes.{Sized}
-use Rattle.smith_component.specs.Tree.{inside, modules}
-use Rattle.smith_component.specs.WellFormed.{WellFormed, scope_of}
-use Rattle.smith_component.specs.Limits.{Limits}
-use Rattle.smith_component.specs.Turn.{Open, tree_so_far}
+use Rattle.smith_component.specs.Limits.{OwnLimits, Limits, SmallTypes, SmallCoreTypes, Sized}
+use Rattle.smith_component.specs.Open.{Open, tree_so_far, scopes_in}
+use Rattle.smith_component.specs.Tree.{Part, add, inside, modules, types_in, core_types_in, modules_in, anywhere_in, components_in, depth_in}
+use Rattle.smith_component.specs.WellFormed.{WellFormed, FormedPart, scope_of}
 
 -- The config was accepted, the running totals are those of the tree so far, and that is well formed and within the limits.
 pub record Sound (config : Config) (module_total component_total : ℕ) (stack : Open) : Type 0 where
@@ -23,3 +21,15 @@ pub record Sound (config : Config) (module_total component_total : ℕ) (stack :
 pub record Standing (config : Config) (scopes : List Scope) (module_total component_total : ℕ) (stack : Open) : Type 0 where
   pub sound : Sound config module_total component_total stack
   pub scopes_are : scopes ≡ scope_of stack.inner ∷ scopes_in stack.outer
+
+-- A part that may be added to the inner component: it is well formed there, no component, and within the limits where what stands
+-- there is.
+pub record IsAddable (config : Config) (stack : Open) (p : Part) : Type 0 where
+  pub formed : FormedPart p (scopes_in stack.outer) stack.inner
+  pub own : OwnLimits config stack.inner → OwnLimits config (add stack.inner p)
+  pub sizes : SmallTypes config (types_in p) × SmallCoreTypes config (core_types_in p)
+  pub modules :
+      length (modules (tree_so_far stack.outer stack.inner)) ≤ config.max_modules
+      → length (modules (tree_so_far stack.outer stack.inner)) + length (modules_in p) ≤ config.max_modules
+  pub no_component : anywhere_in components_in p ≡ []
+  pub flat : depth_in p ≡ 1

@@ -1,20 +1,43 @@
 -- What a step leads to.
-use Rattle.std.specs.Prelude.{◌≡◌}
+use Rattle.std.specs.Prelude.{◌≡◌, ◌⊎◌, List, [], ◌∷◌, ◌++◌}
 use Rattle.smith_core.specs.declared.config.Config.{Config}
-use Rattle.smith_component.specs.Shown.{shown}
 use Rattle.smith_component.specs.Turn.{Next, building, answered}
 use Rattle.smith_component.specs.WellFormed.{WellFormed}
-use Rattle.smith_component.specs.Limits.{Limits}
-use Rattle.smith_component.specs.Sizes.{Sized}
-use Rattle.smith_component.specs.Building.{open_of}
+use Rattle.smith_component.specs.Limits.{Limits, Sized}
+use Rattle.smith_component.specs.Building.{Building, open_of}
+use Rattle.smith_component.specs.Shown.{shown_sections}
+use Rattle.smith_component.specs.declared.component.Section.{Section}
+use Rattle.smith_component.specs.declared.component.Section.TheVariants.{Component}
 use Rattle.smith_component.specs.declared.builder.Step.{Step}
 use Rattle.smith_component.specs.declared.builder.Step.TheVariants.{StillBuilding, Finished}
 
 abbrev pub next_of : Step → Next
 next_of (StillBuilding b) = building (open_of b)
-next_of (Finished c) = answered (shown c)
+next_of (Finished c) = answered c
 
--- A builder that goes on keeps its config, and an answer is well formed and within the limits, and its types within their fuel.
-abbrev pub Keeps : Config → Step → Type 0
-Keeps config (StillBuilding b) = b.config ≡ config
-Keeps config (Finished c) = Limits config (shown c) × WellFormed (shown c) × Sized config (shown c)
+-- The inner component has more sections after those that it had.
+pub record AddsSections (old new : Building) : Type 0 where
+  pub more : List Section
+  pub outer : new.outer ≡ old.outer
+  pub inner : new.inner ≡ old.inner ++ more
+
+-- An empty component stands in the one that was the inner one.
+pub record OpensComponent (old new : Building) : Type 0 where
+  pub outer : new.outer ≡ old.outer ++ old.inner ∷ []
+  pub inner : new.inner ≡ []
+
+-- The inner component became the last section of the one around it.
+pub record ClosesComponent (old new : Building) : Type 0 where
+  pub parent : List Section
+  pub outer : old.outer ≡ new.outer ++ parent ∷ []
+  pub inner : new.inner ≡ parent ++ Component (shown_sections old.inner) ∷ []
+
+-- The sections that stood before a turn stay in front, unchanged.
+abbrev pub KeepsSections : Building → Step → Type 0
+KeepsSections old (StillBuilding new) = AddsSections old new ⊎ OpensComponent old new ⊎ ClosesComponent old new
+KeepsSections old (Finished c) = (old.outer ≡ []) × (c ≡ shown_sections old.inner)
+
+-- A builder that goes on has the same config, and an answer is well formed and within the limits, and its types within their fuel.
+abbrev pub StaysSound : Config → Step → Type 0
+StaysSound config (StillBuilding b) = b.config ≡ config
+StaysSound config (Finished c) = Limits config c × WellFormed c × Sized config c

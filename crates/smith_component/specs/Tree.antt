@@ -30,7 +30,7 @@ abbrev pub add : Tree → Part → Tree
 add ends p = first p ends
 add (first q t) p = first q (add t p)
 
--- the parts of one tree behind those of another
+-- the parts of one tree after those of another
 abbrev pub join : Tree → Tree → Tree
 join ends u = u
 join (first p t) u = first p (join t u)
@@ -40,35 +40,48 @@ abbrev pub parts_of : Tree → List Part
 parts_of ends = []
 parts_of (first p t) = p ∷ parts_of t
 
--- what one part adds to each list of its component
+-- what one part adds to the lists of its component
+pub record Added : Type 0 where
+  pub names : List (List ℕ)
+  pub modules : List (List ℕ)
+  pub core_types : List CoreEntry
+  pub components : List Tree
+  pub types : List Entry
+  pub canons : List Canon
+  pub imports : List ImportEntry
+
+abbrev pub nothing : Added
+nothing = record { names = []; modules = []; core_types = []; components = []; types = []; canons = []; imports = [] }
+
+abbrev pub added : Part → Added
+added (custom name contents) = record nothing { names = name ∷ [] }
+added (core_module text) = record nothing { modules = text ∷ [] }
+added (core_types ts) = record nothing { core_types = ts }
+added (component t) = record nothing { components = t ∷ [] }
+added (types ts) = record nothing { types = ts }
+added (canons fs) = record nothing { canons = fs }
+added (imports is) = record nothing { imports = is }
 
 abbrev pub names_in : Part → List (List ℕ)
-names_in (custom name contents) = name ∷ []
-names_in p = []
+names_in p = (added p).names
 
 abbrev pub modules_in : Part → List (List ℕ)
-modules_in (core_module text) = text ∷ []
-modules_in p = []
+modules_in p = (added p).modules
 
 abbrev pub core_types_in : Part → List CoreEntry
-core_types_in (core_types ts) = ts
-core_types_in p = []
+core_types_in p = (added p).core_types
 
 abbrev pub components_in : Part → List Tree
-components_in (component t) = t ∷ []
-components_in p = []
+components_in p = (added p).components
 
 abbrev pub types_in : Part → List Entry
-types_in (types ts) = ts
-types_in p = []
+types_in p = (added p).types
 
 abbrev pub canons_in : Part → List Canon
-canons_in (canons fs) = fs
-canons_in p = []
+canons_in p = (added p).canons
 
 abbrev pub imports_in : Part → List ImportEntry
-imports_in (imports is) = is
-imports_in p = []
+imports_in p = (added p).imports
 
 -- the lists of a component by itself, without the components in it
 
@@ -89,8 +102,13 @@ abbrev mutual
   anywhere f (first p t) = anywhere_in f p ++ anywhere f t
 
   pub anywhere_in : {A : Type 0} → (Part → List A) → Part → List A
+  anywhere_in f (custom name contents) = f (custom name contents)
+  anywhere_in f (core_module text) = f (core_module text)
+  anywhere_in f (core_types ts) = f (core_types ts)
   anywhere_in f (component t) = f (component t) ++ anywhere f t
-  anywhere_in f p = f p
+  anywhere_in f (types ts) = f (types ts)
+  anywhere_in f (canons fs) = f (canons fs)
+  anywhere_in f (imports is) = f (imports is)
 
 -- the components below the root, and the core modules
 abbrev pub inside : Tree → List Tree
@@ -106,5 +124,10 @@ abbrev mutual
   depth (first p t) = max (depth_in p) (depth t)
 
   pub depth_in : Part → ℕ
+  depth_in (custom name contents) = 1
+  depth_in (core_module text) = 1
+  depth_in (core_types ts) = 1
   depth_in (component t) = depth t + 1
-  depth_in p = 1
+  depth_in (types ts) = 1
+  depth_in (canons fs) = 1
+  depth_in (imports is) = 1

@@ -8,9 +8,10 @@ ghost use Rattle.smith_component.specs.Limits.{max_depth};
 ghost use Rattle.smith_component.specs.Refusals.{IsRefusal};
 ghost use Rattle.smith_component.specs.Scripted.{Scripted};
 ghost use Rattle.smith_component.specs.Shown.{shown_sections};
-ghost use Rattle.smith_component.specs.Steps.{next_of, Keeps};
+ghost use Rattle.smith_component.specs.Steps.{next_of, KeepsSections, StaysSound};
 ghost use Rattle.smith_component.specs.Tree.{ends};
-ghost use Rattle.smith_component.specs.Turn.{Next, Turn, Falls, root};
+ghost use Rattle.smith_component.specs.Turn.{Next, Turn, Falls};
+ghost use Rattle.smith_component.specs.Open.{root};
 
 mod choose;
 mod nest;
@@ -88,8 +89,10 @@ impl Builder {
     // What the choice names is done.
     fn take_turn(self, u: &mut Unstructured) -> Result<Step, Error>
         ensures turn { IfOk result (λ s. Turn self.config (open_of self) u.old (next_of s) u.new) }
-        ensures follows { (n : Next) (rest : List ℕ) → Scripted self.config (open_of self) u.old n rest → IfOk result (λ s. (next_of s ≡ n) × (u.new ≡ rest)) }
-        ensures keeps { IfOk result (Keeps self.config) }
+        ensures follows { (n : Next) (rest : List ℕ) → Scripted self.config (open_of self) u.old n rest
+            → IfOk result (λ s. (next_of s ≡ n) × (u.new ≡ rest)) }
+        ensures keeps { IfOk result (StaysSound self.config) }
+        ensures sections { IfOk result (KeepsSections self) }
         ensures depth { length (open_of self).outer + 1 ≤ max_depth self.config }
         ensures accepted { IsConsistent self.config }
         ensures memory { IfErr result (λ e. e ≡ Error.OutOfMemory) }
@@ -110,8 +113,10 @@ impl Builder {
     /// One turn: a choice among what may be done, and that. It refuses for want of memory alone.
     pub fn step(self, u: &mut Unstructured) -> Result<Step, Error>
         ensures turn { IfOk result (λ s. Turn self.config (open_of self) u.old (next_of s) u.new) }
-        ensures follows { (n : Next) (rest : List ℕ) → Scripted self.config (open_of self) u.old n rest → IfOk result (λ s. (next_of s ≡ n) × (u.new ≡ rest)) }
-        ensures keeps { IfOk result (Keeps self.config) }
+        ensures follows { (n : Next) (rest : List ℕ) → Scripted self.config (open_of self) u.old n rest
+            → IfOk result (λ s. (next_of s ≡ n) × (u.new ≡ rest)) }
+        ensures keeps { IfOk result (StaysSound self.config) }
+        ensures sections { IfOk result (KeepsSections self) }
         ensures falls { IfOk result (λ s. Falls self.config u.old (open_of self) u.new (next_of s)) }
         ensures accepted { IsConsistent self.config }
         ensures memory { IfErr result (λ e. e ≡ Error.OutOfMemory) }

@@ -1,12 +1,13 @@
 //! Components and their bytes from input.
 
-ghost use Rattle.std.specs.Prelude.{◌≡◌, ℕ, List, ◌++◌, IfOk, IfErr};
+ghost use Rattle.std.specs.Prelude.{◌≡◌, ℕ, List, ◌++◌, IfOk, IfErr, OnOk};
 ghost use Rattle.smith_input.specs.Reading.{IsTail};
 ghost use Rattle.smith_core.specs.Limits.{IsConsistent};
-ghost use Rattle.smith_component.specs.Generates.{Generates, RunsTo, IsGenerateRefusal};
+ghost use Rattle.smith_component.specs.Generates.{Generates};
+ghost use Rattle.smith_component.specs.Turn.{RunsTo};
+ghost use Rattle.smith_component.specs.Refusals.{IsGenerateRefusal};
 ghost use Rattle.smith_component.specs.Grammar.{Spells};
 ghost use Rattle.smith_component.specs.Script.{Within, script};
-ghost use Rattle.smith_component.specs.Shown.{shown};
 ghost use Rattle.smith_component.specs.Tree.{Tree};
 
 use crate::component::Component;
@@ -31,16 +32,17 @@ pub fn generate(alloc: Global, config: Config, u: &mut Unstructured) -> Result<G
     ensures generated { IfOk result (λ g. Generates config g.component g.bytes.items) }
 
     // The component is that of a run of turns over the input, and what the run leaves is left.
-    ensures run { IfOk result (λ g. RunsTo config u.old (shown g.component) u.new) }
+    ensures run { IfOk result (λ g. RunsTo config u.old g.component u.new) }
 
     // An input that begins with the script of a plan gives the plan's bytes, and leaves what stands behind it.
     ensures reach { (plan : Tree) (rest : List ℕ) → Within config plan → u.old ≡ script config plan ++ rest
-        → IfOk result (λ g. (shown g.component ≡ plan) × Spells plan g.bytes.items × (u.new ≡ rest)) }
+        → IfOk result (λ g. (g.component ≡ plan) × Spells plan g.bytes.items × (u.new ≡ rest)) }
 
     // It is answered, want of memory aside.
-    ensures answers { (plan : Tree) (rest : List ℕ) → IsConsistent config → Within config plan → u.old ≡ script config plan ++ rest
-        → IfErr result (λ e. e ≡ Error.OutOfMemory) }
+    ensures answers { (plan : Tree) (rest : List ℕ) → IsConsistent config → Within config plan
+        → u.old ≡ script config plan ++ rest → IfErr result (λ e. e ≡ Error.OutOfMemory) }
 
+    ensures accepts { OnOk result (IsConsistent config) }
     ensures refuses { IfErr result (IsGenerateRefusal config u.old) }
     ensures unread { ¬ IsConsistent config → u.new ≡ u.old }
     ensures tail { IsTail u.new u.old }

@@ -1,13 +1,13 @@
 //! Components from a fuzzer's bytes, and their binary format.
 #![tactic(auto)]
 
-pub mod builder;
-pub mod component;
-pub mod encode;
-pub mod generation;
-pub mod item;
+mod builder;
+mod component;
+mod encode;
+mod generation;
+mod item;
 pub mod laws;
-pub mod make;
+mod make;
 
 pub use builder::{Builder, Step};
 pub use component::{

@@ -4,12 +4,10 @@ ghost use Rattle.std.specs.Prelude.{◌≡◌, ℕ, List, ◌+◌, ◌≤◌, �
 ghost use Rattle.smith_input.specs.Reading.{IsTail};
 ghost use Rattle.smith_core.specs.Limits.{IsConsistent};
 ghost use Rattle.smith_core.specs.Limits.{IsDefault};
-ghost use Rattle.smith_component.specs.Generates.{RunsTo};
-ghost use Rattle.smith_component.specs.Limits.{Limits};
+ghost use Rattle.smith_component.specs.Turn.{RunsTo};
+ghost use Rattle.smith_component.specs.Limits.{Limits, Sized};
 ghost use Rattle.smith_component.specs.Refusals.{IsRefusal};
 ghost use Rattle.smith_component.specs.Script.{Within, script};
-ghost use Rattle.smith_component.specs.Shown.{shown};
-ghost use Rattle.smith_component.specs.Sizes.{Sized};
 ghost use Rattle.smith_component.specs.Tree.{Tree};
 ghost use Rattle.smith_component.specs.WellFormed.{WellFormed};
 ghost use Rattle.smith_core.specs.declared.config.Config.{Config};
@@ -25,11 +23,12 @@ impl Component {
     /// most as many as the input has bytes and components may nest. Limits that do not fit together are refused
     /// with `InconsistentLimits` before a byte is read, and nothing else is refused but for want of memory.
     pub fn new(alloc: Global, config: Config, u: &mut Unstructured) -> Result<Component, Error>
-        ensures limits { IfOk result (λ c. Limits config (shown c)) }
-        ensures formed { IfOk result (λ c. WellFormed (shown c)) }
-        ensures sizes { IfOk result (λ c. Sized config (shown c)) }
-        ensures run { IfOk result (λ c. RunsTo config u.old (shown c) u.new) }
-        ensures reach { (plan : Tree) (rest : List ℕ) → Within config plan → u.old ≡ script config plan ++ rest → IfOk result (λ c. (shown c ≡ plan) × (u.new ≡ rest)) }
+        ensures limits { IfOk result (λ c. Limits config c) }
+        ensures formed { IfOk result (λ c. WellFormed c) }
+        ensures sizes { IfOk result (λ c. Sized config c) }
+        ensures run { IfOk result (λ c. RunsTo config u.old c u.new) }
+        ensures reach { (plan : Tree) (rest : List ℕ) → Within config plan → u.old ≡ script config plan ++ rest
+            → IfOk result (λ c. (c ≡ plan) × (u.new ≡ rest)) }
         ensures accepts { OnOk result (IsConsistent config) }
         ensures refuses { IfErr result (IsRefusal config) }
         ensures unread { ¬ IsConsistent config → u.new ≡ u.old }
@@ -46,11 +45,12 @@ impl Component {
 
     /// The component that the input gives within the default limits. It refuses for want of memory alone.
     pub fn arbitrary(alloc: Global, u: &mut Unstructured) -> Result<Component, Error>
-        ensures limits { IfOk result (λ c. (config : Config) → IsDefault config → Limits config (shown c)) }
-        ensures formed { IfOk result (λ c. WellFormed (shown c)) }
-        ensures sizes { IfOk result (λ c. (config : Config) → IsDefault config → Sized config (shown c)) }
-        ensures run { IfOk result (λ c. (config : Config) → IsDefault config → RunsTo config u.old (shown c) u.new) }
-        ensures reach { (config : Config) (plan : Tree) (rest : List ℕ) → IsDefault config → Within config plan → u.old ≡ script config plan ++ rest → IfOk result (λ c. (shown c ≡ plan) × (u.new ≡ rest)) }
+        ensures limits { IfOk result (λ c. (config : Config) → IsDefault config → Limits config c) }
+        ensures formed { IfOk result (λ c. WellFormed c) }
+        ensures sizes { IfOk result (λ c. (config : Config) → IsDefault config → Sized config c) }
+        ensures run { IfOk result (λ c. (config : Config) → IsDefault config → RunsTo config u.old c u.new) }
+        ensures reach { (config : Config) (plan : Tree) (rest : List ℕ) → IsDefault config → Within config plan
+            → u.old ≡ script config plan ++ rest → IfOk result (λ c. (c ≡ plan) × (u.new ≡ rest)) }
         ensures memory { IfErr result (λ e. e ≡ Error.OutOfMemory) }
         ensures tail { IsTail u.new u.old }
     {

@@ -2,12 +2,11 @@
 use Rattle.std.proofs.Common.{◌≡◌, ◌≤◌, ◌⊎◌, inl, inr, ℕ, zero, suc, ◌+◌, ◌-◌, List, [], ◌∷◌, Bool, true, false, length, refl, sym, ap, ◌∙◌, subst, arith}
 use Rattle.std.specs.List.{AllByRecursion, Contains}
 use Rattle.std.specs.Prelude.{Option, Some, None, IfSome, slice_get}
-use Rattle.smith_input.specs.Choices.{ReadsAmong}
 use Rattle.smith_input.specs.Reading.{Reads, IsTail}
 use Rattle.smith_input.proofs.Choices.{among_tail, among_same, among_contains}
 use Rattle.smith_input.proofs.Loops.{loop_tail, loop_few, loop_all, loop_same}
 use Rattle.smith_input.proofs.ReadingLemmas.{tail_same, tail_trans, reads_tail, reads_unique, flips_unique}
-use Rattle.smith_core.specs.CoreFormed.{FormedLimits, FormedMemory, FormedTable, FormedFunction}
+use Rattle.smith_core.specs.CoreFormed.{FormedLimits, FormedFunction}
 use Rattle.smith_core.specs.CoreReading.{ReadsBetween, ReadsMaximum, unbounded, bounded, ReadsLimits, ReadsMemory, ReadsElement, only_functions, either, ReadsTable, ReadsTag, ReadsValues, ReadsFunction}
 use Rattle.smith_core.specs.CoreTypes.{Function}
 use Rattle.smith_core.specs.declared.types.MemoryType.{MemoryType}
@@ -25,18 +24,9 @@ maximum_tail (bounded f b) = tail_trans (reads_tail b.reads) (1, f.left)
 pub limits_tail : {bytes : List ℕ} {minimum : ℕ} {most : Option ℕ} {rest : List ℕ} → ReadsLimits bytes minimum most rest → IsTail rest bytes
 limits_tail r = tail_trans (maximum_tail r.most) (reads_tail r.least.reads)
 
-pub memory_tail : {bytes : List ℕ} {m : MemoryType} {rest : List ℕ} → ReadsMemory bytes m rest → IsTail rest bytes
-memory_tail r = limits_tail r.limits
-
 element_tail : {references : Bool} {bytes : List ℕ} {t : RefType} {rest : List ℕ} → ReadsElement references bytes t rest → IsTail rest bytes
 element_tail (only_functions {bytes = bytes}) = tail_same bytes
 element_tail (either r) = among_tail r
-
-pub table_tail : {references : Bool} {bytes : List ℕ} {t : TableType} {rest : List ℕ} → ReadsTable references bytes t rest → IsTail rest bytes
-table_tail r = tail_trans (limits_tail r.limits) (element_tail r.element)
-
-pub tag_tail : {candidates bytes : List ℕ} {t : TagType} {rest : List ℕ} → ReadsTag candidates bytes t rest → IsTail rest bytes
-tag_tail r = among_tail r
 
 values_tail : {valtypes : List ValType} {max : ℕ} {bytes : List ℕ} {xs : List ValType} {rest : List ℕ} → ReadsValues valtypes max bytes xs rest → IsTail rest bytes
 values_tail {bytes = bytes} {xs = xs} {rest = rest} l = loop_tail (λ s b r t e. absurd e) (λ s b x r t i. among_tail i) 0 tt bytes xs rest tt l
@@ -56,9 +46,6 @@ maximum_formed low (bounded f b) = (omega (arith, b.is), omega (arith, b.is, b.r
 pub limits_formed : {bytes : List ℕ} {minimum : ℕ} {most : Option ℕ} {rest : List ℕ} → ReadsLimits bytes minimum most rest → FormedLimits minimum most
 limits_formed {minimum = minimum} r = let low : minimum ≤ 10 = omega (arith, r.least.is, r.least.reads.below) in record { least = low; most = maximum_formed low r.most }
 
-pub memory_formed : {bytes : List ℕ} {m : MemoryType} {rest : List ℕ} → ReadsMemory bytes m rest → FormedMemory m
-memory_formed r = record { limits = limits_formed r.limits; shared = r.shared; memory64 = r.memory64 }
-
 element_is : (place : ℕ) (t : RefType) → slice_get (FuncRef ∷ ExternRef ∷ []) place ≡ Some t → (t ≡ FuncRef) ⊎ (t ≡ ExternRef)
 element_is zero t e = inl (let z : t ≡ FuncRef = cc in z)
 element_is (suc zero) t e = inr (let z : t ≡ ExternRef = cc in z)
@@ -67,9 +54,6 @@ element_is (suc (suc n)) t e = absurd (let z : None ≡ Some t = e in cc)
 pub element_formed : {references : Bool} {bytes : List ℕ} {t : RefType} {rest : List ℕ} → ReadsElement references bytes t rest → (t ≡ FuncRef) ⊎ ((references ≡ true) × (t ≡ ExternRef))
 element_formed (only_functions) = inl refl
 element_formed (either {t = t} r) = elim (element_is r.place t r.named) [ inl e ↦ inl e | inr e ↦ inr (refl, e) ]
-
-pub table_formed : {references : Bool} {bytes : List ℕ} {t : TableType} {rest : List ℕ} → ReadsTable references bytes t rest → FormedTable references t
-table_formed r = record { element = element_formed r.element; limits = limits_formed r.limits; table64 = r.table64 }
 
 values_few : {valtypes : List ValType} {max : ℕ} {bytes : List ℕ} {xs : List ValType} {rest : List ℕ} → ReadsValues valtypes max bytes xs rest → length xs ≤ max
 values_few {max = max} {bytes = bytes} {xs = xs} {rest = rest} l = let few : 0 + length xs ≤ max = loop_few 0 tt bytes xs rest tt (omega arith) l in omega arith

@@ -1,28 +1,18 @@
 -- The encodings of core types: how many bytes they take, and that no bytes begin with two.
-use Rattle.std.proofs.Common.{◌≡◌, ℕ, ◌+◌, ◌*◌, ◌≤◌, Bool, true, false, List, [], ◌∷◌, refl, ap, arith, Some, None, Option, ◌<◌, ◌^◌, length, sym, subst}
-use Rattle.smith_core.specs.Clear.{Rests, Agree, IsClear}
+use Rattle.std.proofs.Common.{◌≡◌, ℕ, ◌+◌, ◌≤◌, Bool, true, false, List, [], ◌∷◌, refl, ap, arith, Some, ◌<◌, ◌^◌, length, sym, subst}
+use Rattle.smith_core.specs.Clear.{Agree, IsClear}
 use Rattle.smith_core.specs.CoreTypes.{ref_val, core_val, core_function, Function}
-use Rattle.smith_core.specs.Entities.{bit, has_maximum, maximum, limits, table_type, memory_type, global_type, tag_type, entity, CoreImport, core_import}
-use Rattle.smith_core.specs.Piece.{Piece, ◌⊕◌, byte, number, s_index, text, many, u}
-use Rattle.smith_core.specs.declared.types.EntityType.{EntityType}
-use Rattle.smith_core.specs.declared.types.EntityType.TheVariants.{Func, Table, Memory, Global, Tag}
-use Rattle.smith_core.specs.declared.types.GlobalType.{GlobalType}
-use Rattle.smith_core.specs.declared.types.MemoryType.{MemoryType}
+use Rattle.smith_core.specs.Piece.{Piece, ◌⊕◌, s_index, many}
 use Rattle.smith_core.specs.declared.types.RefType.{RefType}
 use Rattle.smith_core.specs.declared.types.RefType.TheVariants.{FuncRef, ExternRef, Concrete}
-use Rattle.smith_core.specs.declared.types.TableType.{TableType}
-use Rattle.smith_core.specs.declared.types.TagType.{TagType}
 use Rattle.smith_core.specs.declared.types.ValType.{ValType}
 use Rattle.smith_core.specs.declared.types.ValType.TheVariants.{I32, I64, F32, F64, V128, Ref}
-use Rattle.smith_core.proofs.Clear.{tail, head, then_head, then_tail, then_agree, clash, clear_byte, clear_number, clear_u, clear_s_index, clear_text, clear_many, clear_both}
+use Rattle.smith_core.proofs.Clear.{tail, head, then_head, then_tail, clash, clear_s_index, clear_many, clear_both}
 use Rattle.std.specs.Prelude.{pos}
-use Rattle.smith_core.specs.Numbers.{unsigned, signed}
+use Rattle.smith_core.specs.Numbers.{signed}
 use Rattle.smith_core.specs.Writing.{Takes}
 use Rattle.smith_core.proofs.Piece.{s_index_fits}
 use Rattle.smith_core.proofs.Sizes.{takes_bytes, takes_then}
-
-pub takes_number : (n : ℕ) {k : ℕ} → k ≡ length (unsigned n) → Takes k (number n)
-takes_number n {k} e = takes_bytes k (unsigned n) e
 
 pub takes_index : {n k : ℕ} → n < 2 ^ 32 → k ≡ length (signed (pos n)) → Takes k (s_index n)
 takes_index {n} {k} h e = subst (λ p. Takes k p) (sym (s_index_fits n h)) (takes_bytes k (signed (pos n)) e)

@@ -1,5 +1,5 @@
 -- The digits of a number, one after another.
-use Rattle.std.proofs.Common.{◌≡◌, ℕ, zero, suc, ◌+◌, ◌*◌, ◌/◌, ◌%◌, ◌^◌, ◌<◌, ◌≤◌, ◌⊎◌, inl, inr, [], ◌∷◌, length, refl, ap, sym, ◌∙◌, arith, Some, None, Bool, true, false, nat_lt, ℤ, pos, negsuc}
+use Rattle.std.proofs.Common.{◌≡◌, ℕ, zero, suc, ◌+◌, ◌*◌, ◌/◌, ◌%◌, ◌^◌, ◌<◌, ◌≤◌, ◌⊎◌, inl, inr, [], ◌∷◌, length, refl, ap, sym, ◌∙◌, arith, Bool, true, false, nat_lt, ℤ, pos, negsuc}
 use Rattle.std.proofs.lemmas.Bool.{cond_below, cond_above, ltb-false}
 use Rattle.std.proofs.Math.Nat.{pow-suc, mul_assoc, mul_comm}
 use Rattle.std.proofs.lemmas.Int.{ints}
@@ -8,7 +8,6 @@ use Rattle.std.specs.Int.RustNames.{FitsSigned}
 use Rattle.std.specs.Int.{w64}
 use borrow.Author.Tests.{ltb-true}
 use Rattle.smith_core.specs.Numbers.{digits, unsigned, signed, as_it_is, turned, low_bits, high_bits}
-use Rattle.smith_core.specs.Piece.{u, s_index}
 
 module _ (bits : ℕ → ℕ) (last : ℕ) where
   pub digits_last : (more n : ℕ) → n < last → digits bits last more n ≡ bits n ∷ []

@@ -1,20 +1,16 @@
 -- No bytes begin with two encodings of what a core module imports or exports, or of its imports.
 use Rattle.std.proofs.Common.{◌≡◌, ℕ, ◌+◌, ◌*◌, ◌≤◌, Bool, true, false, List, [], ◌∷◌, refl, ap, arith, Some, None, Option}
 use Rattle.smith_core.specs.Clear.{Rests, Agree, IsClear}
-use Rattle.smith_core.specs.CoreTypes.{ref_val, core_val, core_function, Function}
+use Rattle.smith_core.specs.CoreTypes.{ref_val, core_val}
 use Rattle.smith_core.specs.Entities.{bit, has_maximum, maximum, limits, table_type, memory_type, global_type, tag_type, entity, CoreImport, core_import}
-use Rattle.smith_core.specs.Piece.{Piece, ◌⊕◌, byte, number, s_index, text, many, u}
+use Rattle.smith_core.specs.Piece.{Piece, ◌⊕◌, byte, number, text, u}
 use Rattle.smith_core.specs.declared.types.EntityType.{EntityType}
 use Rattle.smith_core.specs.declared.types.EntityType.TheVariants.{Func, Table, Memory, Global, Tag}
 use Rattle.smith_core.specs.declared.types.GlobalType.{GlobalType}
 use Rattle.smith_core.specs.declared.types.MemoryType.{MemoryType}
-use Rattle.smith_core.specs.declared.types.RefType.{RefType}
-use Rattle.smith_core.specs.declared.types.RefType.TheVariants.{FuncRef, ExternRef, Concrete}
 use Rattle.smith_core.specs.declared.types.TableType.{TableType}
 use Rattle.smith_core.specs.declared.types.TagType.{TagType}
-use Rattle.smith_core.specs.declared.types.ValType.{ValType}
-use Rattle.smith_core.specs.declared.types.ValType.TheVariants.{I32, I64, F32, F64, V128, Ref}
-use Rattle.smith_core.proofs.Clear.{tail, head, then_head, then_tail, then_agree, clash, clear_byte, clear_number, clear_u, clear_s_index, clear_text, clear_many, clear_both}
+use Rattle.smith_core.proofs.Clear.{tail, then_head, then_tail, then_agree, clash, clear_byte, clear_number, clear_u, clear_text}
 use Rattle.smith_core.proofs.CoreTypes.{clear_ref, clear_core_val}
 
 -- the flags of limits

@@ -6,9 +6,9 @@ use Rattle.std.specs.declared.vec.Vec.{Vec}
 use Rattle.std.specs.declared.alloc.Global.{Global}
 use Rattle.smith_input.specs.declared.error.Error.{Error}
 use Rattle.smith_core.specs.Piece.{Piece, ◌⊕◌, each, many, u}
-use Rattle.smith_core.specs.Writing.{Gains, Begins, Keeps, IsDue, Puts}
+use Rattle.smith_core.specs.Writing.{Gains, Begins, IsDue, Puts}
 use Rattle.smith_core.proofs.Piece.{assoc, right_nil, left_nil}
-use Rattle.smith_core.proofs.Steps.{gains_then, gains_nothing, due_left, due_right, exits, gains_begins, keeps_begins}
+use Rattle.smith_core.proofs.Steps.{gains_then, gains_nothing, due_left, due_right, exits, gains_begins}
 
 module _ {A : Type 0} (f : A → Piece) where
   pub each-append : (xs ys : List A) → each f (xs ++ ys) ≡ each f xs ⊕ each f ys
@@ -46,18 +46,12 @@ module _ {A : Type 0} (f : A → Piece) where
   pub each_exit : {T : Type 0} (r : Result T Error) (e : Error) (xs : List A) (i : ℕ) (x : A) {a c : Vec ℕ Global} → IsErrAnd r (λ y. y ≡ e) → (b : Vec ℕ Global) → Put xs i a b → i < length xs → x ≡ get_or xs i x → Begins b c × IsDue e b (f x) → Puts r a c (each f xs)
   each_exit r e xs i x is b p h at d = exits r e is (gains_begins p.is d.0) (each_due xs i x e p h at d.1)
 
-  pub each_exit_keeping : {T : Type 0} (r : Result T Error) (e : Error) (xs : List A) (i : ℕ) (x : A) {a c : Vec ℕ Global} → IsErrAnd r (λ y. y ≡ e) → (b : Vec ℕ Global) → Put xs i a b → i < length xs → x ≡ get_or xs i x → Keeps b c × IsDue e b (f x) → Puts r a c (each f xs)
-  each_exit_keeping r e xs i x is b p h at d = each_exit r e xs i x is b p h at (keeps_begins d.0, d.1)
-
   -- the same after a prefix, as the count
   pub front_exit : {T : Type 0} (r : Result T Error) (e : Error) (xs : List A) (i : ℕ) (x : A) {a b c : Vec ℕ Global} {front : Piece} → IsErrAnd r (λ y. y ≡ e) → Gains a b front → (h : Vec ℕ Global) → Put xs i b h → i < length xs → x ≡ get_or xs i x → Begins h c × IsDue e h (f x) → Puts r a c (front ⊕ each f xs)
   front_exit r e xs i x is n h p lt at d = exits r e is (gains_begins n (gains_begins p.is d.0)) (due_right n (each_due xs i x e p lt at d.1))
 
   pub loop_exit : {T : Type 0} (r : Result T Error) (e : Error) (xs : List A) (i : ℕ) (x : A) {a b c : Vec ℕ Global} → IsErrAnd r (λ y. y ≡ e) → Gains a b (u (length xs)) → (h : Vec ℕ Global) → Put xs i b h → i < length xs → x ≡ get_or xs i x → Begins h c × IsDue e h (f x) → Puts r a c (many f xs)
   loop_exit r e xs i x is n h p lt at d = front_exit r e xs i x is n h p lt at d
-
-  pub loop_exit_keeping : {T : Type 0} (r : Result T Error) (e : Error) (xs : List A) (i : ℕ) (x : A) {a b c : Vec ℕ Global} → IsErrAnd r (λ y. y ≡ e) → Gains a b (u (length xs)) → (h : Vec ℕ Global) → Put xs i b h → i < length xs → x ≡ get_or xs i x → Keeps h c × IsDue e h (f x) → Puts r a c (many f xs)
-  loop_exit_keeping r e xs i x is n h p lt at d = loop_exit r e xs i x is n h p lt at (keeps_begins d.0, d.1)
 
   pub loop_done : (xs : List A) (i : ℕ) {a b c : Vec ℕ Global} → Gains a b (u (length xs)) → Put xs i b c → length xs ≤ i → Gains a c (many f xs)
   loop_done xs i n p h = gains_then n (put_all xs i _ _ p h)

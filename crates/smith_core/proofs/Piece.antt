@@ -1,5 +1,5 @@
 -- Pieces: how they are joined, bytes as they are, texts, and numbers that have an encoding.
-use Rattle.std.proofs.Common.{◌≡◌, ℕ, ◌+◌, ◌⊎◌, inl, inr, length-append, List, [], ◌++◌, refl, ap, append_assoc, Some, None, append-nil, ◌<◌, length, get_or, sym, ◌∙◌, IsUtf8, Bool, true, false, cond, nat_lt, zero, suc, ◌*◌, ◌/◌, ◌%◌, ◌^◌, ◌≤◌, ◌∷◌, arith, ℤ, pos, negsuc}
+use Rattle.std.proofs.Common.{◌≡◌, ℕ, ◌+◌, ◌⊎◌, inl, inr, length-append, List, [], ◌++◌, refl, ap, append_assoc, Some, None, append-nil, ◌<◌, length, get_or, sym, ◌∙◌, IsUtf8, Bool, true, false, cond, nat_lt, ◌^◌, ◌≤◌, pos}
 use Rattle.smith_core.specs.Piece.{Piece, ◌⊕◌, piece_length, raw, utf8, text, u, s_index}
 use Rattle.std.specs.List.{list_all}
 use Rattle.std.specs.Str.{is_utf8}
@@ -7,13 +7,8 @@ use Rattle.std.proofs.lemmas.Str.{is_utf8-from_IsUtf8}
 use Rattle.std.proofs.lemmas.List.Sums.{list_all-from_AllPass}
 use Rattle.std.proofs.lemmas.Bool.{lt-ltb, cond_below, cond_above, ltb-false}
 use Rattle.std.proofs.lemmas.List.Elements.{All-from_get_or}
-use Rattle.std.proofs.Math.Nat.{pow-suc, mul_assoc, mul_comm}
-use Rattle.std.proofs.lemmas.Int.{ints}
-use Rattle.std.specs.Prelude.{◌≤ℤ◌, ◌<ℤ◌, int_lt}
-use Rattle.std.specs.Int.RustNames.{FitsSigned}
-use Rattle.std.specs.Int.{w64}
 use borrow.Author.Tests.{ltb-true}
-use Rattle.smith_core.specs.Numbers.{digits, unsigned, signed, as_it_is, turned, low_bits, high_bits}
+use Rattle.smith_core.specs.Numbers.{unsigned, signed}
 
 pub assoc : (a b c : Piece) → (a ⊕ b) ⊕ c ≡ a ⊕ (b ⊕ c)
 unfolding ◌⊕◌

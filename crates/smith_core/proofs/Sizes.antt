@@ -53,11 +53,6 @@ pub length_then : (r : Option ℕ) {m n : ℕ} {p q : Piece} → SomeIff r (m + 
 length_then (Some k) {m} {n} {p} {q} s t w = (subst (λ (l : ℕ). Takes l (p ⊕ q)) (sym s.1) (takes_then t w), let e = s.1 in omega (arith, s.0))
 length_then None {m} {n} s t w = too_much_long (takes_then t w) (omega (arith, s))
 
--- the same, where the second length comes first
-pub length_behind : (r : Option ℕ) {m n : ℕ} {p q : Piece} → SomeIff r (n + m < 2 ^ 32) (n + m) → Takes m p → Takes n q → IsLengthOf r (p ⊕ q)
-length_behind (Some k) {m} {n} {p} {q} s t w = (subst (λ (l : ℕ). Takes l (p ⊕ q)) (let e = s.1 in omega arith) (takes_then t w), let e = s.1 in omega (arith, s.0))
-length_behind None {m} {n} s t w = too_much_long (takes_then t w) (omega (arith, s))
-
 -- Something after its length has an encoding where what it holds has one of at most 4,294,967,295 bytes.
 pub framed_cases : (p : Piece) → ((framed p ≡ None) × TakesTooMuch p) ⊎ (Takes (piece_length p) p × (piece_length p < 2 ^ 32) × Takes (length (unsigned (piece_length p)) + piece_length p) (framed p))
 framed_cases None = inl (framed_nothing, too_much_none (λ i. None))
@@ -119,15 +114,8 @@ module _ {A : Type 0} (f : A → Piece) where
   pub each_none : (xs : List A) (i : ℕ) (x : A) → i < length xs → x ≡ get_or xs i x → f x ≡ None → each f xs ≡ None
   each_none xs i x h e n = each_at f xs i x h e ∙ ap (λ q. each f (take i xs) ⊕ (q ⊕ each f (drop (suc i) xs))) n ∙ ap (λ q. each f (take i xs) ⊕ q) (left_none _) ∙ right_none _
 
-  -- the count in front of them
-  pub many_sum : (xs : List A) (i n k : ℕ) → Sum xs i n → length xs ≤ i → length xs < 2 ^ 32 → k ≡ length (unsigned (length xs)) + n → Takes k (many f xs)
-  many_sum xs i n k s h l e = subst (λ (z : ℕ). Takes z (many f xs)) (sym e) (takes_then (takes_u (length xs) l) (sum_all xs i n s h))
-
   pub many_too_much : (xs : List A) → TakesTooMuch (each f xs) → TakesTooMuch (many f xs)
   many_too_much xs t = too_much_right (u (length xs)) t
-
-  pub many_count : (xs : List A) → 2 ^ 32 ≤ length xs → TakesTooMuch (many f xs)
-  many_count xs h = too_much_left (each f xs) (too_much_u (length xs) h)
 
 -- the exit of a `?` that passes on that something is too long
 pub measures_none : (r : Result ℕ Error) (e : Error) {p : Piece} → IsErrAnd r (λ y. y ≡ e) → e ≡ TooLong → p ≡ None → Measures r p

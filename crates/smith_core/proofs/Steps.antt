@@ -1,5 +1,5 @@
 -- How writers follow one another.
-use Rattle.std.proofs.Common.{◌≡◌, ℕ, ◌+◌, ◌<◌, ◌≤◌, ◌⊎◌, inl, inr, List, [], ◌++◌, refl, ap, append-nil, length-append, arith, Some, None, sym, ◌∙◌, subst, Result, Ok, Err, IsErrAnd, is_err, Bool, true, false, nat_le, take, drop, length, take_all, ◌∷◌, append_assoc}
+use Rattle.std.proofs.Common.{◌≡◌, ℕ, ◌+◌, ◌<◌, ◌≤◌, ◌⊎◌, inl, inr, List, [], ◌++◌, refl, ap, append-nil, length-append, arith, Some, None, sym, ◌∙◌, subst, Result, Ok, Err, IsErrAnd, Bool, true, false, nat_le, take, drop, length, take_all, ◌∷◌, append_assoc}
 use Rattle.std.proofs.lemmas.Bool.{leb-true, leb-false}
 use Rattle.std.proofs.lemmas.List.{take-append-drop, take-append-le, length-take, length-take-le}
 use Rattle.std.proofs.Math.Seq.{take-append_seam}
@@ -7,7 +7,7 @@ use Rattle.std.specs.Vec.{vec_len, vec_capacity}
 use Rattle.std.specs.declared.vec.Vec.{Vec}
 use Rattle.std.specs.declared.alloc.Global.{Global}
 use Rattle.smith_input.specs.declared.error.Error.{Error}
-use Rattle.smith_input.specs.declared.error.Error.TheVariants.{TooLong, OutOfMemory}
+use Rattle.smith_input.specs.declared.error.Error.TheVariants.{TooLong}
 use Rattle.smith_core.specs.Piece.{Piece, ◌⊕◌, piece_length, byte, u, framed, sized}
 use Rattle.smith_core.specs.Writing.{Gains, Begins, Keeps, IsDue, Puts, Appends, Takes, WantsMemoryFor}
 use Rattle.smith_core.proofs.Piece.{text_is, assoc, right_none, left_none, joined, length_join}
@@ -78,13 +78,6 @@ gains_then {a} {b} {c} {p} {q} g h =
 pub gains_begins : {a b c : Vec ℕ Global} {p : Piece} → Gains a b p → Begins b c → Begins a c
 gains_begins g h = begins_then g.begins h
 
-pub gains_keeps : {a b c : Vec ℕ Global} {p : Piece} → Gains a b p → Keeps b c → Begins a c
-gains_keeps g k = gains_begins g (keeps_begins k)
-
--- errors
-pub due_memory : {old : Vec ℕ Global} (p : Piece) → vec_capacity old < vec_len old + piece_length p → IsDue OutOfMemory old p
-due_memory p h = record { only = inr refl; too_long = λ e. cc; full = λ _. inr h }
-
 pub due_none : {old : Vec ℕ Global} {p : Piece} → p ≡ None → IsDue TooLong old p
 due_none e = record { only = inl refl; too_long = λ _. e; full = λ h. cc }
 
@@ -108,10 +101,6 @@ due_right {e} {a} {b} {p} {q} g d =
 pub exits : {A : Type 0} (r : Result A Error) (e : Error) {a b : Vec ℕ Global} {p : Piece} → IsErrAnd r (λ y. y ≡ e) → Begins a b → IsDue e a p → Puts r a b p
 exits (Ok x) e {a} {b} {p} is g d = absurd is
 exits (Err y) e {a} {b} {p} is g d = (g, subst (λ (z : Error). IsDue z a p) (sym is) d)
-
--- the same after a piece
-pub exits_then : {A : Type 0} (r : Result A Error) (e : Error) {a b c : Vec ℕ Global} {p q : Piece} → IsErrAnd r (λ y. y ≡ e) → Gains a b p → Begins b c → IsDue e b q → Puts r a c (p ⊕ q)
-exits_then r e is g h d = exits r e is (gains_begins g h) (due_right g d)
 
 -- and with more to come
 pub exits_between : {A : Type 0} (r : Result A Error) (e : Error) {a b c : Vec ℕ Global} {p q : Piece} (s : Piece) → IsErrAnd r (λ y. y ≡ e) → Gains a b p → Begins b c → IsDue e b q → Puts r a c (p ⊕ q ⊕ s)
@@ -154,21 +143,6 @@ sized_is id {n} {p} t = ap (λ q. byte id ⊕ q) (framed_is p t) ∙ sym (assoc 
 pub ends_sized : {A : Type 0} (r : Result A Error) (id : ℕ) {n : ℕ} {a b : Vec ℕ Global} (c : Vec ℕ Global) {p : Piece} → Takes n p → Gains a b (byte id ⊕ u n) → Puts r b c p → Puts r a c (sized id p)
 ends_sized r id c {p} t g h = rw (sized_is id t) (ends r c p g h)
 
--- after an error the buffer is cut back
-pub settles_ok : (given : Result (Unit {0}) Error) (old mid : Vec ℕ Global) (p : Piece) → is_err given ≡ false → Puts given old mid p → Appends given old mid p
-settles_ok (Ok x) old mid p e h = h
-settles_ok (Err x) old mid p e h = cc
-
-pub settles_err : (given : Result (Unit {0}) Error) (old mid new : Vec ℕ Global) (start : ℕ) (p : Piece) → is_err given ≡ true → new.items ≡ take start mid.items → vec_capacity new ≡ vec_capacity mid → start ≡ vec_len old → Puts given old mid p → Appends given old new p
-settles_err (Ok x) old mid new start p e f c l h = cc
-settles_err (Err x) old mid new start p e f c l h = (
-  record {
-    is = f ∙ ap (λ n. take n mid.items) l ∙ h.0.is;
-    capacity = omega (arith, h.0.capacity);
-  },
-  h.1,
-)
-
 -- what has an encoding may want memory
 pub wants_some : {A : Type 0} (r : Result A Error) {p : Piece} {b : List ℕ} → p ≡ Some b → WantsMemoryFor r p
 wants_some (Ok x) e = tt
@@ -180,9 +154,6 @@ wants_some (Err x) e = λ _ n. cc
 pub record Towards (old : Vec ℕ Global) (all : List ℕ) (new : Vec ℕ Global) (left : List ℕ) : Type 0 where
   pub begun : Begins old new
   pub is : new.items ++ left ≡ old.items ++ all
-
-pub towards_start : (old : Vec ℕ Global) (all : List ℕ) → Towards old all old all
-towards_start old all = record { begun = begins_same; is = refl }
 
 pub towards_next : (old : Vec ℕ Global) (all : List ℕ) (mid new : Vec ℕ Global) (x : ℕ) (left rest : List ℕ) → Towards old all mid left → left ≡ x ∷ rest → Gains mid new (byte x) → Towards old all new rest
 towards_next old all mid new x left rest t e g =

@@ -1,11 +1,11 @@
 -- What has no encoding.
-use Rattle.std.proofs.Common.{◌≡◌, ℕ, zero, suc, ◌^◌, ◌<◌, ◌≤◌, ◌⊎◌, inl, inr, ◌↔◌, Bool, true, false, IsUtf8, List, [], ◌∷◌, length, refl, ap, sym, ◌∙◌, arith, Some, None, Option}
+use Rattle.std.proofs.Common.{◌≡◌, ℕ, suc, ◌^◌, ◌<◌, ◌≤◌, ◌⊎◌, inl, inr, ◌↔◌, Bool, true, false, IsUtf8, List, [], ◌∷◌, length, refl, ap, sym, ◌∙◌, arith, Some, None, Option}
 use Rattle.std.specs.List.{Any, AllByRecursion, list_all}
 use Rattle.std.proofs.lemmas.Bool.{lt-ltb}
 use Rattle.std.specs.Prelude.{nat_lt, if◌then◌else◌}
 use Rattle.smith_core.specs.CoreTypes.{ref_val, core_val, core_function, Function}
-use Rattle.smith_core.specs.Entities.{bit, maximum, limits, table_type, memory_type, global_type, tag_type, entity, CoreImport, core_import}
-use Rattle.smith_core.specs.Piece.{Piece, ◌⊕◌, byte, number, u, s_index, raw, text, each, many}
+use Rattle.smith_core.specs.Entities.{maximum, limits, table_type, memory_type, global_type, tag_type, entity, CoreImport, core_import}
+use Rattle.smith_core.specs.Piece.{Piece, ◌⊕◌, number, u, s_index, raw, text, each, many}
 use Rattle.smith_core.specs.TooLong.{RefTooLong, ValTooLong, FunctionTooLong, EntityTooLong, ImportTooLong}
 use Rattle.smith_core.specs.declared.types.EntityType.{EntityType}
 use Rattle.smith_core.specs.declared.types.EntityType.TheVariants.{Func, Table, Memory, Global, Tag}

@@ -47,7 +47,7 @@ pub fn write_spelled<Format, T: Spelled<Format>>(out: &mut Vec<u8>, item: &T) ->
     settled(out, start, given)
 }
 
-/// Appends bytes as they are.
+/// Appends bytes as they are. Public for the crates above alone.
 pub fn write_bytes(out: &mut Vec<u8>, contents: &[u8]) -> Result<(), Error>
     ensures { Appends result out.old out.new (bytes contents.now) }
 {
@@ -55,7 +55,7 @@ pub fn write_bytes(out: &mut Vec<u8>, contents: &[u8]) -> Result<(), Error>
     Ok(())
 }
 
-/// Appends a byte.
+/// Appends a byte. Public for the crates above alone.
 pub fn write_byte(out: &mut Vec<u8>, value: u8) -> Result<(), Error>
     ensures { Appends result out.old out.new (byte value) }
 {

@@ -50,7 +50,7 @@ pub(crate) fn put_core_val(out: &mut Vec<u8>, ty: ValType) -> Result<(), Error>
     }
 }
 
-/// The length of a value type's encoding.
+/// The length of a value type's encoding. Public for the crates above alone.
 pub fn core_val_len(ty: ValType) -> u32
     ensures length { Takes result (core_val ty) }
     ensures most { result ≤ 6 }
@@ -73,7 +73,7 @@ impl Spelled<CoreFormat> for ValType {
     }
 }
 
-/// Appends a value type.
+/// Appends a value type. Public for the crates above alone.
 pub fn write_core_val(out: &mut Vec<u8>, ty: ValType) -> Result<(), Error>
     ensures { Appends result out.old out.new (core_val ty) }
 {
@@ -95,14 +95,16 @@ impl Spelled<CoreFormat> for FuncType {
     }
 }
 
-/// Appends a function type. It is too long where a count in it passes 4,294,967,295.
+/// Appends a function type. It is too long where a count in it passes 4,294,967,295. Public for the crates above
+/// alone.
 pub fn write_func_type(out: &mut Vec<u8>, ty: &FuncType) -> Result<(), Error>
     ensures { Appends result out.old out.new (core_function (shown_func ty.now)) }
 {
     write_spelled(out, ty)
 }
 
-/// The length of a function type's encoding; None exactly where it has none of at most 4,294,967,295 bytes.
+/// The length of a function type's encoding; None exactly where it has none of at most 4,294,967,295 bytes. Public for
+/// the crates above alone.
 pub fn func_type_len(ty: &FuncType) -> Option<u32>
     ensures { IsLengthOf result (core_function (shown_func ty.now)) }
 {

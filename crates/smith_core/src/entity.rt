@@ -172,14 +172,15 @@ impl Spelled<CoreFormat> for Import {
     }
 }
 
-/// Appends an import. It is too long where the length of a name passes 4,294,967,295.
+/// Appends an import. It is too long where the length of a name passes 4,294,967,295. Public for the crates above alone.
 pub fn write_core_import(out: &mut Vec<u8>, import: &Import) -> Result<(), Error>
     ensures { Appends result out.old out.new (core_import (shown_import import.now)) }
 {
     write_spelled(out, import)
 }
 
-/// The length of an import's encoding; None exactly where it has none of at most 4,294,967,295 bytes.
+/// The length of an import's encoding; None exactly where it has none of at most 4,294,967,295 bytes. Public for the
+/// crates above alone.
 pub fn core_import_len(import: &Import) -> Option<u32>
     ensures { IsLengthOf result (core_import (shown_import import.now)) }
 {

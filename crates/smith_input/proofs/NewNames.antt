@@ -5,21 +5,17 @@ use Rattle.std.specs.List.{list_any}
 use Rattle.std.specs.BTreeMap.{is_at}
 use Rattle.std.specs.Cmp.Lexicographic.{slice_cmp}
 use Rattle.std.specs.Ordering.{nat_cmp}
-use Rattle.std.specs.BTreeSet.{BTreeSet, IsEmpty, contains_text, btree_set_len}
+use Rattle.std.specs.BTreeSet.{BTreeSet, IsEmpty, btree_set_len}
 use Rattle.std.specs.Fmt.{decimal}
 use Rattle.std.proofs.lemmas.Bool.{cases_lt}
 use Rattle.smith_input.specs.Reading.{IsTail}
 use Rattle.smith_input.specs.Kebab.{Kebab}
-use Rattle.smith_input.specs.Names.{ReadsKebab, IsMadeUnique, GainsName, appended, is_among, Holds, ReadsNew, script_name}
+use Rattle.smith_input.specs.Names.{IsMadeUnique, GainsName, appended, is_among, Holds, ReadsNew, script_name}
 use Rattle.smith_input.proofs.Kebabs.{kebab_is_read, kebab_is_kept, kebab_tail, kebab_unique, name_read}
 
 -- an empty set has no names
 pub holds_none : {A : Type 0} (set : BTreeSet (String A)) → IsEmpty set → btree_set_len set ≡ 0 → Holds set []
 holds_none set e n = record { has = λ q. ap (λ ks. list_any (is_at (λ k. slice_cmp nat_cmp q (string_bytes k))) ks) e; size = n }
-
-or_none : (a b : Bool) → b ≡ false → (a || b) ≡ a
-or_none true b e = refl
-or_none false b e = e
 
 or_turned : (a b c : Bool) → (a || (b || c)) ≡ (b || (a || c))
 or_turned true true c = refl
@@ -36,21 +32,6 @@ holds_more {names = names} {name = name} h g = record {
   has = λ q. g.has q ∙ (ap (λ b. bytes_eq name q || b) (h.has q) ∙ sym (among_more names name q));
   size = omega (arith, g.size, h.size, length-append names (name ∷ []));
 }
-
--- what is read with a set is new among its names
-pub new_of : {A : Type 0} {set : BTreeSet (String A)} {names : List (List ℕ)} {max : ℕ} {bytes text name rest : List ℕ} → Holds set names → ReadsKebab max bytes text rest → IsMadeUnique (contains_text set) (btree_set_len set) text name → ReadsNew max names bytes name rest
-new_of {names = names} {text = text} {name = name} h r u =
-    let at : (n : ℕ) → appended text (decimal (length names)) n ≡ appended text (decimal _) n = λ n. ap (λ k. appended text (decimal k) n) (sym h.size) in
-    record {
-      text = text;
-      reads = r;
-      unique = record {
-        times = u.times;
-        name_is = u.name_is ∙ sym (at u.times);
-        taken = λ n l. sym (h.has _) ∙ (ap (contains_text _) (at n) ∙ u.taken n l);
-        is_new = sym (h.has name) ∙ u.is_new;
-      };
-    }
 
 -- the names that there are decide what a text is made
 

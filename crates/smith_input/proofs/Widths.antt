@@ -1,8 +1,7 @@
 -- Powers of 256, and what bytes spell.
-use Rattle.std.proofs.Common.{◌≡◌, ℕ, zero, suc, ◌+◌, ◌*◌, ◌/◌, ◌%◌, ◌^◌, ◌<◌, ◌≤◌, List, [], ◌∷◌, drop, get_or, refl, ap, arith, ⊎_elim}
+use Rattle.std.proofs.Common.{◌≡◌, ℕ, zero, suc, ◌+◌, ◌*◌, ◌/◌, ◌%◌, ◌^◌, ◌<◌, ◌≤◌, List, [], ◌∷◌, drop, get_or, refl, ap, arith}
 use Rattle.std.proofs.Math.Nat.{pow-suc, pow-le-pow_right}
 use Rattle.std.proofs.Math.Numerals.{add-one}
-use Rattle.std.proofs.lemmas.Bool.{cases_lt}
 use Rattle.std.proofs.lemmas.Nat.{div-add-mod', mod_below}
 use Rattle.smith_input.specs.Reading.{spelled, IsWidth, Reads}
 
@@ -28,10 +27,6 @@ byte_fits n w b h k = omega (arith, power_more w)
 
 pub fits_eight : (n w : ℕ) → w < 8 → n < 256 ^ w → n * 256 + 255 < 2 ^ 64
 fits_eight n w h k = omega (arith, byte_fits n w 255 k (omega arith), powers_rise (w + 1) 8 (omega arith))
-
--- the first power that is not below n
-pub width_here : (n w : ℕ) → n ≤ 256 ^ w → ((v : ℕ) → v < w → 256 ^ v < n) → IsWidth n w
-width_here n w e h = record { enough = e; least = λ v q. ⊎_elim (λ lt. absurd (omega (arith, h v lt))) (λ le. le) (cases_lt v w) }
 
 -- a remainder is a choice
 pub reads_rest : (n w : ℕ) (bytes rest : List ℕ) (number : ℕ) → 0 < n → IsWidth n w → number ≡ spelled w bytes → rest ≡ drop w bytes → Reads n bytes (number % n) rest

@@ -1,8 +1,11 @@
 //! What the tests share.
 
-use smith_component::{Config, Error, Unstructured, generate};
+use smith_component::{Config, Unstructured, generate};
 use std::process::Abort;
 use std::test::Fail;
+
+/// What each component begins with.
+pub const PREAMBLE: &[u8] = &[0x00, 0x61, 0x73, 0x6d, 0x0d, 0x00, 0x01, 0x00];
 
 /// Small limits: one module, one component and one instance, a depth of 2, and 10 of everything else.
 pub fn small_limits() -> Config {
@@ -19,25 +22,33 @@ pub fn small_limits() -> Config {
     }
 }
 
-/// The input gives these bytes, and leaves those.
-pub fn gives<R: Abort + AllocGlobal>(
-    rt: &R,
-    config: Config,
-    input: &[u8],
-    expected: &[u8],
-    left: &[u8],
-) -> Result<(), Fail> {
-    let mut u = Unstructured::new(input);
-    let generated = generate(rt.alloc(), config, &mut u)?;
-    assert_eq!(rt; generated.bytes.as_slice(), expected);
-    assert_eq!(rt; u.left(), left);
-    Ok(())
+/// An input, the bytes of the component that it gives, after the preamble, and what it leaves.
+#[derive(Clone, Copy)]
+pub struct Row<'a> {
+    pub name: &'a str,
+    pub input: &'a [u8],
+    pub gives: &'a [u8],
+    pub leaves: &'a [u8],
 }
 
-/// The limits are refused, whatever the input, and no byte is read.
-pub fn is_inconsistent<R: Abort + AllocGlobal>(rt: &R, config: Config) {
-    let mut u = Unstructured::new(b"\x03\x01\x00");
-    let refused = generate(rt.alloc(), config, &mut u);
-    assert!(rt; matches!(refused, Err(Error::InconsistentLimits)));
-    assert_eq!(rt; u.left(), b"\x03\x01\x00".as_slice());
+/// Within these limits the row's input gives its bytes, of the length that is measured, and leaves what it leaves.
+pub fn check<R: Abort + AllocGlobal>(rt: &R, config: Config, row: &Row<'_>) -> Result<(), Fail> {
+    let mut u = Unstructured::new(row.input);
+    let generated = generate(rt.alloc(), config, &mut u)?;
+    let mut expected = Vec::from_slice(rt.alloc(), PREAMBLE)?;
+    expected.extend_from_slice(row.gives)?;
+    assert_eq!(rt;
+        generated.bytes.as_slice(),
+        expected.as_slice(),
+        "{}",
+        row.name
+    );
+    assert_eq!(rt;
+        generated.component.measure()?,
+        expected.len() as u128,
+        "{}",
+        row.name
+    );
+    assert_eq!(rt; u.left(), row.leaves, "{}", row.name);
+    Ok(())
 }

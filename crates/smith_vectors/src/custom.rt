@@ -1,27 +1,26 @@
 //! Custom sections.
 
-use crate::common::{gives, small_limits};
+use crate::common::{Row, check, small_limits};
 use smith_component::{Component, Config, CustomSection, Section, Unstructured};
 use std::test::Fail;
 
 #[test]
 fn a_section_of_127_bytes(rt: HostRuntime) -> Result<(), Fail> {
-    let mut input = Vec::new(rt.alloc());
-    let mut bytes = Vec::new(rt.alloc());
-    input.extend_from_slice(b"\x01\x00\x00")?;
-    bytes.extend_from_slice(&[
-        0x00, 0x61, 0x73, 0x6d, 0x0d, 0x00, 0x01, 0x00, 0x00, 0x80, 0x01, 0x00,
-    ])?;
+    let mut input = Vec::from_slice(rt.alloc(), b"\x01\x00\x00")?;
+    let mut bytes = Vec::from_slice(rt.alloc(), &[0x00, 0x80, 0x01, 0x00])?;
     for _ in 0..127 {
         input.extend_from_slice(b"\x01\x2a")?;
         bytes.push(0x2a)?;
     }
     input.extend_from_slice(b"\x00\x00")?;
-    gives(&rt, small_limits(), &input, &bytes, b"")?;
-    let mut u = Unstructured::new(&input);
-    let component = Component::new(rt.alloc(), small_limits(), &mut u)?;
-    assert_eq!(rt; component.measure()?, 139);
-    Ok(())
+    let row = Row {
+        name: "127 bytes, 139 in all",
+        input: &input,
+        gives: &bytes,
+        leaves: b"",
+    };
+    assert_eq!(rt; bytes.len() + 8, 139);
+    check(&rt, small_limits(), &row)
 }
 
 #[test]

@@ -12,14 +12,14 @@ mod custom;
 #[cfg(test)]
 mod deep;
 #[cfg(test)]
-mod limits;
+mod hashes;
 #[cfg(test)]
-mod named;
+mod limits;
 #[cfg(test)]
 mod names;
 #[cfg(test)]
-mod nested;
-#[cfg(test)]
 mod reader;
+#[cfg(test)]
+mod types;
 #[cfg(test)]
 mod writers;

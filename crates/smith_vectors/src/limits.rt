@@ -1,61 +1,76 @@
-//! Limits that do not fit together.
+//! Limits that do not fit together, and the texts of the errors.
 
-use crate::common::{is_inconsistent, small_limits};
-use smith_component::{Config, Error, Unstructured, generate};
+use crate::common::small_limits;
+use smith_component::{Component, Config, Error, Unstructured, generate};
 use std::test::Fail;
 
-#[test]
-fn a_minimum_past_its_maximum(rt: HostRuntime) {
-    is_inconsistent(
-        &rt,
-        Config {
-            min_types: 11,
-            ..small_limits()
-        },
-    );
-    is_inconsistent(
-        &rt,
-        Config {
-            min_imports: 11,
-            ..small_limits()
-        },
-    );
-    is_inconsistent(
-        &rt,
-        Config {
-            min_funcs: 11,
-            ..small_limits()
-        },
-    );
+// Limits that do not fit together, each with its name.
+fn inconsistent_limits() -> [(&'static str, Config); 6] {
+    let small = small_limits();
+    [
+        (
+            "min_types past max_types",
+            Config {
+                min_types: 11,
+                ..small
+            },
+        ),
+        (
+            "min_imports past max_imports",
+            Config {
+                min_imports: 11,
+                ..small
+            },
+        ),
+        (
+            "min_funcs past max_funcs",
+            Config {
+                min_funcs: 11,
+                ..small
+            },
+        ),
+        (
+            "a nesting past 1000",
+            Config {
+                max_nesting_depth: 1001,
+                ..small
+            },
+        ),
+        (
+            "types past 32 bits",
+            Config {
+                max_types: 4_294_967_296,
+                ..small
+            },
+        ),
+        (
+            "instances past 32 bits",
+            Config {
+                max_instances: 4_294_967_296,
+                ..small
+            },
+        ),
+    ]
 }
 
 #[test]
-fn a_nesting_past_1000(rt: HostRuntime) {
-    is_inconsistent(
-        &rt,
-        Config {
-            max_nesting_depth: 1001,
-            ..small_limits()
-        },
-    );
-}
-
-#[test]
-fn a_count_past_32_bits(rt: HostRuntime) {
-    is_inconsistent(
-        &rt,
-        Config {
-            max_types: 4_294_967_296,
-            ..small_limits()
-        },
-    );
-    is_inconsistent(
-        &rt,
-        Config {
-            max_instances: 4_294_967_296,
-            ..small_limits()
-        },
-    );
+fn limits_that_do_not_fit_together_are_refused_before_a_byte_is_read(rt: HostRuntime) {
+    for (name, config) in inconsistent_limits() {
+        for input in [b"" as &[u8], b"\x03\x01\x00"] {
+            let mut u = Unstructured::new(input);
+            let refused = generate(rt.alloc(), config, &mut u);
+            assert!(rt;
+                matches!(refused, Err(Error::InconsistentLimits)),
+                "generate: {name}"
+            );
+            let refused = Component::new(rt.alloc(), config, &mut u);
+            assert!(rt;
+                matches!(refused, Err(Error::InconsistentLimits)),
+                "Component::new: {name}"
+            );
+            assert_eq!(rt; u.left(), input, "{name}");
+        }
+    }
 }
 
 #[test]

@@ -5,7 +5,8 @@ ghost use Rattle.smith_input.specs.Reading.{IsTail};
 ghost use Rattle.smith_core.specs.Limits.{IsConsistent};
 ghost use Rattle.smith_component.specs.Building.{open_of};
 ghost use Rattle.smith_component.specs.Limits.{max_depth};
-ghost use Rattle.smith_component.specs.Turn.{Chooses, is_module_offered, is_component_offered, more_items};
+ghost use Rattle.smith_component.specs.Open.{is_module_offered, is_component_offered, items, more_items};
+ghost use Rattle.smith_input.specs.Choices.{ReadsAmong};
 
 use crate::builder::Builder;
 use crate::item::Item;
@@ -66,7 +67,7 @@ impl Builder {
     pub(crate) fn choose_item(&self, u: &mut Unstructured) -> Item
         ensures depth { length (open_of self.now).outer + 1 ≤ max_depth self.now.config }
         ensures accepted { IsConsistent self.now.config }
-        ensures chooses { Chooses self.now.config (open_of self.now) u.old result u.new }
+        ensures chooses { ReadsAmong (items self.now.config (open_of self.now) u.old) u.old result u.new }
         ensures tail { IsTail u.new u.old }
     {
         let with_module = self.offers_module();

@@ -2,8 +2,9 @@
 
 ghost use Rattle.std.specs.Prelude.{◌≡◌, IfOk, IfErr, IsTrue};
 ghost use Rattle.smith_component.specs.Building.{open_of};
-ghost use Rattle.smith_component.specs.Steps.{next_of, Keeps};
-ghost use Rattle.smith_component.specs.Turn.{Closes, with_open, is_component_offered};
+ghost use Rattle.smith_component.specs.Steps.{next_of, KeepsSections, StaysSound};
+ghost use Rattle.smith_component.specs.Turn.{Closes, with_open};
+ghost use Rattle.smith_component.specs.Open.{is_component_offered};
 
 use crate::builder::open::OpenComponent;
 use crate::builder::{Builder, Step};
@@ -16,7 +17,8 @@ impl Builder {
     pub(crate) fn open_component(self) -> Result<Step, Error>
         requires { IsTrue (is_component_offered self.config (open_of self)) }
         ensures opened { IfOk result (λ s. next_of s ≡ with_open (open_of self)) }
-        ensures keeps { IfOk result (Keeps self.config) }
+        ensures keeps { IfOk result (StaysSound self.config) }
+        ensures sections { IfOk result (KeepsSections self) }
         ensures memory { IfErr result (λ e. e ≡ Error.OutOfMemory) }
     {
         let mut builder = self;
@@ -31,7 +33,8 @@ impl Builder {
     // The inner component is finished: it becomes a section of the one around it, and the root is the answer.
     pub(crate) fn finish(self) -> Result<Step, Error>
         ensures closes { IfOk result (λ s. Closes (open_of self) (next_of s)) }
-        ensures keeps { IfOk result (Keeps self.config) }
+        ensures keeps { IfOk result (StaysSound self.config) }
+        ensures sections { IfOk result (KeepsSections self) }
         ensures memory { IfErr result (λ e. e ≡ Error.OutOfMemory) }
     {
         let mut builder = self;

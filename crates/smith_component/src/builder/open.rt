@@ -1,8 +1,8 @@
 //! A component that is not finished yet.
 
-ghost use Rattle.std.specs.Prelude.{◌≡◌, ◌+◌, ◌<◌, ◌^◌, length, OnOk, IfErr};
+ghost use Rattle.std.specs.Prelude.{◌≡◌, ◌+◌, ◌<◌, ◌^◌, ◌∷◌, ◌++◌, [], length, OnOk, IfErr};
 ghost use Rattle.smith_component.specs.Shown.{shown_section, shown_sections};
-ghost use Rattle.smith_component.specs.Tree.{ends, add, types_in, types_of, core_types_in, core_types_of};
+ghost use Rattle.smith_component.specs.Tree.{add, types_in, types_of, core_types_in, core_types_of};
 
 use crate::component::Section;
 use smith_input::Error;
@@ -20,7 +20,7 @@ pub(crate) struct OpenComponent {
 
 impl OpenComponent {
     pub(crate) fn new(alloc: Global) -> OpenComponent
-        ensures { shown_sections result.sections.items ≡ ends }
+        ensures { result.sections.items ≡ [] }
     {
         OpenComponent {
             sections: Vec::new(alloc),
@@ -33,7 +33,9 @@ impl OpenComponent {
     pub(crate) fn push(&mut self, section: Section) -> Result<(), Error>
         requires types { self.old.types + length (types_in (shown_section section)) < 2 ^ 64 }
         requires core_types { self.old.core_types + length (core_types_in (shown_section section)) < 2 ^ 64 }
-        ensures ok { OnOk result (shown_sections self.new.sections.items ≡ add (shown_sections self.old.sections.items) (shown_section section)) }
+        ensures items { OnOk result (self.new.sections.items ≡ self.old.sections.items ++ section ∷ []) }
+        ensures ok { OnOk result (shown_sections self.new.sections.items
+            ≡ add (shown_sections self.old.sections.items) (shown_section section)) }
         ensures memory { IfErr result (λ e. e ≡ Error.OutOfMemory) }
     {
         let count = section.type_count();

@@ -1,18 +1,32 @@
 //! Parts that are added to the inner component.
 
-ghost use Rattle.std.specs.Prelude.{◌≡◌, ℕ, List, ◌-◌, ◌+◌, ◌≤◌, [], map, length, IfOk, IfErr, IsTrue};
+ghost use Rattle.std.specs.Prelude.{
+  ◌≡◌,
+  ℕ,
+  List,
+  ◌-◌,
+  ◌+◌,
+  ◌≤◌,
+  [],
+  map,
+  length,
+  IfOk,
+  IfErr,
+  IsTrue,
+};
 ghost use Rattle.smith_input.specs.Reading.{IsTail};
 ghost use Rattle.smith_core.specs.Module.{core_preamble};
 ghost use Rattle.smith_types.specs.Scopes.{inward};
-ghost use Rattle.smith_types.specs.Scope.{own_of, outer_of, with_types};
+ghost use Rattle.smith_types.specs.Scope.{own_of, outer_of};
 ghost use Rattle.smith_types.specs.Shown.{shown_shared};
-ghost use Rattle.smith_component.specs.Addable.{IsAddable};
+ghost use Rattle.smith_component.specs.Sound.{IsAddable};
 ghost use Rattle.smith_component.specs.Building.{open_of};
 ghost use Rattle.smith_component.specs.Scripted.{Follows};
 ghost use Rattle.smith_component.specs.Shown.{shown_section};
-ghost use Rattle.smith_component.specs.Steps.{next_of, Keeps};
+ghost use Rattle.smith_component.specs.Steps.{next_of, KeepsSections, StaysSound};
 ghost use Rattle.smith_component.specs.Tree.{add, core_module};
-ghost use Rattle.smith_component.specs.Turn.{Next, Does, TypesRead, with_part, is_module_offered};
+ghost use Rattle.smith_component.specs.Turn.{Next, Does, ReadsTypes, with_part};
+ghost use Rattle.smith_component.specs.Open.{is_module_offered};
 ghost use Rattle.smith_component.specs.WellFormed.{scope_of};
 ghost use Rattle.smith_component.specs.declared.item.Item.TheVariants.{Custom, CoreTypes, Types, Imports, Canonical};
 
@@ -36,8 +50,9 @@ fn read_types(
     u: &mut Unstructured,
 ) -> Result<Vec<Rc<DefType>>, Error>
     requires { length (own_of (inward scopes.old)).types + max ≤ 4294967295 }
-    ensures entries { IfOk result (λ v. TypesRead config.now (outer_of (inward scopes.old)) max (own_of (inward scopes.old)) 0 u.old (map shown_shared v.items) u.new) }
-    ensures own { IfOk result (λ v. own_of (inward scopes.new) ≡ with_types (own_of (inward scopes.old)) (map shown_shared v.items)) }
+    ensures entries { IfOk result (λ v.
+        ReadsTypes config.now (outer_of (inward scopes.old)) max (own_of (inward scopes.old))
+        u.old (map shown_shared v.items) u.new (own_of (inward scopes.new))) }
     ensures outer { IfOk result (λ _. outer_of (inward scopes.new) ≡ outer_of (inward scopes.old)) }
     ensures depth { IfOk result (λ _. length (inward scopes.new) ≡ length (inward scopes.old)) }
     ensures bound { IfOk result (λ v. length v.items ≤ max) }
@@ -63,7 +78,8 @@ impl Builder {
         requires quiet { scope_of (add (open_of self).inner (shown_section section)) ≡ scope_of (open_of self).inner }
         requires addable { IsAddable self.config (open_of self) (shown_section section) }
         ensures added { IfOk result (λ s. next_of s ≡ with_part (open_of self) (shown_section section)) }
-        ensures keeps { IfOk result (Keeps self.config) }
+        ensures keeps { IfOk result (StaysSound self.config) }
+        ensures sections { IfOk result (KeepsSections self) }
         ensures memory { IfErr result (λ e. e ≡ Error.OutOfMemory) }
     {
         let mut builder = self;
@@ -76,8 +92,10 @@ impl Builder {
     // A custom section that is read.
     pub(crate) fn add_custom(self, u: &mut Unstructured) -> Result<Step, Error>
         ensures added { IfOk result (λ s. Does self.config Custom (open_of self) u.old (next_of s) u.new) }
-        ensures follows { (n : Next) (rest : List ℕ) → Follows self.config Custom (open_of self) u.old n rest → IfOk result (λ s. (next_of s ≡ n) × (u.new ≡ rest)) }
-        ensures keeps { IfOk result (Keeps self.config) }
+        ensures follows { (n : Next) (rest : List ℕ) → Follows self.config Custom (open_of self) u.old n rest
+            → IfOk result (λ s. (next_of s ≡ n) × (u.new ≡ rest)) }
+        ensures keeps { IfOk result (StaysSound self.config) }
+        ensures sections { IfOk result (KeepsSections self) }
         ensures memory { IfErr result (λ e. e ≡ Error.OutOfMemory) }
         ensures tail { IsTail u.new u.old }
     {
@@ -89,7 +107,8 @@ impl Builder {
     pub(crate) fn add_module(self) -> Result<Step, Error>
         requires { IsTrue (is_module_offered self.config (open_of self)) }
         ensures added { IfOk result (λ s. next_of s ≡ with_part (open_of self) (core_module core_preamble)) }
-        ensures keeps { IfOk result (Keeps self.config) }
+        ensures keeps { IfOk result (StaysSound self.config) }
+        ensures sections { IfOk result (KeepsSections self) }
         ensures memory { IfErr result (λ e. e ≡ Error.OutOfMemory) }
     {
         self.add_section(Section::CoreModule(Module::empty()))
@@ -98,8 +117,10 @@ impl Builder {
     // An empty core type section. Its loop ends whatever comes.
     pub(crate) fn add_core_types(self, u: &mut Unstructured) -> Result<Step, Error>
         ensures added { IfOk result (λ s. Does self.config CoreTypes (open_of self) u.old (next_of s) u.new) }
-        ensures follows { (n : Next) (rest : List ℕ) → Follows self.config CoreTypes (open_of self) u.old n rest → IfOk result (λ s. (next_of s ≡ n) × (u.new ≡ rest)) }
-        ensures keeps { IfOk result (Keeps self.config) }
+        ensures follows { (n : Next) (rest : List ℕ) → Follows self.config CoreTypes (open_of self) u.old n rest
+            → IfOk result (λ s. (next_of s ≡ n) × (u.new ≡ rest)) }
+        ensures keeps { IfOk result (StaysSound self.config) }
+        ensures sections { IfOk result (KeepsSections self) }
         ensures memory { IfErr result (λ e. e ≡ Error.OutOfMemory) }
         ensures tail { IsTail u.new u.old }
     {
@@ -112,8 +133,10 @@ impl Builder {
     // An empty import section. Its loop ends whatever comes.
     pub(crate) fn add_imports(self, u: &mut Unstructured) -> Result<Step, Error>
         ensures added { IfOk result (λ s. Does self.config Imports (open_of self) u.old (next_of s) u.new) }
-        ensures follows { (n : Next) (rest : List ℕ) → Follows self.config Imports (open_of self) u.old n rest → IfOk result (λ s. (next_of s ≡ n) × (u.new ≡ rest)) }
-        ensures keeps { IfOk result (Keeps self.config) }
+        ensures follows { (n : Next) (rest : List ℕ) → Follows self.config Imports (open_of self) u.old n rest
+            → IfOk result (λ s. (next_of s ≡ n) × (u.new ≡ rest)) }
+        ensures keeps { IfOk result (StaysSound self.config) }
+        ensures sections { IfOk result (KeepsSections self) }
         ensures memory { IfErr result (λ e. e ≡ Error.OutOfMemory) }
         ensures tail { IsTail u.new u.old }
     {
@@ -124,8 +147,10 @@ impl Builder {
     // An empty canonical section. Its loop ends whatever comes.
     pub(crate) fn add_canonicals(self, u: &mut Unstructured) -> Result<Step, Error>
         ensures added { IfOk result (λ s. Does self.config Canonical (open_of self) u.old (next_of s) u.new) }
-        ensures follows { (n : Next) (rest : List ℕ) → Follows self.config Canonical (open_of self) u.old n rest → IfOk result (λ s. (next_of s ≡ n) × (u.new ≡ rest)) }
-        ensures keeps { IfOk result (Keeps self.config) }
+        ensures follows { (n : Next) (rest : List ℕ) → Follows self.config Canonical (open_of self) u.old n rest
+            → IfOk result (λ s. (next_of s ≡ n) × (u.new ≡ rest)) }
+        ensures keeps { IfOk result (StaysSound self.config) }
+        ensures sections { IfOk result (KeepsSections self) }
         ensures memory { IfErr result (λ e. e ≡ Error.OutOfMemory) }
         ensures tail { IsTail u.new u.old }
     {
@@ -136,8 +161,10 @@ impl Builder {
     // A type section, with as many types as the component may still have.
     pub(crate) fn add_types(self, u: &mut Unstructured) -> Result<Step, Error>
         ensures added { IfOk result (λ s. Does self.config Types (open_of self) u.old (next_of s) u.new) }
-        ensures follows { (n : Next) (rest : List ℕ) → Follows self.config Types (open_of self) u.old n rest → IfOk result (λ s. (next_of s ≡ n) × (u.new ≡ rest)) }
-        ensures keeps { IfOk result (Keeps self.config) }
+        ensures follows { (n : Next) (rest : List ℕ) → Follows self.config Types (open_of self) u.old n rest
+            → IfOk result (λ s. (next_of s ≡ n) × (u.new ≡ rest)) }
+        ensures keeps { IfOk result (StaysSound self.config) }
+        ensures sections { IfOk result (KeepsSections self) }
         ensures memory { IfErr result (λ e. e ≡ Error.OutOfMemory) }
         ensures tail { IsTail u.new u.old }
     {

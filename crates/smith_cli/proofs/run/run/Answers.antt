@@ -2,8 +2,7 @@ use Rattle.std.proofs.Common.{◌≡◌, ◌∙◌, ℕ, List, length, subst}
 use Rattle.std.proofs.lemmas.Result.{on_ok_weaker}
 use Rattle.std.specs.Io.KnownBytes.{Appends}
 use Rattle.smith_input.specs.Reading.{IsTail}
-use Rattle.smith_component.specs.Generates.{RunsTo}
-use Rattle.smith_component.specs.Shown.{shown}
+use Rattle.smith_component.specs.Turn.{RunsTo}
 use Rattle.smith_cli.specs.Page.{page}
 use Rattle.smith_cli.proofs.run.run.Goals as goal
 
@@ -13,7 +12,7 @@ returns-clause-written g c =
     let left = c.generate.new.u in
     let made = c.in_ok-generated.generated in
     let tail : IsTail left input = (c.in_ok-generated.ensures.tail.0, cc (c.in_ok-generated.ensures.tail.1, c.new-unstructured.ensures, c.deref.ensures.value)) in
-    let R : List ℕ → Type 0 = λ bytes. RunsTo c.args.config bytes (shown made.component) left in
+    let R : List ℕ → Type 0 = λ bytes. RunsTo c.args.config bytes made.component left in
     let ran = subst R (c.new-unstructured.ensures ∙ c.deref.ensures.value) c.in_ok-generated.ensures.run in
     let text : c.deref-3.result.now ≡ page made.bytes.items (length left) = cc (c.deref-3.ensures.value, c.in_ok-text.ensures, c.deref-2.ensures.value, c.left.ensures) in
     on_ok_weaker

@@ -1,7 +1,7 @@
 use Rattle.std.proofs.Common.{◌∷◌, sym, subst, ap, ◌∙◌, arith}
 use Rattle.smith_component.specs.Building.{Building, open_of}
 use Rattle.smith_component.specs.BuilderView.{building_of}
-use Rattle.smith_component.specs.Scopes.{scopes_in}
+use Rattle.smith_component.specs.Open.{scopes_in}
 use Rattle.smith_component.specs.Shown.{shown_section}
 use Rattle.smith_component.specs.Tree.{types_in, core_types_in}
 use Rattle.smith_component.specs.WellFormed.{scope_of}

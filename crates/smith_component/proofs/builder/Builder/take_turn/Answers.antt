@@ -1,7 +1,8 @@
 use Rattle.std.proofs.Common.{sym, ◌∙◌}
 use Rattle.std.proofs.lemmas.Result.{IfOk-weaker}
-use Rattle.smith_component.proofs.FollowsLemmas.{wanted}
-use Rattle.smith_component.proofs.TurnLemmas.{closes_same}
+use Rattle.smith_component.specs.Building.{open_of}
+use Rattle.smith_component.proofs.FollowsLemmas.{wanted, no_module}
+use Rattle.smith_component.proofs.TurnLemmas.{chosen_module, chosen_component, closes_same}
 use Rattle.smith_component.proofs.builder.Builder.take_turn.Goals as goal
 
 pub returns-in-Finish-clause-follows : goal.returns-in-Finish-clause-follows
@@ -13,7 +14,7 @@ pub returns-in-Custom-clause-follows : goal.returns-in-Custom-clause-follows
 returns-in-Custom-clause-follows c n rest s = c.add_custom.ensures.follows n rest (wanted _ _ _ _ _ n rest c.in-Custom.ensures.chooses s)
 
 pub returns-in-Module-clause-follows : goal.returns-in-Module-clause-follows
-returns-in-Module-clause-follows c n rest s = absurd (wanted _ _ _ _ _ n rest c.in-Module.ensures.chooses s)
+returns-in-Module-clause-follows c n rest s = absurd (no_module _ _ _ _ _ (wanted _ _ _ _ _ n rest c.in-Module.ensures.chooses s))
 
 pub returns-in-Component-clause-follows : goal.returns-in-Component-clause-follows
 returns-in-Component-clause-follows c n rest s =
@@ -31,3 +32,9 @@ returns-in-Imports-clause-follows c n rest s = c.add_imports.ensures.follows n r
 
 pub returns-in-Canonical-clause-follows : goal.returns-in-Canonical-clause-follows
 returns-in-Canonical-clause-follows c n rest s = c.add_canonicals.ensures.follows n rest (wanted _ _ _ _ _ n rest c.in-Canonical.ensures.chooses s)
+
+pub add_module-requires : goal.add_module-requires
+add_module-requires c = chosen_module c.args.self.config (open_of c.args.self) _ _ c.in-Module.ensures.chooses
+
+pub open_component-requires : goal.open_component-requires
+open_component-requires c = chosen_component c.args.self.config (open_of c.args.self) _ _ c.in-Component.ensures.chooses

@@ -1,40 +1,33 @@
-use Rattle.std.proofs.Common.{◌≡◌, ◌+◌, ℕ, List, [], ◌∷◌, ◌++◌, Bool, subst, sym, ap, ◌∙◌, refl, append-nil, append_assoc, length-append, map, arith, length}
+use Rattle.std.proofs.Common.{◌≡◌, ◌++◌, List, [], ◌∷◌, subst, sym, ap, ◌∙◌, refl, length-append, map, arith, length}
 use Rattle.std.proofs.lemmas.List.{map-append, length-map}
-use Rattle.smith_input.specs.Reading.{More}
-use Rattle.smith_input.proofs.ReadingLemmas.{tail_same, tail_trans, more_tail, more_full}
+use Rattle.smith_input.proofs.Loops.{begins, stops, ends_full, goes_on}
+use Rattle.smith_input.proofs.ReadingLemmas.{tail_same, tail_trans, more_tail}
 use Rattle.smith_types.specs.Entries.{Entry}
 use Rattle.smith_types.specs.Made.{Made}
 use Rattle.smith_types.specs.Scope.{Scope, own_of, outer_of, with_type, with_types}
 use Rattle.smith_types.specs.Scopes.{inward}
 use Rattle.smith_types.specs.Shown.{shown_type, shown_shared}
 use Rattle.smith_types.proofs.Stack.{length-last, grown, with_none, with_more}
-use Rattle.smith_component.specs.Turn.{TypesRead}
 use Rattle.smith_component.proofs.builder.parts.read_types.Goals as goal
 
 pub loop-done-init : goal.loop-done-init
 loop-done-init c =
     let none = ap (map shown_shared) c.new-types.ensures.items in
     let own = own_of (inward c.args.scopes.now) in
-    let P : List Entry → List Entry → List ℕ → Type 0 = λ es xs rest. TypesRead c.args.config.now (outer_of (inward c.args.scopes.now)) c.args.max own 0 c.args.u.now (es ++ xs) rest in
     record {
       tail = tail_same c.args.u.now;
       count = ap length c.new-types.ensures.items;
       own = sym (ap (with_types own) none ∙ with_none own);
       outer = refl;
       depth = refl;
-      onward = λ xs rest r. subst (λ es. P es xs rest) (sym none) r;
+      onward = begins _ _ _ _ _ _ _ none;
     }
 
 pub returns-then-not-more-clause-entries : goal.returns-then-not-more-clause-entries
-returns-then-not-more-clause-entries c =
-    let E : List Entry → Type 0 = λ xs. TypesRead c.args.config.now (outer_of (inward c.args.scopes.now)) c.args.max (own_of (inward c.args.scopes.now)) 0 c.args.u.now xs c.more.new.self in
-    let M : Bool → Type 0 = λ b. More c.loop-done.done 0 c.args.max c.loop-done.u b c.more.new.self in
-    subst E (append-nil (map shown_shared c.loop-done.types.items)) (c.loop-done.invariant.onward [] c.more.new.self (subst M c.if-not-more.true c.more.ensures))
+returns-then-not-more-clause-entries c = stops _ _ _ _ _ _ _ _ _ _ _ _ c.if-not-more.true c.more.ensures c.loop-done.invariant.onward
 
 pub returns-clause-entries : goal.returns-clause-entries
-returns-clause-entries c =
-    let E : List Entry → Type 0 = λ xs. TypesRead c.args.config.now (outer_of (inward c.args.scopes.now)) c.args.max (own_of (inward c.args.scopes.now)) 0 c.args.u.now xs c.loop-done.u in
-    subst E (append-nil (map shown_shared c.loop-done.types.items)) (c.loop-done.invariant.onward [] c.loop-done.u (more_full c.loop-done.u c.loop-done-test.false))
+returns-clause-entries c = ends_full _ _ _ _ _ _ _ _ _ _ c.loop-done-test.false c.loop-done.invariant.onward
 
 pub push_type-requires : goal.push_type-requires
 push_type-requires c =
@@ -53,7 +46,6 @@ push_type-requires c =
 pub loop-done-preserved : goal.loop-done-preserved
 loop-done-preserved c =
     let own : Scope = own_of (inward c.args.scopes.now) in
-    let outer : List Scope = outer_of (inward c.args.scopes.now) in
     let here : Scope = own_of (inward c.loop-done.scopes) in
     let items : List Entry = map shown_shared c.loop-done.types.items in
     let made : Entry = shown_shared c.in_ok-made.made in
@@ -62,7 +54,6 @@ loop-done-preserved c =
     let next : own_of (inward c.push_type.new.self) ≡ with_type here made =
     g.own ∙ (ap (λ s. with_type (own_of (inward s)) (shown_type c.in_ok-clone.field-0.value)) kept ∙ ap (λ t. with_type here (shown_type t)) c.in_ok-clone.ensures.cases) in
     let all : map shown_shared c.push.new.self.items ≡ items ++ made ∷ [] = ap (map shown_shared) c.in_ok-push.ensures.items ∙ map-append shown_shared c.loop-done.types.items (c.in_ok-made.made ∷ []) in
-    let M : Bool → Type 0 = λ b. More c.loop-done.done 0 c.args.max c.loop-done.u b c.more.new.self in
     let O : List Scope → Type 0 = λ o. Made here o c.more.new.self c.args.config.now.max_type_size made c.arbitrary_type.new.u c.arbitrary_type.new.fuel in
     record {
       tail = tail_trans c.arbitrary_type.ensures.tail (tail_trans (more_tail c.more.ensures) c.loop-done.invariant.tail);
@@ -70,16 +61,6 @@ loop-done-preserved c =
       own = next ∙ (ap (λ s. with_type s made) c.loop-done.invariant.own ∙ (with_more own items made ∙ ap (with_types own) (sym all)));
       outer = g.outer ∙ (ap (λ s. outer_of (inward s)) kept ∙ c.loop-done.invariant.outer);
       depth = omega (arith, ap length g.whole, ap length g.was, ap length g.outer, ap (λ s. length (inward s)) kept, c.loop-done.invariant.depth);
-      onward = λ xs rest r.
-          let N : Scope → Type 0 = λ s. TypesRead c.args.config.now outer c.args.max s (c.loop-done.done + 1) c.arbitrary_type.new.u xs rest in
-          let E : List Entry → Type 0 = λ es. TypesRead c.args.config.now outer c.args.max own 0 c.args.u.now es rest in
-          subst E (sym (append_assoc items (made ∷ []) xs) ∙ ap (λ es. es ++ xs) (sym all))
-          (c.loop-done.invariant.onward (made ∷ xs) rest (
-            c.more.new.self,
-            subst M c.if-not-more.false c.more.ensures,
-            c.arbitrary_type.new.u,
-            c.arbitrary_type.new.fuel,
-            subst O c.loop-done.invariant.outer c.in_ok-made.ensures.made,
-            subst N next r,
-          ));
+      onward =
+          goes_on _ _ _ _ _ _ _ _ _ _ _ _ _ _ _ _ c.if-not-more.false c.more.ensures (c.arbitrary_type.new.fuel, subst O c.loop-done.invariant.outer c.in_ok-made.ensures.made, next) all c.loop-done.invariant.onward;
     }

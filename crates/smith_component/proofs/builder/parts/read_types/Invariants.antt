@@ -1,13 +1,14 @@
-use Rattle.std.proofs.Common.{◌≡◌, ℕ, List, ◌++◌, map, length}
+use Rattle.std.proofs.Common.{◌≡◌, map, length}
+use Rattle.smith_input.specs.Loops.{Never}
 use Rattle.smith_input.specs.Reading.{IsTail}
-use Rattle.smith_types.specs.Entries.{Entry}
+use Rattle.smith_input.proofs.Loops.{Onward}
 use Rattle.smith_types.specs.Scopes.{inward}
 use Rattle.smith_types.specs.Scope.{own_of, outer_of, with_types}
 use Rattle.smith_types.specs.Shown.{shown_shared}
-use Rattle.smith_component.specs.Turn.{TypesRead}
+use Rattle.smith_component.specs.Turn.{ReadsType}
 use Rattle.smith_component.proofs.builder.parts.read_types.Given as goal
 
--- The last scope has what was read, and whatever the rest of the loop reads, the whole loop reads it behind what was read.
+-- The last scope has what was read.
 abbrev pub invariant-loop-done : goal.invariant-loop-done
 invariant-loop-done l = record {
   tail : IsTail l.u l.fn.u;
@@ -15,7 +16,5 @@ invariant-loop-done l = record {
   own : own_of (inward l.scopes) ≡ with_types (own_of (inward l.fn.scopes)) (map shown_shared l.types.items);
   outer : outer_of (inward l.scopes) ≡ outer_of (inward l.fn.scopes);
   depth : length (inward l.scopes) ≡ length (inward l.fn.scopes);
-  onward :
-      (xs : List Entry) (rest : List ℕ) → TypesRead l.config (outer_of (inward l.fn.scopes)) l.max (own_of (inward l.scopes)) l.done l.u xs rest
-      → TypesRead l.config (outer_of (inward l.fn.scopes)) l.max (own_of (inward l.fn.scopes)) 0 l.fn.u (map shown_shared l.types.items ++ xs) rest;
+  onward : Onward Never (ReadsType l.config (outer_of (inward l.fn.scopes))) 0 l.max (own_of (inward l.fn.scopes)) l.fn.u (map shown_shared l.types.items) l.done (own_of (inward l.scopes)) l.u;
 }

@@ -1,9 +1,9 @@
 use Rattle.std.proofs.Common.{ap, ◌∙◌, subst, sym, rules}
 use Rattle.smith_input.proofs.ReadingLemmas.{tail_same, tail_trans}
-use Rattle.smith_component.specs.Turn.{Open}
-use Rattle.smith_component.specs.Steps.{next_of, Keeps}
+use Rattle.smith_component.specs.Open.{Open}
+use Rattle.smith_component.specs.Steps.{next_of, StaysSound}
 use Rattle.smith_component.specs.declared.builder.Step.{Step}
-use Rattle.smith_component.proofs.FollowsLemmas.{Passes, passes_start, passes_step, passes_end}
+use Rattle.smith_component.proofs.FollowsLemmas.{Passed, passed_start, passed_step, passed_end}
 use Rattle.smith_component.proofs.RunLemmas.{Reached, reached_start, reached_step, reached_answer}
 use Rattle.smith_component.proofs.component.Component.new.Goals as goal
 
@@ -11,24 +11,24 @@ pub loop-next-init : goal.loop-next-init
 loop-next-init c =
     let made = (c.in_ok-builder.ensures {u = tt}).made in
     let R : Open → Type 0 = λ s. Reached c.args.config c.args.u.now s c.args.u.now in
-    let P : Open → Type 0 = λ s. Passes c.args.config c.args.u.now s c.args.u.now in
+    let P : Open → Type 0 = λ s. Passed c.args.config c.args.u.now s c.args.u.now in
     record {
       config = made.0;
       consistent = search rules;
       tail = tail_same _;
       reached = subst R (sym made.1) (reached_start _ _);
-      passes = subst P (sym made.1) (passes_start _ _);
+      passed = subst P (sym made.1) (passed_start _ _);
     }
 
 pub loop-next-preserved : goal.loop-next-preserved
 loop-next-preserved c =
-    let K : Step → Type 0 = Keeps c.loop-next.builder.config in
+    let K : Step → Type 0 = StaysSound c.loop-next.builder.config in
     record {
       config = subst K c.in-StillBuilding.is c.in_ok-next.ensures.keeps ∙ c.loop-next.invariant.config;
       consistent = c.loop-next.invariant.consistent;
       tail = tail_trans c.step.ensures.tail c.loop-next.invariant.tail;
       reached = reached_step _ _ _ _ _ _ _ _ c.loop-next.invariant.config (ap next_of c.in-StillBuilding.is) c.loop-next.invariant.reached c.in_ok-next.ensures.turn c.in_ok-next.ensures.falls;
-      passes = passes_step _ _ _ _ _ _ _ _ c.loop-next.invariant.config (ap next_of c.in-StillBuilding.is) c.loop-next.invariant.passes c.in_ok-next.ensures.follows;
+      passed = passed_step _ _ _ _ _ _ _ _ c.loop-next.invariant.config (ap next_of c.in-StillBuilding.is) c.loop-next.invariant.passed c.in_ok-next.ensures.follows;
     }
 
 pub returns-in-Finished-clause-run : goal.returns-in-Finished-clause-run
@@ -37,4 +37,4 @@ returns-in-Finished-clause-run c =
 
 pub returns-in-Finished-clause-reach : goal.returns-in-Finished-clause-reach
 returns-in-Finished-clause-reach c plan rest w e =
-    passes_end _ _ _ _ _ _ _ _ plan rest c.loop-next.invariant.config (ap next_of c.in-Finished.is) c.loop-next.invariant.passes c.in_ok-next.ensures.follows w e
+    passed_end _ _ _ _ _ _ _ _ plan rest c.loop-next.invariant.config (ap next_of c.in-Finished.is) c.loop-next.invariant.passed c.in_ok-next.ensures.follows w e

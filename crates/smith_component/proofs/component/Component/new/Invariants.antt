@@ -3,7 +3,7 @@ use Rattle.smith_input.specs.Reading.{IsTail}
 use Rattle.smith_core.specs.Limits.{IsConsistent}
 use Rattle.smith_component.specs.Building.{open_of}
 use Rattle.smith_component.specs.Turn.{todo}
-use Rattle.smith_component.proofs.FollowsLemmas.{Passes}
+use Rattle.smith_component.proofs.FollowsLemmas.{Passed}
 use Rattle.smith_component.proofs.RunLemmas.{Reached}
 use Rattle.smith_component.proofs.component.Component.new.Given as goal
 
@@ -13,7 +13,7 @@ invariant-loop-next l = record {
   consistent : IsConsistent l.fn.config;
   tail : IsTail l.u l.fn.u;
   reached : Reached l.fn.config l.fn.u (open_of l.builder) l.u;
-  passes : Passes l.fn.config l.fn.u (open_of l.builder) l.u;
+  passed : Passed l.fn.config l.fn.u (open_of l.builder) l.u;
 }
 
 abbrev pub decreases-loop-next : goal.decreases-loop-next

@@ -1,7 +1,6 @@
 use Rattle.std.proofs.Common.{sym, ◌∙◌, subst}
 use Rattle.smith_core.proofs.Piece.{left_nil}
 use Rattle.smith_component.specs.Grammar.{Spells}
-use Rattle.smith_component.specs.Shown.{shown}
 use Rattle.smith_component.specs.Tree.{Tree}
 use Rattle.smith_component.proofs.Unique.{spells_law}
 use Rattle.smith_component.proofs.component.Component.to_bytes.Goals as goal
@@ -9,7 +8,7 @@ use Rattle.smith_component.proofs.component.Component.to_bytes.Goals as goal
 pub returns-clause-reading : goal.returns-clause-reading
 returns-clause-reading c t =
     let g = rw (c.in_ok-out.ensures {u = tt}).items at ((c.in_ok-filled.ensures {u = tt}).is) in
-    let e : Spells (shown c.args.self.now) c.put_component-filled.new.out.items = sym (left_nil _) ∙ sym g in (
-      λ h. spells_law t (shown c.args.self.now) c.put_component-filled.new.out.items h e,
+    let e : Spells c.args.self.now c.put_component-filled.new.out.items = sym (left_nil _) ∙ sym g in (
+      λ h. spells_law t c.args.self.now c.put_component-filled.new.out.items h e,
       λ h. let P : Tree → Type 0 = λ x. Spells x c.put_component-filled.new.out.items in subst P (sym h) e,
     )

@@ -1,4 +1,4 @@
-use Rattle.std.proofs.Common.{◌≡◌, ◌≤◌, ◌<◌, ◌^◌, length, arith, inr, refl, rules}
+use Rattle.std.proofs.Common.{◌≡◌, ◌≤◌, ◌<◌, ◌^◌, length, arith, inr}
 use Rattle.std.proofs.lemmas.Grind.{common_steps}
 use Rattle.smith_core.proofs.Sizes.{length_is, sized_none, takes_bytes, takes_sized, too_much_none}
 use Rattle.smith_core.proofs.pieces.SectionSpelledCoreFormat.spelled_len.Goals as goal

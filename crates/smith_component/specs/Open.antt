@@ -1,0 +1,53 @@
+-- Components that are open, and what a turn may choose among.
+use Rattle.std.specs.Prelude.{ℕ, ◌+◌, Bool, ◌&&◌, List, [], ◌∷◌, ◌++◌, length, nat_lt}
+use Rattle.smith_input.specs.Choices.{offered}
+use Rattle.smith_core.specs.declared.config.Config.{Config}
+use Rattle.smith_types.specs.Scope.{Scope}
+use Rattle.smith_component.specs.Tree.{Tree, ends, component, add, inside, modules}
+use Rattle.smith_component.specs.WellFormed.{scope_of}
+use Rattle.smith_component.specs.declared.item.Item.{Item}
+use Rattle.smith_component.specs.declared.item.Item.TheVariants.{Finish, Custom, CoreTypes, Types, Imports, Canonical, Module, Component}
+
+-- The open components: those around the inner one, outermost first, and the inner one, each as its parts so far.
+pub record Open : Type 0 where
+  pub outer : List Tree
+  pub inner : Tree
+
+-- one open component, empty
+abbrev pub root : Open
+root = record { outer = []; inner = ends }
+
+-- The tree as if all that is open were finished now.
+abbrev pub tree_so_far : List Tree → Tree → Tree
+tree_so_far [] t = t
+tree_so_far (u ∷ outer) t = add u (component (tree_so_far outer t))
+
+-- the scopes of the open components, outermost first, in front of these
+abbrev pub scopes_from : List Tree → List Scope → List Scope
+scopes_from [] outer = outer
+scopes_from (u ∷ us) outer = scopes_from us (scope_of u ∷ outer)
+
+abbrev pub scopes_in : List Tree → List Scope
+scopes_in us = scopes_from us []
+
+-- may a core module be embedded?
+abbrev pub is_module_offered : Config → Open → Bool
+is_module_offered config stack = nat_lt (length (modules (tree_so_far stack.outer stack.inner))) config.max_modules
+
+-- may a component be opened?
+abbrev pub is_component_offered : Config → Open → Bool
+is_component_offered config stack =
+    nat_lt (length stack.outer + 1) config.max_nesting_depth && nat_lt (length (inside (tree_so_far stack.outer stack.inner))) config.max_components
+
+-- what a turn chooses among where input is left, in order
+abbrev pub more_items : Bool → Bool → List Item
+more_items with_module with_component =
+    (Finish ∷ Custom ∷ CoreTypes ∷ Types ∷ Imports ∷ Canonical ∷ []) ++ offered with_module (Module ∷ []) ++ offered with_component (Component ∷ [])
+
+abbrev pub items_with_input : Config → Open → List Item
+items_with_input config stack = more_items (is_module_offered config stack) (is_component_offered config stack)
+
+-- what a turn chooses among
+abbrev pub items : Config → Open → List ℕ → List Item
+items config stack [] = Finish ∷ []
+items config stack (x ∷ xs) = items_with_input config stack
