@@ -1,7 +1,7 @@
 //! Function types that a hasher with a known seed tells apart badly.
 
 use smith_component::{Component, Config, Unstructured};
-use std::alloc::{AllocError, Global};
+use std::alloc::AllocError;
 use std::test::Fail;
 
 // Parameters come in pairs: a name and the rank of its type, and then the name of a parameter of type bool that is the
@@ -25,9 +25,9 @@ fn push_parameter(input: &mut Vec<u8>, name: &[u8; 8], ty: u8) -> Result<(), All
     input.extend_from_slice(&[1, 8])?;
     for character in name {
         let choice = match *character {
-            b'-' => 36,
+            b'a'..=b'z' => *character - b'a',
             b'0'..=b'9' => *character - b'0' + 26,
-            _ => *character - b'a',
+            _ => 36,
         };
         input.push(choice)?;
     }
@@ -35,18 +35,39 @@ fn push_parameter(input: &mut Vec<u8>, name: &[u8; 8], ty: u8) -> Result<(), All
     Ok(())
 }
 
+fn push_pair(input: &mut Vec<u8>, pair: &(&[u8; 8], u8, &[u8; 8])) -> Result<(), AllocError> {
+    push_parameter(input, pair.0, pair.1)?;
+    push_parameter(input, pair.2, 0)
+}
+
+// The place of an unused pair that has so many unused ones before it. It is used then.
+fn take_unused(used: &mut [bool; 8], before: usize) -> usize {
+    let mut skip = before;
+    for place in 0..8 {
+        if !used[place] {
+            if skip == 0 {
+                used[place] = true;
+                return place;
+            }
+            skip -= 1;
+        }
+    }
+    0
+}
+
 // The script of a function type of the first pair and seven of the eight others, in the order of that number.
-fn push_function(alloc: Global, input: &mut Vec<u8>, number: usize) -> Result<(), AllocError> {
+fn push_function(input: &mut Vec<u8>, number: usize) -> Result<(), AllocError> {
     input.extend_from_slice(&[1, 1])?;
-    let mut pairs = Vec::from_slice(alloc, PAIRS.as_slice())?;
-    let mut pair = FIRST;
+    push_pair(input, &FIRST)?;
+    let mut used = [false; 8];
     let mut rest = number;
-    for left in 0..8 {
-        push_parameter(input, pair.0, pair.1)?;
-        push_parameter(input, pair.2, 0)?;
-        let count = pairs.len();
-        pair = pairs.remove(rest % count);
-        rest /= 8 - left;
+    for done in 0..7 {
+        let unused = 8 - done;
+        let place = take_unused(&mut used, rest % unused);
+        rest /= unused;
+        if let Some(pair) = PAIRS.get(place) {
+            push_pair(input, pair)?;
+        }
     }
     input.push(0)?;
     Ok(())
@@ -62,7 +83,7 @@ fn function_types_of_one_hash_are_told_apart_in_time(rt: HostRuntime) -> Result<
     };
     let mut input = Vec::from_slice(rt.alloc(), b"\x03")?;
     for number in 0..20_000 {
-        push_function(rt.alloc(), &mut input, number)?;
+        push_function(&mut input, number)?;
     }
     let mut u = Unstructured::new(&input);
     let component = Component::new(rt.alloc(), config, &mut u)?;
