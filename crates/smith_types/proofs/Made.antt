@@ -10,7 +10,8 @@ use Rattle.smith_input.proofs.NewNames.{new_tail, new_unique}
 use Rattle.smith_input.proofs.ReadingLemmas.{tail_trans, reads_tail, reads_unique, flips_unique}
 use Rattle.smith_types.specs.Entries.{DefValType, primitive_type, record_type, variant_type, list_type, tuple_type, flags_type, enum_type, option_type, result_type}
 use Rattle.smith_types.specs.Entries.{Signature, Entry, defined, function}
-use Rattle.smith_types.specs.Made.{primitives, ReadsVal, only_primitive, either_primitive, either_index, ReadsMaybe, absent, present}
+use Rattle.smith_types.specs.Script.{primitives}
+use Rattle.smith_types.specs.Made.{ReadsVal, only_primitive, either_primitive, either_index, ReadsMaybe, absent, present}
 use Rattle.smith_types.specs.Made.{or_bool, MadeMembers, MadeAs, ReadsResult, MadeFunction, MadeValues, MadeOf, Made, spent_type, of_kind}
 use Rattle.smith_types.specs.Scope.{Scope, places, defined_places, is_defined}
 use Rattle.smith_types.specs.WellFormed.{FormedVal, FormedMaybe, FormedDefined, FormedEntry, defined_size, size}

@@ -14,7 +14,8 @@ use Rattle.smith_input.proofs.Picks.{reads-pick}
 use Rattle.smith_input.proofs.ReadingLemmas.{flips_one, flips_zero}
 use Rattle.smith_types.specs.Entries.{DefValType, primitive_type, record_type, variant_type, list_type, tuple_type, flags_type, enum_type, option_type, result_type}
 use Rattle.smith_types.specs.Entries.{Field, Case, Signature, Entry, defined, function}
-use Rattle.smith_types.specs.Made.{primitives, defined_kinds, type_kinds, ReadsVal, only_primitive, either_primitive, either_index, ReadsMaybe, absent, present, ReadsNamed}
+use Rattle.smith_types.specs.Script.{primitives, defined_kinds, type_kinds}
+use Rattle.smith_types.specs.Made.{ReadsVal, only_primitive, either_primitive, either_index, ReadsMaybe, absent, present, ReadsNamed}
 use Rattle.smith_types.specs.Made.{or_bool, MadeMembers, MadeAs, MadeDefined, MadeFunction, Made, spent_type, of_kind}
 use Rattle.smith_types.specs.Scope.{Scope, places, defined_places, is_defined}
 use Rattle.smith_types.specs.Script.{script_primitive, script_val, script_maybe, script_label, script_field, script_case, script_members, script_kind, script_defined, script_function, script_type_kind, script_type}

@@ -18,8 +18,8 @@ use Rattle.smith_types.specs.Shown.{shown_type}
 use Rattle.smith_types.specs.Signature.{named, signature, same_field, field_input, signature_input, same_signature_Decides}
 use Rattle.smith_types.specs.contracts.types.ComponentValTypeHash.TheImpl.{ghosts as val_hash}
 use Rattle.smith_types.specs.declared.types.ComponentValType.{ComponentValType}
-use Rattle.smith_types.specs.declared.types.DefType.{DefType}
-use Rattle.smith_types.specs.declared.types.DefType.TheVariants as def
+use Rattle.smith_types.specs.declared.deftype.DefType.{DefType}
+use Rattle.smith_types.specs.declared.deftype.DefType.TheVariants as def
 
 abbrev Stored : Type 0
 Stored = String Global × ComponentValType

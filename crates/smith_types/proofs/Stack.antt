@@ -6,7 +6,7 @@ use Rattle.smith_types.specs.Scope.{Scope, empty_scope, with_type, with_types, w
 use Rattle.smith_types.specs.Scopes.{Contents, shown_scope, inward, last_of, Changes, AddsType, AddsCoreType}
 use Rattle.smith_types.specs.Shown.{shown_type, shown_core}
 use Rattle.smith_types.specs.declared.core_types.CoreType.{CoreType}
-use Rattle.smith_types.specs.declared.types.DefType.{DefType}
+use Rattle.smith_types.specs.declared.deftype.DefType.{DefType}
 
 pub last_of-snoc : (ss : List Contents) (s : Contents) → last_of (ss ++ s ∷ []) ≡ s
 last_of-snoc [] s = refl

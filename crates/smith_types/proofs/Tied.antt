@@ -16,8 +16,8 @@ use Rattle.smith_types.specs.declared.core_types.CoreType.{CoreType}
 use Rattle.smith_types.specs.declared.core_types.CoreType.TheVariants as core
 use Rattle.smith_types.specs.declared.core_types.ModuleType.{ModuleType}
 use Rattle.smith_types.specs.declared.types.DefinedType.{DefinedType}
-use Rattle.smith_types.specs.declared.types.DefType.{DefType}
-use Rattle.smith_types.specs.declared.types.DefType.TheVariants as def
+use Rattle.smith_types.specs.declared.deftype.DefType.{DefType}
+use Rattle.smith_types.specs.declared.deftype.DefType.TheVariants as def
 use Rattle.smith_types.proofs.Stack.{places-append}
 
 -- a row that was written, among the rows of a map

@@ -5,8 +5,8 @@ pub mod TooLong
 pub mod ModuleTypes
 pub mod WellFormed
 pub mod CoreLimits
-pub mod Made
 pub mod Script
+pub mod Made
 pub mod Signature
 pub mod Shown
 pub mod Scopes

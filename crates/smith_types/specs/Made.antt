@@ -8,6 +8,7 @@ use Rattle.smith_input.specs.Reading.{Reads, Flips}
 use Rattle.smith_types.specs.Entries.{DefValType, primitive_type, record_type, variant_type, list_type, tuple_type, flags_type, enum_type, option_type, result_type}
 use Rattle.smith_types.specs.Entries.{Signature, Entry, defined, function}
 use Rattle.smith_types.specs.Scope.{Scope, defined_places}
+use Rattle.smith_types.specs.Script.{primitives, defined_kinds, type_kinds}
 use Rattle.smith_types.specs.declared.make.TypeKind.{TypeKind}
 use Rattle.smith_types.specs.declared.make.TypeKind.TheVariants.{Defined, Function, Component, Instance}
 use Rattle.smith_types.specs.declared.make.defined.DefinedKind.{DefinedKind}
@@ -16,11 +17,6 @@ use Rattle.smith_types.specs.declared.types.ComponentValType.{ComponentValType}
 use Rattle.smith_types.specs.declared.types.ComponentValType.TheVariants.{Primitive, Indexed}
 use Rattle.smith_types.specs.declared.types.PrimitiveValType.{PrimitiveValType}
 use Rattle.smith_types.specs.declared.types.PrimitiveValType.TheVariants as prim
-
--- what a choice of a primitive type is among
-abbrev pub primitives : List PrimitiveValType
-primitives =
-    prim.Bool ∷ prim.S8 ∷ prim.U8 ∷ prim.S16 ∷ prim.U16 ∷ prim.S32 ∷ prim.U32 ∷ prim.S64 ∷ prim.U64 ∷ prim.F32 ∷ prim.F64 ∷ prim.Char ∷ prim.String ∷ []
 
 -- A value type is a primitive one where the scope has no defined types. Else it is a choice of two: a primitive one, or one of
 -- the defined types of the scope, by its index.
@@ -66,10 +62,6 @@ or_bool of (x ∷ xs) = of (x ∷ xs)
 abbrev pub MadeMembers : {A : Type 0} → (List A → List ℕ → A → List ℕ → Type 0) → ℕ → (List A → DefValType) → List ℕ → ℕ → DefValType → List ℕ → ℕ → Type 0
 MadeMembers {A} Member max of b fuel t rest left = (xs : List A) × ReadsMembers Member 1 max b fuel xs rest left × (t ≡ or_bool of xs)
 
--- what a choice of a defined type is among
-abbrev pub defined_kinds : List DefinedKind
-defined_kinds = kind.Primitive ∷ kind.Record ∷ kind.Variant ∷ kind.List ∷ kind.Tuple ∷ kind.Flags ∷ kind.Enum ∷ kind.Option ∷ kind.Result ∷ []
-
 -- a defined type of a kind
 abbrev pub MadeAs : Scope → DefinedKind → List ℕ → ℕ → DefValType → List ℕ → ℕ → Type 0
 MadeAs own kind.Primitive b fuel t rest left = (p : PrimitiveValType) × ReadsAmong primitives b p rest × (t ≡ primitive_type p) × (left ≡ fuel)
@@ -101,10 +93,6 @@ pub record MadeFunction (own : Scope) (bytes : List ℕ) (fuel : ℕ) (s : Signa
   pub takes : ReadsMembers (ReadsNamed (ReadsVal own)) 0 16 bytes fuel s.params mid held
   pub gives : ReadsResult own mid held s.result rest left
 
--- what a choice of a type is among
-abbrev pub type_kinds : List TypeKind
-type_kinds = Defined ∷ Function ∷ Component ∷ Instance ∷ []
-
 -- a type of values
 abbrev pub MadeValues : Scope → List ℕ → ℕ → Entry → List ℕ → ℕ → Type 0
 MadeValues own b fuel e rest left = (t : DefValType) × MadeDefined own b fuel t rest left × (e ≡ defined t)
@@ -121,3 +109,7 @@ pub data Made (own : Scope) (outer : List Scope) : List ℕ → ℕ → Entry �
   spent_type : {bytes : List ℕ} {fuel : ℕ} {e : Entry} {rest : List ℕ} {left : ℕ} → fuel - 1 ≡ 0 → MadeValues own bytes 0 e rest left → Made own outer bytes fuel e rest left
   of_kind : {bytes : List ℕ} {fuel : ℕ} {kind : TypeKind} {mid : List ℕ} {e : Entry} {rest : List ℕ} {left : ℕ} → 0 < fuel - 1 → ReadsAmong type_kinds bytes kind mid → MadeOf own kind mid (fuel - 1) e rest left
       → Made own outer bytes fuel e rest left
+
+-- the same, whatever is left of the fuel
+abbrev pub MadeWith : Scope → List Scope → ℕ → List ℕ → Entry → List ℕ → Type 0
+MadeWith own outer fuel bytes e rest = (left : ℕ) × Made own outer bytes fuel e rest left

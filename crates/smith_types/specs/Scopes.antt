@@ -11,8 +11,8 @@ use Rattle.smith_types.specs.Signature.{same_signature}
 use Rattle.smith_types.specs.declared.core_types.CoreType.{CoreType}
 use Rattle.smith_types.specs.declared.scopes.Kind.{Kind}
 use Rattle.smith_types.specs.declared.scopes.Kind.TheVariants as kind
-use Rattle.smith_types.specs.declared.types.DefType.{DefType}
-use Rattle.smith_types.specs.declared.types.DefType.TheVariants as def
+use Rattle.smith_types.specs.declared.deftype.DefType.{DefType}
+use Rattle.smith_types.specs.declared.deftype.DefType.TheVariants as def
 
 -- a scope of the program's own types
 abbrev pub Contents : Type 0

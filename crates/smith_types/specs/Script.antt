@@ -5,19 +5,32 @@ use Rattle.std.specs.Option.{option_to_list}
 use Rattle.smith_input.specs.Script.{script_among, script_loop, script_name, pick}
 use Rattle.smith_types.specs.Entries.{DefValType, primitive_type, record_type, variant_type, list_type, tuple_type, flags_type, enum_type, option_type, result_type}
 use Rattle.smith_types.specs.Entries.{Field, Case, Signature, Entry, defined, function}
-use Rattle.smith_types.specs.Made.{primitives, defined_kinds, type_kinds}
 use Rattle.smith_types.specs.Scope.{Scope, defined_places}
 use Rattle.smith_types.specs.WellFormed.{size}
 use Rattle.smith_types.specs.contracts.make.TypeKindPartialEq.TheImpl.{ghosts as types}
 use Rattle.smith_types.specs.contracts.make.defined.DefinedKindPartialEq.TheImpl.{ghosts as kinds}
 use Rattle.smith_types.specs.contracts.types.PrimitiveValTypePartialEq.TheImpl.{ghosts as prims}
 use Rattle.smith_types.specs.declared.make.TypeKind.{TypeKind}
-use Rattle.smith_types.specs.declared.make.TypeKind.TheVariants.{Defined, Function}
+use Rattle.smith_types.specs.declared.make.TypeKind.TheVariants.{Defined, Function, Component, Instance}
 use Rattle.smith_types.specs.declared.make.defined.DefinedKind.{DefinedKind}
 use Rattle.smith_types.specs.declared.make.defined.DefinedKind.TheVariants as kind
 use Rattle.smith_types.specs.declared.types.ComponentValType.{ComponentValType}
 use Rattle.smith_types.specs.declared.types.ComponentValType.TheVariants.{Primitive, Indexed}
 use Rattle.smith_types.specs.declared.types.PrimitiveValType.{PrimitiveValType}
+use Rattle.smith_types.specs.declared.types.PrimitiveValType.TheVariants as prim
+
+-- what a choice of a primitive type is among
+abbrev pub primitives : List PrimitiveValType
+primitives =
+    prim.Bool ∷ prim.S8 ∷ prim.U8 ∷ prim.S16 ∷ prim.U16 ∷ prim.S32 ∷ prim.U32 ∷ prim.S64 ∷ prim.U64 ∷ prim.F32 ∷ prim.F64 ∷ prim.Char ∷ prim.String ∷ []
+
+-- what a choice of a defined type is among
+abbrev pub defined_kinds : List DefinedKind
+defined_kinds = kind.Primitive ∷ kind.Record ∷ kind.Variant ∷ kind.List ∷ kind.Tuple ∷ kind.Flags ∷ kind.Enum ∷ kind.Option ∷ kind.Result ∷ []
+
+-- what a choice of a type is among
+abbrev pub type_kinds : List TypeKind
+type_kinds = Defined ∷ Function ∷ Component ∷ Instance ∷ []
 
 -- that a value type is primitive, where it may be an indexed one
 abbrev pub script_either : ℕ → List ℕ

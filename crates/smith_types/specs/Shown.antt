@@ -12,8 +12,8 @@ use Rattle.smith_types.specs.declared.core_types.ModuleTypeDef.{ModuleTypeDef}
 use Rattle.smith_types.specs.declared.core_types.ModuleTypeDef.TheVariants as decl
 use Rattle.smith_types.specs.declared.types.DefinedType.{DefinedType}
 use Rattle.smith_types.specs.declared.types.DefinedType.TheVariants as value
-use Rattle.smith_types.specs.declared.types.DefType.{DefType}
-use Rattle.smith_types.specs.declared.types.DefType.TheVariants as def
+use Rattle.smith_types.specs.declared.deftype.DefType.{DefType}
+use Rattle.smith_types.specs.declared.deftype.DefType.TheVariants as def
 
 abbrev pub shown_defined : DefinedType → DefValType
 shown_defined (value.Primitive p) = primitive_type p

@@ -12,8 +12,9 @@ ghost use Rattle.smith_core.specs.Writing.{Puts, Appends, Takes, IsLengthOf};
 ghost use Rattle.smith_types.specs.Grammar.{valtype, resultlist, functype, entry};
 ghost use Rattle.smith_types.specs.Shown.{shown_type, shown_shared};
 
+use crate::deftype::DefType;
 use crate::func::FuncType;
-use crate::types::{ComponentValType, DefType};
+use crate::types::ComponentValType;
 pub use core_types::{core_type_len, write_core_type};
 use defined::{defined_len, put_defined};
 use smith_core::{Spelled, put_tagged, tagged_len, write_byte, write_bytes, write_spelled};

@@ -2,6 +2,7 @@
 #![tactic(auto)]
 
 mod core_types;
+mod deftype;
 mod drops;
 mod encode;
 mod func;
@@ -11,12 +12,13 @@ mod scopes;
 mod types;
 
 pub use core_types::{CoreType, ModuleType, ModuleTypeDef};
+pub use deftype::DefType;
 pub use drops::drop_last_first;
 pub use encode::{ComponentFormat, core_type_len, type_len, write_core_type, write_type};
 pub use func::FuncType;
 pub use make::{DefinedKind, TypeKind, arbitrary_type};
 pub use scopes::{Kind, Scopes};
 pub use types::{
-    ComponentValType, DefType, DefinedType, EnumType, FlagsType, ListType, OptionType,
-    PrimitiveValType, RecordType, ResultType, TupleType, VariantType,
+    ComponentValType, DefinedType, EnumType, FlagsType, ListType, OptionType, PrimitiveValType,
+    RecordType, ResultType, TupleType, VariantType,
 };

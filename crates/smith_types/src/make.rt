@@ -13,8 +13,8 @@ ghost use Rattle.smith_types.specs.Scopes.{own_scope, outer_scopes};
 ghost use Rattle.smith_types.specs.Shown.{shown_type, shown_shared};
 ghost use Rattle.smith_types.specs.WellFormed.{FormedEntry, size};
 
+use crate::deftype::DefType;
 use crate::scopes::Scopes;
-use crate::types::DefType;
 pub use defined::DefinedKind;
 use defined::defined_type;
 use fuel::burn;

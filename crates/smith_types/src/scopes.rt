@@ -7,9 +7,9 @@ ghost use Rattle.smith_types.specs.Scopes.{own_scope, shown_scope, kind_places, 
 ghost use Rattle.smith_types.specs.Scopes.{AddsType, AddsCoreType, Notes, SameRows};
 
 use crate::core_types::CoreType;
+use crate::deftype::DefType;
 use crate::drops::drop_last_first;
 use crate::func::FuncType;
-use crate::types::DefType;
 use smith_input::Error;
 use std::alloc::Global;
 use std::collections::HashMap;

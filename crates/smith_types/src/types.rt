@@ -1,8 +1,5 @@
 //! Types of a component (Explainer.md, type definitions).
 
-use crate::func::FuncType;
-use std::rc::Rc;
-
 /// A primitive value type.
 #[derive(Debug, Clone, Copy, PartialEq, Eq, Hash)]
 pub enum PrimitiveValType {
@@ -90,11 +87,4 @@ pub enum DefinedType {
     Enum(EnumType),
     Option(OptionType),
     Result(ResultType),
-}
-
-/// A type that a component declares.
-#[derive(Debug, Drop)]
-pub enum DefType {
-    Defined(DefinedType),
-    Func(Rc<FuncType>),
 }

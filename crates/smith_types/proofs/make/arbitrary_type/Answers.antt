@@ -3,7 +3,7 @@ use Rattle.smith_types.specs.Scope.{own_of, outer_of}
 use Rattle.smith_types.specs.Scopes.{inward}
 use Rattle.smith_types.specs.Shown.{shown_type}
 use Rattle.smith_types.specs.WellFormed.{FormedEntry, size}
-use Rattle.smith_types.specs.declared.types.DefType.{DefType}
+use Rattle.smith_types.specs.declared.deftype.DefType.{DefType}
 use Rattle.smith_types.proofs.Made.{made_formed, made_size}
 use Rattle.smith_types.proofs.make.arbitrary_type.Goals as goal
 
