@@ -1,19 +1,17 @@
 -- What a type section reads: well formed types, within their fuel, a tail of the bytes; and what its script says.
 use Rattle.std.proofs.Common.{◌≡◌, ℕ, ◌+◌, ◌≤◌, ◌^◌, List, [], ◌∷◌, ◌++◌, length, arith, refl, sym, ap, ◌∙◌, subst, length-append, append_assoc}
 use Rattle.std.specs.List.{AllByRecursion}
-use Rattle.smith_input.specs.Loops.{Along, Never, after_all}
-use Rattle.smith_input.specs.Script.{script_loop}
+use Rattle.smith_input.specs.Loops.{Along, after_all}
 use Rattle.smith_input.specs.Reading.{IsTail}
 use Rattle.smith_input.proofs.Loops.{loop_tail, loop_gives, loop_all, loop_same, loop_read}
 use Rattle.smith_core.specs.declared.config.Config.{Config}
 use Rattle.smith_types.specs.Entries.{Entry}
-use Rattle.smith_types.specs.Made.{Made}
 use Rattle.smith_types.specs.Scope.{Scope, with_type, with_types, own_of, outer_of}
 use Rattle.smith_types.specs.Script.{script_type, Lasts}
 use Rattle.smith_types.specs.WellFormed.{FormedEntry, FormedTypes}
 use Rattle.smith_types.proofs.Made.{made_tail, made_formed, made_size}
 use Rattle.smith_types.proofs.Made.{made_same}
-use Rattle.smith_types.proofs.Stack.{with_none, with_more}
+use Rattle.smith_types.proofs.Stack.{with_none}
 use Rattle.smith_types.proofs.Script.{type_read}
 use Rattle.smith_component.specs.Limits.{SmallTypes}
 use Rattle.smith_component.specs.Script.{script_types}

@@ -1,6 +1,5 @@
 -- What is done follows a script.
-use Rattle.std.proofs.Common.{◌≡◌, ℕ, zero, suc, ◌+◌, ◌-◌, ◌≤◌, ◌^◌, Bool, false, List, [], ◌∷◌, ◌++◌, length, arith, refl, sym, ap, ◌∙◌, subst}
-use Rattle.std.specs.List.{AllByRecursion}
+use Rattle.std.proofs.Common.{◌≡◌, ℕ, zero, suc, ◌+◌, ◌-◌, ◌≤◌, ◌^◌, Bool, List, [], ◌∷◌, ◌++◌, length, arith, refl, sym, ap, ◌∙◌, subst}
 use Rattle.smith_input.specs.Choices.{ReadsAmong}
 use Rattle.smith_input.specs.Script.{script_end}
 use Rattle.smith_input.specs.Reading.{More}
@@ -9,9 +8,7 @@ use Rattle.smith_input.proofs.Loops.{end_read}
 use Rattle.smith_input.proofs.ReadingLemmas.{more_unique}
 use Rattle.smith_core.specs.declared.config.Config.{Config}
 use Rattle.smith_types.specs.Entries.{Entry, ImportEntry}
-use Rattle.smith_types.specs.Scope.{Scope, with_type}
-use Rattle.smith_types.specs.Script.{Lasts}
-use Rattle.smith_types.specs.WellFormed.{FormedTypes}
+use Rattle.smith_types.specs.Scope.{Scope}
 use Rattle.smith_component.specs.Limits.{OwnLimits}
 use Rattle.smith_component.specs.Open.{Open, root, items, scopes_in}
 use Rattle.smith_component.specs.Script.{item_of, script_part, script, IsPlanPart, Within}

@@ -1,6 +1,6 @@
 -- Components that have no encoding.
-use Rattle.std.proofs.Common.{◌≡◌, ℕ, ◌⊎◌, inl, inr, ◌↔◌, List, [], ◌∷◌, refl, Some, None}
-use Rattle.smith_core.specs.Piece.{Piece, ◌⊕◌, bytes, framed, piece_length, raw, text, many, sized}
+use Rattle.std.proofs.Common.{◌≡◌, ℕ, ◌⊎◌, inl, inr, List, [], ◌∷◌, refl, Some, None}
+use Rattle.smith_core.specs.Piece.{Piece, ◌⊕◌, framed, piece_length, raw, text, many, sized}
 use Rattle.smith_core.specs.TooLong.{Passes}
 use Rattle.smith_core.proofs.Piece.{none_join}
 use Rattle.smith_core.proofs.Sizes.{u_none_where}

@@ -1,5 +1,5 @@
 -- The input that a plan is read from.
-use Rattle.std.specs.Prelude.{◌≡◌, ℕ, ◌-◌, Bool, List, [], ◌∷◌, ◌++◌, length}
+use Rattle.std.specs.Prelude.{◌≡◌, ℕ, ◌-◌, List, [], ◌∷◌, ◌++◌, length}
 use Rattle.std.specs.List.{AllByRecursion}
 use Rattle.std.specs.Str.{IsUtf8}
 use Rattle.smith_input.specs.Script.{script_among, script_end, script_loop, script_text, script_bytes}
@@ -9,7 +9,7 @@ use Rattle.smith_types.specs.Scope.{Scope, with_type}
 use Rattle.smith_types.specs.Script.{script_type, Lasts}
 use Rattle.smith_component.specs.Tree.{Tree, ends, first, Part, custom, core_module, core_types, component, types, canons, imports, add, types_of, core_types_of, own, imports_in, canons_in}
 use Rattle.smith_component.specs.Grammar.{Spells}
-use Rattle.smith_component.specs.Open.{Open, items_with_input}
+use Rattle.smith_component.specs.Open.{items_with_input}
 use Rattle.smith_component.specs.WellFormed.{WellFormed, scope_of}
 use Rattle.smith_component.specs.Limits.{Limits}
 use Rattle.smith_component.specs.contracts.item.ItemPartialEq.TheImpl.{ghosts as equal}

@@ -1,5 +1,5 @@
 -- Which components have no encoding, since a count, the length of a name or of a section, or an index in them passes 4,294,967,295.
-use Rattle.std.specs.Prelude.{◌≡◌, ℕ, ◌<◌, ◌⊎◌, List, None}
+use Rattle.std.specs.Prelude.{◌≡◌, ◌<◌, ◌⊎◌, None}
 use Rattle.std.specs.List.{AllByRecursion}
 use Rattle.smith_core.specs.Piece.{Piece, ◌⊕◌, piece_length, raw, text, many}
 use Rattle.smith_core.specs.TooLong.{Passes}

@@ -1,9 +1,9 @@
 -- What is offered, item by item.
-use Rattle.std.proofs.Common.{◌≡◌, ℕ, suc, ◌+◌, ◌<◌, ◌≤◌, Bool, true, false, List, [], ◌∷◌, length, ap, sym, ◌∙◌, refl, subst, get_or, add-one, arith}
+use Rattle.std.proofs.Common.{◌≡◌, ℕ, suc, ◌+◌, ◌<◌, ◌≤◌, Bool, true, false, List, [], ◌∷◌, length, ap, sym, ◌∙◌, refl, get_or, add-one, arith}
 use Rattle.std.proofs.Math.ListN.{drop}
 use Rattle.std.proofs.Math.Seq.{drop-cons}
 use Rattle.std.proofs.lemmas.List.{length-drop}
-use Rattle.std.specs.Prelude.{if◌then◌else◌, slice_get, Some, None}
+use Rattle.std.specs.Prelude.{if◌then◌else◌, slice_get, Some}
 use Rattle.smith_input.specs.Script.{offers_of}
 
 module _ {A : Type 0} (os : List (Bool × A)) (i : ℕ) (o : Bool × A) (h : i < length os) (e : o ≡ get_or os i o) where

@@ -1,7 +1,6 @@
 -- Choices among the items of a list.
-use Rattle.std.specs.Prelude.{◌≡◌, ℕ, zero, suc, Bool, List, [], ◌∷◌, length, Some, slice_get, if◌then◌else◌}
+use Rattle.std.specs.Prelude.{◌≡◌, ℕ, List, length, Some, slice_get}
 use Rattle.smith_input.specs.Reading.{Reads}
-use Rattle.smith_input.specs.Script.{pick}
 
 -- A choice among the places of a list reads the item that stands there.
 pub record ReadsAmong {A : Type 0} (xs : List A) (bytes : List ℕ) (x : A) (rest : List ℕ) : Type 0 where

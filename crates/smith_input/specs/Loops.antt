@@ -1,5 +1,5 @@
 -- Loops that ask before each turn whether they make it.
-use Rattle.std.specs.Prelude.{◌≡◌, ℕ, ◌+◌, true, false, List, [], ◌∷◌, ◌++◌, nat_lt, if◌then◌else◌}
+use Rattle.std.specs.Prelude.{◌≡◌, ℕ, ◌+◌, true, false, List, [], ◌∷◌}
 use Rattle.smith_input.specs.Reading.{More}
 
 -- A loop that asks before each turn, `done` turns being made before. Item s bytes x rest t: in the state s the bytes give the

@@ -1,12 +1,11 @@
 -- Names in kebab case, as they are read, made unique among those that there are, and scripted.
-use Rattle.std.specs.Prelude.{◌≡◌, ℕ, zero, suc, ◌+◌, ◌-◌, ◌<◌, ◌||◌, Bool, true, false, nat_eq, nat_lt, nat_le, if◌then◌else◌, List, [], ◌∷◌, ◌++◌, length, bytes_eq, codes}
+use Rattle.std.specs.Prelude.{◌≡◌, ℕ, zero, suc, ◌+◌, ◌-◌, ◌<◌, ◌||◌, Bool, true, false, nat_eq, nat_lt, if◌then◌else◌, List, [], ◌∷◌, ◌++◌, length, bytes_eq, codes}
 use Rattle.std.specs.Fmt.{decimal}
 use Rattle.std.specs.List.{list_any}
 use Rattle.std.specs.BTreeSet.{BTreeSet, contains_text, btree_set_len}
 use Rattle.std.specs.declared.string.String.{String}
 use Rattle.smith_input.specs.Kebab.{Kebab}
 use Rattle.smith_input.specs.Reading.{Reads}
-use Rattle.smith_input.specs.Script.{pick}
 
 -- Choices among n, one read after another.
 pub data ReadsEach (n : ℕ) : List ℕ → List ℕ → List ℕ → Type 0 where

@@ -1,8 +1,7 @@
 -- Bytes of any length and texts of a limited length, as they are read, and how they are spelled.
-use Rattle.std.specs.Prelude.{◌≡◌, ℕ, ◌+◌, ◌<◌, ◌≤◌, true, false, List, [], ◌∷◌, ◌++◌, length, take, drop, slice_index}
+use Rattle.std.specs.Prelude.{◌≡◌, ℕ, ◌+◌, ◌<◌, ◌≤◌, true, false, List, [], ◌∷◌, length, take, drop, slice_index}
 use Rattle.std.specs.Str.{IsUtf8}
 use Rattle.smith_input.specs.Reading.{Reads, Flips}
-use Rattle.smith_input.specs.Script.{pick}
 
 -- One byte is read, zero past the end.
 pub record ReadsByte (bytes : List ℕ) (value : ℕ) (rest : List ℕ) : Type 0 where

@@ -1,4 +1,4 @@
-use Rattle.std.proofs.Common.{◌≡◌, ℕ, zero, suc, ◌-◌, ◌+◌, List, [], ◌∷◌, slice_get, Some, None, ap, sym, ◌∙◌, arith}
+use Rattle.std.proofs.Common.{◌+◌, slice_get, ap, sym, ◌∙◌, arith}
 use Rattle.std.proofs.Math.ListN.{drop}
 use Rattle.smith_input.specs.Script.{offers_of}
 use Rattle.smith_input.proofs.Offered.{offered_next, not_offered, no_more_offers, first_of, later_of}
