@@ -121,3 +121,7 @@ pub data Made (own : Scope) (outer : List Scope) : List ℕ → ℕ → Entry �
   spent_type : {bytes : List ℕ} {fuel : ℕ} {e : Entry} {rest : List ℕ} {left : ℕ} → fuel - 1 ≡ 0 → MadeValues own bytes 0 e rest left → Made own outer bytes fuel e rest left
   of_kind : {bytes : List ℕ} {fuel : ℕ} {kind : TypeKind} {mid : List ℕ} {e : Entry} {rest : List ℕ} {left : ℕ} → 0 < fuel - 1 → ReadsAmong type_kinds bytes kind mid → MadeOf own kind mid (fuel - 1) e rest left
       → Made own outer bytes fuel e rest left
+
+-- a type that is made with so much fuel, of which any may be left
+abbrev pub MadeWith : Scope → List Scope → ℕ → List ℕ → Entry → List ℕ → Type 0
+MadeWith own outer fuel bytes e rest = (left : ℕ) × Made own outer bytes fuel e rest left

@@ -5,7 +5,7 @@ ghost use Rattle.smith_core.specs.Clear.{IsClear};
 ghost use Rattle.smith_input.specs.Reading.{IsDecided, IsReadAs};
 ghost use Rattle.smith_types.specs.Entries.{Signature, Entry, function, CoreEntry};
 ghost use Rattle.smith_types.specs.Grammar.{valtype, maybe_valtype, entry, core_entry};
-ghost use Rattle.smith_types.specs.Made.{Made};
+ghost use Rattle.smith_types.specs.Made.{Made, MadeWith};
 ghost use Rattle.smith_types.specs.Scope.{Scope};
 ghost use Rattle.smith_types.specs.Scopes.{has_signature};
 ghost use Rattle.smith_types.specs.Script.{Lasts, script_type};
@@ -25,8 +25,7 @@ pub fn types_are_decided()
 pub fn scripts_are_read()
     ensures { (own : Scope) (outer : List Scope) (fuel : ℕ) (e : Entry)
         → FormedEntry e own outer → Lasts fuel e → length own.types ≤ 2 ^ 64
-        → IsReadAs (λ bytes made rest. (left : ℕ) × Made own outer bytes fuel made rest left)
-        (script_type fuel own e) e }
+        → IsReadAs (MadeWith own outer fuel) (script_type fuel own e) e }
 {}
 
 /// Two function types are compared as equal exactly where their signatures are the same, and a type is one of a
