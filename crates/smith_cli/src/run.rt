@@ -1,6 +1,8 @@
 //! From a reader of a fuzzer's bytes to the page of a component.
 
-ghost use Rattle.std.specs.Prelude.{◌≡◌, ◌≢◌, ℕ, ◌+◌, ◌<◌, ◌≤◌, ◌⊎◌, List, Option, length, IfOk, OnOk, IfErr, OnErr, IsErrOf, vec_len};
+ghost use Rattle.std.specs.Prelude.{
+    ◌≡◌, ◌≢◌, ℕ, ◌+◌, ◌<◌, ◌≤◌, ◌⊎◌, List, Option, length, IfOk, OnOk, IfErr, OnErr, IsErrOf, vec_len
+};
 ghost use Rattle.std.specs.Io.KnownBytes.{Appends, Consumes, IsAtEnd};
 ghost use Rattle.smith_input.specs.declared.error.Error.TheVariants.{OutOfMemory};
 ghost use Rattle.smith_core.specs.Limits.{IsConsistent};

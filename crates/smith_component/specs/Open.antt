@@ -1,6 +1,6 @@
 -- Components that are open, and what a turn may choose among.
 use Rattle.std.specs.Prelude.{ℕ, ◌+◌, Bool, ◌&&◌, List, [], ◌∷◌, ◌++◌, length, nat_lt}
-use Rattle.smith_input.specs.Choices.{offered}
+use Rattle.smith_input.specs.Script.{offered}
 use Rattle.smith_core.specs.declared.config.Config.{Config}
 use Rattle.smith_types.specs.Scope.{Scope}
 use Rattle.smith_component.specs.Tree.{Tree, ends, component, add, inside, modules}

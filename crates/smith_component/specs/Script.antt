@@ -2,9 +2,7 @@
 use Rattle.std.specs.Prelude.{◌≡◌, ℕ, ◌-◌, Bool, List, [], ◌∷◌, ◌++◌, length}
 use Rattle.std.specs.List.{AllByRecursion}
 use Rattle.std.specs.Str.{IsUtf8}
-use Rattle.smith_input.specs.Choices.{script_among}
-use Rattle.smith_input.specs.Loops.{script_end, script_loop}
-use Rattle.smith_input.specs.Texts.{script_text, script_bytes}
+use Rattle.smith_input.specs.Script.{script_among, script_end, script_loop, script_text, script_bytes}
 use Rattle.smith_core.specs.declared.config.Config.{Config}
 use Rattle.smith_types.specs.Entries.{Entry}
 use Rattle.smith_types.specs.Scope.{Scope, with_type}

@@ -1,7 +1,6 @@
 -- The input that a core function type is read from: what a script says of it.
 use Rattle.std.specs.Prelude.{ℕ, List, ◌++◌}
-use Rattle.smith_input.specs.Choices.{script_among}
-use Rattle.smith_input.specs.Loops.{script_loop}
+use Rattle.smith_input.specs.Script.{script_among, script_loop}
 use Rattle.smith_core.specs.CoreTypes.{Function}
 use Rattle.smith_core.specs.Equality.{same_val}
 use Rattle.smith_core.specs.declared.types.ValType.{ValType}

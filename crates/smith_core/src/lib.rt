@@ -5,7 +5,7 @@ mod buffer;
 mod config;
 mod encode;
 mod entity;
-mod laws;
+pub mod laws;
 mod lists;
 mod make;
 mod module;
@@ -17,12 +17,6 @@ pub use buffer::{CoreFormat, Spelled, write_byte, write_bytes, write_spelled};
 pub use config::Config;
 pub use encode::{core_val_len, func_type_len, write_core_val, write_func_type};
 pub use entity::{core_import_len, entity_len, write_core_import, write_entity};
-pub use laws::{
-    bytes_have_an_encoding, contents_are_exact, core_scripts_are_read, core_types_are_clear,
-    core_types_are_decided, lists_are_clear, long_core_types_have_no_encoding,
-    long_lists_have_no_encoding, numbers_are_clear, sections_are_clear, signed_numbers,
-    texts_are_clear, too_long_has_no_encoding, unsigned_numbers,
-};
 pub use lists::{many_len, put_many, put_tagged, tagged_len};
 pub use make::{arbitrary_func_type, arbitrary_memtype, arbitrary_table_type, arbitrary_tag_type};
 pub use module::Module;

@@ -1,7 +1,8 @@
 //! Core modules.
 #![tactic(auto, using(crate::proofs::Steps::writing, crate::proofs::Sizes::measuring))]
 
-ghost use Rattle.smith_core.specs.Module.{module_text};
+ghost use Rattle.std.specs.Prelude.{◌≡◌};
+ghost use Rattle.smith_core.specs.Module.{core_preamble, module_text};
 ghost use Rattle.smith_core.specs.Piece.{bytes};
 ghost use Rattle.smith_core.specs.Writing.{Appends, Measures};
 
@@ -16,7 +17,9 @@ const PREAMBLE: [u8; 8] = [0x00, 0x61, 0x73, 0x6d, 0x01, 0x00, 0x00, 0x00];
 
 impl Module {
     /// A module without sections.
-    pub fn empty() -> Module {
+    pub fn empty() -> Module
+        ensures { module_text result ≡ core_preamble }
+    {
         Module {}
     }
 

@@ -5,9 +5,10 @@ use Rattle.std.proofs.lemmas.Bool.{cases_lt}
 use Rattle.std.proofs.lemmas.Fmt.{decimal_by_steps}
 use Rattle.std.proofs.lemmas.List.{map-append, length-map}
 use Rattle.std.specs.Fmt.{decimal}
-use Rattle.smith_input.specs.Reading.{Reads, IsTail, pick}
+use Rattle.smith_input.specs.Reading.{Reads, IsTail}
+use Rattle.smith_input.specs.Script.{pick, code, script_characters, script_name}
 use Rattle.smith_input.specs.Kebab.{IsLetter, IsDigit, AreInWord, IsWord, Kebab, word, hyphen}
-use Rattle.smith_input.specs.Names.{character, characters, ReadsEach, none, next, ReadsKebab, appended, IsMadeUnique, code, script_characters, script_name}
+use Rattle.smith_input.specs.Names.{character, characters, ReadsEach, none, next, ReadsKebab, appended, IsMadeUnique}
 use Rattle.smith_input.proofs.Picks.{reads-pick}
 use Rattle.smith_input.proofs.ReadingLemmas.{tail_same, tail_trans, reads_tail, reads_unique}
 

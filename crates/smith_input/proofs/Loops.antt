@@ -3,7 +3,8 @@ use Rattle.std.proofs.Common.{◌≡◌, ℕ, ◌+◌, ◌<◌, ◌≤◌, Bool,
 use Rattle.std.specs.List.{AllByRecursion}
 use Rattle.std.specs.Prelude.{if◌then◌else◌}
 use Rattle.std.proofs.lemmas.Bool.Decides.{nat_tests}
-use Rattle.smith_input.specs.Loops.{Loop, no_more, by_itself, an_item, after_all, Along, script_end, script_more, script_loop}
+use Rattle.smith_input.specs.Loops.{Loop, no_more, by_itself, an_item, after_all, Along}
+use Rattle.smith_input.specs.Script.{script_end, script_more, script_loop}
 use Rattle.smith_input.specs.Reading.{More, IsTail}
 use Rattle.smith_input.proofs.ReadingLemmas.{tail_trans, more_tail, more_unique, more_full, more_within, more_past, more_one, more_zero, more_first}
 

@@ -10,7 +10,8 @@ use Rattle.std.specs.Fmt.{decimal}
 use Rattle.std.proofs.lemmas.Bool.{cases_lt}
 use Rattle.smith_input.specs.Reading.{IsTail}
 use Rattle.smith_input.specs.Kebab.{Kebab}
-use Rattle.smith_input.specs.Names.{IsMadeUnique, GainsName, appended, is_among, Holds, ReadsNew, script_name}
+use Rattle.smith_input.specs.Names.{IsMadeUnique, GainsName, appended, is_among, Holds, ReadsNew}
+use Rattle.smith_input.specs.Script.{script_name}
 use Rattle.smith_input.proofs.Kebabs.{kebab_is_read, kebab_is_kept, kebab_tail, kebab_unique, name_read}
 
 -- an empty set has no names

@@ -3,7 +3,8 @@ use Rattle.std.proofs.Common.{◌∙◌, ap, ◌∷◌, [], ◌≡◌, ℕ, zero
 use Rattle.std.proofs.lemmas.Bool.Decides.{nat_tests}
 use Rattle.std.proofs.lemmas.Nat.{div-add-mod', mod_below}
 use Rattle.std.proofs.Math.Nat.{pow-suc}
-use Rattle.smith_input.specs.Reading.{spelled, IsWidth, Reads, big_endian, width_within, pick}
+use Rattle.smith_input.specs.Reading.{spelled, IsWidth, Reads}
+use Rattle.smith_input.specs.Script.{big_endian, width_within, pick}
 
 powers_positive : (w : ℕ) → 0 < 256 ^ w
 powers_positive zero = omega arith

@@ -5,8 +5,9 @@ use Rattle.std.proofs.lemmas.List.{append_assoc, length-take, take_at, take_min,
 use Rattle.std.specs.Prelude.{Result, Ok, Err}
 use Rattle.std.specs.Result.{MatchResult, result_unwrap_or}
 use Rattle.std.specs.Str.{IsUtf8, IsValidUpTo}
-use Rattle.smith_input.specs.Reading.{Reads, Flips, IsTail, pick}
-use Rattle.smith_input.specs.Texts.{ReadsBytes, ends, follows, IsLongestText, ReadsText, script_bytes, script_text}
+use Rattle.smith_input.specs.Reading.{Reads, Flips, IsTail}
+use Rattle.smith_input.specs.Script.{pick, script_bytes, script_text}
+use Rattle.smith_input.specs.Texts.{ReadsBytes, ends, follows, IsLongestText, ReadsText}
 use Rattle.smith_input.proofs.Picks.{reads-pick}
 use Rattle.smith_input.proofs.ReadingLemmas.{tail_trans, reads_tail, reads_unique, flips_unique, flips_one, flips_zero}
 

@@ -22,16 +22,3 @@ after_all next s (x ∷ xs) = after_all next (next s x) xs
 abbrev pub Along : {S A : Type 0} → (S → A → Type 0) → (S → A → S) → S → List A → Type 0
 Along P next s [] = Unit {0}
 Along P next s (x ∷ xs) = P s x × Along P next (next s x) xs
-
--- the end of a loop that has made so many turns: a byte where it might make another
-abbrev pub script_end : ℕ → ℕ → List ℕ
-script_end done max = if nat_lt done max then 0 ∷ [] else []
-
--- a byte before each turn of a loop, but before those that its minimum forces
-abbrev pub script_more : ℕ → ℕ → List ℕ
-script_more min done = if nat_lt done min then [] else 1 ∷ []
-
--- the turns of a loop that has made so many: script s x gives the item x in the state s, and next s x is the state then
-abbrev pub script_loop : {S A : Type 0} → (S → A → List ℕ) → (S → A → S) → ℕ → ℕ → ℕ → S → List A → List ℕ
-script_loop script next min max done s [] = script_end done max
-script_loop script next min max done s (x ∷ xs) = script_more min done ++ script s x ++ script_loop script next min max (done + 1) (next s x) xs

@@ -5,7 +5,8 @@ use Rattle.std.specs.List.{list_any}
 use Rattle.std.specs.BTreeSet.{BTreeSet, contains_text, btree_set_len}
 use Rattle.std.specs.declared.string.String.{String}
 use Rattle.smith_input.specs.Kebab.{Kebab}
-use Rattle.smith_input.specs.Reading.{Reads, pick}
+use Rattle.smith_input.specs.Reading.{Reads}
+use Rattle.smith_input.specs.Script.{pick}
 
 -- Choices among n, one read after another.
 pub data ReadsEach (n : ℕ) : List ℕ → List ℕ → List ℕ → Type 0 where
@@ -78,17 +79,3 @@ pub record ReadsNew (max : ℕ) (names : List (List ℕ)) (bytes name rest : Lis
   pub text : List ℕ
   pub reads : ReadsKebab max bytes text rest
   pub unique : IsMadeUnique (is_among names) (length names) text name
-
--- the choice that gives a character of a name in kebab case where it stands: a to z are 0 to 25, 0 to 9 are 26 to 35,
--- and a hyphen is 36
-abbrev pub code : ℕ → ℕ
-code c = if nat_le 97 c then c - 97 else (if nat_le 48 c then 26 + (c - 48) else 36)
-
--- the choices of a name's characters
-abbrev pub script_characters : List ℕ → List ℕ
-script_characters [] = []
-script_characters (c ∷ cs) = pick 37 (code c) ++ script_characters cs
-
--- a name's length and the choices of its characters, max being below 2 ^ 64
-abbrev pub script_name : ℕ → List ℕ → List ℕ
-script_name max name = pick (max + 1) (length name) ++ script_characters name

@@ -47,17 +47,3 @@ LeavesTail {A} Read = (bytes : List ℕ) (x : A) (rest : List ℕ) → Read byte
 -- This script, followed by any bytes, is read as x, and those bytes are left.
 abbrev pub IsReadAs : {A : Type 0} → (List ℕ → A → List ℕ → Type 0) → List ℕ → A → Type 0
 IsReadAs Read script x = (rest : List ℕ) → Read (script ++ rest) x rest
-
--- k in w bytes, most significant first, k being below 256 ^ w
-abbrev pub big_endian : ℕ → ℕ → List ℕ
-big_endian zero k = []
-big_endian (suc w) k = (k / 256 ^ w) ∷ big_endian w (k % 256 ^ w)
-
--- how many bytes tell n things apart, n being at most 256 ^ fuel
-abbrev pub width_within : ℕ → ℕ → ℕ
-width_within zero n = 0
-width_within (suc fuel) n = if nat_le n 1 then 0 else suc (width_within fuel ((n + 255) / 256))
-
--- The bytes of a choice of k among n, n being at most 2 ^ 64: the fewest that tell n things apart.
-unfoldable pub pick : ℕ → ℕ → List ℕ
-pick n k = big_endian (width_within 8 n) k

@@ -1,7 +1,8 @@
 -- Bytes of any length and texts of a limited length, as they are read, and how they are spelled.
 use Rattle.std.specs.Prelude.{◌≡◌, ℕ, ◌+◌, ◌<◌, ◌≤◌, true, false, List, [], ◌∷◌, ◌++◌, length, take, drop, slice_index}
 use Rattle.std.specs.Str.{IsUtf8}
-use Rattle.smith_input.specs.Reading.{Reads, Flips, pick}
+use Rattle.smith_input.specs.Reading.{Reads, Flips}
+use Rattle.smith_input.specs.Script.{pick}
 
 -- One byte is read, zero past the end.
 pub record ReadsByte (bytes : List ℕ) (value : ℕ) (rest : List ℕ) : Type 0 where
@@ -27,12 +28,3 @@ pub record ReadsText (max : ℕ) (bytes text rest : List ℕ) : Type 0 where
   pub counted : Reads (max + 1) bytes count after_count
   pub longest : IsLongestText (take count after_count) text
   pub left : rest ≡ drop (length text) after_count
-
--- a boolean before each byte, and one at the end
-abbrev pub script_bytes : List ℕ → List ℕ
-script_bytes [] = 0 ∷ []
-script_bytes (x ∷ xs) = 1 ∷ x ∷ script_bytes xs
-
--- the text after its length, max being below 2 ^ 64
-abbrev pub script_text : ℕ → List ℕ → List ℕ
-script_text max text = pick (max + 1) (length text) ++ text

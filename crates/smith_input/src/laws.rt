@@ -2,10 +2,13 @@
 
 ghost use Rattle.std.specs.Prelude.{◌≡◌, ℕ, ◌^◌, ◌<◌, ◌≤◌, List, Bool, false, length};
 ghost use Rattle.std.specs.Str.{IsUtf8};
-ghost use Rattle.smith_input.specs.Reading.{Reads, More, IsDecided, IsReadAs, LeavesTail, pick};
-ghost use Rattle.smith_input.specs.Texts.{ReadsBytes, ReadsText, script_bytes, script_text};
+ghost use Rattle.smith_input.specs.Reading.{Reads, More, IsDecided, IsReadAs, LeavesTail};
+ghost use Rattle.smith_input.specs.Script.{pick};
+ghost use Rattle.smith_input.specs.Texts.{ReadsBytes, ReadsText};
+ghost use Rattle.smith_input.specs.Script.{script_bytes, script_text};
 ghost use Rattle.smith_input.specs.Kebab.{Kebab};
-ghost use Rattle.smith_input.specs.Names.{ReadsKebab, IsMadeUnique, script_name};
+ghost use Rattle.smith_input.specs.Names.{ReadsKebab, IsMadeUnique};
+ghost use Rattle.smith_input.specs.Script.{script_name};
 
 /// The script of a choice is read as that choice.
 pub fn pick_is_read()

@@ -6,9 +6,9 @@ use Rattle.std.specs.List.{AllByRecursion}
 use Rattle.std.specs.Option.{option_to_list}
 use Rattle.std.specs.Prelude.{Option, Some, None, slice_get, if◌then◌else◌}
 use denote.Enum.Bare.{same_true, true_same}
-use Rattle.smith_input.specs.Choices.{ReadsAmong, script_among}
+use Rattle.smith_input.specs.Choices.{ReadsAmong}
+use Rattle.smith_input.specs.Script.{script_among, pick}
 use Rattle.smith_input.specs.Names.{ReadsNew}
-use Rattle.smith_input.specs.Reading.{pick}
 use Rattle.smith_input.proofs.Choices.{among_read}
 use Rattle.smith_input.proofs.Picks.{reads-pick}
 use Rattle.smith_input.proofs.ReadingLemmas.{flips_one, flips_zero}

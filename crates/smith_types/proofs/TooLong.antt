@@ -20,7 +20,7 @@ no_text : (n : List ℕ) → is_utf8 n ≡ false → text n ≡ None
 unfolding text utf8
 no_text n e = rw e (right_none (u (length n)))
 
-name_none : (n : List ℕ) → (text n ≡ None) ↔ NameTooLong n
+pub name_none : (n : List ℕ) → (text n ≡ None) ↔ NameTooLong n
 name_none n = by_test (is_utf8 n) refl
   where
     by_test : (b : Bool) → is_utf8 n ≡ b → (text n ≡ None) ↔ NameTooLong n

@@ -2,10 +2,7 @@
 use Rattle.std.specs.Prelude.{ℕ, ◌+◌, ◌≤◌, List, [], ◌∷◌, ◌++◌, map, length, Option, Some, None, nat_eq, nat_le, if◌then◌else◌}
 use Rattle.std.specs.List.{AllByRecursion}
 use Rattle.std.specs.Option.{option_to_list}
-use Rattle.smith_input.specs.Choices.{script_among}
-use Rattle.smith_input.specs.Loops.{script_loop}
-use Rattle.smith_input.specs.Names.{script_name}
-use Rattle.smith_input.specs.Reading.{pick}
+use Rattle.smith_input.specs.Script.{script_among, script_loop, script_name, pick}
 use Rattle.smith_types.specs.Entries.{DefValType, primitive_type, record_type, variant_type, list_type, tuple_type, flags_type, enum_type, option_type, result_type}
 use Rattle.smith_types.specs.Entries.{Field, Case, Signature, Entry, defined, function}
 use Rattle.smith_types.specs.Made.{primitives, defined_kinds, type_kinds}

@@ -5,7 +5,7 @@ mod core_types;
 mod drops;
 mod encode;
 mod func;
-mod laws;
+pub mod laws;
 mod make;
 mod scopes;
 mod types;
@@ -14,10 +14,6 @@ pub use core_types::{CoreType, ModuleType, ModuleTypeDef};
 pub use drops::drop_last_first;
 pub use encode::{ComponentFormat, core_type_len, type_len, write_core_type, write_type};
 pub use func::FuncType;
-pub use laws::{
-    long_types_have_no_encoding, scripts_are_read, signatures_are_told, types_are_clear,
-    types_are_decided,
-};
 pub use make::{DefinedKind, TypeKind, arbitrary_type};
 pub use scopes::{Kind, Scopes};
 pub use types::{

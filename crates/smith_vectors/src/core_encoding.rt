@@ -1,5 +1,5 @@
-//! Core types as they are read and written. The bytes are those of the core specification's and DWARF's examples, or worked
-//! out by hand from the core specification's binary format.
+//! Core types as they are read and written. The bytes are those of the core specification's and DWARF's examples, or
+//! worked out by hand from the core specification's binary format.
 
 use smith_core::{
     Config, EntityType, FuncType, GlobalType, Import, MemoryType, RefType, TableType, TagType,

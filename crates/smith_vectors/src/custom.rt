@@ -35,7 +35,10 @@ fn a_name_of_1000_bytes(rt: HostRuntime) -> Result<(), Fail> {
     let component = Component::new(rt.alloc(), Config::default(), &mut u)?;
     assert_eq!(rt; component.sections().len(), 1);
     assert!(rt;
-        matches!(component.sections().first(), Some(Section::Custom(custom)) if custom.name.len() == 1000 && custom.bytes.is_empty())
+        matches!(
+            component.sections().first(),
+            Some(Section::Custom(custom)) if custom.name.len() == 1000 && custom.bytes.is_empty()
+        )
     );
     assert_eq!(rt; u.left(), b"\x2a".as_slice());
     assert_eq!(rt; component.measure()?, 8 + 1 + 2 + 2 + 1000);

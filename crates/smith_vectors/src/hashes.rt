@@ -4,9 +4,9 @@ use smith_component::{Component, Config, Unstructured};
 use std::alloc::{AllocError, Global};
 use std::test::Fail;
 
-// A parameter of which the hash of a function type depends, the rank of its type, and a parameter of type bool whose name
-// is the state of `FoldHasher` before it: that state becomes zero. So each order of the pairs after the first, which is
-// there for all, has the same hash.
+// Parameters come in pairs: a name and the rank of its type, and then the name of a parameter of type bool that is the
+// state of `FoldHasher` before it, so that the state becomes zero. So function types that begin with the first pair have
+// the same hash, whatever the order of the pairs after it.
 const FIRST: (&[u8; 8], u8, &[u8; 8]) = (b"amsxaaaa", 3, b"adir8z3q");
 
 const PAIRS: [(&[u8; 8], u8, &[u8; 8]); 8] = [

@@ -1,4 +1,4 @@
-use Rattle.smith_component.proofs.Unique.{spells_law}
+use Rattle.smith_component.proofs.Clear.{spells_law}
 use Rattle.smith_component.proofs.laws.one_reading.Goals as goal
 
 pub returns : goal.returns

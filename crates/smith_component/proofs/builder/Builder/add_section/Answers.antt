@@ -5,8 +5,8 @@ use Rattle.smith_component.specs.Open.{scopes_in}
 use Rattle.smith_component.specs.Shown.{shown_section}
 use Rattle.smith_component.specs.Tree.{types_in, core_types_in}
 use Rattle.smith_component.specs.WellFormed.{scope_of}
-use Rattle.smith_component.proofs.Grows.{length-own-add}
-use Rattle.smith_component.proofs.SoundLemmas.{Quietly, part_added, own_limits_of}
+use Rattle.smith_component.proofs.Tree.{length-own-add}
+use Rattle.smith_component.proofs.Sound.{Quietly, part_added, own_limits_of}
 use Rattle.smith_component.proofs.builder.Builder.add_section.Goals as goal
 
 pub push-requires : goal.push-requires

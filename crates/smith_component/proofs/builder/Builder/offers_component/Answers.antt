@@ -1,7 +1,7 @@
 use Rattle.std.proofs.Common.{arith}
 use Rattle.smith_component.specs.Building.{open_of}
 use Rattle.smith_component.specs.BuilderView.{building_of}
-use Rattle.smith_component.proofs.Grows.{depth-outer}
+use Rattle.smith_component.proofs.Tree.{depth-outer}
 use Rattle.smith_component.proofs.builder.Builder.offers_component.Goals as goal
 
 pub returns-else-len-self-clause-depth : goal.returns-else-len-self-clause-depth

@@ -9,8 +9,8 @@ use Rattle.smith_component.specs.Shown.{shown_sections}
 use Rattle.smith_component.specs.WellFormed.{scope_of}
 use Rattle.smith_component.specs.declared.builder.open.OpenComponent.{OpenComponent}
 use Rattle.smith_component.specs.declared.component.Section.{Section}
-use Rattle.smith_component.proofs.ShownLemmas.{outer_popped, trees_of}
-use Rattle.smith_component.proofs.SoundLemmas.{opened, component_offered_is, scopes_from-snoc}
+use Rattle.smith_component.proofs.Shown.{outer_popped, trees_of}
+use Rattle.smith_component.proofs.Sound.{opened, component_offered_is, scopes_from-snoc}
 use Rattle.smith_component.proofs.builder.Builder.open_component.Goals as goal
 
 pub invariant_of-builder : goal.invariant_of-builder

@@ -1,4 +1,4 @@
-use Rattle.smith_component.proofs.TurnLemmas.{falls}
+use Rattle.smith_component.proofs.Turn.{falls}
 use Rattle.smith_component.proofs.builder.Builder.step.Goals as goal
 
 pub returns-clause-falls : goal.returns-clause-falls

@@ -1,8 +1,8 @@
 use Rattle.std.proofs.Common.{sym, ◌∙◌}
 use Rattle.std.proofs.lemmas.Result.{IfOk-weaker}
 use Rattle.smith_component.specs.Building.{open_of}
-use Rattle.smith_component.proofs.FollowsLemmas.{wanted, no_module}
-use Rattle.smith_component.proofs.TurnLemmas.{chosen_module, chosen_component, closes_same}
+use Rattle.smith_component.proofs.Scripted.{wanted, no_module}
+use Rattle.smith_component.proofs.Turn.{chosen_module, chosen_component, closes_same}
 use Rattle.smith_component.proofs.builder.Builder.take_turn.Goals as goal
 
 pub returns-in-Finish-clause-follows : goal.returns-in-Finish-clause-follows

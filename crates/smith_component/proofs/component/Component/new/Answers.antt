@@ -3,8 +3,8 @@ use Rattle.smith_input.proofs.ReadingLemmas.{tail_same, tail_trans}
 use Rattle.smith_component.specs.Open.{Open}
 use Rattle.smith_component.specs.Steps.{next_of, StaysSound}
 use Rattle.smith_component.specs.declared.builder.Step.{Step}
-use Rattle.smith_component.proofs.FollowsLemmas.{Passed, passed_start, passed_step, passed_end}
-use Rattle.smith_component.proofs.RunLemmas.{Reached, reached_start, reached_step, reached_answer}
+use Rattle.smith_component.proofs.Scripted.{Passed, passed_start, passed_step, passed_end}
+use Rattle.smith_component.proofs.RunsTo.{Reached, reached_start, reached_step, reached_answer}
 use Rattle.smith_component.proofs.component.Component.new.Goals as goal
 
 pub loop-next-init : goal.loop-next-init

@@ -3,8 +3,8 @@ use Rattle.smith_input.specs.Reading.{IsTail}
 use Rattle.smith_core.specs.Limits.{IsConsistent}
 use Rattle.smith_component.specs.Building.{open_of}
 use Rattle.smith_component.specs.Turn.{todo}
-use Rattle.smith_component.proofs.FollowsLemmas.{Passed}
-use Rattle.smith_component.proofs.RunLemmas.{Reached}
+use Rattle.smith_component.proofs.Scripted.{Passed}
+use Rattle.smith_component.proofs.RunsTo.{Reached}
 use Rattle.smith_component.proofs.component.Component.new.Given as goal
 
 abbrev pub invariant-loop-next : goal.invariant-loop-next

@@ -2,7 +2,7 @@ use Rattle.std.proofs.Common.{sym, ◌∙◌, subst}
 use Rattle.smith_core.proofs.Piece.{left_nil}
 use Rattle.smith_component.specs.Grammar.{Spells}
 use Rattle.smith_component.specs.Tree.{Tree}
-use Rattle.smith_component.proofs.Unique.{spells_law}
+use Rattle.smith_component.proofs.Clear.{spells_law}
 use Rattle.smith_component.proofs.component.Component.to_bytes.Goals as goal
 
 pub returns-clause-reading : goal.returns-clause-reading

@@ -1,7 +1,7 @@
 use Rattle.std.proofs.Common.{ap, ◌∙◌}
 use Rattle.smith_component.specs.Shown.{shown_sections}
 use Rattle.smith_component.specs.Tree.{types_in, core_types_in}
-use Rattle.smith_component.proofs.ShownLemmas.{shown_push, own_pushed}
+use Rattle.smith_component.proofs.Shown.{shown_push, own_pushed}
 use Rattle.smith_component.proofs.builder.open.OpenComponent.push.Goals as goal
 
 pub invariant_of-self-2 : goal.invariant_of-self-2

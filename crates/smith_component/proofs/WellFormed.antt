@@ -4,7 +4,7 @@ use Rattle.smith_types.specs.Scope.{Scope}
 use Rattle.smith_component.specs.Tree.{Tree, ends, first, Part, component, add, join}
 use Rattle.smith_component.specs.Open.{tree_so_far, scopes_from}
 use Rattle.smith_component.specs.WellFormed.{Formed, FormedPart, scope_of}
-use Rattle.smith_component.proofs.Grows.{join-ends, join-add}
+use Rattle.smith_component.proofs.Tree.{join-ends, join-add}
 
 pub formed-add : (t : Tree) (p : Part) (outer : List Scope) (before : Tree) → Formed t outer before → FormedPart p outer (join before t) → Formed (add t p) outer before
 formed-add ends p outer before f g = (subst (FormedPart p outer) (join-ends before) g, tt)

@@ -5,8 +5,8 @@ use Rattle.std.specs.Prelude.{slice_get, Some}
 use Rattle.std.proofs.lemmas.Bool.Decides.{nat_tests}
 use Rattle.std.proofs.lemmas.Option.{slice_get_within}
 use denote.Enum.Bare.{same_true, true_same}
-use Rattle.smith_input.specs.Choices.{ReadsAmong, rank_of}
-use Rattle.smith_input.specs.Reading.{pick}
+use Rattle.smith_input.specs.Choices.{ReadsAmong}
+use Rattle.smith_input.specs.Script.{rank_of, pick}
 use Rattle.smith_input.proofs.Choices.{rank_found, among_read}
 use Rattle.smith_input.proofs.Picks.{pick-byte}
 use Rattle.smith_core.specs.declared.config.Config.{Config}
@@ -22,9 +22,9 @@ use Rattle.smith_component.specs.contracts.item.Item.{the_type}
 use Rattle.smith_component.specs.contracts.item.ItemPartialEq.TheImpl.{ghosts as equal}
 use Rattle.smith_component.specs.declared.item.Item.{Item}
 use Rattle.smith_component.specs.declared.item.Item.TheVariants.{Finish, Custom, CoreTypes, Types, Imports, Canonical, Component}
-use Rattle.smith_component.proofs.Grows.{all_before, all_inner, depth-outer, depth-so_far, join-add, join-ends, tree_so_far-close}
-use Rattle.smith_component.proofs.SoundLemmas.{own_limits-front, own_limits_swap, length-inside-so_far, length-modules-so_far, scopes_from-snoc}
-use Rattle.smith_component.proofs.TurnLemmas.{items_some, not_empty, last_same}
+use Rattle.smith_component.proofs.Tree.{all_before, all_inner, depth-outer, depth-so_far, join-add, join-ends, tree_so_far-close}
+use Rattle.smith_component.proofs.Sound.{own_limits-front, own_limits_swap, length-inside-so_far, length-modules-so_far, scopes_from-snoc}
+use Rattle.smith_component.proofs.Turn.{items_some, not_empty, last_same}
 
 item_Decides : (a b : Item) → Decides (equal.eq a b) (a ≡ b)
 item_Decides a b = (same_true the_type tt a b, true_same the_type a b)

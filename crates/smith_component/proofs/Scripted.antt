@@ -2,7 +2,7 @@
 use Rattle.std.proofs.Common.{◌≡◌, ℕ, zero, suc, ◌+◌, ◌-◌, ◌≤◌, ◌^◌, Bool, false, List, [], ◌∷◌, ◌++◌, length, arith, refl, sym, ap, ◌∙◌, subst}
 use Rattle.std.specs.List.{AllByRecursion}
 use Rattle.smith_input.specs.Choices.{ReadsAmong}
-use Rattle.smith_input.specs.Loops.{script_end}
+use Rattle.smith_input.specs.Script.{script_end}
 use Rattle.smith_input.specs.Reading.{More}
 use Rattle.smith_input.proofs.Choices.{among_same}
 use Rattle.smith_input.proofs.Loops.{end_read}
@@ -19,11 +19,11 @@ use Rattle.smith_component.specs.Scripted.{AddsPart, Follows, Scripted, Scripts}
 use Rattle.smith_component.specs.Tree.{Tree, Canon, Part, custom, core_module, core_types, component, types, canons, imports, add, own, names_in, types_in, types_of, core_types_of, imports_in, canons_in}
 use Rattle.smith_component.specs.Turn.{Next, building, answered, ReadsCustom, ReadsTypes, with_part}
 use Rattle.smith_component.specs.WellFormed.{FormedPart, scope_of}
-use Rattle.smith_component.proofs.CustomLemmas.{custom_follows}
-use Rattle.smith_component.proofs.Grows.{all_back, own-add, length-own-add}
-use Rattle.smith_component.proofs.ReachLemmas.{reach}
-use Rattle.smith_component.proofs.ReadLemmas.{types_same, types_read}
-use Rattle.smith_component.proofs.SoundLemmas.{Short}
+use Rattle.smith_component.proofs.ReadsCustom.{custom_follows}
+use Rattle.smith_component.proofs.Tree.{all_back, own-add, length-own-add}
+use Rattle.smith_component.proofs.Script.{reach}
+use Rattle.smith_component.proofs.ReadsTypes.{types_same, types_read}
+use Rattle.smith_component.proofs.Sound.{Short}
 use Rattle.smith_component.specs.declared.item.Item.{Item}
 use Rattle.smith_component.specs.declared.item.Item.TheVariants.{Finish, Custom, CoreTypes, Types, Imports, Canonical, Module, Component}
 

@@ -1,7 +1,8 @@
 -- What a type section reads: well formed types, within their fuel, a tail of the bytes; and what its script says.
 use Rattle.std.proofs.Common.{◌≡◌, ℕ, ◌+◌, ◌≤◌, ◌^◌, List, [], ◌∷◌, ◌++◌, length, arith, refl, sym, ap, ◌∙◌, subst, length-append, append_assoc}
 use Rattle.std.specs.List.{AllByRecursion}
-use Rattle.smith_input.specs.Loops.{Along, Never, after_all, script_loop}
+use Rattle.smith_input.specs.Loops.{Along, Never, after_all}
+use Rattle.smith_input.specs.Script.{script_loop}
 use Rattle.smith_input.specs.Reading.{IsTail}
 use Rattle.smith_input.proofs.Loops.{loop_tail, loop_gives, loop_all, loop_same, loop_read}
 use Rattle.smith_core.specs.declared.config.Config.{Config}

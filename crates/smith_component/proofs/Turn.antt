@@ -12,9 +12,9 @@ use Rattle.smith_component.specs.Open.{Open, more_items, is_module_offered, is_c
 use Rattle.smith_component.specs.Turn.{Next, building, answered, Turn, Closes, Does, with_part, todo, Falls}
 use Rattle.smith_component.specs.declared.item.Item.{Item}
 use Rattle.smith_component.specs.declared.item.Item.TheVariants.{Finish, Custom, CoreTypes, Types, Imports, Canonical, Module, Component}
-use Rattle.smith_component.proofs.CustomLemmas.{custom_tail}
-use Rattle.smith_component.proofs.ReadLemmas.{types_read_tail}
-use Rattle.smith_component.proofs.SoundLemmas.{component_offered_is}
+use Rattle.smith_component.proofs.ReadsCustom.{custom_tail}
+use Rattle.smith_component.proofs.ReadsTypes.{types_read_tail}
+use Rattle.smith_component.proofs.Sound.{component_offered_is}
 
 pub only_finish : (place : ℕ) (item : Item) → slice_get (Finish ∷ []) place ≡ Some item → item ≡ Finish
 only_finish zero item e = cc

@@ -12,8 +12,8 @@ use Rattle.smith_component.specs.Turn.{building, Closes}
 use Rattle.smith_component.specs.WellFormed.{FormedPart, WellFormed, scope_of}
 use Rattle.smith_component.specs.Limits.{SmallTypes, SmallCoreTypes, OwnSizes, Sized, OwnLimits, Limits}
 use Rattle.smith_component.specs.Sound.{IsAddable, Sound}
-use Rattle.smith_component.proofs.FormedLemmas.{formed_so_far}
-use Rattle.smith_component.proofs.Grows.{tree_so_far-close, depth-so_far, length-anywhere-so_far, IsSteady, depth-outer, own-add, length-own-add, all_both, all_front, all_so_far, all_inner, Swaps}
+use Rattle.smith_component.proofs.WellFormed.{formed_so_far}
+use Rattle.smith_component.proofs.Tree.{tree_so_far-close, depth-so_far, length-anywhere-so_far, IsSteady, depth-outer, own-add, length-own-add, all_both, all_front, all_so_far, all_inner, Swaps}
 
 -- names that are short enough
 abbrev pub Short : List (List ℕ) → Type 0

@@ -3,7 +3,8 @@ use Rattle.std.proofs.Common.{◌≡◌, ℕ, ◌≤◌, List, ◌++◌, length,
 use Rattle.std.proofs.lemmas.List.{length-take}
 use Rattle.std.specs.Str.{IsUtf8}
 use Rattle.smith_input.specs.Reading.{IsTail}
-use Rattle.smith_input.specs.Texts.{ReadsText, script_text, script_bytes}
+use Rattle.smith_input.specs.Texts.{ReadsText}
+use Rattle.smith_input.specs.Script.{script_text, script_bytes}
 use Rattle.smith_input.proofs.ReadingLemmas.{tail_trans}
 use Rattle.smith_input.proofs.TextsLemmas.{text_read, text_unique, text_tail, bytes_read, bytes_unique, bytes_tail}
 use Rattle.smith_component.specs.Tree.{custom}
