@@ -1,5 +1,5 @@
 -- Stacks of scopes, and the places of their entries.
-use Rattle.std.proofs.Common.{◌≡◌, ℕ, ◌+◌, ◌<◌, ◌≤◌, Bool, true, false, cond, List, [], ◌∷◌, ◌++◌, length, map, reverse, refl, sym, ap, ◌∙◌, arith, append-nil, append_assoc}
+use Rattle.std.proofs.Common.{◌≡◌, ℕ, ◌+◌, ◌<◌, ◌≤◌, Bool, true, false, cond, List, [], ◌∷◌, ◌++◌, get_or, length, map, reverse, refl, sym, ap, ◌∙◌, arith, append-nil, append_assoc}
 use Rattle.std.proofs.lemmas.List.{reverse-append, map-append, length-map, length-reverse}
 use Rattle.smith_types.specs.Entries.{Entry, CoreEntry}
 use Rattle.smith_types.specs.Scope.{Scope, empty_scope, with_type, with_types, with_core_type, with_core_types, own_of, outer_of, places}
@@ -9,9 +9,7 @@ use Rattle.smith_types.specs.declared.core_types.CoreType.{CoreType}
 use Rattle.smith_types.specs.declared.deftype.DefType.{DefType}
 
 pub last_of-snoc : (ss : List Contents) (s : Contents) → last_of (ss ++ s ∷ []) ≡ s
-last_of-snoc [] s = refl
-last_of-snoc (t ∷ []) s = refl
-last_of-snoc (t ∷ r ∷ ss) s = last_of-snoc (r ∷ ss) s
+last_of-snoc ss s = ap (λ r. get_or r 0 empty_scope) (reverse-append ss (s ∷ []))
 
 pub last_is : (scopes ss : List Contents) (s : Contents) → ss ++ s ∷ [] ≡ scopes → last_of scopes ≡ s
 last_is scopes ss s e = ap last_of (sym e) ∙ last_of-snoc ss s
@@ -49,22 +47,20 @@ module _ {A : Type 0} (p : A → Bool) where
 pub length-inward : (scopes : List Contents) → length (inward scopes) ≡ length scopes
 length-inward scopes = length-reverse (map shown_scope scopes) ∙ length-map scopes shown_scope
 
--- A list is empty, or something in front of its last item.
-record Snoc (xs : List Contents) : Type 0 where
-  front : List Contents
-  last : Contents
-  is : xs ≡ front ++ last ∷ []
-
-snoc_of : (x : Contents) (xs : List Contents) → Snoc (x ∷ xs)
-snoc_of x [] = record { front = []; last = x; is = refl }
-snoc_of x (y ∷ xs) = let s = snoc_of y xs in record { front = x ∷ s.front; last = s.last; is = ap (λ l. x ∷ l) s.is }
+map-reverse : {A B : Type 0} (f : A → B) (xs : List A) → reverse (map f xs) ≡ map f (reverse xs)
+map-reverse f [] = refl
+map-reverse f (x ∷ xs) =
+    reverse-append (f x ∷ []) (map f xs)
+    ∙ (ap (λ ys. ys ++ f x ∷ []) (map-reverse f xs) ∙ sym (map-append f (reverse xs) (x ∷ [])))
+    ∙ ap (map f) (sym (reverse-append (x ∷ []) xs))
 
 -- The innermost scope shows the last one.
 pub own_last : (scopes : List Contents) → own_of (inward scopes) ≡ shown_scope (last_of scopes)
-own_last [] = refl
-own_last (x ∷ xs) =
-    let s = snoc_of x xs in
-    own_shown (x ∷ xs) s.front s.last (sym s.is) ∙ ap shown_scope (sym (ap last_of s.is ∙ last_of-snoc s.front s.last))
+own_last scopes = ap own_of (map-reverse shown_scope scopes) ∙ first (reverse scopes)
+  where
+    first : (ss : List Contents) → own_of (map shown_scope ss) ≡ shown_scope (get_or ss 0 empty_scope)
+    first [] = refl
+    first (s ∷ ss) = refl
 
 pub length-last : (scopes : List Contents) → length (last_of scopes).types ≡ length (own_of (inward scopes)).types
 length-last scopes = sym (ap (λ s. length s.types) (own_last scopes) ∙ length-map (last_of scopes).types shown_type)

@@ -33,15 +33,12 @@ own_scope scopes = own_of (inward scopes)
 abbrev pub outer_scopes : List Contents → List Scope
 outer_scopes scopes = outer_of (inward scopes)
 
--- the last scope
-abbrev pub last_of : List Contents → Contents
-last_of [] = empty_scope
-last_of (s ∷ []) = s
-last_of (s ∷ t ∷ ss) = last_of (t ∷ ss)
-
 -- the scope of that count, where 0 is the last
 abbrev pub scope_at : List Contents → ℕ → Contents
 scope_at scopes count = get_or (reverse scopes) count empty_scope
+
+abbrev pub last_of : List Contents → Contents
+last_of scopes = scope_at scopes 0
 
 -- new is old with another last scope
 pub record Changes (f : Contents → Contents) (old new : List Contents) : Type 0 where
