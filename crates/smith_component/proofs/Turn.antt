@@ -1,14 +1,16 @@
 -- What a turn chooses, and that it lowers what is left to do.
 use Rattle.std.proofs.Common.{◌≡◌, ℕ, zero, suc, ◌+◌, ◌^◌, ◌≤◌, List, [], ◌∷◌, ◌++◌, length, drop, arith, ap, sym, subst, ◌∙◌, refl, true, false, Bool, inl, inr, length-append, length-drop}
+use Rattle.std.specs.List.{AllByRecursion}
 use Rattle.std.specs.Prelude.{slice_get, Some}
 use Rattle.smith_input.specs.Choices.{ReadsAmong}
 use Rattle.smith_input.specs.Reading.{IsWidth, Reads, IsTail}
+use Rattle.smith_input.proofs.Offered.{offer_holds}
 use Rattle.smith_input.proofs.ReadingLemmas.{width_unique, more_tail}
 use Rattle.smith_core.specs.declared.config.Config.{Config}
 use Rattle.smith_component.specs.Tree.{Tree, ends, Part, custom, core_module, core_types, component, types, canons, imports, add}
 use Rattle.smith_core.specs.Module.{core_preamble}
 use Rattle.smith_component.specs.Limits.{max_depth}
-use Rattle.smith_component.specs.Open.{Open, more_items, is_module_offered, is_component_offered, items}
+use Rattle.smith_component.specs.Open.{Open, more_items, is_module_offered, is_component_offered, items, offers}
 use Rattle.smith_component.specs.Turn.{Next, building, answered, Turn, Closes, Does, with_part, todo, Falls}
 use Rattle.smith_component.specs.declared.item.Item.{Item}
 use Rattle.smith_component.specs.declared.item.Item.TheVariants.{Finish, Custom, CoreTypes, Types, Imports, Canonical, Module, Component}
@@ -71,52 +73,16 @@ does_length config Component stack next b r e m (d, c) =
     let o = component_offered_is config stack (e refl) in
     (omega (arith, o.0, length-append stack.outer (stack.inner ∷ []), ap (λ n. length n.outer) f), omega (arith, ap length d))
 
--- What stands at each place.
-component_offered : (m c : Bool) (place : ℕ) → slice_get (more_items m c) place ≡ Some Component → c ≡ true
-component_offered m true place e = refl
-component_offered true false zero e = cc
-component_offered true false (suc zero) e = cc
-component_offered true false (suc (suc zero)) e = cc
-component_offered true false (suc (suc (suc zero))) e = cc
-component_offered true false (suc (suc (suc (suc zero)))) e = cc
-component_offered true false (suc (suc (suc (suc (suc zero))))) e = cc
-component_offered true false (suc (suc (suc (suc (suc (suc zero)))))) e = cc
-component_offered true false (suc (suc (suc (suc (suc (suc (suc place))))))) e = cc
-component_offered false false zero e = cc
-component_offered false false (suc zero) e = cc
-component_offered false false (suc (suc zero)) e = cc
-component_offered false false (suc (suc (suc zero))) e = cc
-component_offered false false (suc (suc (suc (suc zero)))) e = cc
-component_offered false false (suc (suc (suc (suc (suc zero))))) e = cc
-component_offered false false (suc (suc (suc (suc (suc (suc place)))))) e = cc
-
-module_offered : (m c : Bool) (place : ℕ) → slice_get (more_items m c) place ≡ Some Module → m ≡ true
-module_offered true c place e = refl
-module_offered false true zero e = cc
-module_offered false true (suc zero) e = cc
-module_offered false true (suc (suc zero)) e = cc
-module_offered false true (suc (suc (suc zero))) e = cc
-module_offered false true (suc (suc (suc (suc zero)))) e = cc
-module_offered false true (suc (suc (suc (suc (suc zero))))) e = cc
-module_offered false true (suc (suc (suc (suc (suc (suc zero)))))) e = cc
-module_offered false true (suc (suc (suc (suc (suc (suc (suc place))))))) e = cc
-module_offered false false zero e = cc
-module_offered false false (suc zero) e = cc
-module_offered false false (suc (suc zero)) e = cc
-module_offered false false (suc (suc (suc zero))) e = cc
-module_offered false false (suc (suc (suc (suc zero)))) e = cc
-module_offered false false (suc (suc (suc (suc (suc zero))))) e = cc
-module_offered false false (suc (suc (suc (suc (suc (suc place)))))) e = cc
-
 -- What is chosen was offered.
-
-pub chosen_module : (config : Config) (stack : Open) (left after : List ℕ) → ReadsAmong (items config stack left) left Module after → is_module_offered config stack ≡ true
-chosen_module config stack [] after r = absurd (let e : Module ≡ Finish = only_finish r.place Module r.named in cc)
-chosen_module config stack (x ∷ xs) after r = module_offered (is_module_offered config stack) (is_component_offered config stack) r.place r.named
-
-pub chosen_component : (config : Config) (stack : Open) (left after : List ℕ) → ReadsAmong (items config stack left) left Component after → is_component_offered config stack ≡ true
-chosen_component config stack [] after r = absurd (let e : Component ≡ Finish = only_finish r.place Component r.named in cc)
-chosen_component config stack (x ∷ xs) after r = component_offered (is_module_offered config stack) (is_component_offered config stack) r.place r.named
+pub chosen : (config : Config) (stack : Open) (left after : List ℕ) (item : Item) → ReadsAmong (items config stack left) left item after
+    → (item ≡ Module → is_module_offered config stack ≡ true) × (item ≡ Component → is_component_offered config stack ≡ true)
+chosen config stack [] after item r = let f = only_finish r.place item r.named in (λ e. absurd (cc), λ e. absurd (cc))
+chosen config stack (x ∷ xs) after item r =
+    let P : Item → Type 0 = λ i. (i ≡ Module → is_module_offered config stack ≡ true) × (i ≡ Component → is_component_offered config stack ≡ true) in
+    let other : (i : Item) → (i ≡ Module → ⊥) → (i ≡ Component → ⊥) → P i = λ i m c. (λ e. absurd (m e), λ e. absurd (c e)) in
+    let all : AllByRecursion (λ o. o.0 ≡ true → P o.1) (offers (is_module_offered config stack) (is_component_offered config stack)) =
+    (λ h. other Finish (λ e. cc) (λ e. cc), (λ h. other Custom (λ e. cc) (λ e. cc), (λ h. other CoreTypes (λ e. cc) (λ e. cc), (λ h. other Types (λ e. cc) (λ e. cc), (λ h. other Imports (λ e. cc) (λ e. cc), (λ h. other Canonical (λ e. cc) (λ e. cc), (λ h. (λ e. h, λ e. absurd (cc)), (λ h. (λ e. absurd (cc), λ e. h), tt)))))))) in
+    offer_holds P (offers (is_module_offered config stack) (is_component_offered config stack)) all r.place item r.named
 
 does_finish : (config : Config) (stack : Open) (item : Item) (b r : List ℕ) (next : Next) → item ≡ Finish → Does config item stack b next r → (r ≡ b) × Closes stack next
 does_finish config stack item b r next e d = let P : Item → Type 0 = λ i. Does config i stack b next r in subst P e d
@@ -132,8 +98,7 @@ turn_falls config stack next [] left2 m t =
     subst (λ l. todo config l next + 1 ≤ length stack.outer + 1) (sym e) (omega (arith, closes_length stack next f.1))
 turn_falls config stack next (x ∷ xs) left2 m t =
     let some = items_some (is_module_offered config stack) (is_component_offered config stack) in
-    let P : Item → Type 0 = λ i. slice_get (more_items (is_module_offered config stack) (is_component_offered config stack)) t.chooses.place ≡ Some i in
-    let d = does_length config t.item stack next t.after left2 (λ i. component_offered (is_module_offered config stack) (is_component_offered config stack) t.chooses.place (subst P i t.chooses.named)) m t.does in
+    let d = does_length config t.item stack next t.after left2 (chosen config stack (x ∷ xs) t.after t.item t.chooses).1 m t.does in
     let a : t.after ≡ xs = after_one _ x xs t.chooses.place t.after (omega (arith, some.0)) (omega (arith, some.1)) t.chooses.reads in
     omega (arith, todo_bound config left2 next (length xs) d.0 (omega (arith, d.1, ap length a)))
 

@@ -39,10 +39,9 @@ abbrev pub is_component_offered : Config → Open → Bool
 is_component_offered config stack =
     nat_lt (length stack.outer + 1) config.max_nesting_depth && nat_lt (length (inside (tree_so_far stack.outer stack.inner))) config.max_components
 
--- what a turn chooses among where input is left, in order
-abbrev pub more_items : Bool → Bool → List Item
-more_items with_module with_component =
-    offers_of (
+-- the items where input is left, in order, and whether each is offered
+abbrev pub offers : Bool → Bool → List (Bool × Item)
+offers with_module with_component =
     (true, Finish)
     ∷ (true, Custom)
     ∷ (true, CoreTypes)
@@ -52,7 +51,10 @@ more_items with_module with_component =
     ∷ (with_module, Module)
     ∷ (with_component, Component)
     ∷ []
-    )
+
+-- what a turn chooses among where input is left
+abbrev pub more_items : Bool → Bool → List Item
+more_items with_module with_component = offers_of (offers with_module with_component)
 
 abbrev pub items_with_input : Config → Open → List Item
 items_with_input config stack = more_items (is_module_offered config stack) (is_component_offered config stack)

@@ -1,8 +1,9 @@
 -- What is offered, item by item.
-use Rattle.std.proofs.Common.{◌≡◌, ℕ, suc, ◌+◌, ◌<◌, ◌≤◌, Bool, true, false, List, [], ◌∷◌, length, ap, sym, ◌∙◌, refl, get_or, add-one, arith}
+use Rattle.std.proofs.Common.{◌≡◌, ℕ, suc, ◌+◌, ◌<◌, ◌≤◌, Bool, true, false, List, [], ◌∷◌, length, ap, sym, ◌∙◌, refl, get_or, add-one, arith, zero, subst, None}
 use Rattle.std.proofs.Math.ListN.{drop}
 use Rattle.std.proofs.Math.Seq.{drop-cons}
 use Rattle.std.proofs.lemmas.List.{length-drop}
+use Rattle.std.specs.List.{AllByRecursion}
 use Rattle.std.specs.Prelude.{if◌then◌else◌, slice_get, Some}
 use Rattle.smith_input.specs.Script.{offers_of}
 
@@ -35,3 +36,15 @@ first_of xs ys y n e f = ap (slice_get xs) e ∙ ap (λ zs. slice_get zs 0) f
 
 pub later_of : {A : Type 0} (xs ys : List A) (y : A) (n m : ℕ) → n ≡ m + 1 → xs ≡ y ∷ ys → slice_get xs n ≡ slice_get ys m
 later_of xs ys y n m e f = ap (slice_get xs) (e ∙ add-one m) ∙ ap (λ zs. slice_get zs (suc m)) f
+
+-- What holds of each item whose condition holds, holds of what is offered.
+
+offered_first : {A : Type 0} (P : A → Type 0) (o : Bool × A) (os : List (Bool × A)) → (o.0 ≡ true → P o.1) → ((k : ℕ) (x : A) → slice_get (offers_of os) k ≡ Some x → P x)
+    → (b : Bool) → o.0 ≡ b → (k : ℕ) (x : A) → slice_get (if b then o.1 ∷ offers_of os else offers_of os) k ≡ Some x → P x
+offered_first P o os here later true f zero x e = let same : o.1 ≡ x = cc in subst P same (here f)
+offered_first P o os here later true f (suc k) x e = later k x e
+offered_first P o os here later false f k x e = later k x e
+
+pub offer_holds : {A : Type 0} (P : A → Type 0) (os : List (Bool × A)) → AllByRecursion (λ o. o.0 ≡ true → P o.1) os → (k : ℕ) (x : A) → slice_get (offers_of os) k ≡ Some x → P x
+offer_holds P [] h k x e = absurd (let z : None ≡ Some x = e in cc)
+offer_holds P (o ∷ os) h k x e = offered_first P o os h.0 (offer_holds P os h.1) o.0 refl k x e

@@ -1,8 +1,8 @@
-use Rattle.std.proofs.Common.{sym, ◌∙◌}
+use Rattle.std.proofs.Common.{refl, sym, ◌∙◌}
 use Rattle.std.proofs.lemmas.Result.{IfOk-weaker}
 use Rattle.smith_component.specs.Building.{open_of}
 use Rattle.smith_component.proofs.Scripted.{wanted, no_module}
-use Rattle.smith_component.proofs.Turn.{chosen_module, chosen_component, closes_same}
+use Rattle.smith_component.proofs.Turn.{chosen, closes_same}
 use Rattle.smith_component.proofs.builder.Builder.take_turn.Goals as goal
 
 pub returns-in-Finish-clause-follows : goal.returns-in-Finish-clause-follows
@@ -34,7 +34,7 @@ pub returns-in-Canonical-clause-follows : goal.returns-in-Canonical-clause-follo
 returns-in-Canonical-clause-follows c n rest s = c.add_canonicals.ensures.follows n rest (wanted _ _ _ _ _ n rest c.in-Canonical.ensures.chooses s)
 
 pub add_module-requires : goal.add_module-requires
-add_module-requires c = chosen_module c.args.self.config (open_of c.args.self) _ _ c.in-Module.ensures.chooses
+add_module-requires c = (chosen c.args.self.config (open_of c.args.self) _ _ _ c.in-Module.ensures.chooses).0 refl
 
 pub open_component-requires : goal.open_component-requires
-open_component-requires c = chosen_component c.args.self.config (open_of c.args.self) _ _ c.in-Component.ensures.chooses
+open_component-requires c = (chosen c.args.self.config (open_of c.args.self) _ _ _ c.in-Component.ensures.chooses).1 refl
