@@ -1,37 +1,13 @@
 //! From a reader of a fuzzer's bytes to the page of a component.
 
-ghost use Rattle.std.specs.Prelude.{
-  ◌≡◌,
-  ◌≢◌,
-  ℕ,
-  ◌+◌,
-  ◌<◌,
-  ◌≤◌,
-  ◌⊎◌,
-  List,
-  Option,
-  length,
-  IfOk,
-  OnOk,
-  IfErr,
-  OnErr,
-  IsErrOf,
-  vec_len,
-};
+ghost use Rattle.std.specs.Prelude.{◌≡◌, ◌≢◌, ℕ, ◌+◌, ◌<◌, ◌≤◌, ◌⊎◌, List, Option, length};
+ghost use Rattle.std.specs.Prelude.{IfOk, OnOk, IfErr, OnErr, IsErrOf, vec_len};
 ghost use Rattle.std.specs.Io.KnownBytes.{Appends, Consumes, IsAtEnd};
 ghost use Rattle.smith_input.specs.declared.error.Error.TheVariants.{OutOfMemory};
 ghost use Rattle.smith_core.specs.Limits.{IsConsistent};
 ghost use Rattle.smith_cli.specs.Page.{page};
-ghost use Rattle.smith_cli.specs.Running.{
-  ComesAfterReading,
-  GivesAll,
-  GivesTooMuch,
-  IsRefusedOn,
-  WritesPage,
-  longest_input,
-  status_of,
-  status_of_answer,
-};
+ghost use Rattle.smith_cli.specs.Running.{ComesAfterReading, GivesAll, GivesTooMuch, IsRefusedOn, WritesPage};
+ghost use Rattle.smith_cli.specs.Running.{longest_input, status_of, status_of_answer};
 
 use crate::page;
 use smith_component::{Config, Error, Unstructured, generate};

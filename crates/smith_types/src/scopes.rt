@@ -36,8 +36,8 @@ pub enum Kind {
 type Equals = HashMap<FuncType, Vec<u32>, BuildHasherDefault<DefaultHasher>>;
 
 // The types and core types of one scope, with the indexes of each kind and, by each function type, those of its equals.
-// Contracts see the types and the core types. It drops its types from the last to the first, since each holds none
-// after it; the code says so, and a test alone shows it.
+// Contracts see the types and the core types. It drops its types from the last to the first, since each may come to hold
+// those before it; no clause can say so.
 struct Scope {
     types: Vec<Rc<DefType>>,
     defined: Vec<u32>,
@@ -61,7 +61,7 @@ impl Model for Scope {
 
 /// A stack of scopes, never empty. Contracts see the list, outermost first, of the types and core types in each. It is
 /// dropped from the last scope to the first, and each scope from its last type to its first, so that the stack that
-/// this takes does not grow with the number of types. This order is the code's, and shown by a test alone.
+/// this takes does not grow with the number of types; no clause can say so.
 pub struct Scopes {
     alloc: Global,
     outer: Vec<Scope>,
