@@ -3,22 +3,25 @@ use Rattle.std.proofs.Common.{◌≡◌, ℕ, zero, suc, ◌+◌, ◌-◌, ◌�
 use Rattle.smith_input.specs.Choices.{ReadsAmong}
 use Rattle.smith_input.specs.Script.{script_end}
 use Rattle.smith_input.specs.Reading.{More}
+use Rattle.std.specs.List.{AllByRecursion}
 use Rattle.smith_input.proofs.Choices.{among_same}
 use Rattle.smith_input.proofs.Loops.{end_read}
 use Rattle.smith_input.proofs.ReadingLemmas.{more_unique}
 use Rattle.smith_core.specs.declared.config.Config.{Config}
-use Rattle.smith_types.specs.Entries.{Entry, ImportEntry}
+use Rattle.smith_types.specs.CoreLimits.{CoreLimits}
+use Rattle.smith_types.specs.Entries.{Entry, CoreEntry, ImportEntry}
 use Rattle.smith_types.specs.Scope.{Scope}
 use Rattle.smith_component.specs.Limits.{OwnLimits}
 use Rattle.smith_component.specs.Open.{Open, root, items, scopes_in}
 use Rattle.smith_component.specs.Script.{item_of, script_part, script, IsPlanPart, Within}
 use Rattle.smith_component.specs.Scripted.{AddsPart, Follows, Scripted, Scripts}
-use Rattle.smith_component.specs.Tree.{Tree, Canon, Part, custom, core_module, core_types, component, types, canons, imports, add, own, names_in, types_in, types_of, core_types_of, imports_in, canons_in}
-use Rattle.smith_component.specs.Turn.{Next, building, answered, ReadsCustom, ReadsTypes, with_part}
+use Rattle.smith_component.specs.Tree.{Tree, Canon, Part, custom, core_module, core_types, component, types, canons, imports, add, own, names_in, types_in, types_of, core_types_of, imports_in, canons_in, core_types_in}
+use Rattle.smith_component.specs.Turn.{Next, building, answered, ReadsCustom, ReadsCoreTypes, ReadsTypes, with_part}
 use Rattle.smith_component.specs.WellFormed.{FormedPart, scope_of}
 use Rattle.smith_component.proofs.ReadsCustom.{custom_follows}
 use Rattle.smith_component.proofs.Tree.{all_back, own-add, length-own-add}
 use Rattle.smith_component.proofs.Script.{reach}
+use Rattle.smith_component.proofs.ReadsCoreTypes.{core_types_same, core_types_read}
 use Rattle.smith_component.proofs.ReadsTypes.{types_same, types_read}
 use Rattle.smith_component.proofs.Sound.{Short}
 use Rattle.smith_component.specs.declared.item.Item.{Item}
@@ -50,7 +53,7 @@ wanted config stack left item after next rest c s =
 abbrev IsOf : Item → Part → Type 0
 IsOf Finish p = ⊥
 IsOf Custom p = (name contents : List ℕ) × (p ≡ custom name contents)
-IsOf CoreTypes p = (ts : List _) × (p ≡ core_types ts)
+IsOf CoreTypes p = (ts : List CoreEntry) × (p ≡ core_types ts)
 IsOf Types p = (ts : List Entry) × (p ≡ types ts)
 IsOf Imports p = p ≡ imports []
 IsOf Canonical p = p ≡ canons []
@@ -88,13 +91,6 @@ empty_follows max p stack b answer r next rest m e n =
     (sym n, (more_unique (subst P e m) (end_read 0 max 0 rest (omega arith) (omega arith))).1)
 
 module _ (config : Config) (stack : Open) (b : List ℕ) (r : List ℕ) (next : Next) (rest : List ℕ) where
-  pub core_types_follow : {answer : Bool} → More 0 0 (config.max_types - length (core_types_of stack.inner)) b answer r → Follows config CoreTypes stack b next rest → (with_part stack (core_types []) ≡ next) × (r ≡ rest)
-  core_types_follow m a =
-      let p = added_part a in
-      let q = says a (core_types p.0) p.1 in
-      let s = says a (core_types []) (p.1 ∙ ap core_types q.planned) in
-      empty_follows _ (core_types []) stack b _ r next rest m s.begins s.leads
-
   pub imports_follow : {answer : Bool} → More 0 0 (config.max_imports - length (own imports_in stack.inner)) b answer r → Follows config Imports stack b next rest → (with_part stack (imports []) ≡ next) × (r ≡ rest)
   imports_follow m a =
       let s = says a (imports []) (added_part a) in
@@ -125,6 +121,21 @@ module _ (config : Config) (stack : Open) (b : List ℕ) (r : List ℕ) (next : 
       let T : List ℕ → Type 0 = λ z. ReadsTypes config (scopes_in stack.outer) room (scope_of stack.inner) z xs r scope in
       let d = types_same config (scopes_in stack.outer) (subst T s.begins t) (types_read config (scopes_in stack.outer) ys room (scope_of stack.inner) rest s.formed s.planned (omega (arith, few)) (omega (arith, few))) in
       (ap (λ z. with_part stack (types z)) d.0 ∙ sym s.leads, d.1)
+
+-- Core types that were read are those of the script.
+pub core_types_follow : (config : Config) (stack : Open) (b r : List ℕ) (next : Next) (rest : List ℕ) {xs : List CoreEntry} {scope : Scope}
+    → ReadsCoreTypes config (config.max_types - length (core_types_of stack.inner)) (scope_of stack.inner) b xs r scope → Follows config CoreTypes stack b next rest
+    → (with_part stack (core_types xs) ≡ next) × (r ≡ rest)
+core_types_follow config stack b r next rest {xs} {scope} t a =
+    let p = added_part a in
+    let ys : List CoreEntry = p.0 in
+    let s = says a (core_types ys) p.1 in
+    let few : length (core_types_of stack.inner) + length ys ≤ config.max_types = omega (arith, s.limits.core_types, length-own-add core_types_in stack.inner (core_types ys)) in
+    let room : ℕ = config.max_types - length (core_types_of stack.inner) in
+    let T : List ℕ → Type 0 = λ z. ReadsCoreTypes config room (scope_of stack.inner) z xs r scope in
+    let limited : AllByRecursion (CoreLimits config) ys = all_back _ (own core_types_in stack.inner) ys (subst (AllByRecursion (CoreLimits config)) (own-add core_types_in stack.inner (core_types ys)) s.limits.within_core_types) in
+    let d = core_types_same config (subst T s.begins t) (core_types_read config ys room (scope_of stack.inner) rest limited s.planned (omega (arith, few))) in
+    (ap (λ z. with_part stack (core_types z)) d.0 ∙ sym s.leads, d.1)
 
 -- A core module is in no script.
 pub no_module : (config : Config) (stack : Open) (b : List ℕ) (next : Next) (rest : List ℕ) → Follows config Module stack b next rest → ⊥

@@ -4,8 +4,8 @@ use Rattle.std.specs.List.{AllByRecursion}
 use Rattle.std.proofs.lemmas.Bool.Decides.{nat_tests}
 use Rattle.smith_core.specs.declared.config.Config.{Config}
 use Rattle.smith_types.specs.CoreLimits.{CoreLimits}
-use Rattle.smith_types.specs.Entries.{Entry}
-use Rattle.smith_types.specs.Scope.{Scope, with_types}
+use Rattle.smith_types.specs.Entries.{Entry, CoreEntry}
+use Rattle.smith_types.specs.Scope.{Scope, with_types, with_core_types}
 use Rattle.smith_component.specs.Tree.{Tree, ends, Part, custom, core_module, core_types, component, types, canons, imports, add, own, inside, modules, names_in, types_in, core_types_in, imports_in, canons_in, components_in, modules_in, anywhere_in, depth_in}
 use Rattle.smith_component.specs.Open.{Open, tree_so_far, is_module_offered, is_component_offered, scopes_in, scopes_from}
 use Rattle.smith_component.specs.Turn.{building, Closes}
@@ -182,6 +182,18 @@ addable_types config stack es f room small = record {
   flat = refl;
 }
 
+-- Core types that find room.
+pub addable_core_types : (config : Config) (stack : Open) (es : List CoreEntry) → FormedPart (core_types es) (scopes_in stack.outer) stack.inner → length (own core_types_in stack.inner) + length es ≤ config.max_types
+    → AllByRecursion (CoreLimits config) es → SmallCoreTypes config es → IsAddable config stack (core_types es)
+addable_core_types config stack es f room limited small = record {
+  formed = f;
+  own = λ o. own_limits-add config stack.inner (core_types es) o (omega (arith, o.types)) room (omega (arith, o.imports)) (omega (arith, o.functions)) limited tt;
+  sizes = (tt, small);
+  modules = λ h. omega (arith, h);
+  no_component = refl;
+  flat = refl;
+}
+
 -- The same, where the new stack and the new totals are known by equations.
 
 pub part_added : (config : Config) (m n k : ℕ) (outer : List Tree) (inner new : Tree) (p : Part) → IsAddable config (record { outer = outer; inner = inner }) p → k ≡ length (modules_in p) → new ≡ add inner p → Sound config m n (record { outer = outer; inner = inner }) → Sound config (m + k) n (record { outer = outer; inner = new })
@@ -193,6 +205,11 @@ pub types_added : (config : Config) (m n : ℕ) (outer : List Tree) (inner new :
 types_added config m n outer inner new es a e s =
     subst (λ j. Sound config j n (record { outer = outer; inner = new })) (let z : m + 0 ≡ m = omega arith in z)
     (part_added config m n 0 outer inner new (types es) a refl e s)
+
+pub core_types_added : (config : Config) (m n : ℕ) (outer : List Tree) (inner new : Tree) (es : List CoreEntry) → IsAddable config (record { outer = outer; inner = inner }) (core_types es) → new ≡ add inner (core_types es) → Sound config m n (record { outer = outer; inner = inner }) → Sound config m n (record { outer = outer; inner = new })
+core_types_added config m n outer inner new es a e s =
+    subst (λ j. Sound config j n (record { outer = outer; inner = new })) (let z : m + 0 ≡ m = omega arith in z)
+    (part_added config m n 0 outer inner new (core_types es) a refl e s)
 
 pub closed : (config : Config) (m n : ℕ) (around outer : List Tree) (parent inner new : Tree) → around ≡ outer ++ parent ∷ [] → new ≡ add parent (component inner) → Sound config m n (record { outer = around; inner = inner }) → Sound config m n (record { outer = outer; inner = new })
 closed config m n around outer parent inner new a e s =
@@ -225,6 +242,12 @@ pub scope_types : (t : Tree) (es : List Entry) → scope_of (add t (types es)) �
 scope_types t es =
     let a : own types_in (add t (types es)) ≡ own types_in t ++ es = own-add types_in t (types es) in
     let b : own core_types_in (add t (types es)) ≡ own core_types_in t = own-add core_types_in t (types es) ∙ append-nil (own core_types_in t) in
+    λ i. record { types = a i; core_types = b i }
+
+pub scope_core_types : (t : Tree) (es : List CoreEntry) → scope_of (add t (core_types es)) ≡ with_core_types (scope_of t) es
+scope_core_types t es =
+    let a : own types_in (add t (core_types es)) ≡ own types_in t = own-add types_in t (core_types es) ∙ append-nil (own types_in t) in
+    let b : own core_types_in (add t (core_types es)) ≡ own core_types_in t ++ es = own-add core_types_in t (core_types es) in
     λ i. record { types = a i; core_types = b i }
 
 pub scopes_from-snoc : (us : List Tree) (u : Tree) (outer : List Scope) → scopes_from (us ++ u ∷ []) outer ≡ scope_of u ∷ scopes_from us outer

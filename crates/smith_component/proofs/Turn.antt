@@ -15,6 +15,7 @@ use Rattle.smith_component.specs.Turn.{Next, building, answered, Turn, Closes, D
 use Rattle.smith_component.specs.declared.item.Item.{Item}
 use Rattle.smith_component.specs.declared.item.Item.TheVariants.{Finish, Custom, CoreTypes, Types, Imports, Canonical, Module, Component}
 use Rattle.smith_component.proofs.ReadsCustom.{custom_tail}
+use Rattle.smith_component.proofs.ReadsCoreTypes.{core_types_read_tail}
 use Rattle.smith_component.proofs.ReadsTypes.{types_read_tail}
 use Rattle.smith_component.proofs.Sound.{component_offered_is}
 
@@ -63,7 +64,7 @@ part_length config stack next p e =
 does_length : (config : Config) (item : Item) (stack next : Open) (b r : List ℕ) → (item ≡ Component → is_component_offered config stack ≡ true) → length stack.outer + 1 ≤ max_depth config → Does config item stack b (building next) r → (length next.outer + 1 ≤ max_depth config) × (length r ≤ length b)
 does_length config Finish stack next b r e m (d, c) = (omega (arith, closes_length stack next c), omega (arith, ap length d))
 does_length config Custom stack next b r e m (name, contents, read, c) = (omega (arith, part_length config stack next (custom name contents) c), tail_length r b (custom_tail b name contents r read))
-does_length config CoreTypes stack next b r e m (a, more, c) = (omega (arith, part_length config stack next (core_types []) c), tail_length r b (more_tail more))
+does_length config CoreTypes stack next b r e m (xs, scope, es, c) = (omega (arith, part_length config stack next (core_types xs) c), tail_length r b (core_types_read_tail config es))
 does_length config Types stack next b r e m (xs, scope, es, c) = (omega (arith, part_length config stack next (types xs) c), tail_length r b (types_read_tail config _ es))
 does_length config Imports stack next b r e m (a, more, c) = (omega (arith, part_length config stack next (imports []) c), tail_length r b (more_tail more))
 does_length config Canonical stack next b r e m (a, more, c) = (omega (arith, part_length config stack next (canons []) c), tail_length r b (more_tail more))

@@ -9,4 +9,4 @@ abbrev pub building_of : Inside → Building
 building_of b = record { config = b.config; outer = map (λ c. c.sections.items) b.outer.items; inner = b.inner.sections.items }
 
 abbrev pub IsSound : Inside → Type 0
-IsSound b = Standing b.config (inward b.scopes) b.modules b.components (open_of (building_of b))
+IsSound b = Standing b.config b.valtypes.items (inward b.scopes) b.modules b.components (open_of (building_of b))

@@ -1,12 +1,12 @@
 -- The input that a plan is read from.
-use Rattle.std.specs.Prelude.{◌≡◌, ℕ, ◌-◌, List, [], ◌∷◌, ◌++◌, length}
+use Rattle.std.specs.Prelude.{◌≡◌, ◌≤◌, ℕ, ◌-◌, List, [], ◌∷◌, ◌++◌, length}
 use Rattle.std.specs.List.{AllByRecursion}
 use Rattle.std.specs.Str.{IsUtf8}
 use Rattle.smith_input.specs.Script.{script_among, script_end, script_loop, script_text, script_bytes}
 use Rattle.smith_core.specs.declared.config.Config.{Config}
-use Rattle.smith_types.specs.Entries.{Entry}
-use Rattle.smith_types.specs.Scope.{Scope, with_type}
-use Rattle.smith_types.specs.Script.{script_type, Lasts}
+use Rattle.smith_types.specs.Entries.{Entry, CoreEntry, core_func, core_module}
+use Rattle.smith_types.specs.Scope.{Scope, with_type, with_core_type}
+use Rattle.smith_types.specs.Script.{script_type, script_core_type, Lasts}
 use Rattle.smith_component.specs.Tree.{Tree, ends, first, Part, custom, core_module, core_types, component, types, canons, imports, add, types_of, core_types_of, own, imports_in, canons_in}
 use Rattle.smith_component.specs.Grammar.{Spells}
 use Rattle.smith_component.specs.Open.{items_with_input}
@@ -34,6 +34,15 @@ script_item config outer before chosen = script_among equal.eq (items_with_input
 abbrev pub script_types : Config → ℕ → Scope → List Entry → List ℕ
 script_types config max own ts = script_loop (script_type config.max_type_size) with_type 0 max 0 own ts
 
+-- a core type of a plan, which is a function type
+abbrev pub script_core_entry : Config → CoreEntry → List ℕ
+script_core_entry config (core_func f) = script_core_type config f
+script_core_entry config (core_module ds) = []
+
+-- The same of a core type section.
+abbrev pub script_core_types : Config → ℕ → Scope → List CoreEntry → List ℕ
+script_core_types config max own ts = script_loop (λ s x. script_core_entry config x) with_core_type 0 max 0 own ts
+
 -- The rest of a component, where these components are open around it and these parts stand before it; and what follows the choice
 -- of its item in the script of a part.
 abbrev mutual
@@ -44,7 +53,7 @@ abbrev mutual
   pub script_part : Part → Config → List Tree → Tree → List ℕ
   script_part (custom name contents) config outer before = script_text 1000 name ++ script_bytes contents
   script_part (core_module text) config outer before = []
-  script_part (core_types ts) config outer before = script_end 0 (config.max_types - length (core_types_of before))
+  script_part (core_types ts) config outer before = script_core_types config (config.max_types - length (core_types_of before)) (scope_of before) ts
   script_part (component t) config outer before = script_from t config (outer ++ before ∷ []) ends
   script_part (types ts) config outer before = script_types config (config.max_types - length (types_of before)) (scope_of before) ts
   script_part (canons fs) config outer before = script_end 0 (config.max_funcs - length (own canons_in before))
@@ -53,8 +62,13 @@ abbrev mutual
 abbrev pub script : Config → Tree → List ℕ
 script config plan = script_from plan config [] ends
 
--- A plan that scripts can say: custom sections, type sections for which the fuel lasts, sections without entries, and components
--- of these.
+-- A core type is a function type, and the fuel lasts for it.
+abbrev pub LastsCore : ℕ → CoreEntry → Type 0
+LastsCore fuel (core_func f) = 2 ≤ fuel
+LastsCore fuel (core_module ds) = ⊥
+
+-- A plan that scripts can say: custom sections, core type sections of function types, type sections for which the fuel lasts, import
+-- and canonical sections without entries, and components of these.
 abbrev mutual
   pub IsPlan : Config → Tree → Type 0
   IsPlan config ends = Unit {0}
@@ -63,7 +77,7 @@ abbrev mutual
   pub IsPlanPart : Config → Part → Type 0
   IsPlanPart config (custom name contents) = IsUtf8 name
   IsPlanPart config (core_module text) = ⊥
-  IsPlanPart config (core_types ts) = ts ≡ []
+  IsPlanPart config (core_types ts) = AllByRecursion (LastsCore config.max_type_size) ts
   IsPlanPart config (component t) = IsPlan config t
   IsPlanPart config (types ts) = AllByRecursion (Lasts config.max_type_size) ts
   IsPlanPart config (canons fs) = Unit {0}

@@ -1,7 +1,8 @@
 -- What is true of a builder at every moment, and which parts keep it true.
 use Rattle.std.specs.Prelude.{◌≡◌, ℕ, ◌+◌, ◌≤◌, List, [], ◌∷◌, length}
-use Rattle.smith_core.specs.Limits.{IsConsistent}
+use Rattle.smith_core.specs.Limits.{IsConsistent, configured}
 use Rattle.smith_core.specs.declared.config.Config.{Config}
+use Rattle.smith_core.specs.declared.types.ValType.{ValType}
 use Rattle.smith_types.specs.Scope.{Scope}
 use Rattle.smith_component.specs.Limits.{OwnLimits, Limits, SmallTypes, SmallCoreTypes, Sized}
 use Rattle.smith_component.specs.Open.{Open, tree_so_far, scopes_in}
@@ -17,9 +18,10 @@ pub record Sound (config : Config) (module_total component_total : ℕ) (stack :
   pub limits : Limits config (tree_so_far stack.outer stack.inner)
   pub sized : Sized config (tree_so_far stack.outer stack.inner)
 
--- The scopes are those of the open components too.
-pub record Standing (config : Config) (scopes : List Scope) (module_total component_total : ℕ) (stack : Open) : Type 0 where
+-- The scopes are those of the open components too, and the core value types those that the config allows.
+pub record Standing (config : Config) (valtypes : List ValType) (scopes : List Scope) (module_total component_total : ℕ) (stack : Open) : Type 0 where
   pub sound : Sound config module_total component_total stack
+  pub valtypes_are : valtypes ≡ configured config
   pub scopes_are : scopes ≡ scope_of stack.inner ∷ scopes_in stack.outer
 
 -- A part that may be added to the inner component: it is well formed there, no component, and within the limits where what stands

@@ -6,9 +6,10 @@ use Rattle.smith_input.specs.Reading.{More}
 use Rattle.smith_input.specs.Texts.{ReadsText, ReadsBytes}
 use Rattle.smith_core.specs.Module.{core_preamble}
 use Rattle.smith_core.specs.declared.config.Config.{Config}
-use Rattle.smith_types.specs.Entries.{Entry}
+use Rattle.smith_types.specs.Entries.{Entry, CoreEntry}
 use Rattle.smith_types.specs.Made.{Made}
-use Rattle.smith_types.specs.Scope.{Scope, with_type}
+use Rattle.smith_types.specs.MadeCore.{MadeCore}
+use Rattle.smith_types.specs.Scope.{Scope, with_type, with_core_type}
 use Rattle.smith_component.specs.Tree.{Tree, Part, ends, custom, core_module, core_types, component, types, canons, imports, add, own, types_of, core_types_of, imports_in, canons_in}
 use Rattle.smith_component.specs.Limits.{max_depth}
 use Rattle.smith_component.specs.Open.{Open, root, scopes_in, items}
@@ -62,6 +63,14 @@ ReadsType config outer own b x rest next = (left : ℕ) × Made own outer b conf
 abbrev pub ReadsTypes : Config → List Scope → ℕ → Scope → List ℕ → List Entry → List ℕ → Scope → Type 0
 ReadsTypes config outer max own b xs rest next = Loop Never (ReadsType config outer) 0 max 0 own b xs rest next
 
+-- A core type of a core type section, with fresh fuel. It stands in the scope that the core types before it leave.
+abbrev pub ReadsCoreType : Config → Scope → List ℕ → CoreEntry → List ℕ → Scope → Type 0
+ReadsCoreType config own b x rest next = (left : ℕ) × MadeCore config own b config.max_type_size x rest left × (next ≡ with_core_type own x)
+
+-- at most so many core types, which lead from one scope to another
+abbrev pub ReadsCoreTypes : Config → ℕ → Scope → List ℕ → List CoreEntry → List ℕ → Scope → Type 0
+ReadsCoreTypes config max own b xs rest next = Loop Never (ReadsCoreType config) 0 max 0 own b xs rest next
+
 -- A section to which nothing is added so far: its loop asks once whether it goes on, and ends whatever comes.
 abbrev pub Empty : ℕ → Part → Open → List ℕ → Next → List ℕ → Type 0
 Empty max p stack b next rest = (answer : Bool) × More 0 0 max b answer rest × (next ≡ with_part stack p)
@@ -70,7 +79,8 @@ Empty max p stack b next rest = (answer : Bool) × More 0 0 max b answer rest ×
 abbrev pub Does : Config → Item → Open → List ℕ → Next → List ℕ → Type 0
 Does config Finish stack b next rest = (rest ≡ b) × Closes stack next
 Does config Custom stack b next rest = (name contents : List ℕ) × ReadsCustom b name contents rest × (next ≡ with_part stack (custom name contents))
-Does config CoreTypes stack b next rest = Empty (config.max_types - length (core_types_of stack.inner)) (core_types []) stack b next rest
+Does config CoreTypes stack b next rest =
+    (xs : List CoreEntry) × (scope : Scope) × ReadsCoreTypes config (config.max_types - length (core_types_of stack.inner)) (scope_of stack.inner) b xs rest scope × (next ≡ with_part stack (core_types xs))
 Does config Types stack b next rest =
     (xs : List Entry) × (scope : Scope) × ReadsTypes config (scopes_in stack.outer) (config.max_types - length (types_of stack.inner)) (scope_of stack.inner) b xs rest scope
     × (next ≡ with_part stack (types xs))

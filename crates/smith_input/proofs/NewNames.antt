@@ -42,7 +42,7 @@ earlier has size text a b u v l =
     let f : has a ≡ false = u.is_new in
     let c : true ≡ false = sym t ∙ f in cc
 
-made_unique_same : (has : List ℕ → Bool) (size : ℕ) (text a b : List ℕ) → IsMadeUnique has size text a → IsMadeUnique has size text b → a ≡ b
+pub made_unique_same : (has : List ℕ → Bool) (size : ℕ) (text a b : List ℕ) → IsMadeUnique has size text a → IsMadeUnique has size text b → a ≡ b
 made_unique_same has size text a b u v =
     let e : u.times ≡ v.times = ⊎_elim
     (λ l. absurd (earlier has size text a b u v l))

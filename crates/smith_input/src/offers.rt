@@ -35,7 +35,7 @@ fn offer_at<T: Copy>(offers: &[(bool, T)], place: usize) -> Option<T>
     None
 }
 
-/// One of the items whose condition holds, by a choice among their places; none exactly where no condition does, and then
+/// One of the items whose condition holds, by a choice among their places; none exactly where none does, and then
 /// nothing is read. No memory is taken.
 pub fn choose_offered<T: Copy>(u: &mut Unstructured, offers: &[(bool, T)]) -> Option<T>
     ensures { MatchOption result

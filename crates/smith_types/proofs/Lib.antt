@@ -1,8 +1,14 @@
 pub mod Clear
 pub mod Encoding
+pub mod KeptAliases
 pub mod Made
+pub mod MadeCore
+pub mod MakingCore
 pub mod Members
+pub mod ModuleFronts
+pub mod ModuleTypes
 pub mod Names
+pub mod Places
 pub mod Script
 pub mod Signature
 pub mod Stack

@@ -1,5 +1,5 @@
 -- What is made is well formed, no larger than its fuel, leaves a tail of the bytes, and is determined.
-use Rattle.std.proofs.Common.{◌≡◌, ℕ, zero, suc, ◌+◌, ◌-◌, ◌<◌, ◌≤◌, Bool, true, false, cond, List, [], ◌∷◌, length, refl, sym, ap, ◌∙◌, subst, arith}
+use Rattle.std.proofs.Common.{◌≡◌, ℕ, ◌+◌, ◌-◌, ◌<◌, ◌≤◌, true, false, List, [], ◌∷◌, length, refl, sym, ap, ◌∙◌, subst, arith}
 use Rattle.std.specs.List.{AllByRecursion}
 use Rattle.std.specs.Option.{option_to_list}
 use Rattle.std.specs.Prelude.{Option, Some, None, slice_get}
@@ -13,7 +13,7 @@ use Rattle.smith_types.specs.Entries.{Signature, Entry, defined, function}
 use Rattle.smith_types.specs.Script.{primitives}
 use Rattle.smith_types.specs.Made.{ReadsVal, only_primitive, either_primitive, either_index, ReadsMaybe, absent, present}
 use Rattle.smith_types.specs.Made.{or_bool, MadeMembers, MadeAs, ReadsResult, MadeFunction, MadeValues, MadeOf, Made, spent_type, of_kind}
-use Rattle.smith_types.specs.Scope.{Scope, places, defined_places, is_defined}
+use Rattle.smith_types.specs.Scope.{Scope, defined_places, is_defined}
 use Rattle.smith_types.specs.WellFormed.{FormedVal, FormedMaybe, FormedDefined, FormedEntry, defined_size, size}
 use Rattle.smith_types.specs.declared.make.TypeKind.{TypeKind}
 use Rattle.smith_types.specs.declared.make.TypeKind.TheVariants.{Defined, Function, Component, Instance}
@@ -21,6 +21,7 @@ use Rattle.smith_types.specs.declared.make.defined.DefinedKind.{DefinedKind}
 use Rattle.smith_types.specs.declared.make.defined.DefinedKind.TheVariants as kind
 use Rattle.smith_types.specs.declared.types.ComponentValType.{ComponentValType}
 use Rattle.smith_types.specs.declared.types.ComponentValType.TheVariants.{Primitive, Indexed}
+use Rattle.smith_types.proofs.Places.{place_stands}
 use Rattle.smith_types.proofs.Members.{members_tail, named_tail, members_few, members_size, members_all, members_named, named_name, labels_named, Same, members_same, named_same}
 
 -- tails
@@ -64,29 +65,11 @@ made_tail own outer b fuel e rest left (of_kind {kind = k} {mid = mid} f c d) = 
 
 -- well formed
 
--- What stands at a place where the test holds passes it.
-abbrev StandsAt : List Entry → ℕ → ℕ → Type 0
-StandsAt es n i = (e : Entry) × (j : ℕ) × (i ≡ n + j) × (slice_get es j ≡ Some e) × (is_defined e ≡ true)
-
-stands_later : (e : Entry) (es : List Entry) (n i : ℕ) → StandsAt es (n + 1) i → StandsAt (e ∷ es) n i
-stands_later e es n i (x, j, at, here, t) = (x, suc j, omega (arith, at), here, t)
-
-stands_split : (e : Entry) (es : List Entry) (n k i : ℕ) → ((m : ℕ) → slice_get (places is_defined (n + 1) es) m ≡ Some i → StandsAt es (n + 1) i) → (b : Bool) → is_defined e ≡ b → slice_get (cond b (n ∷ places is_defined (n + 1) es) (places is_defined (n + 1) es)) k ≡ Some i → StandsAt (e ∷ es) n i
-stands_split e es n zero i later true t g = let h : n ≡ i = cc in (e, 0, omega (arith, h), refl, t)
-stands_split e es n (suc k) i later true t g = stands_later e es n i (later k g)
-stands_split e es n k i later false t g = stands_later e es n i (later k g)
-
-stands_at : (es : List Entry) (n k i : ℕ) → slice_get (places is_defined n es) k ≡ Some i → StandsAt es n i
-stands_at [] n k i h = absurd (cc)
-stands_at (e ∷ es) n k i h = stands_split e es n k i (λ m g. stands_at es (n + 1) m i g) (is_defined e) refl h
-
 val_formed : (own : Scope) (b : List ℕ) (v : ComponentValType) (rest : List ℕ) → ReadsVal own b v rest → FormedVal own v
 val_formed own b v rest (only_primitive n r) = tt
 val_formed own b v rest (either_primitive n c r) = tt
 val_formed own b v rest (either_index {i = i} c r) =
-    let p = stands_at own.types 0 r.place i r.named in
-    let same : i ≡ p.1 = omega (arith, p.2) in
-    (p.0, ap (slice_get own.types) same ∙ p.3, p.4)
+    place_stands is_defined own.types r.place i r.named
 
 maybe_formed : (own : Scope) (b : List ℕ) (v : Option ComponentValType) (rest : List ℕ) → ReadsMaybe own b v rest → FormedMaybe own v
 maybe_formed own b v rest (absent f) = tt

@@ -1,5 +1,5 @@
 -- Names that are new one after another, and names that are distinct.
-use Rattle.std.proofs.Common.{◌≡◌, ◌||◌, Bool, true, false, ℕ, List, [], ◌∷◌, ◌++◌, refl, sym, ap, ◌∙◌, bytes_eq}
+use Rattle.std.proofs.Common.{◌≡◌, ◌||◌, Bool, true, false, ℕ, List, [], ◌∷◌, ◌++◌, refl, append-nil, append_assoc, subst, sym, ap, ◌∙◌, bytes_eq}
 use Rattle.std.specs.List.{AllByRecursion, IsDistinct}
 use Rattle.std.proofs.lemmas.Bool.{false≢true}
 use Rattle.std.proofs.lemmas.Slice.Eq.{bytes_eq-Decides}
@@ -48,3 +48,8 @@ distinct_new before (n ∷ ns) a d = (a.0, distinct_new (before ++ n ∷ []) ns 
 pub none_before : (ns : List (List ℕ)) → AllByRecursion (λ m. is_among [] m ≡ false) ns
 none_before [] = tt
 none_before (n ∷ ns) = (refl, none_before ns)
+
+-- one new name more
+pub new_more : (before ns : List (List ℕ)) (n : List ℕ) → AreNew before ns → is_among (before ++ ns) n ≡ false → AreNew before (ns ++ n ∷ [])
+new_more before [] n a new = (subst (λ z. is_among z n ≡ false) (append-nil before) new, tt)
+new_more before (m ∷ ms) n a new = (a.0, new_more (before ++ m ∷ []) ms n a.1 (subst (λ z. is_among z n ≡ false) (sym (append_assoc before (m ∷ []) ms)) new))

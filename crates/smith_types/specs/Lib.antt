@@ -7,6 +7,8 @@ pub mod WellFormed
 pub mod CoreLimits
 pub mod Script
 pub mod Made
+pub mod MadeCore
+pub mod MakingCore
 pub mod Signature
 pub mod Shown
 pub mod Scopes

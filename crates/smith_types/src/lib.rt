@@ -16,7 +16,7 @@ pub use deftype::DefType;
 pub use drops::drop_last_first;
 pub use encode::{ComponentFormat, core_type_len, type_len, write_core_type, write_type};
 pub use func::FuncType;
-pub use make::{DefinedKind, TypeKind, arbitrary_type};
+pub use make::{DefinedKind, ModuleItem, TypeKind, arbitrary_core_type, arbitrary_type};
 pub use scopes::{Kind, Scopes};
 pub use types::{
     ComponentValType, DefinedType, EnumType, FlagsType, ListType, OptionType, PrimitiveValType,

@@ -1,13 +1,22 @@
 //! Types from the input.
 
+mod aliases;
+mod core_functions;
+mod core_types;
+mod declared;
 mod defined;
+mod entities;
+mod front;
 mod fuel;
 mod function;
 mod members;
+mod module_names;
+mod module_types;
 mod values;
 
 ghost use Rattle.std.specs.Prelude.{◌≡◌, ◌+◌, ◌-◌, ◌≤◌, IfOk, IfErr};
 ghost use Rattle.smith_input.specs.Reading.{IsTail};
+ghost use Rattle.smith_core.specs.Limits.{configured};
 ghost use Rattle.smith_types.specs.Made.{Made, MadeOf};
 ghost use Rattle.smith_types.specs.Scopes.{own_scope, outer_scopes};
 ghost use Rattle.smith_types.specs.Shown.{shown_type, shown_shared};
@@ -15,10 +24,12 @@ ghost use Rattle.smith_types.specs.WellFormed.{FormedEntry, size};
 
 use crate::deftype::DefType;
 use crate::scopes::Scopes;
+pub use core_types::arbitrary_core_type;
 pub use defined::DefinedKind;
 use defined::defined_type;
 use fuel::burn;
 use function::function_type;
+pub use module_types::ModuleItem;
 use smith_core::{Config, ValType};
 use smith_input::{Error, Unstructured};
 use std::alloc::Global;
@@ -99,6 +110,7 @@ pub fn arbitrary_type(
     scopes: &mut Scopes,
     fuel: &mut u32,
 ) -> Result<Rc<DefType>, Error>
+    requires configured { _valtypes.now ≡ configured _config.now }
     ensures made { IfOk result (λ t. Made (own_scope scopes.old) (outer_scopes scopes.old) u.old fuel.old
         (shown_shared t) u.new fuel.new) }
     ensures formed { IfOk result (λ t. FormedEntry (shown_shared t) (own_scope scopes.old) (outer_scopes scopes.old)) }

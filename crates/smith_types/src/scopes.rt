@@ -36,7 +36,7 @@ pub enum Kind {
 type Equals = HashMap<FuncType, Vec<u32>, BuildHasherDefault<DefaultHasher>>;
 
 // The types and core types of one scope, with the indexes of each kind and, by each function type, those of its equals.
-// Contracts see the types and the core types. It drops its types from the last to the first, since each may come to hold
+// Contracts see types and core types. It drops its types from the last to the first, since each may come to hold
 // those before it; no clause can say so.
 struct Scope {
     types: Vec<Rc<DefType>>,
@@ -179,7 +179,8 @@ impl Scope {
 
     // The indexes of the entries of that kind.
     fn places(&self, kind: Kind) -> &[u32]
-        ensures { result.now ≡ kind_places kind (shown_scope self.now) }
+        ensures places { result.now ≡ kind_places kind (shown_scope self.now) }
+        ensures small { length result.now < 9223372036854775808 }
     {
         match kind {
             Kind::Defined => &self.defined,
@@ -312,7 +313,8 @@ impl Scopes {
 
     /// How many entries of the last scope are of that kind.
     pub fn kind_len(&self, kind: Kind) -> usize
-        ensures { result ≡ length (kind_places kind (own_scope self.now)) }
+        ensures count { result ≡ length (kind_places kind (own_scope self.now)) }
+        ensures small { result < 9223372036854775808 }
     {
         self.inner.places(kind).len()
     }

@@ -5,7 +5,7 @@ use std::alloc::AllocError;
 use std::test::Fail;
 
 // Parameters come in pairs: a name and the rank of its type, and then the name of a parameter of type bool that is the
-// state of `FoldHasher` before it, so that the state becomes zero. So function types that begin with the first pair have
+// state of `FoldHasher` before it, so that it becomes zero. So function types that begin with the first pair have
 // the same hash, whatever the order of the pairs after it.
 const FIRST: (&[u8; 8], u8, &[u8; 8]) = (b"amsxaaaa", 3, b"adir8z3q");
 

@@ -8,6 +8,8 @@ mod components;
 #[cfg(test)]
 mod core_encoding;
 #[cfg(test)]
+mod core_types;
+#[cfg(test)]
 mod custom;
 #[cfg(test)]
 mod deep;

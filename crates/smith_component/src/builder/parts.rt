@@ -3,17 +3,18 @@
 ghost use Rattle.std.specs.Prelude.{◌≡◌, ℕ, ◌-◌, ◌+◌, ◌≤◌, List, [], map, length};
 ghost use Rattle.std.specs.Prelude.{IfOk, IfErr, IsTrue};
 ghost use Rattle.smith_input.specs.Reading.{IsTail};
+ghost use Rattle.smith_core.specs.Limits.{configured};
 ghost use Rattle.smith_core.specs.Module.{core_preamble};
 ghost use Rattle.smith_types.specs.Scopes.{inward};
 ghost use Rattle.smith_types.specs.Scope.{own_of, outer_of};
-ghost use Rattle.smith_types.specs.Shown.{shown_shared};
+ghost use Rattle.smith_types.specs.Shown.{shown_shared, shown_shared_core};
 ghost use Rattle.smith_component.specs.Sound.{IsAddable};
 ghost use Rattle.smith_component.specs.Building.{open_of};
 ghost use Rattle.smith_component.specs.Scripted.{Follows};
 ghost use Rattle.smith_component.specs.Shown.{shown_section};
 ghost use Rattle.smith_component.specs.Steps.{next_of, KeepsSections, StaysSound};
 ghost use Rattle.smith_component.specs.Tree.{add, core_module};
-ghost use Rattle.smith_component.specs.Turn.{Next, Does, ReadsTypes, with_part};
+ghost use Rattle.smith_component.specs.Turn.{Next, Does, ReadsCoreTypes, ReadsTypes, with_part};
 ghost use Rattle.smith_component.specs.Open.{is_module_offered};
 ghost use Rattle.smith_component.specs.WellFormed.{scope_of};
 ghost use Rattle.smith_component.specs.declared.item.Item.TheVariants.{Custom, CoreTypes, Types, Imports, Canonical};
@@ -24,7 +25,7 @@ use crate::component::{
 };
 use smith_core::{Config, Module, ValType};
 use smith_input::{Error, Unstructured};
-use smith_types::{DefType, Scopes, arbitrary_type};
+use smith_types::{CoreType, DefType, Scopes, arbitrary_core_type, arbitrary_type};
 use std::alloc::Global;
 use std::rc::Rc;
 
@@ -37,7 +38,8 @@ fn read_types(
     scopes: &mut Scopes,
     u: &mut Unstructured,
 ) -> Result<Vec<Rc<DefType>>, Error>
-    requires { length (own_of (inward scopes.old)).types + max ≤ 4294967295 }
+    requires room { length (own_of (inward scopes.old)).types + max ≤ 4294967295 }
+    requires configured { valtypes.now ≡ configured config.now }
     ensures entries { IfOk result (λ v.
         ReadsTypes config.now (outer_of (inward scopes.old)) max (own_of (inward scopes.old))
         u.old (map shown_shared v.items) u.new (own_of (inward scopes.new))) }
@@ -55,6 +57,39 @@ fn read_types(
         let mut fuel = config.max_type_size;
         let made = arbitrary_type(alloc, u, config, valtypes, scopes, &mut fuel)?;
         scopes.push_type(made.clone()?)?;
+        types.push(made)?;
+    }
+    Ok(types)
+}
+
+// The entries of a core type section, at most so many. Each is added to the last scope.
+fn read_core_types(
+    alloc: Global,
+    config: &Config,
+    valtypes: &[ValType],
+    max: usize,
+    scopes: &mut Scopes,
+    u: &mut Unstructured,
+) -> Result<Vec<Rc<CoreType>>, Error>
+    requires room { length (own_of (inward scopes.old)).core_types + max ≤ 4294967295 }
+    requires configured { valtypes.now ≡ configured config.now }
+    ensures entries { IfOk result (λ v.
+        ReadsCoreTypes config.now max (own_of (inward scopes.old))
+        u.old (map shown_shared_core v.items) u.new (own_of (inward scopes.new))) }
+    ensures outer { IfOk result (λ _. outer_of (inward scopes.new) ≡ outer_of (inward scopes.old)) }
+    ensures depth { IfOk result (λ _. length (inward scopes.new) ≡ length (inward scopes.old)) }
+    ensures bound { IfOk result (λ v. length v.items ≤ max) }
+    ensures memory { IfErr result (λ e. e ≡ Error.OutOfMemory) }
+    ensures tail { IsTail u.new u.old }
+{
+    let mut types = Vec::new(alloc);
+    for done in 0..max {
+        if !u.more(done, 0, max) {
+            return Ok(types);
+        }
+        let mut fuel = config.max_type_size;
+        let made = arbitrary_core_type(alloc, u, config, valtypes, scopes, &mut fuel)?;
+        scopes.push_core_type(made.clone()?)?;
         types.push(made)?;
     }
     Ok(types)
@@ -102,7 +137,7 @@ impl Builder {
         self.add_section(Section::CoreModule(Module::empty()))
     }
 
-    // An empty core type section. Its loop ends whatever comes.
+    // A core type section, with as many core types as the component may still have.
     pub(crate) fn add_core_types(self, u: &mut Unstructured) -> Result<Step, Error>
         ensures added { IfOk result (λ s. Does self.config CoreTypes (open_of self) u.old (next_of s) u.new) }
         ensures follows { (n : Next) (rest : List ℕ) → Follows self.config CoreTypes (open_of self) u.old n rest
@@ -112,10 +147,20 @@ impl Builder {
         ensures memory { IfErr result (λ e. e ≡ Error.OutOfMemory) }
         ensures tail { IsTail u.new u.old }
     {
-        let room = self.config.max_types - self.inner.core_types;
-        u.more(0, 0, room);
-        let types = Vec::new(self.alloc);
-        self.add_section(Section::CoreTypes(CoreTypeSection { types }))
+        let mut builder = self;
+        let room = builder.config.max_types - builder.inner.core_types;
+        let types = read_core_types(
+            builder.alloc,
+            &builder.config,
+            &builder.valtypes,
+            room,
+            &mut builder.scopes,
+            u,
+        )?;
+        builder
+            .inner
+            .push(Section::CoreTypes(CoreTypeSection { types }))?;
+        Ok(Step::StillBuilding(builder))
     }
 
     // An empty import section. Its loop ends whatever comes.

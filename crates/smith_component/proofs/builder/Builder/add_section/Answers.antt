@@ -29,5 +29,6 @@ invariant_of-builder c =
     let q = subst Q (sym c.builder.view_is) (record { addable = c.requires.addable; quiet = c.requires.quiet }) in
     record {
       sound = part_added _ _ _ _ _ _ _ _ q.addable c.module_count-modules.ensures c.in_ok-push.ensures.ok c.builder.invariant.sound;
+      valtypes_are = c.builder.invariant.valtypes_are;
       scopes_are = c.builder.invariant.scopes_are ∙ ap (λ s. s ∷ scopes_in stack.outer) (sym (ap scope_of c.in_ok-push.ensures.ok ∙ q.quiet));
     }

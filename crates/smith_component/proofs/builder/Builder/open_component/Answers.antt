@@ -23,6 +23,7 @@ invariant_of-builder c =
     let inner = ap (λ x. shown_sections x.sections.items) c.replace-around.ensures.after ∙ ap shown_sections c.new-opened.ensures in
     record {
       sound = opened _ _ _ _ _ _ _ o.0 (omega (arith, o.1, c.builder.invariant.sound.components_are)) outer inner c.builder.invariant.sound;
+      valtypes_are = c.builder.invariant.valtypes_are;
       scopes_are =
           opened_scope _ _ c.in_ok-open_scope.ensures.ok
           ∙ (ap (λ ss. empty_scope ∷ ss) (c.builder.invariant.scopes_are ∙ (sym (scopes_from-snoc stack.outer stack.inner []) ∙ ap scopes_in (sym outer))) ∙ ap (λ s. s ∷ scopes_in (trees_of c.push.new.self.items)) (sym (ap scope_of inner)));

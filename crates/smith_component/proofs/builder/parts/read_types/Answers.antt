@@ -40,7 +40,7 @@ push_type-requires c =
       length-append own.types (map shown_shared c.loop-done.types.items),
       length-map c.loop-done.types.items shown_shared,
       c.loop-done.invariant.count,
-      c.requires,
+      c.requires.room,
     )
 
 pub loop-done-preserved : goal.loop-done-preserved

@@ -16,7 +16,7 @@ returns-then-choose_index-eq1-clause-reads c =
     let Q : ℕ → Type 0 = λ n. Reads n c.choose_index.new.self c.choose_index-rank.result c.choose_index-rank.new.self in
     either_index
     (subst P c.if-choose_index-eq1.true c.choose_index.ensures)
-    (record { place = c.choose_index-rank.result; reads = subst Q c.kind_len-defined.ensures c.choose_index-rank.ensures; named = c.kind_at.ensures })
+    (record { place = c.choose_index-rank.result; reads = subst Q c.kind_len-defined.ensures.count c.choose_index-rank.ensures; named = c.kind_at.ensures })
 
 pub returns-clause-reads : goal.returns-clause-reads
 returns-clause-reads c =
@@ -25,7 +25,7 @@ returns-clause-reads c =
       | else-defined-gt0-via-then-defined-gt0+else-choose_index-eq1 w ↦
           let P : ℕ → Type 0 = λ k. Reads 2 c.args.u.now k w.choose_index.new.self in
           let zero : w.choose_index.result ≡ 0 = omega (arith, w.choose_index.ensures.below) in
-          either_primitive (omega (arith, c.kind_len-defined.ensures)) (subst P zero w.choose_index.ensures) (subst R w.u-is c.primitive_type.ensures.reads)
+          either_primitive (omega (arith, c.kind_len-defined.ensures.count)) (subst P zero w.choose_index.ensures) (subst R w.u-is c.primitive_type.ensures.reads)
       | else-defined-gt0-via-else-defined-gt0 w ↦
-          only_primitive (none _ (omega (arith, c.kind_len-defined.ensures))) (subst R w.u-is c.primitive_type.ensures.reads)
+          only_primitive (none _ (omega (arith, c.kind_len-defined.ensures.count))) (subst R w.u-is c.primitive_type.ensures.reads)
     ]

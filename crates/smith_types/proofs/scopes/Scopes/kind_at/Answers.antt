@@ -8,5 +8,5 @@ use Rattle.smith_types.proofs.scopes.Scopes.kind_at.Goals as goal
 pub returns : goal.returns
 returns c =
     let own = own_shown c.args.self.now c.self.inside.outer.items c.self.inside.inner c.self.view_is in
-    let row = c.places.ensures ∙ ap (kind_places c.args.kind) (sym own) in
+    let row = c.places.ensures.places ∙ ap (kind_places c.args.kind) (sym own) in
     rw row (slice_get-get_or (kind_places c.args.kind (own_of (inward c.args.self.now))) c.args.k 0 c.requires)

@@ -1,0 +1,76 @@
+-- What a core type section reads: well formed core types, within the limits and their fuel, a tail of the bytes; and what its script
+-- says.
+use Rattle.std.proofs.Common.{◌≡◌, ℕ, ◌+◌, ◌≤◌, ◌^◌, List, [], ◌∷◌, ◌++◌, length, arith, refl, sym, ap, ◌∙◌, subst, append_assoc}
+use Rattle.std.specs.List.{AllByRecursion}
+use Rattle.smith_input.specs.Loops.{Along, Never, after_all}
+use Rattle.smith_input.specs.Reading.{IsTail}
+use Rattle.smith_input.proofs.Loops.{loop_tail, loop_gives, loop_all, loop_same, loop_read}
+use Rattle.smith_core.specs.declared.config.Config.{Config}
+use Rattle.smith_types.specs.CoreLimits.{CoreLimits}
+use Rattle.smith_types.specs.Entries.{CoreEntry, core_func, core_module}
+use Rattle.smith_types.specs.Scope.{Scope, with_core_type, with_core_types, own_of}
+use Rattle.smith_types.specs.WellFormed.{FormedCores}
+use Rattle.smith_types.proofs.MadeCore.{made_core_tail, made_core_formed, made_core_limits, made_core_size, made_core_same, core_type_read}
+use Rattle.smith_types.proofs.Stack.{with_core_none}
+use Rattle.smith_component.specs.Limits.{SmallCoreTypes}
+use Rattle.smith_component.specs.Script.{script_core_entry, script_core_types, LastsCore}
+use Rattle.smith_component.specs.Turn.{ReadsCoreType, ReadsCoreTypes}
+
+module _ (config : Config) where
+  pub core_types_read_formed : {max : ℕ} {own next : Scope} {b rest : List ℕ} {xs : List CoreEntry} → ReadsCoreTypes config max own b xs rest next → FormedCores xs own
+  core_types_read_formed {own = own} {next = next} {b = b} {rest = rest} {xs = xs} r =
+      loop_gives (λ s ys t. FormedCores ys s) (λ s. tt) (λ s c q t e. absurd e) one 0 own b xs rest next r
+    where
+      one : (s t u : Scope) (c : List ℕ) (x : CoreEntry) (q : List ℕ) (ys : List CoreEntry) → ReadsCoreType config s c x q t → FormedCores ys t → FormedCores (x ∷ ys) s
+      one s t u c x q ys (left, made, e) f = (made_core_formed made, subst (λ z. FormedCores ys z) e f)
+
+  pub core_types_read_limited : {max : ℕ} {own next : Scope} {b rest : List ℕ} {xs : List CoreEntry} → ReadsCoreTypes config max own b xs rest next → AllByRecursion (CoreLimits config) xs
+  core_types_read_limited {own = own} {next = next} {b = b} {rest = rest} {xs = xs} r = loop_all _ (λ s c x q t (left, made, e). made_core_limits made) 0 own b xs rest next r
+
+  pub core_types_read_small : {max : ℕ} {own next : Scope} {b rest : List ℕ} {xs : List CoreEntry} → ReadsCoreTypes config max own b xs rest next → SmallCoreTypes config xs
+  core_types_read_small {own = own} {next = next} {b = b} {rest = rest} {xs = xs} r = loop_all _ (λ s c x q t (left, made, e). let z = made_core_size made in omega (arith, z)) 0 own b xs rest next r
+
+  pub core_types_read_tail : {max : ℕ} {own next : Scope} {b rest : List ℕ} {xs : List CoreEntry} → ReadsCoreTypes config max own b xs rest next → IsTail rest b
+  core_types_read_tail {own = own} {next = next} {b = b} {rest = rest} {xs = xs} r = loop_tail (λ s c q t e. absurd e) (λ s c x q t (left, made, e). made_core_tail made) 0 own b xs rest next r
+
+  -- The scope has what was read.
+  pub core_types_read_scope : {max : ℕ} {own next : Scope} {b rest : List ℕ} {xs : List CoreEntry} → ReadsCoreTypes config max own b xs rest next → next ≡ with_core_types own xs
+  core_types_read_scope {own = own} {next = next} {b = b} {rest = rest} {xs = xs} r =
+      loop_gives (λ s ys t. t ≡ with_core_types s ys) (λ s. sym (with_core_none s)) (λ s c q t e. absurd e) one 0 own b xs rest next r
+    where
+      one : (s t u : Scope) (c : List ℕ) (x : CoreEntry) (q : List ℕ) (ys : List CoreEntry) → ReadsCoreType config s c x q t → u ≡ with_core_types t ys → u ≡ with_core_types s (x ∷ ys)
+      one s t u c x q ys (left, made, e) f = f ∙ (ap (λ z. with_core_types z ys) e ∙ ap (λ ts. record { types = s.types; core_types = ts }) (append_assoc s.core_types (x ∷ []) ys))
+
+  -- They are determined.
+  pub core_types_same : {max : ℕ} {own next other : Scope} {b r s : List ℕ} {xs ys : List CoreEntry} → ReadsCoreTypes config max own b xs r next → ReadsCoreTypes config max own b ys s other → (xs ≡ ys) × (r ≡ s)
+  core_types_same {own = own} {next = next} {other = other} {b = b} {r = r} {s = s} {xs = xs} {ys = ys} x y =
+      let d = loop_same (λ s c q p t u e f. absurd e) (λ s c x q p t u e i. e) one 0 own b xs ys r s next other x y in (d.0, d.1)
+    where
+      one : (s : Scope) (c : List ℕ) (x y : CoreEntry) (q p : List ℕ) (t u : Scope) → ReadsCoreType config s c x q t → ReadsCoreType config s c y p u → (x ≡ y) × (q ≡ p) × (t ≡ u)
+      one s c x y q p t u (left, made, e) (held, other, f) =
+          let m = made_core_same made other in
+          (m.value, m.rest, e ∙ (ap (with_core_type s) m.value ∙ sym f))
+
+  -- A core type whose script can say it.
+  abbrev Said : Scope → CoreEntry → Type 0
+  Said s x = CoreLimits config x × LastsCore config.max_type_size x
+
+  all_said : (xs : List CoreEntry) (own : Scope) → AllByRecursion (CoreLimits config) xs → AllByRecursion (LastsCore config.max_type_size) xs → Along Said with_core_type own xs
+  all_said [] own f l = tt
+  all_said (x ∷ xs) own f l = ((f.0, l.0), all_said xs (with_core_type own x) f.1 l.1)
+
+  one_read : (s : Scope) (x : CoreEntry) (rest : List ℕ) → Said s x → ReadsCoreType config s (script_core_entry config x ++ rest) x rest (with_core_type s x)
+  one_read s (core_func f) rest (formed, lasts) = (_, core_type_read config s config.max_type_size f rest lasts formed, refl)
+  one_read s (core_module ds) rest (formed, lasts) = absurd lasts
+
+  -- Their script is read as them.
+  pub core_types_read : (xs : List CoreEntry) (max : ℕ) (own : Scope) (rest : List ℕ) → AllByRecursion (CoreLimits config) xs → AllByRecursion (LastsCore config.max_type_size) xs → length xs ≤ max
+      → ReadsCoreTypes config max own (script_core_types config max own xs ++ rest) xs rest (after_all with_core_type own xs)
+  core_types_read xs max own rest f l few = loop_read (λ s x. script_core_entry config x) with_core_type Said one_read xs 0 own rest (all_said xs own f l) (omega arith) (omega arith)
+
+-- The same where the scopes and the room are known by equations.
+pub core_types_read_where : (config : Config) (scopes outer : List Scope) (own : Scope) (max room : ℕ) {next : Scope} {b rest : List ℕ} {xs : List CoreEntry} → scopes ≡ own ∷ outer → max ≡ room → ReadsCoreTypes config max (own_of scopes) b xs rest next → ReadsCoreTypes config room own b xs rest next
+core_types_read_where config scopes outer own max room {next} {b} {rest} {xs} e m r =
+    let P : ℕ → Type 0 = λ n. ReadsCoreTypes config n own b xs rest next in
+    let Q : List Scope → Type 0 = λ ss. ReadsCoreTypes config max (own_of ss) b xs rest next in
+    subst P m (subst Q e r)
