@@ -8,9 +8,9 @@ use Rattle.smith_input.proofs.Choices.{among_same}
 use Rattle.smith_input.proofs.Loops.{end_read}
 use Rattle.smith_input.proofs.ReadingLemmas.{more_unique}
 use Rattle.smith_core.specs.declared.config.Config.{Config}
-use Rattle.smith_types.specs.CoreLimits.{CoreLimits}
-use Rattle.smith_types.specs.Entries.{Entry, CoreEntry, ImportEntry}
-use Rattle.smith_types.specs.Scope.{Scope}
+use Rattle.smith_syntax.specs.CoreLimits.{CoreLimits}
+use Rattle.smith_syntax.specs.Entries.{Entry, CoreEntry, ImportEntry}
+use Rattle.smith_syntax.specs.Scope.{Scope}
 use Rattle.smith_component.specs.Limits.{OwnLimits}
 use Rattle.smith_component.specs.Open.{Open, root, items, scopes_in}
 use Rattle.smith_component.specs.Script.{item_of, script_part, script, IsPlanPart, Within}

@@ -3,9 +3,9 @@ use Rattle.std.proofs.Common.{◌≡◌, ℕ, ◌+◌, ◌<◌, ◌≤◌, List,
 use Rattle.std.specs.List.{AllByRecursion}
 use Rattle.std.proofs.lemmas.Bool.Decides.{nat_tests}
 use Rattle.smith_core.specs.declared.config.Config.{Config}
-use Rattle.smith_types.specs.CoreLimits.{CoreLimits}
-use Rattle.smith_types.specs.Entries.{Entry, CoreEntry}
-use Rattle.smith_types.specs.Scope.{Scope, with_types, with_core_types}
+use Rattle.smith_syntax.specs.CoreLimits.{CoreLimits}
+use Rattle.smith_syntax.specs.Entries.{Entry, CoreEntry}
+use Rattle.smith_syntax.specs.Scope.{Scope, with_types, with_core_types}
 use Rattle.smith_component.specs.Tree.{Tree, ends, Part, custom, core_module, core_types, component, types, canons, imports, add, own, inside, modules, names_in, types_in, core_types_in, imports_in, canons_in, components_in, modules_in, anywhere_in, depth_in}
 use Rattle.smith_component.specs.Open.{Open, tree_so_far, is_module_offered, is_component_offered, scopes_in, scopes_from}
 use Rattle.smith_component.specs.Turn.{building, Closes}

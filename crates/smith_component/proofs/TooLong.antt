@@ -5,8 +5,8 @@ use Rattle.smith_core.specs.TooLong.{Passes}
 use Rattle.smith_core.proofs.Piece.{none_join}
 use Rattle.smith_core.proofs.Sizes.{u_none_where}
 use Rattle.smith_core.proofs.TooLong.{many_none_where, raw_some}
-use Rattle.smith_types.specs.Grammar.{entry, core_entry, import_entry}
-use Rattle.smith_types.proofs.TooLong.{name_none, entry_none, core_entry_none}
+use Rattle.smith_syntax.specs.Grammar.{entry, core_entry, import_entry}
+use Rattle.smith_syntax.proofs.TooLong.{name_none, entry_none, core_entry_none}
 use Rattle.smith_component.specs.Grammar.{embedded, canon, preamble, part, parts, component_text}
 use Rattle.smith_component.specs.TooLong.{TreeTooLong, PartTooLong}
 use Rattle.smith_component.specs.Tree.{Part, Tree, ends, first, custom, core_module, core_types, component, types, canons, imports}

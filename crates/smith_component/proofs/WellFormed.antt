@@ -1,6 +1,6 @@
 -- Well formed trees grow at the inner component.
 use Rattle.std.proofs.Common.{List, [], ◌∷◌, sym, subst}
-use Rattle.smith_types.specs.Scope.{Scope}
+use Rattle.smith_syntax.specs.Scope.{Scope}
 use Rattle.smith_component.specs.Tree.{Tree, ends, first, Part, component, add, join}
 use Rattle.smith_component.specs.Open.{tree_so_far, scopes_from}
 use Rattle.smith_component.specs.WellFormed.{Formed, FormedPart, scope_of}

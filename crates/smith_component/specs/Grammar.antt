@@ -3,7 +3,7 @@ use Rattle.std.specs.Prelude.{◌≡◌, ℕ, List, [], ◌∷◌, Some, None, n
 use Rattle.std.specs.List.{starts_with}
 use Rattle.smith_core.specs.Piece.{Piece, ◌⊕◌, bytes, raw, text, many, sized}
 use Rattle.smith_core.specs.Module.{core_preamble}
-use Rattle.smith_types.specs.Grammar.{entry, core_entry, import_entry}
+use Rattle.smith_syntax.specs.Grammar.{entry, core_entry, import_entry}
 use Rattle.smith_component.specs.Tree.{Canon, Part, Tree, ends, first, custom, core_module, core_types, component, types, canons, imports}
 
 abbrev pub preamble : List ℕ

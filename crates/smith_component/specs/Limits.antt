@@ -2,10 +2,10 @@
 use Rattle.std.specs.Prelude.{ℕ, ◌≤◌, List, ◌∷◌, length, max}
 use Rattle.std.specs.List.{AllByRecursion}
 use Rattle.smith_core.specs.declared.config.Config.{Config}
-use Rattle.smith_types.specs.CoreLimits.{CoreLimits}
-use Rattle.smith_types.specs.Entries.{Entry, CoreEntry}
-use Rattle.smith_types.specs.WellFormed.{core_size}
-use Rattle.smith_types.specs.WellFormed.{size}
+use Rattle.smith_syntax.specs.CoreLimits.{CoreLimits}
+use Rattle.smith_syntax.specs.Entries.{Entry, CoreEntry}
+use Rattle.smith_syntax.specs.WellFormed.{core_size}
+use Rattle.smith_syntax.specs.WellFormed.{size}
 use Rattle.smith_component.specs.Tree.{Tree, own, inside, modules, depth, types_in, core_types_in, imports_in, canons_in, names_in}
 
 -- how deep components may stand, the root at 1

@@ -2,7 +2,7 @@
 use Rattle.std.specs.Prelude.{ℕ, ◌+◌, Bool, true, ◌&&◌, List, [], ◌∷◌, length, nat_lt}
 use Rattle.smith_input.specs.Script.{offers_of}
 use Rattle.smith_core.specs.declared.config.Config.{Config}
-use Rattle.smith_types.specs.Scope.{Scope}
+use Rattle.smith_syntax.specs.Scope.{Scope}
 use Rattle.smith_component.specs.Tree.{Tree, ends, component, add, inside, modules}
 use Rattle.smith_component.specs.WellFormed.{scope_of}
 use Rattle.smith_component.specs.declared.item.Item.{Item}

@@ -4,8 +4,8 @@ use Rattle.std.specs.List.{AllByRecursion}
 use Rattle.std.specs.Str.{IsUtf8}
 use Rattle.smith_input.specs.Script.{script_among, script_end, script_loop, script_text, script_bytes}
 use Rattle.smith_core.specs.declared.config.Config.{Config}
-use Rattle.smith_types.specs.Entries.{Entry, CoreEntry, core_func, core_module}
-use Rattle.smith_types.specs.Scope.{Scope, with_type, with_core_type}
+use Rattle.smith_syntax.specs.Entries.{Entry, CoreEntry, core_func, core_module}
+use Rattle.smith_syntax.specs.Scope.{Scope, with_type, with_core_type}
 use Rattle.smith_types.specs.Script.{script_type, script_core_type, Lasts}
 use Rattle.smith_component.specs.Tree.{Tree, ends, first, Part, custom, core_module, core_types, component, types, canons, imports, add, types_of, core_types_of, own, imports_in, canons_in}
 use Rattle.smith_component.specs.Grammar.{Spells}

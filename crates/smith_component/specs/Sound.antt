@@ -3,7 +3,7 @@ use Rattle.std.specs.Prelude.{◌≡◌, ℕ, ◌+◌, ◌≤◌, List, [], ◌�
 use Rattle.smith_core.specs.Limits.{IsConsistent, configured}
 use Rattle.smith_core.specs.declared.config.Config.{Config}
 use Rattle.smith_core.specs.declared.types.ValType.{ValType}
-use Rattle.smith_types.specs.Scope.{Scope}
+use Rattle.smith_syntax.specs.Scope.{Scope}
 use Rattle.smith_component.specs.Limits.{OwnLimits, Limits, SmallTypes, SmallCoreTypes, Sized}
 use Rattle.smith_component.specs.Open.{Open, tree_so_far, scopes_in}
 use Rattle.smith_component.specs.Tree.{Part, add, inside, modules, types_in, core_types_in, modules_in, anywhere_in, components_in, depth_in}

@@ -3,8 +3,8 @@ use Rattle.std.specs.Prelude.{◌≡◌, ◌<◌, ◌⊎◌, None}
 use Rattle.std.specs.List.{AllByRecursion}
 use Rattle.smith_core.specs.Piece.{Piece, ◌⊕◌, piece_length, raw, text, many}
 use Rattle.smith_core.specs.TooLong.{Passes}
-use Rattle.smith_types.specs.Grammar.{entry, core_entry, import_entry}
-use Rattle.smith_types.specs.TooLong.{NameTooLong, ListTooLong, EntryTooLong, CoreEntryTooLong}
+use Rattle.smith_syntax.specs.Grammar.{entry, core_entry, import_entry}
+use Rattle.smith_syntax.specs.TooLong.{NameTooLong, ListTooLong, EntryTooLong, CoreEntryTooLong}
 use Rattle.smith_component.specs.Grammar.{embedded, canon, component_text}
 use Rattle.smith_component.specs.Tree.{Part, Tree, ends, first, custom, core_module, core_types, component, types, canons, imports}
 

@@ -1,7 +1,7 @@
 -- A component as a plain tree of parts, and what stands in it (Explainer.md, component definitions, index spaces).
 use Rattle.std.specs.Prelude.{ℕ, ◌+◌, List, [], ◌∷◌, ◌++◌, max}
 use Rattle.std.specs.List.{flat_map}
-use Rattle.smith_types.specs.Entries.{Entry, CoreEntry, ImportEntry}
+use Rattle.smith_syntax.specs.Entries.{Entry, CoreEntry, ImportEntry}
 
 -- a canonical function
 pub data Canon : Type 0 where

@@ -6,10 +6,10 @@ use Rattle.smith_input.specs.Reading.{More}
 use Rattle.smith_input.specs.Texts.{ReadsText, ReadsBytes}
 use Rattle.smith_core.specs.Module.{core_preamble}
 use Rattle.smith_core.specs.declared.config.Config.{Config}
-use Rattle.smith_types.specs.Entries.{Entry, CoreEntry}
+use Rattle.smith_syntax.specs.Entries.{Entry, CoreEntry}
 use Rattle.smith_types.specs.Made.{Made}
 use Rattle.smith_types.specs.MadeCore.{MadeCore}
-use Rattle.smith_types.specs.Scope.{Scope, with_type, with_core_type}
+use Rattle.smith_syntax.specs.Scope.{Scope, with_type, with_core_type}
 use Rattle.smith_component.specs.Tree.{Tree, Part, ends, custom, core_module, core_types, component, types, canons, imports, add, own, types_of, core_types_of, imports_in, canons_in}
 use Rattle.smith_component.specs.Limits.{max_depth}
 use Rattle.smith_component.specs.Open.{Open, root, scopes_in, items}

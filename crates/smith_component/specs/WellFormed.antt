@@ -1,8 +1,8 @@
 -- Which components are well formed: each part is judged by what stands before it (Explainer.md, index spaces).
 use Rattle.std.specs.Prelude.{List, [], ◌∷◌}
-use Rattle.smith_types.specs.WellFormed.{FormedCores}
-use Rattle.smith_types.specs.Scope.{Scope}
-use Rattle.smith_types.specs.WellFormed.{FormedTypes}
+use Rattle.smith_syntax.specs.WellFormed.{FormedCores}
+use Rattle.smith_syntax.specs.Scope.{Scope}
+use Rattle.smith_syntax.specs.WellFormed.{FormedTypes}
 use Rattle.smith_component.specs.Tree.{Tree, Part, ends, first, custom, core_module, core_types, component, types, canons, imports, add, types_of, core_types_of}
 
 -- the types and core types of a component that has these parts

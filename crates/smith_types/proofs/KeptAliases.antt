@@ -2,11 +2,11 @@
 use Rattle.std.proofs.Common.{◌≡◌, List, [], ◌∷◌, ◌++◌, map, ap, sym, ◌∙◌, subst}
 use Rattle.std.proofs.lemmas.List.{map-append}
 use Rattle.smith_core.specs.CoreTypes.{Function}
-use Rattle.smith_types.specs.Entries.{CoreEntry}
+use Rattle.smith_syntax.specs.Entries.{CoreEntry}
 use Rattle.smith_types.specs.MakingCore.{KeepEach, KeepsNamed, own_after}
-use Rattle.smith_types.specs.ModuleTypes.{adds}
-use Rattle.smith_types.specs.Shown.{shown_decl}
-use Rattle.smith_types.specs.declared.core_types.ModuleTypeDef.{ModuleTypeDef}
+use Rattle.smith_syntax.specs.ModuleTypes.{adds}
+use Rattle.smith_syntax.specs.Shown.{shown_decl}
+use Rattle.smith_syntax.specs.declared.core_types.ModuleTypeDef.{ModuleTypeDef}
 use Rattle.smith_types.proofs.ModuleTypes.{own_more}
 
 each_more : (around : List CoreEntry) (own : List Function) (ds : List ModuleTypeDef) (d : ModuleTypeDef) → KeepEach around own ds → KeepsNamed around (own_after around own (map shown_decl ds)) d → KeepEach around own (ds ++ d ∷ [])

@@ -1,5 +1,3 @@
-pub mod Clear
-pub mod Encoding
 pub mod KeptAliases
 pub mod Made
 pub mod MadeCore
@@ -10,7 +8,5 @@ pub mod ModuleTypes
 pub mod Names
 pub mod Places
 pub mod Script
-pub mod Signature
 pub mod Stack
 pub mod Tied
-pub mod TooLong

@@ -8,19 +8,19 @@ use Rattle.smith_input.specs.Reading.{IsTail}
 use Rattle.smith_input.proofs.Choices.{among_tail, among_same}
 use Rattle.smith_input.proofs.NewNames.{new_tail, new_unique}
 use Rattle.smith_input.proofs.ReadingLemmas.{tail_trans, reads_tail, reads_unique, flips_unique}
-use Rattle.smith_types.specs.Entries.{DefValType, primitive_type, record_type, variant_type, list_type, tuple_type, flags_type, enum_type, option_type, result_type}
-use Rattle.smith_types.specs.Entries.{Signature, Entry, defined, function}
+use Rattle.smith_syntax.specs.Entries.{DefValType, primitive_type, record_type, variant_type, list_type, tuple_type, flags_type, enum_type, option_type, result_type}
+use Rattle.smith_syntax.specs.Entries.{Signature, Entry, defined, function}
 use Rattle.smith_types.specs.Script.{primitives}
 use Rattle.smith_types.specs.Made.{ReadsVal, only_primitive, either_primitive, either_index, ReadsMaybe, absent, present}
 use Rattle.smith_types.specs.Made.{or_bool, MadeMembers, MadeAs, ReadsResult, MadeFunction, MadeValues, MadeOf, Made, spent_type, of_kind}
-use Rattle.smith_types.specs.Scope.{Scope, defined_places, is_defined}
-use Rattle.smith_types.specs.WellFormed.{FormedVal, FormedMaybe, FormedDefined, FormedEntry, defined_size, size}
+use Rattle.smith_syntax.specs.Scope.{Scope, defined_places, is_defined}
+use Rattle.smith_syntax.specs.WellFormed.{FormedVal, FormedMaybe, FormedDefined, FormedEntry, defined_size, size}
 use Rattle.smith_types.specs.declared.make.TypeKind.{TypeKind}
 use Rattle.smith_types.specs.declared.make.TypeKind.TheVariants.{Defined, Function, Component, Instance}
 use Rattle.smith_types.specs.declared.make.defined.DefinedKind.{DefinedKind}
 use Rattle.smith_types.specs.declared.make.defined.DefinedKind.TheVariants as kind
-use Rattle.smith_types.specs.declared.types.ComponentValType.{ComponentValType}
-use Rattle.smith_types.specs.declared.types.ComponentValType.TheVariants.{Primitive, Indexed}
+use Rattle.smith_syntax.specs.declared.types.ComponentValType.{ComponentValType}
+use Rattle.smith_syntax.specs.declared.types.ComponentValType.TheVariants.{Primitive, Indexed}
 use Rattle.smith_types.proofs.Places.{place_stands}
 use Rattle.smith_types.proofs.Members.{members_tail, named_tail, members_few, members_size, members_all, members_named, named_name, labels_named, Same, members_same, named_same}
 

@@ -30,14 +30,14 @@ use Rattle.smith_core.specs.declared.types.RefType.TheVariants.{FuncRef, ExternR
 use Rattle.smith_core.specs.declared.types.ValType.TheVariants.{I32, I64, F32, F64, V128, Ref}
 use Rattle.smith_core.proofs.CoreReading.{limits_tail, limits_formed, element_formed, function_tail, function_formed, function_unique, memory_unique, table_unique, tag_unique}
 use Rattle.smith_core.proofs.CoreScript.{function_read}
-use Rattle.smith_types.specs.CoreLimits.{max_results, ModuleLimits, CoreLimits}
-use Rattle.smith_types.specs.Entries.{CoreEntry, ModuleDecl, core_func, core_module, imports, declares, aliases, exports}
+use Rattle.smith_syntax.specs.CoreLimits.{max_results, ModuleLimits, CoreLimits}
+use Rattle.smith_syntax.specs.Entries.{CoreEntry, ModuleDecl, core_func, core_module, imports, declares, aliases, exports}
 use Rattle.smith_types.specs.MadeCore.{Declared, undeclared, with_decl, with_front, with_fuel, indexes, kind_offers, entity_kinds, ReadsEntityOf, ReadsEntity, ReadsNewText, ReadsImportNames, ReadsExportName, alias_choices, item_offers, module_items, ReadsDeclOf, ReadsDecl}
 use Rattle.smith_types.specs.MadeCore.{ModuleEnds, no_fuel, no_import, no_export, ReadsLine, not_allowed, declined, taken, MemoryLine, ReadsFunctionLine, ReadsFront, MadeModule, MadeCore, spent_core, of_function, of_module}
-use Rattle.smith_types.specs.ModuleTypes.{func_in, aliased, is_tag_type, count_of, names_from, export_names, realloc, free}
-use Rattle.smith_types.specs.Scope.{Scope, is_core_func, places}
+use Rattle.smith_syntax.specs.ModuleTypes.{func_in, aliased, is_tag_type, count_of, names_from, export_names, realloc, free}
+use Rattle.smith_syntax.specs.Scope.{Scope, is_core_func, places}
 use Rattle.smith_types.specs.Script.{script_core_type}
-use Rattle.smith_types.specs.WellFormed.{FormedEntity, FormedDecl, FormedCore, core_size}
+use Rattle.smith_syntax.specs.WellFormed.{FormedEntity, FormedDecl, FormedCore, core_size}
 use Rattle.smith_types.specs.declared.make.module_types.ModuleItem.{ModuleItem}
 use Rattle.smith_types.specs.declared.make.module_types.ModuleItem.TheVariants as item
 use Rattle.smith_types.proofs.Members.{Same}

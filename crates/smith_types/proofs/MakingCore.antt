@@ -20,15 +20,15 @@ use Rattle.smith_core.specs.declared.types.ExportKind.{ExportKind}
 use Rattle.smith_core.specs.declared.types.MemoryType.{MemoryType}
 use Rattle.smith_input.specs.Choices.{ReadsAmong}
 use Rattle.smith_input.specs.Names.{is_among}
-use Rattle.smith_types.specs.Entries.{CoreEntry, ModuleDecl, aliases, core_func, core_module}
+use Rattle.smith_syntax.specs.Entries.{CoreEntry, ModuleDecl, aliases, core_func, core_module}
 use Rattle.smith_types.specs.MadeCore.{ReadsDecl, ReadsFront, indexes, module_items, no_export, no_import}
 use Rattle.smith_types.specs.MadeCore.{Declared as SoFar}
 use Rattle.smith_types.specs.MakingCore.{Adds, Turns, choices_among}
-use Rattle.smith_types.specs.ModuleTypes.{adds, aliased, count_of, entities_of, export_names, export_of, HasNewNames, import_of, is_of_kind, names_from}
-use Rattle.smith_types.specs.Scope.{Scope, is_core_func, own_of, places}
+use Rattle.smith_syntax.specs.ModuleTypes.{adds, aliased, count_of, entities_of, export_names, export_of, HasNewNames, import_of, is_of_kind, names_from}
+use Rattle.smith_syntax.specs.Scope.{Scope, is_core_func, own_of, places}
 use Rattle.smith_types.specs.Scopes.{Contents, inward, last_of}
-use Rattle.smith_types.specs.Shown.{shown_core}
-use Rattle.smith_types.specs.declared.core_types.CoreType.{CoreType}
+use Rattle.smith_syntax.specs.Shown.{shown_core}
+use Rattle.smith_syntax.specs.declared.core_types.CoreType.{CoreType}
 use Rattle.smith_types.specs.declared.make.module_types.ModuleItem.{ModuleItem}
 use Rattle.smith_types.specs.declared.make.module_types.ModuleItem.TheVariants as item
 use Rattle.smith_types.proofs.Stack.{length-last-core, own_last}

@@ -12,7 +12,7 @@ use Rattle.smith_input.proofs.NewNames.{new_tail, new_unique, new_kebab, new_rea
 use Rattle.smith_input.proofs.ReadingLemmas.{tail_trans, tail_is}
 use Rattle.smith_types.specs.Made.{IsSpent, ReadsMember, ReadsMembers, ReadsNamed}
 use Rattle.smith_types.specs.Script.{script_members, script_label, AreShort}
-use Rattle.smith_types.specs.WellFormed.{Named}
+use Rattle.smith_syntax.specs.WellFormed.{Named}
 use Rattle.smith_types.proofs.Names.{AreNew, new_distinct, distinct_new, none_before}
 
 -- tails

@@ -11,9 +11,9 @@ use Rattle.smith_core.specs.declared.types.EntityType.TheVariants.{Func, Memory}
 use Rattle.smith_core.specs.declared.types.ExportKind.TheVariants as kind
 use Rattle.smith_core.specs.declared.types.MemoryType.{MemoryType}
 use Rattle.smith_core.proofs.CoreReading.{limits_formed}
-use Rattle.smith_types.specs.Entries.{ModuleDecl, declares, exports}
+use Rattle.smith_syntax.specs.Entries.{ModuleDecl, declares, exports}
 use Rattle.smith_types.specs.MadeCore.{Declared, undeclared, with_front, allows_function, allows_type, ReadsLine, not_allowed, declined, taken, MemoryLine, ReadsFunctionLine, ReadsFront}
-use Rattle.smith_types.specs.ModuleTypes.{realloc, free, is_export, is_of_kind, is_type, is_function_of, after_memory, after_function, after_realloc, after_free, after_front}
+use Rattle.smith_syntax.specs.ModuleTypes.{realloc, free, is_export, is_of_kind, is_type, is_function_of, after_memory, after_function, after_realloc, after_free, after_front}
 
 -- the shapes: with an export of a memory or without, with a function that allocates or without, with one that frees or without
 

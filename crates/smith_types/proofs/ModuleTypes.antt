@@ -21,12 +21,12 @@ use Rattle.smith_core.specs.declared.types.ExportKind.TheVariants as kind
 use Rattle.smith_core.specs.declared.types.MemoryType.{MemoryType}
 use Rattle.smith_core.specs.declared.types.ValType.TheVariants.{I32}
 use Rattle.smith_core.specs.contracts.types.ExportKindPartialEq.TheImpl.{ghosts as kinds}
-use Rattle.smith_types.specs.CoreLimits.{max_results, GlobalLimits}
-use Rattle.smith_types.specs.Entries.{CoreEntry, ModuleDecl, imports, declares, aliases, exports}
+use Rattle.smith_syntax.specs.CoreLimits.{max_results, GlobalLimits}
+use Rattle.smith_syntax.specs.Entries.{CoreEntry, ModuleDecl, imports, declares, aliases, exports}
 use Rattle.smith_types.specs.MadeCore.{Declared}
 use Rattle.smith_types.specs.MakingCore.{own_after}
-use Rattle.smith_types.specs.ModuleTypes.{adds, aliased, alias_of, func_of, import_of, export_of, declared_in, type_count, entities_of, is_of_kind, count_of, names_from, export_names, HasNewNames, realloc, free}
-use Rattle.smith_types.specs.WellFormed.{FormedDecl, FormedDecls}
+use Rattle.smith_syntax.specs.ModuleTypes.{adds, aliased, alias_of, func_of, import_of, export_of, declared_in, type_count, entities_of, is_of_kind, count_of, names_from, export_names, HasNewNames, realloc, free}
+use Rattle.smith_syntax.specs.WellFormed.{FormedDecl, FormedDecls}
 use Rattle.smith_types.proofs.ModuleFronts.{front_own, front_decls, IsFront}
 use Rattle.smith_types.proofs.Names.{AreNew, new_distinct, new_more}
 

@@ -12,29 +12,29 @@ use Rattle.smith_input.specs.Names.{ReadsNew}
 use Rattle.smith_input.proofs.Choices.{among_read}
 use Rattle.smith_input.proofs.Picks.{reads-pick}
 use Rattle.smith_input.proofs.ReadingLemmas.{flips_one, flips_zero}
-use Rattle.smith_types.specs.Entries.{DefValType, primitive_type, record_type, variant_type, list_type, tuple_type, flags_type, enum_type, option_type, result_type}
-use Rattle.smith_types.specs.Entries.{Field, Case, Signature, Entry, defined, function}
+use Rattle.smith_syntax.specs.Entries.{DefValType, primitive_type, record_type, variant_type, list_type, tuple_type, flags_type, enum_type, option_type, result_type}
+use Rattle.smith_syntax.specs.Entries.{Field, Case, Signature, Entry, defined, function}
 use Rattle.smith_types.specs.Script.{primitives, defined_kinds, type_kinds}
 use Rattle.smith_types.specs.Made.{ReadsVal, only_primitive, either_primitive, either_index, ReadsMaybe, absent, present, ReadsNamed}
 use Rattle.smith_types.specs.Made.{or_bool, MadeMembers, MadeAs, MadeDefined, MadeFunction, Made, spent_type, of_kind}
-use Rattle.smith_types.specs.Scope.{Scope, places, defined_places, is_defined}
+use Rattle.smith_syntax.specs.Scope.{Scope, places, defined_places, is_defined}
 use Rattle.smith_types.specs.Script.{script_primitive, script_val, script_maybe, script_label, script_field, script_case, script_members, script_kind, script_defined, script_function, script_type_kind, script_type}
 use Rattle.smith_types.specs.Script.{AreShort, LastsDefined, Lasts}
-use Rattle.smith_types.specs.WellFormed.{FormedVal, FormedMaybe, FormedDefined, FormedEntry, Named}
+use Rattle.smith_syntax.specs.WellFormed.{FormedVal, FormedMaybe, FormedDefined, FormedEntry, Named}
 use Rattle.smith_types.specs.contracts.make.TypeKind.{the_type as type_kind_type}
 use Rattle.smith_types.specs.contracts.make.TypeKindPartialEq.TheImpl.{ghosts as types}
 use Rattle.smith_types.specs.contracts.make.defined.DefinedKind.{the_type as defined_kind_type}
 use Rattle.smith_types.specs.contracts.make.defined.DefinedKindPartialEq.TheImpl.{ghosts as kinds}
-use Rattle.smith_types.specs.contracts.types.PrimitiveValType.{the_type as primitive_type_type}
-use Rattle.smith_types.specs.contracts.types.PrimitiveValTypePartialEq.TheImpl.{ghosts as prims}
+use Rattle.smith_syntax.specs.contracts.types.PrimitiveValType.{the_type as primitive_type_type}
+use Rattle.smith_syntax.specs.contracts.types.PrimitiveValTypePartialEq.TheImpl.{ghosts as prims}
 use Rattle.smith_types.specs.declared.make.TypeKind.{TypeKind}
 use Rattle.smith_types.specs.declared.make.TypeKind.TheVariants.{Defined, Function}
 use Rattle.smith_types.specs.declared.make.defined.DefinedKind.{DefinedKind}
 use Rattle.smith_types.specs.declared.make.defined.DefinedKind.TheVariants as kind
-use Rattle.smith_types.specs.declared.types.ComponentValType.{ComponentValType}
-use Rattle.smith_types.specs.declared.types.ComponentValType.TheVariants.{Primitive, Indexed}
-use Rattle.smith_types.specs.declared.types.PrimitiveValType.{PrimitiveValType}
-use Rattle.smith_types.specs.declared.types.PrimitiveValType.TheVariants as prim
+use Rattle.smith_syntax.specs.declared.types.ComponentValType.{ComponentValType}
+use Rattle.smith_syntax.specs.declared.types.ComponentValType.TheVariants.{Primitive, Indexed}
+use Rattle.smith_syntax.specs.declared.types.PrimitiveValType.{PrimitiveValType}
+use Rattle.smith_syntax.specs.declared.types.PrimitiveValType.TheVariants as prim
 use Rattle.smith_types.proofs.Members.{Ready, members_read, IsReady, named_ready, named_read, label_read, all_unit}
 use Rattle.smith_types.proofs.Stack.{length-places}
 

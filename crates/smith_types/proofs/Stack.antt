@@ -1,12 +1,12 @@
 -- Stacks of scopes, and the places of their entries.
 use Rattle.std.proofs.Common.{◌≡◌, ℕ, ◌+◌, ◌<◌, ◌≤◌, Bool, true, false, cond, List, [], ◌∷◌, ◌++◌, get_or, length, map, reverse, refl, sym, ap, ◌∙◌, arith, append-nil, append_assoc}
 use Rattle.std.proofs.lemmas.List.{reverse-append, map-append, length-map, length-reverse}
-use Rattle.smith_types.specs.Entries.{Entry, CoreEntry}
-use Rattle.smith_types.specs.Scope.{Scope, empty_scope, with_type, with_types, with_core_type, with_core_types, own_of, outer_of, places}
+use Rattle.smith_syntax.specs.Entries.{Entry, CoreEntry}
+use Rattle.smith_syntax.specs.Scope.{Scope, empty_scope, with_type, with_types, with_core_type, with_core_types, own_of, outer_of, places}
 use Rattle.smith_types.specs.Scopes.{Contents, shown_scope, inward, last_of, Changes, AddsType, AddsCoreType}
-use Rattle.smith_types.specs.Shown.{shown_type, shown_core}
-use Rattle.smith_types.specs.declared.core_types.CoreType.{CoreType}
-use Rattle.smith_types.specs.declared.deftype.DefType.{DefType}
+use Rattle.smith_syntax.specs.Shown.{shown_type, shown_core}
+use Rattle.smith_syntax.specs.declared.core_types.CoreType.{CoreType}
+use Rattle.smith_syntax.specs.declared.deftype.DefType.{DefType}
 
 pub last_of-snoc : (ss : List Contents) (s : Contents) → last_of (ss ++ s ∷ []) ≡ s
 last_of-snoc ss s = ap (λ r. get_or r 0 empty_scope) (reverse-append ss (s ∷ []))

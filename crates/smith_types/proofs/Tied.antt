@@ -6,18 +6,19 @@ use Rattle.std.specs.declared.alloc.Global.{Global}
 use Rattle.std.specs.declared.rc.Rc.{Rc}
 use Rattle.std.specs.declared.vec.Vec.{Vec}
 use Rattle.smith_core.specs.declared.types.FuncType.{FuncType as CoreFuncType}
-use Rattle.smith_types.specs.Entries.{Signature}
-use Rattle.smith_types.specs.Scope.{places, is_defined, is_func, is_core_func, is_core_module}
-use Rattle.smith_types.specs.Scopes.{has_signature, row_in, row_of, Notes, SameRows, values_of, IsTied, IsCoreTied}
-use Rattle.smith_types.specs.Shown.{shown_type, shown_core}
-use Rattle.smith_types.specs.Signature.{same_signature, same_signature_Decides, same_signature_equiv}
-use Rattle.smith_types.specs.declared.func.FuncType.{FuncType}
-use Rattle.smith_types.specs.declared.core_types.CoreType.{CoreType}
-use Rattle.smith_types.specs.declared.core_types.CoreType.TheVariants as core
-use Rattle.smith_types.specs.declared.core_types.ModuleType.{ModuleType}
-use Rattle.smith_types.specs.declared.types.DefinedType.{DefinedType}
-use Rattle.smith_types.specs.declared.deftype.DefType.{DefType}
-use Rattle.smith_types.specs.declared.deftype.DefType.TheVariants as def
+use Rattle.smith_syntax.specs.Entries.{Signature}
+use Rattle.smith_syntax.specs.Scope.{places, is_defined, is_func, is_core_func, is_core_module}
+use Rattle.smith_syntax.specs.Shown.{has_signature}
+use Rattle.smith_types.specs.Scopes.{row_in, row_of, Notes, SameRows, values_of, IsTied, IsCoreTied}
+use Rattle.smith_syntax.specs.Shown.{shown_type, shown_core}
+use Rattle.smith_syntax.specs.Signature.{same_signature, same_signature_Decides, same_signature_equiv}
+use Rattle.smith_syntax.specs.declared.func.FuncType.{FuncType}
+use Rattle.smith_syntax.specs.declared.core_types.CoreType.{CoreType}
+use Rattle.smith_syntax.specs.declared.core_types.CoreType.TheVariants as core
+use Rattle.smith_syntax.specs.declared.core_types.ModuleType.{ModuleType}
+use Rattle.smith_syntax.specs.declared.types.DefinedType.{DefinedType}
+use Rattle.smith_syntax.specs.declared.deftype.DefType.{DefType}
+use Rattle.smith_syntax.specs.declared.deftype.DefType.TheVariants as def
 use Rattle.smith_types.proofs.Stack.{places-append}
 
 -- a row that was written, among the rows of a map

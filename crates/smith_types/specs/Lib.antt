@@ -1,14 +1,5 @@
-pub mod Entries
-pub mod Scope
-pub mod Grammar
-pub mod TooLong
-pub mod ModuleTypes
-pub mod WellFormed
-pub mod CoreLimits
 pub mod Script
 pub mod Made
 pub mod MadeCore
 pub mod MakingCore
-pub mod Signature
-pub mod Shown
 pub mod Scopes

@@ -5,18 +5,18 @@ use Rattle.smith_input.specs.Choices.{ReadsAmong}
 use Rattle.smith_input.specs.Loops.{Loop}
 use Rattle.smith_input.specs.Names.{ReadsNew}
 use Rattle.smith_input.specs.Reading.{Reads, Flips}
-use Rattle.smith_types.specs.Entries.{DefValType, primitive_type, record_type, variant_type, list_type, tuple_type, flags_type, enum_type, option_type, result_type}
-use Rattle.smith_types.specs.Entries.{Signature, Entry, defined, function}
-use Rattle.smith_types.specs.Scope.{Scope, defined_places}
+use Rattle.smith_syntax.specs.Entries.{DefValType, primitive_type, record_type, variant_type, list_type, tuple_type, flags_type, enum_type, option_type, result_type}
+use Rattle.smith_syntax.specs.Entries.{Signature, Entry, defined, function}
+use Rattle.smith_syntax.specs.Scope.{Scope, defined_places}
 use Rattle.smith_types.specs.Script.{primitives, defined_kinds, type_kinds}
 use Rattle.smith_types.specs.declared.make.TypeKind.{TypeKind}
 use Rattle.smith_types.specs.declared.make.TypeKind.TheVariants.{Defined, Function, Component, Instance}
 use Rattle.smith_types.specs.declared.make.defined.DefinedKind.{DefinedKind}
 use Rattle.smith_types.specs.declared.make.defined.DefinedKind.TheVariants as kind
-use Rattle.smith_types.specs.declared.types.ComponentValType.{ComponentValType}
-use Rattle.smith_types.specs.declared.types.ComponentValType.TheVariants.{Primitive, Indexed}
-use Rattle.smith_types.specs.declared.types.PrimitiveValType.{PrimitiveValType}
-use Rattle.smith_types.specs.declared.types.PrimitiveValType.TheVariants as prim
+use Rattle.smith_syntax.specs.declared.types.ComponentValType.{ComponentValType}
+use Rattle.smith_syntax.specs.declared.types.ComponentValType.TheVariants.{Primitive, Indexed}
+use Rattle.smith_syntax.specs.declared.types.PrimitiveValType.{PrimitiveValType}
+use Rattle.smith_syntax.specs.declared.types.PrimitiveValType.TheVariants as prim
 
 -- A value type is a primitive one where the scope has no defined types. Else it is a choice of two: a primitive one, or one of
 -- the defined types of the scope, by its index.

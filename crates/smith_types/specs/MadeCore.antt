@@ -16,10 +16,10 @@ use Rattle.smith_core.specs.declared.types.ExportKind.{ExportKind}
 use Rattle.smith_core.specs.declared.types.ExportKind.TheVariants as kind
 use Rattle.smith_core.specs.declared.types.GlobalType.{GlobalType}
 use Rattle.smith_core.specs.declared.types.MemoryType.{MemoryType}
-use Rattle.smith_types.specs.CoreLimits.{max_results}
-use Rattle.smith_types.specs.Entries.{CoreEntry, ModuleDecl, core_func, core_module, imports, declares, aliases, exports}
-use Rattle.smith_types.specs.ModuleTypes.{adds, count_of, declared_in, export_names, free, is_tag_type, names_from, realloc}
-use Rattle.smith_types.specs.Scope.{Scope, is_core_func, places}
+use Rattle.smith_syntax.specs.CoreLimits.{max_results}
+use Rattle.smith_syntax.specs.Entries.{CoreEntry, ModuleDecl, core_func, core_module, imports, declares, aliases, exports}
+use Rattle.smith_syntax.specs.ModuleTypes.{adds, count_of, declared_in, export_names, free, is_tag_type, names_from, realloc}
+use Rattle.smith_syntax.specs.Scope.{Scope, is_core_func, places}
 use Rattle.smith_types.specs.declared.make.module_types.ModuleItem.{ModuleItem}
 use Rattle.smith_types.specs.declared.make.module_types.ModuleItem.TheVariants as item
 

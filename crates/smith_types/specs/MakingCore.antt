@@ -8,16 +8,16 @@ use Rattle.smith_core.specs.declared.types.EntityType.{EntityType}
 use Rattle.smith_core.specs.declared.types.ExportKind.{ExportKind}
 use Rattle.smith_core.specs.declared.types.ExportKind.TheVariants as kind
 use Rattle.smith_core.specs.declared.types.FuncType.{FuncType}
-use Rattle.smith_types.specs.Entries.{CoreEntry, ModuleDecl}
+use Rattle.smith_syntax.specs.Entries.{CoreEntry, ModuleDecl}
 use Rattle.smith_types.specs.MadeCore.{ReadsDecl, ReadsDeclOf, ReadsEntity, ReadsImportNames, ReadsExportName, ModuleEnds, alias_choices, entity_kinds, with_decl, with_fuel}
 use Rattle.smith_types.specs.MadeCore.{Declared as SoFar}
-use Rattle.smith_types.specs.ModuleTypes.{adds, aliased, is_tag_type}
-use Rattle.smith_types.specs.Scope.{Scope, places}
-use Rattle.smith_types.specs.Shown.{shown_decl}
-use Rattle.smith_types.specs.declared.core_types.CoreType.{CoreType}
-use Rattle.smith_types.specs.declared.core_types.CoreType.TheVariants as core
-use Rattle.smith_types.specs.declared.core_types.ModuleTypeDef.{ModuleTypeDef}
-use Rattle.smith_types.specs.declared.core_types.ModuleTypeDef.TheVariants as decl
+use Rattle.smith_syntax.specs.ModuleTypes.{adds, aliased, is_tag_type}
+use Rattle.smith_syntax.specs.Scope.{Scope, places}
+use Rattle.smith_syntax.specs.Shown.{shown_decl}
+use Rattle.smith_syntax.specs.declared.core_types.CoreType.{CoreType}
+use Rattle.smith_syntax.specs.declared.core_types.CoreType.TheVariants as core
+use Rattle.smith_syntax.specs.declared.core_types.ModuleTypeDef.{ModuleTypeDef}
+use Rattle.smith_syntax.specs.declared.core_types.ModuleTypeDef.TheVariants as decl
 use Rattle.smith_types.specs.declared.make.declared.Declared.{Declared}
 use Rattle.smith_types.specs.declared.make.module_types.ModuleItem.{ModuleItem}
 use Rattle.smith_types.specs.declared.make.module_types.ModuleItem.TheVariants as item

@@ -1,18 +1,17 @@
 -- The scopes of the program, outermost first, and what it keeps beside the types of each.
-use Rattle.std.specs.Prelude.{◌≡◌, ℕ, Bool, false, List, [], ◌∷◌, ◌++◌, map, reverse, get_or, Option, Some, None, if◌then◌else◌}
+use Rattle.std.specs.Prelude.{◌≡◌, ℕ, List, [], ◌∷◌, ◌++◌, map, reverse, get_or, Option, Some, None, if◌then◌else◌}
 use Rattle.std.specs.HashMap.{HashMap, get}
 use Rattle.std.specs.declared.alloc.Global.{Global}
 use Rattle.std.specs.declared.rc.Rc.{Rc}
 use Rattle.std.specs.declared.vec.Vec.{Vec}
-use Rattle.smith_types.specs.Entries.{Signature}
-use Rattle.smith_types.specs.Scope.{ScopeOf, Scope, empty_scope, with_type, with_core_type, own_of, outer_of, places, is_defined, is_func, is_core_func, is_core_module}
-use Rattle.smith_types.specs.Shown.{shown_type, shown_core}
-use Rattle.smith_types.specs.Signature.{same_signature}
-use Rattle.smith_types.specs.declared.core_types.CoreType.{CoreType}
+use Rattle.smith_syntax.specs.Entries.{Signature}
+use Rattle.smith_syntax.specs.Scope.{ScopeOf, Scope, empty_scope, with_type, with_core_type, own_of, outer_of, places, is_defined, is_func, is_core_func, is_core_module}
+use Rattle.smith_syntax.specs.Shown.{shown_type, shown_core, has_signature}
+use Rattle.smith_syntax.specs.Signature.{same_signature}
+use Rattle.smith_syntax.specs.declared.core_types.CoreType.{CoreType}
 use Rattle.smith_types.specs.declared.scopes.Kind.{Kind}
 use Rattle.smith_types.specs.declared.scopes.Kind.TheVariants as kind
-use Rattle.smith_types.specs.declared.deftype.DefType.{DefType}
-use Rattle.smith_types.specs.declared.deftype.DefType.TheVariants as def
+use Rattle.smith_syntax.specs.declared.deftype.DefType.{DefType}
 
 -- a scope of the program's own types
 abbrev pub Contents : Type 0
@@ -61,11 +60,6 @@ kind_places kind.Defined s = places is_defined 0 s.types
 kind_places kind.Func s = places is_func 0 s.types
 kind_places kind.CoreFunc s = places is_core_func 0 s.core_types
 kind_places kind.CoreModule s = places is_core_module 0 s.core_types
-
--- Is it a function type with that signature?
-abbrev pub has_signature : Signature → DefType → Bool
-has_signature s (def.Defined d) = false
-has_signature s (def.Func f) = same_signature s f.value
 
 -- A row of a map from function types to indexes. A type that the map doesn't have has the empty row.
 abbrev pub row_in : {Z : Type 0} → Option (Vec ℕ Z) → List ℕ

@@ -7,22 +7,22 @@ use Rattle.smith_core.specs.CoreScript as core
 use Rattle.smith_core.specs.CoreTypes as Core
 use Rattle.smith_core.specs.Limits.{configured}
 use Rattle.smith_core.specs.declared.config.Config.{Config}
-use Rattle.smith_types.specs.CoreLimits.{max_results}
-use Rattle.smith_types.specs.Entries.{DefValType, primitive_type, record_type, variant_type, list_type, tuple_type, flags_type, enum_type, option_type, result_type}
-use Rattle.smith_types.specs.Entries.{Field, Case, Signature, Entry, defined, function}
-use Rattle.smith_types.specs.Scope.{Scope, defined_places}
-use Rattle.smith_types.specs.WellFormed.{size}
+use Rattle.smith_syntax.specs.CoreLimits.{max_results}
+use Rattle.smith_syntax.specs.Entries.{DefValType, primitive_type, record_type, variant_type, list_type, tuple_type, flags_type, enum_type, option_type, result_type}
+use Rattle.smith_syntax.specs.Entries.{Field, Case, Signature, Entry, defined, function}
+use Rattle.smith_syntax.specs.Scope.{Scope, defined_places}
+use Rattle.smith_syntax.specs.WellFormed.{size}
 use Rattle.smith_types.specs.contracts.make.TypeKindPartialEq.TheImpl.{ghosts as types}
 use Rattle.smith_types.specs.contracts.make.defined.DefinedKindPartialEq.TheImpl.{ghosts as kinds}
-use Rattle.smith_types.specs.contracts.types.PrimitiveValTypePartialEq.TheImpl.{ghosts as prims}
+use Rattle.smith_syntax.specs.contracts.types.PrimitiveValTypePartialEq.TheImpl.{ghosts as prims}
 use Rattle.smith_types.specs.declared.make.TypeKind.{TypeKind}
 use Rattle.smith_types.specs.declared.make.TypeKind.TheVariants.{Defined, Function, Component, Instance}
 use Rattle.smith_types.specs.declared.make.defined.DefinedKind.{DefinedKind}
 use Rattle.smith_types.specs.declared.make.defined.DefinedKind.TheVariants as kind
-use Rattle.smith_types.specs.declared.types.ComponentValType.{ComponentValType}
-use Rattle.smith_types.specs.declared.types.ComponentValType.TheVariants.{Primitive, Indexed}
-use Rattle.smith_types.specs.declared.types.PrimitiveValType.{PrimitiveValType}
-use Rattle.smith_types.specs.declared.types.PrimitiveValType.TheVariants as prim
+use Rattle.smith_syntax.specs.declared.types.ComponentValType.{ComponentValType}
+use Rattle.smith_syntax.specs.declared.types.ComponentValType.TheVariants.{Primitive, Indexed}
+use Rattle.smith_syntax.specs.declared.types.PrimitiveValType.{PrimitiveValType}
+use Rattle.smith_syntax.specs.declared.types.PrimitiveValType.TheVariants as prim
 
 -- what a choice of a primitive type is among
 abbrev pub primitives : List PrimitiveValType

@@ -1,24 +1,15 @@
 //! The types of components: what they are, how they are read and how they are written.
 #![tactic(auto)]
 
-mod core_types;
-mod deftype;
-mod drops;
-mod encode;
-mod func;
 pub mod laws;
 mod make;
 mod scopes;
-mod types;
 
-pub use core_types::{CoreType, ModuleType, ModuleTypeDef};
-pub use deftype::DefType;
-pub use drops::drop_last_first;
-pub use encode::{ComponentFormat, core_type_len, type_len, write_core_type, write_type};
-pub use func::FuncType;
 pub use make::{DefinedKind, ModuleItem, TypeKind, arbitrary_core_type, arbitrary_type};
 pub use scopes::{Kind, Scopes};
-pub use types::{
-    ComponentValType, DefinedType, EnumType, FlagsType, ListType, OptionType, PrimitiveValType,
-    RecordType, ResultType, TupleType, VariantType,
+pub use smith_syntax::{
+    ComponentFormat, ComponentValType, CoreType, DefType, DefinedType, EnumType, FlagsType,
+    FuncType, ListType, ModuleType, ModuleTypeDef, OptionType, PrimitiveValType, RecordType,
+    ResultType, TupleType, VariantType, core_type_len, drop_last_first, type_len, write_core_type,
+    write_type,
 };

@@ -19,10 +19,9 @@ ghost use Rattle.smith_input.specs.Reading.{IsTail};
 ghost use Rattle.smith_core.specs.Limits.{configured};
 ghost use Rattle.smith_types.specs.Made.{Made, MadeOf};
 ghost use Rattle.smith_types.specs.Scopes.{own_scope, outer_scopes};
-ghost use Rattle.smith_types.specs.Shown.{shown_type, shown_shared};
-ghost use Rattle.smith_types.specs.WellFormed.{FormedEntry, size};
+ghost use Rattle.smith_syntax.specs.Shown.{shown_type, shown_shared};
+ghost use Rattle.smith_syntax.specs.WellFormed.{FormedEntry, size};
 
-use crate::deftype::DefType;
 use crate::scopes::Scopes;
 pub use core_types::arbitrary_core_type;
 pub use defined::DefinedKind;
@@ -32,6 +31,7 @@ use function::function_type;
 pub use module_types::ModuleItem;
 use smith_core::{Config, ValType};
 use smith_input::{Error, Unstructured};
+use smith_syntax::DefType;
 use std::alloc::Global;
 use std::rc::Rc;
 

@@ -2,15 +2,13 @@
 
 ghost use Rattle.std.specs.Prelude.{◌≡◌, ℕ, ◌+◌, ◌<◌, ◌≤◌, [], ◌∷◌, ◌++◌, length, Some, slice_get};
 ghost use Rattle.std.specs.Prelude.{OnOk, IfOk, OnErr, IfErr};
-ghost use Rattle.smith_types.specs.Scope.{empty_scope, with_type, with_core_type, places};
-ghost use Rattle.smith_types.specs.Scopes.{own_scope, shown_scope, kind_places, has_signature, last_of, scope_at};
+ghost use Rattle.smith_syntax.specs.Scope.{empty_scope, with_type, with_core_type, places};
+ghost use Rattle.smith_types.specs.Scopes.{own_scope, shown_scope, kind_places, last_of, scope_at};
+ghost use Rattle.smith_syntax.specs.Shown.{has_signature};
 ghost use Rattle.smith_types.specs.Scopes.{AddsType, AddsCoreType, Notes, SameRows};
 
-use crate::core_types::CoreType;
-use crate::deftype::DefType;
-use crate::drops::drop_last_first;
-use crate::func::FuncType;
 use smith_input::Error;
+use smith_syntax::{CoreType, DefType, FuncType, drop_last_first};
 use std::alloc::Global;
 use std::collections::HashMap;
 use std::hash::{BuildHasherDefault, DefaultHasher};

@@ -6,16 +6,16 @@ ghost use Rattle.smith_input.specs.Reading.{IsTail};
 ghost use Rattle.smith_core.specs.CoreTypes.{shown_func};
 ghost use Rattle.smith_types.specs.MadeCore.{alias_choices};
 ghost use Rattle.smith_types.specs.MakingCore.{Adds, Keeps, choices_among, shown_funcs, so_far};
-ghost use Rattle.smith_types.specs.ModuleTypes.{aliased, func_in};
+ghost use Rattle.smith_syntax.specs.ModuleTypes.{aliased, func_in};
 ghost use Rattle.smith_types.specs.Scopes.{own_scope, kind_places};
 ghost use Rattle.smith_types.specs.declared.make.module_types.ModuleItem.TheVariants as item;
 ghost use Rattle.smith_types.specs.declared.scopes.Kind.TheVariants as kind;
 
 use super::declared::Declared;
-use crate::core_types::{CoreType, ModuleTypeDef};
 use crate::scopes::{Kind, Scopes};
 use smith_core::FuncType;
 use smith_input::{Error, Unstructured};
+use smith_syntax::{CoreType, ModuleTypeDef};
 use std::rc::Rc;
 
 // How many function types an outer alias is among.

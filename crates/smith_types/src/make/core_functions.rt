@@ -5,7 +5,7 @@ ghost use Rattle.smith_input.specs.Reading.{IsTail};
 ghost use Rattle.smith_core.specs.CoreReading.{ReadsFunction};
 ghost use Rattle.smith_core.specs.CoreTypes.{shown_func};
 ghost use Rattle.smith_core.specs.Limits.{configured};
-ghost use Rattle.smith_types.specs.CoreLimits.{max_results};
+ghost use Rattle.smith_syntax.specs.CoreLimits.{max_results};
 
 use smith_core::{Config, FuncType, ValType, arbitrary_func_type};
 use smith_input::{Error, Unstructured};

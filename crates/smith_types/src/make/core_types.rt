@@ -3,20 +3,20 @@
 ghost use Rattle.std.specs.Prelude.{◌≡◌, ◌+◌, ◌≤◌, IfOk, IfErr};
 ghost use Rattle.smith_input.specs.Reading.{IsTail};
 ghost use Rattle.smith_core.specs.Limits.{configured};
-ghost use Rattle.smith_types.specs.CoreLimits.{CoreLimits};
+ghost use Rattle.smith_syntax.specs.CoreLimits.{CoreLimits};
 ghost use Rattle.smith_types.specs.MadeCore.{MadeCore};
 ghost use Rattle.smith_types.specs.MakingCore.{KeepsAliased};
 ghost use Rattle.smith_types.specs.Scopes.{own_scope};
-ghost use Rattle.smith_types.specs.Shown.{shown_core, shown_shared_core};
-ghost use Rattle.smith_types.specs.WellFormed.{FormedCore, core_size};
+ghost use Rattle.smith_syntax.specs.Shown.{shown_core, shown_shared_core};
+ghost use Rattle.smith_syntax.specs.WellFormed.{FormedCore, core_size};
 
 use super::core_functions::core_function;
 use super::fuel::burn;
 use super::module_types::module_type;
-use crate::core_types::{CoreType, ModuleType};
 use crate::scopes::Scopes;
 use smith_core::{Config, ValType};
 use smith_input::{Error, Unstructured};
+use smith_syntax::{CoreType, ModuleType};
 use std::alloc::Global;
 use std::rc::Rc;
 

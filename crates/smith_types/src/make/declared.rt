@@ -2,15 +2,15 @@
 
 ghost use Rattle.std.specs.Prelude.{◌≡◌, ◌+◌, ◌<◌, [], ◌∷◌, ◌++◌, map, length, nat_lt, if◌then◌else◌, OnOk, IfOk, IfErr};
 ghost use Rattle.smith_core.specs.CoreTypes.{shown_func};
-ghost use Rattle.smith_types.specs.Entries.{declares};
+ghost use Rattle.smith_syntax.specs.Entries.{declares};
 ghost use Rattle.smith_types.specs.MakingCore.{Keeps, shown_funcs};
-ghost use Rattle.smith_types.specs.ModuleTypes.{count_of, is_tag_type};
-ghost use Rattle.smith_types.specs.Scope.{places};
-ghost use Rattle.smith_types.specs.Shown.{shown_decl};
+ghost use Rattle.smith_syntax.specs.ModuleTypes.{count_of, is_tag_type};
+ghost use Rattle.smith_syntax.specs.Scope.{places};
+ghost use Rattle.smith_syntax.specs.Shown.{shown_decl};
 
-use crate::core_types::ModuleTypeDef;
 use smith_core::{ExportKind, FuncType};
 use smith_input::Error;
+use smith_syntax::ModuleTypeDef;
 use std::alloc::Global;
 use std::rc::Rc;
 

@@ -2,22 +2,22 @@
 
 ghost use Rattle.std.specs.Prelude.{◌≡◌, ◌+◌, ◌-◌, ℕ, List, map, string_bytes, IfOk, IfErr};
 ghost use Rattle.smith_input.specs.Reading.{IsTail};
-ghost use Rattle.smith_types.specs.Entries.{primitive_type, record_type, variant_type};
-ghost use Rattle.smith_types.specs.Entries.{tuple_type, flags_type, enum_type};
+ghost use Rattle.smith_syntax.specs.Entries.{primitive_type, record_type, variant_type};
+ghost use Rattle.smith_syntax.specs.Entries.{tuple_type, flags_type, enum_type};
 ghost use Rattle.smith_types.specs.Made.{MadeAs, MadeDefined, ReadsMaybe, or_bool};
 ghost use Rattle.smith_types.specs.Scopes.{own_scope};
-ghost use Rattle.smith_types.specs.Shown.{shown_defined};
-ghost use Rattle.smith_types.specs.Signature.{named};
-ghost use Rattle.smith_types.specs.declared.types.PrimitiveValType.TheVariants as prim;
+ghost use Rattle.smith_syntax.specs.Shown.{shown_defined};
+ghost use Rattle.smith_syntax.specs.Signature.{named};
+ghost use Rattle.smith_syntax.specs.declared.types.PrimitiveValType.TheVariants as prim;
 
 use super::members::members;
 use super::values::{maybe_value_type, primitive_type, value_type};
 use crate::scopes::Scopes;
-use crate::types::{
+use smith_input::{Error, Unstructured};
+use smith_syntax::{
     ComponentValType, DefinedType, EnumType, FlagsType, ListType, OptionType, PrimitiveValType,
     RecordType, ResultType, TupleType, VariantType,
 };
-use smith_input::{Error, Unstructured};
 use std::alloc::Global;
 
 /// What a choice of a defined type is among. Public since contracts speak of it.

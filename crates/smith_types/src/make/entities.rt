@@ -7,9 +7,9 @@ ghost use Rattle.smith_core.specs.Limits.{configured};
 ghost use Rattle.smith_core.specs.declared.types.ExportKind.TheVariants as kind;
 ghost use Rattle.smith_types.specs.MadeCore.{ReadsEntityOf, entity_kinds, indexes};
 ghost use Rattle.smith_types.specs.MakingCore.{HasTypeFor, MaybeEntity, shown_funcs, so_far};
-ghost use Rattle.smith_types.specs.ModuleTypes.{count_of, is_tag_type};
-ghost use Rattle.smith_types.specs.Scope.{places};
-ghost use Rattle.smith_types.specs.Shown.{shown_decl};
+ghost use Rattle.smith_syntax.specs.ModuleTypes.{count_of, is_tag_type};
+ghost use Rattle.smith_syntax.specs.Scope.{places};
+ghost use Rattle.smith_syntax.specs.Shown.{shown_decl};
 
 use super::declared::{Declared, allows, tag_types};
 use smith_core::{

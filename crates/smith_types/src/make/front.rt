@@ -6,12 +6,12 @@ ghost use Rattle.smith_core.specs.CoreTypes.{shown_func};
 ghost use Rattle.smith_types.specs.MadeCore.{allows_function, allows_type, MemoryLine};
 ghost use Rattle.smith_types.specs.MadeCore.{ReadsFront, ReadsFunctionLine, ReadsLine};
 ghost use Rattle.smith_types.specs.MakingCore.{Keeps, so_far};
-ghost use Rattle.smith_types.specs.ModuleTypes.{realloc, free};
+ghost use Rattle.smith_syntax.specs.ModuleTypes.{realloc, free};
 
 use super::declared::{Declared, allows, declare};
-use crate::core_types::ModuleTypeDef;
 use smith_core::{Config, EntityType, ExportKind, FuncType, ValType, arbitrary_memtype};
 use smith_input::{Error, Unstructured};
+use smith_syntax::ModuleTypeDef;
 use std::alloc::Global;
 use std::rc::Rc;
 

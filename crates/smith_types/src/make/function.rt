@@ -8,10 +8,9 @@ ghost use Rattle.smith_types.specs.Scopes.{own_scope};
 use super::fuel::burn;
 use super::members::members;
 use super::values::value_type;
-use crate::func::FuncType;
 use crate::scopes::Scopes;
-use crate::types::ComponentValType;
 use smith_input::{Error, Unstructured};
+use smith_syntax::{ComponentValType, FuncType};
 use std::alloc::Global;
 
 // The result of a function, or none: a loop of at most one turn.

@@ -3,18 +3,18 @@
 ghost use Rattle.std.specs.Prelude.{◌≡◌, ◌≤◌, ℕ, List, [], ◌∷◌, ◌++◌, map, refl, string_bytes, IfOk, IfErr};
 ghost use Rattle.smith_input.specs.Names.{Holds, ReadsNew};
 ghost use Rattle.smith_input.specs.Reading.{IsTail};
-ghost use Rattle.smith_types.specs.Entries.{Field, Case};
+ghost use Rattle.smith_syntax.specs.Entries.{Field, Case};
 ghost use Rattle.smith_types.specs.Made.{ReadsVal, ReadsMaybe, ReadsNamed, ReadsMembers};
-ghost use Rattle.smith_types.specs.Scope.{Scope};
+ghost use Rattle.smith_syntax.specs.Scope.{Scope};
 ghost use Rattle.smith_types.specs.Scopes.{own_scope};
-ghost use Rattle.smith_types.specs.Signature.{named};
-ghost use Rattle.smith_types.specs.declared.types.ComponentValType.{ComponentValType as Val};
+ghost use Rattle.smith_syntax.specs.Signature.{named};
+ghost use Rattle.smith_syntax.specs.declared.types.ComponentValType.{ComponentValType as Val};
 
 use super::fuel::burn;
 use super::values::{maybe_value_type, value_type};
 use crate::scopes::Scopes;
-use crate::types::ComponentValType;
 use smith_input::{Error, Unstructured, unique_kebab_string};
+use smith_syntax::ComponentValType;
 use std::alloc::Global;
 use std::collections::BTreeSet;
 

@@ -7,11 +7,11 @@ ghost use Rattle.smith_input.specs.Names.{GainsName, Holds};
 ghost use Rattle.smith_input.specs.Reading.{IsTail};
 ghost use Rattle.smith_input.specs.Texts.{ReadsText};
 ghost use Rattle.smith_types.specs.MadeCore.{ReadsNewText};
-ghost use Rattle.smith_types.specs.ModuleTypes.{export_names, names_from, HasNewNames};
-ghost use Rattle.smith_types.specs.Shown.{shown_decl};
+ghost use Rattle.smith_syntax.specs.ModuleTypes.{export_names, names_from, HasNewNames};
+ghost use Rattle.smith_syntax.specs.Shown.{shown_decl};
 
-use crate::core_types::ModuleTypeDef;
 use smith_input::{Error, Unstructured, limited_string, unique_string};
+use smith_syntax::ModuleTypeDef;
 use std::alloc::Global;
 use std::collections::BTreeSet;
 

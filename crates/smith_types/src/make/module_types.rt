@@ -6,13 +6,13 @@ ghost use Rattle.smith_input.specs.Choices.{ReadsAmong};
 ghost use Rattle.smith_input.specs.Loops.{Loop};
 ghost use Rattle.smith_input.specs.Reading.{IsTail};
 ghost use Rattle.smith_core.specs.Limits.{configured};
-ghost use Rattle.smith_types.specs.Entries.{ModuleDecl};
+ghost use Rattle.smith_syntax.specs.Entries.{ModuleDecl};
 ghost use Rattle.smith_types.specs.MadeCore.{MadeModule, ModuleEnds, ReadsDecl};
 ghost use Rattle.smith_types.specs.MadeCore.{allows_type, alias_choices, module_items};
 ghost use Rattle.smith_types.specs.MakingCore.{Adds, HasChoiceFor, KeepEach, Keeps, Turns, shown_funcs, so_far};
-ghost use Rattle.smith_types.specs.ModuleTypes.{HasNewNames};
+ghost use Rattle.smith_syntax.specs.ModuleTypes.{HasNewNames};
 ghost use Rattle.smith_types.specs.Scopes.{own_scope};
-ghost use Rattle.smith_types.specs.Shown.{shown_decl};
+ghost use Rattle.smith_syntax.specs.Shown.{shown_decl};
 ghost use Rattle.smith_types.specs.declared.make.module_types.ModuleItem.TheVariants as item;
 
 use super::aliases::{add_alias, alias_count};
@@ -22,10 +22,10 @@ use super::entities::entity;
 use super::front::front;
 use super::fuel::burn;
 use super::module_names::{export_name, import_names};
-use crate::core_types::ModuleTypeDef;
 use crate::scopes::Scopes;
 use smith_core::{Config, Import, ValType};
 use smith_input::{Error, Unstructured, choose_offered};
+use smith_syntax::ModuleTypeDef;
 use std::alloc::Global;
 
 /// What a declaration of a module type is among. Public since contracts speak of it.

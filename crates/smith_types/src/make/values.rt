@@ -8,8 +8,8 @@ ghost use Rattle.smith_types.specs.Made.{ReadsVal, ReadsMaybe};
 ghost use Rattle.smith_types.specs.Scopes.{own_scope};
 
 use crate::scopes::{Kind, Scopes};
-use crate::types::{ComponentValType, PrimitiveValType};
 use smith_input::Unstructured;
+use smith_syntax::{ComponentValType, PrimitiveValType};
 
 static PRIMITIVES: [PrimitiveValType; 13] = [
     PrimitiveValType::Bool,

@@ -1,9 +1,9 @@
 use Rattle.std.proofs.Common.{sym, subst, ◌+◌, ◌≤◌}
-use Rattle.smith_types.specs.Scope.{own_of, outer_of}
+use Rattle.smith_syntax.specs.Scope.{own_of, outer_of}
 use Rattle.smith_types.specs.Scopes.{inward}
-use Rattle.smith_types.specs.Shown.{shown_type}
-use Rattle.smith_types.specs.WellFormed.{FormedEntry, size}
-use Rattle.smith_types.specs.declared.deftype.DefType.{DefType}
+use Rattle.smith_syntax.specs.Shown.{shown_type}
+use Rattle.smith_syntax.specs.WellFormed.{FormedEntry, size}
+use Rattle.smith_syntax.specs.declared.deftype.DefType.{DefType}
 use Rattle.smith_types.proofs.Made.{made_formed, made_size}
 use Rattle.smith_types.proofs.make.arbitrary_type.Goals as goal
 

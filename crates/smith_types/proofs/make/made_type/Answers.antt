@@ -2,9 +2,9 @@ use Rattle.std.proofs.Common.{ℕ, arith, subst}
 use Rattle.std.proofs.lemmas.Result.{IfOk-weaker}
 use Rattle.smith_input.proofs.Choices.{among}
 use Rattle.smith_types.specs.Made.{MadeValues, MadeOf, spent_type, of_kind}
-use Rattle.smith_types.specs.Scope.{own_of}
+use Rattle.smith_syntax.specs.Scope.{own_of}
 use Rattle.smith_types.specs.Scopes.{inward}
-use Rattle.smith_types.specs.Shown.{shown_type}
+use Rattle.smith_syntax.specs.Shown.{shown_type}
 use Rattle.smith_types.proofs.make.made_type.Goals as goal
 
 pub returns-then-fuel-eq0-clause-made : goal.returns-then-fuel-eq0-clause-made

@@ -3,8 +3,8 @@ use Rattle.std.proofs.lemmas.Result.{err_from_is_err_and}
 use Rattle.std.specs.HashMap.{get}
 use Rattle.std.specs.Prelude.{Some}
 use Rattle.smith_types.specs.Scopes.{row_in}
-use Rattle.smith_types.specs.Signature.{same_signature}
-use Rattle.smith_types.specs.Entries.{Signature}
+use Rattle.smith_syntax.specs.Signature.{same_signature}
+use Rattle.smith_syntax.specs.Entries.{Signature}
 use Rattle.smith_types.proofs.Tied.{notes_put, same_rows_put}
 use Rattle.smith_types.proofs.scopes.note.Goals as goal
 

@@ -1,6 +1,6 @@
 use Rattle.std.proofs.Common.{◌≡◌, true, sym, ap, subst, ◌∙◌, ◌++◌, ◌∷◌, [], List, map, inl, inr, arith}
 use Rattle.std.proofs.lemmas.List.{map-append}
-use Rattle.smith_types.specs.Scope.{empty_scope}
+use Rattle.smith_syntax.specs.Scope.{empty_scope}
 use Rattle.smith_types.proofs.Stack.{opened_scope}
 use Rattle.smith_component.specs.Building.{Building, open_of}
 use Rattle.smith_component.specs.BuilderView.{building_of}

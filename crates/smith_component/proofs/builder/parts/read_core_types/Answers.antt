@@ -2,10 +2,10 @@ use Rattle.std.proofs.Common.{◌≡◌, ◌++◌, List, [], ◌∷◌, subst, s
 use Rattle.std.proofs.lemmas.List.{map-append, length-map}
 use Rattle.smith_input.proofs.Loops.{begins, stops, ends_full, goes_on}
 use Rattle.smith_input.proofs.ReadingLemmas.{tail_same, tail_trans, more_tail}
-use Rattle.smith_types.specs.Entries.{CoreEntry}
-use Rattle.smith_types.specs.Scope.{Scope, own_of, outer_of, with_core_type, with_core_types}
+use Rattle.smith_syntax.specs.Entries.{CoreEntry}
+use Rattle.smith_syntax.specs.Scope.{Scope, own_of, outer_of, with_core_type, with_core_types}
 use Rattle.smith_types.specs.Scopes.{inward}
-use Rattle.smith_types.specs.Shown.{shown_core, shown_shared_core}
+use Rattle.smith_syntax.specs.Shown.{shown_core, shown_shared_core}
 use Rattle.smith_types.proofs.Stack.{length-last-core, grown_core, with_core_none, with_core_more}
 use Rattle.smith_component.proofs.builder.parts.read_core_types.Goals as goal
 

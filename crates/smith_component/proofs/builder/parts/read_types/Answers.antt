@@ -2,11 +2,11 @@ use Rattle.std.proofs.Common.{◌≡◌, ◌++◌, List, [], ◌∷◌, subst, s
 use Rattle.std.proofs.lemmas.List.{map-append, length-map}
 use Rattle.smith_input.proofs.Loops.{begins, stops, ends_full, goes_on}
 use Rattle.smith_input.proofs.ReadingLemmas.{tail_same, tail_trans, more_tail}
-use Rattle.smith_types.specs.Entries.{Entry}
+use Rattle.smith_syntax.specs.Entries.{Entry}
 use Rattle.smith_types.specs.Made.{Made}
-use Rattle.smith_types.specs.Scope.{Scope, own_of, outer_of, with_type, with_types}
+use Rattle.smith_syntax.specs.Scope.{Scope, own_of, outer_of, with_type, with_types}
 use Rattle.smith_types.specs.Scopes.{inward}
-use Rattle.smith_types.specs.Shown.{shown_type, shown_shared}
+use Rattle.smith_syntax.specs.Shown.{shown_type, shown_shared}
 use Rattle.smith_types.proofs.Stack.{length-last, grown, with_none, with_more}
 use Rattle.smith_component.proofs.builder.parts.read_types.Goals as goal
 

@@ -3,8 +3,8 @@ use Rattle.smith_input.specs.Loops.{Never}
 use Rattle.smith_input.specs.Reading.{IsTail}
 use Rattle.smith_input.proofs.Loops.{Onward}
 use Rattle.smith_types.specs.Scopes.{inward}
-use Rattle.smith_types.specs.Scope.{own_of, outer_of, with_types}
-use Rattle.smith_types.specs.Shown.{shown_shared}
+use Rattle.smith_syntax.specs.Scope.{own_of, outer_of, with_types}
+use Rattle.smith_syntax.specs.Shown.{shown_shared}
 use Rattle.smith_component.specs.Turn.{ReadsType}
 use Rattle.smith_component.proofs.builder.parts.read_types.Given as goal
 

@@ -1,13 +1,13 @@
 use Rattle.std.proofs.Common.{◌≡◌, List, Some, subst, ◌++◌, [], ◌∷◌, ap, sym, ◌∙◌, refl, ◌-◌}
 use Rattle.smith_core.specs.CoreTypes.{shown_func}
 use Rattle.smith_input.specs.Choices.{ReadsAmong}
-use Rattle.smith_types.specs.Entries.{aliases}
+use Rattle.smith_syntax.specs.Entries.{aliases}
 use Rattle.smith_types.specs.MakingCore.{choices_among, shown_funcs}
-use Rattle.smith_types.specs.ModuleTypes.{aliased}
-use Rattle.smith_types.specs.Scope.{own_of}
+use Rattle.smith_syntax.specs.ModuleTypes.{aliased}
+use Rattle.smith_syntax.specs.Scope.{own_of}
 use Rattle.smith_types.specs.Scopes.{inward}
-use Rattle.smith_types.specs.Shown.{shown_decl}
-use Rattle.smith_types.specs.declared.core_types.ModuleTypeDef.TheVariants as decl
+use Rattle.smith_syntax.specs.Shown.{shown_decl}
+use Rattle.smith_syntax.specs.declared.core_types.ModuleTypeDef.TheVariants as decl
 use Rattle.smith_types.proofs.KeptAliases.{keep_more}
 use Rattle.smith_types.proofs.Members.{pushed}
 use Rattle.smith_types.proofs.MakingCore.{alias_adds, same_state}

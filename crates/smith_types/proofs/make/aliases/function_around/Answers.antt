@@ -1,7 +1,7 @@
 use Rattle.std.proofs.Common.{ap, sym, ◌∙◌, Some}
 use Rattle.smith_core.specs.CoreTypes.{shown_func}
-use Rattle.smith_types.specs.ModuleTypes.{func_in}
-use Rattle.smith_types.specs.Shown.{shown_core}
+use Rattle.smith_syntax.specs.ModuleTypes.{func_in}
+use Rattle.smith_syntax.specs.Shown.{shown_core}
 use Rattle.smith_types.proofs.MakingCore.{around_at, no_module, same_item, shown_at}
 use Rattle.smith_types.proofs.make.aliases.function_around.Goals as goal
 

@@ -1,11 +1,11 @@
 use Rattle.std.proofs.Common.{sym, subst, ◌+◌, ◌≤◌}
-use Rattle.smith_types.specs.CoreLimits.{CoreLimits}
+use Rattle.smith_syntax.specs.CoreLimits.{CoreLimits}
 use Rattle.smith_types.specs.MakingCore.{KeepsAliased}
-use Rattle.smith_types.specs.Scope.{own_of}
+use Rattle.smith_syntax.specs.Scope.{own_of}
 use Rattle.smith_types.specs.Scopes.{inward}
-use Rattle.smith_types.specs.Shown.{shown_core}
-use Rattle.smith_types.specs.WellFormed.{FormedCore, core_size}
-use Rattle.smith_types.specs.declared.core_types.CoreType.{CoreType}
+use Rattle.smith_syntax.specs.Shown.{shown_core}
+use Rattle.smith_syntax.specs.WellFormed.{FormedCore, core_size}
+use Rattle.smith_syntax.specs.declared.core_types.CoreType.{CoreType}
 use Rattle.smith_types.proofs.MadeCore.{made_core_formed, made_core_limits, made_core_size}
 use Rattle.smith_types.proofs.make.core_types.arbitrary_core_type.Goals as goal
 

@@ -1,11 +1,11 @@
 use Rattle.std.proofs.Common.{◌≡◌, ℕ, List, [], map, ap, ◌∙◌, refl, sym, subst, arith}
 use Rattle.smith_input.specs.Reading.{Reads}
-use Rattle.smith_types.specs.Entries.{core_module}
+use Rattle.smith_syntax.specs.Entries.{core_module}
 use Rattle.smith_types.specs.MadeCore.{MadeModule, of_function, of_module, spent_core}
 use Rattle.smith_types.specs.MakingCore.{KeepEach}
-use Rattle.smith_types.specs.Scope.{own_of}
+use Rattle.smith_syntax.specs.Scope.{own_of}
 use Rattle.smith_types.specs.Scopes.{inward}
-use Rattle.smith_types.specs.Shown.{shown_decl}
+use Rattle.smith_syntax.specs.Shown.{shown_decl}
 use Rattle.smith_types.proofs.make.core_types.made_core_type.Goals as goal
 
 pub returns-then-fuel-eq0-clause-made : goal.returns-then-fuel-eq0-clause-made

@@ -1,7 +1,7 @@
 use Rattle.std.proofs.Common.{◌≡◌, ◌+◌, ◌≤◌, map}
 use Rattle.std.proofs.Math.ListN.{drop}
-use Rattle.smith_types.specs.ModuleTypes.{count_of}
-use Rattle.smith_types.specs.Shown.{shown_decl}
+use Rattle.smith_syntax.specs.ModuleTypes.{count_of}
+use Rattle.smith_syntax.specs.Shown.{shown_decl}
 use Rattle.smith_types.proofs.make.declared.count_of.Given as goal
 
 abbrev pub invariant-loop-def : goal.invariant-loop-def

@@ -1,7 +1,7 @@
 use Rattle.std.proofs.Common.{◌++◌, [], ◌∷◌, ap, ◌∙◌}
 use Rattle.smith_core.specs.CoreTypes.{shown_func}
 use Rattle.smith_types.specs.MakingCore.{shown_funcs}
-use Rattle.smith_types.specs.declared.core_types.ModuleTypeDef.TheVariants as decl
+use Rattle.smith_syntax.specs.declared.core_types.ModuleTypeDef.TheVariants as decl
 use Rattle.smith_types.proofs.KeptAliases.{keep_more}
 use Rattle.smith_types.proofs.Members.{pushed}
 use Rattle.smith_types.proofs.make.declared.declare.Goals as goal

@@ -1,8 +1,8 @@
 use Rattle.std.proofs.Common.{◌≡◌, ◌++◌}
 use Rattle.std.proofs.Math.ListN.{drop}
 use Rattle.smith_types.specs.MakingCore.{shown_funcs}
-use Rattle.smith_types.specs.ModuleTypes.{is_tag_type}
-use Rattle.smith_types.specs.Scope.{places}
+use Rattle.smith_syntax.specs.ModuleTypes.{is_tag_type}
+use Rattle.smith_syntax.specs.Scope.{places}
 use Rattle.smith_types.proofs.make.declared.tag_types.Given as goal
 
 abbrev pub invariant-loop-i : goal.invariant-loop-i

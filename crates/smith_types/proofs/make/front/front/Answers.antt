@@ -3,7 +3,7 @@ use Rattle.smith_core.specs.CoreTypes.{shown_func}
 use Rattle.smith_types.specs.MadeCore.{MemoryLine, ReadsLine}
 use Rattle.smith_types.specs.MadeCore.{Declared as SoFar}
 use Rattle.smith_types.specs.MakingCore.{KeepEach, own_after, shown_funcs, so_far}
-use Rattle.smith_types.specs.Shown.{shown_decl}
+use Rattle.smith_syntax.specs.Shown.{shown_decl}
 use Rattle.std.specs.Prelude.{nat_lt}
 use Rattle.smith_types.proofs.MakingCore.{same_state}
 use Rattle.smith_types.proofs.make.front.front.Goals as goal

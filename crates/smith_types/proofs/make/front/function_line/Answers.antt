@@ -2,9 +2,9 @@ use Rattle.std.proofs.Common.{◌≡◌, ◌++◌, [], ◌∷◌, arith, refl, m
 use Rattle.std.proofs.lemmas.List.{length-map}
 use Rattle.smith_core.specs.CoreTypes.{Function, shown_func}
 use Rattle.smith_core.specs.declared.types.EntityType.TheVariants.{Func}
-use Rattle.smith_types.specs.Entries.{declares, exports}
+use Rattle.smith_syntax.specs.Entries.{declares, exports}
 use Rattle.smith_types.specs.MakingCore.{shown_funcs}
-use Rattle.smith_types.specs.Shown.{shown_decl}
+use Rattle.smith_syntax.specs.Shown.{shown_decl}
 use Rattle.smith_types.proofs.KeptAliases.{keep_more}
 use Rattle.smith_types.proofs.Members.{pushed}
 use Rattle.smith_types.specs.MadeCore.{not_allowed, declined, taken}

@@ -1,10 +1,10 @@
 use Rattle.std.proofs.Common.{◌≡◌, ◌++◌, [], ◌∷◌, true, false, nat_lt, refl, arith, map, ap, sym, ◌∙◌, append-nil}
 use Rattle.std.proofs.lemmas.Bool.Decides.{nat_tests}
 use Rattle.smith_core.specs.declared.types.EntityType.TheVariants.{Memory}
-use Rattle.smith_types.specs.Entries.{exports}
+use Rattle.smith_syntax.specs.Entries.{exports}
 use Rattle.smith_types.specs.MakingCore.{shown_funcs}
 use Rattle.smith_types.specs.MadeCore.{not_allowed, declined, taken}
-use Rattle.smith_types.specs.Shown.{shown_decl}
+use Rattle.smith_syntax.specs.Shown.{shown_decl}
 use Rattle.smith_types.proofs.KeptAliases.{keep_more}
 use Rattle.smith_types.proofs.Members.{pushed}
 use Rattle.smith_types.proofs.MakingCore.{ratio_false, ratio_true, same_state}

@@ -3,7 +3,7 @@ use Rattle.smith_input.specs.Loops.{Loop}
 use Rattle.smith_input.specs.Names.{Holds}
 use Rattle.smith_input.specs.Reading.{IsTail}
 use Rattle.smith_types.specs.Made.{IsSpent, ReadsMember}
-use Rattle.smith_types.specs.Scope.{own_of}
+use Rattle.smith_syntax.specs.Scope.{own_of}
 use Rattle.smith_types.specs.Scopes.{inward}
 use Rattle.smith_types.proofs.make.members.members.Given as goal
 

@@ -1,8 +1,8 @@
 use Rattle.std.proofs.Common.{◌≡◌, ℕ, List, ◌++◌, map}
 use Rattle.std.proofs.Math.ListN.{drop}
 use Rattle.smith_input.specs.Names.{Holds}
-use Rattle.smith_types.specs.ModuleTypes.{export_names}
-use Rattle.smith_types.specs.Shown.{shown_decl}
+use Rattle.smith_syntax.specs.ModuleTypes.{export_names}
+use Rattle.smith_syntax.specs.Shown.{shown_decl}
 use Rattle.smith_types.proofs.make.module_names.export_names.Given as goal
 
 -- The set has the names so far.

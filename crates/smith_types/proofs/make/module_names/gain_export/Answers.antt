@@ -3,8 +3,8 @@ use Rattle.std.specs.BTreeSet.{contains_text}
 use Rattle.std.proofs.lemmas.Result.{IfOk-weaker}
 use Rattle.smith_input.specs.Names.{Holds}
 use Rattle.smith_input.proofs.NewNames.{holds_more}
-use Rattle.smith_types.specs.ModuleTypes.{export_names}
-use Rattle.smith_types.specs.Shown.{shown_decl}
+use Rattle.smith_syntax.specs.ModuleTypes.{export_names}
+use Rattle.smith_syntax.specs.Shown.{shown_decl}
 use Rattle.smith_types.proofs.MakingCore.{new_after}
 use Rattle.smith_types.proofs.make.module_names.gain_export.Goals as goal
 

@@ -1,7 +1,7 @@
 use Rattle.std.proofs.Common.{◌≡◌, ◌+◌, ◌++◌, ◌∷◌, [], map, ap, sym, ◌∙◌, append_assoc}
 use Rattle.std.proofs.Math.ListN.{drop}
-use Rattle.smith_types.specs.ModuleTypes.{names_from}
-use Rattle.smith_types.specs.Shown.{shown_decl}
+use Rattle.smith_syntax.specs.ModuleTypes.{names_from}
+use Rattle.smith_syntax.specs.Shown.{shown_decl}
 use Rattle.smith_types.proofs.MakingCore.{distinct_prefix, imports_more, rest_at}
 use Rattle.smith_types.proofs.make.module_names.names_from.Goals as goal
 

@@ -1,6 +1,6 @@
 use Rattle.std.proofs.Common.{true, sym, subst, ◌-◌}
 use Rattle.smith_types.specs.MakingCore.{Adds, so_far}
-use Rattle.smith_types.specs.Scope.{own_of}
+use Rattle.smith_syntax.specs.Scope.{own_of}
 use Rattle.smith_types.specs.Scopes.{inward}
 use Rattle.smith_types.specs.declared.make.module_types.ModuleItem.{ModuleItem}
 use Rattle.smith_types.proofs.make.module_types.add_of.Goals as goal

@@ -3,7 +3,7 @@ use Rattle.smith_input.proofs.Loops.{begins, stops, ends_early, ends_full, goes_
 use Rattle.smith_input.proofs.ReadingLemmas.{tail_same, tail_trans, more_tail}
 use Rattle.smith_types.specs.MadeCore.{no_fuel}
 use Rattle.smith_types.specs.MakingCore.{Turns, so_far}
-use Rattle.smith_types.specs.Scope.{own_of}
+use Rattle.smith_syntax.specs.Scope.{own_of}
 use Rattle.smith_types.specs.Scopes.{inward}
 use Rattle.smith_types.proofs.MakingCore.{decl_names}
 use Rattle.smith_types.proofs.make.module_types.declarations.Goals as goal

@@ -1,13 +1,13 @@
 use Rattle.std.proofs.Common.{◌≤◌, ◌+◌, List, length, map}
 use Rattle.smith_input.specs.Reading.{IsTail}
 use Rattle.smith_input.proofs.Loops.{Onward}
-use Rattle.smith_types.specs.Entries.{ModuleDecl}
+use Rattle.smith_syntax.specs.Entries.{ModuleDecl}
 use Rattle.smith_types.specs.MadeCore.{ModuleEnds, ReadsDecl}
 use Rattle.smith_types.specs.MakingCore.{Keeps, so_far}
-use Rattle.smith_types.specs.ModuleTypes.{HasNewNames}
-use Rattle.smith_types.specs.Scope.{own_of}
+use Rattle.smith_syntax.specs.ModuleTypes.{HasNewNames}
+use Rattle.smith_syntax.specs.Scope.{own_of}
 use Rattle.smith_types.specs.Scopes.{inward}
-use Rattle.smith_types.specs.Shown.{shown_decl}
+use Rattle.smith_syntax.specs.Shown.{shown_decl}
 use Rattle.smith_types.proofs.make.module_types.declarations.Given as goal
 
 -- Whatever the rest of the loop reads, the whole loop reads it after what was read.

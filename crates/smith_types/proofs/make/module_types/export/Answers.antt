@@ -1,9 +1,9 @@
 use Rattle.std.proofs.Common.{ℕ, ◌-◌, List, refl, sym, subst, append-nil, string_bytes, map}
-use Rattle.smith_types.specs.Entries.{exports}
+use Rattle.smith_syntax.specs.Entries.{exports}
 use Rattle.smith_types.specs.MadeCore.{ReadsExportName, ReadsNewText}
 use Rattle.smith_types.specs.MakingCore.{MaybeEntity, shown_funcs, so_far}
-use Rattle.smith_types.specs.ModuleTypes.{export_names}
-use Rattle.smith_types.specs.Shown.{shown_decl}
+use Rattle.smith_syntax.specs.ModuleTypes.{export_names}
+use Rattle.smith_syntax.specs.Shown.{shown_decl}
 use Rattle.smith_types.proofs.KeptAliases.{keep_more}
 use Rattle.smith_types.proofs.Members.{pushed}
 use Rattle.smith_types.proofs.MakingCore.{same_state}

@@ -1,11 +1,11 @@
 use Rattle.std.proofs.Common.{ℕ, ◌-◌, List, refl, sym, subst, append-nil, string_bytes, map}
 use Rattle.smith_input.specs.Texts.{ReadsText}
 use Rattle.smith_input.proofs.ReadingLemmas.{tail_trans}
-use Rattle.smith_types.specs.Entries.{imports}
+use Rattle.smith_syntax.specs.Entries.{imports}
 use Rattle.smith_types.specs.MadeCore.{ReadsImportNames, ReadsNewText}
 use Rattle.smith_types.specs.MakingCore.{MaybeEntity, shown_funcs, so_far}
-use Rattle.smith_types.specs.ModuleTypes.{names_from}
-use Rattle.smith_types.specs.Shown.{shown_decl}
+use Rattle.smith_syntax.specs.ModuleTypes.{names_from}
+use Rattle.smith_syntax.specs.Shown.{shown_decl}
 use Rattle.smith_types.proofs.KeptAliases.{keep_more}
 use Rattle.smith_types.proofs.Members.{pushed}
 use Rattle.smith_types.proofs.MakingCore.{same_state}

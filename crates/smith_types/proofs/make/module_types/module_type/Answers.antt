@@ -1,5 +1,5 @@
 use Rattle.smith_types.specs.MakingCore.{so_far}
-use Rattle.smith_types.specs.Scope.{own_of}
+use Rattle.smith_syntax.specs.Scope.{own_of}
 use Rattle.smith_types.specs.Scopes.{inward}
 use Rattle.smith_types.proofs.MakingCore.{front_names}
 use Rattle.smith_types.proofs.make.module_types.module_type.Goals as goal

@@ -1,7 +1,8 @@
 use Rattle.std.proofs.Common.{◌<◌, rules, length}
 use Rattle.std.proofs.lemmas.Option.{slice_get-get_or}
-use Rattle.smith_types.specs.Scope.{places}
-use Rattle.smith_types.specs.Scopes.{has_signature, last_of}
+use Rattle.smith_syntax.specs.Scope.{places}
+use Rattle.smith_syntax.specs.Shown.{has_signature}
+use Rattle.smith_types.specs.Scopes.{last_of}
 use Rattle.smith_types.proofs.Stack.{places_last}
 use Rattle.smith_types.proofs.scopes.Scopes.equal_at.Goals as goal
 

@@ -2,7 +2,7 @@ use Rattle.std.proofs.Common.{[], ◌∷◌, sym, subst}
 use Rattle.std.proofs.lemmas.List.{map-append}
 use Rattle.smith_input.specs.Names.{Holds}
 use Rattle.smith_input.proofs.NewNames.{holds_more}
-use Rattle.smith_types.specs.Signature.{named}
+use Rattle.smith_syntax.specs.Signature.{named}
 use Rattle.smith_types.proofs.make.members.Tuple2StringComponentValTypeMember.read.Goals as goal
 
 pub returns-clause-names : goal.returns-clause-names

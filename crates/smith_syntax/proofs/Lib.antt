@@ -1,0 +1,4 @@
+pub mod Clear
+pub mod Encoding
+pub mod Signature
+pub mod TooLong

@@ -1,0 +1,24 @@
+use Rattle.std.proofs.Common.{string_bytes}
+use Rattle.smith_core.specs.Piece.{text}
+use Rattle.smith_core.proofs.Steps.{exits_between}
+use Rattle.smith_core.proofs.Many.{many-map}
+use Rattle.smith_syntax.specs.Grammar.{labelvaltype, case}
+use Rattle.smith_syntax.specs.Signature.{named}
+use Rattle.smith_syntax.proofs.encode.defined.put_defined.Goals as goal
+
+pub returns-in-Record : goal.returns-in-Record
+returns-in-Record c = rw (c.in-Record.is, many-map labelvaltype named _) (rw c.deref.ensures.value at c.put_tagged.ensures)
+
+pub returns-in-Variant : goal.returns-in-Variant
+returns-in-Variant c = rw (c.in-Variant.is, many-map case named _) (rw c.deref-in-Variant.ensures.value at c.put_tagged-in-Variant.ensures)
+
+pub returns-in-Flags : goal.returns-in-Flags
+returns-in-Flags c = rw (c.in-Flags.is, many-map text string_bytes _) (rw c.deref-in-Flags.ensures.value at c.put_tagged-in-Flags.ensures)
+
+pub returns-in-Enum : goal.returns-in-Enum
+returns-in-Enum c = rw (c.in-Enum.is, many-map text string_bytes _) (rw c.deref-in-Enum.ensures.value at c.put_tagged-in-Enum.ensures)
+
+pub returns-in_err-put_maybe_val-in-Result : goal.returns-in_err-put_maybe_val-in-Result
+returns-in_err-put_maybe_val-in-Result c =
+    let d = c.in_err-put_maybe_val-in-Result.ensures {u = tt} in
+    rw c.in-Result.is (exits_between _ _ _ c.from_residual-in_err-put_maybe_val-in-Result.ensures.1 (c.in_ok-write_byte-in-Result.ensures {u = tt}) d.0 d.1)

@@ -1,0 +1,40 @@
+-- The limits of a config within a core type.
+use Rattle.std.specs.Prelude.{ℕ, ◌≤◌, List, if◌then◌else◌}
+use Rattle.std.specs.List.{AllByRecursion, Contains}
+use Rattle.smith_core.specs.Limits.{configured}
+use Rattle.smith_core.specs.CoreFormed.{FormedFunction}
+use Rattle.smith_core.specs.declared.config.Config.{Config}
+use Rattle.smith_core.specs.declared.types.EntityType.{EntityType}
+use Rattle.smith_core.specs.declared.types.EntityType.TheVariants.{Func, Table, Memory, Global, Tag}
+use Rattle.smith_core.specs.declared.types.ExportKind.TheVariants as kind
+use Rattle.smith_syntax.specs.Entries.{CoreEntry, ModuleDecl, core_func, core_module}
+use Rattle.smith_syntax.specs.ModuleTypes.{declared_in, entities_of, type_count, count_of}
+use Rattle.smith_syntax.specs.WellFormed.{core_size}
+
+-- how many results a core function may have
+abbrev pub max_results : Config → ℕ
+max_results config = if config.multi_value_enabled then 20 else 1
+
+-- globals are of the configured value types
+abbrev pub GlobalLimits : Config → EntityType → Type 0
+GlobalLimits config (Func i) = Unit {0}
+GlobalLimits config (Table t) = Unit {0}
+GlobalLimits config (Memory m) = Unit {0}
+GlobalLimits config (Global g) = Contains (configured config) g.val_type
+GlobalLimits config (Tag t) = Unit {0}
+
+-- a module type of these declarations
+pub record ModuleLimits (config : Config) (ds : List ModuleDecl) : Type 0 where
+  pub functions : AllByRecursion (FormedFunction (configured config) (max_results config)) (declared_in ds)
+  pub values : AllByRecursion (GlobalLimits config) (entities_of ds)
+  pub types : type_count ds ≤ config.max_types
+  pub globals : count_of kind.Global ds ≤ config.max_globals
+  pub tables : count_of kind.Table ds ≤ config.max_tables
+  pub memories : count_of kind.Memory ds ≤ config.max_memories
+  pub tags : count_of kind.Tag ds ≤ config.max_tags
+  pub funcs : count_of kind.Func ds ≤ config.max_funcs
+  pub declarations : core_size (core_module ds) ≤ 100
+
+abbrev pub CoreLimits : Config → CoreEntry → Type 0
+CoreLimits config (core_func f) = FormedFunction (configured config) (max_results config) f
+CoreLimits config (core_module ds) = ModuleLimits config ds

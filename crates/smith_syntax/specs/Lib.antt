@@ -1,0 +1,9 @@
+pub mod Entries
+pub mod Scope
+pub mod Grammar
+pub mod TooLong
+pub mod ModuleTypes
+pub mod WellFormed
+pub mod CoreLimits
+pub mod Signature
+pub mod Shown

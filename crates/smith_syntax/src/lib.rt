@@ -1,0 +1,20 @@
+//! The types of components: what they are, and how they are written.
+#![tactic(auto)]
+
+mod core_types;
+mod deftype;
+mod drops;
+mod encode;
+mod func;
+pub mod laws;
+mod types;
+
+pub use core_types::{CoreType, ModuleType, ModuleTypeDef};
+pub use deftype::DefType;
+pub use drops::drop_last_first;
+pub use encode::{ComponentFormat, core_type_len, type_len, write_core_type, write_type};
+pub use func::FuncType;
+pub use types::{
+    ComponentValType, DefinedType, EnumType, FlagsType, ListType, OptionType, PrimitiveValType,
+    RecordType, ResultType, TupleType, VariantType,
+};

@@ -1,7 +1,0 @@
-use Rattle.smith_core.proofs.Many.{many-map}
-use Rattle.smith_types.specs.Grammar.{moduledecl}
-use Rattle.smith_types.specs.Shown.{shown_decl}
-use Rattle.smith_types.proofs.encode.core_types.put_core_type.Goals as goal
-
-pub returns-in-Module : goal.returns-in-Module
-returns-in-Module c = rw (c.in-Module.is, many-map moduledecl shown_decl _) (rw (c.deref-in-Module-2.ensures.value, c.deref-in-Module.ensures) at c.put_tagged.ensures)

@@ -1,8 +1,0 @@
-use Rattle.smith_types.proofs.TooLong.{entry_none, core_entry_none}
-use Rattle.smith_types.proofs.laws.long_types_have_no_encoding.Goals as goal
-
-pub returns-clause-types : goal.returns-clause-types
-returns-clause-types c = entry_none
-
-pub returns-clause-core_types : goal.returns-clause-core_types
-returns-clause-core_types c = core_entry_none
