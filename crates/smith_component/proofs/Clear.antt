@@ -7,8 +7,8 @@ use Rattle.smith_core.specs.Piece.{Piece, ◌⊕◌, bytes, raw, text, many}
 use Rattle.smith_core.proofs.Clear.{tail, clash, exact, exact_both, exact_raw, clear_text, clear_many, same_section, section_head}
 use Rattle.smith_core.proofs.Piece.{raw_whole}
 use Rattle.smith_syntax.specs.Grammar.{entry, core_entry, import_entry}
-use Rattle.smith_syntax.proofs.Clear.{clear_entry, clear_import_entry}
-use Rattle.smith_syntax.proofs.Clear.{clear_core_entry}
+use Rattle.smith_syntax.proofs.Clear.{clear_import_entry, clear_core_entry}
+use Rattle.smith_syntax.proofs.ClearTypes.{clear_entry}
 use Rattle.smith_component.specs.Grammar.{preamble, embedded, canon, part, parts, Spells}
 use Rattle.smith_component.specs.Tree.{Canon, Part, Tree, ends, first, custom, core_module, core_types, component, types, canons, imports}
 

@@ -1,5 +1,6 @@
 pub mod Clear
 pub mod Grammar
+pub mod MadeWith
 pub mod ReadsCoreTypes
 pub mod ReadsCustom
 pub mod ReadsTypes

@@ -1,8 +1,8 @@
 -- What a core type section reads: well formed core types, within the limits and their fuel, a tail of the bytes; and what its script
 -- says.
-use Rattle.std.proofs.Common.{◌≡◌, ℕ, ◌+◌, ◌≤◌, ◌^◌, List, [], ◌∷◌, ◌++◌, length, arith, refl, sym, ap, ◌∙◌, subst, append_assoc}
+use Rattle.std.proofs.Common.{◌≡◌, ℕ, ◌≤◌, List, [], ◌∷◌, ◌++◌, length, arith, refl, sym, ap, ◌∙◌, subst, append_assoc}
 use Rattle.std.specs.List.{AllByRecursion}
-use Rattle.smith_input.specs.Loops.{Along, Never, after_all}
+use Rattle.smith_input.specs.Loops.{Along, after_all}
 use Rattle.smith_input.specs.Reading.{IsTail}
 use Rattle.smith_input.proofs.Loops.{loop_tail, loop_gives, loop_all, loop_same, loop_read}
 use Rattle.smith_core.specs.declared.config.Config.{Config}

@@ -1,5 +1,5 @@
--- What a type section reads: well formed types, within their fuel, a tail of the bytes; and what its script says.
-use Rattle.std.proofs.Common.{◌≡◌, ℕ, ◌+◌, ◌≤◌, ◌^◌, List, [], ◌∷◌, ◌++◌, length, arith, refl, sym, ap, ◌∙◌, subst, length-append, append_assoc}
+-- What a type section reads: well formed types, within the limits and their fuel, a tail of the bytes; and what its script says.
+use Rattle.std.proofs.Common.{◌≡◌, ℕ, ◌+◌, ◌-◌, ◌≤◌, ◌^◌, max, List, [], ◌∷◌, ◌++◌, length, arith, refl, sym, ap, ◌∙◌, subst, length-append, append_assoc}
 use Rattle.std.specs.List.{AllByRecursion}
 use Rattle.smith_input.specs.Loops.{Along, after_all}
 use Rattle.smith_input.specs.Reading.{IsTail}
@@ -8,14 +8,15 @@ use Rattle.smith_core.specs.declared.config.Config.{Config}
 use Rattle.smith_syntax.specs.Entries.{Entry}
 use Rattle.smith_syntax.specs.Scope.{Scope, with_type, with_types, own_of, outer_of}
 use Rattle.smith_types.specs.Script.{script_type, Lasts}
+use Rattle.smith_syntax.specs.TypeLimits.{EntryLimits, nesting}
 use Rattle.smith_syntax.specs.WellFormed.{FormedEntry, FormedTypes}
-use Rattle.smith_types.proofs.Made.{made_tail, made_formed, made_size}
-use Rattle.smith_types.proofs.Made.{made_same}
 use Rattle.smith_types.proofs.Stack.{with_none}
-use Rattle.smith_types.proofs.Script.{type_read}
 use Rattle.smith_component.specs.Limits.{SmallTypes}
+use Rattle.smith_component.specs.Tree.{most_nested}
 use Rattle.smith_component.specs.Script.{script_types}
 use Rattle.smith_component.specs.Turn.{ReadsType, ReadsTypes}
+use Rattle.smith_types.proofs.Script.{type_read}
+use Rattle.smith_component.proofs.MadeWith.{made_with_tail, made_with_formed, made_with_limits, made_with_nesting, made_with_size, made_with_same}
 
 module _ (config : Config) (outer : List Scope) where
   pub types_read_formed : {max : ℕ} {own next : Scope} {b rest : List ℕ} {xs : List Entry} → ReadsTypes config outer max own b xs rest next → FormedTypes xs own outer
@@ -23,15 +24,30 @@ module _ (config : Config) (outer : List Scope) where
       loop_gives (λ s ys t. FormedTypes ys s outer) (λ s. tt) (λ s c q t e. absurd e) one 0 own b xs rest next r
     where
       one : (s t u : Scope) (c : List ℕ) (x : Entry) (q : List ℕ) (ys : List Entry) → ReadsType config outer s c x q t → FormedTypes ys t outer → FormedTypes (x ∷ ys) s outer
-      one s t u c x q ys (left, made, e) f = (made_formed s outer c config.max_type_size x q left made, subst (λ z. FormedTypes ys z outer) e f)
+      one s t u c x q ys (made, e) f = (made_with_formed made, subst (λ z. FormedTypes ys z outer) e f)
 
   pub types_read_small : {max : ℕ} {own next : Scope} {b rest : List ℕ} {xs : List Entry} → ReadsTypes config outer max own b xs rest next → SmallTypes config xs
   types_read_small {own = own} {next = next} {b = b} {rest = rest} {xs = xs} r =
-      loop_all _ (λ s c x q t (left, made, e). let z = made_size s outer c config.max_type_size x q left made in omega (arith, z)) 0 own b xs rest next r
+      loop_all _ (λ s c x q t (made, e). made_with_size made) 0 own b xs rest next r
+
+  pub types_read_limited : {max : ℕ} {own next : Scope} {b rest : List ℕ} {xs : List Entry} → ReadsTypes config outer max own b xs rest next → AllByRecursion (EntryLimits config) xs
+  types_read_limited {own = own} {next = next} {b = b} {rest = rest} {xs = xs} r = loop_all _ (λ s c x q t (made, e). made_with_limits made) 0 own b xs rest next r
+
+  -- Types that stand no deeper than so, each.
+  most_nested_below : (n : ℕ) (xs : List Entry) → AllByRecursion (λ x. nesting x ≤ n) xs → most_nested xs ≤ n
+  most_nested_below n [] h = omega arith
+  most_nested_below n (x ∷ xs) h = omega (arith, h.0, most_nested_below n xs h.1)
+
+  -- how deep the scopes of these types stand
+  pub types_read_nested : {room : ℕ} {own next : Scope} {b rest : List ℕ} {xs : List Entry} → ReadsTypes config outer room own b xs rest next → length outer + 1 + most_nested xs ≤ max (length outer + 2) config.max_nesting_depth
+  types_read_nested {own = own} {next = next} {b = b} {rest = rest} {xs = xs} r =
+      let deepest : ℕ = max (length outer + 2) config.max_nesting_depth - (length outer + 1) in
+      let each : AllByRecursion (λ x. nesting x ≤ deepest) xs = loop_all _ (λ s c x q t (made, e). omega (arith, made_with_nesting made)) 0 own b xs rest next r in
+      omega (arith, most_nested_below deepest xs each)
 
   pub types_read_tail : {max : ℕ} {own next : Scope} {b rest : List ℕ} {xs : List Entry} → ReadsTypes config outer max own b xs rest next → IsTail rest b
   types_read_tail {own = own} {next = next} {b = b} {rest = rest} {xs = xs} r =
-      loop_tail (λ s c q t e. absurd e) (λ s c x q t (left, made, e). made_tail s outer c config.max_type_size x q left made) 0 own b xs rest next r
+      loop_tail (λ s c q t e. absurd e) (λ s c x q t (made, e). made_with_tail made) 0 own b xs rest next r
 
   -- The scope has what was read.
   pub types_read_scope : {max : ℕ} {own next : Scope} {b rest : List ℕ} {xs : List Entry} → ReadsTypes config outer max own b xs rest next → next ≡ with_types own xs
@@ -39,7 +55,7 @@ module _ (config : Config) (outer : List Scope) where
       loop_gives (λ s ys t. t ≡ with_types s ys) (λ s. sym (with_none s)) (λ s c q t e. absurd e) one 0 own b xs rest next r
     where
       one : (s t u : Scope) (c : List ℕ) (x : Entry) (q : List ℕ) (ys : List Entry) → ReadsType config outer s c x q t → u ≡ with_types t ys → u ≡ with_types s (x ∷ ys)
-      one s t u c x q ys (left, made, e) f = f ∙ (ap (λ z. with_types z ys) e ∙ with_behind s x ys)
+      one s t u c x q ys (made, e) f = f ∙ (ap (λ z. with_types z ys) e ∙ with_behind s x ys)
         where
           with_behind : (s : Scope) (x : Entry) (ys : List Entry) → with_types (with_type s x) ys ≡ with_types s (x ∷ ys)
           with_behind s x ys = ap (λ ts. record { types = ts; core_types = s.core_types }) (append_assoc s.types (x ∷ []) ys)
@@ -50,9 +66,9 @@ module _ (config : Config) (outer : List Scope) where
       let d = loop_same (λ s c q p t u e f. absurd e) (λ s c x q p t u e i. e) one 0 own b xs ys r s next other x y in (d.0, d.1)
     where
       one : (s : Scope) (c : List ℕ) (x y : Entry) (q p : List ℕ) (t u : Scope) → ReadsType config outer s c x q t → ReadsType config outer s c y p u → (x ≡ y) × (q ≡ p) × (t ≡ u)
-      one s c x y q p t u (left, made, e) (held, other, f) =
-          let m = made_same s outer c config.max_type_size x y q p left held made other in
-          (m.value, m.rest, e ∙ (ap (with_type s) m.value ∙ sym f))
+      one s c x y q p t u (made, e) (other, f) =
+          let m = made_with_same made other in
+          (m.0, m.1, e ∙ (ap (with_type s) m.0 ∙ sym f))
 
   -- A type may stand in a scope, and its script can say it.
   abbrev Said : Scope → Entry → Type 0
@@ -69,7 +85,7 @@ module _ (config : Config) (outer : List Scope) where
       loop_read (script_type config.max_type_size) with_type Said one xs 0 own rest (all_said xs own f l small) (omega arith) (omega arith)
     where
       one : (s : Scope) (x : Entry) (rest : List ℕ) → Said s x → ReadsType config outer s (script_type config.max_type_size s x ++ rest) x rest (with_type s x)
-      one s x rest (formed, lasts, small) = let m = type_read s small outer config.max_type_size x rest formed lasts in (m.0, m.1, refl)
+      one s x rest (formed, lasts, small) = (type_read s small config outer config.max_type_size x rest formed lasts, refl)
 
 -- The same where the scopes and the room are known by equations.
 pub types_read_where : (config : Config) (scopes outer : List Scope) (own : Scope) (max room : ℕ) {next : Scope} {b rest : List ℕ} {xs : List Entry} → scopes ≡ own ∷ outer → max ≡ room → ReadsTypes config (outer_of scopes) max (own_of scopes) b xs rest next → ReadsTypes config outer room own b xs rest next

@@ -11,7 +11,7 @@ use Rattle.smith_input.proofs.Choices.{rank_found, among_read}
 use Rattle.smith_input.proofs.Picks.{pick-byte}
 use Rattle.smith_core.specs.declared.config.Config.{Config}
 use Rattle.smith_syntax.specs.Scope.{Scope}
-use Rattle.smith_component.specs.Tree.{Tree, ends, first, Part, custom, core_module, core_types, component, types, canons, imports, add, join, inside}
+use Rattle.smith_component.specs.Tree.{Tree, ends, first, Part, custom, core_module, core_types, component, types, canons, imports, add, join, inside, no_depth, most_nested}
 use Rattle.smith_component.specs.WellFormed.{Formed}
 use Rattle.smith_component.specs.Limits.{OwnLimits, Limits}
 use Rattle.smith_component.specs.Open.{Open, root, more_items, items, items_with_input, is_module_offered, is_component_offered, tree_so_far, scopes_in}
@@ -63,13 +63,14 @@ limits_front (first p t) config outer a l =
       each = all_before (OwnLimits config) (own_limits_swap config) outer a p (own_limits-front config a p) m.each;
       modules = omega (arith, m.modules, length-modules-so_far outer a p);
       components = omega (arith, m.components, length-inside-so_far outer a p);
-      depth = omega (arith, m.depth, depth-so_far outer a p);
+      depth = omega (arith, m.depth, depth-so_far no_depth outer a p);
+      scopes = omega (arith, m.scopes, depth-so_far most_nested outer a p);
     }
 
 -- A component that the limits allow is offered.
 offered_from : (config : Config) (outer : List Tree) (inner u : Tree) → Limits config (tree_so_far outer (add inner (component u))) → is_component_offered config (record { outer = outer; inner = inner }) ≡ true
 offered_from config outer inner u l =
-    let deep : length outer + 1 < config.max_nesting_depth = omega (arith, l.depth, depth-so_far outer inner (component u), depth-outer [] u) in
+    let deep : length outer + 1 < config.max_nesting_depth = omega (arith, l.depth, depth-so_far no_depth outer inner (component u), depth-outer no_depth [] u) in
     let few : length (inside (tree_so_far outer inner)) < config.max_components = omega (arith, l.components, length-inside-so_far outer inner (component u)) in
     grind (arith, nat_tests)
 

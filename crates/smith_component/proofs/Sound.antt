@@ -1,12 +1,13 @@
 -- What each item keeps.
-use Rattle.std.proofs.Common.{◌≡◌, ℕ, ◌+◌, ◌<◌, ◌≤◌, List, [], ◌∷◌, ◌++◌, length, arith, ap, sym, subst, ◌∙◌, refl, true, inr, append-nil}
+use Rattle.std.proofs.Common.{◌≡◌, ℕ, ◌+◌, ◌<◌, ◌≤◌, max, List, [], ◌∷◌, ◌++◌, length, arith, ap, sym, subst, ◌∙◌, refl, true, inr, append-nil}
 use Rattle.std.specs.List.{AllByRecursion}
 use Rattle.std.proofs.lemmas.Bool.Decides.{nat_tests}
 use Rattle.smith_core.specs.declared.config.Config.{Config}
 use Rattle.smith_syntax.specs.CoreLimits.{CoreLimits}
 use Rattle.smith_syntax.specs.Entries.{Entry, CoreEntry}
 use Rattle.smith_syntax.specs.Scope.{Scope, with_types, with_core_types}
-use Rattle.smith_component.specs.Tree.{Tree, ends, Part, custom, core_module, core_types, component, types, canons, imports, add, own, inside, modules, names_in, types_in, core_types_in, imports_in, canons_in, components_in, modules_in, anywhere_in, depth_in}
+use Rattle.smith_syntax.specs.TypeLimits.{EntryLimits}
+use Rattle.smith_component.specs.Tree.{Tree, ends, Part, custom, core_module, core_types, component, types, canons, imports, add, own, inside, modules, names_in, types_in, core_types_in, imports_in, canons_in, components_in, modules_in, anywhere_in, depth_in, no_depth, most_nested, scope_depth_in}
 use Rattle.smith_component.specs.Open.{Open, tree_so_far, is_module_offered, is_component_offered, scopes_in, scopes_from}
 use Rattle.smith_component.specs.Turn.{building, Closes}
 use Rattle.smith_component.specs.WellFormed.{FormedPart, WellFormed, scope_of}
@@ -25,12 +26,13 @@ pub own_limits-add : (config : Config) (t : Tree) (p : Part) → OwnLimits confi
     → length (own core_types_in t) + length (core_types_in p) ≤ config.max_types
     → length (own imports_in t) + length (imports_in p) ≤ config.max_imports
     → length (own canons_in t) + length (canons_in p) ≤ config.max_funcs
-    → AllByRecursion (CoreLimits config) (core_types_in p) → Short (names_in p) → OwnLimits config (add t p)
-own_limits-add config t p o ts cs is fs ls ns = record {
+    → AllByRecursion (EntryLimits config) (types_in p) → AllByRecursion (CoreLimits config) (core_types_in p) → Short (names_in p) → OwnLimits config (add t p)
+own_limits-add config t p o ts cs is fs es ls ns = record {
   types = omega (arith, ts, length-own-add types_in t p);
   core_types = omega (arith, cs, length-own-add core_types_in t p);
   imports = omega (arith, is, length-own-add imports_in t p);
   functions = omega (arith, fs, length-own-add canons_in t p);
+  within_types = subst (AllByRecursion (EntryLimits config)) (sym (own-add types_in t p)) (all_both _ (own types_in t) (types_in p) o.within_types es);
   within_core_types = subst (AllByRecursion (CoreLimits config)) (sym (own-add core_types_in t p)) (all_both _ (own core_types_in t) (core_types_in p) o.within_core_types ls);
   names = subst Short (sym (own-add names_in t p)) (all_both _ (own names_in t) (names_in p) o.names ns);
 }
@@ -42,13 +44,14 @@ own_limits-front config t p o = record {
   core_types = omega (arith, o.core_types, length-own-add core_types_in t p);
   imports = omega (arith, o.imports, length-own-add imports_in t p);
   functions = omega (arith, o.functions, length-own-add canons_in t p);
+  within_types = all_front _ (own types_in t) (types_in p) (subst (AllByRecursion (EntryLimits config)) (own-add types_in t p) o.within_types);
   within_core_types = all_front _ (own core_types_in t) (core_types_in p) (subst (AllByRecursion (CoreLimits config)) (own-add core_types_in t p) o.within_core_types);
   names = all_front _ (own names_in t) (names_in p) (subst Short (own-add names_in t p) o.names);
 }
 
 pub own_limits-component : (config : Config) (t u : Tree) → OwnLimits config t → OwnLimits config (add t (component u))
 own_limits-component config t u o =
-    own_limits-add config t (component u) o (omega (arith, o.types)) (omega (arith, o.core_types)) (omega (arith, o.imports)) (omega (arith, o.functions)) tt tt
+    own_limits-add config t (component u) o (omega (arith, o.types)) (omega (arith, o.core_types)) (omega (arith, o.imports)) (omega (arith, o.functions)) tt tt tt
 
 pub own_limits_swap : (config : Config) → Swaps (OwnLimits config)
 own_limits_swap config u a b o = own_limits-component config u b (own_limits-front config u (component a) o)
@@ -99,6 +102,7 @@ sound_part : (config : Config) (m n : ℕ) (outer : List Tree) (inner : Tree) (p
 sound_part config m n outer inner p a s =
     let none : length (anywhere_in components_in p) ≡ 0 = ap length a.no_component in
     let some : length (anywhere_in modules_in p) ≡ length (modules_in p) = ap length (modules_in_own p a.no_component) in
+    let deep = depth-outer no_depth outer inner in
     record {
       consistent = s.consistent;
       modules_are = omega (arith, length-modules-so_far outer inner p, s.modules_are, some);
@@ -108,7 +112,8 @@ sound_part config m n outer inner p a s =
         each = all_so_far (OwnLimits config) (own_limits_swap config) outer inner p (a.own (own_limits_of config m n (record { outer = outer; inner = inner }) s)) (subst (AllByRecursion (OwnLimits config)) (sym a.no_component) tt) s.limits.each;
         modules = omega (arith, length-modules-so_far outer inner p, a.modules s.limits.modules, some);
         components = omega (arith, length-inside-so_far outer inner p, s.limits.components, none);
-        depth = omega (arith, depth-so_far outer inner p, depth-outer outer inner, s.limits.depth, a.flat);
+        depth = omega (arith, depth-so_far no_depth outer inner p, deep, s.limits.depth, a.flat);
+        scopes = omega (arith, depth-so_far most_nested outer inner p, s.limits.scopes, a.scopes (omega (arith, deep, s.limits.depth)));
       };
       sized =
           all_so_far (OwnSizes config) (own_sizes_swap config) outer inner p (own_sizes-add config inner p (own_sizes_of config m n (record { outer = outer; inner = inner }) s) a.sizes)
@@ -133,10 +138,11 @@ sound_open config m n outer inner deep few s =
     let whole : Limits config (tree_so_far outer (add inner (component ends))) = record {
       each =
           all_so_far (OwnLimits config) (own_limits_swap config) outer inner (component ends) (own_limits-component config inner ends (own_limits_of config m n (record { outer = outer; inner = inner }) s))
-          (record { types = omega arith; core_types = omega arith; imports = omega arith; functions = omega arith; within_core_types = tt; names = tt }, tt) s.limits.each;
+          (record { types = omega arith; core_types = omega arith; imports = omega arith; functions = omega arith; within_types = tt; within_core_types = tt; names = tt }, tt) s.limits.each;
       modules = omega (arith, length-modules-so_far outer inner (component ends), s.limits.modules);
       components = omega (arith, length-inside-so_far outer inner (component ends), s.components_are);
-      depth = omega (arith, depth-so_far outer inner (component ends), s.limits.depth);
+      depth = omega (arith, depth-so_far no_depth outer inner (component ends), s.limits.depth);
+      scopes = omega (arith, depth-so_far most_nested outer inner (component ends), s.limits.scopes);
     } in
     record {
       consistent = s.consistent;
@@ -153,33 +159,36 @@ sound_open config m n outer inner deep few s =
 pub addable_bare : (config : Config) (stack : Open) (p : Part) → FormedPart p (scopes_in stack.outer) stack.inner
     → types_in p ≡ [] → core_types_in p ≡ [] → imports_in p ≡ [] → canons_in p ≡ [] → Short (names_in p)
     → (length (modules (tree_so_far stack.outer stack.inner)) ≤ config.max_modules → length (modules (tree_so_far stack.outer stack.inner)) + length (modules_in p) ≤ config.max_modules)
-    → anywhere_in components_in p ≡ [] → depth_in p ≡ 1 → IsAddable config stack p
-addable_bare config stack p f ts cs is fs ns ms none flat = record {
+    → anywhere_in components_in p ≡ [] → depth_in p ≡ 1 → scope_depth_in p ≡ 1 → IsAddable config stack p
+addable_bare config stack p f ts cs is fs ns ms none flat low = record {
   formed = f;
   own = λ o.
       own_limits-add config stack.inner p o (omega (arith, o.types, ap length ts)) (omega (arith, o.core_types, ap length cs)) (omega (arith, o.imports, ap length is)) (omega (arith, o.functions, ap length fs))
-      (subst (AllByRecursion (CoreLimits config)) (sym cs) tt) ns;
+      (subst (AllByRecursion (EntryLimits config)) (sym ts) tt) (subst (AllByRecursion (CoreLimits config)) (sym cs) tt) ns;
   sizes = (subst (SmallTypes config) (sym ts) tt, subst (SmallCoreTypes config) (sym cs) tt);
   modules = ms;
   no_component = none;
   flat = flat;
+  scopes = λ h. omega (arith, h, low);
 }
 
 -- A part without anything in it.
 pub addable_empty : (config : Config) (stack : Open) (p : Part) → FormedPart p (scopes_in stack.outer) stack.inner
     → types_in p ≡ [] → core_types_in p ≡ [] → imports_in p ≡ [] → canons_in p ≡ [] → Short (names_in p) → modules_in p ≡ []
-    → anywhere_in components_in p ≡ [] → depth_in p ≡ 1 → IsAddable config stack p
-addable_empty config stack p f ts cs is fs ns ms none flat = addable_bare config stack p f ts cs is fs ns (λ h. omega (arith, h, ap length ms)) none flat
+    → anywhere_in components_in p ≡ [] → depth_in p ≡ 1 → scope_depth_in p ≡ 1 → IsAddable config stack p
+addable_empty config stack p f ts cs is fs ns ms none flat low = addable_bare config stack p f ts cs is fs ns (λ h. omega (arith, h, ap length ms)) none flat low
 
 -- Types that find room.
-pub addable_types : (config : Config) (stack : Open) (es : List Entry) → FormedPart (types es) (scopes_in stack.outer) stack.inner → length (own types_in stack.inner) + length es ≤ config.max_types → SmallTypes config es → IsAddable config stack (types es)
-addable_types config stack es f room small = record {
+pub addable_types : (config : Config) (stack : Open) (es : List Entry) → FormedPart (types es) (scopes_in stack.outer) stack.inner → length (own types_in stack.inner) + length es ≤ config.max_types
+    → AllByRecursion (EntryLimits config) es → length stack.outer + 1 + most_nested es ≤ max (length stack.outer + 2) config.max_nesting_depth → SmallTypes config es → IsAddable config stack (types es)
+addable_types config stack es f room limited nested small = record {
   formed = f;
-  own = λ o. own_limits-add config stack.inner (types es) o room (omega (arith, o.core_types)) (omega (arith, o.imports)) (omega (arith, o.functions)) tt tt;
+  own = λ o. own_limits-add config stack.inner (types es) o room (omega (arith, o.core_types)) (omega (arith, o.imports)) (omega (arith, o.functions)) limited tt tt;
   sizes = (small, tt);
   modules = λ h. omega (arith, h);
   no_component = refl;
   flat = refl;
+  scopes = λ h. omega (arith, h, nested);
 }
 
 -- Core types that find room.
@@ -187,11 +196,12 @@ pub addable_core_types : (config : Config) (stack : Open) (es : List CoreEntry) 
     → AllByRecursion (CoreLimits config) es → SmallCoreTypes config es → IsAddable config stack (core_types es)
 addable_core_types config stack es f room limited small = record {
   formed = f;
-  own = λ o. own_limits-add config stack.inner (core_types es) o (omega (arith, o.types)) room (omega (arith, o.imports)) (omega (arith, o.functions)) limited tt;
+  own = λ o. own_limits-add config stack.inner (core_types es) o (omega (arith, o.types)) room (omega (arith, o.imports)) (omega (arith, o.functions)) tt limited tt;
   sizes = (tt, small);
   modules = λ h. omega (arith, h);
   no_component = refl;
   flat = refl;
+  scopes = λ h. omega (arith, h);
 }
 
 -- The same, where the new stack and the new totals are known by equations.
@@ -257,6 +267,11 @@ scopes_from-snoc (v ∷ us) u outer = scopes_from-snoc us u (scope_of v ∷ oute
 pub length-scopes_from : (us : List Tree) (outer : List Scope) → length (scopes_from us outer) ≡ length us + length outer
 length-scopes_from [] outer = omega arith
 length-scopes_from (u ∷ us) outer = omega (arith, length-scopes_from us (scope_of u ∷ outer))
+
+-- As many scopes stand as components are open, at most 1000.
+pub scopes_few : (config : Config) (m n : ℕ) (stack : Open) (scopes : List Scope) → Sound config m n stack → scopes ≡ scope_of stack.inner ∷ scopes_in stack.outer → length scopes ≤ 1000
+scopes_few config m n stack scopes s e =
+    omega (arith, ap length e, length-scopes_from stack.outer [], depth-outer no_depth stack.outer stack.inner, s.limits.depth, s.consistent.nesting)
 
 -- A part that adds no type.
 pub record Quietly (config : Config) (stack : Open) (p : Part) : Type 0 where

@@ -1,7 +1,8 @@
 -- How trees grow at the inner component.
-use Rattle.std.proofs.Common.{◌≡◌, ◌+◌, ◌≤◌, max, List, [], ◌∷◌, ◌++◌, length, arith, ap, sym, ◌∙◌, refl, subst, length-append, append_assoc, append-nil}
+use Rattle.std.proofs.Common.{◌≡◌, ℕ, ◌+◌, ◌≤◌, max, List, [], ◌∷◌, ◌++◌, length, arith, ap, sym, ◌∙◌, refl, subst, length-append, append_assoc, append-nil}
 use Rattle.std.specs.List.{AllByRecursion}
-use Rattle.smith_component.specs.Tree.{Tree, ends, first, Part, custom, core_module, core_types, component, types, canons, imports, add, join, own, anywhere, anywhere_in, inside, components_in, depth, depth_in}
+use Rattle.smith_syntax.specs.Entries.{Entry}
+use Rattle.smith_component.specs.Tree.{Tree, ends, first, Part, custom, core_module, core_types, component, types, canons, imports, add, join, own, anywhere, anywhere_in, inside, components_in, depth_by, depth_by_in}
 use Rattle.smith_component.specs.Open.{tree_so_far}
 
 -- What is open is closed.
@@ -9,28 +10,30 @@ pub tree_so_far-close : (outer : List Tree) (u t : Tree) → tree_so_far (outer 
 tree_so_far-close [] u t = refl
 tree_so_far-close (v ∷ outer) u t = ap (λ x. add v (component x)) (tree_so_far-close outer u t)
 
-pub depth-add : (t : Tree) (p : Part) → depth (add t p) ≡ max (depth t) (depth_in p)
-depth-add ends p = omega (arith, depth_in_some p)
-  where
-    depth_in_some : (p : Part) → 1 ≤ depth_in p
-    depth_in_some (custom n c) = omega arith
-    depth_in_some (core_module m) = omega arith
-    depth_in_some (core_types ts) = omega arith
-    depth_in_some (component t) = omega arith
-    depth_in_some (types ts) = omega arith
-    depth_in_some (canons fs) = omega arith
-    depth_in_some (imports is) = omega arith
-depth-add (first q t) p = omega (arith, depth-add t p)
+-- Depths, wherever types reach.
+module _ (below : List Entry → ℕ) where
+  depth_in_some : (p : Part) → 1 ≤ depth_by_in below p
+  depth_in_some (custom n c) = omega arith
+  depth_in_some (core_module m) = omega arith
+  depth_in_some (core_types ts) = omega arith
+  depth_in_some (component t) = omega arith
+  depth_in_some (types ts) = omega arith
+  depth_in_some (canons fs) = omega arith
+  depth_in_some (imports is) = omega arith
 
-pub depth-so_far : (outer : List Tree) (t : Tree) (p : Part) → depth (tree_so_far outer (add t p)) ≡ max (depth (tree_so_far outer t)) (length outer + depth_in p)
-depth-so_far [] t p = omega (arith, depth-add t p)
-depth-so_far (u ∷ outer) t p = omega (arith, depth-so_far outer t p, depth-add u (component (tree_so_far outer t)), depth-add u (component (tree_so_far outer (add t p))))
+  pub depth-add : (t : Tree) (p : Part) → depth_by below (add t p) ≡ max (depth_by below t) (depth_by_in below p)
+  depth-add ends p = omega (arith, depth_in_some p)
+  depth-add (first q t) p = omega (arith, depth-add t p)
 
--- The inner component stands as deep as components are open.
-pub depth-outer : (outer : List Tree) (t : Tree) → length outer + 1 ≤ depth (tree_so_far outer t)
-depth-outer [] ends = omega arith
-depth-outer [] (first p t) = omega (arith, depth-outer [] t)
-depth-outer (u ∷ outer) t = omega (arith, depth-outer outer t, depth-add u (component (tree_so_far outer t)))
+  pub depth-so_far : (outer : List Tree) (t : Tree) (p : Part) → depth_by below (tree_so_far outer (add t p)) ≡ max (depth_by below (tree_so_far outer t)) (length outer + depth_by_in below p)
+  depth-so_far [] t p = omega (arith, depth-add t p)
+  depth-so_far (u ∷ outer) t p = omega (arith, depth-so_far outer t p, depth-add u (component (tree_so_far outer t)), depth-add u (component (tree_so_far outer (add t p))))
+
+  -- The inner component stands as deep as components are open.
+  pub depth-outer : (outer : List Tree) (t : Tree) → length outer + 1 ≤ depth_by below (tree_so_far outer t)
+  depth-outer [] ends = omega arith
+  depth-outer [] (first p t) = omega (arith, depth-outer [] t)
+  depth-outer (u ∷ outer) t = omega (arith, depth-outer outer t, depth-add u (component (tree_so_far outer t)))
 
 module _ {A : Type 0} (f : Part → List A) where
   pub own-add : (t : Tree) (p : Part) → own f (add t p) ≡ own f t ++ f p

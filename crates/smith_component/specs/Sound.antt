@@ -4,9 +4,9 @@ use Rattle.smith_core.specs.Limits.{IsConsistent, configured}
 use Rattle.smith_core.specs.declared.config.Config.{Config}
 use Rattle.smith_core.specs.declared.types.ValType.{ValType}
 use Rattle.smith_syntax.specs.Scope.{Scope}
-use Rattle.smith_component.specs.Limits.{OwnLimits, Limits, SmallTypes, SmallCoreTypes, Sized}
+use Rattle.smith_component.specs.Limits.{max_depth, OwnLimits, Limits, SmallTypes, SmallCoreTypes, Sized}
 use Rattle.smith_component.specs.Open.{Open, tree_so_far, scopes_in}
-use Rattle.smith_component.specs.Tree.{Part, add, inside, modules, types_in, core_types_in, modules_in, anywhere_in, components_in, depth_in}
+use Rattle.smith_component.specs.Tree.{Part, add, inside, modules, types_in, core_types_in, modules_in, anywhere_in, components_in, depth_in, scope_depth_in}
 use Rattle.smith_component.specs.WellFormed.{WellFormed, FormedPart, scope_of}
 
 -- The config was accepted, the running totals are those of the tree so far, and that is well formed and within the limits.
@@ -35,3 +35,4 @@ pub record IsAddable (config : Config) (stack : Open) (p : Part) : Type 0 where
       → length (modules (tree_so_far stack.outer stack.inner)) + length (modules_in p) ≤ config.max_modules
   pub no_component : anywhere_in components_in p ≡ []
   pub flat : depth_in p ≡ 1
+  pub scopes : length stack.outer + 1 ≤ max_depth config → length stack.outer + scope_depth_in p ≤ max_depth config + 1

@@ -2,6 +2,7 @@
 use Rattle.std.specs.Prelude.{ℕ, ◌+◌, List, [], ◌∷◌, ◌++◌, max}
 use Rattle.std.specs.List.{flat_map}
 use Rattle.smith_syntax.specs.Entries.{Entry, CoreEntry, ImportEntry}
+use Rattle.smith_syntax.specs.TypeLimits.{nesting}
 
 -- a canonical function
 pub data Canon : Type 0 where
@@ -117,17 +118,38 @@ inside t = anywhere components_in t
 abbrev pub modules : Tree → List (List ℕ)
 modules t = anywhere modules_in t
 
--- how deep components stand, the root at 1
+-- how deep components stand, the root at 1, where types reach so much below the component in which they stand
 abbrev mutual
-  pub depth : Tree → ℕ
-  depth ends = 1
-  depth (first p t) = max (depth_in p) (depth t)
+  pub depth_by : (List Entry → ℕ) → Tree → ℕ
+  depth_by below ends = 1
+  depth_by below (first p t) = max (depth_by_in below p) (depth_by below t)
 
-  pub depth_in : Part → ℕ
-  depth_in (custom name contents) = 1
-  depth_in (core_module text) = 1
-  depth_in (core_types ts) = 1
-  depth_in (component t) = depth t + 1
-  depth_in (types ts) = 1
-  depth_in (canons fs) = 1
-  depth_in (imports is) = 1
+  pub depth_by_in : (List Entry → ℕ) → Part → ℕ
+  depth_by_in below (custom name contents) = 1
+  depth_by_in below (core_module text) = 1
+  depth_by_in below (core_types ts) = 1
+  depth_by_in below (component t) = depth_by below t + 1
+  depth_by_in below (types ts) = below ts + 1
+  depth_by_in below (canons fs) = 1
+  depth_by_in below (imports is) = 1
+
+-- components alone
+abbrev pub no_depth : List Entry → ℕ
+no_depth ts = 0
+
+abbrev pub depth : Tree → ℕ
+depth t = depth_by no_depth t
+
+abbrev pub depth_in : Part → ℕ
+depth_in p = depth_by_in no_depth p
+
+-- how deep scopes stand: those of components, and those that component types and instance types open
+abbrev pub most_nested : List Entry → ℕ
+most_nested [] = 0
+most_nested (t ∷ ts) = max (nesting t) (most_nested ts)
+
+abbrev pub scope_depth : Tree → ℕ
+scope_depth t = depth_by most_nested t
+
+abbrev pub scope_depth_in : Part → ℕ
+scope_depth_in p = depth_by_in most_nested p

@@ -7,7 +7,7 @@ use Rattle.smith_input.specs.Texts.{ReadsText, ReadsBytes}
 use Rattle.smith_core.specs.Module.{core_preamble}
 use Rattle.smith_core.specs.declared.config.Config.{Config}
 use Rattle.smith_syntax.specs.Entries.{Entry, CoreEntry}
-use Rattle.smith_types.specs.Made.{Made}
+use Rattle.smith_types.specs.Made.{MadeWith}
 use Rattle.smith_types.specs.MadeCore.{MadeCore}
 use Rattle.smith_syntax.specs.Scope.{Scope, with_type, with_core_type}
 use Rattle.smith_component.specs.Tree.{Tree, Part, ends, custom, core_module, core_types, component, types, canons, imports, add, own, types_of, core_types_of, imports_in, canons_in}
@@ -57,7 +57,7 @@ ReadsCustom b name contents rest = (mid : List ℕ) × ReadsText 1000 b name mid
 
 -- A type of a type section, with fresh fuel. It stands in the scopes that the types before it leave.
 abbrev pub ReadsType : Config → List Scope → Scope → List ℕ → Entry → List ℕ → Scope → Type 0
-ReadsType config outer own b x rest next = (left : ℕ) × Made own outer b config.max_type_size x rest left × (next ≡ with_type own x)
+ReadsType config outer own b x rest next = MadeWith config own outer config.max_type_size b x rest × (next ≡ with_type own x)
 
 -- at most so many types, which lead from one scope to another
 abbrev pub ReadsTypes : Config → List Scope → ℕ → Scope → List ℕ → List Entry → List ℕ → Scope → Type 0

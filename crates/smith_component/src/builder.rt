@@ -14,6 +14,7 @@ ghost use Rattle.smith_component.specs.Turn.{Next, Turn, Falls};
 ghost use Rattle.smith_component.specs.Open.{root};
 
 mod choose;
+mod entries;
 mod nest;
 mod open;
 mod parts;

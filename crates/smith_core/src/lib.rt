@@ -21,7 +21,8 @@ pub use lists::{many_len, put_many, put_tagged, tagged_len};
 pub use make::{arbitrary_func_type, arbitrary_memtype, arbitrary_table_type, arbitrary_tag_type};
 pub use module::Module;
 pub use numbers::{
-    s64_len, type_index_len, u32_len, u64_len, write_s64, write_type_index, write_u32, write_u64,
+    count_len, s64_len, type_index_len, u32_len, u64_len, write_count, write_s64, write_type_index,
+    write_u32, write_u64,
 };
 pub use pieces::{raw_len, text_len, write_head, write_raw, write_section, write_text};
 pub use types::{

@@ -1,4 +1,4 @@
--- No bytes begin with two types, and none with two core types.
+-- No bytes begin with two types of values or of functions, and none with two core types.
 use Rattle.std.proofs.Common.{◌≡◌, ℕ, ◌<◌, ◌≤◌, inl, inr, List, [], ◌∷◌, refl, ap, arith, Some, None, Option, lit≤, lit<}
 use Rattle.smith_core.specs.Clear.{Agree, IsClear}
 use Rattle.smith_core.specs.CoreTypes.{core_val, core_function}
@@ -9,8 +9,8 @@ use Rattle.smith_core.proofs.Clear.{tail, head, then_head, then_tail, then_agree
 use Rattle.smith_core.proofs.CoreTypes.{clear_core_function}
 use Rattle.smith_core.proofs.Entities.{clear_entity}
 use Rattle.smith_syntax.specs.Entries.{DefValType, primitive_type, record_type, variant_type, list_type, tuple_type, flags_type, enum_type, option_type, result_type}
-use Rattle.smith_syntax.specs.Entries.{Field, Signature, Entry, defined, function, CoreEntry, core_func, core_module, ModuleDecl, imports, declares, aliases, exports, ImportEntry}
-use Rattle.smith_syntax.specs.Grammar.{primvaltype, valtype, maybe_valtype, labelvaltype, case, resultlist, defvaltype, functype, entry, moduledecl, core_entry, import_entry}
+use Rattle.smith_syntax.specs.Entries.{Field, Signature, CoreEntry, core_func, core_module, ModuleDecl, imports, declares, aliases, exports, ImportEntry}
+use Rattle.smith_syntax.specs.Grammar.{primvaltype, valtype, maybe_valtype, labelvaltype, case, resultlist, defvaltype, functype, moduledecl, core_entry, import_entry}
 use Rattle.smith_syntax.specs.declared.types.ComponentValType.{ComponentValType}
 use Rattle.smith_syntax.specs.declared.types.ComponentValType.TheVariants.{Primitive, Indexed}
 use Rattle.smith_syntax.specs.declared.types.PrimitiveValType.{PrimitiveValType}
@@ -116,7 +116,7 @@ clear_outcome : IsClear (λ (x : Option ComponentValType × Option ComponentValT
 clear_outcome = clear_both maybe_valtype clear_maybe maybe_valtype clear_maybe
 
 -- the first byte of a type of values
-abbrev tag : DefValType → ℕ
+abbrev pub tag : DefValType → ℕ
 tag (primitive_type a) = primvaltype a
 tag (record_type fs) = 0x72
 tag (variant_type cs) = 0x71
@@ -127,7 +127,7 @@ tag (enum_type ns) = 0x6d
 tag (option_type v) = 0x6b
 tag (result_type ok err) = 0x6a
 
-tag_range : (x : DefValType) → 0x6a ≤ tag x
+pub tag_range : (x : DefValType) → 0x6a ≤ tag x
 tag_range (primitive_type a) = let r = (primitive_range a).0 in omega arith
 tag_range (record_type fs) = lit≤ tt
 tag_range (variant_type cs) = lit≤ tt
@@ -138,7 +138,7 @@ tag_range (enum_type ns) = lit≤ tt
 tag_range (option_type v) = lit≤ tt
 tag_range (result_type ok err) = lit≤ tt
 
-tagged : (x : DefValType) (p : Piece) (b : List ℕ) → defvaltype x ⊕ p ≡ Some b → (t : List ℕ) × (b ≡ tag x ∷ t)
+pub tagged : (x : DefValType) (p : Piece) (b : List ℕ) → defvaltype x ⊕ p ≡ Some b → (t : List ℕ) × (b ≡ tag x ∷ t)
 tagged (primitive_type a) p b e = head (primvaltype a) [] p b e
 tagged (record_type fs) p b e = then_head 0x72 [] (many labelvaltype fs) p b e
 tagged (variant_type cs) p b e = then_head 0x71 [] (many case cs) p b e
@@ -180,23 +180,17 @@ defined_law (primitive_type a) y p q b e h = let c = same_tag (primitive_type a)
 defined_law x (primitive_type a) p q b e h = let c = same_tag x (primitive_type a) p q b e h in let r = primitive_range a in absurd (omega (arith, r.0))
 defined_law x y p q b e h = let c = same_tag x y p q b e h in absurd (omega arith)
 
-function_tagged : (s : Signature) (p : Piece) (b : List ℕ) → functype s ⊕ p ≡ Some b → (t : List ℕ) × (b ≡ 0x40 ∷ t)
-function_tagged s p b e = then_head 0x40 [] (many labelvaltype s.params ⊕ resultlist s.result) p b e
+pub clear_defined : IsClear defvaltype
+clear_defined = record { law = defined_law }
 
-differ : (x : DefValType) (s : Signature) (p q : Piece) (b : List ℕ) → defvaltype x ⊕ p ≡ Some b → functype s ⊕ q ≡ Some b → ⊥
-differ x s p q b e h = let c = clash (tag x) 0x40 b (tagged x p b e) (function_tagged s q b h) in let r = tag_range x in omega arith
-
-entry_law : (x y : Entry) (p q : Piece) (b : List ℕ) → entry x ⊕ p ≡ Some b → entry y ⊕ q ≡ Some b → Agree x y p q
-entry_law (defined x) (defined y) p q b e h = let r = defined_law x y p q b e h in record { same = ap defined r.same; rests = r.rests }
-entry_law (defined x) (function s) p q b e h = absurd (differ x s p q b e h)
-entry_law (function s) (defined y) p q b e h = absurd (differ y s q p b h e)
-entry_law (function s) (function t) p q b e h =
+function_law : (x y : Signature) (p q : Piece) (b : List ℕ) → functype x ⊕ p ≡ Some b → functype y ⊕ q ≡ Some b → Agree x y p q
+function_law s t p q b e h =
     let d = then_tail (0x40 ∷ []) (many labelvaltype s.params ⊕ resultlist s.result) (many labelvaltype t.params ⊕ resultlist t.result) p q b e h in
     let z = clear_function.law (s.params, s.result) (t.params, t.result) p q d.rest d.first d.second in
-    record { same = ap (λ x. function (record { params = x.0; result = x.1 })) z.same; rests = z.rests }
+    record { same = ap (λ x. record { params = x.0; result = x.1 }) z.same; rests = z.rests }
 
-pub clear_entry : IsClear entry
-clear_entry = record { law = entry_law }
+pub clear_functype : IsClear functype
+clear_functype = record { law = function_law }
 
 import_law : (x y : ImportEntry) (p q : Piece) (b : List ℕ) → import_entry x ⊕ p ≡ Some b → import_entry y ⊕ q ≡ Some b → Agree x y p q
 import_law x y p q b e h = elim x [ ]
@@ -212,7 +206,7 @@ clear_named = clear_both text clear_text entity clear_entity
 clear_imported : IsClear (λ (x : List ℕ × (List ℕ × EntityType)). text x.0 ⊕ (text x.1.0 ⊕ entity x.1.1))
 clear_imported = clear_both text clear_text (λ x. text x.0 ⊕ entity x.1) clear_named
 
-clear_alias : IsClear (λ (x : ℕ × ℕ). u x.0 ⊕ u x.1)
+pub clear_alias : IsClear (λ (x : ℕ × ℕ). u x.0 ⊕ u x.1)
 clear_alias = clear_both u clear_u u clear_u
 
 -- the first byte of a declaration

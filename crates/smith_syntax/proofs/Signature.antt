@@ -11,15 +11,13 @@ use Rattle.std.specs.declared.string.String.{String}
 use Rattle.smith_core.specs.Piece.{◌⊕◌, byte, many}
 use Rattle.smith_core.proofs.Piece.{assoc}
 use Rattle.smith_core.proofs.Many.{many-map}
-use Rattle.smith_syntax.specs.Entries.{Signature, function}
+use Rattle.smith_syntax.specs.Entries.{Signature, EntryOf, defined, function, component_type, instance_type, plain}
 use Rattle.smith_syntax.specs.Grammar.{labelvaltype, resultlist, functype}
-use Rattle.smith_syntax.specs.Shown.{has_signature}
-use Rattle.smith_syntax.specs.Shown.{shown_type}
+use Rattle.smith_syntax.specs.Shown.{full_type, shown_type, is_of_signature, has_signature}
 use Rattle.smith_syntax.specs.Signature.{named, signature, same_field, field_input, signature_input, same_signature_Decides}
 use Rattle.smith_syntax.specs.contracts.types.ComponentValTypeHash.TheImpl.{ghosts as val_hash}
 use Rattle.smith_syntax.specs.declared.types.ComponentValType.{ComponentValType}
 use Rattle.smith_syntax.specs.declared.deftype.DefType.{DefType}
-use Rattle.smith_syntax.specs.declared.deftype.DefType.TheVariants as def
 
 abbrev Stored : Type 0
 Stored = String Global × ComponentValType
@@ -39,13 +37,24 @@ input-named xs r = λ i. (usize (sym (length-map {A = Stored} xs named) i) ++ sy
 
 -- A type has a signature exactly where it is shown as the function of it.
 
+module _ {N K : Type 0} where
+  told : (s : Signature) (e : EntryOf N K) → is_of_signature s e ≡ true → plain e ≡ function s
+  told s (defined t) e = absurd (false≢true e)
+  told s (function f) e = ap function (sym ((same_signature_Decides s f).0 e))
+  told s (component_type ds) e = absurd (false≢true e)
+  told s (instance_type ds) e = absurd (false≢true e)
+
+  tells : (s : Signature) (e : EntryOf N K) → plain e ≡ function s → is_of_signature s e ≡ true
+  tells s (defined t) e = cc
+  tells s (function f) e = (same_signature_Decides s f).1 (let z : s ≡ f = cc in z)
+  tells s (component_type ds) e = cc
+  tells s (instance_type ds) e = cc
+
 pub signature_shown : (s : Signature) (ty : DefType) → has_signature s ty ≡ true → shown_type ty ≡ function s
-signature_shown s (def.Defined d) e = absurd (false≢true e)
-signature_shown s (def.Func f) e = ap function (sym ((same_signature_Decides s f.value).0 e))
+signature_shown s ty e = told s (full_type ty) e
 
 pub shown_signature : (s : Signature) (ty : DefType) → shown_type ty ≡ function s → has_signature s ty ≡ true
-shown_signature s (def.Defined d) e = absurd (cc)
-shown_signature s (def.Func f) e = (same_signature_Decides s f.value).1 (let z : s ≡ f.value = cc in z)
+shown_signature s ty e = tells s (full_type ty) e
 
 -- how a function type is spelled, by its fields
 pub functype_is : (f : Signature) (ps : List Stored) (r : Option ComponentValType) → signature ps r ≡ f → functype f ≡ (byte 0x40 ⊕ many (λ p. labelvaltype (named p)) ps) ⊕ resultlist r

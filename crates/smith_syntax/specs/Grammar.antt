@@ -1,11 +1,14 @@
 -- How types are spelled (Binary.md, type definitions), one line for each row.
-use Rattle.std.specs.Prelude.{ℕ, [], ◌∷◌, Option, Some, None}
+use Rattle.std.specs.Prelude.{ℕ, Bool, true, false, List, [], ◌∷◌, Option, Some, None}
 use Rattle.smith_core.specs.CoreTypes.{core_function}
 use Rattle.smith_core.specs.Entities.{entity}
 use Rattle.smith_core.specs.Piece.{Piece, ◌⊕◌, byte, bytes, text, many, s_index, u}
 use Rattle.smith_syntax.specs.Entries.{Field, Case, Signature, ModuleDecl, imports, declares, aliases, exports}
 use Rattle.smith_syntax.specs.Entries.{DefValType, primitive_type, record_type, variant_type, list_type, tuple_type, flags_type, enum_type, option_type, result_type}
-use Rattle.smith_syntax.specs.Entries.{Entry, defined, function, CoreEntry, core_func, core_module, ImportEntry}
+use Rattle.smith_syntax.specs.Entries.{Entry, defined, function, component_type, instance_type, CoreEntry, core_func, core_module, ImportEntry}
+use Rattle.smith_syntax.specs.Entries.{Decl, Decls, core_type_decl, type_decl, type_alias, core_type_alias, import_decl, export_decl, no_decls, then_decls, decl_count}
+use Rattle.smith_syntax.specs.declared.deftype.ComponentTypeRef.{ComponentTypeRef}
+use Rattle.smith_syntax.specs.declared.deftype.ComponentTypeRef.TheVariants as to
 use Rattle.smith_syntax.specs.declared.types.ComponentValType.{ComponentValType}
 use Rattle.smith_syntax.specs.declared.types.ComponentValType.TheVariants.{Primitive, Indexed}
 use Rattle.smith_syntax.specs.declared.types.PrimitiveValType.{PrimitiveValType}
@@ -60,10 +63,6 @@ defvaltype (result_type ok err) = byte 0x6a ⊕ maybe_valtype ok ⊕ maybe_valty
 abbrev pub functype : Signature → Piece
 functype s = byte 0x40 ⊕ many labelvaltype s.params ⊕ resultlist s.result
 
-abbrev pub entry : Entry → Piece
-entry (defined t) = defvaltype t
-entry (function s) = functype s
-
 -- what a module type declares
 abbrev pub moduledecl : ModuleDecl → Piece
 moduledecl (imports m n e) = byte 0x00 ⊕ text m ⊕ text n ⊕ entity e
@@ -75,6 +74,43 @@ moduledecl (exports n e) = byte 0x03 ⊕ text n ⊕ entity e
 abbrev pub core_entry : CoreEntry → Piece
 core_entry (core_func f) = core_function f
 core_entry (core_module ds) = byte 0x50 ⊕ many moduledecl ds
+
+-- what an import or an export is of
+abbrev pub externdesc : ComponentTypeRef → Piece
+externdesc (to.Module i) = bytes (0x00 ∷ 0x11 ∷ []) ⊕ u i
+externdesc (to.Func i) = byte 0x01 ⊕ u i
+externdesc (to.TypeEq i) = bytes (0x03 ∷ 0x00 ∷ []) ⊕ u i
+externdesc (to.Component i) = byte 0x04 ⊕ u i
+externdesc (to.Instance i) = byte 0x05 ⊕ u i
+
+-- an import or an export: its name and what it is of
+abbrev pub named_extern : List ℕ → ComponentTypeRef → Piece
+named_extern name r = byte 0x00 ⊕ text name ⊕ externdesc r
+
+-- an import among the declarations of a component type (true); an instance type (false) has none
+abbrev pub importdecl : Bool → List ℕ → ComponentTypeRef → Piece
+importdecl true name r = byte 0x03 ⊕ named_extern name r
+importdecl false name r = None
+
+-- Types, and the declarations of component types (true) and of instance types (false).
+abbrev mutual
+  pub entry : Entry → Piece
+  entry (defined t) = defvaltype t
+  entry (function s) = functype s
+  entry (component_type ds) = byte 0x41 ⊕ u (decl_count ds) ⊕ decls true ds
+  entry (instance_type ds) = byte 0x42 ⊕ u (decl_count ds) ⊕ decls false ds
+
+  pub decl : Bool → Decl → Piece
+  decl importing (core_type_decl t k) = byte 0x00 ⊕ core_entry t
+  decl importing (type_decl e) = byte 0x01 ⊕ entry e
+  decl importing (type_alias count i k) = bytes (0x02 ∷ 0x03 ∷ 0x02 ∷ []) ⊕ u count ⊕ u i
+  decl importing (core_type_alias count i k) = bytes (0x02 ∷ 0x00 ∷ 0x10 ∷ 0x02 ∷ []) ⊕ u count ⊕ u i
+  decl importing (import_decl name n r) = importdecl importing name r
+  decl importing (export_decl name n r) = byte 0x04 ⊕ named_extern name r
+
+  pub decls : Bool → Decls → Piece
+  decls importing no_decls = Some []
+  decls importing (then_decls d ds) = decl importing d ⊕ decls importing ds
 
 abbrev pub import_entry : ImportEntry → Piece
 import_entry i = elim i [ ]

@@ -1,9 +1,12 @@
 pub mod Entries
+pub mod EntryCode
 pub mod Scope
 pub mod Grammar
 pub mod TooLong
 pub mod ModuleTypes
 pub mod WellFormed
 pub mod CoreLimits
+pub mod TypeLimits
 pub mod Signature
 pub mod Shown
+pub mod SameDecl

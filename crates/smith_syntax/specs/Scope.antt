@@ -1,6 +1,10 @@
 -- Scopes: what types stand where (Explainer.md, index spaces).
-use Rattle.std.specs.Prelude.{ℕ, ◌+◌, Bool, true, false, List, [], ◌∷◌, ◌++◌, if◌then◌else◌}
-use Rattle.smith_syntax.specs.Entries.{Entry, CoreEntry, core_func, core_module, defined, function}
+use Rattle.std.specs.Prelude.{ℕ, ◌+◌, Bool, true, false, List, [], ◌∷◌, ◌++◌, Option, Some, None, slice_get, if◌then◌else◌}
+use Rattle.std.specs.Option.{option_to_list}
+use Rattle.smith_syntax.specs.Entries.{Entry, defined, function, component_type, instance_type, CoreEntry, core_func, core_module}
+use Rattle.smith_syntax.specs.Entries.{DeclOf, core_type_decl, type_decl, type_alias, core_type_alias, import_decl, export_decl, plain}
+use Rattle.smith_syntax.specs.declared.deftype.ComponentTypeRef.{ComponentTypeRef}
+use Rattle.smith_syntax.specs.declared.deftype.ComponentTypeRef.TheVariants as to
 
 -- what stands before a place in one scope: the types and the core types
 pub record ScopeOf (T C : Type 0) : Type 0 where
@@ -44,11 +48,29 @@ outer_of (own ∷ outer) = outer
 abbrev pub is_defined : Entry → Bool
 is_defined (defined t) = true
 is_defined (function s) = false
+is_defined (component_type ds) = false
+is_defined (instance_type ds) = false
 
 -- Is it a type of functions?
 abbrev pub is_func : Entry → Bool
 is_func (defined t) = false
 is_func (function s) = true
+is_func (component_type ds) = false
+is_func (instance_type ds) = false
+
+-- Is it a type of components?
+abbrev pub is_component : Entry → Bool
+is_component (defined t) = false
+is_component (function s) = false
+is_component (component_type ds) = true
+is_component (instance_type ds) = false
+
+-- Is it a type of instances?
+abbrev pub is_instance : Entry → Bool
+is_instance (defined t) = false
+is_instance (function s) = false
+is_instance (component_type ds) = false
+is_instance (instance_type ds) = true
 
 -- Is it a core function type?
 abbrev pub is_core_func : CoreEntry → Bool
@@ -68,3 +90,32 @@ places test i (x ∷ xs) = if test x then i ∷ places test (i + 1) xs else plac
 -- the indexes of the defined types, ascending
 abbrev pub defined_places : Scope → List ℕ
 defined_places s = places is_defined 0 s.types
+
+-- what stands in the scope of that count, where the scopes are given innermost first and 0 is the first
+abbrev pub in_scope : {A : Type 0} → (Scope → List A) → List Scope → ℕ → ℕ → Option A
+in_scope of scopes count i = elim (slice_get scopes count) [ None ↦ None | Some s ↦ slice_get (of s) i ]
+
+-- The type or core type that an outer alias names (Explainer.md, outer aliases).
+abbrev pub type_named : List Scope → ℕ → ℕ → Option Entry
+type_named scopes count i = in_scope (λ s. s.types) scopes count i
+
+abbrev pub core_type_named : List Scope → ℕ → ℕ → Option CoreEntry
+core_type_named scopes count i = in_scope (λ s. s.core_types) scopes count i
+
+-- The type that an export adds to the scope: only what is equal to a type adds one.
+abbrev pub exported_type : Scope → ComponentTypeRef → Option Entry
+exported_type own (to.Module i) = None
+exported_type own (to.Func i) = None
+exported_type own (to.TypeEq i) = slice_get own.types i
+exported_type own (to.Component i) = None
+exported_type own (to.Instance i) = None
+
+-- The scope after a declaration in it (Explainer.md, index spaces). A declared type or core type adds itself, an alias what it names,
+-- and an export of a type that type. Nothing else adds anything.
+abbrev pub after_decl : {N K : Type 0} → List Scope → Scope → DeclOf N K → Scope
+after_decl outer own (core_type_decl t k) = with_core_type own t
+after_decl outer own (type_decl e) = with_type own (plain e)
+after_decl outer own (type_alias count i k) = with_types own (option_to_list (type_named (own ∷ outer) count i))
+after_decl outer own (core_type_alias count i k) = with_core_types own (option_to_list (core_type_named (own ∷ outer) count i))
+after_decl outer own (import_decl name n r) = own
+after_decl outer own (export_decl name n r) = with_types own (option_to_list (exported_type own r))

@@ -1,10 +1,13 @@
 -- The types of the program as plain trees.
-use Rattle.std.specs.Prelude.{Bool, false, map, string_bytes}
+use Rattle.std.specs.Prelude.{ℕ, Bool, false, List, [], ◌∷◌, Option, Some, None, map, String, string_bytes}
+use Rattle.std.specs.List.{flat_map}
 use Rattle.std.specs.declared.alloc.Global.{Global}
 use Rattle.std.specs.declared.rc.Rc.{Rc}
-use Rattle.smith_core.specs.CoreTypes.{shown_func}
+use Rattle.smith_core.specs.CoreTypes.{Function, shown_func}
 use Rattle.smith_syntax.specs.Entries.{DefValType, primitive_type, record_type, variant_type, list_type, tuple_type, flags_type, enum_type, option_type, result_type}
-use Rattle.smith_syntax.specs.Entries.{Signature, Entry, defined, function, CoreEntry, core_func, core_module, ModuleDecl, declares, imports, aliases, exports}
+use Rattle.smith_syntax.specs.Entries.{EntryOf, FullEntry, FullDecl, FullDecls, component_type, instance_type, core_type_decl, type_decl, type_alias, core_type_alias, import_decl, export_decl}
+use Rattle.smith_syntax.specs.Entries.{keeps_type, keeps_core_type, keeps_functions, in_order, plain, plain_decl}
+use Rattle.smith_syntax.specs.Entries.{Signature, Entry, Decl, defined, function, CoreEntry, core_func, core_module, ModuleDecl, declares, imports, aliases, exports}
 use Rattle.smith_syntax.specs.Signature.{named, same_signature}
 use Rattle.smith_syntax.specs.declared.core_types.CoreType.{CoreType}
 use Rattle.smith_syntax.specs.declared.core_types.CoreType.TheVariants as core
@@ -13,7 +16,12 @@ use Rattle.smith_syntax.specs.declared.core_types.ModuleTypeDef.TheVariants as d
 use Rattle.smith_syntax.specs.declared.types.DefinedType.{DefinedType}
 use Rattle.smith_syntax.specs.declared.types.DefinedType.TheVariants as value
 use Rattle.smith_syntax.specs.declared.deftype.DefType.{DefType}
-use Rattle.smith_syntax.specs.declared.deftype.DefType.TheVariants as def
+use Rattle.smith_syntax.specs.declared.deftype.ComponentTypeDef.{ComponentTypeDef}
+use Rattle.smith_syntax.specs.declared.deftype.InstanceTypeDecl.{InstanceTypeDecl}
+use Rattle.smith_syntax.specs.declared.deftype.Alias.{Alias}
+use Rattle.smith_syntax.specs.declared.deftype.ComponentTypeDef.TheOpen as layer
+use Rattle.smith_syntax.specs.declared.deftype.ComponentTypeDef.TheOpen.{ComponentTypeDef-F, DefType-F, InstanceTypeDecl-F, OuterAliasKind-F, Alias-F, ComponentType-F, InstanceType-F}
+use Rattle.smith_syntax.specs.declared.deftype.ComponentTypeDef.TheFolds.{fold-DefType, fold-ComponentTypeDef, fold-InstanceTypeDecl, fold-Alias}
 
 abbrev pub shown_defined : DefinedType → DefValType
 shown_defined (value.Primitive p) = primitive_type p
@@ -25,14 +33,6 @@ shown_defined (value.Flags t) = flags_type (map string_bytes t.fields.items)
 shown_defined (value.Enum t) = enum_type (map string_bytes t.variants.items)
 shown_defined (value.Option t) = option_type t.inner_ty
 shown_defined (value.Result t) = result_type t.ok_ty t.err_ty
-
-abbrev pub shown_type : DefType → Entry
-shown_type (def.Defined t) = defined (shown_defined t)
-shown_type (def.Func f) = function f.value
-
--- what a shared type shows
-abbrev pub shown_shared : Rc DefType Global → Entry
-shown_shared t = shown_type t.value
 
 abbrev pub shown_decl : ModuleTypeDef → ModuleDecl
 shown_decl (decl.FuncDef f) = declares (shown_func f.value)
@@ -48,7 +48,95 @@ shown_core (core.Module m) = core_module (map shown_decl m.value.defs.items)
 abbrev pub shown_shared_core : Rc CoreType Global → CoreEntry
 shown_shared_core t = shown_core t.value
 
+-- the function types that the outer aliases of a core type keep, in order
+abbrev pub kept_decl : ModuleTypeDef → List Function
+kept_decl (decl.FuncDef f) = []
+kept_decl (decl.Import i) = []
+kept_decl (decl.OuterAlias count i ty) = shown_func ty.value ∷ []
+kept_decl (decl.Export name entity) = []
+
+abbrev pub kept_core : CoreType → List Function
+kept_core (core.Func f) = []
+kept_core (core.Module m) = flat_map kept_decl m.value.defs.items
+
+abbrev pub shown_url : Option (String Global) → Option (List ℕ)
+shown_url None = None
+shown_url (Some url) = Some (string_bytes url)
+
+-- Types with URLs and with what their aliases keep, layer by layer.
+
+abbrev pub core_step : Rc CoreType Global → FullDecl
+core_step t = core_type_decl (shown_core t.value) (keeps_functions (kept_core t.value))
+
+abbrev pub component_decl_step : ComponentTypeDef-F FullDecl FullEntry FullDecl (ℕ → ℕ → FullDecl) FullDecl FullDecls FullDecls → FullDecl
+component_decl_step (layer.ComponentTypeDef::CoreTypeDecl t) = core_step t
+component_decl_step (layer.ComponentTypeDef::TypeDecl t) = type_decl t.value
+component_decl_step (layer.ComponentTypeDef::Alias a) = a
+component_decl_step (layer.ComponentTypeDef::Export name url r) = export_decl (string_bytes name) (shown_url url) r
+component_decl_step (layer.Import i) = import_decl (string_bytes i.name) (shown_url i.url) i.ty
+
+abbrev pub type_step : DefType-F FullDecl FullEntry FullDecl (ℕ → ℕ → FullDecl) FullDecl FullDecls FullDecls → FullEntry
+type_step (layer.Defined t) = defined (shown_defined t)
+type_step (layer.Func f) = function f.value
+type_step (layer.Component t) = component_type t.value
+type_step (layer.Instance t) = instance_type t.value
+
+abbrev pub instance_decl_step : InstanceTypeDecl-F FullDecl FullEntry FullDecl (ℕ → ℕ → FullDecl) FullDecl FullDecls FullDecls → FullDecl
+instance_decl_step (layer.InstanceTypeDecl::CoreTypeDecl t) = core_step t
+instance_decl_step (layer.InstanceTypeDecl::TypeDecl t) = type_decl t.value
+instance_decl_step (layer.InstanceTypeDecl::Alias a) = a
+instance_decl_step (layer.InstanceTypeDecl::Export name url r) = export_decl (string_bytes name) (shown_url url) r
+
+abbrev pub kind_step : OuterAliasKind-F FullDecl FullEntry FullDecl (ℕ → ℕ → FullDecl) FullDecl FullDecls FullDecls → (ℕ → ℕ → FullDecl)
+kind_step (layer.OfType t) = λ count i. type_alias count i (keeps_type (plain t.value))
+kind_step (layer.OfCoreType t) = λ count i. core_type_alias count i (keeps_core_type (shown_core t.value))
+
+abbrev pub alias_step : Alias-F FullDecl FullEntry FullDecl (ℕ → ℕ → FullDecl) FullDecl FullDecls FullDecls → FullDecl
+alias_step a = a.kind a.count a.i
+
+abbrev pub component_step : ComponentType-F FullDecl FullEntry FullDecl (ℕ → ℕ → FullDecl) FullDecl FullDecls FullDecls → FullDecls
+component_step t = in_order t.defs.items
+
+abbrev pub instance_step : InstanceType-F FullDecl FullEntry FullDecl (ℕ → ℕ → FullDecl) FullDecl FullDecls FullDecls → FullDecls
+instance_step t = in_order t.defs.items
+
+abbrev pub full_type : DefType → FullEntry
+full_type = fold-DefType FullDecl FullEntry FullDecl (ℕ → ℕ → FullDecl) FullDecl FullDecls FullDecls component_decl_step type_step instance_decl_step kind_step alias_step component_step instance_step
+
+abbrev pub full_component_decl : ComponentTypeDef → FullDecl
+full_component_decl = fold-ComponentTypeDef FullDecl FullEntry FullDecl (ℕ → ℕ → FullDecl) FullDecl FullDecls FullDecls component_decl_step type_step instance_decl_step kind_step alias_step component_step instance_step
+
+abbrev pub full_instance_decl : InstanceTypeDecl → FullDecl
+full_instance_decl = fold-InstanceTypeDecl FullDecl FullEntry FullDecl (ℕ → ℕ → FullDecl) FullDecl FullDecls FullDecls component_decl_step type_step instance_decl_step kind_step alias_step component_step instance_step
+
+abbrev pub full_alias : Alias → FullDecl
+full_alias = fold-Alias FullDecl FullEntry FullDecl (ℕ → ℕ → FullDecl) FullDecl FullDecls FullDecls component_decl_step type_step instance_decl_step kind_step alias_step component_step instance_step
+
+-- A type as a plain tree: URLs and what is kept are left out.
+abbrev pub shown_type : DefType → Entry
+shown_type t = plain (full_type t)
+
+-- what is declared, as plain trees
+
+abbrev pub shown_component_decl : ComponentTypeDef → Decl
+shown_component_decl d = plain_decl (full_component_decl d)
+
+abbrev pub shown_instance_decl : InstanceTypeDecl → Decl
+shown_instance_decl d = plain_decl (full_instance_decl d)
+
+abbrev pub shown_alias : Alias → Decl
+shown_alias a = plain_decl (full_alias a)
+
+-- what a shared type shows
+abbrev pub shown_shared : Rc DefType Global → Entry
+shown_shared t = shown_type t.value
+
 -- Is it a function type with that signature?
+abbrev pub is_of_signature : {N K : Type 0} → Signature → EntryOf N K → Bool
+is_of_signature s (defined t) = false
+is_of_signature s (function f) = same_signature s f
+is_of_signature s (component_type ds) = false
+is_of_signature s (instance_type ds) = false
+
 abbrev pub has_signature : Signature → DefType → Bool
-has_signature s (def.Defined d) = false
-has_signature s (def.Func f) = same_signature s f.value
+has_signature s t = is_of_signature s (full_type t)

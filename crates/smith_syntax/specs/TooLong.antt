@@ -1,10 +1,13 @@
 -- Which types have no encoding, since a count, the length of a name or an index in them passes 4,294,967,295.
-use Rattle.std.specs.Prelude.{ℕ, ◌⊎◌, List, length, Option, Some, None}
+use Rattle.std.specs.Prelude.{ℕ, ◌⊎◌, Bool, true, false, List, length, Option, Some, None}
 use Rattle.std.specs.List.{Any}
 use Rattle.std.specs.Str.{IsUtf8}
 use Rattle.smith_core.specs.TooLong.{Passes, FunctionTooLong, EntityTooLong}
 use Rattle.smith_syntax.specs.Entries.{DefValType, primitive_type, record_type, variant_type, list_type, tuple_type, flags_type, enum_type, option_type, result_type}
-use Rattle.smith_syntax.specs.Entries.{Field, Case, Entry, defined, function, CoreEntry, core_func, core_module, ModuleDecl, imports, declares, aliases, exports}
+use Rattle.smith_syntax.specs.Entries.{Field, Case, Entry, defined, function, component_type, instance_type, CoreEntry, core_func, core_module, ModuleDecl, imports, declares, aliases, exports}
+use Rattle.smith_syntax.specs.Entries.{Decl, Decls, core_type_decl, type_decl, type_alias, core_type_alias, import_decl, export_decl, no_decls, then_decls, decl_count}
+use Rattle.smith_syntax.specs.declared.deftype.ComponentTypeRef.{ComponentTypeRef}
+use Rattle.smith_syntax.specs.declared.deftype.ComponentTypeRef.TheVariants as to
 use Rattle.smith_syntax.specs.declared.types.ComponentValType.{ComponentValType}
 use Rattle.smith_syntax.specs.declared.types.ComponentValType.TheVariants.{Primitive, Indexed}
 
@@ -41,10 +44,6 @@ DefinedTooLong (enum_type ns) = ListTooLong NameTooLong ns
 DefinedTooLong (option_type v) = ValTooLong v
 DefinedTooLong (result_type ok err) = MaybeTooLong ok ⊎ MaybeTooLong err
 
-abbrev pub EntryTooLong : Entry → Type 0
-EntryTooLong (defined t) = DefinedTooLong t
-EntryTooLong (function s) = ListTooLong FieldTooLong s.params ⊎ MaybeTooLong s.result
-
 abbrev pub DeclTooLong : ModuleDecl → Type 0
 DeclTooLong (imports m n e) = NameTooLong m ⊎ (NameTooLong n ⊎ EntityTooLong e)
 DeclTooLong (declares f) = FunctionTooLong f
@@ -54,3 +53,39 @@ DeclTooLong (exports n e) = NameTooLong n ⊎ EntityTooLong e
 abbrev pub CoreEntryTooLong : CoreEntry → Type 0
 CoreEntryTooLong (core_func f) = FunctionTooLong f
 CoreEntryTooLong (core_module ds) = ListTooLong DeclTooLong ds
+
+-- the index of what an import or an export is of
+abbrev pub RefTooLong : ComponentTypeRef → Type 0
+RefTooLong (to.Module i) = Passes i
+RefTooLong (to.Func i) = Passes i
+RefTooLong (to.TypeEq i) = Passes i
+RefTooLong (to.Component i) = Passes i
+RefTooLong (to.Instance i) = Passes i
+
+abbrev pub ExternTooLong : List ℕ → ComponentTypeRef → Type 0
+ExternTooLong name r = NameTooLong name ⊎ RefTooLong r
+
+-- an import of a component type (true), or of an instance type (false), which no type of the program has
+abbrev pub ImportTooLong : Bool → List ℕ → ComponentTypeRef → Type 0
+ImportTooLong true name r = ExternTooLong name r
+ImportTooLong false name r = Unit {0}
+
+-- types, and the declarations of component types (true) and of instance types (false)
+abbrev mutual
+  pub EntryTooLong : Entry → Type 0
+  EntryTooLong (defined t) = DefinedTooLong t
+  EntryTooLong (function s) = ListTooLong FieldTooLong s.params ⊎ MaybeTooLong s.result
+  EntryTooLong (component_type ds) = Passes (decl_count ds) ⊎ DeclarationsTooLong true ds
+  EntryTooLong (instance_type ds) = Passes (decl_count ds) ⊎ DeclarationsTooLong false ds
+
+  pub DeclarationTooLong : Bool → Decl → Type 0
+  DeclarationTooLong importing (core_type_decl t k) = CoreEntryTooLong t
+  DeclarationTooLong importing (type_decl e) = EntryTooLong e
+  DeclarationTooLong importing (type_alias count i k) = Passes count ⊎ Passes i
+  DeclarationTooLong importing (core_type_alias count i k) = Passes count ⊎ Passes i
+  DeclarationTooLong importing (import_decl name n r) = ImportTooLong importing name r
+  DeclarationTooLong importing (export_decl name n r) = ExternTooLong name r
+
+  pub DeclarationsTooLong : Bool → Decls → Type 0
+  DeclarationsTooLong importing no_decls = ⊥
+  DeclarationsTooLong importing (then_decls d ds) = DeclarationTooLong importing d ⊎ DeclarationsTooLong importing ds

@@ -1,6 +1,6 @@
 -- Which types and core types are well formed, in the scopes in which they stand (Explainer.md, type definitions, core type
 -- definitions, index spaces).
-use Rattle.std.specs.Prelude.{◌≡◌, ℕ, ◌+◌, ◌≤◌, true, List, [], ◌∷◌, ◌++◌, map, length, Option, Some, None, slice_get, bytes_eq}
+use Rattle.std.specs.Prelude.{◌≡◌, ℕ, ◌+◌, ◌≤◌, Bool, true, false, List, [], ◌∷◌, ◌++◌, map, length, Option, Some, None, slice_get, bytes_eq}
 use Rattle.std.specs.List.{AllByRecursion, IsDistinct}
 use Rattle.std.specs.Option.{option_to_list}
 use Rattle.smith_core.specs.CoreFormed.{FormedMemory, FormedTable}
@@ -9,9 +9,12 @@ use Rattle.smith_core.specs.declared.types.EntityType.{EntityType}
 use Rattle.smith_core.specs.declared.types.EntityType.TheVariants.{Func, Table, Memory, Global, Tag}
 use Rattle.smith_input.specs.Kebab.{Kebab}
 use Rattle.smith_syntax.specs.Entries.{DefValType, primitive_type, record_type, variant_type, list_type, tuple_type, flags_type, enum_type, option_type, result_type}
-use Rattle.smith_syntax.specs.Entries.{Entry, defined, function, CoreEntry, core_func, core_module, ModuleDecl, imports, declares, aliases, exports}
+use Rattle.smith_syntax.specs.Entries.{Entry, defined, function, component_type, instance_type, CoreEntry, core_func, core_module, ModuleDecl, imports, declares, aliases, exports}
+use Rattle.smith_syntax.specs.Entries.{DeclOf, DeclsOf, Decl, Decls, core_type_decl, type_decl, type_alias, core_type_alias, import_decl, export_decl, no_decls, then_decls}
+use Rattle.smith_syntax.specs.declared.deftype.ComponentTypeRef.{ComponentTypeRef}
+use Rattle.smith_syntax.specs.declared.deftype.ComponentTypeRef.TheVariants as to
 use Rattle.smith_syntax.specs.ModuleTypes.{adds, aliased, is_tag_type, HasNewNames, after_front}
-use Rattle.smith_syntax.specs.Scope.{Scope, with_type, with_core_type, is_defined}
+use Rattle.smith_syntax.specs.Scope.{Scope, empty_scope, with_type, with_core_type, is_defined, is_func, is_component, is_instance, is_core_module, type_named, core_type_named, after_decl}
 use Rattle.smith_syntax.specs.declared.types.ComponentValType.{ComponentValType}
 use Rattle.smith_syntax.specs.declared.types.ComponentValType.TheVariants.{Primitive, Indexed}
 
@@ -40,17 +43,6 @@ FormedDefined (enum_type ns) own = Named ns × (1 ≤ length ns) × (length ns �
 FormedDefined (option_type v) own = FormedVal own v
 FormedDefined (result_type ok err) own = FormedMaybe own ok × FormedMaybe own err
 
--- A type in its own scope and the scopes around it, innermost first. A function has at most 16 parameters.
-abbrev pub FormedEntry : Entry → Scope → List Scope → Type 0
-FormedEntry (defined t) own outer = FormedDefined t own
-FormedEntry (function s) own outer =
-    Named (map (λ p. p.0) s.params) × AllByRecursion (λ p. FormedVal own p.1) s.params × (length s.params ≤ 16) × FormedMaybe own s.result
-
--- Types in a row: each is judged where those before it stand.
-abbrev pub FormedTypes : List Entry → Scope → List Scope → Type 0
-FormedTypes [] own outer = Unit {0}
-FormedTypes (e ∷ es) own outer = FormedEntry e own outer × FormedTypes es (with_type own e) outer
-
 -- how many fields, cases, tuple members and labels there are
 abbrev pub defined_size : DefValType → ℕ
 defined_size (primitive_type p) = 0
@@ -62,11 +54,6 @@ defined_size (flags_type ns) = length ns
 defined_size (enum_type ns) = length ns
 defined_size (option_type v) = 0
 defined_size (result_type ok err) = 0
-
--- How many members there are: fields, cases, tuple members, labels, parameters and results.
-abbrev pub size : Entry → ℕ
-size (defined t) = defined_size t
-size (function s) = length s.params + length (option_to_list s.result)
 
 -- What is imported or exported: a function or a tag names one of the module type's own types, which has no results for a tag.
 abbrev pub FormedEntity : List Function → EntityType → Type 0
@@ -102,3 +89,99 @@ FormedCores (e ∷ es) own = FormedCore e own.core_types × FormedCores es (with
 abbrev pub core_size : CoreEntry → ℕ
 core_size (core_func f) = 0
 core_size (core_module ds) = length (after_front ds)
+
+-- An import or an export names an entry of the scope of its kind.
+abbrev pub FormedRef : Scope → ComponentTypeRef → Type 0
+FormedRef own (to.Module i) = (e : CoreEntry) × (slice_get own.core_types i ≡ Some e) × (is_core_module e ≡ true)
+FormedRef own (to.Func i) = (e : Entry) × (slice_get own.types i ≡ Some e) × (is_func e ≡ true)
+FormedRef own (to.TypeEq i) = (e : Entry) × (slice_get own.types i ≡ Some e)
+FormedRef own (to.Component i) = (e : Entry) × (slice_get own.types i ≡ Some e) × (is_component e ≡ true)
+FormedRef own (to.Instance i) = (e : Entry) × (slice_get own.types i ≡ Some e) × (is_instance e ≡ true)
+
+-- Is it a type that is equal to another?
+abbrev pub is_type_eq : ComponentTypeRef → Bool
+is_type_eq (to.Module i) = false
+is_type_eq (to.Func i) = false
+is_type_eq (to.TypeEq i) = true
+is_type_eq (to.Component i) = false
+is_type_eq (to.Instance i) = false
+
+module _ {N K : Type 0} where
+  -- the name that a declaration imports, and what stands beside it
+  abbrev pub import_of : DeclOf N K → List (List ℕ × N)
+  import_of (core_type_decl t k) = []
+  import_of (type_decl e) = []
+  import_of (type_alias count i k) = []
+  import_of (core_type_alias count i k) = []
+  import_of (import_decl name n r) = (name, n) ∷ []
+  import_of (export_decl name n r) = []
+
+  -- the name that a declaration exports, and what stands beside it
+  abbrev pub export_of : DeclOf N K → List (List ℕ × N)
+  export_of (core_type_decl t k) = []
+  export_of (type_decl e) = []
+  export_of (type_alias count i k) = []
+  export_of (core_type_alias count i k) = []
+  export_of (import_decl name n r) = []
+  export_of (export_decl name n r) = (name, n) ∷ []
+
+  -- all that declarations import, and all that they export
+  abbrev pub imports_in : DeclsOf N K → List (List ℕ × N)
+  imports_in no_decls = []
+  imports_in (then_decls d ds) = import_of d ++ imports_in ds
+
+  abbrev pub exports_in : DeclsOf N K → List (List ℕ × N)
+  exports_in no_decls = []
+  exports_in (then_decls d ds) = export_of d ++ exports_in ds
+
+-- the names alone
+abbrev pub names : {N : Type 0} → List (List ℕ × N) → List (List ℕ)
+names xs = map (λ x. x.0) xs
+
+-- A type in its own scope and the scopes around it, innermost first. A function has at most 16 parameters. The declarations of a
+-- component type and of an instance type stand in a scope of their own, each where those before it stand. An outer alias names what
+-- stands in its scope then, an import is of no type that is equal to another, and an instance type imports nothing.
+abbrev mutual
+  pub FormedEntry : Entry → Scope → List Scope → Type 0
+  FormedEntry (defined t) own outer = FormedDefined t own
+  FormedEntry (function s) own outer =
+      Named (map (λ p. p.0) s.params) × AllByRecursion (λ p. FormedVal own p.1) s.params × (length s.params ≤ 16) × FormedMaybe own s.result
+  FormedEntry (component_type ds) own outer = FormedDeclarations ds empty_scope (own ∷ outer) × Named (names (imports_in ds)) × Named (names (exports_in ds))
+  FormedEntry (instance_type ds) own outer = FormedDeclarations ds empty_scope (own ∷ outer) × (imports_in ds ≡ []) × Named (names (exports_in ds))
+
+  pub FormedDeclaration : Decl → Scope → List Scope → Type 0
+  FormedDeclaration (core_type_decl t k) own outer = FormedCore t own.core_types
+  FormedDeclaration (type_decl e) own outer = FormedEntry e own outer
+  FormedDeclaration (type_alias count i k) own outer = (e : Entry) × (type_named (own ∷ outer) count i ≡ Some e)
+  FormedDeclaration (core_type_alias count i k) own outer = (e : CoreEntry) × (core_type_named (own ∷ outer) count i ≡ Some e)
+  FormedDeclaration (import_decl name n r) own outer = FormedRef own r × (is_type_eq r ≡ false)
+  FormedDeclaration (export_decl name n r) own outer = FormedRef own r
+
+  pub FormedDeclarations : Decls → Scope → List Scope → Type 0
+  FormedDeclarations no_decls own outer = Unit {0}
+  FormedDeclarations (then_decls d ds) own outer = FormedDeclaration d own outer × FormedDeclarations ds (after_decl outer own d) outer
+
+-- Types in a row: each is judged where those before it stand.
+abbrev pub FormedTypes : List Entry → Scope → List Scope → Type 0
+FormedTypes [] own outer = Unit {0}
+FormedTypes (e ∷ es) own outer = FormedEntry e own outer × FormedTypes es (with_type own e) outer
+
+-- How many members and declarations there are, at all depths: fields, cases, tuple members, labels, parameters and results.
+abbrev mutual
+  pub size : Entry → ℕ
+  size (defined t) = defined_size t
+  size (function s) = length s.params + length (option_to_list s.result)
+  size (component_type ds) = decls_size ds
+  size (instance_type ds) = decls_size ds
+
+  pub decl_size : Decl → ℕ
+  decl_size (core_type_decl t k) = core_size t
+  decl_size (type_decl e) = size e
+  decl_size (type_alias count i k) = 0
+  decl_size (core_type_alias count i k) = 0
+  decl_size (import_decl name n r) = 0
+  decl_size (export_decl name n r) = 0
+
+  pub decls_size : Decls → ℕ
+  decls_size no_decls = 0
+  decls_size (then_decls d ds) = decl_size d + decls_size ds + 1

@@ -3,7 +3,9 @@
 #![tactic(auto, using(crate::proofs::Encoding::encoding))]
 
 mod core_types;
+mod declarations;
 mod defined;
+mod externs;
 mod values;
 
 ghost use Rattle.std.specs.Prelude.{◌≤◌};
@@ -16,7 +18,9 @@ use crate::deftype::DefType;
 use crate::func::FuncType;
 use crate::types::ComponentValType;
 pub use core_types::{core_type_len, write_core_type};
-use defined::{defined_len, put_defined};
+use declarations::put_type;
+pub use declarations::type_len;
+pub use externs::{import_len, write_import};
 use smith_core::{Spelled, put_tagged, tagged_len, write_byte, write_bytes, write_spelled};
 use smith_input::Error;
 use std::rc::Rc;
@@ -58,15 +62,6 @@ fn function_len(ty: &FuncType) -> Option<u32>
     tagged_len(&ty.params)?.checked_add(result_len(ty.result))
 }
 
-fn put_type(out: &mut Vec<u8>, ty: &DefType) -> Result<(), Error>
-    ensures { Puts result out.old out.new (entry (shown_type ty.now)) }
-{
-    match ty {
-        DefType::Defined(ty) => put_defined(out, ty),
-        DefType::Func(ty) => put_function(out, ty),
-    }
-}
-
 impl Spelled<ComponentFormat> for DefType {
     ghost piece = { λ t. entry (shown_type t) };
 
@@ -84,16 +79,6 @@ pub fn write_type(out: &mut Vec<u8>, ty: &DefType) -> Result<(), Error>
     ensures { Appends result out.old out.new (entry (shown_type ty.now)) }
 {
     write_spelled(out, ty)
-}
-
-/// The length of a type's encoding; None exactly where it has none of at most 4,294,967,295 bytes.
-pub fn type_len(ty: &DefType) -> Option<u32>
-    ensures { IsLengthOf result (entry (shown_type ty.now)) }
-{
-    match ty {
-        DefType::Defined(ty) => defined_len(ty),
-        DefType::Func(ty) => function_len(ty),
-    }
 }
 
 impl Spelled<ComponentFormat> for Rc<DefType> {

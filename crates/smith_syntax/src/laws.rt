@@ -1,12 +1,13 @@
 //! Laws of types. Each function does nothing: its contract is the law.
 
-ghost use Rattle.std.specs.Prelude.{◌≡◌, ◌↔◌, true, None};
+ghost use Rattle.std.specs.Prelude.{◌≡◌, ◌↔◌, ℕ, true, List, None};
 ghost use Rattle.smith_core.specs.Clear.{IsClear};
 ghost use Rattle.smith_syntax.specs.Entries.{Signature, Entry, function, CoreEntry};
-ghost use Rattle.smith_syntax.specs.Grammar.{valtype, maybe_valtype, entry, core_entry};
+ghost use Rattle.smith_syntax.specs.Grammar.{valtype, maybe_valtype, entry, core_entry, named_extern};
 ghost use Rattle.smith_syntax.specs.Shown.{shown_type, has_signature};
 ghost use Rattle.smith_syntax.specs.Signature.{same_signature};
-ghost use Rattle.smith_syntax.specs.TooLong.{EntryTooLong, CoreEntryTooLong};
+ghost use Rattle.smith_syntax.specs.TooLong.{EntryTooLong, CoreEntryTooLong, ExternTooLong};
+ghost use Rattle.smith_syntax.specs.declared.deftype.ComponentTypeRef.{ComponentTypeRef};
 ghost use Rattle.smith_syntax.specs.declared.deftype.DefType.{DefType};
 
 /// Two function types are compared as equal exactly where their signatures are the same, and a type is one of a
@@ -17,17 +18,19 @@ pub fn signatures_are_told()
 {}
 
 /// No encoding of a type is a prefix of another, and two readings with anything after them are one; so it is with value
-/// types and core types.
+/// types, core types, and imports.
 pub fn types_are_clear()
     ensures types { IsClear entry }
     ensures value_types { IsClear valtype }
     ensures missing { IsClear maybe_valtype }
     ensures core_types { IsClear core_entry }
+    ensures imports { IsClear (λ (i : List ℕ × ComponentTypeRef). named_extern i.0 i.1) }
 {}
 
 /// A type whose names are UTF-8 has no encoding exactly where a count, the length of a name or an index in it passes
-/// 4,294,967,295; so it is with core types.
+/// 4,294,967,295; so it is with core types, and with imports.
 pub fn long_types_have_no_encoding()
     ensures types { (e : Entry) → (entry e ≡ None) ↔ EntryTooLong e }
     ensures core_types { (e : CoreEntry) → (core_entry e ≡ None) ↔ CoreEntryTooLong e }
+    ensures imports { (name : List ℕ) (r : ComponentTypeRef) → (named_extern name r ≡ None) ↔ ExternTooLong name r }
 {}

@@ -10,9 +10,14 @@ pub mod laws;
 mod types;
 
 pub use core_types::{CoreType, ModuleType, ModuleTypeDef};
-pub use deftype::DefType;
+pub use deftype::{
+    Alias, ComponentType, ComponentTypeDef, ComponentTypeRef, DefType, Import, InstanceType,
+    InstanceTypeDecl, OuterAliasKind,
+};
 pub use drops::drop_last_first;
-pub use encode::{ComponentFormat, core_type_len, type_len, write_core_type, write_type};
+pub use encode::{
+    ComponentFormat, core_type_len, import_len, type_len, write_core_type, write_import, write_type,
+};
 pub use func::FuncType;
 pub use types::{
     ComponentValType, DefinedType, EnumType, FlagsType, ListType, OptionType, PrimitiveValType,

@@ -1,5 +1,6 @@
--- What is made is well formed, no larger than its fuel, leaves a tail of the bytes, and is determined.
-use Rattle.std.proofs.Common.{◌≡◌, ℕ, ◌+◌, ◌-◌, ◌<◌, ◌≤◌, true, false, List, [], ◌∷◌, length, refl, sym, ap, ◌∙◌, subst, arith}
+-- Defined types and function types that are made: they leave a tail of the bytes, are well formed, no larger than their fuel, and
+-- determined.
+use Rattle.std.proofs.Common.{◌≡◌, ℕ, ◌+◌, ◌<◌, ◌≤◌, true, false, List, [], ◌∷◌, length, refl, sym, ap, ◌∙◌, subst, arith}
 use Rattle.std.specs.List.{AllByRecursion}
 use Rattle.std.specs.Option.{option_to_list}
 use Rattle.std.specs.Prelude.{Option, Some, None, slice_get}
@@ -9,14 +10,12 @@ use Rattle.smith_input.proofs.Choices.{among_tail, among_same}
 use Rattle.smith_input.proofs.NewNames.{new_tail, new_unique}
 use Rattle.smith_input.proofs.ReadingLemmas.{tail_trans, reads_tail, reads_unique, flips_unique}
 use Rattle.smith_syntax.specs.Entries.{DefValType, primitive_type, record_type, variant_type, list_type, tuple_type, flags_type, enum_type, option_type, result_type}
-use Rattle.smith_syntax.specs.Entries.{Signature, Entry, defined, function}
+use Rattle.smith_syntax.specs.Entries.{Signature, function}
 use Rattle.smith_types.specs.Script.{primitives}
 use Rattle.smith_types.specs.Made.{ReadsVal, only_primitive, either_primitive, either_index, ReadsMaybe, absent, present}
-use Rattle.smith_types.specs.Made.{or_bool, MadeMembers, MadeAs, ReadsResult, MadeFunction, MadeValues, MadeOf, Made, spent_type, of_kind}
+use Rattle.smith_types.specs.Made.{or_bool, MadeMembers, MadeAs, MadeDefined, ReadsResult, MadeFunction}
 use Rattle.smith_syntax.specs.Scope.{Scope, defined_places, is_defined}
 use Rattle.smith_syntax.specs.WellFormed.{FormedVal, FormedMaybe, FormedDefined, FormedEntry, defined_size, size}
-use Rattle.smith_types.specs.declared.make.TypeKind.{TypeKind}
-use Rattle.smith_types.specs.declared.make.TypeKind.TheVariants.{Defined, Function, Component, Instance}
 use Rattle.smith_types.specs.declared.make.defined.DefinedKind.{DefinedKind}
 use Rattle.smith_types.specs.declared.make.defined.DefinedKind.TheVariants as kind
 use Rattle.smith_syntax.specs.declared.types.ComponentValType.{ComponentValType}
@@ -46,22 +45,12 @@ as_tail own kind.Enum b fuel t rest left (xs, r, _) = members_tail (λ so_far c 
 as_tail own kind.Option b fuel t rest left (v, r, _, _) = val_tail own b v rest r
 as_tail own kind.Result b fuel t rest left (ok, mid, r, err, s, _, _) = tail_trans (maybe_tail own mid err rest s) (maybe_tail own b ok mid r)
 
-values_tail : (own : Scope) (b : List ℕ) (fuel : ℕ) (e : Entry) (rest : List ℕ) (left : ℕ) → MadeValues own b fuel e rest left → IsTail rest b
-values_tail own b fuel e rest left (t, d, _) = tail_trans (as_tail own d.kind d.mid fuel t rest left d.made) (among_tail d.choice)
+pub defined_tail : (own : Scope) (b : List ℕ) (fuel : ℕ) (t : DefValType) (rest : List ℕ) (left : ℕ) → MadeDefined own b fuel t rest left → IsTail rest b
+defined_tail own b fuel t rest left d = tail_trans (as_tail own d.kind d.mid fuel t rest left d.made) (among_tail d.choice)
 
-function_tail : (own : Scope) (b : List ℕ) (fuel : ℕ) (s : Signature) (rest : List ℕ) (left : ℕ) → MadeFunction own b fuel s rest left → IsTail rest b
+pub function_tail : (own : Scope) (b : List ℕ) (fuel : ℕ) (s : Signature) (rest : List ℕ) (left : ℕ) → MadeFunction own b fuel s rest left → IsTail rest b
 function_tail own b fuel s rest left f =
     tail_trans (members_tail (λ so_far. val_tail own) f.mid f.held (option_to_list s.result) rest left f.gives) (members_tail (named_tail (val_tail own)) b fuel s.params f.mid f.held f.takes)
-
-of_tail : (own : Scope) (k : TypeKind) (b : List ℕ) (fuel : ℕ) (e : Entry) (rest : List ℕ) (left : ℕ) → MadeOf own k b fuel e rest left → IsTail rest b
-of_tail own Defined b fuel e rest left d = values_tail own b fuel e rest left d
-of_tail own Function b fuel e rest left (s, f, _) = function_tail own b fuel s rest left f
-of_tail own Component b fuel e rest left d = values_tail own b fuel e rest left d
-of_tail own Instance b fuel e rest left d = values_tail own b fuel e rest left d
-
-pub made_tail : (own : Scope) (outer : List Scope) (b : List ℕ) (fuel : ℕ) (e : Entry) (rest : List ℕ) (left : ℕ) → Made own outer b fuel e rest left → IsTail rest b
-made_tail own outer b fuel e rest left (spent_type f d) = values_tail own b 0 e rest left d
-made_tail own outer b fuel e rest left (of_kind {kind = k} {mid = mid} f c d) = tail_trans (of_tail own k mid (fuel - 1) e rest left d) (among_tail c)
 
 -- well formed
 
@@ -101,22 +90,12 @@ one_formed : (own : Scope) (r : Option ComponentValType) → AllByRecursion (For
 one_formed own None all = tt
 one_formed own (Some v) all = all.0
 
-values_formed : (own : Scope) (outer : List Scope) (b : List ℕ) (fuel : ℕ) (e : Entry) (rest : List ℕ) (left : ℕ) → MadeValues own b fuel e rest left → FormedEntry e own outer
-values_formed own outer b fuel e rest left (t, d, i) = subst (λ x. FormedEntry x own outer) (sym i) (as_formed own d.kind d.mid fuel t rest left d.made)
+pub defined_formed : (own : Scope) (b : List ℕ) (fuel : ℕ) (t : DefValType) (rest : List ℕ) (left : ℕ) → MadeDefined own b fuel t rest left → FormedDefined t own
+defined_formed own b fuel t rest left d = as_formed own d.kind d.mid fuel t rest left d.made
 
-function_formed : (own : Scope) (outer : List Scope) (b : List ℕ) (fuel : ℕ) (s : Signature) (rest : List ℕ) (left : ℕ) → MadeFunction own b fuel s rest left → FormedEntry (function s) own outer
+pub function_formed : (own : Scope) (outer : List Scope) (b : List ℕ) (fuel : ℕ) (s : Signature) (rest : List ℕ) (left : ℕ) → MadeFunction own b fuel s rest left → FormedEntry (function s) own outer
 function_formed own outer b fuel s rest left f =
     (members_named (λ p. p.0) named_name b fuel s.params f.mid f.held (omega arith) f.takes, members_all b fuel s.params f.mid f.held f.takes (λ p. FormedVal own p.1) (λ so_far c x d h. val_formed own h.mid x.1 d h.after), members_few b fuel s.params f.mid f.held f.takes, one_formed own s.result (members_all f.mid f.held (option_to_list s.result) rest left f.gives (FormedVal own) (λ so_far c x d h. val_formed own c x d h)))
-
-of_formed : (own : Scope) (outer : List Scope) (k : TypeKind) (b : List ℕ) (fuel : ℕ) (e : Entry) (rest : List ℕ) (left : ℕ) → MadeOf own k b fuel e rest left → FormedEntry e own outer
-of_formed own outer Defined b fuel e rest left d = values_formed own outer b fuel e rest left d
-of_formed own outer Function b fuel e rest left (s, f, i) = subst (λ x. FormedEntry x own outer) (sym i) (function_formed own outer b fuel s rest left f)
-of_formed own outer Component b fuel e rest left d = values_formed own outer b fuel e rest left d
-of_formed own outer Instance b fuel e rest left d = values_formed own outer b fuel e rest left d
-
-pub made_formed : (own : Scope) (outer : List Scope) (b : List ℕ) (fuel : ℕ) (e : Entry) (rest : List ℕ) (left : ℕ) → Made own outer b fuel e rest left → FormedEntry e own outer
-made_formed own outer b fuel e rest left (spent_type f d) = values_formed own outer b 0 e rest left d
-made_formed own outer b fuel e rest left (of_kind {kind = k} {mid = mid} f c d) = of_formed own outer k mid (fuel - 1) e rest left d
 
 -- no larger than the fuel
 
@@ -138,22 +117,12 @@ as_size own kind.Enum b fuel t rest left m = made_members_size enum_type (λ xs.
 as_size own kind.Option b fuel t rest left (v, r, i, j) = omega (arith, ap defined_size i, j)
 as_size own kind.Result b fuel t rest left (ok, mid, r, err, s, i, j) = omega (arith, ap defined_size i, j)
 
-values_size : (own : Scope) (b : List ℕ) (fuel : ℕ) (e : Entry) (rest : List ℕ) (left : ℕ) → MadeValues own b fuel e rest left → size e + left ≤ fuel
-values_size own b fuel e rest left (t, d, i) = omega (arith, ap size i, as_size own d.kind d.mid fuel t rest left d.made)
+pub defined_within : (own : Scope) (b : List ℕ) (fuel : ℕ) (t : DefValType) (rest : List ℕ) (left : ℕ) → MadeDefined own b fuel t rest left → defined_size t + left ≤ fuel
+defined_within own b fuel t rest left d = as_size own d.kind d.mid fuel t rest left d.made
 
-function_size : (own : Scope) (b : List ℕ) (fuel : ℕ) (s : Signature) (rest : List ℕ) (left : ℕ) → MadeFunction own b fuel s rest left → size (function s) + left ≤ fuel
-function_size own b fuel s rest left f =
+pub function_within : (own : Scope) (b : List ℕ) (fuel : ℕ) (s : Signature) (rest : List ℕ) (left : ℕ) → MadeFunction own b fuel s rest left → size (function s) + left ≤ fuel
+function_within own b fuel s rest left f =
     omega (arith, members_size b fuel s.params f.mid f.held f.takes, members_size f.mid f.held (option_to_list s.result) rest left f.gives)
-
-of_size : (own : Scope) (k : TypeKind) (b : List ℕ) (fuel : ℕ) (e : Entry) (rest : List ℕ) (left : ℕ) → MadeOf own k b fuel e rest left → size e + left ≤ fuel
-of_size own Defined b fuel e rest left d = values_size own b fuel e rest left d
-of_size own Function b fuel e rest left (s, f, i) = omega (arith, ap size i, function_size own b fuel s rest left f)
-of_size own Component b fuel e rest left d = values_size own b fuel e rest left d
-of_size own Instance b fuel e rest left d = values_size own b fuel e rest left d
-
-pub made_size : (own : Scope) (outer : List Scope) (b : List ℕ) (fuel : ℕ) (e : Entry) (rest : List ℕ) (left : ℕ) → Made own outer b fuel e rest left → size e + left ≤ fuel
-made_size own outer b fuel e rest left (spent_type f d) = omega (arith, values_size own b 0 e rest left d)
-made_size own outer b fuel e rest left (of_kind {kind = k} {mid = mid} f c d) = omega (arith, f, of_size own k mid (fuel - 1) e rest left d)
 
 -- determined
 
@@ -211,13 +180,12 @@ as_same own kind.Result b fuel d e r s f g (ok, mid, x, err, z, i, j) (ko, low, 
     let w = maybe_same own low err rre r s (subst P u.1 z) t in
     record { value = i ∙ (ap (λ o. result_type o err) u.0 ∙ ap (result_type ko) w.0) ∙ sym k; rest = w.1; left = j ∙ sym l }
 
-values_same : (own : Scope) (b : List ℕ) (fuel : ℕ) (d e : Entry) (r s : List ℕ) (f g : ℕ) → MadeValues own b fuel d r f → MadeValues own b fuel e s g → Same d e r s f g
-values_same own b fuel d e r s f g (t, x, i) (u, y, j) =
+pub defined_same : (own : Scope) (b : List ℕ) (fuel : ℕ) (t u : DefValType) (r s : List ℕ) (f g : ℕ) → MadeDefined own b fuel t r f → MadeDefined own b fuel u s g → Same t u r s f g
+defined_same own b fuel t u r s f g x y =
     let c = among_same x.choice y.choice in
     let P : DefinedKind → Type 0 = λ z. MadeAs own z x.mid fuel t r f in
     let Q : List ℕ → Type 0 = λ z. MadeAs own y.kind z fuel t r f in
-    let v = as_same own y.kind y.mid fuel t u r s f g (subst Q c.1 (subst P c.0 x.made)) y.made in
-    record { value = i ∙ (ap defined v.value ∙ sym j); rest = v.rest; left = v.left }
+    as_same own y.kind y.mid fuel t u r s f g (subst Q c.1 (subst P c.0 x.made)) y.made
 
 one_same : (v w : Option ComponentValType) → option_to_list v ≡ option_to_list w → v ≡ w
 one_same None None e = refl
@@ -225,7 +193,7 @@ one_same None (Some y) e = absurd (omega (arith, ap length e))
 one_same (Some x) None e = absurd (omega (arith, ap length e))
 one_same (Some x) (Some y) e = let z : x ≡ y = cc in ap Some z
 
-function_same : (own : Scope) (b : List ℕ) (fuel : ℕ) (c d : Signature) (r s : List ℕ) (f g : ℕ) → MadeFunction own b fuel c r f → MadeFunction own b fuel d s g → Same c d r s f g
+pub function_same : (own : Scope) (b : List ℕ) (fuel : ℕ) (c d : Signature) (r s : List ℕ) (f g : ℕ) → MadeFunction own b fuel c r f → MadeFunction own b fuel d s g → Same c d r s f g
 function_same own b fuel c d r s f g x y =
     let u = members_same (named_same (val_same own)) b fuel c.params d.params x.mid y.mid x.held y.held x.takes y.takes in
     let P : List ℕ → Type 0 = λ z. ReadsResult own z x.held c.result r f in
@@ -233,21 +201,3 @@ function_same own b fuel c d r s f g x y =
     let w = members_same (λ so_far. val_same own) y.mid y.held (option_to_list c.result) (option_to_list d.result) r s f g (subst Q u.left (subst P u.rest x.gives)) y.gives in
     let v = one_same c.result d.result w.value in
     record { value = λ i. record { params = u.value i; result = v i }; rest = w.rest; left = w.left }
-
-of_same : (own : Scope) (k : TypeKind) (b : List ℕ) (fuel : ℕ) (d e : Entry) (r s : List ℕ) (f g : ℕ) → MadeOf own k b fuel d r f → MadeOf own k b fuel e s g → Same d e r s f g
-of_same own Defined b fuel d e r s f g x y = values_same own b fuel d e r s f g x y
-of_same own Function b fuel d e r s f g (t, x, i) (u, y, j) =
-    let v = function_same own b fuel t u r s f g x y in
-    record { value = i ∙ (ap function v.value ∙ sym j); rest = v.rest; left = v.left }
-of_same own Component b fuel d e r s f g x y = values_same own b fuel d e r s f g x y
-of_same own Instance b fuel d e r s f g x y = values_same own b fuel d e r s f g x y
-
-pub made_same : (own : Scope) (outer : List Scope) (b : List ℕ) (fuel : ℕ) (d e : Entry) (r s : List ℕ) (f g : ℕ) → Made own outer b fuel d r f → Made own outer b fuel e s g → Same d e r s f g
-made_same own outer b fuel d e r s f g (spent_type h x) (spent_type i y) = values_same own b 0 d e r s f g x y
-made_same own outer b fuel d e r s f g (spent_type h x) (of_kind i c y) = absurd (omega (arith, h, i))
-made_same own outer b fuel d e r s f g (of_kind i c y) (spent_type h x) = absurd (omega (arith, h, i))
-made_same own outer b fuel d e r s f g (of_kind {kind = j} {mid = l} h c x) (of_kind {kind = k} {mid = m} i a y) =
-    let u = among_same c a in
-    let P : TypeKind → Type 0 = λ z. MadeOf own z l (fuel - 1) d r f in
-    let Q : List ℕ → Type 0 = λ z. MadeOf own k z (fuel - 1) d r f in
-    of_same own k m (fuel - 1) d e r s f g (subst Q u.1 (subst P u.0 x)) y

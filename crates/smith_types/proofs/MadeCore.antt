@@ -151,7 +151,7 @@ made_core_size {config} {around} (of_module f c m i) = omega (arith, f, ap core_
 
 -- determined
 
-no_choice : {A : Type 0} {b rest : List ℕ} {x : A} (xs : List A) → xs ≡ [] → ReadsAmong xs b x rest → ⊥
+pub no_choice : {A : Type 0} {b rest : List ℕ} {x : A} (xs : List A) → xs ≡ [] → ReadsAmong xs b x rest → ⊥
 no_choice {x = x} xs none r = let z : None ≡ Some x = sym (ap (λ ys. slice_get ys r.place) none) ∙ r.named in cc
 
 module _ (config : Config) (s : Declared) where

@@ -3,7 +3,7 @@ use Rattle.std.proofs.Common.{◌≡◌, ℕ, zero, suc, ◌+◌, ◌-◌, ◌<�
 use Rattle.std.proofs.Math.ListN.{drop}
 use Rattle.std.proofs.Math.Seq.{drop-cons}
 use Rattle.std.proofs.lemmas.Bool.{false≢true}
-use Rattle.std.proofs.lemmas.List.{length-map, length-drop, map-append}
+use Rattle.std.proofs.lemmas.List.{length-map, map-append}
 use Rattle.std.proofs.lemmas.List.Concat.{flat_map-cons}
 use Rattle.std.proofs.lemmas.List.Elements.{filter-append}
 use Rattle.std.proofs.lemmas.Bool.Decides.{nat_tests}
@@ -16,7 +16,6 @@ use Rattle.smith_core.specs.CoreTypes.{Function}
 use Rattle.smith_core.specs.Entities.{CoreImport}
 use Rattle.smith_core.specs.declared.config.Config.{Config}
 use Rattle.smith_core.specs.declared.types.EntityType.{EntityType}
-use Rattle.smith_core.specs.declared.types.ExportKind.{ExportKind}
 use Rattle.smith_core.specs.declared.types.MemoryType.{MemoryType}
 use Rattle.smith_input.specs.Choices.{ReadsAmong}
 use Rattle.smith_input.specs.Names.{is_among}
@@ -24,7 +23,7 @@ use Rattle.smith_syntax.specs.Entries.{CoreEntry, ModuleDecl, aliases, core_func
 use Rattle.smith_types.specs.MadeCore.{ReadsDecl, ReadsFront, indexes, module_items, no_export, no_import}
 use Rattle.smith_types.specs.MadeCore.{Declared as SoFar}
 use Rattle.smith_types.specs.MakingCore.{Adds, Turns, choices_among}
-use Rattle.smith_syntax.specs.ModuleTypes.{adds, aliased, count_of, entities_of, export_names, export_of, HasNewNames, import_of, is_of_kind, names_from}
+use Rattle.smith_syntax.specs.ModuleTypes.{adds, aliased, export_names, export_of, HasNewNames, import_of, names_from}
 use Rattle.smith_syntax.specs.Scope.{Scope, is_core_func, own_of, places}
 use Rattle.smith_types.specs.Scopes.{Contents, inward, last_of}
 use Rattle.smith_syntax.specs.Shown.{shown_core}
@@ -70,24 +69,10 @@ module _ {A : Type 0} (xs : List A) (i : ℕ) (x : A) (h : i < length xs) (e : x
   pub rest_at : drop i xs ≡ x ∷ drop (i + 1) xs
   rest_at = drop-cons xs i x h ∙ (ap (λ y. y ∷ drop (suc i) xs) (sym e) ∙ ap (λ n. x ∷ drop n xs) (sym (add-one i)))
 
-pub rest_past : {A : Type 0} (xs : List A) (i : ℕ) → length xs ≤ i → drop i xs ≡ []
-rest_past xs i h = no_length (drop i xs) (omega (arith, length-drop i xs))
-  where
-    no_length : {A : Type 0} (ys : List A) → length ys ≡ 0 → ys ≡ []
-    no_length [] e = refl
-    no_length (y ∷ ys) e = absurd (omega arith)
-
 -- counts
 
 abbrev entities_in : ModuleDecl → List EntityType
 entities_in d = map (λ i. i.2) (import_of d) ++ map (λ x. x.1) (export_of d)
-
-pub count_more : (k : ExportKind) (d : ModuleDecl) (ds : List ModuleDecl) → count_of k (d ∷ ds) ≡ count_of k (d ∷ []) + count_of k ds
-count_more k d ds =
-    let mine : List EntityType = entities_in d in
-    let all : filter (is_of_kind k) (entities_of (d ∷ ds)) ≡ filter (is_of_kind k) mine ++ filter (is_of_kind k) (entities_of ds) = ap (filter (is_of_kind k)) (flat_map-cons entities_in d ds) ∙ filter-append (is_of_kind k) mine (entities_of ds) in
-    let one : filter (is_of_kind k) (entities_of (d ∷ [])) ≡ filter (is_of_kind k) mine = ap (filter (is_of_kind k)) (flat_map-cons entities_in d [] ∙ append-nil mine) in
-    omega (arith, ap length all, ap length one, length-append (filter (is_of_kind k) mine) (filter (is_of_kind k) (entities_of ds)))
 
 -- names
 

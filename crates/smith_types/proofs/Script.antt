@@ -12,11 +12,12 @@ use Rattle.smith_input.specs.Names.{ReadsNew}
 use Rattle.smith_input.proofs.Choices.{among_read}
 use Rattle.smith_input.proofs.Picks.{reads-pick}
 use Rattle.smith_input.proofs.ReadingLemmas.{flips_one, flips_zero}
+use Rattle.smith_core.specs.declared.config.Config.{Config}
 use Rattle.smith_syntax.specs.Entries.{DefValType, primitive_type, record_type, variant_type, list_type, tuple_type, flags_type, enum_type, option_type, result_type}
-use Rattle.smith_syntax.specs.Entries.{Field, Case, Signature, Entry, defined, function}
+use Rattle.smith_syntax.specs.Entries.{Field, Case, Signature, Entry, defined, function, component_type, instance_type}
 use Rattle.smith_types.specs.Script.{primitives, defined_kinds, type_kinds}
 use Rattle.smith_types.specs.Made.{ReadsVal, only_primitive, either_primitive, either_index, ReadsMaybe, absent, present, ReadsNamed}
-use Rattle.smith_types.specs.Made.{or_bool, MadeMembers, MadeAs, MadeDefined, MadeFunction, Made, spent_type, of_kind}
+use Rattle.smith_types.specs.Made.{or_bool, MadeMembers, MadeAs, MadeDefined, MadeFunction, Made, spent_type, made_defined, made_function, MadeWith}
 use Rattle.smith_syntax.specs.Scope.{Scope, places, defined_places, is_defined}
 use Rattle.smith_types.specs.Script.{script_primitive, script_val, script_maybe, script_label, script_field, script_case, script_members, script_kind, script_defined, script_function, script_type_kind, script_type}
 use Rattle.smith_types.specs.Script.{AreShort, LastsDefined, Lasts}
@@ -218,17 +219,17 @@ module _ (own : Scope) (few : length own.types ≤ 2 ^ 64) where
   -- types
 
   -- a type of values with fuel for two turns, and with less
-  values_read : (outer : List Scope) (fuel : ℕ) (t : DefValType) (rest : List ℕ) → FormedDefined t own → LastsDefined fuel t → (b : Bool) → nat_le 2 fuel ≡ b
-      → (left : ℕ) × Made own outer ((if b then script_type_kind Defined else []) ++ (script_defined own t ++ rest)) fuel (defined t) rest left
-  values_read outer fuel t rest f l true h =
+  values_read : (config : Config) (outer : List Scope) (fuel : ℕ) (t : DefValType) (rest : List ℕ) → FormedDefined t own → LastsDefined fuel t → (b : Bool) → nat_le 2 fuel ≡ b
+      → (left : ℕ) × Made config own outer ((if b then script_type_kind Defined else []) ++ (script_defined own t ++ rest)) fuel (defined t) rest left
+  values_read config outer fuel t rest f l true h =
       let two : 2 ≤ fuel = grind (arith, nat_tests) in
       let same : fuel ≡ fuel - 1 + 1 = omega arith in
       let r = defined_read (fuel - 1) t rest f (subst (λ n. LastsDefined n t) same l) in
-      (r.0, of_kind (omega arith) (type_kind_read Defined 0 (script_defined own t ++ rest) refl) (t, r.1, refl))
-  values_read outer fuel t rest f l false h =
+      (r.0, made_defined (omega arith) (type_kind_read Defined 0 (script_defined own t ++ rest) refl) r.1 refl)
+  values_read config outer fuel t rest f l false h =
       let less : fuel < 2 = grind (arith, nat_tests) in
       let r = defined_read 0 t rest f (lasts_less fuel t less l) in
-      (r.0, spent_type (omega arith) (t, r.1, refl))
+      (r.0, spent_type (omega arith) r.1 refl)
     where
       lasts_less : (fuel : ℕ) (t : DefValType) → fuel < 2 → LastsDefined fuel t → LastsDefined 1 t
       lasts_less fuel (primitive_type p) less l = tt
@@ -242,13 +243,25 @@ module _ (own : Scope) (few : length own.types ≤ 2 ^ 64) where
       lasts_less fuel (result_type ok err) less l = tt
 
   -- What the script of a type says is made of it, and the rest is left.
-  pub type_read : (outer : List Scope) (fuel : ℕ) (e : Entry) (rest : List ℕ) → FormedEntry e own outer → Lasts fuel e → (left : ℕ) × Made own outer (script_type fuel own e ++ rest) fuel e rest left
-  type_read outer fuel (defined t) rest f l =
-      let r = values_read outer fuel t rest f l (nat_le 2 fuel) refl in
-      let P : List ℕ → Type 0 = λ b. Made own outer b fuel (defined t) rest r.0 in
-      (r.0, subst P (sym (append_assoc (if nat_le 2 fuel then script_type_kind Defined else []) (script_defined own t) rest)) r.1)
-  type_read outer fuel (function s) rest f l =
+  pub type_read : (config : Config) (outer : List Scope) (fuel : ℕ) (e : Entry) (rest : List ℕ) → FormedEntry e own outer → Lasts fuel e → MadeWith config own outer fuel (script_type fuel own e ++ rest) e rest
+  type_read config outer fuel (defined t) rest f l =
+      let r = values_read config outer fuel t rest f l (nat_le 2 fuel) refl in
+      let P : List ℕ → Type 0 = λ b. Made config own outer b fuel (defined t) rest r.0 in
+      record {
+        full = defined t;
+        left = r.0;
+        made = subst P (sym (append_assoc (if nat_le 2 fuel then script_type_kind Defined else []) (script_defined own t) rest)) r.1;
+        shown = refl;
+      }
+  type_read config outer fuel (function s) rest f l =
       let same : fuel ≡ fuel - 1 + 1 = omega (arith, l.1) in
       let m = function_read outer (fuel - 1) s rest f (subst (λ n. Lasts n (function s)) same l) in
-      let P : List ℕ → Type 0 = λ b. Made own outer b fuel (function s) rest m.0 in
-      (m.0, subst P (sym (append_assoc (script_type_kind Function) (script_function own s) rest)) (of_kind (omega (arith, l.1)) (type_kind_read Function 1 (script_function own s ++ rest) refl) (s, m.1, refl)))
+      let P : List ℕ → Type 0 = λ b. Made config own outer b fuel (function s) rest m.0 in
+      record {
+        full = function s;
+        left = m.0;
+        made = subst P (sym (append_assoc (script_type_kind Function) (script_function own s) rest)) (made_function (omega (arith, l.1)) (type_kind_read Function 1 (script_function own s ++ rest) refl) m.1 refl);
+        shown = refl;
+      }
+  type_read config outer fuel (component_type ds) rest f l = absurd l
+  type_read config outer fuel (instance_type ds) rest f l = absurd l

@@ -1,7 +1,6 @@
 -- Stacks of scopes, and the places of their entries.
-use Rattle.std.proofs.Common.{◌≡◌, ℕ, ◌+◌, ◌<◌, ◌≤◌, Bool, true, false, cond, List, [], ◌∷◌, ◌++◌, get_or, length, map, reverse, refl, sym, ap, ◌∙◌, arith, append-nil, append_assoc}
+use Rattle.std.proofs.Common.{◌≡◌, ℕ, ◌+◌, ◌<◌, ◌≤◌, Bool, true, false, cond, List, [], ◌∷◌, ◌++◌, get_or, length, map, reverse, refl, sym, ap, ◌∙◌, arith, append-nil}
 use Rattle.std.proofs.lemmas.List.{reverse-append, map-append, length-map, length-reverse}
-use Rattle.smith_syntax.specs.Entries.{Entry, CoreEntry}
 use Rattle.smith_syntax.specs.Scope.{Scope, empty_scope, with_type, with_types, with_core_type, with_core_types, own_of, outer_of, places}
 use Rattle.smith_types.specs.Scopes.{Contents, shown_scope, inward, last_of, Changes, AddsType, AddsCoreType}
 use Rattle.smith_syntax.specs.Shown.{shown_type, shown_core}
@@ -47,7 +46,7 @@ module _ {A : Type 0} (p : A → Bool) where
 pub length-inward : (scopes : List Contents) → length (inward scopes) ≡ length scopes
 length-inward scopes = length-reverse (map shown_scope scopes) ∙ length-map scopes shown_scope
 
-map-reverse : {A B : Type 0} (f : A → B) (xs : List A) → reverse (map f xs) ≡ map f (reverse xs)
+pub map-reverse : {A B : Type 0} (f : A → B) (xs : List A) → reverse (map f xs) ≡ map f (reverse xs)
 map-reverse f [] = refl
 map-reverse f (x ∷ xs) =
     reverse-append (f x ∷ []) (map f xs)
@@ -107,12 +106,6 @@ with_none s = ap (λ ts. record { types = ts; core_types = s.core_types }) (appe
 
 pub with_core_none : (s : Scope) → with_core_types s [] ≡ s
 with_core_none s = ap (λ ts. record { types = s.types; core_types = ts }) (append-nil s.core_types)
-
-pub with_core_more : (s : Scope) (es : List CoreEntry) (e : CoreEntry) → with_core_type (with_core_types s es) e ≡ with_core_types s (es ++ e ∷ [])
-with_core_more s es e = ap (λ ts. record { types = s.types; core_types = ts }) (append_assoc s.core_types es (e ∷ []))
-
-pub with_more : (s : Scope) (es : List Entry) (e : Entry) → with_type (with_types s es) e ≡ with_types s (es ++ e ∷ [])
-with_more s es e = ap (λ ts. record { types = ts; core_types = s.core_types }) (append_assoc s.types es (e ∷ []))
 
 -- Scopes of which there is one.
 pub split_scopes : (ss : List Scope) → 0 < length ss → ss ≡ own_of ss ∷ outer_of ss

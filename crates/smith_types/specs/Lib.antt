@@ -1,5 +1,8 @@
 pub mod Script
-pub mod Made
 pub mod MadeCore
+pub mod References
+pub mod Declarations
+pub mod Made
 pub mod MakingCore
 pub mod Scopes
+pub mod MakingTypes

@@ -1,15 +1,19 @@
 -- How types are read: the bytes and the fuel give the type, and leave the rest and what is left of the fuel.
-use Rattle.std.specs.Prelude.{◌≡◌, ℕ, ◌-◌, ◌<◌, true, false, List, [], ◌∷◌, ◌++◌, map, length, Option, Some, None}
+use Rattle.std.specs.Prelude.{◌≡◌, ℕ, ◌+◌, ◌-◌, ◌<◌, Bool, true, false, List, [], ◌∷◌, ◌++◌, map, length, Option, Some, None}
 use Rattle.std.specs.Option.{option_to_list}
 use Rattle.smith_input.specs.Choices.{ReadsAmong}
 use Rattle.smith_input.specs.Loops.{Loop}
 use Rattle.smith_input.specs.Names.{ReadsNew}
-use Rattle.smith_input.specs.Reading.{Reads, Flips}
+use Rattle.smith_input.specs.Reading.{Reads, Flips, More}
 use Rattle.smith_syntax.specs.Entries.{DefValType, primitive_type, record_type, variant_type, list_type, tuple_type, flags_type, enum_type, option_type, result_type}
-use Rattle.smith_syntax.specs.Entries.{Signature, Entry, defined, function}
+use Rattle.smith_syntax.specs.Entries.{Signature, Entry, FullEntry, FullDecl, FullDecls, defined, function, component_type, instance_type, plain}
+use Rattle.smith_syntax.specs.Entries.{core_type_decl, type_decl, no_decls, then_decls, keeps_functions, CoreEntry}
 use Rattle.smith_syntax.specs.Scope.{Scope, defined_places}
+use Rattle.smith_core.specs.declared.config.Config.{Config}
+use Rattle.smith_types.specs.Declarations.{SoFar, nothing_so_far, after_one, ReadsAlias, ReadsExport, ReadsImport, declaration_items, NoImport, named_by_core}
+use Rattle.smith_types.specs.MadeCore.{MadeCore}
 use Rattle.smith_types.specs.Script.{primitives, defined_kinds, type_kinds}
-use Rattle.smith_types.specs.declared.make.TypeKind.{TypeKind}
+use Rattle.smith_types.specs.declared.make.declarations.DeclarationItem.TheVariants as item
 use Rattle.smith_types.specs.declared.make.TypeKind.TheVariants.{Defined, Function, Component, Instance}
 use Rattle.smith_types.specs.declared.make.defined.DefinedKind.{DefinedKind}
 use Rattle.smith_types.specs.declared.make.defined.DefinedKind.TheVariants as kind
@@ -93,23 +97,44 @@ pub record MadeFunction (own : Scope) (bytes : List ℕ) (fuel : ℕ) (s : Signa
   pub takes : ReadsMembers (ReadsNamed (ReadsVal own)) 0 16 bytes fuel s.params mid held
   pub gives : ReadsResult own mid held s.result rest left
 
--- a type of values
-abbrev pub MadeValues : Scope → List ℕ → ℕ → Entry → List ℕ → ℕ → Type 0
-MadeValues own b fuel e rest left = (t : DefValType) × MadeDefined own b fuel t rest left × (e ≡ defined t)
+mutual
+  -- A type takes one from the fuel. Where none is left then it is a defined type; else its kind is a choice of four. The declarations of
+  -- a component type and of an instance type stand in a scope of their own.
+  pub data Made (config : Config) : Scope → List Scope → List ℕ → ℕ → FullEntry → List ℕ → ℕ → Type 0 where
+    spent_type : {own : Scope} {outer : List Scope} {bytes rest : List ℕ} {fuel left : ℕ} {t : DefValType} {e : FullEntry} → fuel - 1 ≡ 0 → MadeDefined own bytes 0 t rest left → e ≡ defined t → Made config own outer bytes fuel e rest left
+    made_defined : {own : Scope} {outer : List Scope} {bytes mid rest : List ℕ} {fuel left : ℕ} {t : DefValType} {e : FullEntry} → 0 < fuel - 1 → ReadsAmong type_kinds bytes Defined mid → MadeDefined own mid (fuel - 1) t rest left → e ≡ defined t
+        → Made config own outer bytes fuel e rest left
+    made_function : {own : Scope} {outer : List Scope} {bytes mid rest : List ℕ} {fuel left : ℕ} {s : Signature} {e : FullEntry} → 0 < fuel - 1 → ReadsAmong type_kinds bytes Function mid → MadeFunction own mid (fuel - 1) s rest left → e ≡ function s
+        → Made config own outer bytes fuel e rest left
+    made_component : {own : Scope} {outer : List Scope} {bytes mid rest : List ℕ} {fuel left : ℕ} {ds : FullDecls} {e : FullEntry} → 0 < fuel - 1 → ReadsAmong type_kinds bytes Component mid
+        → MadeDeclarations config true (own ∷ outer) 0 nothing_so_far mid (fuel - 1) ds rest left → e ≡ component_type ds → Made config own outer bytes fuel e rest left
+    made_instance : {own : Scope} {outer : List Scope} {bytes mid rest : List ℕ} {fuel left : ℕ} {ds : FullDecls} {e : FullEntry} → 0 < fuel - 1 → ReadsAmong type_kinds bytes Instance mid
+        → MadeDeclarations config false (own ∷ outer) 0 nothing_so_far mid (fuel - 1) ds rest left → e ≡ instance_type ds → Made config own outer bytes fuel e rest left
 
--- A type of a kind. Those of components and instances are defined types so far.
-abbrev pub MadeOf : Scope → TypeKind → List ℕ → ℕ → Entry → List ℕ → ℕ → Type 0
-MadeOf own Defined b fuel e rest left = MadeValues own b fuel e rest left
-MadeOf own Function b fuel e rest left = (s : Signature) × MadeFunction own b fuel s rest left × (e ≡ function s)
-MadeOf own Component b fuel e rest left = MadeValues own b fuel e rest left
-MadeOf own Instance b fuel e rest left = MadeValues own b fuel e rest left
+  -- A declaration of a component type (true) or of an instance type (false), after its turn's fuel is taken.
+  pub data MadeDeclaration (config : Config) : Bool → List Scope → SoFar → List ℕ → ℕ → FullDecl → List ℕ → ℕ → Type 0 where
+    made_import : {importing : Bool} {outer : List Scope} {s : SoFar} {bytes rest : List ℕ} {fuel left : ℕ} {d : FullDecl} → importing ≡ true → ReadsImport config s.own s.imports bytes d rest → left ≡ fuel → MadeDeclaration config importing outer s bytes fuel d rest left
+    made_export : {importing : Bool} {outer : List Scope} {s : SoFar} {bytes mid low rest : List ℕ} {fuel left : ℕ} {d : FullDecl} → NoImport config importing s.own bytes mid → ReadsAmong (declaration_items config outer s.own) mid item.Export low
+        → ReadsExport config s.own s.exports low d rest → left ≡ fuel → MadeDeclaration config importing outer s bytes fuel d rest left
+    made_alias : {importing : Bool} {outer : List Scope} {s : SoFar} {bytes mid low rest : List ℕ} {fuel left : ℕ} {d : FullDecl} → NoImport config importing s.own bytes mid → ReadsAmong (declaration_items config outer s.own) mid item.Alias low
+        → ReadsAlias (s.own ∷ outer) low d rest → left ≡ fuel → MadeDeclaration config importing outer s bytes fuel d rest left
+    made_core_type : {importing : Bool} {outer : List Scope} {s : SoFar} {bytes mid low rest : List ℕ} {fuel left : ℕ} {c : CoreEntry} {d : FullDecl} → NoImport config importing s.own bytes mid
+        → ReadsAmong (declaration_items config outer s.own) mid item.CoreType low → MadeCore config s.own low fuel c rest left → d ≡ core_type_decl c (keeps_functions (named_by_core s.own.core_types c)) → MadeDeclaration config importing outer s bytes fuel d rest left
+    made_type : {importing : Bool} {outer : List Scope} {s : SoFar} {bytes mid low rest : List ℕ} {fuel left : ℕ} {e : FullEntry} {d : FullDecl} → NoImport config importing s.own bytes mid → ReadsAmong (declaration_items config outer s.own) mid item.Type low
+        → Made config s.own outer low fuel e rest left → d ≡ type_decl e → MadeDeclaration config importing outer s bytes fuel d rest left
 
--- A type takes one from the fuel. Where none is left then it is a defined type; else its kind is a choice of four.
-pub data Made (own : Scope) (outer : List Scope) : List ℕ → ℕ → Entry → List ℕ → ℕ → Type 0 where
-  spent_type : {bytes : List ℕ} {fuel : ℕ} {e : Entry} {rest : List ℕ} {left : ℕ} → fuel - 1 ≡ 0 → MadeValues own bytes 0 e rest left → Made own outer bytes fuel e rest left
-  of_kind : {bytes : List ℕ} {fuel : ℕ} {kind : TypeKind} {mid : List ℕ} {e : Entry} {rest : List ℕ} {left : ℕ} → 0 < fuel - 1 → ReadsAmong type_kinds bytes kind mid → MadeOf own kind mid (fuel - 1) e rest left
-      → Made own outer bytes fuel e rest left
+  -- At most 100 declarations, `done` of which were made before. Each turn takes one from the fuel, and the loop ends where none is left
+  -- then. It is a loop like those over members, written out since it nests types.
+  pub data MadeDeclarations (config : Config) : Bool → List Scope → ℕ → SoFar → List ℕ → ℕ → FullDecls → List ℕ → ℕ → Type 0 where
+    no_more_decls : {importing : Bool} {outer : List Scope} {done : ℕ} {s : SoFar} {bytes rest : List ℕ} {fuel left : ℕ} → More done 0 100 bytes false rest → left ≡ fuel → MadeDeclarations config importing outer done s bytes fuel no_decls rest left
+    spent_decls : {importing : Bool} {outer : List Scope} {done : ℕ} {s : SoFar} {bytes rest : List ℕ} {fuel left : ℕ} → More done 0 100 bytes true rest → fuel - 1 ≡ 0 → left ≡ 0 → MadeDeclarations config importing outer done s bytes fuel no_decls rest left
+    one_decl : {importing : Bool} {outer : List Scope} {done : ℕ} {s : SoFar} {bytes mid low rest : List ℕ} {fuel held left : ℕ} {d : FullDecl} {ds : FullDecls} → More done 0 100 bytes true mid → 0 < fuel - 1
+        → MadeDeclaration config importing outer s mid (fuel - 1) d low held → MadeDeclarations config importing outer (done + 1) (after_one outer s d) low held ds rest left
+        → MadeDeclarations config importing outer done s bytes fuel (then_decls d ds) rest left
 
--- the same, whatever is left of the fuel
-abbrev pub MadeWith : Scope → List Scope → ℕ → List ℕ → Entry → List ℕ → Type 0
-MadeWith own outer fuel bytes e rest = (left : ℕ) × Made own outer bytes fuel e rest left
+-- the same as a plain tree, whatever is left of the fuel
+pub record MadeWith (config : Config) (own : Scope) (outer : List Scope) (fuel : ℕ) (bytes : List ℕ) (e : Entry) (rest : List ℕ) : Type 0 where
+  pub full : FullEntry
+  pub left : ℕ
+  pub made : Made config own outer bytes fuel full rest left
+  pub shown : e ≡ plain full

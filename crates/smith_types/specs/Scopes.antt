@@ -1,11 +1,11 @@
 -- The scopes of the program, outermost first, and what it keeps beside the types of each.
-use Rattle.std.specs.Prelude.{◌≡◌, ℕ, List, [], ◌∷◌, ◌++◌, map, reverse, get_or, Option, Some, None, if◌then◌else◌}
+use Rattle.std.specs.Prelude.{◌≡◌, ℕ, ◌≤◌, List, [], ◌∷◌, ◌++◌, map, length, reverse, get_or, Option, Some, None, if◌then◌else◌}
 use Rattle.std.specs.HashMap.{HashMap, get}
 use Rattle.std.specs.declared.alloc.Global.{Global}
 use Rattle.std.specs.declared.rc.Rc.{Rc}
 use Rattle.std.specs.declared.vec.Vec.{Vec}
 use Rattle.smith_syntax.specs.Entries.{Signature}
-use Rattle.smith_syntax.specs.Scope.{ScopeOf, Scope, empty_scope, with_type, with_core_type, own_of, outer_of, places, is_defined, is_func, is_core_func, is_core_module}
+use Rattle.smith_syntax.specs.Scope.{ScopeOf, Scope, empty_scope, with_type, with_core_type, own_of, outer_of, places, is_defined, is_func, is_component, is_instance, is_core_func, is_core_module}
 use Rattle.smith_syntax.specs.Shown.{shown_type, shown_core, has_signature}
 use Rattle.smith_syntax.specs.Signature.{same_signature}
 use Rattle.smith_syntax.specs.declared.core_types.CoreType.{CoreType}
@@ -58,6 +58,8 @@ AddsCoreType old ty new = Changes (λ d. with_core_type d ty) old new
 abbrev pub kind_places : Kind → Scope → List ℕ
 kind_places kind.Defined s = places is_defined 0 s.types
 kind_places kind.Func s = places is_func 0 s.types
+kind_places kind.Component s = places is_component 0 s.types
+kind_places kind.Instance s = places is_instance 0 s.types
 kind_places kind.CoreFunc s = places is_core_func 0 s.core_types
 kind_places kind.CoreModule s = places is_core_module 0 s.core_types
 
@@ -81,13 +83,17 @@ module _ {Z S : Type 0} where
 abbrev pub values_of : {X : Type 0} → List (Rc X Global) → List X
 values_of entries = map (λ e. e.value) entries
 
--- the indexes of each kind, and for each function type the indexes of its equals
-pub record IsTied {Z S : Type 0} (types : List DefType) (defined funcs : List ℕ) (equal : HashMap Signature (Vec ℕ Z) S) : Type 0 where
+-- The indexes of each kind, and for each function type the indexes of its equals. An index has 32 bits.
+pub record IsTied {Z S : Type 0} (types : List DefType) (defined funcs components instances : List ℕ) (equal : HashMap Signature (Vec ℕ Z) S) : Type 0 where
   pub defined_are : defined ≡ places is_defined 0 (map shown_type types)
   pub funcs_are : funcs ≡ places is_func 0 (map shown_type types)
+  pub components_are : components ≡ places is_component 0 (map shown_type types)
+  pub instances_are : instances ≡ places is_instance 0 (map shown_type types)
   pub equal_are : (s : Signature) → row_of equal s ≡ places (has_signature s) 0 types
+  pub few : length types ≤ 4294967295
 
 -- the indexes of each kind of core type
 pub record IsCoreTied (types : List CoreType) (funcs modules : List ℕ) : Type 0 where
   pub funcs_are : funcs ≡ places is_core_func 0 (map shown_core types)
   pub modules_are : modules ≡ places is_core_module 0 (map shown_core types)
+  pub few : length types ≤ 4294967295

@@ -9,7 +9,7 @@ use Rattle.smith_core.specs.Limits.{configured}
 use Rattle.smith_core.specs.declared.config.Config.{Config}
 use Rattle.smith_syntax.specs.CoreLimits.{max_results}
 use Rattle.smith_syntax.specs.Entries.{DefValType, primitive_type, record_type, variant_type, list_type, tuple_type, flags_type, enum_type, option_type, result_type}
-use Rattle.smith_syntax.specs.Entries.{Field, Case, Signature, Entry, defined, function}
+use Rattle.smith_syntax.specs.Entries.{Field, Case, Signature, Entry, defined, function, component_type, instance_type}
 use Rattle.smith_syntax.specs.Scope.{Scope, defined_places}
 use Rattle.smith_syntax.specs.WellFormed.{size}
 use Rattle.smith_types.specs.contracts.make.TypeKindPartialEq.TheImpl.{ghosts as types}
@@ -87,10 +87,13 @@ script_function own s = script_members (script_field own) 0 16 s.params ++ scrip
 abbrev pub script_type_kind : TypeKind → List ℕ
 script_type_kind k = script_among types.eq type_kinds k
 
--- A type with so much fuel: which of four kinds it is, where the fuel lasts, and then what it is. The fuel lasts for a function.
+-- A type with so much fuel: which of four kinds it is, where the fuel lasts, and then what it is. The fuel lasts for a function. Types of
+-- components and instances have no script.
 abbrev pub script_type : ℕ → Scope → Entry → List ℕ
 script_type fuel own (defined t) = (if nat_le 2 fuel then script_type_kind Defined else []) ++ script_defined own t
 script_type fuel own (function s) = script_type_kind Function ++ script_function own s
+script_type fuel own (component_type ds) = []
+script_type fuel own (instance_type ds) = []
 
 -- a core function type: the first of two, and then its parameters and its results
 abbrev pub script_core_type : Config → Core.Function → List ℕ
@@ -115,3 +118,5 @@ LastsDefined fuel (result_type ok err) = Unit {0}
 abbrev pub Lasts : ℕ → Entry → Type 0
 Lasts fuel (defined t) = LastsDefined fuel t
 Lasts fuel (function s) = AreShort (map (λ p. p.0) s.params) × (size (function s) + 2 ≤ fuel)
+Lasts fuel (component_type ds) = ⊥
+Lasts fuel (instance_type ds) = ⊥

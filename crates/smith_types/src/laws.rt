@@ -7,24 +7,25 @@ ghost use Rattle.smith_core.specs.Limits.{configured};
 ghost use Rattle.smith_core.specs.declared.config.Config.{Config};
 ghost use Rattle.smith_input.specs.Reading.{IsDecided, IsReadAs};
 ghost use Rattle.smith_syntax.specs.CoreLimits.{max_results};
-ghost use Rattle.smith_syntax.specs.Entries.{Entry, CoreEntry, core_func};
+ghost use Rattle.smith_syntax.specs.Entries.{Entry, FullEntry, CoreEntry, core_func};
 ghost use Rattle.smith_syntax.specs.Scope.{Scope};
 ghost use Rattle.smith_syntax.specs.WellFormed.{FormedEntry};
 ghost use Rattle.smith_types.specs.Made.{Made, MadeWith};
 ghost use Rattle.smith_types.specs.MadeCore.{MadeCore};
 ghost use Rattle.smith_types.specs.Script.{Lasts, script_core_type, script_type};
 
-/// The scopes, the bytes and the fuel alone decide which type is made, and what is left of both.
+/// The limits, the scopes, the bytes and the fuel alone decide which type is made, with its URLs and what its aliases
+/// keep, and what is left of both.
 pub fn types_are_decided()
-    ensures { (own : Scope) (outer : List Scope) (fuel : ℕ)
-        → IsDecided (λ bytes (made : Entry × ℕ) rest. Made own outer bytes fuel made.0 rest made.1) }
+    ensures { (config : Config) (own : Scope) (outer : List Scope) (fuel : ℕ)
+        → IsDecided (λ bytes (made : FullEntry × ℕ) rest. Made config own outer bytes fuel made.0 rest made.1) }
 {}
 
 /// The script of a type that is well formed in its scopes and for which the fuel lasts is read as that type.
 pub fn scripts_are_read()
-    ensures { (own : Scope) (outer : List Scope) (fuel : ℕ) (e : Entry)
+    ensures { (config : Config) (own : Scope) (outer : List Scope) (fuel : ℕ) (e : Entry)
         → FormedEntry e own outer → Lasts fuel e → length own.types ≤ 2 ^ 64
-        → IsReadAs (MadeWith own outer fuel) (script_type fuel own e) e }
+        → IsReadAs (MadeWith config own outer fuel) (script_type fuel own e) e }
 {}
 
 /// The scopes, the bytes and the fuel alone decide which core type is made, and what is left of both.

@@ -23,6 +23,10 @@ pub enum Kind {
     Defined,
     /// The type of a function.
     Func,
+    /// The type of a component.
+    Component,
+    /// The type of an instance.
+    Instance,
     /// A core function type.
     CoreFunc,
     /// The type of a core module.
@@ -40,6 +44,8 @@ struct Scope {
     types: Vec<Rc<DefType>>,
     defined: Vec<u32>,
     funcs: Vec<u32>,
+    components: Vec<u32>,
+    instances: Vec<u32>,
     equal: Equals,
     core_types: Vec<Rc<CoreType>>,
     core_funcs: Vec<u32>,
@@ -51,9 +57,15 @@ impl Model for Scope {
 
     ghost Value = { Contents };
 
+    ghost use Rattle.smith_syntax.specs.contracts.deftype.DefType as kind;
+    ghost use Rattle.std.specs.Coded.{codes};
+
+    ghost coded = { Prim.hlevel (codes, kind.the_row.coded) };
+
     ghost view = { λ s. record { types = values_of s.types.items; core_types = values_of s.core_types.items } };
 
-    ghost invariant = { λ s. IsTied (values_of s.types.items) s.defined.items s.funcs.items s.equal
+    ghost invariant = { λ s. IsTied (values_of s.types.items) s.defined.items s.funcs.items
+        s.components.items s.instances.items s.equal
         × IsCoreTied (values_of s.core_types.items) s.core_funcs.items s.core_modules.items };
 }
 
@@ -72,6 +84,11 @@ impl Model for Scopes {
 
     ghost Value = { List Contents };
 
+    ghost use Rattle.smith_syntax.specs.contracts.deftype.DefType as kind;
+    ghost use Rattle.std.specs.Coded.{codes};
+
+    ghost coded = { Prim.hlevel (codes, kind.the_row.coded) };
+
     ghost view = { λ s. s.outer.items ++ s.inner ∷ [] };
 }
 
@@ -81,6 +98,8 @@ impl Drop for Scope {
             types,
             defined: _,
             funcs: _,
+            components: _,
+            instances: _,
             equal: _,
             core_types,
             core_funcs: _,
@@ -128,6 +147,8 @@ impl Scope {
             types: Vec::new(alloc),
             defined: Vec::new(alloc),
             funcs: Vec::new(alloc),
+            components: Vec::new(alloc),
+            instances: Vec::new(alloc),
             equal: HashMap::with_hasher(alloc, BuildHasherDefault::default()),
             core_types: Vec::new(alloc),
             core_funcs: Vec::new(alloc),
@@ -152,6 +173,8 @@ impl Scope {
                 note(&mut self.equal, alloc, &**func, index)?;
                 self.funcs.push_reserved(index);
             }
+            DefType::Component(_) => self.components.push(index)?,
+            DefType::Instance(_) => self.instances.push(index)?,
         }
         self.types.push_reserved(entry);
         Ok(index)
@@ -178,11 +201,14 @@ impl Scope {
     // The indexes of the entries of that kind.
     fn places(&self, kind: Kind) -> &[u32]
         ensures places { result.now ≡ kind_places kind (shown_scope self.now) }
+        ensures few { length result.now ≤ 4294967295 }
         ensures small { length result.now < 9223372036854775808 }
     {
         match kind {
             Kind::Defined => &self.defined,
             Kind::Func => &self.funcs,
+            Kind::Component => &self.components,
+            Kind::Instance => &self.instances,
             Kind::CoreFunc => &self.core_funcs,
             Kind::CoreModule => &self.core_modules,
         }
@@ -213,6 +239,7 @@ impl Scopes {
     /// Adds an empty scope. It refuses for want of memory alone, and all is as it was then.
     pub fn open_scope(&mut self) -> Result<(), Error>
         ensures ok { OnOk result (self.new ≡ self.old ++ empty_scope ∷ []) }
+        ensures deep { OnOk result (2 ≤ length self.new) }
         ensures err { OnErr result (self.new ≡ self.old) }
         ensures memory { IfErr result (λ e. e ≡ Error.OutOfMemory) }
     {
@@ -258,7 +285,8 @@ impl Scopes {
 
     /// How many scopes there are.
     pub fn depth(&self) -> usize
-        ensures { result ≡ length self.now }
+        ensures count { result ≡ length self.now }
+        ensures some { 1 ≤ result }
     {
         self.outer.len() + 1
     }
@@ -278,7 +306,8 @@ impl Scopes {
     /// How many types the scope of that count has, where 0 is the last.
     pub fn len(&self, count: u32) -> usize
         requires { count < length self.now }
-        ensures { result ≡ length (scope_at self.now count).types }
+        ensures count { result ≡ length (scope_at self.now count).types }
+        ensures few { result ≤ 4294967295 }
     {
         self.scope(count).types.len()
     }
@@ -286,7 +315,8 @@ impl Scopes {
     /// How many core types the scope of that count has, where 0 is the last.
     pub fn len_core(&self, count: u32) -> usize
         requires { count < length self.now }
-        ensures { result ≡ length (scope_at self.now count).core_types }
+        ensures count { result ≡ length (scope_at self.now count).core_types }
+        ensures few { result ≤ 4294967295 }
     {
         self.scope(count).core_types.len()
     }
@@ -309,9 +339,18 @@ impl Scopes {
         &self.scope(count).core_types[i as usize]
     }
 
+    /// How many types the last scope has.
+    pub fn own_len(&self) -> usize
+        ensures count { result ≡ length (own_scope self.now).types }
+        ensures few { result ≤ 4294967295 }
+    {
+        self.inner.types.len()
+    }
+
     /// How many entries of the last scope are of that kind.
     pub fn kind_len(&self, kind: Kind) -> usize
         ensures count { result ≡ length (kind_places kind (own_scope self.now)) }
+        ensures few { result ≤ 4294967295 }
         ensures small { result < 9223372036854775808 }
     {
         self.inner.places(kind).len()

@@ -12,6 +12,8 @@ mod core_types;
 #[cfg(test)]
 mod custom;
 #[cfg(test)]
+mod declarations;
+#[cfg(test)]
 mod deep;
 #[cfg(test)]
 mod hashes;
@@ -20,7 +22,13 @@ mod limits;
 #[cfg(test)]
 mod names;
 #[cfg(test)]
+mod nested_types;
+#[cfg(test)]
 mod reader;
+#[cfg(test)]
+mod references;
+#[cfg(test)]
+mod scoped_types;
 #[cfg(test)]
 mod types;
 #[cfg(test)]

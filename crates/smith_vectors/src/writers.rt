@@ -1,6 +1,7 @@
 //! What writers write.
 
 use smith_core::{EntityType, MemoryType, ValType, write_section};
+use smith_syntax::{ComponentTypeRef, Import, import_len, write_import};
 use smith_types::{
     ComponentValType, CoreType, DefType, DefinedType, FuncType, ListType, ModuleType,
     ModuleTypeDef, PrimitiveValType, VariantType, write_core_type, write_type,
@@ -140,4 +141,63 @@ fn a_module_type_that_the_canonical_abi_asks_for(rt: HostRuntime) -> Result<(), 
         0x65, 0x65, 0x00, 0x01,
     ];
     is_core_written(&rt, &ty, expected.as_slice())
+}
+
+// The references of the binary format: a module, a function, an equal type, a component and an instance. An index past
+// 127 takes two bytes, and a URL is not written.
+const IMPORTS: &[(&str, Option<&str>, ComponentTypeRef, &[u8])] = &[
+    (
+        "a",
+        None,
+        ComponentTypeRef::Module(3),
+        b"\x00\x01a\x00\x11\x03",
+    ),
+    ("ab", None, ComponentTypeRef::Func(0), b"\x00\x02ab\x01\x00"),
+    (
+        "a-b",
+        None,
+        ComponentTypeRef::TypeEq(127),
+        b"\x00\x03a-b\x03\x00\x7f",
+    ),
+    (
+        "",
+        None,
+        ComponentTypeRef::Component(128),
+        b"\x00\x00\x04\x80\x01",
+    ),
+    (
+        "\u{e9}",
+        None,
+        ComponentTypeRef::Instance(1),
+        b"\x00\x02\xc3\xa9\x05\x01",
+    ),
+    (
+        "a",
+        Some("https://example.com/a"),
+        ComponentTypeRef::Func(1),
+        b"\x00\x01a\x01\x01",
+    ),
+];
+
+#[test]
+fn imports_are_written(rt: HostRuntime) -> Result<(), Fail> {
+    let alloc = rt.alloc();
+    for (name, url, ty, expected) in IMPORTS {
+        let url = match url {
+            Some(url) => Some(String::from_str(alloc, *url)?),
+            None => None,
+        };
+        let import = Import {
+            name: String::from_str(alloc, *name)?,
+            url,
+            ty: *ty,
+        };
+        let mut out = Vec::from_slice(alloc, b"\x0a")?;
+        let mut whole = Vec::from_slice(alloc, b"\x0a")?;
+        whole.extend_from_slice(*expected)?;
+        write_import(&mut out, &import)?;
+        assert_eq!(rt; out.as_slice(), whole.as_slice(), "{ty:?}");
+        assert_eq!(rt; import_len(&import), Some(expected.len() as u32), "{ty:?}");
+    }
+    Ok(())
 }

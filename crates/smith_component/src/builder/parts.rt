@@ -1,99 +1,28 @@
 //! Parts that are added to the inner component.
 
-ghost use Rattle.std.specs.Prelude.{◌≡◌, ℕ, ◌-◌, ◌+◌, ◌≤◌, List, [], map, length};
-ghost use Rattle.std.specs.Prelude.{IfOk, IfErr, IsTrue};
+ghost use Rattle.std.specs.Prelude.{◌≡◌, ℕ, List, IfOk, IfErr, IsTrue};
 ghost use Rattle.smith_input.specs.Reading.{IsTail};
-ghost use Rattle.smith_core.specs.Limits.{configured};
 ghost use Rattle.smith_core.specs.Module.{core_preamble};
-ghost use Rattle.smith_types.specs.Scopes.{inward};
-ghost use Rattle.smith_syntax.specs.Scope.{own_of, outer_of};
-ghost use Rattle.smith_syntax.specs.Shown.{shown_shared, shown_shared_core};
 ghost use Rattle.smith_component.specs.Sound.{IsAddable};
 ghost use Rattle.smith_component.specs.Building.{open_of};
 ghost use Rattle.smith_component.specs.Scripted.{Follows};
 ghost use Rattle.smith_component.specs.Shown.{shown_section};
 ghost use Rattle.smith_component.specs.Steps.{next_of, KeepsSections, StaysSound};
 ghost use Rattle.smith_component.specs.Tree.{add, core_module};
-ghost use Rattle.smith_component.specs.Turn.{Next, Does, ReadsCoreTypes, ReadsTypes, with_part};
+ghost use Rattle.smith_component.specs.Turn.{Next, Does, with_part};
 ghost use Rattle.smith_component.specs.Open.{is_module_offered};
 ghost use Rattle.smith_component.specs.WellFormed.{scope_of};
 ghost use Rattle.smith_component.specs.declared.item.Item.TheVariants.{Custom, CoreTypes, Types, Imports, Canonical};
 
+use crate::builder::entries::read_entries;
 use crate::builder::{Builder, Step};
 use crate::component::{
     CanonicalSection, CoreTypeSection, CustomSection, ImportSection, Section, TypeSection,
 };
-use smith_core::{Config, Module, ValType};
+use smith_core::Module;
 use smith_input::{Error, Unstructured};
-use smith_types::{CoreType, DefType, Scopes, arbitrary_core_type, arbitrary_type};
-use std::alloc::Global;
+use smith_types::{CoreType, DefType};
 use std::rc::Rc;
-
-// The entries of a type section, at most so many. Each is added to the last scope.
-fn read_types(
-    alloc: Global,
-    config: &Config,
-    valtypes: &[ValType],
-    max: usize,
-    scopes: &mut Scopes,
-    u: &mut Unstructured,
-) -> Result<Vec<Rc<DefType>>, Error>
-    requires room { length (own_of (inward scopes.old)).types + max ≤ 4294967295 }
-    requires configured { valtypes.now ≡ configured config.now }
-    ensures entries { IfOk result (λ v.
-        ReadsTypes config.now (outer_of (inward scopes.old)) max (own_of (inward scopes.old))
-        u.old (map shown_shared v.items) u.new (own_of (inward scopes.new))) }
-    ensures outer { IfOk result (λ _. outer_of (inward scopes.new) ≡ outer_of (inward scopes.old)) }
-    ensures depth { IfOk result (λ _. length (inward scopes.new) ≡ length (inward scopes.old)) }
-    ensures bound { IfOk result (λ v. length v.items ≤ max) }
-    ensures memory { IfErr result (λ e. e ≡ Error.OutOfMemory) }
-    ensures tail { IsTail u.new u.old }
-{
-    let mut types = Vec::new(alloc);
-    for done in 0..max {
-        if !u.more(done, 0, max) {
-            return Ok(types);
-        }
-        let mut fuel = config.max_type_size;
-        let made = arbitrary_type(alloc, u, config, valtypes, scopes, &mut fuel)?;
-        scopes.push_type(made.clone()?)?;
-        types.push(made)?;
-    }
-    Ok(types)
-}
-
-// The entries of a core type section, at most so many. Each is added to the last scope.
-fn read_core_types(
-    alloc: Global,
-    config: &Config,
-    valtypes: &[ValType],
-    max: usize,
-    scopes: &mut Scopes,
-    u: &mut Unstructured,
-) -> Result<Vec<Rc<CoreType>>, Error>
-    requires room { length (own_of (inward scopes.old)).core_types + max ≤ 4294967295 }
-    requires configured { valtypes.now ≡ configured config.now }
-    ensures entries { IfOk result (λ v.
-        ReadsCoreTypes config.now max (own_of (inward scopes.old))
-        u.old (map shown_shared_core v.items) u.new (own_of (inward scopes.new))) }
-    ensures outer { IfOk result (λ _. outer_of (inward scopes.new) ≡ outer_of (inward scopes.old)) }
-    ensures depth { IfOk result (λ _. length (inward scopes.new) ≡ length (inward scopes.old)) }
-    ensures bound { IfOk result (λ v. length v.items ≤ max) }
-    ensures memory { IfErr result (λ e. e ≡ Error.OutOfMemory) }
-    ensures tail { IsTail u.new u.old }
-{
-    let mut types = Vec::new(alloc);
-    for done in 0..max {
-        if !u.more(done, 0, max) {
-            return Ok(types);
-        }
-        let mut fuel = config.max_type_size;
-        let made = arbitrary_core_type(alloc, u, config, valtypes, scopes, &mut fuel)?;
-        scopes.push_core_type(made.clone()?)?;
-        types.push(made)?;
-    }
-    Ok(types)
-}
 
 impl Builder {
     // A section without types is added to the inner component.
@@ -149,7 +78,7 @@ impl Builder {
     {
         let mut builder = self;
         let room = builder.config.max_types - builder.inner.core_types;
-        let types = read_core_types(
+        let types = read_entries::<Rc<CoreType>>(
             builder.alloc,
             &builder.config,
             &builder.valtypes,
@@ -203,7 +132,7 @@ impl Builder {
     {
         let mut builder = self;
         let room = builder.config.max_types - builder.inner.types;
-        let types = read_types(
+        let types = read_entries::<Rc<DefType>>(
             builder.alloc,
             &builder.config,
             &builder.valtypes,

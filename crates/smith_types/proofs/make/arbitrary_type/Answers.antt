@@ -1,19 +1,23 @@
-use Rattle.std.proofs.Common.{sym, subst, ◌+◌, ◌≤◌}
-use Rattle.smith_syntax.specs.Scope.{own_of, outer_of}
+use Rattle.std.proofs.Common.{ℕ, ◌+◌, ◌≤◌, subst}
+use Rattle.std.specs.Prelude.{max}
+use Rattle.smith_syntax.specs.Shown.{shown_shared}
+use Rattle.smith_syntax.specs.TypeLimits.{nesting}
 use Rattle.smith_types.specs.Scopes.{inward}
-use Rattle.smith_syntax.specs.Shown.{shown_type}
-use Rattle.smith_syntax.specs.WellFormed.{FormedEntry, size}
-use Rattle.smith_syntax.specs.declared.deftype.DefType.{DefType}
-use Rattle.smith_types.proofs.Made.{made_formed, made_size}
+use Rattle.smith_types.proofs.MadeFormed.{made_formed}
+use Rattle.smith_types.proofs.MadeTypes.{made_limits, made_size, stack_nesting}
+use Rattle.smith_types.proofs.Stack.{length-inward}
 use Rattle.smith_types.proofs.make.arbitrary_type.Goals as goal
 
 pub returns-clause-formed : goal.returns-clause-formed
-returns-clause-formed c =
-    let scopes = inward c.args.scopes.now in
-    let P : DefType → Type 0 = λ t. FormedEntry (shown_type t) (own_of scopes) (outer_of scopes) in
-    subst P (sym c.in_ok-shared.ensures.ok) (made_formed _ _ _ _ _ _ _ c.in_ok-made.ensures.made)
+returns-clause-formed c = made_formed _ _ _ _ _ _ _ _ c.in_ok-made.ensures.made
+
+pub returns-clause-limits : goal.returns-clause-limits
+returns-clause-limits c = made_limits _ _ _ _ _ _ _ _ c.in_ok-made.ensures.made
+
+pub returns-clause-nesting : goal.returns-clause-nesting
+returns-clause-nesting c =
+    let P : ℕ → Type 0 = λ n. n + nesting (shown_shared c.in_ok-made.made) ≤ max (n + 1) c.args.config.now.max_nesting_depth in
+    subst P (length-inward c.args.scopes.now) (stack_nesting c.args.config.now (inward c.args.scopes.now) _ _ _ _ _ c.in_ok-made.ensures.made)
 
 pub returns-clause-size : goal.returns-clause-size
-returns-clause-size c =
-    let P : DefType → Type 0 = λ t. size (shown_type t) + c.made_type.new.fuel ≤ c.args.fuel.now in
-    subst P (sym c.in_ok-shared.ensures.ok) (made_size _ _ _ _ _ _ _ c.in_ok-made.ensures.made)
+returns-clause-size c = made_size _ _ _ _ _ _ _ _ c.in_ok-made.ensures.made

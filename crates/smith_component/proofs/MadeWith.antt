@@ -1,0 +1,38 @@
+-- What a type that is read is, as a plain tree.
+use Rattle.std.proofs.Common.{◌≡◌, ℕ, ◌+◌, ◌≤◌, ◌∷◌, max, List, length, arith, sym, ap, ◌∙◌, subst}
+use Rattle.smith_input.specs.Reading.{IsTail}
+use Rattle.smith_core.specs.declared.config.Config.{Config}
+use Rattle.smith_syntax.specs.Entries.{Entry, plain}
+use Rattle.smith_syntax.specs.Scope.{Scope}
+use Rattle.smith_syntax.specs.TypeLimits.{EntryLimits, nesting}
+use Rattle.smith_syntax.specs.WellFormed.{FormedEntry, size}
+use Rattle.smith_types.specs.Made.{MadeWith}
+use Rattle.smith_types.proofs.MadeTypes.{made_tail, made_size, made_limits, made_nesting}
+use Rattle.smith_types.proofs.MadeFormed.{made_formed}
+use Rattle.smith_types.proofs.MadeSame.{made_same}
+
+module _ {config : Config} {own : Scope} {outer : List Scope} {fuel : ℕ} {b rest : List ℕ} {e : Entry} (m : MadeWith config own outer fuel b e rest) where
+  pub made_with_tail : IsTail rest b
+  made_with_tail = made_tail _ _ _ _ _ _ _ _ m.made
+
+  pub made_with_formed : FormedEntry e own outer
+  made_with_formed = subst (λ x. FormedEntry x own outer) (sym m.shown) (made_formed _ _ _ _ _ _ _ _ m.made)
+
+  pub made_with_limits : EntryLimits config e
+  made_with_limits = subst (EntryLimits config) (sym m.shown) (made_limits _ _ _ _ _ _ _ _ m.made)
+
+  pub made_with_nesting : length (own ∷ outer) + nesting e ≤ max (length (own ∷ outer) + 1) config.max_nesting_depth
+  made_with_nesting =
+      let n = made_nesting config own outer b fuel m.full rest m.left m.made in
+      omega (arith, ap nesting m.shown, n)
+
+  pub made_with_size : size e ≤ fuel
+  made_with_size =
+      let n = made_size config own outer b fuel m.full rest m.left m.made in
+      omega (arith, ap size m.shown, n)
+
+  -- It is determined.
+  pub made_with_same : {f : Entry} {other : List ℕ} → MadeWith config own outer fuel b f other → (e ≡ f) × (rest ≡ other)
+  made_with_same n =
+      let s = made_same config own outer b fuel m.full n.full rest _ m.left n.left m.made n.made in
+      (m.shown ∙ (ap plain s.value ∙ sym n.shown), s.rest)

@@ -1,0 +1,126 @@
+//! The entries of a section of types or of core types.
+
+ghost use Rattle.std.specs.Prelude.{◌≡◌, ℕ, ◌+◌, ◌<◌, ◌≤◌, List, map, length, IfOk, IfErr};
+ghost use Rattle.smith_input.specs.Loops.{Loop, Never};
+ghost use Rattle.smith_input.specs.Reading.{IsTail};
+ghost use Rattle.smith_core.specs.Limits.{configured, IsConsistent};
+ghost use Rattle.smith_core.specs.declared.config.Config.{Config};
+ghost use Rattle.smith_types.specs.Scopes.{own_scope, outer_scopes};
+ghost use Rattle.smith_syntax.specs.Entries.{Entry, CoreEntry};
+ghost use Rattle.smith_syntax.specs.Scope.{Scope};
+ghost use Rattle.smith_syntax.specs.Shown.{shown_shared, shown_shared_core};
+ghost use Rattle.smith_component.specs.Turn.{ReadsType, ReadsCoreType};
+
+use smith_core::{Config, ValType};
+use smith_input::{Error, Unstructured};
+use smith_types::{CoreType, DefType, Scopes, arbitrary_core_type, arbitrary_type};
+use std::alloc::Global;
+use std::rc::Rc;
+
+// What a section holds. An entry is read with fresh fuel, and is the next of its sort in the last scope.
+pub(super) trait SectionEntry: Drop {
+    ghost Shown: { Type 0 };
+
+    ghost shown: { Self → Shown };
+
+    ghost count: { Scope → ℕ };
+
+    ghost reads: { Config → List Scope → Scope → List ℕ → Shown → List ℕ → Scope → Type 0 };
+
+    fn read(
+        alloc: Global,
+        config: &Config,
+        valtypes: &[ValType],
+        scopes: &mut Scopes,
+        u: &mut Unstructured,
+    ) -> Result<Self, Error>
+        requires room { count (own_scope scopes.old) < 4294967295 }
+        requires configured { valtypes.now ≡ configured config.now }
+        requires consistent { IsConsistent config.now }
+        requires shallow { length scopes.old ≤ 1001 }
+        ensures read { IfOk result (λ e. reads config.now (outer_scopes scopes.old) (own_scope scopes.old)
+            u.old (shown e) u.new (own_scope scopes.new)) }
+        ensures count { IfOk result (λ _. count (own_scope scopes.new) ≡ count (own_scope scopes.old) + 1) }
+        ensures outer { IfOk result (λ _. outer_scopes scopes.new ≡ outer_scopes scopes.old) }
+        ensures depth { IfOk result (λ _. length scopes.new ≡ length scopes.old) }
+        ensures memory { IfErr result (λ e. e ≡ Error.OutOfMemory) }
+        ensures tail { IsTail u.new u.old };
+}
+
+// The entries of a section, at most so many.
+pub(super) fn read_entries<E: SectionEntry>(
+    alloc: Global,
+    config: &Config,
+    valtypes: &[ValType],
+    max: usize,
+    scopes: &mut Scopes,
+    u: &mut Unstructured,
+) -> Result<Vec<E>, Error>
+    requires room { E.count (own_scope scopes.old) + max ≤ 4294967295 }
+    requires configured { valtypes.now ≡ configured config.now }
+    requires consistent { IsConsistent config.now }
+    requires shallow { length scopes.old ≤ 1001 }
+    ensures entries { IfOk result (λ v. Loop Never (E.reads config.now (outer_scopes scopes.old)) 0 max 0
+        (own_scope scopes.old) u.old (map E.shown v.items) u.new (own_scope scopes.new)) }
+    ensures outer { IfOk result (λ _. outer_scopes scopes.new ≡ outer_scopes scopes.old) }
+    ensures depth { IfOk result (λ _. length scopes.new ≡ length scopes.old) }
+    ensures bound { IfOk result (λ v. length v.items ≤ max) }
+    ensures memory { IfErr result (λ e. e ≡ Error.OutOfMemory) }
+    ensures tail { IsTail u.new u.old }
+{
+    let mut entries = Vec::new(alloc);
+    for done in 0..max {
+        if !u.more(done, 0, max) {
+            return Ok(entries);
+        }
+        let entry = E::read(alloc, config, valtypes, scopes, u)?;
+        entries.push(entry)?;
+    }
+    Ok(entries)
+}
+
+impl SectionEntry for Rc<DefType> {
+    ghost Shown = { Entry };
+
+    ghost shown = { shown_shared };
+
+    ghost count = { λ s. length s.types };
+
+    ghost reads = { ReadsType };
+
+    fn read(
+        alloc: Global,
+        config: &Config,
+        valtypes: &[ValType],
+        scopes: &mut Scopes,
+        u: &mut Unstructured,
+    ) -> Result<Rc<DefType>, Error> {
+        let mut fuel = config.max_type_size;
+        let made = arbitrary_type(alloc, u, config, valtypes, scopes, &mut fuel)?;
+        scopes.push_type(made.clone()?)?;
+        Ok(made)
+    }
+}
+
+impl SectionEntry for Rc<CoreType> {
+    ghost Shown = { CoreEntry };
+
+    ghost shown = { shown_shared_core };
+
+    ghost count = { λ s. length s.core_types };
+
+    ghost reads = { λ config outer. ReadsCoreType config };
+
+    fn read(
+        alloc: Global,
+        config: &Config,
+        valtypes: &[ValType],
+        scopes: &mut Scopes,
+        u: &mut Unstructured,
+    ) -> Result<Rc<CoreType>, Error> {
+        let mut fuel = config.max_type_size;
+        let made = arbitrary_core_type(alloc, u, config, valtypes, scopes, &mut fuel)?;
+        scopes.push_core_type(made.clone()?)?;
+        Ok(made)
+    }
+}

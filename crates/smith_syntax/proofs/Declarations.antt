@@ -1,0 +1,54 @@
+-- How types of components and instances are spelled, and what they declare, over the program's lists.
+use Rattle.std.proofs.Common.{◌≡◌, ℕ, ◌+◌, ◌<◌, ◌^◌, arith, Bool, true, false, List, [], ◌∷◌, length, map, Option, SomeIff, refl, ap, ◌∙◌}
+use Rattle.std.specs.declared.rc.Rc.{Rc}
+use Rattle.std.specs.declared.alloc.Global.{Global}
+use Rattle.smith_core.specs.Piece.{Piece, ◌⊕◌, byte, bytes, u, each, many}
+use Rattle.smith_core.proofs.Many.{many-map}
+use Rattle.smith_core.proofs.Sizes.{length_is, takes_bytes, takes_then}
+use Rattle.smith_core.specs.Writing.{IsLengthOf, Takes}
+use Rattle.smith_syntax.specs.declared.core_types.CoreType.{CoreType}
+use Rattle.smith_syntax.specs.declared.deftype.Alias.{Alias}
+use Rattle.smith_syntax.specs.declared.deftype.ComponentType.{ComponentType}
+use Rattle.smith_syntax.specs.declared.deftype.DefType.{DefType}
+use Rattle.smith_syntax.specs.declared.deftype.DefType.TheVariants as ty
+use Rattle.smith_syntax.specs.declared.deftype.InstanceType.{InstanceType}
+use Rattle.smith_syntax.specs.declared.deftype.OuterAliasKind.TheVariants as kind
+use Rattle.smith_syntax.specs.Entries.{DeclOf, in_order, decl_count, plain_decl, plain_decls}
+use Rattle.smith_syntax.specs.Grammar.{decl, decls, entry}
+use Rattle.smith_syntax.specs.Shown.{full_component_decl, full_instance_decl, shown_alias, shown_component_decl, shown_instance_decl, shown_type}
+use Rattle.smith_syntax.proofs.Shown.{alias_of_core_type, alias_of_type, shown_component_is, shown_instance_is}
+
+module _ {N K : Type 0} where
+  count_of : (ds : List (DeclOf N K)) → decl_count (plain_decls (in_order ds)) ≡ length ds
+  count_of [] = refl
+  count_of (d ∷ ds) = omega (arith, count_of ds)
+
+  each_of : (b : Bool) (ds : List (DeclOf N K)) → decls b (plain_decls (in_order ds)) ≡ each (λ d. decl b (plain_decl d)) ds
+  each_of b [] = refl
+  each_of b (d ∷ ds) = ap (λ p. decl b (plain_decl d) ⊕ p) (each_of b ds)
+
+  -- declarations in order are spelled as a list of them
+  pub many_of : (b : Bool) (ds : List (DeclOf N K)) → u (decl_count (plain_decls (in_order ds))) ⊕ decls b (plain_decls (in_order ds)) ≡ many (λ d. decl b (plain_decl d)) ds
+  many_of b ds = ap (λ n. u n ⊕ decls b (plain_decls (in_order ds))) (count_of ds) ∙ ap (λ p. u (length ds) ⊕ p) (each_of b ds)
+
+pub entry_component : (t : Rc ComponentType Global) → entry (shown_type (ty.Component t)) ≡ byte 0x41 ⊕ many (λ d. decl true (shown_component_decl d)) t.value.defs.items
+entry_component t =
+    ap entry (shown_component_is t)
+    ∙ ap (λ p. byte 0x41 ⊕ p) (many_of true (map full_component_decl t.value.defs.items) ∙ many-map (λ d. decl true (plain_decl d)) full_component_decl t.value.defs.items)
+
+pub entry_instance : (t : Rc InstanceType Global) → entry (shown_type (ty.Instance t)) ≡ byte 0x42 ⊕ many (λ d. decl false (shown_instance_decl d)) t.value.defs.items
+entry_instance t =
+    ap entry (shown_instance_is t)
+    ∙ ap (λ p. byte 0x42 ⊕ p) (many_of false (map full_instance_decl t.value.defs.items) ∙ many-map (λ d. decl false (plain_decl d)) full_instance_decl t.value.defs.items)
+
+-- outer aliases
+
+pub type_alias_is : (b : Bool) (a : Alias) (t : Rc DefType Global) → a.kind ≡ kind.OfType t → decl b (shown_alias a) ≡ bytes (0x02 ∷ 0x03 ∷ 0x02 ∷ []) ⊕ u a.count ⊕ u a.i
+type_alias_is b a t e = ap (λ d. decl b (plain_decl d)) (alias_of_type a t e)
+
+pub core_type_alias_is : (b : Bool) (a : Alias) (t : Rc CoreType Global) → a.kind ≡ kind.OfCoreType t → decl b (shown_alias a) ≡ bytes (0x02 ∷ 0x00 ∷ 0x10 ∷ 0x02 ∷ []) ⊕ u a.count ⊕ u a.i
+core_type_alias_is b a t e = ap (λ d. decl b (plain_decl d)) (alias_of_core_type a t e)
+
+-- a length, and one byte before it
+pub length_behind : (r : Option ℕ) (tag : ℕ) {n : ℕ} {p : Piece} → SomeIff r (n + 1 < 2 ^ 32) (n + 1) → Takes n p → IsLengthOf r (byte tag ⊕ p)
+length_behind r tag s t = length_is r s (takes_then (takes_bytes 1 (tag ∷ []) refl) t) (omega arith)

@@ -1,0 +1,11 @@
+use Rattle.std.proofs.Common.{true, false}
+use Rattle.smith_core.proofs.Sizes.{Sum}
+use Rattle.smith_syntax.specs.Grammar.{decl}
+use Rattle.smith_syntax.specs.Shown.{shown_component_decl, shown_instance_decl}
+use Rattle.smith_syntax.proofs.encode.declarations.+lengths.Given as goal
+
+abbrev pub invariant-component_decls_len-loop-declared : goal.invariant-component_decls_len-loop-declared
+invariant-component_decls_len-loop-declared l = Sum (λ d. decl true (shown_component_decl d)) l.decls l.declared-index l.total
+
+abbrev pub invariant-instance_decls_len-loop-declared : goal.invariant-instance_decls_len-loop-declared
+invariant-instance_decls_len-loop-declared l = Sum (λ d. decl false (shown_instance_decl d)) l.decls l.declared-index l.total

@@ -1,0 +1,11 @@
+use Rattle.std.proofs.Common.{true, false}
+use Rattle.smith_core.proofs.Many.{Put}
+use Rattle.smith_syntax.specs.Grammar.{decl}
+use Rattle.smith_syntax.specs.Shown.{shown_component_decl, shown_instance_decl}
+use Rattle.smith_syntax.proofs.encode.declarations.+writers.Given as goal
+
+abbrev pub invariant-put_component_decls-loop-declared : goal.invariant-put_component_decls-loop-declared
+invariant-put_component_decls-loop-declared l = Put (λ d. decl true (shown_component_decl d)) l.decls l.declared-index l.initial.out l.out
+
+abbrev pub invariant-put_instance_decls-loop-declared : goal.invariant-put_instance_decls-loop-declared
+invariant-put_instance_decls-loop-declared l = Put (λ d. decl false (shown_instance_decl d)) l.decls l.declared-index l.initial.out l.out

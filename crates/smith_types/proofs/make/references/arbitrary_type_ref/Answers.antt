@@ -1,0 +1,26 @@
+use Rattle.std.proofs.Common.{◌≡◌, ◌<◌, ℕ, ◌&&◌, Bool, true, List, length, arith}
+use Rattle.std.proofs.lemmas.Bool.Decides.{nat_tests}
+use Rattle.std.specs.Prelude.{nat_lt}
+use Rattle.smith_input.proofs.Offered.{offer_holds}
+use Rattle.smith_input.specs.Choices.{ReadsAmong}
+use Rattle.smith_core.specs.declared.config.Config.{Config}
+use Rattle.smith_syntax.specs.Scope.{Scope}
+use Rattle.smith_types.specs.References.{ref_kinds, ref_offers, ref_places}
+use Rattle.smith_types.specs.Scopes.{own_scope}
+use Rattle.smith_types.specs.declared.make.references.RefKind.{RefKind}
+use Rattle.smith_types.specs.declared.make.references.RefTotals.{RefTotals}
+use Rattle.smith_types.proofs.ModuleFronts.{both_true}
+use Rattle.smith_types.proofs.make.references.arbitrary_type_ref.Goals as goal
+
+placed : (n : ℕ) (allowed : Bool) → (nat_lt 0 n && allowed) ≡ true → 0 < n
+placed n allowed t = let some = (both_true (nat_lt 0 n) allowed t).0 in grind (arith, nat_tests, some)
+
+-- A kind that is chosen has an entry.
+chosen_has_place : (config : Config) (own : Scope) (totals : RefTotals) (for_import for_type_def : Bool) (b : List ℕ) (k : RefKind) (rest : List ℕ) → ReadsAmong (ref_kinds config own totals for_import for_type_def) b k rest → 0 < length (ref_places own k)
+chosen_has_place config own totals for_import for_type_def b k rest h =
+    offer_holds (λ j. 0 < length (ref_places own j)) (ref_offers config own totals for_import for_type_def) (placed _ _, (placed _ _, (placed _ _, (placed _ _, (placed _ _, tt))))) h.place k h.named
+
+pub choose_index-rank-requires : goal.choose_index-rank-requires
+choose_index-rank-requires c =
+    let some = chosen_has_place c.args.config.now (own_scope c.args.scopes.now) c.args.totals c.args.for_import c.args.for_type_def _ c.in_ok-kind.kind _ c.in_ok-kind.ensures in
+    omega (arith, some, c.place_count.ensures.count)

@@ -1,0 +1,10 @@
+use Rattle.std.proofs.lemmas.Result.{on_ok_weaker}
+use Rattle.smith_types.proofs.Declaring.{both_on, opened_own, opened_around}
+use Rattle.smith_types.proofs.make.scoped.open_inner.Goals as goal
+
+pub returns-clause-fresh : goal.returns-clause-fresh
+returns-clause-fresh c = on_ok_weaker c.open_scope.result (opened_own c.args.scopes.now c.open_scope.new.self) c.open_scope.ensures.ok
+
+pub returns-clause-around : goal.returns-clause-around
+returns-clause-around c =
+    on_ok_weaker c.open_scope.result (λ both. opened_around c.args.scopes.now c.open_scope.new.self both.0 both.1) (both_on _ _ c.open_scope.result c.open_scope.ensures.ok c.open_scope.ensures.deep)

@@ -1,0 +1,135 @@
+-- How the declarations of component types and instance types are read, but for the types in them.
+use Rattle.std.specs.Prelude.{◌≡◌, ℕ, ◌+◌, ◌<◌, Bool, true, false, ◌||◌, List, [], ◌∷◌, ◌++◌, drop, length, codes, nat_lt, slice_get, Option, Some, None}
+use Rattle.std.specs.List.{flat_map}
+use Rattle.std.specs.Option.{option_to_list}
+use Rattle.smith_input.specs.Choices.{ReadsAmong}
+use Rattle.smith_input.specs.Names.{ReadsNew}
+use Rattle.smith_input.specs.Reading.{Reads, Flips}
+use Rattle.smith_input.specs.Script.{offers_of}
+use Rattle.smith_core.specs.CoreTypes.{Function}
+use Rattle.smith_core.specs.declared.config.Config.{Config}
+use Rattle.smith_syntax.specs.Entries.{FullDecl, type_alias, core_type_alias, import_decl, export_decl, keeps_type, keeps_core_type, CoreEntry, core_func, core_module, ModuleDecl}
+use Rattle.smith_syntax.specs.ModuleTypes.{adds, aliased, alias_of}
+use Rattle.smith_syntax.specs.Scope.{Scope, empty_scope, places, is_core_module, after_decl}
+use Rattle.smith_syntax.specs.declared.deftype.ComponentTypeRef.{ComponentTypeRef}
+use Rattle.smith_syntax.specs.WellFormed.{import_of, export_of, names}
+use Rattle.smith_types.specs.References.{ReadsRef, ref_kinds, uncounted}
+use Rattle.smith_types.specs.declared.make.declarations.DeclarationItem.{DeclarationItem}
+use Rattle.smith_types.specs.declared.make.declarations.DeclarationItem.TheVariants as item
+
+-- a name, and a URL or none
+abbrev pub NamedExtern : Type 0
+NamedExtern = List ℕ × Option (List ℕ)
+
+-- What a component type or an instance type has so far: its scope, and the names of what it imports and exports, each with its URL.
+pub record SoFar : Type 0 where
+  pub own : Scope
+  pub imports : List NamedExtern
+  pub exports : List NamedExtern
+
+abbrev pub nothing_so_far : SoFar
+nothing_so_far = record { own = empty_scope; imports = []; exports = [] }
+
+-- with one declaration more
+abbrev pub after_one : List Scope → SoFar → FullDecl → SoFar
+after_one outer s d = record { own = after_decl outer s.own d; imports = s.imports ++ import_of d; exports = s.exports ++ export_of d }
+
+-- what stands in a URL behind the host
+abbrev pub url_name : Option (List ℕ) → List (List ℕ)
+url_name None = []
+url_name (Some url) = drop 20 url ∷ []
+
+abbrev pub url_names : List NamedExtern → List (List ℕ)
+url_names xs = flat_map (λ x. url_name x.1) xs
+
+-- A boolean, and a URL where it is true: the host, and a name that is new among those of the URLs so far.
+pub data ReadsMaybeUrl (used : List (List ℕ)) : List ℕ → Option (List ℕ) → List ℕ → Type 0 where
+  no_url : {bytes rest : List ℕ} → Flips bytes false rest → ReadsMaybeUrl used bytes None rest
+  a_url : {bytes mid name rest : List ℕ} {url : Option (List ℕ)} → Flips bytes true mid → ReadsNew 100 used mid name rest → url ≡ Some (codes "https://example.com/" ++ name) → ReadsMaybeUrl used bytes url rest
+
+-- A name that is new among those so far, and a URL or none.
+pub record ReadsNamedExtern (so_far : List NamedExtern) (bytes : List ℕ) (x : NamedExtern) (rest : List ℕ) : Type 0 where
+  pub mid : List ℕ
+  pub name : ReadsNew 100 (names so_far) bytes x.0 mid
+  pub url : ReadsMaybeUrl (url_names so_far) mid x.1 rest
+
+-- Has the scope something that an import or an export may be of: a type, or the type of a core module?
+abbrev pub has_reference : Scope → Bool
+has_reference own = nat_lt 0 (length own.types) || nat_lt 0 (length (places is_core_module 0 own.core_types))
+
+-- Has a scope an entry?
+abbrev pub is_occupied : Scope → Bool
+is_occupied s = nat_lt 0 (length s.types + length s.core_types)
+
+-- the counts of the scopes that have an entry, innermost first
+abbrev pub occupied : List Scope → List ℕ
+occupied scopes = places is_occupied 0 scopes
+
+-- the items with their indexes, where the first has the index i
+abbrev pub numbered : {A B : Type 0} → (ℕ → A → B) → ℕ → List A → List B
+numbered f i [] = []
+numbered f i (x ∷ xs) = f i x ∷ numbered f (i + 1) xs
+
+-- the outer aliases of what stands in a scope: its types, and then its core types
+abbrev pub aliases_of : ℕ → Scope → List FullDecl
+aliases_of count s = numbered (λ i e. type_alias count i (keeps_type e)) 0 s.types ++ numbered (λ i e. core_type_alias count i (keeps_core_type e)) 0 s.core_types
+
+-- An outer alias: a choice of a scope that has an entry, and of an entry of it. It keeps what it names.
+pub record ReadsAlias (scopes : List Scope) (bytes : List ℕ) (d : FullDecl) (rest : List ℕ) : Type 0 where
+  pub count : ℕ
+  pub mid : List ℕ
+  pub scope : Scope
+  pub choice : ReadsAmong (occupied scopes) bytes count mid
+  pub stands : slice_get scopes count ≡ Some scope
+  pub names : ReadsAmong (aliases_of count scope) mid d rest
+
+-- what a declaration is among: an export and an outer alias where there is something to name, and a type where one more scope may nest
+abbrev pub declaration_offers : Config → List Scope → Scope → List (Bool × DeclarationItem)
+declaration_offers config outer own =
+    (has_reference own, item.Export)
+    ∷ (nat_lt 0 (length (occupied (own ∷ outer))), item.Alias)
+    ∷ (true, item.CoreType)
+    ∷ (nat_lt (length (own ∷ outer)) config.max_nesting_depth, item.Type)
+    ∷ []
+
+abbrev pub declaration_items : Config → List Scope → Scope → List DeclarationItem
+declaration_items config outer own = offers_of (declaration_offers config outer own)
+
+-- No import is declared: an instance type has none, a component type has something to import and one of four choices asks for it; and
+-- yet it may be that nothing there can be imported.
+pub data NoImport (config : Config) (importing : Bool) (own : Scope) : List ℕ → List ℕ → Type 0 where
+  in_instance : {bytes : List ℕ} → importing ≡ false → NoImport config importing own bytes bytes
+  nothing_there : {bytes : List ℕ} → importing ≡ true → has_reference own ≡ false → NoImport config importing own bytes bytes
+  not_asked : {bytes rest : List ℕ} {k : ℕ} → importing ≡ true → has_reference own ≡ true → Reads 4 bytes k rest → 0 < k → NoImport config importing own bytes rest
+  none_fits : {bytes rest : List ℕ} → importing ≡ true → has_reference own ≡ true → Reads 4 bytes 0 rest → ref_kinds config own uncounted true true ≡ [] → NoImport config importing own bytes rest
+
+-- An import: where there is something to name, one of four choices, what it is of, and its name.
+pub record ReadsImport (config : Config) (own : Scope) (imports : List NamedExtern) (bytes : List ℕ) (d : FullDecl) (rest : List ℕ) : Type 0 where
+  pub mid : List ℕ
+  pub low : List ℕ
+  pub to : ComponentTypeRef
+  pub named : NamedExtern
+  pub there : has_reference own ≡ true
+  pub asked : Reads 4 bytes 0 mid
+  pub of : ReadsRef config own uncounted true true mid to low
+  pub name : ReadsNamedExtern imports low named rest
+  pub is : d ≡ import_decl named.0 named.1 to
+
+-- An export: what it is of, and its name.
+pub record ReadsExport (config : Config) (own : Scope) (exports : List NamedExtern) (bytes : List ℕ) (d : FullDecl) (rest : List ℕ) : Type 0 where
+  pub mid : List ℕ
+  pub to : ComponentTypeRef
+  pub named : NamedExtern
+  pub of : ReadsRef config own uncounted false true bytes to mid
+  pub name : ReadsNamedExtern exports mid named rest
+  pub is : d ≡ export_decl named.0 named.1 to
+
+-- the function types that the outer aliases of a module type name, in order
+abbrev pub functions_named : List CoreEntry → List Function → List ModuleDecl → List Function
+functions_named around own [] = []
+functions_named around own (d ∷ ds) = flat_map (λ a. option_to_list (aliased around own a.0 a.1)) (alias_of d) ++ functions_named around (own ++ adds around own d) ds
+
+-- the same of a core type
+abbrev pub named_by_core : List CoreEntry → CoreEntry → List Function
+named_by_core around (core_func f) = []
+named_by_core around (core_module ds) = functions_named around [] ds

@@ -1,0 +1,258 @@
+//! Declarations of component types and instance types, from the input, but for the types in them.
+
+ghost use Rattle.std.specs.Prelude.{◌≡◌, ◌<◌, ◌≤◌, List, [], ◌∷◌, ◌++◌, true, length, nat_lt, IfOk, OnOk, IfErr};
+ghost use Rattle.smith_core.specs.Limits.{configured};
+ghost use Rattle.smith_input.specs.Choices.{ReadsAmong};
+ghost use Rattle.smith_input.specs.Reading.{IsTail};
+ghost use Rattle.smith_syntax.specs.Shown.{full_alias, full_instance_decl};
+ghost use Rattle.smith_syntax.specs.WellFormed.{export_of, import_of, FormedRef};
+ghost use Rattle.smith_types.specs.Declarations.{NamedExtern, ReadsAlias, ReadsExport};
+ghost use Rattle.smith_types.specs.Declarations.{declaration_items, has_reference, occupied};
+ghost use Rattle.smith_types.specs.MakingTypes.{Declares, HasTarget, HoldsExterns, IsNameless};
+ghost use Rattle.smith_types.specs.MakingTypes.{MadeItem, MaybeImport, SameOuter};
+ghost use Rattle.smith_types.specs.MakingTypes.{imported_by, shown_import, with_aliased, with_exported};
+ghost use Rattle.smith_types.specs.Scopes.{inward, own_scope, outer_scopes};
+ghost use Rattle.smith_types.specs.declared.make.declarations.DeclarationItem.TheVariants as item;
+
+use super::core_types::arbitrary_core_type;
+use super::externs::{ExternNames, named_extern};
+use super::references::{RefTotals, arbitrary_type_ref};
+use crate::scopes::{Kind, Scopes};
+use smith_core::{Config, ValType};
+use smith_input::{Error, Unstructured, choose_offered};
+use smith_syntax::{Alias, ComponentTypeRef, Import, InstanceTypeDecl, OuterAliasKind};
+use std::alloc::Global;
+
+/// What a declaration of a component type or an instance type is among. Public since contracts speak of it.
+#[derive(Debug, Clone, Copy, PartialEq, Eq)]
+pub enum DeclarationItem {
+    Export,
+    Alias,
+    CoreType,
+    Type,
+}
+
+// Nothing is counted within types.
+const UNCOUNTED: RefTotals = RefTotals {
+    modules: 0,
+    funcs: 0,
+    components: 0,
+    instances: 0,
+};
+
+// Has the last scope something that an import or an export may be of?
+fn has_reference(scopes: &Scopes) -> bool
+    ensures { result ≡ has_reference (own_scope scopes.now) }
+{
+    scopes.own_len() > 0 || scopes.kind_len(Kind::CoreModule) > 0
+}
+
+// The counts of the scopes that have an entry, innermost first.
+pub(super) fn occupied_scopes(alloc: Global, scopes: &Scopes) -> Result<Vec<u32>, Error>
+    requires { length scopes.now ≤ 1002 }
+    ensures counts { IfOk result (λ v. v.items ≡ occupied (inward scopes.now)) }
+    ensures memory { IfErr result (λ e. e ≡ Error.OutOfMemory) }
+{
+    let mut counts = Vec::new(alloc);
+    for count in 0..scopes.depth() as u32 {
+        if scopes.len(count) + scopes.len_core(count) > 0 {
+            counts.push(count)?;
+        }
+    }
+    Ok(counts)
+}
+
+// Has one of the scopes an entry?
+fn has_entry(scopes: &Scopes, counts: &[u32]) -> bool
+    requires { counts.now ≡ occupied (inward scopes.now) }
+    ensures { result ≡ nat_lt 0 (length (occupied (own_scope scopes.now ∷ outer_scopes scopes.now))) }
+{
+    counts.len() > 0
+}
+
+// May one more scope nest?
+fn may_nest(config: &Config, scopes: &Scopes) -> bool
+    ensures { result ≡ nat_lt (length (own_scope scopes.now ∷ outer_scopes scopes.now)) config.now.max_nesting_depth }
+{
+    scopes.depth() < config.max_nesting_depth
+}
+
+// What sort of declaration is read.
+pub(super) fn declaration_item(
+    u: &mut Unstructured,
+    config: &Config,
+    scopes: &Scopes,
+    counts: &[u32],
+) -> DeclarationItem
+    requires { counts.now ≡ occupied (inward scopes.now) }
+    ensures reads { ReadsAmong (declaration_items config.now (outer_scopes scopes.now) (own_scope scopes.now))
+        u.old result u.new }
+    ensures possible { HasTarget config.now (own_scope scopes.now) (outer_scopes scopes.now) result }
+{
+    let offers = [
+        (has_reference(scopes), DeclarationItem::Export),
+        (has_entry(scopes, counts), DeclarationItem::Alias),
+        (true, DeclarationItem::CoreType),
+        (may_nest(config, scopes), DeclarationItem::Type),
+    ];
+    choose_offered(u, &offers).unwrap_or(DeclarationItem::CoreType)
+}
+
+// An import, or none where it is not asked for or nothing can be imported.
+pub(super) fn import(
+    alloc: Global,
+    u: &mut Unstructured,
+    config: &Config,
+    scopes: &Scopes,
+    imports: &mut ExternNames,
+) -> Result<Option<Import>, Error>
+    ensures reads { (so_far : List NamedExtern) → HoldsExterns imports.old so_far
+        → IfOk result (λ i. MaybeImport config.now (own_scope scopes.now) so_far u.old (shown_import i) u.new) }
+    ensures names { (so_far : List NamedExtern) → HoldsExterns imports.old so_far
+        → IfOk result (λ i. HoldsExterns imports.new (so_far ++ imported_by (shown_import i))) }
+    ensures memory { IfErr result (λ e. e ≡ Error.OutOfMemory) }
+    ensures tail { IsTail u.new u.old }
+{
+    if !has_reference(scopes) || u.int_in_range(0, 3) != 0 {
+        return Ok(None);
+    }
+    let Some(ty) = arbitrary_type_ref(u, config, scopes, UNCOUNTED, true, true) else {
+        return Ok(None);
+    };
+    let (name, url) = named_extern(alloc, u, imports)?;
+    Ok(Some(Import { name, url, ty }))
+}
+
+// The type that an export is equal to stands in the last scope once more.
+fn add_exported(scopes: &mut Scopes, ty: ComponentTypeRef) -> Result<(), Error>
+    requires formed { FormedRef (own_scope scopes.old) ty }
+    requires room { length (own_scope scopes.old).types ≤ 100 }
+    ensures own { OnOk result (own_scope scopes.new ≡ with_exported (own_scope scopes.old) ty) }
+    ensures around { OnOk result (outer_scopes scopes.new ≡ outer_scopes scopes.old) }
+    ensures outer { SameOuter scopes.old scopes.new }
+    ensures memory { IfErr result (λ e. e ≡ Error.OutOfMemory) }
+{
+    if let ComponentTypeRef::TypeEq(i) = ty {
+        let entry = scopes.get(0, i).clone()?;
+        scopes.push_type(entry)?;
+    }
+    Ok(())
+}
+
+// An export. A type that it is equal to is added to the scope before the name is read.
+pub(super) fn export(
+    alloc: Global,
+    u: &mut Unstructured,
+    config: &Config,
+    scopes: &mut Scopes,
+    exports: &mut ExternNames,
+) -> Result<InstanceTypeDecl, Error>
+    requires possible { has_reference (own_scope scopes.old) ≡ true }
+    requires room { length (own_scope scopes.old).types ≤ 100 }
+    ensures reads { (so_far : List NamedExtern) → HoldsExterns exports.old so_far
+        → IfOk result (λ d. ReadsExport config.now (own_scope scopes.old) so_far u.old (full_instance_decl d) u.new) }
+    ensures names { (so_far : List NamedExtern) → HoldsExterns exports.old so_far
+        → IfOk result (λ d. HoldsExterns exports.new (so_far ++ export_of (full_instance_decl d))) }
+    ensures no_import { IfOk result (λ d. import_of (full_instance_decl d) ≡ []) }
+    ensures declares { IfOk result (λ d. Declares scopes.old scopes.new (full_instance_decl d)) }
+    ensures outer { SameOuter scopes.old scopes.new }
+    ensures memory { IfErr result (λ e. e ≡ Error.OutOfMemory) }
+    ensures tail { IsTail u.new u.old }
+{
+    let Some(ty) = arbitrary_type_ref(u, config, scopes, UNCOUNTED, false, true) else {
+        unreachable!();
+    };
+    add_exported(scopes, ty)?;
+    let (name, url) = named_extern(alloc, u, exports)?;
+    Ok(InstanceTypeDecl::Export { name, url, ty })
+}
+
+// An outer alias of an entry of one of these scopes.
+fn alias_choice(u: &mut Unstructured, scopes: &Scopes, counts: &[u32]) -> Result<Alias, Error>
+    requires places { counts.now ≡ occupied (inward scopes.now) }
+    requires some { 0 < length counts.now }
+    ensures reads { IfOk result (λ a. ReadsAlias (inward scopes.now) u.old (full_alias a) u.new) }
+    ensures memory { IfErr result (λ e. e ≡ Error.OutOfMemory) }
+    ensures tail { IsTail u.new u.old }
+{
+    let count = *u.choose(counts);
+    let types = scopes.len(count);
+    let place = u.choose_index(types + scopes.len_core(count));
+    if place < types {
+        let i = place as u32;
+        let kind = OuterAliasKind::OfType(scopes.get(count, i).clone()?);
+        return Ok(Alias { count, i, kind });
+    }
+    let i = (place - types) as u32;
+    let kind = OuterAliasKind::OfCoreType(scopes.get_core(count, i).clone()?);
+    Ok(Alias { count, i, kind })
+}
+
+// What an alias names stands in the last scope too.
+fn add_aliased(scopes: &mut Scopes, alias: &Alias) -> Result<(), Error>
+    requires types { length (own_scope scopes.old).types ≤ 100 }
+    requires core_types { length (own_scope scopes.old).core_types ≤ 100 }
+    ensures own { OnOk result (own_scope scopes.new ≡ with_aliased (own_scope scopes.old) (full_alias alias.now)) }
+    ensures around { OnOk result (outer_scopes scopes.new ≡ outer_scopes scopes.old) }
+    ensures outer { SameOuter scopes.old scopes.new }
+    ensures memory { IfErr result (λ e. e ≡ Error.OutOfMemory) }
+{
+    match &alias.kind {
+        OuterAliasKind::OfType(ty) => {
+            let entry = ty.clone()?;
+            scopes.push_type(entry)?;
+        }
+        OuterAliasKind::OfCoreType(ty) => {
+            let entry = ty.clone()?;
+            scopes.push_core_type(entry)?;
+        }
+    }
+    Ok(())
+}
+
+// An outer alias, which keeps what it names.
+pub(super) fn outer_alias(
+    u: &mut Unstructured,
+    scopes: &mut Scopes,
+    counts: &[u32],
+) -> Result<InstanceTypeDecl, Error>
+    requires places { counts.now ≡ occupied (inward scopes.old) }
+    requires some { 0 < length counts.now }
+    requires types { length (own_scope scopes.old).types ≤ 100 }
+    requires core_types { length (own_scope scopes.old).core_types ≤ 100 }
+    ensures reads { IfOk result (λ d. ReadsAlias (inward scopes.old) u.old (full_instance_decl d) u.new) }
+    ensures nameless { IfOk result (λ d. IsNameless (full_instance_decl d)) }
+    ensures declares { IfOk result (λ d. Declares scopes.old scopes.new (full_instance_decl d)) }
+    ensures outer { SameOuter scopes.old scopes.new }
+    ensures memory { IfErr result (λ e. e ≡ Error.OutOfMemory) }
+    ensures tail { IsTail u.new u.old }
+{
+    let alias = alias_choice(u, scopes, counts)?;
+    add_aliased(scopes, &alias)?;
+    Ok(InstanceTypeDecl::Alias(alias))
+}
+
+// A core type, with what is left of the fuel.
+pub(super) fn core_type_decl(
+    alloc: Global,
+    u: &mut Unstructured,
+    config: &Config,
+    valtypes: &[ValType],
+    scopes: &mut Scopes,
+    fuel: &mut u32,
+) -> Result<InstanceTypeDecl, Error>
+    requires valtypes { valtypes.now ≡ configured config.now }
+    requires room { length (own_scope scopes.old).core_types ≤ 100 }
+    ensures made { (exports : List NamedExtern) → IfOk result (λ d. MadeItem config.now (own_scope scopes.old)
+        (outer_scopes scopes.old) exports item.CoreType u.old fuel.old (full_instance_decl d) u.new fuel.new) }
+    ensures nameless { IfOk result (λ d. IsNameless (full_instance_decl d)) }
+    ensures declares { IfOk result (λ d. Declares scopes.old scopes.new (full_instance_decl d)) }
+    ensures outer { SameOuter scopes.old scopes.new }
+    ensures memory { IfErr result (λ e. e ≡ Error.OutOfMemory) }
+    ensures tail { IsTail u.new u.old }
+{
+    let ty = arbitrary_core_type(alloc, u, config, valtypes, scopes, fuel)?;
+    let entry = ty.clone()?;
+    scopes.push_core_type(entry)?;
+    Ok(InstanceTypeDecl::CoreTypeDecl(ty))
+}

@@ -1,0 +1,68 @@
+//! Names of imports and exports, from the input.
+
+ghost use Rattle.std.specs.Prelude.{◌≡◌, List, [], ◌∷◌, ◌++◌, string_bytes, IfOk, IfErr};
+ghost use Rattle.smith_input.specs.Reading.{IsTail};
+ghost use Rattle.smith_syntax.specs.Shown.{shown_url};
+ghost use Rattle.smith_types.specs.Declarations.{NamedExtern, ReadsMaybeUrl, ReadsNamedExtern, url_name, url_names};
+ghost use Rattle.smith_types.specs.MakingTypes.{HoldsExterns};
+ghost use Rattle.smith_input.specs.Names.{Holds};
+
+use smith_input::{Error, Unstructured, unique_kebab_string, unique_url};
+use std::alloc::Global;
+use std::collections::BTreeSet;
+
+// The names so far, and those in the URLs so far, of the imports or of the exports of one type.
+#[derive(Drop)]
+pub(super) struct ExternNames {
+    pub(super) names: BTreeSet<String>,
+    pub(super) urls: BTreeSet<String>,
+}
+
+impl ExternNames {
+    pub(super) fn new(alloc: Global) -> ExternNames
+        ensures { HoldsExterns result [] }
+    {
+        ExternNames {
+            names: BTreeSet::new(alloc),
+            urls: BTreeSet::new(alloc),
+        }
+    }
+}
+
+// A boolean, and a URL where it is true, which has a name that no URL has so far.
+fn maybe_url(
+    alloc: Global,
+    u: &mut Unstructured,
+    urls: &mut BTreeSet<String>,
+) -> Result<Option<String>, Error>
+    ensures reads { (used : List _) → Holds urls.old used
+        → IfOk result (λ url. ReadsMaybeUrl used u.old (shown_url url) u.new) }
+    ensures names { (used : List _) → Holds urls.old used
+        → IfOk result (λ url. Holds urls.new (used ++ url_name (shown_url url))) }
+    ensures memory { IfErr result (λ e. e ≡ Error.OutOfMemory) }
+    ensures tail { IsTail u.new u.old }
+{
+    if !u.arbitrary_bool() {
+        return Ok(None);
+    }
+    let url = unique_url(alloc, 100, urls, u)?;
+    Ok(Some(url))
+}
+
+// A name that is new among those so far, and a URL or none.
+pub(super) fn named_extern(
+    alloc: Global,
+    u: &mut Unstructured,
+    externs: &mut ExternNames,
+) -> Result<(String, Option<String>), Error>
+    ensures reads { (so_far : List NamedExtern) → HoldsExterns externs.old so_far
+        → IfOk result (λ n. ReadsNamedExtern so_far u.old (string_bytes n.0, shown_url n.1) u.new) }
+    ensures names { (so_far : List NamedExtern) → HoldsExterns externs.old so_far
+        → IfOk result (λ n. HoldsExterns externs.new (so_far ++ (string_bytes n.0, shown_url n.1) ∷ [])) }
+    ensures memory { IfErr result (λ e. e ≡ Error.OutOfMemory) }
+    ensures tail { IsTail u.new u.old }
+{
+    let name = unique_kebab_string(alloc, 100, &mut externs.names, u)?;
+    let url = maybe_url(alloc, u, &mut externs.urls)?;
+    Ok((name, url))
+}

@@ -1,0 +1,156 @@
+//! What imports and exports are of, from the input.
+
+ghost use Rattle.std.specs.Prelude.{◌≡◌, ◌<◌, ◌≤◌, ◌&&◌, [], length, slice_get, Some, MatchOption};
+ghost use Rattle.smith_input.specs.Choices.{ReadsAmong};
+ghost use Rattle.smith_input.specs.Reading.{IsTail};
+ghost use Rattle.smith_types.specs.References.{MaybeRef, allows_equal, allows_one, has_place};
+ghost use Rattle.smith_types.specs.References.{ref_kinds, ref_places, ref_to};
+ghost use Rattle.smith_types.specs.Scopes.{own_scope};
+
+use crate::scopes::{Kind, Scopes};
+use smith_core::Config;
+use smith_input::{Unstructured, choose_offered};
+use smith_syntax::ComponentTypeRef;
+
+/// What a reference is among. Public since contracts speak of it.
+#[derive(Debug, Clone, Copy, PartialEq, Eq)]
+pub enum RefKind {
+    Module,
+    TypeEq,
+    Func,
+    Component,
+    Instance,
+}
+
+/// How many there are so far: of modules, components and instances in the whole tree, and of functions in one
+/// component, its component functions and its core functions together.
+#[derive(Debug, Clone, Copy, PartialEq, Eq, Hash)]
+pub struct RefTotals {
+    pub modules: usize,
+    pub funcs: usize,
+    pub components: usize,
+    pub instances: usize,
+}
+
+// How many entries of a kind there are.
+fn place_count(scopes: &Scopes, kind: RefKind) -> usize
+    ensures count { result ≡ length (ref_places (own_scope scopes.now) kind) }
+    ensures few { result ≤ 4294967295 }
+{
+    match kind {
+        RefKind::Module => scopes.kind_len(Kind::CoreModule),
+        RefKind::TypeEq => scopes.own_len(),
+        RefKind::Func => scopes.kind_len(Kind::Func),
+        RefKind::Component => scopes.kind_len(Kind::Component),
+        RefKind::Instance => scopes.kind_len(Kind::Instance),
+    }
+}
+
+// The index of the entry of a kind that has so many earlier ones.
+fn place_at(scopes: &Scopes, kind: RefKind, rank: usize) -> u32
+    requires within { rank < length (ref_places (own_scope scopes.now) kind) }
+    requires few { rank < 4294967295 }
+    ensures { slice_get (ref_places (own_scope scopes.now) kind) rank ≡ Some result }
+{
+    match kind {
+        RefKind::Module => scopes.kind_at(Kind::CoreModule, rank),
+        RefKind::TypeEq => rank as u32,
+        RefKind::Func => scopes.kind_at(Kind::Func, rank),
+        RefKind::Component => scopes.kind_at(Kind::Component, rank),
+        RefKind::Instance => scopes.kind_at(Kind::Instance, rank),
+    }
+}
+
+// A kind, and whether it may be chosen: where there is an entry of it, and one more is allowed.
+fn offer(scopes: &Scopes, kind: RefKind, allowed: bool) -> (bool, RefKind)
+    ensures { result ≡ (has_place (own_scope scopes.now) kind && allowed, kind) }
+{
+    (place_count(scopes, kind) > 0 && allowed, kind)
+}
+
+// May one more be imported? Inside a type nothing is counted, nor is an export.
+fn allows_one(for_import: bool, for_type_def: bool, count: usize, max: usize) -> bool
+    ensures { result ≡ allows_one for_import for_type_def count max }
+{
+    !for_import || for_type_def || count < max
+}
+
+// May it be of a type that is equal to one?
+fn allows_equal(config: &Config, scopes: &Scopes, for_import: bool, for_type_def: bool) -> bool
+    ensures { result ≡ allows_equal config.now (own_scope scopes.now) for_import for_type_def }
+{
+    !for_import && (for_type_def || scopes.own_len() < config.max_types)
+}
+
+// The reference of a kind to an index.
+fn reference(kind: RefKind, i: u32) -> ComponentTypeRef
+    ensures { result ≡ ref_to kind i }
+{
+    match kind {
+        RefKind::Module => ComponentTypeRef::Module(i),
+        RefKind::TypeEq => ComponentTypeRef::TypeEq(i),
+        RefKind::Func => ComponentTypeRef::Func(i),
+        RefKind::Component => ComponentTypeRef::Component(i),
+        RefKind::Instance => ComponentTypeRef::Instance(i),
+    }
+}
+
+// Which kind, among those of which there is an entry that may be named.
+fn ref_kind(
+    u: &mut Unstructured,
+    config: &Config,
+    scopes: &Scopes,
+    totals: RefTotals,
+    for_import: bool,
+    for_type_def: bool,
+) -> Option<RefKind>
+    ensures { MatchOption result
+        ((ref_kinds config.now (own_scope scopes.now) totals for_import for_type_def ≡ []) × (u.new ≡ u.old))
+        (λ k. ReadsAmong (ref_kinds config.now (own_scope scopes.now) totals for_import for_type_def) u.old k u.new) }
+{
+    let modules = allows_one(for_import, for_type_def, totals.modules, config.max_modules);
+    let types = allows_equal(config, scopes, for_import, for_type_def);
+    let funcs = allows_one(for_import, for_type_def, totals.funcs, config.max_funcs);
+    let components = allows_one(
+        for_import,
+        for_type_def,
+        totals.components,
+        config.max_components,
+    );
+    let instances = allows_one(
+        for_import,
+        for_type_def,
+        totals.instances,
+        config.max_instances,
+    );
+    let offers = [
+        offer(scopes, RefKind::Module, modules),
+        offer(scopes, RefKind::TypeEq, types),
+        offer(scopes, RefKind::Func, funcs),
+        offer(scopes, RefKind::Component, components),
+        offer(scopes, RefKind::Instance, instances),
+    ];
+    choose_offered(u, &offers)
+}
+
+/// What an import or an export is of, among what the last scope has: a choice of a kind and then of an entry of it. It
+/// is None exactly where there is no kind to choose, and then nothing is read.
+///
+/// An import is never of a type that is equal to one, and an export is where `for_type_def` is true or the scope has
+/// fewer types than `max_types`. An import of a component, for which `for_type_def` is false, needs its total to be below
+/// its limit: the totals are those so far. It takes no memory.
+pub fn arbitrary_type_ref(
+    u: &mut Unstructured,
+    config: &Config,
+    scopes: &Scopes,
+    totals: RefTotals,
+    for_import: bool,
+    for_type_def: bool,
+) -> Option<ComponentTypeRef>
+    ensures reads { MaybeRef config.now (own_scope scopes.now) totals for_import for_type_def u.old result u.new }
+    ensures tail { IsTail u.new u.old }
+{
+    let kind = ref_kind(u, config, scopes, totals, for_import, for_type_def)?;
+    let rank = u.choose_index(place_count(scopes, kind));
+    Some(reference(kind, place_at(scopes, kind, rank)))
+}
