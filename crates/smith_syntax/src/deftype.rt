@@ -19,8 +19,7 @@ pub enum DefType {
 /// The type of a component: what it declares, in order. Its types and core types are in a scope of their own.
 ///
 /// It is dropped from its last declaration to its first, and so is the type of an instance: an alias holds the type
-/// that it names, so that the stack that dropping takes does not grow with chains of aliases. No clause shows this
-/// order, a test does.
+/// that it names, so that the stack that dropping takes does not grow with chains of aliases. No clause can say so.
 #[cycle(types)]
 #[derive(Debug)]
 pub struct ComponentType {

@@ -95,8 +95,8 @@ declaration_offers config outer own =
 abbrev pub declaration_items : Config → List Scope → Scope → List DeclarationItem
 declaration_items config outer own = offers_of (declaration_offers config outer own)
 
--- No import is declared: an instance type has none, a component type has something to import and one of four choices asks for it; and
--- yet it may be that nothing there can be imported.
+-- No import is declared: in an instance type; and in a component type where there is nothing to name, where the choice of four does
+-- not ask for an import, and where it does but none can be had.
 pub data NoImport (config : Config) (importing : Bool) (own : Scope) : List ℕ → List ℕ → Type 0 where
   in_instance : {bytes : List ℕ} → importing ≡ false → NoImport config importing own bytes bytes
   nothing_there : {bytes : List ℕ} → importing ≡ true → has_reference own ≡ false → NoImport config importing own bytes bytes
