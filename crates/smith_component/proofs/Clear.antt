@@ -1,19 +1,37 @@
 -- No bytes have two readings.
-use Rattle.std.proofs.Common.{◌≡◌, ℕ, List, ◌∷◌, refl, ap, sym, ◌∙◌, arith, Some, None, Bool, true, false, cond, nat_eq}
+use Rattle.std.proofs.Common.{◌≡◌, ℕ, List, [], ◌∷◌, refl, ap, sym, ◌∙◌, arith, Some, None, Bool, true, false, cond, nat_eq}
 use Rattle.std.specs.List.{starts_with}
 use Rattle.smith_core.specs.Clear.{Agree, IsClear, IsExact}
 use Rattle.smith_core.specs.Module.{core_preamble}
-use Rattle.smith_core.specs.Piece.{Piece, ◌⊕◌, bytes, raw, text, many}
-use Rattle.smith_core.proofs.Clear.{tail, clash, exact, exact_both, exact_raw, clear_text, clear_many, same_section, section_head}
+use Rattle.smith_core.specs.Piece.{Piece, ◌⊕◌, byte, bytes, raw, text, many, u}
+use Rattle.smith_core.proofs.Clear.{tail, then_head, then_tail, then_agree, clash, exact, exact_both, exact_raw, clear_u, clear_text, clear_many, same_section, section_head}
 use Rattle.smith_core.proofs.Piece.{raw_whole}
 use Rattle.smith_syntax.specs.Grammar.{entry, core_entry, import_entry}
-use Rattle.smith_syntax.proofs.Clear.{clear_import_entry, clear_core_entry}
-use Rattle.smith_syntax.proofs.ClearTypes.{clear_entry}
+use Rattle.smith_syntax.proofs.Clear.{clear_core_entry}
+use Rattle.smith_syntax.proofs.ClearTypes.{clear_entry, clear_import_entry}
 use Rattle.smith_component.specs.Grammar.{preamble, embedded, canon, part, parts, Spells}
-use Rattle.smith_component.specs.Tree.{Canon, Part, Tree, ends, first, custom, core_module, core_types, component, types, canons, imports}
+use Rattle.smith_component.specs.Tree.{Canon, lift, lower, Part, Tree, ends, first, custom, core_module, core_types, component, types, canons, imports}
+
+-- the first byte of a canonical function
+abbrev canon_tag : Canon → ℕ
+canon_tag (lift c t) = 0x00
+canon_tag (lower f) = 0x01
+
+canon_tagged : (x : Canon) (p : Piece) (b : List ℕ) → canon x ⊕ p ≡ Some b → (t : List ℕ) × (b ≡ canon_tag x ∷ t)
+canon_tagged (lift c t) p b e = then_head 0x00 (0x00 ∷ []) (u c ⊕ byte 0x00 ⊕ u t) p b e
+canon_tagged (lower f) p b e = then_head 0x01 (0x00 ∷ []) (u f ⊕ byte 0x00) p b e
 
 canon_law : (x y : Canon) (p q : Piece) (b : List ℕ) → canon x ⊕ p ≡ Some b → canon y ⊕ q ≡ Some b → Agree x y p q
-canon_law x y p q b e h = elim x [ ]
+canon_law (lift c t) (lift d r) p q b e h =
+    let x = then_tail (0x00 ∷ 0x00 ∷ []) (u c ⊕ byte 0x00 ⊕ u t) (u d ⊕ byte 0x00 ⊕ u r) p q b e h in
+    let y = then_agree u clear_u c d (byte 0x00 ⊕ u t) (byte 0x00 ⊕ u r) p q x.rest x.first x.second in
+    let z = then_tail (0x00 ∷ []) (u t) (u r) p q y.rests.rest y.rests.first y.rests.second in
+    let w = clear_u.law t r p q z.rest z.first z.second in record { same = λ i. lift (y.same i) (w.same i); rests = w.rests }
+canon_law (lower f) (lower g) p q b e h =
+    let x = then_tail (0x01 ∷ 0x00 ∷ []) (u f ⊕ byte 0x00) (u g ⊕ byte 0x00) p q b e h in
+    let y = then_agree u clear_u f g (byte 0x00) (byte 0x00) p q x.rest x.first x.second in
+    record { same = ap lower y.same; rests = tail (0x00 ∷ []) p q y.rests.rest y.rests.first y.rests.second }
+canon_law x y p q b e h = let c = clash _ _ b (canon_tagged x p b e) (canon_tagged y q b h) in absurd (omega arith)
 
 clear_canon : IsClear canon
 clear_canon = record { law = canon_law }

@@ -10,8 +10,8 @@ use Rattle.smith_syntax.specs.CoreLimits.{CoreLimits}
 use Rattle.smith_syntax.specs.Entries.{CoreEntry, core_func, core_module}
 use Rattle.smith_syntax.specs.Scope.{Scope, with_core_type, with_core_types, own_of}
 use Rattle.smith_syntax.specs.WellFormed.{FormedCores}
-use Rattle.smith_types.proofs.MadeCore.{made_core_tail, made_core_formed, made_core_limits, made_core_size, made_core_same, core_type_read}
-use Rattle.smith_types.proofs.Stack.{with_core_none}
+use Rattle.smith_core_types.proofs.MadeCore.{made_core_tail, made_core_formed, made_core_limits, made_core_size, made_core_same, core_type_read}
+use Rattle.smith_scopes.proofs.Stack.{with_core_none}
 use Rattle.smith_component.specs.Limits.{SmallCoreTypes}
 use Rattle.smith_component.specs.Script.{script_core_entry, script_core_types, LastsCore}
 use Rattle.smith_component.specs.Turn.{ReadsCoreType, ReadsCoreTypes}

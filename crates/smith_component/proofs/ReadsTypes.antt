@@ -1,16 +1,17 @@
--- What a type section reads: well formed types, within the limits and their fuel, a tail of the bytes; and what its script says.
+-- What a type section reads: well formed types, as many as there must be, within the limits and their fuel, a tail of the bytes; and
+-- what its script says.
 use Rattle.std.proofs.Common.{◌≡◌, ℕ, ◌+◌, ◌-◌, ◌≤◌, ◌^◌, max, List, [], ◌∷◌, ◌++◌, length, arith, refl, sym, ap, ◌∙◌, subst, length-append, append_assoc}
 use Rattle.std.specs.List.{AllByRecursion}
 use Rattle.smith_input.specs.Loops.{Along, after_all}
 use Rattle.smith_input.specs.Reading.{IsTail}
-use Rattle.smith_input.proofs.Loops.{loop_tail, loop_gives, loop_all, loop_same, loop_read}
+use Rattle.smith_input.proofs.Loops.{loop_tail, loop_gives, loop_all, loop_enough, loop_same, loop_read}
 use Rattle.smith_core.specs.declared.config.Config.{Config}
 use Rattle.smith_syntax.specs.Entries.{Entry}
 use Rattle.smith_syntax.specs.Scope.{Scope, with_type, with_types, own_of, outer_of}
 use Rattle.smith_types.specs.Script.{script_type, Lasts}
 use Rattle.smith_syntax.specs.TypeLimits.{EntryLimits, nesting}
 use Rattle.smith_syntax.specs.WellFormed.{FormedEntry, FormedTypes}
-use Rattle.smith_types.proofs.Stack.{with_none}
+use Rattle.smith_scopes.proofs.Stack.{with_none}
 use Rattle.smith_component.specs.Limits.{SmallTypes}
 use Rattle.smith_component.specs.Tree.{most_nested}
 use Rattle.smith_component.specs.Script.{script_types}
@@ -19,18 +20,18 @@ use Rattle.smith_types.proofs.Script.{type_read}
 use Rattle.smith_component.proofs.MadeWith.{made_with_tail, made_with_formed, made_with_limits, made_with_nesting, made_with_size, made_with_same}
 
 module _ (config : Config) (outer : List Scope) where
-  pub types_read_formed : {max : ℕ} {own next : Scope} {b rest : List ℕ} {xs : List Entry} → ReadsTypes config outer max own b xs rest next → FormedTypes xs own outer
+  pub types_read_formed : {min max : ℕ} {own next : Scope} {b rest : List ℕ} {xs : List Entry} → ReadsTypes config outer min max own b xs rest next → FormedTypes xs own outer
   types_read_formed {max = max} {own = own} {next = next} {b = b} {rest = rest} {xs = xs} r =
       loop_gives (λ s ys t. FormedTypes ys s outer) (λ s. tt) (λ s c q t e. absurd e) one 0 own b xs rest next r
     where
       one : (s t u : Scope) (c : List ℕ) (x : Entry) (q : List ℕ) (ys : List Entry) → ReadsType config outer s c x q t → FormedTypes ys t outer → FormedTypes (x ∷ ys) s outer
       one s t u c x q ys (made, e) f = (made_with_formed made, subst (λ z. FormedTypes ys z outer) e f)
 
-  pub types_read_small : {max : ℕ} {own next : Scope} {b rest : List ℕ} {xs : List Entry} → ReadsTypes config outer max own b xs rest next → SmallTypes config xs
+  pub types_read_small : {min max : ℕ} {own next : Scope} {b rest : List ℕ} {xs : List Entry} → ReadsTypes config outer min max own b xs rest next → SmallTypes config xs
   types_read_small {own = own} {next = next} {b = b} {rest = rest} {xs = xs} r =
       loop_all _ (λ s c x q t (made, e). made_with_size made) 0 own b xs rest next r
 
-  pub types_read_limited : {max : ℕ} {own next : Scope} {b rest : List ℕ} {xs : List Entry} → ReadsTypes config outer max own b xs rest next → AllByRecursion (EntryLimits config) xs
+  pub types_read_limited : {min max : ℕ} {own next : Scope} {b rest : List ℕ} {xs : List Entry} → ReadsTypes config outer min max own b xs rest next → AllByRecursion (EntryLimits config) xs
   types_read_limited {own = own} {next = next} {b = b} {rest = rest} {xs = xs} r = loop_all _ (λ s c x q t (made, e). made_with_limits made) 0 own b xs rest next r
 
   -- Types that stand no deeper than so, each.
@@ -39,18 +40,18 @@ module _ (config : Config) (outer : List Scope) where
   most_nested_below n (x ∷ xs) h = omega (arith, h.0, most_nested_below n xs h.1)
 
   -- how deep the scopes of these types stand
-  pub types_read_nested : {room : ℕ} {own next : Scope} {b rest : List ℕ} {xs : List Entry} → ReadsTypes config outer room own b xs rest next → length outer + 1 + most_nested xs ≤ max (length outer + 2) config.max_nesting_depth
+  pub types_read_nested : {min room : ℕ} {own next : Scope} {b rest : List ℕ} {xs : List Entry} → ReadsTypes config outer min room own b xs rest next → length outer + 1 + most_nested xs ≤ max (length outer + 2) config.max_nesting_depth
   types_read_nested {own = own} {next = next} {b = b} {rest = rest} {xs = xs} r =
       let deepest : ℕ = max (length outer + 2) config.max_nesting_depth - (length outer + 1) in
       let each : AllByRecursion (λ x. nesting x ≤ deepest) xs = loop_all _ (λ s c x q t (made, e). omega (arith, made_with_nesting made)) 0 own b xs rest next r in
       omega (arith, most_nested_below deepest xs each)
 
-  pub types_read_tail : {max : ℕ} {own next : Scope} {b rest : List ℕ} {xs : List Entry} → ReadsTypes config outer max own b xs rest next → IsTail rest b
+  pub types_read_tail : {min max : ℕ} {own next : Scope} {b rest : List ℕ} {xs : List Entry} → ReadsTypes config outer min max own b xs rest next → IsTail rest b
   types_read_tail {own = own} {next = next} {b = b} {rest = rest} {xs = xs} r =
       loop_tail (λ s c q t e. absurd e) (λ s c x q t (made, e). made_with_tail made) 0 own b xs rest next r
 
   -- The scope has what was read.
-  pub types_read_scope : {max : ℕ} {own next : Scope} {b rest : List ℕ} {xs : List Entry} → ReadsTypes config outer max own b xs rest next → next ≡ with_types own xs
+  pub types_read_scope : {min max : ℕ} {own next : Scope} {b rest : List ℕ} {xs : List Entry} → ReadsTypes config outer min max own b xs rest next → next ≡ with_types own xs
   types_read_scope {own = own} {next = next} {b = b} {rest = rest} {xs = xs} r =
       loop_gives (λ s ys t. t ≡ with_types s ys) (λ s. sym (with_none s)) (λ s c q t e. absurd e) one 0 own b xs rest next r
     where
@@ -60,8 +61,13 @@ module _ (config : Config) (outer : List Scope) where
           with_behind : (s : Scope) (x : Entry) (ys : List Entry) → with_types (with_type s x) ys ≡ with_types s (x ∷ ys)
           with_behind s x ys = ap (λ ts. record { types = ts; core_types = s.core_types }) (append_assoc s.types (x ∷ []) ys)
 
+  -- There are no fewer than there must be.
+  pub types_enough : {min max : ℕ} {own next : Scope} {b rest : List ℕ} {xs : List Entry} → min ≤ max → ReadsTypes config outer min max own b xs rest next → min ≤ length xs
+  types_enough {own = own} {next = next} {b = b} {rest = rest} {xs = xs} few r =
+      let n = loop_enough (λ s c q t e. absurd e) few 0 own b xs rest next r in omega (arith, n)
+
   -- They are determined.
-  pub types_same : {max : ℕ} {own next other : Scope} {b r s : List ℕ} {xs ys : List Entry} → ReadsTypes config outer max own b xs r next → ReadsTypes config outer max own b ys s other → (xs ≡ ys) × (r ≡ s)
+  pub types_same : {min max : ℕ} {own next other : Scope} {b r s : List ℕ} {xs ys : List Entry} → ReadsTypes config outer min max own b xs r next → ReadsTypes config outer min max own b ys s other → (xs ≡ ys) × (r ≡ s)
   types_same {own = own} {next = next} {other = other} {b = b} {r = r} {s = s} {xs = xs} {ys = ys} x y =
       let d = loop_same (λ s c q p t u e f. absurd e) (λ s c x q p t u e i. e) one 0 own b xs ys r s next other x y in (d.0, d.1)
     where
@@ -80,7 +86,7 @@ module _ (config : Config) (outer : List Scope) where
 
   -- Their script is read as them.
   pub types_read : (xs : List Entry) (max : ℕ) (own : Scope) (rest : List ℕ) → FormedTypes xs own outer → AllByRecursion (Lasts config.max_type_size) xs → length xs ≤ max → length own.types + length xs ≤ 2 ^ 64
-      → ReadsTypes config outer max own (script_types config max own xs ++ rest) xs rest (after_all with_type own xs)
+      → ReadsTypes config outer 0 max own (script_types config max own xs ++ rest) xs rest (after_all with_type own xs)
   types_read xs max own rest f l few small =
       loop_read (script_type config.max_type_size) with_type Said one xs 0 own rest (all_said xs own f l small) (omega arith) (omega arith)
     where
@@ -88,8 +94,8 @@ module _ (config : Config) (outer : List Scope) where
       one s x rest (formed, lasts, small) = (type_read s small config outer config.max_type_size x rest formed lasts, refl)
 
 -- The same where the scopes and the room are known by equations.
-pub types_read_where : (config : Config) (scopes outer : List Scope) (own : Scope) (max room : ℕ) {next : Scope} {b rest : List ℕ} {xs : List Entry} → scopes ≡ own ∷ outer → max ≡ room → ReadsTypes config (outer_of scopes) max (own_of scopes) b xs rest next → ReadsTypes config outer room own b xs rest next
-types_read_where config scopes outer own max room {next} {b} {rest} {xs} e m r =
-    let P : ℕ → Type 0 = λ n. ReadsTypes config outer n own b xs rest next in
-    let Q : List Scope → Type 0 = λ ss. ReadsTypes config (outer_of ss) max (own_of ss) b xs rest next in
+pub types_read_where : (config : Config) (scopes outer : List Scope) (own : Scope) (max room : ℕ) {min : ℕ} {next : Scope} {b rest : List ℕ} {xs : List Entry} → scopes ≡ own ∷ outer → max ≡ room → ReadsTypes config (outer_of scopes) min max (own_of scopes) b xs rest next → ReadsTypes config outer min room own b xs rest next
+types_read_where config scopes outer own max room {min} {next} {b} {rest} {xs} e m r =
+    let P : ℕ → Type 0 = λ n. ReadsTypes config outer min n own b xs rest next in
+    let Q : List Scope → Type 0 = λ ss. ReadsTypes config (outer_of ss) min max (own_of ss) b xs rest next in
     subst P m (subst Q e r)

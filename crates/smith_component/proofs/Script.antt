@@ -1,6 +1,7 @@
 -- The script of a plan is read as that plan.
 use Rattle.std.proofs.Common.{◌≡◌, ℕ, zero, suc, ◌+◌, ◌<◌, List, [], ◌∷◌, ◌++◌, length, arith, ap, sym, subst, ◌∙◌, refl, true, false, Bool, inl, inr, append_assoc}
 use Rattle.std.specs.Bool.{Decides}
+use Rattle.std.specs.List.{AllByRecursion}
 use Rattle.std.specs.Prelude.{slice_get, Some}
 use Rattle.std.proofs.lemmas.Bool.Decides.{nat_tests}
 use Rattle.std.proofs.lemmas.Option.{slice_get_within}
@@ -11,9 +12,9 @@ use Rattle.smith_input.proofs.Choices.{rank_found, among_read}
 use Rattle.smith_input.proofs.Picks.{pick-byte}
 use Rattle.smith_core.specs.declared.config.Config.{Config}
 use Rattle.smith_syntax.specs.Scope.{Scope}
-use Rattle.smith_component.specs.Tree.{Tree, ends, first, Part, custom, core_module, core_types, component, types, canons, imports, add, join, inside, no_depth, most_nested}
+use Rattle.smith_component.specs.Tree.{Tree, ends, first, Part, custom, core_module, core_types, component, types, canons, imports, add, join, inside, component_count, no_depth, most_nested}
 use Rattle.smith_component.specs.WellFormed.{Formed}
-use Rattle.smith_component.specs.Limits.{OwnLimits, Limits}
+use Rattle.smith_component.specs.Limits.{OwnLimits, Maxima, Minima}
 use Rattle.smith_component.specs.Open.{Open, root, more_items, items, items_with_input, is_module_offered, is_component_offered, tree_so_far, scopes_in}
 use Rattle.smith_component.specs.Turn.{Next, building, answered, Closes, with_part}
 use Rattle.smith_component.specs.Scripted.{Follows, Scripts}
@@ -22,8 +23,8 @@ use Rattle.smith_component.specs.contracts.item.Item.{the_type}
 use Rattle.smith_component.specs.contracts.item.ItemPartialEq.TheImpl.{ghosts as equal}
 use Rattle.smith_component.specs.declared.item.Item.{Item}
 use Rattle.smith_component.specs.declared.item.Item.TheVariants.{Finish, Custom, CoreTypes, Types, Imports, Canonical, Component}
-use Rattle.smith_component.proofs.Tree.{all_before, all_inner, depth-outer, depth-so_far, join-add, join-ends, tree_so_far-close}
-use Rattle.smith_component.proofs.Sound.{own_limits-front, own_limits_swap, length-inside-so_far, length-modules-so_far, scopes_from-snoc}
+use Rattle.smith_component.proofs.Tree.{all_before, all_front, all_back, all_inner, depth-outer, depth-so_far, join-add, join-ends, tree_so_far-close}
+use Rattle.smith_component.proofs.Sound.{own_limits-front, own_limits_swap, module_count-so_far, component_count-so_far, instance_count-so_far, scopes_from-snoc}
 use Rattle.smith_component.proofs.Turn.{items_some, not_empty, last_same}
 
 item_Decides : (a b : Item) → Decides (equal.eq a b) (a ≡ b)
@@ -54,24 +55,25 @@ last_item true true e = (7, refl)
 last_item false true e = (6, refl)
 last_item m false e = absurd (cc)
 
--- What is within the limits is so in front.
-limits_front : (t : Tree) (config : Config) (outer : List Tree) (a : Tree) → Limits config (tree_so_far outer (join a t)) → Limits config (tree_so_far outer a)
-limits_front ends config outer a l = subst (λ x. Limits config (tree_so_far outer x)) (join-ends a) l
+-- What has at most what it may have has so in front.
+limits_front : (t : Tree) (config : Config) (outer : List Tree) (a : Tree) → Maxima config (tree_so_far outer (join a t)) → Maxima config (tree_so_far outer a)
+limits_front ends config outer a l = subst (λ x. Maxima config (tree_so_far outer x)) (join-ends a) l
 limits_front (first p t) config outer a l =
-    let m = limits_front t config outer (add a p) (subst (λ x. Limits config (tree_so_far outer x)) (sym (join-add a p t)) l) in
+    let m = limits_front t config outer (add a p) (subst (λ x. Maxima config (tree_so_far outer x)) (sym (join-add a p t)) l) in
     record {
       each = all_before (OwnLimits config) (own_limits_swap config) outer a p (own_limits-front config a p) m.each;
-      modules = omega (arith, m.modules, length-modules-so_far outer a p);
-      components = omega (arith, m.components, length-inside-so_far outer a p);
+      modules = omega (arith, m.modules, module_count-so_far outer a p);
+      components = omega (arith, m.components, component_count-so_far outer a p);
+      instances = omega (arith, m.instances, instance_count-so_far outer a p);
       depth = omega (arith, m.depth, depth-so_far no_depth outer a p);
       scopes = omega (arith, m.scopes, depth-so_far most_nested outer a p);
     }
 
 -- A component that the limits allow is offered.
-offered_from : (config : Config) (outer : List Tree) (inner u : Tree) → Limits config (tree_so_far outer (add inner (component u))) → is_component_offered config (record { outer = outer; inner = inner }) ≡ true
+offered_from : (config : Config) (outer : List Tree) (inner u : Tree) → Maxima config (tree_so_far outer (add inner (component u))) → is_component_offered config (record { outer = outer; inner = inner }) ≡ true
 offered_from config outer inner u l =
     let deep : length outer + 1 < config.max_nesting_depth = omega (arith, l.depth, depth-so_far no_depth outer inner (component u), depth-outer no_depth [] u) in
-    let few : length (inside (tree_so_far outer inner)) < config.max_components = omega (arith, l.components, length-inside-so_far outer inner (component u)) in
+    let few : component_count (tree_so_far outer inner) < config.max_components = omega (arith, l.components, component_count-so_far outer inner (component u)) in
     grind (arith, nat_tests)
 
 split_last : (a : Tree) (rest : List Tree) → (o : List Tree) × (p : Tree) × (a ∷ rest ≡ o ++ p ∷ [])
@@ -112,64 +114,69 @@ module _ (config : Config) (outer : List Tree) (before : Tree) (next : Next) (le
       )
 
 -- what holds behind one part more
-limits_past : (p : Part) (t : Tree) (config : Config) (outer : List Tree) (before : Tree) → Limits config (tree_so_far outer (join before (first p t))) → Limits config (tree_so_far outer (join (add before p) t))
-limits_past p t config outer before l = subst (λ x. Limits config (tree_so_far outer x)) (sym (join-add before p t)) l
+limits_past : (p : Part) (t : Tree) (config : Config) (outer : List Tree) (before : Tree) → Maxima config (tree_so_far outer (join before (first p t))) → Maxima config (tree_so_far outer (join (add before p) t))
+limits_past p t config outer before l = subst (λ x. Maxima config (tree_so_far outer x)) (sym (join-add before p t)) l
+
+enough_past : (p : Part) (t : Tree) (config : Config) (before : Tree) → Minima config (join before (first p t)) → Minima config (join (add before p) t)
+enough_past p t config before m = subst (Minima config) (sym (join-add before p t)) m
 
 after_past : (p : Part) (t : Tree) (config : Config) (outer : List Tree) (before : Tree) (next : Next) (left : List ℕ) (k : ℕ) (rest : List ℕ)
     → ((n : Next) → Closes (record { outer = outer; inner = join before (first p t) }) n → Scripts config n rest next left k) → (n : Next) → Closes (record { outer = outer; inner = join (add before p) t }) n → Scripts config n rest next left k
 after_past p t config outer before next left k rest after n c = after n (subst (λ x. Closes (record { outer = outer; inner = x }) n) (join-add before p t) c)
 
 -- the limits of a component that has one part more
-part_limits : (p : Part) (t : Tree) (config : Config) (outer : List Tree) (before : Tree) → Limits config (tree_so_far outer (join before (first p t))) → OwnLimits config (add before p)
+part_limits : (p : Part) (t : Tree) (config : Config) (outer : List Tree) (before : Tree) → Maxima config (tree_so_far outer (join before (first p t))) → OwnLimits config (add before p)
 part_limits p t config outer before l = all_inner (OwnLimits config) outer (add before p) (limits_front t config outer (add before p) (limits_past p t config outer before l)).each
 
-pub reach_from : (t : Tree) (config : Config) (outer : List Tree) (before : Tree) (rest : List ℕ) (next : Next) (left : List ℕ) (k : ℕ) → IsPlan config t → Formed t (scopes_in outer) before → Limits config (tree_so_far outer (join before t))
-    → ((n : Next) → Closes (record { outer = outer; inner = join before t }) n → Scripts config n rest next left k) → Leads config outer before next left before (script_from t config outer before ++ rest)
-reach_from ends config outer before rest next left k plan formed l after =
+pub reach_from : (t : Tree) (config : Config) (outer : List Tree) (before : Tree) (rest : List ℕ) (next : Next) (left : List ℕ) (k : ℕ) → IsPlan config t → Formed t (scopes_in outer) before → Maxima config (tree_so_far outer (join before t))
+    → AllByRecursion (Minima config) (inside t) → Minima config (join before t) → ((n : Next) → Closes (record { outer = outer; inner = join before t }) n → Scripts config n rest next left k) → Leads config outer before next left before (script_from t config outer before ++ rest)
+reach_from ends config outer before rest next left k plan formed l each enough after =
     let c = closes_some outer before in
     let P : Tree → Type 0 = λ x. Closes (record { outer = outer; inner = x }) c.0 in (
       suc k,
       (
         c.0,
         rest,
-        record { item = Finish; after = rest; chooses = item_read config outer before Finish 0 rest (front config outer before).0; does = (refl, c.1) },
+        record { item = Finish; after = rest; chooses = item_read config outer before Finish 0 rest (front config outer before).0; does = (subst (Minima config) (join-ends before) enough, refl, c.1) },
         after c.0 (subst P (sym (join-ends before)) c.1),
       ),
     )
-reach_from (first (custom name contents) t) config outer before rest next left k plan formed l after =
+reach_from (first (custom name contents) t) config outer before rest next left k plan formed l each enough after =
     let p : Part = custom name contents in
     adds config outer before next left p 1 (script_from t config outer (add before p)) rest (front config outer before).1
     (record { part = p; named = refl; planned = plan.0; formed = formed.0; limits = part_limits p t config outer before l; begins = refl; leads = refl })
-    (reach_from t config outer (add before p) rest next left k plan.1 formed.1 (limits_past p t config outer before l) (after_past p t config outer before next left k rest after))
-reach_from (first (core_types ts) t) config outer before rest next left k plan formed l after =
+    (reach_from t config outer (add before p) rest next left k plan.1 formed.1 (limits_past p t config outer before l) each (enough_past p t config before enough) (after_past p t config outer before next left k rest after))
+reach_from (first (core_types ts) t) config outer before rest next left k plan formed l each enough after =
     let p : Part = core_types ts in
     adds config outer before next left p 2 (script_from t config outer (add before p)) rest (front config outer before).2
     (record { part = p; named = refl; planned = plan.0; formed = formed.0; limits = part_limits p t config outer before l; begins = refl; leads = refl })
-    (reach_from t config outer (add before p) rest next left k plan.1 formed.1 (limits_past p t config outer before l) (after_past p t config outer before next left k rest after))
-reach_from (first (types es) t) config outer before rest next left k plan formed l after =
+    (reach_from t config outer (add before p) rest next left k plan.1 formed.1 (limits_past p t config outer before l) each (enough_past p t config before enough) (after_past p t config outer before next left k rest after))
+reach_from (first (types es) t) config outer before rest next left k plan formed l each enough after =
     let p : Part = types es in
     adds config outer before next left p 3 (script_from t config outer (add before p)) rest (front config outer before).3
     (record { part = p; named = refl; planned = plan.0; formed = formed.0; limits = part_limits p t config outer before l; begins = refl; leads = refl })
-    (reach_from t config outer (add before p) rest next left k plan.1 formed.1 (limits_past p t config outer before l) (after_past p t config outer before next left k rest after))
-reach_from (first (imports is) t) config outer before rest next left k plan formed l after =
+    (reach_from t config outer (add before p) rest next left k plan.1 formed.1 (limits_past p t config outer before l) each (enough_past p t config before enough) (after_past p t config outer before next left k rest after))
+reach_from (first (imports is) t) config outer before rest next left k plan formed l each enough after =
     let p : Part = imports is in
     adds config outer before next left p 4 (script_from t config outer (add before p)) rest (front config outer before).4
     (record { part = p; named = refl; planned = plan.0; formed = formed.0; limits = part_limits p t config outer before l; begins = refl; leads = refl })
-    (reach_from t config outer (add before p) rest next left k plan.1 formed.1 (limits_past p t config outer before l) (after_past p t config outer before next left k rest after))
-reach_from (first (canons fs) t) config outer before rest next left k plan formed l after =
+    (reach_from t config outer (add before p) rest next left k plan.1 formed.1 (limits_past p t config outer before l) each (enough_past p t config before enough) (after_past p t config outer before next left k rest after))
+reach_from (first (canons fs) t) config outer before rest next left k plan formed l each enough after =
     let p : Part = canons fs in
     adds config outer before next left p 5 (script_from t config outer (add before p)) rest (front config outer before).5
     (record { part = p; named = refl; planned = plan.0; formed = formed.0; limits = part_limits p t config outer before l; begins = refl; leads = refl })
-    (reach_from t config outer (add before p) rest next left k plan.1 formed.1 (limits_past p t config outer before l) (after_past p t config outer before next left k rest after))
-reach_from (first (core_module text) t) config outer before rest next left k plan formed l after = absurd plan.0
-reach_from (first (component u) t) config outer before rest next left k plan formed l after =
+    (reach_from t config outer (add before p) rest next left k plan.1 formed.1 (limits_past p t config outer before l) each (enough_past p t config before enough) (after_past p t config outer before next left k rest after))
+reach_from (first (core_module text) t) config outer before rest next left k plan formed l each enough after = absurd plan.0
+reach_from (first (component u) t) config outer before rest next left k plan formed l each enough after =
     let p : Part = component u in
+    let minima : AllByRecursion (Minima config) ((u ∷ inside u) ++ inside t) = each in
+    let in_it : AllByRecursion (Minima config) (u ∷ inside u) = all_front (Minima config) (u ∷ inside u) (inside t) minima in
     let st : List ℕ = script_from t config outer (add before p) in
     let su : List ℕ = script_from u config (outer ++ before ∷ []) ends in
     let choice : List ℕ = script_item config outer before Component in
-    let m = reach_from t config outer (add before p) rest next left k plan.1 formed.1 (limits_past p t config outer before l) (after_past p t config outer before next left k rest after) in
-    let here : Limits config (tree_so_far outer (add before p)) = limits_front t config outer (add before p) (limits_past p t config outer before l) in
-    let there : Limits config (tree_so_far (outer ++ before ∷ []) u) = subst (Limits config) (sym (tree_so_far-close outer before u)) here in
+    let m = reach_from t config outer (add before p) rest next left k plan.1 formed.1 (limits_past p t config outer before l) (all_back (Minima config) (u ∷ inside u) (inside t) minima) (enough_past p t config before enough) (after_past p t config outer before next left k rest after) in
+    let here : Maxima config (tree_so_far outer (add before p)) = limits_front t config outer (add before p) (limits_past p t config outer before l) in
+    let there : Maxima config (tree_so_far (outer ++ before ∷ []) u) = subst (Maxima config) (sym (tree_so_far-close outer before u)) here in
     let F : List Scope → Type 0 = λ ss. Formed u ss ends in
     let inner : Formed u (scopes_in (outer ++ before ∷ [])) ends = subst F (sym (scopes_from-snoc outer before [])) formed.0 in
     let back : (x : Next) → Closes (record { outer = outer ++ before ∷ []; inner = u }) x → Scripts config x (st ++ rest) next left m.0 = λ x c.
@@ -180,7 +187,7 @@ reach_from (first (component u) t) config outer before rest next left k plan for
           let T : Next → Type 0 = λ z. Scripts config z (st ++ rest) next left m.0 in
           subst T (ap (λ z. building (record { outer = z; inner = add before p })) s.0 ∙ ap (λ z. building (record { outer = o; inner = add z p })) s.1 ∙ sym b) m.1
     ] in
-    let i = reach_from u config (outer ++ before ∷ []) ends (st ++ rest) next left m.0 plan.0 inner there back in
+    let i = reach_from u config (outer ++ before ∷ []) ends (st ++ rest) next left m.0 plan.0 inner there in_it.1 in_it.0 back in
     let last = last_item (is_module_offered config (record { outer = outer; inner = before })) (is_component_offered config (record { outer = outer; inner = before })) (offered_from config outer before u here) in
     let now : Next = building (record { outer = outer; inner = before }) in
     let R : List ℕ → Type 0 = λ z. Scripts config now z next left (suc i.0) in
@@ -201,5 +208,5 @@ reach_from (first (component u) t) config outer before rest next left k plan for
 
 pub reach : (config : Config) (plan : Tree) (rest : List ℕ) → Within config plan → (k : ℕ) × Scripts config (building root) (script config plan ++ rest) (answered plan) rest k
 reach config plan rest w =
-    reach_from plan config [] ends rest (answered plan) rest zero w.scripted w.formed w.limits
+    reach_from plan config [] ends rest (answered plan) rest zero w.scripted w.formed w.limits.maxima w.limits.minima.1 w.limits.minima.0
     (λ n c. elim c [ inl (x, y) ↦ (sym y, refl) | inr (o, p, x, y) ↦ absurd (not_empty o p (sym x)) ])

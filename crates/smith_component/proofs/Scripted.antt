@@ -1,45 +1,32 @@
 -- What is done follows a script.
-use Rattle.std.proofs.Common.{◌≡◌, ℕ, zero, suc, ◌+◌, ◌-◌, ◌≤◌, ◌^◌, Bool, List, [], ◌∷◌, ◌++◌, length, arith, refl, sym, ap, ◌∙◌, subst}
+use Rattle.std.proofs.Common.{◌≡◌, ℕ, zero, suc, ◌+◌, ◌-◌, ◌≤◌, ◌^◌, List, [], ◌∷◌, ◌++◌, length, arith, refl, sym, ap, ◌∙◌, subst}
 use Rattle.smith_input.specs.Choices.{ReadsAmong}
-use Rattle.smith_input.specs.Script.{script_end}
-use Rattle.smith_input.specs.Reading.{More}
 use Rattle.std.specs.List.{AllByRecursion}
 use Rattle.smith_input.proofs.Choices.{among_same}
-use Rattle.smith_input.proofs.Loops.{end_read}
-use Rattle.smith_input.proofs.ReadingLemmas.{more_unique}
 use Rattle.smith_core.specs.declared.config.Config.{Config}
 use Rattle.smith_syntax.specs.CoreLimits.{CoreLimits}
-use Rattle.smith_syntax.specs.Entries.{Entry, CoreEntry, ImportEntry}
+use Rattle.smith_syntax.specs.Entries.{Entry, CoreEntry}
 use Rattle.smith_syntax.specs.Scope.{Scope}
 use Rattle.smith_component.specs.Limits.{OwnLimits}
-use Rattle.smith_component.specs.Open.{Open, root, items, scopes_in}
+use Rattle.smith_component.specs.Open.{Open, root, items, scopes_in, with_inner}
+use Rattle.smith_component.specs.Refusals.{LacksOn}
 use Rattle.smith_component.specs.Script.{item_of, script_part, script, IsPlanPart, Within}
 use Rattle.smith_component.specs.Scripted.{AddsPart, Follows, Scripted, Scripts}
-use Rattle.smith_component.specs.Tree.{Tree, Canon, Part, custom, core_module, core_types, component, types, canons, imports, add, own, names_in, types_in, types_of, core_types_of, imports_in, canons_in, core_types_in}
-use Rattle.smith_component.specs.Turn.{Next, building, answered, ReadsCustom, ReadsCoreTypes, ReadsTypes, with_part}
+use Rattle.smith_component.specs.Tree.{Tree, Part, custom, core_module, core_types, component, types, canons, imports, add, own, names_in, types_in, types_of, core_types_of, core_types_in}
+use Rattle.smith_component.specs.Turn.{Next, building, answered, Closes, ReadsCustom, ReadsCoreTypes, ReadsTypes, AddsTypes, AddsImports, AddsCanons, Does, Turn, Turns, LacksAt, with_part}
 use Rattle.smith_component.specs.WellFormed.{FormedPart, scope_of}
+use Rattle.smith_component.proofs.Filling.{fills_none, lacks_none}
 use Rattle.smith_component.proofs.ReadsCustom.{custom_follows}
 use Rattle.smith_component.proofs.Tree.{all_back, own-add, length-own-add}
 use Rattle.smith_component.proofs.Script.{reach}
+use Rattle.smith_component.proofs.ReadsCanons.{canons_none}
 use Rattle.smith_component.proofs.ReadsCoreTypes.{core_types_same, core_types_read}
+use Rattle.smith_component.proofs.ReadsImports.{imports_none}
 use Rattle.smith_component.proofs.ReadsTypes.{types_same, types_read}
 use Rattle.smith_component.proofs.Sound.{Short}
+use Rattle.smith_component.proofs.Turn.{closes_same}
 use Rattle.smith_component.specs.declared.item.Item.{Item}
 use Rattle.smith_component.specs.declared.item.Item.TheVariants.{Finish, Custom, CoreTypes, Types, Imports, Canonical, Module, Component}
-
--- There are no imports and canonical functions so far.
-
-pub no_imports : (xs : List ImportEntry) → xs ≡ []
-no_imports [] = refl
-no_imports (x ∷ xs) = elim x [ ]
-
-pub no_canons : (xs : List Canon) → xs ≡ []
-no_canons [] = refl
-no_canons (x ∷ xs) = elim x [ ]
-
--- so that a limit less their number is the limit
-pub less_none : (max count : ℕ) (b : List ℕ) (answer : Bool) (rest : List ℕ) → count ≡ 0 → More 0 0 max b answer rest → More 0 0 (max - count) b answer rest
-less_none max count b answer rest none m = let e : max ≡ max - count = omega arith in subst (λ n. More 0 0 n b answer rest) e m
 
 -- What a script wants of the item that was chosen.
 pub wanted : (config : Config) (stack : Open) (left : List ℕ) (item : Item) (after : List ℕ) (next : Next) (rest : List ℕ) → ReadsAmong (items config stack left) left item after → Scripted config stack left next rest → Follows config item stack after next rest
@@ -60,14 +47,14 @@ IsOf Canonical p = p ≡ canons []
 IsOf Module p = (text : List ℕ) × (p ≡ core_module text)
 IsOf Component p = (t : Tree) × (p ≡ component t)
 
-is_of : (p : Part) → IsOf (item_of p) p
-is_of (custom name contents) = (name, contents, refl)
-is_of (core_module text) = (text, refl)
-is_of (core_types ts) = (ts, refl)
-is_of (component t) = (t, refl)
-is_of (types ts) = (ts, refl)
-is_of (canons fs) = ap canons (no_canons fs)
-is_of (imports is) = ap imports (no_imports is)
+is_of : (config : Config) (p : Part) → IsPlanPart config p → IsOf (item_of p) p
+is_of config (custom name contents) plan = (name, contents, refl)
+is_of config (core_module text) plan = (text, refl)
+is_of config (core_types ts) plan = (ts, refl)
+is_of config (component t) plan = (t, refl)
+is_of config (types ts) plan = (ts, refl)
+is_of config (canons fs) plan = ap canons plan
+is_of config (imports is) plan = ap imports plan
 
 -- What a script says of the part that an item adds, where it is known which part that is.
 pub record Says (config : Config) (stack : Open) (p : Part) (b : List ℕ) (next : Next) (rest : List ℕ) : Type 0 where
@@ -82,24 +69,22 @@ says {config} {item} {stack} {b} {next} {rest} a p e =
     subst (λ q. Says config stack q b next rest) e (record { planned = a.planned; formed = a.formed; limits = a.limits; begins = a.begins; leads = a.leads })
 
 added_part : {config : Config} {item : Item} {stack : Open} {b : List ℕ} {next : Next} {rest : List ℕ} → (a : AddsPart config item stack b next rest) → IsOf item a.part
-added_part a = subst (λ i. IsOf i a.part) a.named (is_of a.part)
-
--- A section without entries leaves what its script leaves.
-empty_follows : (max : ℕ) (p : Part) (stack : Open) (b : List ℕ) (answer : Bool) (r : List ℕ) (next : Next) (rest : List ℕ) → More 0 0 max b answer r → b ≡ script_end 0 max ++ rest → next ≡ with_part stack p → (with_part stack p ≡ next) × (r ≡ rest)
-empty_follows max p stack b answer r next rest m e n =
-    let P : List ℕ → Type 0 = λ z. More 0 0 max z answer r in
-    (sym n, (more_unique (subst P e m) (end_read 0 max 0 rest (omega arith) (omega arith))).1)
+added_part {config} a = subst (λ i. IsOf i a.part) a.named (is_of config a.part a.planned)
 
 module _ (config : Config) (stack : Open) (b : List ℕ) (r : List ℕ) (next : Next) (rest : List ℕ) where
-  pub imports_follow : {answer : Bool} → More 0 0 (config.max_imports - length (own imports_in stack.inner)) b answer r → Follows config Imports stack b next rest → (with_part stack (imports []) ≡ next) × (r ≡ rest)
-  imports_follow m a =
+  -- An import section that was read is that of the script.
+  pub imports_follow : {t : Tree} → AddsImports config 0 stack b t r → Follows config Imports stack b next rest → (building (with_inner stack t) ≡ next) × (r ≡ rest)
+  imports_follow {t} (is, reads, e) a =
       let s = says a (imports []) (added_part a) in
-      empty_follows _ (imports []) stack b _ r next rest m s.begins s.leads
+      let none = imports_none config stack reads s.begins in
+      (ap (λ z. building (with_inner stack z)) (e ∙ ap (λ z. add stack.inner (imports z)) none.0) ∙ sym s.leads, none.1)
 
-  pub canons_follow : {answer : Bool} → More 0 0 (config.max_funcs - length (own canons_in stack.inner)) b answer r → Follows config Canonical stack b next rest → (with_part stack (canons []) ≡ next) × (r ≡ rest)
-  canons_follow m a =
+  -- So are canonical sections.
+  pub canons_follow : {t : Tree} → AddsCanons config 0 stack b t r → Follows config Canonical stack b next rest → (building (with_inner stack t) ≡ next) × (r ≡ rest)
+  canons_follow {t} (turns, now, reads, e) a =
       let s = says a (canons []) (added_part a) in
-      empty_follows _ (canons []) stack b _ r next rest m s.begins s.leads
+      let none = canons_none config stack.inner rest reads s.begins in
+      (ap (λ z. building (with_inner stack z)) (e ∙ none.0) ∙ sym s.leads, none.1)
 
   -- A custom section that was read is that of the script.
   pub custom_said : {name contents : List ℕ} → ReadsCustom b name contents r → Follows config Custom stack b next rest → (with_part stack (custom name contents) ≡ next) × (r ≡ rest)
@@ -110,17 +95,16 @@ module _ (config : Config) (stack : Open) (b : List ℕ) (r : List ℕ) (next : 
       custom_follows stack b name contents r next rest read (p.0, p.1, short.0, s.planned, s.begins, s.leads)
 
   -- Types that were read are those of the script.
-  pub types_follow : {xs : List Entry} {scope : Scope} → config.max_types ≤ 2 ^ 64 → ReadsTypes config (scopes_in stack.outer) (config.max_types - length (types_of stack.inner)) (scope_of stack.inner) b xs r scope → Follows config Types stack b next rest
-      → (with_part stack (types xs) ≡ next) × (r ≡ rest)
-  types_follow {xs} {scope} small t a =
+  pub types_follow : {t : Tree} → config.max_types ≤ 2 ^ 64 → AddsTypes config 0 stack b t r → Follows config Types stack b next rest → (building (with_inner stack t) ≡ next) × (r ≡ rest)
+  types_follow {t} small (xs, scope, reads, e) a =
       let p = added_part a in
       let ys : List Entry = p.0 in
       let s = says a (types ys) p.1 in
       let few : length (types_of stack.inner) + length ys ≤ config.max_types = omega (arith, s.limits.types, length-own-add types_in stack.inner (types ys)) in
       let room : ℕ = config.max_types - length (types_of stack.inner) in
-      let T : List ℕ → Type 0 = λ z. ReadsTypes config (scopes_in stack.outer) room (scope_of stack.inner) z xs r scope in
-      let d = types_same config (scopes_in stack.outer) (subst T s.begins t) (types_read config (scopes_in stack.outer) ys room (scope_of stack.inner) rest s.formed s.planned (omega (arith, few)) (omega (arith, few))) in
-      (ap (λ z. with_part stack (types z)) d.0 ∙ sym s.leads, d.1)
+      let T : List ℕ → Type 0 = λ z. ReadsTypes config (scopes_in stack.outer) 0 room (scope_of stack.inner) z xs r scope in
+      let d = types_same config (scopes_in stack.outer) (subst T s.begins reads) (types_read config (scopes_in stack.outer) ys room (scope_of stack.inner) rest s.formed s.planned (omega (arith, few)) (omega (arith, few, small))) in
+      (ap (λ z. building (with_inner stack z)) (e ∙ ap (λ z. add stack.inner (types z)) d.0) ∙ sym s.leads, d.1)
 
 -- Core types that were read are those of the script.
 pub core_types_follow : (config : Config) (stack : Open) (b r : List ℕ) (next : Next) (rest : List ℕ) {xs : List CoreEntry} {scope : Scope}
@@ -143,6 +127,23 @@ no_module config stack b next rest a =
     let p = added_part a in
     let s = says a (core_module p.0) p.1 in
     s.planned
+
+-- What is done where a script wants something is that.
+does_follow : (config : Config) (item : Item) (stack : Open) (b r : List ℕ) (now next : Next) (rest : List ℕ) → config.max_types ≤ 2 ^ 64 → Does config item stack b now r → Follows config item stack b next rest → (now ≡ next) × (r ≡ rest)
+does_follow config Finish stack b r now next rest small (full, f, c) (enough, l, d) =
+    let none = fills_none enough f in
+    let P : Tree → Type 0 = λ t. Closes (with_inner stack t) now in
+    (closes_same stack now next (subst P none.0 c) d, none.1 ∙ sym l)
+does_follow config Custom stack b r now next rest small (name, contents, reads, e) f = let d = custom_said config stack b r next rest reads f in (e ∙ d.0, d.1)
+does_follow config CoreTypes stack b r now next rest small (xs, scope, reads, e) f = let d = core_types_follow config stack b r next rest reads f in (e ∙ d.0, d.1)
+does_follow config Types stack b r now next rest small (t, adds, e) f = let d = types_follow config stack b r next rest small adds f in (e ∙ d.0, d.1)
+does_follow config Imports stack b r now next rest small (t, adds, e) f = let d = imports_follow config stack b r next rest adds f in (e ∙ d.0, d.1)
+does_follow config Canonical stack b r now next rest small (t, adds, e) f = let d = canons_follow config stack b r next rest adds f in (e ∙ d.0, d.1)
+does_follow config Module stack b r now next rest small d f = absurd (no_module config stack b next rest f)
+does_follow config Component stack b r now next rest small (l, e) (m, f) = (e ∙ sym f, l ∙ sym m)
+
+turn_follows : (config : Config) (stack : Open) (left : List ℕ) (now next : Next) (left2 rest : List ℕ) → config.max_types ≤ 2 ^ 64 → Turn config stack left now left2 → Scripted config stack left next rest → (now ≡ next) × (left2 ≡ rest)
+turn_follows config stack left now next left2 rest small t s = does_follow config t.item stack t.after left2 now next rest small t.does (wanted config stack left t.item t.after next rest t.chooses s)
 
 -- Each scripted run from the start passes through here.
 pub record Passed (config : Config) (input : List ℕ) (stack : Open) (left : List ℕ) : Type 0 where
@@ -184,3 +185,30 @@ passed_end config same input stack a now left left2 plan rest e n p f w i =
     let m = next_run config stack left now left2 plan rest h.0 (subst F e f) h.1 in
     let P : Next → Type 0 = λ z. Scripts config z left2 (answered plan) rest m.0 in
     answer_is config a plan left2 rest m.0 (subst P n m.1)
+
+-- A run follows a script as far as it comes.
+runs_along : (k : ℕ) (config : Config) (now : Next) (left : List ℕ) (stack : Open) (left2 : List ℕ) (c : Tree) (r : List ℕ) (j : ℕ) → config.max_types ≤ 2 ^ 64 → Turns config now left (building stack) left2 k → Scripts config now left (answered c) r j
+    → (i : ℕ) × Scripts config (building stack) left2 (answered c) r i
+runs_along zero config now left stack left2 c r j small (e, l) s =
+    let P : Next → Type 0 = λ n. Scripts config n left2 (answered c) r j in
+    let Q : List ℕ → Type 0 = λ b. Scripts config now b (answered c) r j in
+    (j, subst P (sym e) (subst Q (sym l) s))
+runs_along (suc k) config (answered t) left stack left2 c r j small none s = absurd none
+runs_along (suc k) config (building now) left stack left2 c r j small (mid, left1, one, more) s =
+    let m = next_run config now left mid left1 c r j (λ n x f. turn_follows config now left mid n left1 x small one f) s in
+    runs_along k config mid left1 stack left2 c r m.0 small more m.1
+
+-- No component lacks anything where a script goes on.
+lacks_none_at : (config : Config) (stack : Open) (left : List ℕ) (c : Tree) (r : List ℕ) (j : ℕ) → LacksAt config stack left → Scripts config (building stack) left (answered c) r j → ⊥
+lacks_none_at config stack left c r zero lacks s = let e : answered c ≡ building stack = s.0 in cc
+lacks_none_at config stack left c r (suc j) (after, choice, lacks) (mid, left1, one, more) =
+    let f : Follows config Finish stack after mid left1 = wanted config stack left Finish after mid left1 choice one in
+    lacks_none f.0 lacks
+
+-- The script of a plan leads to no component that lacks anything.
+pub scripts_lack_none : (config : Config) (input : List ℕ) (plan : Tree) (rest : List ℕ) → config.max_types ≤ 2 ^ 64 → Within config plan → input ≡ script config plan ++ rest → LacksOn config input → ⊥
+scripts_lack_none config input plan rest small w i l =
+    let r = reach config plan rest w in
+    let S : List ℕ → Type 0 = λ z. Scripts config (building root) z (answered plan) rest r.0 in
+    let h = runs_along l.turns config (building root) input l.stack l.left plan rest r.0 small l.run (subst S (sym i) r.1) in
+    lacks_none_at config l.stack l.left plan rest h.0 l.lacks h.1

@@ -1,20 +1,24 @@
 -- What each item keeps.
-use Rattle.std.proofs.Common.{◌≡◌, ℕ, ◌+◌, ◌<◌, ◌≤◌, max, List, [], ◌∷◌, ◌++◌, length, arith, ap, sym, subst, ◌∙◌, refl, true, inr, append-nil}
-use Rattle.std.specs.List.{AllByRecursion}
+use Rattle.std.proofs.Common.{◌≡◌, ℕ, ◌+◌, ◌<◌, ◌≤◌, max, List, [], ◌∷◌, ◌++◌, length, arith, ap, sym, subst, ◌∙◌, refl, true, inr, append-nil, append_assoc}
+use Rattle.std.specs.List.{AllByRecursion, flat_map}
 use Rattle.std.proofs.lemmas.Bool.Decides.{nat_tests}
+use Rattle.std.proofs.lemmas.List.Concat.{flat_map-append}
 use Rattle.smith_core.specs.declared.config.Config.{Config}
 use Rattle.smith_syntax.specs.CoreLimits.{CoreLimits}
 use Rattle.smith_syntax.specs.Entries.{Entry, CoreEntry}
 use Rattle.smith_syntax.specs.Scope.{Scope, with_types, with_core_types}
 use Rattle.smith_syntax.specs.TypeLimits.{EntryLimits}
-use Rattle.smith_component.specs.Tree.{Tree, ends, Part, custom, core_module, core_types, component, types, canons, imports, add, own, inside, modules, names_in, types_in, core_types_in, imports_in, canons_in, components_in, modules_in, anywhere_in, depth_in, no_depth, most_nested, scope_depth_in}
-use Rattle.smith_component.specs.Open.{Open, tree_so_far, is_module_offered, is_component_offered, scopes_in, scopes_from}
+use Rattle.smith_component.specs.Tree.{Tree, ends, Part, custom, core_module, core_types, component, types, canons, imports, add, own, inside, modules, names_in, types_in, core_types_in, imports_in, functions_in, core_functions_in, components_in, modules_in, imported_modules_in, imported_components_in, imported_instances_in, anywhere, anywhere_in, depth_in, no_depth, most_nested, scope_depth_in}
+use Rattle.smith_component.specs.Tree.{function_count, module_count, component_count, instance_count, types_of, core_types_of, imports_of}
+use Rattle.smith_component.specs.Importing.{Totalled}
+use Rattle.smith_component.specs.Open.{Open, tree_so_far, is_module_offered, is_component_offered, scopes_in, scopes_from, with_inner}
 use Rattle.smith_component.specs.Turn.{building, Closes}
 use Rattle.smith_component.specs.WellFormed.{FormedPart, WellFormed, scope_of}
-use Rattle.smith_component.specs.Limits.{SmallTypes, SmallCoreTypes, OwnSizes, Sized, OwnLimits, Limits}
-use Rattle.smith_component.specs.Sound.{IsAddable, Sound}
+use Rattle.smith_component.specs.Limits.{SmallTypes, SmallCoreTypes, OwnSizes, Sized, OwnLimits, Maxima, Minima, Limits}
+use Rattle.smith_component.specs.Sound.{IsAddable, IsQuiet, Sound, finished_in}
+use Rattle.smith_component.specs.declared.builder.totals.TreeTotals.{TreeTotals}
 use Rattle.smith_component.proofs.WellFormed.{formed_so_far}
-use Rattle.smith_component.proofs.Tree.{tree_so_far-close, depth-so_far, length-anywhere-so_far, IsSteady, depth-outer, own-add, length-own-add, all_both, all_front, all_so_far, all_inner, Swaps}
+use Rattle.smith_component.proofs.Tree.{tree_so_far-close, depth-so_far, length-anywhere-so_far, anywhere-add, IsSteady, depth-outer, own-add, length-own-add, all_both, all_front, all_back, all_so_far, all_inner, Swaps}
 
 -- names that are short enough
 abbrev pub Short : List (List ℕ) → Type 0
@@ -22,16 +26,16 @@ Short names = AllByRecursion (λ name. length name ≤ 1000) names
 
 -- A component keeps its own limits where it grows by a part that fits.
 pub own_limits-add : (config : Config) (t : Tree) (p : Part) → OwnLimits config t
-    → length (own types_in t) + length (types_in p) ≤ config.max_types
-    → length (own core_types_in t) + length (core_types_in p) ≤ config.max_types
-    → length (own imports_in t) + length (imports_in p) ≤ config.max_imports
-    → length (own canons_in t) + length (canons_in p) ≤ config.max_funcs
+    → length (types_of t) + length (types_in p) ≤ config.max_types
+    → length (core_types_of t) + length (core_types_in p) ≤ config.max_types
+    → length (imports_of t) + length (imports_in p) ≤ config.max_imports
+    → function_count t + (length (functions_in p) + length (core_functions_in p)) ≤ config.max_funcs
     → AllByRecursion (EntryLimits config) (types_in p) → AllByRecursion (CoreLimits config) (core_types_in p) → Short (names_in p) → OwnLimits config (add t p)
 own_limits-add config t p o ts cs is fs es ls ns = record {
   types = omega (arith, ts, length-own-add types_in t p);
   core_types = omega (arith, cs, length-own-add core_types_in t p);
   imports = omega (arith, is, length-own-add imports_in t p);
-  functions = omega (arith, fs, length-own-add canons_in t p);
+  functions = omega (arith, fs, length-own-add functions_in t p, length-own-add core_functions_in t p);
   within_types = subst (AllByRecursion (EntryLimits config)) (sym (own-add types_in t p)) (all_both _ (own types_in t) (types_in p) o.within_types es);
   within_core_types = subst (AllByRecursion (CoreLimits config)) (sym (own-add core_types_in t p)) (all_both _ (own core_types_in t) (core_types_in p) o.within_core_types ls);
   names = subst Short (sym (own-add names_in t p)) (all_both _ (own names_in t) (names_in p) o.names ns);
@@ -43,7 +47,7 @@ own_limits-front config t p o = record {
   types = omega (arith, o.types, length-own-add types_in t p);
   core_types = omega (arith, o.core_types, length-own-add core_types_in t p);
   imports = omega (arith, o.imports, length-own-add imports_in t p);
-  functions = omega (arith, o.functions, length-own-add canons_in t p);
+  functions = omega (arith, o.functions, length-own-add functions_in t p, length-own-add core_functions_in t p);
   within_types = all_front _ (own types_in t) (types_in p) (subst (AllByRecursion (EntryLimits config)) (own-add types_in t p) o.within_types);
   within_core_types = all_front _ (own core_types_in t) (core_types_in p) (subst (AllByRecursion (CoreLimits config)) (own-add core_types_in t p) o.within_core_types);
   names = all_front _ (own names_in t) (names_in p) (subst Short (own-add names_in t p) o.names);
@@ -56,27 +60,35 @@ own_limits-component config t u o =
 pub own_limits_swap : (config : Config) → Swaps (OwnLimits config)
 own_limits_swap config u a b o = own_limits-component config u b (own_limits-front config u (component a) o)
 
-steady_components : IsSteady components_in
-steady_components = record { same = λ a b. refl }
-
-steady_modules : IsSteady modules_in
-steady_modules = record { same = λ a b. refl }
+-- How many modules, components and instances there are where the inner component grows.
 
 pub length-inside-so_far : (outer : List Tree) (t : Tree) (p : Part) → length (inside (tree_so_far outer (add t p))) ≡ length (inside (tree_so_far outer t)) + length (anywhere_in components_in p)
-length-inside-so_far outer t p = length-anywhere-so_far components_in steady_components outer t p
+length-inside-so_far outer t p = length-anywhere-so_far components_in (record { same = λ a b. refl }) outer t p
 
-pub length-modules-so_far : (outer : List Tree) (t : Tree) (p : Part) → length (modules (tree_so_far outer (add t p))) ≡ length (modules (tree_so_far outer t)) + length (anywhere_in modules_in p)
-length-modules-so_far outer t p = length-anywhere-so_far modules_in steady_modules outer t p
+pub module_count-so_far : (outer : List Tree) (t : Tree) (p : Part) → module_count (tree_so_far outer (add t p)) ≡ module_count (tree_so_far outer t) + (length (anywhere_in modules_in p) + length (anywhere_in imported_modules_in p))
+module_count-so_far outer t p =
+    let a = length-anywhere-so_far modules_in (record { same = λ a b. refl }) outer t p in
+    let b = length-anywhere-so_far imported_modules_in (record { same = λ a b. refl }) outer t p in
+    omega (arith, a, b)
+
+pub component_count-so_far : (outer : List Tree) (t : Tree) (p : Part) → component_count (tree_so_far outer (add t p)) ≡ component_count (tree_so_far outer t) + (length (anywhere_in components_in p) + length (anywhere_in imported_components_in p))
+component_count-so_far outer t p =
+    let a = length-inside-so_far outer t p in
+    let b = length-anywhere-so_far imported_components_in (record { same = λ a b. refl }) outer t p in
+    omega (arith, a, b)
+
+pub instance_count-so_far : (outer : List Tree) (t : Tree) (p : Part) → instance_count (tree_so_far outer (add t p)) ≡ instance_count (tree_so_far outer t) + length (anywhere_in imported_instances_in p)
+instance_count-so_far outer t p = length-anywhere-so_far imported_instances_in (record { same = λ a b. refl }) outer t p
 
 -- What stands in a part that is no component is its own.
-modules_in_own : (p : Part) → anywhere_in components_in p ≡ [] → anywhere_in modules_in p ≡ modules_in p
-modules_in_own (custom n c) e = refl
-modules_in_own (core_module m) e = refl
-modules_in_own (core_types ts) e = refl
-modules_in_own (component t) e = absurd (let z : (t ∷ inside t) ≡ [] = e in cc)
-modules_in_own (types ts) e = refl
-modules_in_own (canons fs) e = refl
-modules_in_own (imports is) e = refl
+pub in_own : {A : Type 0} (f : Part → List A) (p : Part) → anywhere_in components_in p ≡ [] → anywhere_in f p ≡ f p
+in_own f (custom n c) e = refl
+in_own f (core_module m) e = refl
+in_own f (core_types ts) e = refl
+in_own f (component t) e = absurd (let z : (t ∷ inside t) ≡ [] = e in cc)
+in_own f (types ts) e = refl
+in_own f (canons fs) e = refl
+in_own f (imports is) e = refl
 
 -- Sizes, where a component grows.
 own_sizes-add : (config : Config) (t : Tree) (p : Part) → OwnSizes config t → SmallTypes config (types_in p) × SmallCoreTypes config (core_types_in p) → OwnSizes config (add t p)
@@ -91,150 +103,172 @@ own_sizes_swap config u a b o =
     (all_front _ (own types_in u) [] (subst (SmallTypes config) (own-add types_in u (component a)) o.0), all_front _ (own core_types_in u) [] (subst (SmallCoreTypes config) (own-add core_types_in u (component a)) o.1))
     (tt, tt)
 
-own_sizes_of : (config : Config) (m n : ℕ) (stack : Open) → Sound config m n stack → OwnSizes config stack.inner
-own_sizes_of config m n stack s = all_inner (OwnSizes config) stack.outer stack.inner s.sized
+pub own_sizes_of : (config : Config) (stack : Open) → Sound config stack → OwnSizes config stack.inner
+own_sizes_of config stack s = all_inner (OwnSizes config) stack.outer stack.inner s.sized
 
 -- The inner component keeps its own limits.
-pub own_limits_of : (config : Config) (m n : ℕ) (stack : Open) → Sound config m n stack → OwnLimits config stack.inner
-own_limits_of config m n stack s = all_inner (OwnLimits config) stack.outer stack.inner s.limits.each
+pub own_limits_of : (config : Config) (stack : Open) → Sound config stack → OwnLimits config stack.inner
+own_limits_of config stack s = all_inner (OwnLimits config) stack.outer stack.inner s.maxima.each
 
-sound_part : (config : Config) (m n : ℕ) (outer : List Tree) (inner : Tree) (p : Part) → IsAddable config (record { outer = outer; inner = inner }) p → Sound config m n (record { outer = outer; inner = inner }) → Sound config (m + length (modules_in p)) n (record { outer = outer; inner = add inner p })
-sound_part config m n outer inner p a s =
+-- A part that may be added keeps all that is true.
+pub part_sound : (config : Config) (stack : Open) (p : Part) → IsAddable config stack p → Sound config stack → Sound config (with_inner stack (add stack.inner p))
+part_sound config stack p a s =
+    let outer : List Tree = stack.outer in
+    let inner : Tree = stack.inner in
     let none : length (anywhere_in components_in p) ≡ 0 = ap length a.no_component in
-    let some : length (anywhere_in modules_in p) ≡ length (modules_in p) = ap length (modules_in_own p a.no_component) in
+    let mods : length (anywhere_in modules_in p) ≡ length (modules_in p) = ap length (in_own modules_in p a.no_component) in
+    let imps : length (anywhere_in imported_modules_in p) ≡ length (imported_modules_in p) = ap length (in_own imported_modules_in p a.no_component) in
+    let comps : length (anywhere_in imported_components_in p) ≡ length (imported_components_in p) = ap length (in_own imported_components_in p a.no_component) in
+    let insts : length (anywhere_in imported_instances_in p) ≡ length (imported_instances_in p) = ap length (in_own imported_instances_in p a.no_component) in
     let deep = depth-outer no_depth outer inner in
+    let same : inside (add inner p) ≡ inside inner = anywhere-add components_in inner p ∙ (ap (λ x. inside inner ++ x) a.no_component ∙ append-nil (inside inner)) in
     record {
       consistent = s.consistent;
-      modules_are = omega (arith, length-modules-so_far outer inner p, s.modules_are, some);
-      components_are = omega (arith, length-inside-so_far outer inner p, s.components_are, none);
       formed = formed_so_far outer [] inner p s.formed a.formed;
-      limits = record {
-        each = all_so_far (OwnLimits config) (own_limits_swap config) outer inner p (a.own (own_limits_of config m n (record { outer = outer; inner = inner }) s)) (subst (AllByRecursion (OwnLimits config)) (sym a.no_component) tt) s.limits.each;
-        modules = omega (arith, length-modules-so_far outer inner p, a.modules s.limits.modules, some);
-        components = omega (arith, length-inside-so_far outer inner p, s.limits.components, none);
-        depth = omega (arith, depth-so_far no_depth outer inner p, deep, s.limits.depth, a.flat);
-        scopes = omega (arith, depth-so_far most_nested outer inner p, s.limits.scopes, a.scopes (omega (arith, deep, s.limits.depth)));
+      maxima = record {
+        each = all_so_far (OwnLimits config) (own_limits_swap config) outer inner p (a.own (own_limits_of config stack s)) (subst (AllByRecursion (OwnLimits config)) (sym a.no_component) tt) s.maxima.each;
+        modules = omega (arith, module_count-so_far outer inner p, a.modules s.maxima.modules, mods, imps);
+        components = omega (arith, component_count-so_far outer inner p, a.components s.maxima.components, none, comps);
+        instances = omega (arith, instance_count-so_far outer inner p, a.instances s.maxima.instances, insts);
+        depth = omega (arith, depth-so_far no_depth outer inner p, deep, s.maxima.depth, a.flat);
+        scopes = omega (arith, depth-so_far most_nested outer inner p, s.maxima.scopes, a.scopes (omega (arith, deep, s.maxima.depth)));
       };
-      sized =
-          all_so_far (OwnSizes config) (own_sizes_swap config) outer inner p (own_sizes-add config inner p (own_sizes_of config m n (record { outer = outer; inner = inner }) s) a.sizes)
-          (subst (AllByRecursion (OwnSizes config)) (sym a.no_component) tt) s.sized;
+      minima = subst (λ x. AllByRecursion (Minima config) (flat_map inside outer ++ x)) (sym same) s.minima;
+      sized = all_so_far (OwnSizes config) (own_sizes_swap config) outer inner p (own_sizes-add config inner p (own_sizes_of config stack s) a.sizes) (subst (AllByRecursion (OwnSizes config)) (sym a.no_component) tt) s.sized;
     }
 
-sound_close : (config : Config) (m n : ℕ) (outer : List Tree) (parent inner : Tree) → Sound config m n (record { outer = outer ++ parent ∷ []; inner = inner }) → Sound config m n (record { outer = outer; inner = add parent (component inner) })
-sound_close config m n outer parent inner s =
+-- The components that are finished, where the inner one is closed.
+finished_close : (config : Config) (outer : List Tree) (parent inner : Tree) → Minima config inner → AllByRecursion (Minima config) (finished_in (record { outer = outer ++ parent ∷ []; inner = inner }))
+    → AllByRecursion (Minima config) (finished_in (record { outer = outer; inner = add parent (component inner) }))
+finished_close config outer parent inner enough all =
+    let P : List Tree → Type 0 = AllByRecursion (Minima config) in
+    let front : List Tree = flat_map inside (outer ++ parent ∷ []) in
+    let split : front ≡ flat_map inside outer ++ inside parent = flat_map-append inside outer (parent ∷ []) ∙ ap (λ x. flat_map inside outer ++ x) (append-nil (inside parent)) in
+    let before : P (flat_map inside outer ++ inside parent) = subst P split (all_front (Minima config) front (inside inner) all) in
+    let own : P (inside inner) = all_back (Minima config) front (inside inner) all in
+    let new : P (inside parent ++ (inner ∷ inside inner)) = all_both (Minima config) (inside parent) (inner ∷ inside inner) (all_back (Minima config) (flat_map inside outer) (inside parent) before) (enough, own) in
+    all_both (Minima config) (flat_map inside outer) (inside (add parent (component inner))) (all_front (Minima config) (flat_map inside outer) (inside parent) before)
+    (subst P (sym (anywhere-add components_in parent (component inner))) new)
+
+pub sound_close : (config : Config) (outer : List Tree) (parent inner : Tree) → Minima config inner → Sound config (record { outer = outer ++ parent ∷ []; inner = inner }) → Sound config (record { outer = outer; inner = add parent (component inner) })
+sound_close config outer parent inner enough s =
     let e : tree_so_far (outer ++ parent ∷ []) inner ≡ tree_so_far outer (add parent (component inner)) = tree_so_far-close outer parent inner in
     record {
       consistent = s.consistent;
-      modules_are = s.modules_are ∙ ap (λ t. length (modules t)) e;
-      components_are = s.components_are ∙ ap (λ t. length (inside t)) e;
       formed = subst WellFormed e s.formed;
-      limits = subst (Limits config) e s.limits;
+      maxima = subst (Maxima config) e s.maxima;
+      minima = finished_close config outer parent inner enough s.minima;
       sized = subst (Sized config) e s.sized;
     }
 
-sound_open : (config : Config) (m n : ℕ) (outer : List Tree) (inner : Tree) → length outer + 1 < config.max_nesting_depth → n < config.max_components → Sound config m n (record { outer = outer; inner = inner }) → Sound config m (n + 1) (record { outer = outer ++ inner ∷ []; inner = ends })
-sound_open config m n outer inner deep few s =
+finished_open : (config : Config) (outer : List Tree) (inner : Tree) → AllByRecursion (Minima config) (finished_in (record { outer = outer; inner = inner }))
+    → AllByRecursion (Minima config) (finished_in (record { outer = outer ++ inner ∷ []; inner = ends }))
+finished_open config outer inner all =
+    let P : List Tree → Type 0 = AllByRecursion (Minima config) in
+    let whole : flat_map inside (outer ++ inner ∷ []) ++ [] ≡ flat_map inside outer ++ inside inner =
+    append-nil (flat_map inside (outer ++ inner ∷ [])) ∙ (flat_map-append inside outer (inner ∷ []) ∙ ap (λ x. flat_map inside outer ++ x) (append-nil (inside inner))) in
+    subst P (sym whole) all
+
+pub sound_open : (config : Config) (outer : List Tree) (inner : Tree) → length outer + 1 < config.max_nesting_depth → component_count (tree_so_far outer inner) < config.max_components → Sound config (record { outer = outer; inner = inner })
+    → Sound config (record { outer = outer ++ inner ∷ []; inner = ends })
+sound_open config outer inner deep few s =
     let e : tree_so_far (outer ++ inner ∷ []) ends ≡ tree_so_far outer (add inner (component ends)) = tree_so_far-close outer inner ends in
-    let whole : Limits config (tree_so_far outer (add inner (component ends))) = record {
+    let stack : Open = record { outer = outer; inner = inner } in
+    let whole : Maxima config (tree_so_far outer (add inner (component ends))) = record {
       each =
-          all_so_far (OwnLimits config) (own_limits_swap config) outer inner (component ends) (own_limits-component config inner ends (own_limits_of config m n (record { outer = outer; inner = inner }) s))
-          (record { types = omega arith; core_types = omega arith; imports = omega arith; functions = omega arith; within_types = tt; within_core_types = tt; names = tt }, tt) s.limits.each;
-      modules = omega (arith, length-modules-so_far outer inner (component ends), s.limits.modules);
-      components = omega (arith, length-inside-so_far outer inner (component ends), s.components_are);
-      depth = omega (arith, depth-so_far no_depth outer inner (component ends), s.limits.depth);
-      scopes = omega (arith, depth-so_far most_nested outer inner (component ends), s.limits.scopes);
+          all_so_far (OwnLimits config) (own_limits_swap config) outer inner (component ends) (own_limits-component config inner ends (own_limits_of config stack s))
+          (record { types = omega arith; core_types = omega arith; imports = omega arith; functions = omega arith; within_types = tt; within_core_types = tt; names = tt }, tt) s.maxima.each;
+      modules = omega (arith, module_count-so_far outer inner (component ends), s.maxima.modules);
+      components = omega (arith, component_count-so_far outer inner (component ends), few);
+      instances = omega (arith, instance_count-so_far outer inner (component ends), s.maxima.instances);
+      depth = omega (arith, depth-so_far no_depth outer inner (component ends), s.maxima.depth);
+      scopes = omega (arith, depth-so_far most_nested outer inner (component ends), s.maxima.scopes);
     } in
     record {
       consistent = s.consistent;
-      modules_are = omega (arith, length-modules-so_far outer inner (component ends), s.modules_are, ap (λ t. length (modules t)) e);
-      components_are = omega (arith, length-inside-so_far outer inner (component ends), s.components_are, ap (λ t. length (inside t)) e);
       formed = subst WellFormed (sym e) (formed_so_far outer [] inner (component ends) s.formed tt);
-      limits = subst (Limits config) (sym e) whole;
+      maxima = subst (Maxima config) (sym e) whole;
+      minima = finished_open config outer inner s.minima;
       sized =
           subst (Sized config) (sym e)
-          (all_so_far (OwnSizes config) (own_sizes_swap config) outer inner (component ends) (own_sizes-add config inner (component ends) (own_sizes_of config m n (record { outer = outer; inner = inner }) s) (tt, tt)) ((tt, tt), tt) s.sized);
+          (all_so_far (OwnSizes config) (own_sizes_swap config) outer inner (component ends) (own_sizes-add config inner (component ends) (own_sizes_of config stack s) (tt, tt)) ((tt, tt), tt) s.sized);
     }
 
 -- A part that adds nothing but names and modules.
-pub addable_bare : (config : Config) (stack : Open) (p : Part) → FormedPart p (scopes_in stack.outer) stack.inner
-    → types_in p ≡ [] → core_types_in p ≡ [] → imports_in p ≡ [] → canons_in p ≡ [] → Short (names_in p)
-    → (length (modules (tree_so_far stack.outer stack.inner)) ≤ config.max_modules → length (modules (tree_so_far stack.outer stack.inner)) + length (modules_in p) ≤ config.max_modules)
-    → anywhere_in components_in p ≡ [] → depth_in p ≡ 1 → scope_depth_in p ≡ 1 → IsAddable config stack p
-addable_bare config stack p f ts cs is fs ns ms none flat low = record {
+pub addable_bare : (config : Config) (stack : Open) (p : Part) → FormedPart p (scopes_in stack.outer) stack.inner → IsQuiet p → Short (names_in p)
+    → (module_count (tree_so_far stack.outer stack.inner) ≤ config.max_modules → module_count (tree_so_far stack.outer stack.inner) + (length (modules_in p) + length (imported_modules_in p)) ≤ config.max_modules)
+    → imported_components_in p ≡ [] → imported_instances_in p ≡ [] → anywhere_in components_in p ≡ [] → depth_in p ≡ 1 → scope_depth_in p ≡ 1 → IsAddable config stack p
+addable_bare config stack p f q ns ms cs is none flat low = record {
   formed = f;
   own = λ o.
-      own_limits-add config stack.inner p o (omega (arith, o.types, ap length ts)) (omega (arith, o.core_types, ap length cs)) (omega (arith, o.imports, ap length is)) (omega (arith, o.functions, ap length fs))
-      (subst (AllByRecursion (EntryLimits config)) (sym ts) tt) (subst (AllByRecursion (CoreLimits config)) (sym cs) tt) ns;
-  sizes = (subst (SmallTypes config) (sym ts) tt, subst (SmallCoreTypes config) (sym cs) tt);
+      own_limits-add config stack.inner p o (omega (arith, o.types, ap length q.types)) (omega (arith, o.core_types, ap length q.core_types)) (omega (arith, o.imports, ap length q.imports))
+      (omega (arith, o.functions, ap length q.functions, ap length q.core_functions))
+      (subst (AllByRecursion (EntryLimits config)) (sym q.types) tt) (subst (AllByRecursion (CoreLimits config)) (sym q.core_types) tt) ns;
+  sizes = (subst (SmallTypes config) (sym q.types) tt, subst (SmallCoreTypes config) (sym q.core_types) tt);
   modules = ms;
+  components = λ h. omega (arith, h, ap length cs);
+  instances = λ h. omega (arith, h, ap length is);
   no_component = none;
   flat = flat;
   scopes = λ h. omega (arith, h, low);
 }
 
--- A part without anything in it.
-pub addable_empty : (config : Config) (stack : Open) (p : Part) → FormedPart p (scopes_in stack.outer) stack.inner
-    → types_in p ≡ [] → core_types_in p ≡ [] → imports_in p ≡ [] → canons_in p ≡ [] → Short (names_in p) → modules_in p ≡ []
-    → anywhere_in components_in p ≡ [] → depth_in p ≡ 1 → scope_depth_in p ≡ 1 → IsAddable config stack p
-addable_empty config stack p f ts cs is fs ns ms none flat low = addable_bare config stack p f ts cs is fs ns (λ h. omega (arith, h, ap length ms)) none flat low
+pub addable_custom : (config : Config) (stack : Open) (name contents : List ℕ) → length name ≤ 1000 → IsAddable config stack (custom name contents)
+addable_custom config stack name contents short =
+    addable_bare config stack (custom name contents) tt (record { types = refl; core_types = refl; functions = refl; core_functions = refl; imports = refl }) (short, tt) (λ h. omega (arith, h)) refl refl refl refl refl
+
+pub addable_module : (config : Config) (stack : Open) (text : List ℕ) → module_count (tree_so_far stack.outer stack.inner) < config.max_modules → IsAddable config stack (core_module text)
+addable_module config stack text few =
+    addable_bare config stack (core_module text) tt (record { types = refl; core_types = refl; functions = refl; core_functions = refl; imports = refl }) tt (λ h. omega (arith, few)) refl refl refl refl refl
 
 -- Types that find room.
-pub addable_types : (config : Config) (stack : Open) (es : List Entry) → FormedPart (types es) (scopes_in stack.outer) stack.inner → length (own types_in stack.inner) + length es ≤ config.max_types
+pub addable_types : (config : Config) (stack : Open) (es : List Entry) → FormedPart (types es) (scopes_in stack.outer) stack.inner → length (types_of stack.inner) + length es ≤ config.max_types
     → AllByRecursion (EntryLimits config) es → length stack.outer + 1 + most_nested es ≤ max (length stack.outer + 2) config.max_nesting_depth → SmallTypes config es → IsAddable config stack (types es)
 addable_types config stack es f room limited nested small = record {
   formed = f;
   own = λ o. own_limits-add config stack.inner (types es) o room (omega (arith, o.core_types)) (omega (arith, o.imports)) (omega (arith, o.functions)) limited tt tt;
   sizes = (small, tt);
   modules = λ h. omega (arith, h);
+  components = λ h. omega (arith, h);
+  instances = λ h. omega (arith, h);
   no_component = refl;
   flat = refl;
   scopes = λ h. omega (arith, h, nested);
 }
 
 -- Core types that find room.
-pub addable_core_types : (config : Config) (stack : Open) (es : List CoreEntry) → FormedPart (core_types es) (scopes_in stack.outer) stack.inner → length (own core_types_in stack.inner) + length es ≤ config.max_types
+pub addable_core_types : (config : Config) (stack : Open) (es : List CoreEntry) → FormedPart (core_types es) (scopes_in stack.outer) stack.inner → length (core_types_of stack.inner) + length es ≤ config.max_types
     → AllByRecursion (CoreLimits config) es → SmallCoreTypes config es → IsAddable config stack (core_types es)
 addable_core_types config stack es f room limited small = record {
   formed = f;
   own = λ o. own_limits-add config stack.inner (core_types es) o (omega (arith, o.types)) room (omega (arith, o.imports)) (omega (arith, o.functions)) tt limited tt;
   sizes = (tt, small);
   modules = λ h. omega (arith, h);
+  components = λ h. omega (arith, h);
+  instances = λ h. omega (arith, h);
   no_component = refl;
   flat = refl;
   scopes = λ h. omega (arith, h);
 }
 
--- The same, where the new stack and the new totals are known by equations.
+own_length : {A : Type 0} (f : Part → List A) (p : Part) → anywhere_in components_in p ≡ [] → length (anywhere_in f p) ≡ length (f p)
+own_length f p none = ap length (in_own f p none)
 
-pub part_added : (config : Config) (m n k : ℕ) (outer : List Tree) (inner new : Tree) (p : Part) → IsAddable config (record { outer = outer; inner = inner }) p → k ≡ length (modules_in p) → new ≡ add inner p → Sound config m n (record { outer = outer; inner = inner }) → Sound config (m + k) n (record { outer = outer; inner = new })
-part_added config m n k outer inner new p a count e s =
-    subst (λ j. Sound config (m + j) n (record { outer = outer; inner = new })) (sym count)
-    (subst (λ t. Sound config (m + length (modules_in p)) n (record { outer = outer; inner = t })) (sym e) (sound_part config m n outer inner p a s))
+-- Totals, where the inner component grows by a part without components.
+pub totalled_part : (config : Config) (outer : List Tree) (inner new : Tree) (old totals : TreeTotals) (p : Part) → anywhere_in components_in p ≡ [] → new ≡ add inner p
+    → totals.modules ≡ old.modules + (length (modules_in p) + length (imported_modules_in p)) → totals.components ≡ old.components + length (imported_components_in p) → totals.instances ≡ old.instances + length (imported_instances_in p)
+    → Totalled old (record { outer = outer; inner = inner }) → Totalled totals (record { outer = outer; inner = new })
+totalled_part config outer inner new old totals p none e ms cs is t =
+    subst (λ x. Totalled totals (record { outer = outer; inner = x })) (sym e) (record {
+      modules = omega (arith, ms, t.modules, module_count-so_far outer inner p, own_length modules_in p none, own_length imported_modules_in p none);
+      components = omega (arith, cs, t.components, component_count-so_far outer inner p, ap length none, own_length imported_components_in p none);
+      instances = omega (arith, is, t.instances, instance_count-so_far outer inner p, own_length imported_instances_in p none);
+    })
 
-pub types_added : (config : Config) (m n : ℕ) (outer : List Tree) (inner new : Tree) (es : List Entry) → IsAddable config (record { outer = outer; inner = inner }) (types es) → new ≡ add inner (types es) → Sound config m n (record { outer = outer; inner = inner }) → Sound config m n (record { outer = outer; inner = new })
-types_added config m n outer inner new es a e s =
-    subst (λ j. Sound config j n (record { outer = outer; inner = new })) (let z : m + 0 ≡ m = omega arith in z)
-    (part_added config m n 0 outer inner new (types es) a refl e s)
-
-pub core_types_added : (config : Config) (m n : ℕ) (outer : List Tree) (inner new : Tree) (es : List CoreEntry) → IsAddable config (record { outer = outer; inner = inner }) (core_types es) → new ≡ add inner (core_types es) → Sound config m n (record { outer = outer; inner = inner }) → Sound config m n (record { outer = outer; inner = new })
-core_types_added config m n outer inner new es a e s =
-    subst (λ j. Sound config j n (record { outer = outer; inner = new })) (let z : m + 0 ≡ m = omega arith in z)
-    (part_added config m n 0 outer inner new (core_types es) a refl e s)
-
-pub closed : (config : Config) (m n : ℕ) (around outer : List Tree) (parent inner new : Tree) → around ≡ outer ++ parent ∷ [] → new ≡ add parent (component inner) → Sound config m n (record { outer = around; inner = inner }) → Sound config m n (record { outer = outer; inner = new })
-closed config m n around outer parent inner new a e s =
-    subst (λ t. Sound config m n (record { outer = outer; inner = t })) (sym e)
-    (sound_close config m n outer parent inner (subst (λ o. Sound config m n (record { outer = o; inner = inner })) a s))
-
-pub opened : (config : Config) (m n : ℕ) (around outer : List Tree) (inner new : Tree) → length outer + 1 < config.max_nesting_depth → n < config.max_components → around ≡ outer ++ inner ∷ [] → new ≡ ends → Sound config m n (record { outer = outer; inner = inner }) → Sound config m (n + 1) (record { outer = around; inner = new })
-opened config m n around outer inner new deep few a e s =
-    subst (λ o. Sound config m (n + 1) (record { outer = o; inner = new })) (sym a)
-    (subst (λ t. Sound config m (n + 1) (record { outer = outer ++ inner ∷ []; inner = t })) (sym e) (sound_open config m n outer inner deep few s))
-
-pub component_offered_is : (config : Config) (stack : Open) → is_component_offered config stack ≡ true → (length stack.outer + 1 < config.max_nesting_depth) × (length (inside (tree_so_far stack.outer stack.inner)) < config.max_components)
+pub component_offered_is : (config : Config) (stack : Open) → is_component_offered config stack ≡ true → (length stack.outer + 1 < config.max_nesting_depth) × (component_count (tree_so_far stack.outer stack.inner) < config.max_components)
 component_offered_is config stack h = grind (arith, nat_tests)
 
-pub module_offered_is : (config : Config) (stack : Open) → is_module_offered config stack ≡ true → length (modules (tree_so_far stack.outer stack.inner)) < config.max_modules
+pub module_offered_is : (config : Config) (stack : Open) → is_module_offered config stack ≡ true → module_count (tree_so_far stack.outer stack.inner) < config.max_modules
 module_offered_is config stack h = grind (arith, nat_tests)
 
 pub closes : (around outer : List Tree) (parent inner new : Tree) → around ≡ outer ++ parent ∷ [] → new ≡ add parent (component inner) → Closes (record { outer = around; inner = inner }) (building (record { outer = outer; inner = new }))
@@ -269,24 +303,41 @@ length-scopes_from [] outer = omega arith
 length-scopes_from (u ∷ us) outer = omega (arith, length-scopes_from us (scope_of u ∷ outer))
 
 -- As many scopes stand as components are open, at most 1000.
-pub scopes_few : (config : Config) (m n : ℕ) (stack : Open) (scopes : List Scope) → Sound config m n stack → scopes ≡ scope_of stack.inner ∷ scopes_in stack.outer → length scopes ≤ 1000
-scopes_few config m n stack scopes s e =
-    omega (arith, ap length e, length-scopes_from stack.outer [], depth-outer no_depth stack.outer stack.inner, s.limits.depth, s.consistent.nesting)
-
--- A part that adds no type.
-pub record Quietly (config : Config) (stack : Open) (p : Part) : Type 0 where
-  pub addable : IsAddable config stack p
-  pub quiet : scope_of (add stack.inner p) ≡ scope_of stack.inner
-
-pub quietly_shown : (config : Config) (stack : Open) (p q : Part) → p ≡ q → Quietly config stack q → Quietly config stack p
-quietly_shown config stack p q e h = subst (Quietly config stack) (sym e) h
+pub scopes_few : (config : Config) (stack : Open) (scopes : List Scope) → Sound config stack → scopes ≡ scope_of stack.inner ∷ scopes_in stack.outer → length scopes ≤ 1000
+scopes_few config stack scopes s e =
+    omega (arith, ap length e, length-scopes_from stack.outer [], depth-outer no_depth stack.outer stack.inner, s.maxima.depth, s.consistent.nesting)
 
 pub same_tail : (s t : Scope) (ss ts : List Scope) → s ∷ ss ≡ t ∷ ts → ss ≡ ts
 same_tail s t ss ts e = cc
 
--- What is true of a root that stands alone.
-pub root_kept : (config : Config) (m n : ℕ) (outer : List Tree) (inner t : Tree) → outer ≡ [] → inner ≡ t → Sound config m n (record { outer = outer; inner = inner }) → Limits config t × WellFormed t × Sized config t
-root_kept config m n outer inner t none is s =
-    let alone : Sound config m n (record { outer = []; inner = inner }) = subst (λ o. Sound config m n (record { outer = o; inner = inner })) none s in
-    let root : Sound config m n (record { outer = []; inner = t }) = subst (λ i. Sound config m n (record { outer = []; inner = i })) is alone in
-    (root.limits, root.formed, root.sized)
+-- What is true of a root that stands alone, when it has enough.
+pub root_kept : (config : Config) (outer : List Tree) (inner t : Tree) → outer ≡ [] → inner ≡ t → Minima config inner → Sound config (record { outer = outer; inner = inner }) → Limits config t × WellFormed t × Sized config t
+root_kept config outer inner t none is enough s =
+    let alone : Sound config (record { outer = []; inner = inner }) = subst (λ o. Sound config (record { outer = o; inner = inner })) none s in
+    let root : Sound config (record { outer = []; inner = t }) = subst (λ i. Sound config (record { outer = []; inner = i })) is alone in
+    (record { maxima = root.maxima; minima = (subst (Minima config) is enough, root.minima) }, root.formed, root.sized)
+
+-- Totals, where an empty component is opened in the inner one.
+pub totalled_open : (outer around : List Tree) (inner new : Tree) (old totals : TreeTotals) → around ≡ outer ++ inner ∷ [] → new ≡ ends
+    → totals.modules ≡ old.modules → totals.components ≡ old.components + 1 → totals.instances ≡ old.instances → Totalled old (record { outer = outer; inner = inner }) → Totalled totals (record { outer = around; inner = new })
+totalled_open outer around inner new old totals a e ms cs is t =
+    let close : tree_so_far (outer ++ inner ∷ []) ends ≡ tree_so_far outer (add inner (component ends)) = tree_so_far-close outer inner ends in
+    let whole : Totalled totals (record { outer = outer ++ inner ∷ []; inner = ends }) = record {
+      modules = omega (arith, ms, t.modules, module_count-so_far outer inner (component ends), ap module_count close);
+      components = omega (arith, cs, t.components, component_count-so_far outer inner (component ends), ap component_count close);
+      instances = omega (arith, is, t.instances, instance_count-so_far outer inner (component ends), ap instance_count close);
+    } in
+    subst (λ us. Totalled totals (record { outer = us; inner = new })) (sym a) (subst (λ t. Totalled totals (record { outer = outer ++ inner ∷ []; inner = t })) (sym e) whole)
+
+-- Totals, where the inner component is closed.
+pub totalled_close : (outer around : List Tree) (parent inner new : Tree) (totals : TreeTotals) → around ≡ outer ++ parent ∷ [] → new ≡ add parent (component inner)
+    → Totalled totals (record { outer = around; inner = inner }) → Totalled totals (record { outer = outer; inner = new })
+totalled_close outer around parent inner new totals a e t =
+    let close : tree_so_far (outer ++ parent ∷ []) inner ≡ tree_so_far outer (add parent (component inner)) = tree_so_far-close outer parent inner in
+    let u : Totalled totals (record { outer = outer ++ parent ∷ []; inner = inner }) = subst (λ us. Totalled totals (record { outer = us; inner = inner })) a t in
+    let whole : Totalled totals (record { outer = outer; inner = add parent (component inner) }) = record {
+      modules = u.modules ∙ ap module_count close;
+      components = u.components ∙ ap component_count close;
+      instances = u.instances ∙ ap instance_count close;
+    } in
+    subst (λ t. Totalled totals (record { outer = outer; inner = t })) (sym e) whole

@@ -1,21 +1,26 @@
 -- What a turn chooses, and that it lowers what is left to do.
-use Rattle.std.proofs.Common.{◌≡◌, ℕ, zero, suc, ◌+◌, ◌^◌, ◌≤◌, List, [], ◌∷◌, ◌++◌, length, drop, arith, ap, sym, subst, ◌∙◌, refl, true, false, Bool, inl, inr, length-append, length-drop}
+use Rattle.std.proofs.Common.{◌≡◌, ℕ, zero, suc, ◌+◌, ◌-◌, ◌^◌, ◌≤◌, List, [], ◌∷◌, ◌++◌, length, drop, arith, ap, sym, subst, ◌∙◌, refl, true, false, Bool, inl, inr, map, length-append, length-drop}
 use Rattle.std.specs.List.{AllByRecursion}
 use Rattle.std.specs.Prelude.{slice_get, Some}
 use Rattle.smith_input.specs.Choices.{ReadsAmong}
 use Rattle.smith_input.specs.Reading.{IsWidth, Reads, IsTail}
 use Rattle.smith_input.proofs.Offered.{offer_holds}
-use Rattle.smith_input.proofs.ReadingLemmas.{width_unique, more_tail}
+use Rattle.smith_input.proofs.ReadingLemmas.{width_unique, tail_is, tail_trans}
 use Rattle.smith_core.specs.declared.config.Config.{Config}
-use Rattle.smith_component.specs.Tree.{Tree, ends, Part, custom, core_module, core_types, component, types, canons, imports, add}
+use Rattle.smith_component.specs.Tree.{Tree, ends, Part, custom, core_module, core_types, component, add, types_of, imports_of, function_count}
 use Rattle.smith_core.specs.Module.{core_preamble}
+use Rattle.smith_component.specs.Building.{Building, open_of}
 use Rattle.smith_component.specs.Limits.{max_depth}
-use Rattle.smith_component.specs.Open.{Open, more_items, is_module_offered, is_component_offered, items, offers}
-use Rattle.smith_component.specs.Turn.{Next, building, answered, Turn, Closes, Does, with_part, todo, Falls}
+use Rattle.smith_component.specs.Open.{Open, more_items, is_module_offered, is_component_offered, items, offers, with_inner}
+use Rattle.smith_component.specs.Shown.{shown_sections}
+use Rattle.smith_component.specs.Steps.{AddsSections}
+use Rattle.smith_component.specs.Turn.{Next, building, answered, Turn, AddsTypes, AddsImports, AddsCanons, Fills, FillsAll, Closes, Does, with_part, todo, Falls}
 use Rattle.smith_component.specs.declared.item.Item.{Item}
 use Rattle.smith_component.specs.declared.item.Item.TheVariants.{Finish, Custom, CoreTypes, Types, Imports, Canonical, Module, Component}
 use Rattle.smith_component.proofs.ReadsCustom.{custom_tail}
 use Rattle.smith_component.proofs.ReadsCoreTypes.{core_types_read_tail}
+use Rattle.smith_component.proofs.ReadsCanons.{canons_tail}
+use Rattle.smith_component.proofs.ReadsImports.{imports_tail}
 use Rattle.smith_component.proofs.ReadsTypes.{types_read_tail}
 use Rattle.smith_component.proofs.Sound.{component_offered_is}
 
@@ -60,14 +65,47 @@ part_length config stack next p e =
     let f : next ≡ record { outer = stack.outer; inner = add stack.inner p } = cc in
     ap (λ n. length n.outer) f
 
+-- where the inner component alone grows
+pub still_building : (old new : Building) → AddsSections old new → building (open_of new) ≡ building (with_inner (open_of old) (open_of new).inner)
+still_building old new a = ap (λ o. building (record { outer = map shown_sections o; inner = shown_sections new.inner })) a.outer
+
+inner_length : (stack next : Open) (t : Tree) → building next ≡ building (with_inner stack t) → length next.outer ≡ length stack.outer
+inner_length stack next t e =
+    let f : next ≡ with_inner stack t = cc in
+    ap (λ n. length n.outer) f
+
+-- what the sections with a minimum leave
+
+adds_types_tail : (config : Config) (min : ℕ) (stack : Open) (b : List ℕ) (t : Tree) (rest : List ℕ) → AddsTypes config min stack b t rest → IsTail rest b
+adds_types_tail config min stack b t rest (xs, scope, es, e) = types_read_tail config _ es
+
+adds_imports_tail : (config : Config) (min : ℕ) (stack : Open) (b : List ℕ) (t : Tree) (rest : List ℕ) → AddsImports config min stack b t rest → IsTail rest b
+adds_imports_tail config min stack b t rest (is, reads, e) = imports_tail config stack reads
+
+adds_canons_tail : (config : Config) (min : ℕ) (stack : Open) (b : List ℕ) (t : Tree) (rest : List ℕ) → AddsCanons config min stack b t rest → IsTail rest b
+adds_canons_tail config min stack b t rest (turns, next, reads, e) = canons_tail config min stack.inner reads
+
+fill_tail : (Adds : ℕ → Open → List ℕ → Tree → List ℕ → Type 0) (count min : ℕ) (stack : Open) (b : List ℕ) (t : Tree) (rest : List ℕ) → ((n : ℕ) → Adds n stack b t rest → IsTail rest b) → Fills Adds count min stack b t rest → IsTail rest b
+fill_tail Adds count min stack b t rest adds (inl (few, e, l)) = tail_is l
+fill_tail Adds count min stack b t rest adds (inr (lacks, a)) = adds (min - count) a
+
+pub fills_tail : {config : Config} {stack : Open} {b : List ℕ} {full : Tree} {rest : List ℕ} → FillsAll config stack b full rest → IsTail rest b
+fills_tail {config} {stack} {b} {full} {rest} f =
+    let typed : Open = with_inner stack f.typed in
+    let imported : Open = with_inner stack f.imported in
+    let ts = fill_tail (AddsTypes config) (length (types_of stack.inner)) config.min_types stack b f.typed f.mid (λ n a. adds_types_tail config n stack b f.typed f.mid a) f.types in
+    let is = fill_tail (AddsImports config) (length (imports_of f.typed)) config.min_imports typed f.mid f.imported f.low (λ n a. adds_imports_tail config n typed f.mid f.imported f.low a) f.imports in
+    let fs = fill_tail (AddsCanons config) (function_count f.imported) config.min_funcs imported f.low full rest (λ n a. adds_canons_tail config n imported f.low full rest a) f.functions in
+    tail_trans fs (tail_trans is ts)
+
 -- How many components are open after an item, and how many bytes are left.
 does_length : (config : Config) (item : Item) (stack next : Open) (b r : List ℕ) → (item ≡ Component → is_component_offered config stack ≡ true) → length stack.outer + 1 ≤ max_depth config → Does config item stack b (building next) r → (length next.outer + 1 ≤ max_depth config) × (length r ≤ length b)
-does_length config Finish stack next b r e m (d, c) = (omega (arith, closes_length stack next c), omega (arith, ap length d))
+does_length config Finish stack next b r e m (full, f, c) = (omega (arith, closes_length (with_inner stack full) next c), tail_length r b (fills_tail f))
 does_length config Custom stack next b r e m (name, contents, read, c) = (omega (arith, part_length config stack next (custom name contents) c), tail_length r b (custom_tail b name contents r read))
 does_length config CoreTypes stack next b r e m (xs, scope, es, c) = (omega (arith, part_length config stack next (core_types xs) c), tail_length r b (core_types_read_tail config es))
-does_length config Types stack next b r e m (xs, scope, es, c) = (omega (arith, part_length config stack next (types xs) c), tail_length r b (types_read_tail config _ es))
-does_length config Imports stack next b r e m (a, more, c) = (omega (arith, part_length config stack next (imports []) c), tail_length r b (more_tail more))
-does_length config Canonical stack next b r e m (a, more, c) = (omega (arith, part_length config stack next (canons []) c), tail_length r b (more_tail more))
+does_length config Types stack next b r e m (t, a, c) = (omega (arith, inner_length stack next t c), tail_length r b (adds_types_tail config 0 stack b t r a))
+does_length config Imports stack next b r e m (t, a, c) = (omega (arith, inner_length stack next t c), tail_length r b (adds_imports_tail config 0 stack b t r a))
+does_length config Canonical stack next b r e m (t, a, c) = (omega (arith, inner_length stack next t c), tail_length r b (adds_canons_tail config 0 stack b t r a))
 does_length config Module stack next b r e m (d, c) = (omega (arith, part_length config stack next (core_module core_preamble) c), omega (arith, ap length d))
 does_length config Component stack next b r e m (d, c) =
     let f : next ≡ record { outer = stack.outer ++ stack.inner ∷ []; inner = ends } = cc in
@@ -85,7 +123,7 @@ chosen config stack (x ∷ xs) after item r =
     (λ h. other Finish (λ e. cc) (λ e. cc), (λ h. other Custom (λ e. cc) (λ e. cc), (λ h. other CoreTypes (λ e. cc) (λ e. cc), (λ h. other Types (λ e. cc) (λ e. cc), (λ h. other Imports (λ e. cc) (λ e. cc), (λ h. other Canonical (λ e. cc) (λ e. cc), (λ h. (λ e. h, λ e. absurd (cc)), (λ h. (λ e. absurd (cc), λ e. h), tt)))))))) in
     offer_holds P (offers (is_module_offered config stack) (is_component_offered config stack)) all r.place item r.named
 
-does_finish : (config : Config) (stack : Open) (item : Item) (b r : List ℕ) (next : Next) → item ≡ Finish → Does config item stack b next r → (r ≡ b) × Closes stack next
+does_finish : (config : Config) (stack : Open) (item : Item) (b r : List ℕ) (next : Next) → item ≡ Finish → Does config item stack b next r → (full : Tree) × FillsAll config stack b full r × Closes (with_inner stack full) next
 does_finish config stack item b r next e d = let P : Item → Type 0 = λ i. Does config i stack b next r in subst P e d
 
 todo_bound : (config : Config) (left : List ℕ) (stack : Open) (n : ℕ) → length stack.outer + 1 ≤ max_depth config → length left ≤ n → todo config left stack ≤ n + max_depth config
@@ -95,8 +133,10 @@ todo_bound config (x ∷ xs) stack n m h = omega arith
 pub turn_falls : (config : Config) (stack next : Open) (left left2 : List ℕ) → length stack.outer + 1 ≤ max_depth config → Turn config stack left (building next) left2 → todo config left2 next + 1 ≤ todo config left stack
 turn_falls config stack next [] left2 m t =
     let f = does_finish config stack t.item t.after left2 (building next) (only_finish t.chooses.place t.item t.chooses.named) t.does in
-    let e : left2 ≡ [] = f.0 ∙ (t.chooses.reads.left ∙ drop_none t.chooses.reads.width) in
-    subst (λ l. todo config l next + 1 ≤ length stack.outer + 1) (sym e) (omega (arith, closes_length stack next f.1))
+    let none : t.after ≡ [] = t.chooses.reads.left ∙ drop_none t.chooses.reads.width in
+    let tail = fills_tail f.1 in
+    let e : left2 ≡ [] = tail.1 ∙ (ap (drop tail.0) none ∙ drop_none tail.0) in
+    subst (λ l. todo config l next + 1 ≤ length stack.outer + 1) (sym e) (omega (arith, closes_length (with_inner stack f.0) next f.2))
 turn_falls config stack next (x ∷ xs) left2 m t =
     let some = items_some (is_module_offered config stack) (is_component_offered config stack) in
     let d = does_length config t.item stack next t.after left2 (chosen config stack (x ∷ xs) t.after t.item t.chooses).1 m t.does in

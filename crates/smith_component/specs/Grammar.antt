@@ -1,10 +1,10 @@
 -- The binary format of components (Binary.md, component definitions), one line for each section.
 use Rattle.std.specs.Prelude.{◌≡◌, ℕ, List, [], ◌∷◌, Some, None, nat_eq, if◌then◌else◌}
 use Rattle.std.specs.List.{starts_with}
-use Rattle.smith_core.specs.Piece.{Piece, ◌⊕◌, bytes, raw, text, many, sized}
+use Rattle.smith_core.specs.Piece.{Piece, ◌⊕◌, byte, bytes, raw, text, many, sized, u}
 use Rattle.smith_core.specs.Module.{core_preamble}
 use Rattle.smith_syntax.specs.Grammar.{entry, core_entry, import_entry}
-use Rattle.smith_component.specs.Tree.{Canon, Part, Tree, ends, first, custom, core_module, core_types, component, types, canons, imports}
+use Rattle.smith_component.specs.Tree.{Canon, lift, lower, Part, Tree, ends, first, custom, core_module, core_types, component, types, canons, imports}
 
 abbrev pub preamble : List ℕ
 preamble = 0x00 ∷ 0x61 ∷ 0x73 ∷ 0x6d ∷ 0x0d ∷ 0x00 ∷ 0x01 ∷ 0x00 ∷ []
@@ -13,8 +13,10 @@ preamble = 0x00 ∷ 0x61 ∷ 0x73 ∷ 0x6d ∷ 0x0d ∷ 0x00 ∷ 0x01 ∷ 0x00 �
 unfoldable pub embedded : List ℕ → Piece
 embedded bs = if starts_with nat_eq bs core_preamble then raw bs else None
 
+-- a canonical function, without options (Binary.md, canonical definitions)
 abbrev pub canon : Canon → Piece
-canon f = elim f [ ]
+canon (lift c t) = bytes (0x00 ∷ 0x00 ∷ []) ⊕ u c ⊕ byte 0x00 ⊕ u t
+canon (lower f) = bytes (0x01 ∷ 0x00 ∷ []) ⊕ u f ⊕ byte 0x00
 
 abbrev mutual
   pub part : Part → Piece

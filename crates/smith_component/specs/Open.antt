@@ -3,7 +3,7 @@ use Rattle.std.specs.Prelude.{ℕ, ◌+◌, Bool, true, ◌&&◌, List, [], ◌�
 use Rattle.smith_input.specs.Script.{offers_of}
 use Rattle.smith_core.specs.declared.config.Config.{Config}
 use Rattle.smith_syntax.specs.Scope.{Scope}
-use Rattle.smith_component.specs.Tree.{Tree, ends, component, add, inside, modules}
+use Rattle.smith_component.specs.Tree.{Tree, ends, component, add, module_count, component_count}
 use Rattle.smith_component.specs.WellFormed.{scope_of}
 use Rattle.smith_component.specs.declared.item.Item.{Item}
 use Rattle.smith_component.specs.declared.item.Item.TheVariants.{Finish, Custom, CoreTypes, Types, Imports, Canonical, Module, Component}
@@ -30,14 +30,18 @@ scopes_from (u ∷ us) outer = scopes_from us (scope_of u ∷ outer)
 abbrev pub scopes_in : List Tree → List Scope
 scopes_in us = scopes_from us []
 
+-- the same components around another inner one
+abbrev pub with_inner : Open → Tree → Open
+with_inner stack t = record { outer = stack.outer; inner = t }
+
 -- may a core module be embedded?
 abbrev pub is_module_offered : Config → Open → Bool
-is_module_offered config stack = nat_lt (length (modules (tree_so_far stack.outer stack.inner))) config.max_modules
+is_module_offered config stack = nat_lt (module_count (tree_so_far stack.outer stack.inner)) config.max_modules
 
 -- may a component be opened?
 abbrev pub is_component_offered : Config → Open → Bool
 is_component_offered config stack =
-    nat_lt (length stack.outer + 1) config.max_nesting_depth && nat_lt (length (inside (tree_so_far stack.outer stack.inner))) config.max_components
+    nat_lt (length stack.outer + 1) config.max_nesting_depth && nat_lt (component_count (tree_so_far stack.outer stack.inner)) config.max_components
 
 -- the items where input is left, in order, and whether each is offered
 abbrev pub offers : Bool → Bool → List (Bool × Item)

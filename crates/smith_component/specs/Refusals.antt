@@ -1,26 +1,67 @@
 -- Which refusal comes.
-use Rattle.std.specs.Prelude.{◌≡◌, ℕ, List, None}
+use Rattle.std.specs.Prelude.{◌≡◌, ℕ, ◌<◌, ◌≤◌, List, None, Result, MatchResult}
 use Rattle.smith_core.specs.Limits.{IsConsistent}
 use Rattle.smith_core.specs.declared.config.Config.{Config}
 use Rattle.smith_input.specs.declared.error.Error.{Error}
 use Rattle.smith_input.specs.declared.error.Error.TheVariants.{InconsistentLimits, MinimumNotMet, ModuleRefused, TooLong, OutOfMemory, PartsDisagree}
 use Rattle.smith_component.specs.Grammar.{component_text}
 use Rattle.smith_component.specs.Tree.{Tree}
-use Rattle.smith_component.specs.Turn.{RunsTo}
+use Rattle.smith_component.specs.Open.{Open, root}
+use Rattle.smith_component.specs.Turn.{Lacks, LacksAt, RunsTo, Turns, building}
 
--- Limits that do not fit together are refused as such, and all else only for want of memory.
-abbrev pub IsRefusal : Config → Error → Type 0
-IsRefusal config InconsistentLimits = ¬ IsConsistent config
-IsRefusal config MinimumNotMet = ⊥
-IsRefusal config ModuleRefused = ⊥
-IsRefusal config TooLong = ⊥
-IsRefusal config OutOfMemory = IsConsistent config
-IsRefusal config PartsDisagree = ⊥
+-- A builder is refused where limits do not fit together, and else only for want of memory.
+abbrev pub IsNewRefusal : Config → Error → Type 0
+IsNewRefusal config InconsistentLimits = ¬ IsConsistent config
+IsNewRefusal config MinimumNotMet = ⊥
+IsNewRefusal config ModuleRefused = ⊥
+IsNewRefusal config TooLong = ⊥
+IsNewRefusal config OutOfMemory = IsConsistent config
+IsNewRefusal config PartsDisagree = ⊥
+
+-- A component that is to be finished is refused where imports or functions lack, and else only for want of memory.
+abbrev pub IsFillRefusal : Config → Open → List ℕ → Error → Type 0
+IsFillRefusal config stack b InconsistentLimits = ⊥
+IsFillRefusal config stack b MinimumNotMet = Lacks config stack b
+IsFillRefusal config stack b ModuleRefused = ⊥
+IsFillRefusal config stack b TooLong = ⊥
+IsFillRefusal config stack b OutOfMemory = Unit {0}
+IsFillRefusal config stack b PartsDisagree = ⊥
+
+-- There are at least so many, or a minimum is not met.
+abbrev pub IsMinimum : {T : Type 0} → Result T Error → ℕ → ℕ → Type 0
+IsMinimum result min count = MatchResult result (λ _. min ≤ count) (λ e. (e ≡ MinimumNotMet) × (count < min))
+
+-- A turn is refused where the inner component is to be finished and imports or functions lack, and else only for want of memory.
+abbrev pub IsStepRefusal : Config → Open → List ℕ → Error → Type 0
+IsStepRefusal config stack left InconsistentLimits = ⊥
+IsStepRefusal config stack left MinimumNotMet = LacksAt config stack left
+IsStepRefusal config stack left ModuleRefused = ⊥
+IsStepRefusal config stack left TooLong = ⊥
+IsStepRefusal config stack left OutOfMemory = Unit {0}
+IsStepRefusal config stack left PartsDisagree = ⊥
+
+-- Turns in a row lead from the input to a component that is to be finished, of which imports or functions lack.
+pub record LacksOn (config : Config) (input : List ℕ) : Type 0 where
+  pub stack : Open
+  pub left : List ℕ
+  pub turns : ℕ
+  pub run : Turns config (building root) input (building stack) left turns
+  pub lacks : LacksAt config stack left
+
+-- Limits that do not fit together are refused as such; a component is refused that lacks of a minimum, and all else only for want
+-- of memory.
+abbrev pub IsRefusal : Config → List ℕ → Error → Type 0
+IsRefusal config input InconsistentLimits = ¬ IsConsistent config
+IsRefusal config input MinimumNotMet = IsConsistent config × LacksOn config input
+IsRefusal config input ModuleRefused = ⊥
+IsRefusal config input TooLong = ⊥
+IsRefusal config input OutOfMemory = IsConsistent config
+IsRefusal config input PartsDisagree = ⊥
 
 -- A component is too long only where it is made of the input and has no spelling.
 abbrev pub IsGenerateRefusal : Config → List ℕ → Error → Type 0
 IsGenerateRefusal config input InconsistentLimits = ¬ IsConsistent config
-IsGenerateRefusal config input MinimumNotMet = ⊥
+IsGenerateRefusal config input MinimumNotMet = IsConsistent config × LacksOn config input
 IsGenerateRefusal config input ModuleRefused = ⊥
 IsGenerateRefusal config input TooLong = IsConsistent config × (tree : Tree) × (left : List ℕ) × RunsTo config input tree left × (component_text tree ≡ None)
 IsGenerateRefusal config input OutOfMemory = IsConsistent config

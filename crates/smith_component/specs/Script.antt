@@ -1,13 +1,14 @@
 -- The input that a plan is read from.
-use Rattle.std.specs.Prelude.{◌≤◌, ℕ, ◌-◌, List, [], ◌∷◌, ◌++◌, length}
+use Rattle.std.specs.Prelude.{◌≡◌, ◌≤◌, ℕ, ◌-◌, List, [], ◌∷◌, ◌++◌, length}
 use Rattle.std.specs.List.{AllByRecursion}
 use Rattle.std.specs.Str.{IsUtf8}
 use Rattle.smith_input.specs.Script.{script_among, script_end, script_loop, script_text, script_bytes}
 use Rattle.smith_core.specs.declared.config.Config.{Config}
 use Rattle.smith_syntax.specs.Entries.{Entry, CoreEntry, core_func, core_module}
 use Rattle.smith_syntax.specs.Scope.{Scope, with_type, with_core_type}
-use Rattle.smith_types.specs.Script.{script_type, script_core_type, Lasts}
-use Rattle.smith_component.specs.Tree.{Tree, ends, first, Part, custom, core_module, core_types, component, types, canons, imports, add, types_of, core_types_of, own, imports_in, canons_in}
+use Rattle.smith_core_types.specs.Script.{script_core_type}
+use Rattle.smith_types.specs.Script.{script_type, Lasts}
+use Rattle.smith_component.specs.Tree.{Tree, ends, first, Part, custom, core_module, core_types, component, types, canons, imports, add, types_of, core_types_of, imports_of, function_count}
 use Rattle.smith_component.specs.Grammar.{Spells}
 use Rattle.smith_component.specs.Open.{items_with_input}
 use Rattle.smith_component.specs.WellFormed.{WellFormed, scope_of}
@@ -56,8 +57,8 @@ abbrev mutual
   script_part (core_types ts) config outer before = script_core_types config (config.max_types - length (core_types_of before)) (scope_of before) ts
   script_part (component t) config outer before = script_from t config (outer ++ before ∷ []) ends
   script_part (types ts) config outer before = script_types config (config.max_types - length (types_of before)) (scope_of before) ts
-  script_part (canons fs) config outer before = script_end 0 (config.max_funcs - length (own canons_in before))
-  script_part (imports is) config outer before = script_end 0 (config.max_imports - length (own imports_in before))
+  script_part (canons fs) config outer before = script_end 0 (config.max_funcs - function_count before)
+  script_part (imports is) config outer before = script_end 0 (config.max_imports - length (imports_of before))
 
 abbrev pub script : Config → Tree → List ℕ
 script config plan = script_from plan config [] ends
@@ -80,8 +81,8 @@ abbrev mutual
   IsPlanPart config (core_types ts) = AllByRecursion (LastsCore config.max_type_size) ts
   IsPlanPart config (component t) = IsPlan config t
   IsPlanPart config (types ts) = AllByRecursion (Lasts config.max_type_size) ts
-  IsPlanPart config (canons fs) = Unit {0}
-  IsPlanPart config (imports is) = Unit {0}
+  IsPlanPart config (canons fs) = fs ≡ []
+  IsPlanPart config (imports is) = is ≡ []
 
 -- a plan within the limits of a config, which has a spelling
 pub record Within (config : Config) (plan : Tree) : Type 0 where

@@ -1,7 +1,7 @@
 -- A turn of a script, and runs of such turns.
 use Rattle.std.specs.Prelude.{◌≡◌, ℕ, List, ◌++◌}
 use Rattle.smith_core.specs.declared.config.Config.{Config}
-use Rattle.smith_component.specs.Limits.{OwnLimits}
+use Rattle.smith_component.specs.Limits.{Minima, OwnLimits}
 use Rattle.smith_component.specs.Open.{Open, scopes_in}
 use Rattle.smith_component.specs.Script.{item_of, script_part, IsPlanPart}
 use Rattle.smith_component.specs.Tree.{Part, add}
@@ -20,9 +20,9 @@ pub record AddsPart (config : Config) (item : Item) (stack : Open) (b : List ℕ
   pub begins : b ≡ script_part part config stack.outer stack.inner ++ rest
   pub leads : next ≡ with_part stack part
 
--- What an item is to do on bytes that begin with its script.
+-- What an item is to do on bytes that begin with its script: a component that is finished lacks nothing.
 abbrev pub Follows : Config → Item → Open → List ℕ → Next → List ℕ → Type 0
-Follows config Finish stack b next rest = (rest ≡ b) × Closes stack next
+Follows config Finish stack b next rest = Minima config stack.inner × (rest ≡ b) × Closes stack next
 Follows config Custom stack b next rest = AddsPart config Custom stack b next rest
 Follows config CoreTypes stack b next rest = AddsPart config CoreTypes stack b next rest
 Follows config Types stack b next rest = AddsPart config Types stack b next rest

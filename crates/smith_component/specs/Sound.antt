@@ -1,28 +1,37 @@
 -- What is true of a builder at every moment, and which parts keep it true.
-use Rattle.std.specs.Prelude.{◌≡◌, ℕ, ◌+◌, ◌≤◌, List, [], ◌∷◌, length}
+use Rattle.std.specs.Prelude.{◌≡◌, ◌+◌, ◌≤◌, List, [], ◌∷◌, ◌++◌, length}
+use Rattle.std.specs.List.{AllByRecursion, flat_map}
 use Rattle.smith_core.specs.Limits.{IsConsistent, configured}
 use Rattle.smith_core.specs.declared.config.Config.{Config}
 use Rattle.smith_core.specs.declared.types.ValType.{ValType}
 use Rattle.smith_syntax.specs.Scope.{Scope}
-use Rattle.smith_component.specs.Limits.{max_depth, OwnLimits, Limits, SmallTypes, SmallCoreTypes, Sized}
+use Rattle.smith_component.specs.Importing.{Totalled}
+use Rattle.smith_component.specs.Limits.{max_depth, OwnLimits, Maxima, Minima, SmallTypes, SmallCoreTypes, Sized}
 use Rattle.smith_component.specs.Open.{Open, tree_so_far, scopes_in}
-use Rattle.smith_component.specs.Tree.{Part, add, inside, modules, types_in, core_types_in, modules_in, anywhere_in, components_in, depth_in, scope_depth_in}
+use Rattle.smith_component.specs.Tree.{Tree, Part, add, inside, module_count, component_count, instance_count, types_in, core_types_in, functions_in, core_functions_in, imports_in, modules_in, imported_modules_in, imported_components_in, imported_instances_in, anywhere_in, components_in, depth_in, scope_depth_in}
 use Rattle.smith_component.specs.WellFormed.{WellFormed, FormedPart, scope_of}
+use Rattle.smith_component.specs.declared.builder.totals.TreeTotals.{TreeTotals}
 
--- The config was accepted, the running totals are those of the tree so far, and that is well formed and within the limits.
-pub record Sound (config : Config) (module_total component_total : ℕ) (stack : Open) : Type 0 where
+-- the components that are finished
+abbrev pub finished_in : Open → List Tree
+finished_in stack = flat_map inside stack.outer ++ inside stack.inner
+
+-- The config was accepted, and the tree so far is well formed and has at most what it may have. The components that are finished have
+-- what they must have.
+pub record Sound (config : Config) (stack : Open) : Type 0 where
   pub consistent : IsConsistent config
-  pub modules_are : module_total ≡ length (modules (tree_so_far stack.outer stack.inner))
-  pub components_are : component_total ≡ length (inside (tree_so_far stack.outer stack.inner))
   pub formed : WellFormed (tree_so_far stack.outer stack.inner)
-  pub limits : Limits config (tree_so_far stack.outer stack.inner)
+  pub maxima : Maxima config (tree_so_far stack.outer stack.inner)
+  pub minima : AllByRecursion (Minima config) (finished_in stack)
   pub sized : Sized config (tree_so_far stack.outer stack.inner)
 
--- The scopes are those of the open components too, and the core value types those that the config allows.
-pub record Standing (config : Config) (valtypes : List ValType) (scopes : List Scope) (module_total component_total : ℕ) (stack : Open) : Type 0 where
-  pub sound : Sound config module_total component_total stack
+-- The running totals are those of the tree so far, the scopes are those of the open components too, and the core value types those
+-- that the config allows.
+pub record Standing (config : Config) (valtypes : List ValType) (scopes : List Scope) (totals : TreeTotals) (stack : Open) : Type 0 where
+  pub sound : Sound config stack
   pub valtypes_are : valtypes ≡ configured config
   pub scopes_are : scopes ≡ scope_of stack.inner ∷ scopes_in stack.outer
+  pub totalled : Totalled totals stack
 
 -- A part that may be added to the inner component: it is well formed there, no component, and within the limits where what stands
 -- there is.
@@ -31,8 +40,22 @@ pub record IsAddable (config : Config) (stack : Open) (p : Part) : Type 0 where
   pub own : OwnLimits config stack.inner → OwnLimits config (add stack.inner p)
   pub sizes : SmallTypes config (types_in p) × SmallCoreTypes config (core_types_in p)
   pub modules :
-      length (modules (tree_so_far stack.outer stack.inner)) ≤ config.max_modules
-      → length (modules (tree_so_far stack.outer stack.inner)) + length (modules_in p) ≤ config.max_modules
+      module_count (tree_so_far stack.outer stack.inner) ≤ config.max_modules
+      → module_count (tree_so_far stack.outer stack.inner) + (length (modules_in p) + length (imported_modules_in p)) ≤ config.max_modules
+  pub components :
+      component_count (tree_so_far stack.outer stack.inner) ≤ config.max_components
+      → component_count (tree_so_far stack.outer stack.inner) + length (imported_components_in p) ≤ config.max_components
+  pub instances :
+      instance_count (tree_so_far stack.outer stack.inner) ≤ config.max_instances
+      → instance_count (tree_so_far stack.outer stack.inner) + length (imported_instances_in p) ≤ config.max_instances
   pub no_component : anywhere_in components_in p ≡ []
   pub flat : depth_in p ≡ 1
   pub scopes : length stack.outer + 1 ≤ max_depth config → length stack.outer + scope_depth_in p ≤ max_depth config + 1
+
+-- A part that adds no type, core type, function or import.
+pub record IsQuiet (p : Part) : Type 0 where
+  pub types : types_in p ≡ []
+  pub core_types : core_types_in p ≡ []
+  pub functions : functions_in p ≡ []
+  pub core_functions : core_functions_in p ≡ []
+  pub imports : imports_in p ≡ []

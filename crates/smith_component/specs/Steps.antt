@@ -26,16 +26,22 @@ pub record OpensComponent (old new : Building) : Type 0 where
   pub outer : new.outer ≡ old.outer ++ old.inner ∷ []
   pub inner : new.inner ≡ []
 
--- The inner component became the last section of the one around it.
+-- The inner component, with more sections after those that it had, became the last section of the one around it.
 pub record ClosesComponent (old new : Building) : Type 0 where
   pub parent : List Section
+  pub more : List Section
   pub outer : old.outer ≡ new.outer ++ parent ∷ []
-  pub inner : new.inner ≡ parent ++ Component (shown_sections old.inner) ∷ []
+  pub inner : new.inner ≡ parent ++ Component (shown_sections (old.inner ++ more)) ∷ []
+
+-- The inner component, with more sections after those that it had, is a section of the one around it, or the answer.
+abbrev pub ClosesSections : Building → Step → Type 0
+ClosesSections old (StillBuilding new) = ClosesComponent old new
+ClosesSections old (Finished c) = (old.outer ≡ []) × (more : List Section) × (c ≡ shown_sections (old.inner ++ more))
 
 -- The sections that stood before a turn stay in front, unchanged.
 abbrev pub KeepsSections : Building → Step → Type 0
 KeepsSections old (StillBuilding new) = AddsSections old new ⊎ OpensComponent old new ⊎ ClosesComponent old new
-KeepsSections old (Finished c) = (old.outer ≡ []) × (c ≡ shown_sections old.inner)
+KeepsSections old (Finished c) = ClosesSections old (Finished c)
 
 -- A builder that goes on has the same config, and an answer is well formed and within the limits, and its types within their fuel.
 abbrev pub StaysSound : Config → Step → Type 0

@@ -1,11 +1,16 @@
 -- A component as a plain tree of parts, and what stands in it (Explainer.md, component definitions, index spaces).
-use Rattle.std.specs.Prelude.{ℕ, ◌+◌, List, [], ◌∷◌, ◌++◌, max}
+use Rattle.std.specs.Prelude.{ℕ, ◌+◌, List, [], ◌∷◌, ◌++◌, length, max}
 use Rattle.std.specs.List.{flat_map}
 use Rattle.smith_syntax.specs.Entries.{Entry, CoreEntry, ImportEntry}
 use Rattle.smith_syntax.specs.TypeLimits.{nesting}
+use Rattle.smith_syntax.specs.declared.deftype.ComponentTypeRef.{ComponentTypeRef}
+use Rattle.smith_syntax.specs.declared.deftype.ComponentTypeRef.TheVariants as to
 
--- a canonical function
+-- A canonical function (Explainer.md, canonical definitions): the core function of that index lifted to the type of that index, or
+-- the component function of that index lowered.
 pub data Canon : Type 0 where
+  lift : ℕ → ℕ → Canon
+  lower : ℕ → Canon
 
 -- A list of parts, and the parts. There are no URLs, no shared nodes and no caches.
 mutual
@@ -41,6 +46,49 @@ abbrev pub parts_of : Tree → List Part
 parts_of ends = []
 parts_of (first p t) = p ∷ parts_of t
 
+-- What stands in the index spaces of functions (Explainer.md, index spaces): a component function by the index of its type, and a
+-- core function by the index of the component function that it lowers.
+
+-- the component function that a canonical function adds
+abbrev pub lifted_by : Canon → List ℕ
+lifted_by (lift c t) = t ∷ []
+lifted_by (lower f) = []
+
+-- the core function that it adds
+abbrev pub lowered_by : Canon → List ℕ
+lowered_by (lift c t) = []
+lowered_by (lower f) = f ∷ []
+
+-- the function, module, component or instance that an import is of, by the index of its type
+
+abbrev pub function_of : ComponentTypeRef → List ℕ
+function_of (to.Module i) = []
+function_of (to.Func i) = i ∷ []
+function_of (to.TypeEq i) = []
+function_of (to.Component i) = []
+function_of (to.Instance i) = []
+
+abbrev pub module_of : ComponentTypeRef → List ℕ
+module_of (to.Module i) = i ∷ []
+module_of (to.Func i) = []
+module_of (to.TypeEq i) = []
+module_of (to.Component i) = []
+module_of (to.Instance i) = []
+
+abbrev pub component_of : ComponentTypeRef → List ℕ
+component_of (to.Module i) = []
+component_of (to.Func i) = []
+component_of (to.TypeEq i) = []
+component_of (to.Component i) = i ∷ []
+component_of (to.Instance i) = []
+
+abbrev pub instance_of : ComponentTypeRef → List ℕ
+instance_of (to.Module i) = []
+instance_of (to.Func i) = []
+instance_of (to.TypeEq i) = []
+instance_of (to.Component i) = []
+instance_of (to.Instance i) = i ∷ []
+
 -- what one part adds to the lists of its component
 pub record Added : Type 0 where
   pub names : List (List ℕ)
@@ -48,11 +96,27 @@ pub record Added : Type 0 where
   pub core_types : List CoreEntry
   pub components : List Tree
   pub types : List Entry
-  pub canons : List Canon
   pub imports : List ImportEntry
+  pub functions : List ℕ
+  pub core_functions : List ℕ
+  pub imported_modules : List ℕ
+  pub imported_components : List ℕ
+  pub imported_instances : List ℕ
 
 abbrev pub nothing : Added
-nothing = record { names = []; modules = []; core_types = []; components = []; types = []; canons = []; imports = [] }
+nothing = record {
+  names = [];
+  modules = [];
+  core_types = [];
+  components = [];
+  types = [];
+  imports = [];
+  functions = [];
+  core_functions = [];
+  imported_modules = [];
+  imported_components = [];
+  imported_instances = [];
+}
 
 abbrev pub added : Part → Added
 added (custom name contents) = record nothing { names = name ∷ [] }
@@ -60,8 +124,14 @@ added (core_module text) = record nothing { modules = text ∷ [] }
 added (core_types ts) = record nothing { core_types = ts }
 added (component t) = record nothing { components = t ∷ [] }
 added (types ts) = record nothing { types = ts }
-added (canons fs) = record nothing { canons = fs }
-added (imports is) = record nothing { imports = is }
+added (canons fs) = record nothing { functions = flat_map lifted_by fs; core_functions = flat_map lowered_by fs }
+added (imports is) = record nothing {
+  imports = is;
+  functions = flat_map (λ i. function_of i.to) is;
+  imported_modules = flat_map (λ i. module_of i.to) is;
+  imported_components = flat_map (λ i. component_of i.to) is;
+  imported_instances = flat_map (λ i. instance_of i.to) is;
+}
 
 abbrev pub names_in : Part → List (List ℕ)
 names_in p = (added p).names
@@ -78,11 +148,23 @@ components_in p = (added p).components
 abbrev pub types_in : Part → List Entry
 types_in p = (added p).types
 
-abbrev pub canons_in : Part → List Canon
-canons_in p = (added p).canons
-
 abbrev pub imports_in : Part → List ImportEntry
 imports_in p = (added p).imports
+
+abbrev pub functions_in : Part → List ℕ
+functions_in p = (added p).functions
+
+abbrev pub core_functions_in : Part → List ℕ
+core_functions_in p = (added p).core_functions
+
+abbrev pub imported_modules_in : Part → List ℕ
+imported_modules_in p = (added p).imported_modules
+
+abbrev pub imported_components_in : Part → List ℕ
+imported_components_in p = (added p).imported_components
+
+abbrev pub imported_instances_in : Part → List ℕ
+imported_instances_in p = (added p).imported_instances
 
 -- the lists of a component by itself, without the components in it
 
@@ -94,6 +176,19 @@ types_of t = own types_in t
 
 abbrev pub core_types_of : Tree → List CoreEntry
 core_types_of t = own core_types_in t
+
+abbrev pub imports_of : Tree → List ImportEntry
+imports_of t = own imports_in t
+
+abbrev pub functions_of : Tree → List ℕ
+functions_of t = own functions_in t
+
+abbrev pub core_functions_of : Tree → List ℕ
+core_functions_of t = own core_functions_in t
+
+-- how many functions a component imports, lifts and lowers
+abbrev pub function_count : Tree → ℕ
+function_count t = length (functions_of t) + length (core_functions_of t)
 
 -- what stands anywhere in a tree, in the components at every depth
 
@@ -117,6 +212,17 @@ inside t = anywhere components_in t
 
 abbrev pub modules : Tree → List (List ℕ)
 modules t = anywhere modules_in t
+
+-- how many modules, components below the root and instances there are, those that are imported too
+
+abbrev pub module_count : Tree → ℕ
+module_count t = length (modules t) + length (anywhere imported_modules_in t)
+
+abbrev pub component_count : Tree → ℕ
+component_count t = length (inside t) + length (anywhere imported_components_in t)
+
+abbrev pub instance_count : Tree → ℕ
+instance_count t = length (anywhere imported_instances_in t)
 
 -- how deep components stand, the root at 1, where types reach so much below the component in which they stand
 abbrev mutual

@@ -1,19 +1,21 @@
 -- A turn of the builder, and runs of turns.
-use Rattle.std.specs.Prelude.{◌≡◌, ℕ, ◌+◌, ◌-◌, ◌≤◌, zero, suc, Bool, List, [], ◌∷◌, ◌++◌, length, ◌⊎◌}
+use Rattle.std.specs.Prelude.{◌≡◌, ℕ, ◌+◌, ◌-◌, ◌<◌, ◌≤◌, zero, suc, List, [], ◌∷◌, ◌++◌, length, ◌⊎◌}
 use Rattle.smith_input.specs.Choices.{ReadsAmong}
 use Rattle.smith_input.specs.Loops.{Loop, Never}
-use Rattle.smith_input.specs.Reading.{More}
 use Rattle.smith_input.specs.Texts.{ReadsText, ReadsBytes}
 use Rattle.smith_core.specs.Module.{core_preamble}
 use Rattle.smith_core.specs.declared.config.Config.{Config}
-use Rattle.smith_syntax.specs.Entries.{Entry, CoreEntry}
+use Rattle.smith_syntax.specs.Entries.{Entry, CoreEntry, ImportEntry}
 use Rattle.smith_types.specs.Made.{MadeWith}
-use Rattle.smith_types.specs.MadeCore.{MadeCore}
+use Rattle.smith_core_types.specs.MadeCore.{MadeCore}
 use Rattle.smith_syntax.specs.Scope.{Scope, with_type, with_core_type}
-use Rattle.smith_component.specs.Tree.{Tree, Part, ends, custom, core_module, core_types, component, types, canons, imports, add, own, types_of, core_types_of, imports_in, canons_in}
+use Rattle.smith_component.specs.Tree.{Tree, Part, ends, custom, core_module, core_types, component, types, imports, add, types_of, core_types_of, imports_of, function_count}
+use Rattle.smith_component.specs.Canonicals.{Growing, ReadsCanons, grown}
+use Rattle.smith_component.specs.Imports.{ReadsImports}
 use Rattle.smith_component.specs.Limits.{max_depth}
-use Rattle.smith_component.specs.Open.{Open, root, scopes_in, items}
+use Rattle.smith_component.specs.Open.{Open, root, scopes_in, items, with_inner}
 use Rattle.smith_component.specs.WellFormed.{scope_of}
+use Rattle.smith_component.specs.declared.item.CanonItem.{CanonItem}
 use Rattle.smith_component.specs.declared.item.Item.{Item}
 use Rattle.smith_component.specs.declared.item.Item.TheVariants.{Finish, Custom, CoreTypes, Types, Imports, Canonical, Module, Component}
 
@@ -59,9 +61,9 @@ ReadsCustom b name contents rest = (mid : List ℕ) × ReadsText 1000 b name mid
 abbrev pub ReadsType : Config → List Scope → Scope → List ℕ → Entry → List ℕ → Scope → Type 0
 ReadsType config outer own b x rest next = MadeWith config own outer config.max_type_size b x rest × (next ≡ with_type own x)
 
--- at most so many types, which lead from one scope to another
-abbrev pub ReadsTypes : Config → List Scope → ℕ → Scope → List ℕ → List Entry → List ℕ → Scope → Type 0
-ReadsTypes config outer max own b xs rest next = Loop Never (ReadsType config outer) 0 max 0 own b xs rest next
+-- at least and at most so many types, which lead from one scope to another
+abbrev pub ReadsTypes : Config → List Scope → ℕ → ℕ → Scope → List ℕ → List Entry → List ℕ → Scope → Type 0
+ReadsTypes config outer min max own b xs rest next = Loop Never (ReadsType config outer) min max 0 own b xs rest next
 
 -- A core type of a core type section, with fresh fuel. It stands in the scope that the core types before it leave.
 abbrev pub ReadsCoreType : Config → Scope → List ℕ → CoreEntry → List ℕ → Scope → Type 0
@@ -71,26 +73,72 @@ ReadsCoreType config own b x rest next = (left : ℕ) × MadeCore config own b c
 abbrev pub ReadsCoreTypes : Config → ℕ → Scope → List ℕ → List CoreEntry → List ℕ → Scope → Type 0
 ReadsCoreTypes config max own b xs rest next = Loop Never (ReadsCoreType config) 0 max 0 own b xs rest next
 
--- A section to which nothing is added so far: its loop asks once whether it goes on, and ends whatever comes.
-abbrev pub Empty : ℕ → Part → Open → List ℕ → Next → List ℕ → Type 0
-Empty max p stack b next rest = (answer : Bool) × More 0 0 max b answer rest × (next ≡ with_part stack p)
+-- What the sections with a minimum do on the bytes b, where at least so many are to be added: they lead to the inner component t.
+
+-- a type section, with at most as many types as the component may still have
+abbrev pub AddsTypes : Config → ℕ → Open → List ℕ → Tree → List ℕ → Type 0
+AddsTypes config min stack b t rest =
+    (xs : List Entry) × (scope : Scope) × ReadsTypes config (scopes_in stack.outer) min (config.max_types - length (types_of stack.inner)) (scope_of stack.inner) b xs rest scope
+    × (t ≡ add stack.inner (types xs))
+
+-- an import section
+abbrev pub AddsImports : Config → ℕ → Open → List ℕ → Tree → List ℕ → Type 0
+AddsImports config min stack b t rest = (is : List ImportEntry) × ReadsImports config min stack b is rest × (t ≡ add stack.inner (imports is))
+
+-- canonical sections, with the type sections that lifts define between them
+abbrev pub AddsCanons : Config → ℕ → Open → List ℕ → Tree → List ℕ → Type 0
+AddsCanons config min stack b t rest = (turns : List CanonItem) × (next : Growing) × ReadsCanons config min stack.inner b turns rest next × (t ≡ grown next)
+
+-- What lacks of a minimum is filled, and where nothing lacks nothing is done.
+abbrev pub Fills : (ℕ → Open → List ℕ → Tree → List ℕ → Type 0) → ℕ → ℕ → Open → List ℕ → Tree → List ℕ → Type 0
+Fills Adds count min stack b t rest = ((min ≤ count) × (t ≡ stack.inner) × (rest ≡ b)) ⊎ ((count < min) × Adds (min - count) stack b t rest)
+
+abbrev pub FillsTypes : Config → Open → List ℕ → Tree → List ℕ → Type 0
+FillsTypes config stack b t rest = Fills (AddsTypes config) (length (types_of stack.inner)) config.min_types stack b t rest
+
+abbrev pub FillsImports : Config → Open → List ℕ → Tree → List ℕ → Type 0
+FillsImports config stack b t rest = Fills (AddsImports config) (length (imports_of stack.inner)) config.min_imports stack b t rest
+
+abbrev pub FillsFunctions : Config → Open → List ℕ → Tree → List ℕ → Type 0
+FillsFunctions config stack b t rest = Fills (AddsCanons config) (function_count stack.inner) config.min_funcs stack b t rest
+
+-- Types are filled first, then imports, and then functions, each counted anew, and no import or function lacks then.
+pub record FillsAll (config : Config) (stack : Open) (b : List ℕ) (full : Tree) (rest : List ℕ) : Type 0 where
+  pub typed : Tree
+  pub mid : List ℕ
+  pub imported : Tree
+  pub low : List ℕ
+  pub types : FillsTypes config stack b typed mid
+  pub imports : FillsImports config (with_inner stack typed) mid imported low
+  pub enough_imports : config.min_imports ≤ length (imports_of imported)
+  pub functions : FillsFunctions config (with_inner stack imported) low full rest
+  pub enough_functions : config.min_funcs ≤ function_count full
+
+-- Imports or functions lack when they are filled.
+pub data Lacks (config : Config) (stack : Open) (b : List ℕ) : Type 0 where
+  of_imports : {typed imported : Tree} {mid low : List ℕ} → FillsTypes config stack b typed mid → FillsImports config (with_inner stack typed) mid imported low
+      → length (imports_of imported) < config.min_imports → Lacks config stack b
+  of_functions : {typed imported full : Tree} {mid low rest : List ℕ} → FillsTypes config stack b typed mid → FillsImports config (with_inner stack typed) mid imported low
+      → FillsFunctions config (with_inner stack imported) low full rest → function_count full < config.min_funcs → Lacks config stack b
 
 -- what an item does on the bytes b
 abbrev pub Does : Config → Item → Open → List ℕ → Next → List ℕ → Type 0
-Does config Finish stack b next rest = (rest ≡ b) × Closes stack next
+Does config Finish stack b next rest = (full : Tree) × FillsAll config stack b full rest × Closes (with_inner stack full) next
 Does config Custom stack b next rest = (name contents : List ℕ) × ReadsCustom b name contents rest × (next ≡ with_part stack (custom name contents))
 Does config CoreTypes stack b next rest =
     (xs : List CoreEntry) × (scope : Scope) × ReadsCoreTypes config (config.max_types - length (core_types_of stack.inner)) (scope_of stack.inner) b xs rest scope × (next ≡ with_part stack (core_types xs))
-Does config Types stack b next rest =
-    (xs : List Entry) × (scope : Scope) × ReadsTypes config (scopes_in stack.outer) (config.max_types - length (types_of stack.inner)) (scope_of stack.inner) b xs rest scope
-    × (next ≡ with_part stack (types xs))
-Does config Imports stack b next rest = Empty (config.max_imports - length (own imports_in stack.inner)) (imports []) stack b next rest
-Does config Canonical stack b next rest = Empty (config.max_funcs - length (own canons_in stack.inner)) (canons []) stack b next rest
+Does config Types stack b next rest = (t : Tree) × AddsTypes config 0 stack b t rest × (next ≡ building (with_inner stack t))
+Does config Imports stack b next rest = (t : Tree) × AddsImports config 0 stack b t rest × (next ≡ building (with_inner stack t))
+Does config Canonical stack b next rest = (t : Tree) × AddsCanons config 0 stack b t rest × (next ≡ building (with_inner stack t))
 Does config Module stack b next rest = (rest ≡ b) × (next ≡ with_part stack (core_module core_preamble))
 Does config Component stack b next rest = (rest ≡ b) × (next ≡ with_open stack)
 
 abbrev pub Turn : Config → Open → List ℕ → Next → List ℕ → Type 0
 Turn config stack left next left2 = TurnBy (Does config) config stack left next left2
+
+-- The finish is chosen, and imports or functions lack.
+abbrev pub LacksAt : Config → Open → List ℕ → Type 0
+LacksAt config stack left = (after : List ℕ) × ReadsAmong (items config stack left) left Finish after × Lacks config stack after
 
 abbrev pub Turns : Config → Next → List ℕ → Next → List ℕ → ℕ → Type 0
 Turns config now left next left2 k = TurnsBy (Does config) config now left next left2 k

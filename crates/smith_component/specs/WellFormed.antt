@@ -1,15 +1,60 @@
 -- Which components are well formed: each part is judged by what stands before it (Explainer.md, index spaces).
-use Rattle.std.specs.Prelude.{List, [], ◌∷◌}
-use Rattle.smith_syntax.specs.WellFormed.{FormedCores}
+use Rattle.std.specs.Prelude.{◌≡◌, ℕ, false, List, [], ◌∷◌, ◌++◌, map, Some, slice_get, true}
+use Rattle.std.specs.List.{AllByRecursion}
+use Rattle.smith_syntax.specs.Entries.{Entry, function, CoreEntry, ImportEntry, Signature}
+use Rattle.smith_syntax.specs.Flat.{Flat, is_scalar}
 use Rattle.smith_syntax.specs.Scope.{Scope}
-use Rattle.smith_syntax.specs.WellFormed.{FormedTypes}
-use Rattle.smith_component.specs.Tree.{Tree, Part, ends, first, custom, core_module, core_types, component, types, canons, imports, add, types_of, core_types_of}
+use Rattle.smith_syntax.specs.WellFormed.{FormedCores, FormedRef, FormedTypes, Named, is_type_eq}
+use Rattle.smith_component.specs.Tree.{Canon, lift, lower, lifted_by, lowered_by, Tree, Part, ends, first, custom, core_module, core_types, component, types, canons, imports, add}
+use Rattle.smith_component.specs.Tree.{types_of, core_types_of, imports_of, functions_of, core_functions_of}
 
 -- the types and core types of a component that has these parts
 abbrev pub scope_of : Tree → Scope
 scope_of before = record { types = types_of before; core_types = core_types_of before }
 
+-- What stands before a place in a component (Explainer.md, index spaces): the types and the core types, the component functions, each by
+-- the index of its type, and the core functions, each by the component function that it lowers.
+pub record Spaces : Type 0 where
+  pub types : List Entry
+  pub core_types : List CoreEntry
+  pub functions : List ℕ
+  pub core_functions : List ℕ
+
+-- those of a component that has these parts
+abbrev pub spaces_of : Tree → Spaces
+spaces_of before = record { types = types_of before; core_types = core_types_of before; functions = functions_of before; core_functions = core_functions_of before }
+
+-- the spaces behind a canonical function
+abbrev pub after_canon : Spaces → Canon → Spaces
+after_canon s c = record { types = s.types; core_types = s.core_types; functions = s.functions ++ lifted_by c; core_functions = s.core_functions ++ lowered_by c }
+
+-- A component function is there, and its type is of that signature.
+pub record HasSignature (s : Spaces) (f : ℕ) (signature : Signature) : Type 0 where
+  pub ty : ℕ
+  pub stands : slice_get s.functions f ≡ Some ty
+  pub is : slice_get s.types ty ≡ Some (function signature)
+
+-- A function is lowered whose type flattens. A core function is lifted to a function type that flattens as the type of the component
+-- function that it lowers (CanonicalABI.md, canon lift, canon lower).
+abbrev pub FormedCanon : Spaces → Canon → Type 0
+FormedCanon s (lower f) = (signature : Signature) × HasSignature s f signature × (is_scalar signature ≡ true)
+FormedCanon s (lift c t) =
+    (signature lowered : Signature) × (f : ℕ) × (slice_get s.types t ≡ Some (function signature)) × (slice_get s.core_functions c ≡ Some f) × HasSignature s f lowered × Flat signature lowered
+
+-- Canonical functions in a row: each is judged where those before it stand.
+abbrev pub FormedCanons : List Canon → Spaces → Type 0
+FormedCanons [] s = Unit {0}
+FormedCanons (c ∷ cs) s = FormedCanon s c × FormedCanons cs (after_canon s c)
+
+-- An import is of what stands in the component, and of no type that is equal to another.
+abbrev pub FormedImport : Scope → ImportEntry → Type 0
+FormedImport own i = FormedRef own i.to × (is_type_eq i.to ≡ false)
+
+abbrev pub import_names : List ImportEntry → List (List ℕ)
+import_names is = map (λ i. i.name) is
+
 -- The parts of a component behind those before them, in the scopes around, innermost first, each as it is where the component stands.
+-- The names of all its imports are in kebab case, and no two of them are the same.
 abbrev mutual
   pub Formed : Tree → List Scope → Tree → Type 0
   Formed ends outer before = Unit {0}
@@ -21,8 +66,8 @@ abbrev mutual
   FormedPart (core_types ts) outer before = FormedCores ts (scope_of before)
   FormedPart (component t) outer before = Formed t (scope_of before ∷ outer) ends
   FormedPart (types ts) outer before = FormedTypes ts (scope_of before) outer
-  FormedPart (canons fs) outer before = Unit {0}
-  FormedPart (imports is) outer before = Unit {0}
+  FormedPart (canons fs) outer before = FormedCanons fs (spaces_of before)
+  FormedPart (imports is) outer before = AllByRecursion (FormedImport (scope_of before)) is × Named (import_names (imports_of before ++ is))
 
 -- a component in no scope
 abbrev pub WellFormed : Tree → Type 0

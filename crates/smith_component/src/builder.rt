@@ -4,8 +4,9 @@ ghost use Rattle.std.specs.Prelude.{◌≡◌, ℕ, List, ◌+◌, ◌≤◌, le
 ghost use Rattle.smith_input.specs.Reading.{IsTail};
 ghost use Rattle.smith_core.specs.Limits.{IsConsistent};
 ghost use Rattle.smith_component.specs.Building.{open_of};
+ghost use Rattle.smith_component.specs.Filling.{CanFill};
 ghost use Rattle.smith_component.specs.Limits.{max_depth};
-ghost use Rattle.smith_component.specs.Refusals.{IsRefusal};
+ghost use Rattle.smith_component.specs.Refusals.{IsNewRefusal, IsStepRefusal};
 ghost use Rattle.smith_component.specs.Scripted.{Scripted};
 ghost use Rattle.smith_component.specs.Shown.{shown_sections};
 ghost use Rattle.smith_component.specs.Steps.{next_of, KeepsSections, StaysSound};
@@ -13,11 +14,17 @@ ghost use Rattle.smith_component.specs.Tree.{ends};
 ghost use Rattle.smith_component.specs.Turn.{Next, Turn, Falls};
 ghost use Rattle.smith_component.specs.Open.{root};
 
+mod canonicals;
 mod choose;
 mod entries;
+mod finish;
+mod imports;
 mod nest;
 mod open;
 mod parts;
+mod tables;
+mod totals;
+mod turns;
 
 use crate::component::Component;
 use crate::item::Item;
@@ -27,6 +34,7 @@ use smith_input::{Error, Unstructured};
 use smith_types::Scopes;
 use std::alloc::Global;
 use std::marker::Model;
+use totals::TreeTotals;
 
 /// A component under construction. Contracts see its limits, and the open components, outermost first, each as
 /// its sections so far. At every moment what is built so far is well formed and within the limits.
@@ -38,8 +46,7 @@ pub struct Builder {
     scopes: Scopes,
     outer: Vec<OpenComponent>,
     inner: OpenComponent,
-    modules: usize,
-    components: usize,
+    totals: TreeTotals,
 }
 
 impl Model for Builder {
@@ -71,7 +78,7 @@ impl Builder {
     pub fn new(alloc: Global, config: Config) -> Result<Builder, Error>
         ensures made { IfOk result (λ b. (b.config ≡ config) × (open_of b ≡ root)) }
         ensures accepted { IfOk result (λ _. IsConsistent config) }
-        ensures refuses { IfErr result (IsRefusal config) }
+        ensures refuses { IfErr result (IsNewRefusal config) }
     {
         config.check()?;
         let valtypes = configured_valtypes(alloc, &config)?;
@@ -82,8 +89,11 @@ impl Builder {
             scopes: Scopes::new(alloc),
             outer: Vec::new(alloc),
             inner: OpenComponent::new(alloc),
-            modules: 0,
-            components: 0,
+            totals: TreeTotals {
+                modules: 0,
+                components: 0,
+                instances: 0,
+            },
         })
     }
 
@@ -96,22 +106,25 @@ impl Builder {
         ensures sections { IfOk result (KeepsSections self) }
         ensures depth { length (open_of self).outer + 1 ≤ max_depth self.config }
         ensures accepted { IsConsistent self.config }
-        ensures memory { IfErr result (λ e. e ≡ Error.OutOfMemory) }
+        ensures refuses { IfErr result (IsStepRefusal self.config (open_of self) u.old) }
+        ensures fills { CanFill self.config (open_of self).inner → IfErr result (λ e. e ≡ Error.OutOfMemory) }
         ensures tail { IsTail u.new u.old }
     {
         match self.choose_item(u) {
-            Item::Finish => self.finish(),
+            Item::Finish => self.finish(u),
             Item::Custom => self.add_custom(u),
             Item::CoreTypes => self.add_core_types(u),
-            Item::Types => self.add_types(u),
-            Item::Imports => self.add_imports(u),
-            Item::Canonical => self.add_canonicals(u),
+            Item::Types => self.types_turn(u),
+            Item::Imports => self.imports_turn(u),
+            Item::Canonical => self.canonicals_turn(u),
             Item::Module => self.add_module(),
             Item::Component => self.open_component(),
         }
     }
 
-    /// One turn: a choice among what may be done, and that. It refuses for want of memory alone.
+    /// One turn: a choice among what may be done, and that. Where the choice is to finish a component, what it lacks of
+    /// the minima is added first: types, then imports, then functions. Where imports or functions lack after that, no
+    /// component is finished, and `MinimumNotMet` is answered only there. Nothing else is refused but for want of memory.
     pub fn step(self, u: &mut Unstructured) -> Result<Step, Error>
         ensures turn { IfOk result (λ s. Turn self.config (open_of self) u.old (next_of s) u.new) }
         ensures follows { (n : Next) (rest : List ℕ) → Scripted self.config (open_of self) u.old n rest
@@ -120,7 +133,8 @@ impl Builder {
         ensures sections { IfOk result (KeepsSections self) }
         ensures falls { IfOk result (λ s. Falls self.config u.old (open_of self) u.new (next_of s)) }
         ensures accepted { IsConsistent self.config }
-        ensures memory { IfErr result (λ e. e ≡ Error.OutOfMemory) }
+        ensures refuses { IfErr result (IsStepRefusal self.config (open_of self) u.old) }
+        ensures fills { CanFill self.config (open_of self).inner → IfErr result (λ e. e ≡ Error.OutOfMemory) }
         ensures tail { IsTail u.new u.old }
     {
         let next = self.take_turn(u)?;

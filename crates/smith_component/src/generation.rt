@@ -24,9 +24,10 @@ pub struct Generated {
 
 /// The component that the input gives, and its bytes.
 ///
-/// Limits that do not fit together are refused with `InconsistentLimits` before a byte is read. A component of
-/// which a written length or count passes 4,294,967,295 is refused with `TooLong`. Nothing else is refused but for
-/// want of memory.
+/// Limits that do not fit together are refused with `InconsistentLimits` before a byte is read. A component that is to
+/// be finished and lacks imports or functions of a minimum, though what can be filled is, is refused with
+/// `MinimumNotMet`; one of which a written length or count passes 4,294,967,295 with `TooLong`. Nothing else is refused
+/// but for want of memory.
 pub fn generate(alloc: Global, config: Config, u: &mut Unstructured) -> Result<Generated, Error>
     // The bytes have one reading, the component, which is well formed and within the limits.
     ensures generated { IfOk result (λ g. Generates config g.component g.bytes.items) }

@@ -12,3 +12,10 @@ pub enum Item {
     Module,
     Component,
 }
+
+/// What a turn of a canonical section is. Public since contracts speak of it.
+#[derive(Debug, Clone, Copy, PartialEq, Eq)]
+pub enum CanonItem {
+    Lower,
+    Lift,
+}

@@ -11,7 +11,7 @@ mod make;
 
 pub use builder::{Builder, Step};
 pub use component::{
-    CanonicalSection, Component, CoreTypeSection, CustomSection, ImportSection, Section,
+    CanonicalSection, Component, CoreTypeSection, CustomSection, Func, ImportSection, Section,
     TypeSection,
 };
 pub use generation::{Generated, generate};

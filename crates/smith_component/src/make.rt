@@ -21,7 +21,8 @@ use std::alloc::Global;
 impl Component {
     /// The component that the input gives, turn by turn: a run of turns from one empty open component, of at
     /// most as many as the input has bytes and components may nest. Limits that do not fit together are refused
-    /// with `InconsistentLimits` before a byte is read, and nothing else is refused but for want of memory.
+    /// with `InconsistentLimits` before a byte is read, and a component that is to be finished and lacks imports or
+    /// functions of a minimum with `MinimumNotMet`. Nothing else is refused but for want of memory.
     pub fn new(alloc: Global, config: Config, u: &mut Unstructured) -> Result<Component, Error>
         ensures limits { IfOk result (λ c. Limits config c) }
         ensures formed { IfOk result (λ c. WellFormed c) }
@@ -30,7 +31,10 @@ impl Component {
         ensures reach { (plan : Tree) (rest : List ℕ) → Within config plan → u.old ≡ script config plan ++ rest
             → IfOk result (λ c. (c ≡ plan) × (u.new ≡ rest)) }
         ensures accepts { OnOk result (IsConsistent config) }
-        ensures refuses { IfErr result (IsRefusal config) }
+        ensures refuses { IfErr result (IsRefusal config u.old) }
+        // Where no import and no function is owed, it refuses for want of memory alone.
+        ensures acceptance { IsConsistent config → config.min_imports ≡ 0 → config.min_funcs ≡ 0
+            → IfErr result (λ e. e ≡ Error.OutOfMemory) }
         ensures unread { ¬ IsConsistent config → u.new ≡ u.old }
         ensures tail { IsTail u.new u.old }
     {

@@ -5,13 +5,17 @@ ghost use Rattle.std.specs.Prelude.{◌≡◌, ◌↔◌, IsOk, IfErr};
 use smith_input::Error;
 
 /// The limits of what is built. Every number counts things, but `max_type_size`, which is the fuel of a type.
+///
+/// What a component lacks of a minimum is added when it is finished, whatever the input has. So a large minimum costs
+/// time and memory in proportion to it, for each component.
 #[derive(Debug, Clone, Copy, PartialEq, Eq)]
 pub struct Config {
-    /// The fewest types of a component.
+    /// The fewest types of a component. They can always be added.
     pub min_types: usize,
-    /// The fewest imports of a component.
+    /// The fewest imports of a component. Where they can not be added, it is refused with `MinimumNotMet`.
     pub min_imports: usize,
-    /// The fewest functions of a component: imported ones, lifts and lowers together.
+    /// The fewest functions of a component: imported ones, lifts and lowers together. Where they can not be added, it
+    /// is refused with `MinimumNotMet`.
     pub min_funcs: usize,
     /// The fewest memories of a core module.
     pub min_memories: usize,

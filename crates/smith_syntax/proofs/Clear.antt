@@ -9,8 +9,8 @@ use Rattle.smith_core.proofs.Clear.{tail, head, then_head, then_tail, then_agree
 use Rattle.smith_core.proofs.CoreTypes.{clear_core_function}
 use Rattle.smith_core.proofs.Entities.{clear_entity}
 use Rattle.smith_syntax.specs.Entries.{DefValType, primitive_type, record_type, variant_type, list_type, tuple_type, flags_type, enum_type, option_type, result_type}
-use Rattle.smith_syntax.specs.Entries.{Field, Signature, CoreEntry, core_func, core_module, ModuleDecl, imports, declares, aliases, exports, ImportEntry}
-use Rattle.smith_syntax.specs.Grammar.{primvaltype, valtype, maybe_valtype, labelvaltype, case, resultlist, defvaltype, functype, moduledecl, core_entry, import_entry}
+use Rattle.smith_syntax.specs.Entries.{Field, Signature, CoreEntry, core_func, core_module, ModuleDecl, imports, declares, aliases, exports}
+use Rattle.smith_syntax.specs.Grammar.{primvaltype, valtype, maybe_valtype, labelvaltype, case, resultlist, defvaltype, functype, moduledecl, core_entry}
 use Rattle.smith_syntax.specs.declared.types.ComponentValType.{ComponentValType}
 use Rattle.smith_syntax.specs.declared.types.ComponentValType.TheVariants.{Primitive, Indexed}
 use Rattle.smith_syntax.specs.declared.types.PrimitiveValType.{PrimitiveValType}
@@ -191,12 +191,6 @@ function_law s t p q b e h =
 
 pub clear_functype : IsClear functype
 clear_functype = record { law = function_law }
-
-import_law : (x y : ImportEntry) (p q : Piece) (b : List ℕ) → import_entry x ⊕ p ≡ Some b → import_entry y ⊕ q ≡ Some b → Agree x y p q
-import_law x y p q b e h = elim x [ ]
-
-pub clear_import_entry : IsClear import_entry
-clear_import_entry = record { law = import_law }
 
 -- core types
 

@@ -4,9 +4,9 @@ use Rattle.smith_core.specs.Clear.{Agree, IsClear}
 use Rattle.smith_core.specs.Piece.{Piece, ◌⊕◌, bytes, text, many, u}
 use Rattle.smith_core.proofs.Clear.{then_head, then_tail, then_agree, clash, clear_text, clear_u, clear_both}
 use Rattle.smith_core.proofs.Piece.{assoc, left_nil, left_none}
-use Rattle.smith_syntax.specs.Entries.{Entry, defined, function, component_type, instance_type}
+use Rattle.smith_syntax.specs.Entries.{Entry, ImportEntry, defined, function, component_type, instance_type}
 use Rattle.smith_syntax.specs.Entries.{Decl, Decls, core_type_decl, type_decl, type_alias, core_type_alias, import_decl, export_decl, no_decls, then_decls, decl_count}
-use Rattle.smith_syntax.specs.Grammar.{labelvaltype, resultlist, core_entry, externdesc, named_extern, importdecl, entry, decl, decls}
+use Rattle.smith_syntax.specs.Grammar.{labelvaltype, resultlist, core_entry, externdesc, named_extern, importdecl, import_entry, entry, decl, decls}
 use Rattle.smith_syntax.specs.declared.deftype.ComponentTypeRef.{ComponentTypeRef}
 use Rattle.smith_syntax.specs.declared.deftype.ComponentTypeRef.TheVariants as to
 use Rattle.smith_syntax.proofs.Clear.{clear_defined, clear_functype, clear_core_entry, clear_alias, tag, tag_range, tagged}
@@ -55,6 +55,14 @@ named_law x y p q b e h =
 
 pub clear_named_extern : IsClear (λ (x : List ℕ × ComponentTypeRef). named_extern x.0 x.1)
 clear_named_extern = record { law = named_law }
+
+component_import_law : (x y : ImportEntry) (p q : Piece) (b : List ℕ) → import_entry x ⊕ p ≡ Some b → import_entry y ⊕ q ≡ Some b → Agree x y p q
+component_import_law x y p q b e h =
+    let r = named_law (x.name, x.to) (y.name, y.to) p q b e h in
+    record { same = ap (λ z. record { name = z.0; to = z.1 }) r.same; rests = r.rests }
+
+pub clear_import_entry : IsClear import_entry
+clear_import_entry = record { law = component_import_law }
 
 -- types
 

@@ -12,9 +12,9 @@ use Rattle.smith_core.proofs.Sizes.{u_none_where, s_index_none_where, text_none_
 use Rattle.smith_core.proofs.TooLong.{join_none, after_bytes, before_bytes, bytes_none, many_none_where, function_none_where, entity_none_where}
 use Rattle.smith_syntax.specs.Entries.{DefValType, primitive_type, record_type, variant_type, list_type, tuple_type, flags_type, enum_type, option_type, result_type}
 use Rattle.smith_syntax.specs.Entries.{Field, Case, Signature, Entry, defined, function, component_type, instance_type, CoreEntry, core_func, core_module, ModuleDecl, imports, declares, aliases, exports}
-use Rattle.smith_syntax.specs.Entries.{Decl, Decls, core_type_decl, type_decl, type_alias, core_type_alias, import_decl, export_decl, no_decls, then_decls, decl_count}
-use Rattle.smith_syntax.specs.Grammar.{primvaltype, valtype, maybe_valtype, labelvaltype, case, resultlist, defvaltype, functype, moduledecl, core_entry, externdesc, named_extern, importdecl, entry, decl, decls}
-use Rattle.smith_syntax.specs.TooLong.{NameTooLong, ValTooLong, MaybeTooLong, FieldTooLong, CaseTooLong, DefinedTooLong, DeclTooLong, CoreEntryTooLong, ListTooLong, RefTooLong, ExternTooLong, ImportTooLong, EntryTooLong, DeclarationTooLong, DeclarationsTooLong}
+use Rattle.smith_syntax.specs.Entries.{ImportEntry, Decl, Decls, core_type_decl, type_decl, type_alias, core_type_alias, import_decl, export_decl, no_decls, then_decls, decl_count}
+use Rattle.smith_syntax.specs.Grammar.{primvaltype, valtype, maybe_valtype, labelvaltype, case, resultlist, defvaltype, functype, moduledecl, core_entry, externdesc, named_extern, importdecl, import_entry, entry, decl, decls}
+use Rattle.smith_syntax.specs.TooLong.{NameTooLong, ValTooLong, MaybeTooLong, FieldTooLong, CaseTooLong, DefinedTooLong, DeclTooLong, CoreEntryTooLong, ListTooLong, RefTooLong, ExternTooLong, ImportEntryTooLong, ImportTooLong, EntryTooLong, DeclarationTooLong, DeclarationsTooLong}
 use Rattle.smith_syntax.specs.declared.deftype.ComponentTypeRef.{ComponentTypeRef}
 use Rattle.smith_syntax.specs.declared.deftype.ComponentTypeRef.TheVariants as to
 use Rattle.smith_syntax.specs.declared.types.ComponentValType.{ComponentValType}
@@ -86,6 +86,9 @@ ref_none (to.Instance i) = after_bytes (0x05 ∷ []) (u i) (u_none_where i)
 
 pub extern_none : (name : List ℕ) (r : ComponentTypeRef) → (named_extern name r ≡ None) ↔ ExternTooLong name r
 extern_none name r = after_bytes (0x00 ∷ []) (text name ⊕ externdesc r) (join_none (text name) (externdesc r) (name_none name) (ref_none r))
+
+pub import_entry_none : (i : ImportEntry) → (import_entry i ≡ None) ↔ ImportEntryTooLong i
+import_entry_none i = extern_none i.name i.to
 
 import_none : (importing : Bool) (name : List ℕ) (r : ComponentTypeRef) → (importdecl importing name r ≡ None) ↔ ImportTooLong importing name r
 import_none true name r = after_bytes (0x03 ∷ []) (named_extern name r) (extern_none name r)

@@ -124,5 +124,7 @@ module _ {N K : Type 0} where
   decl_count no_decls = 0
   decl_count (then_decls d ds) = decl_count ds + 1
 
--- what a component imports
-pub data ImportEntry : Type 0 where
+-- what a component imports: a name, and what it is of
+pub record ImportEntry : Type 0 where
+  pub name : List ℕ
+  pub to : ComponentTypeRef

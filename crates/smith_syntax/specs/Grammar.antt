@@ -112,5 +112,6 @@ abbrev mutual
   decls importing no_decls = Some []
   decls importing (then_decls d ds) = decl importing d ⊕ decls importing ds
 
+-- an import of a component
 abbrev pub import_entry : ImportEntry → Piece
-import_entry i = elim i [ ]
+import_entry i = named_extern i.name i.to

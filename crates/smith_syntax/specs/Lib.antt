@@ -8,5 +8,6 @@ pub mod WellFormed
 pub mod CoreLimits
 pub mod TypeLimits
 pub mod Signature
+pub mod Flat
 pub mod Shown
 pub mod SameDecl

@@ -7,7 +7,7 @@ use Rattle.smith_core.specs.CoreTypes.{Function, shown_func}
 use Rattle.smith_syntax.specs.Entries.{DefValType, primitive_type, record_type, variant_type, list_type, tuple_type, flags_type, enum_type, option_type, result_type}
 use Rattle.smith_syntax.specs.Entries.{EntryOf, FullEntry, FullDecl, FullDecls, component_type, instance_type, core_type_decl, type_decl, type_alias, core_type_alias, import_decl, export_decl}
 use Rattle.smith_syntax.specs.Entries.{keeps_type, keeps_core_type, keeps_functions, in_order, plain, plain_decl}
-use Rattle.smith_syntax.specs.Entries.{Signature, Entry, Decl, defined, function, CoreEntry, core_func, core_module, ModuleDecl, declares, imports, aliases, exports}
+use Rattle.smith_syntax.specs.Entries.{Signature, Entry, ImportEntry, Decl, defined, function, CoreEntry, core_func, core_module, ModuleDecl, declares, imports, aliases, exports}
 use Rattle.smith_syntax.specs.Signature.{named, same_signature}
 use Rattle.smith_syntax.specs.declared.core_types.CoreType.{CoreType}
 use Rattle.smith_syntax.specs.declared.core_types.CoreType.TheVariants as core
@@ -19,6 +19,7 @@ use Rattle.smith_syntax.specs.declared.deftype.DefType.{DefType}
 use Rattle.smith_syntax.specs.declared.deftype.ComponentTypeDef.{ComponentTypeDef}
 use Rattle.smith_syntax.specs.declared.deftype.InstanceTypeDecl.{InstanceTypeDecl}
 use Rattle.smith_syntax.specs.declared.deftype.Alias.{Alias}
+use Rattle.smith_syntax.specs.declared.deftype.Import.{Import}
 use Rattle.smith_syntax.specs.declared.deftype.ComponentTypeDef.TheOpen as layer
 use Rattle.smith_syntax.specs.declared.deftype.ComponentTypeDef.TheOpen.{ComponentTypeDef-F, DefType-F, InstanceTypeDecl-F, OuterAliasKind-F, Alias-F, ComponentType-F, InstanceType-F}
 use Rattle.smith_syntax.specs.declared.deftype.ComponentTypeDef.TheFolds.{fold-DefType, fold-ComponentTypeDef, fold-InstanceTypeDecl, fold-Alias}
@@ -130,6 +131,10 @@ shown_alias a = plain_decl (full_alias a)
 -- what a shared type shows
 abbrev pub shown_shared : Rc DefType Global → Entry
 shown_shared t = shown_type t.value
+
+-- an import of a component: its URL is left out
+abbrev pub import_shown : Import → ImportEntry
+import_shown i = record { name = string_bytes i.name; to = i.ty }
 
 -- Is it a function type with that signature?
 abbrev pub is_of_signature : {N K : Type 0} → Signature → EntryOf N K → Bool

@@ -5,7 +5,7 @@ use Rattle.std.specs.Str.{IsUtf8}
 use Rattle.smith_core.specs.TooLong.{Passes, FunctionTooLong, EntityTooLong}
 use Rattle.smith_syntax.specs.Entries.{DefValType, primitive_type, record_type, variant_type, list_type, tuple_type, flags_type, enum_type, option_type, result_type}
 use Rattle.smith_syntax.specs.Entries.{Field, Case, Entry, defined, function, component_type, instance_type, CoreEntry, core_func, core_module, ModuleDecl, imports, declares, aliases, exports}
-use Rattle.smith_syntax.specs.Entries.{Decl, Decls, core_type_decl, type_decl, type_alias, core_type_alias, import_decl, export_decl, no_decls, then_decls, decl_count}
+use Rattle.smith_syntax.specs.Entries.{ImportEntry, Decl, Decls, core_type_decl, type_decl, type_alias, core_type_alias, import_decl, export_decl, no_decls, then_decls, decl_count}
 use Rattle.smith_syntax.specs.declared.deftype.ComponentTypeRef.{ComponentTypeRef}
 use Rattle.smith_syntax.specs.declared.deftype.ComponentTypeRef.TheVariants as to
 use Rattle.smith_syntax.specs.declared.types.ComponentValType.{ComponentValType}
@@ -64,6 +64,10 @@ RefTooLong (to.Instance i) = Passes i
 
 abbrev pub ExternTooLong : List ℕ → ComponentTypeRef → Type 0
 ExternTooLong name r = NameTooLong name ⊎ RefTooLong r
+
+-- an import of a component
+abbrev pub ImportEntryTooLong : ImportEntry → Type 0
+ImportEntryTooLong i = ExternTooLong i.name i.to
 
 -- an import of a component type (true), or of an instance type (false), which no type of the program has
 abbrev pub ImportTooLong : Bool → List ℕ → ComponentTypeRef → Type 0

@@ -1,8 +1,10 @@
 //! Function types of a component (Explainer.md, type definitions).
 
 ghost use Rattle.std.specs.Prelude.{◌≡◌, IfOk, IfErr};
+ghost use Rattle.std.specs.Option.{is_some};
+ghost use Rattle.smith_syntax.specs.Flat.{flat_value, is_scalar};
 
-use crate::types::ComponentValType;
+use crate::types::{ComponentValType, PrimitiveValType};
 use smith_input::Error;
 use std::alloc::Global;
 use std::hash::{Hash, Hasher};
@@ -57,7 +59,33 @@ impl Hash for FuncType {
     }
 }
 
+// Is it one that has a core value type?
+fn is_scalar_value(ty: ComponentValType) -> bool
+    ensures { result ≡ is_some (flat_value ty) }
+{
+    match ty {
+        ComponentValType::Primitive(PrimitiveValType::String) | ComponentValType::Indexed(_) =>
+            false,
+        ComponentValType::Primitive(_) => true,
+    }
+}
+
 impl FuncType {
+    /// Whether all parameters are primitives other than a string, and so is the result, which there is.
+    pub fn is_scalar(&self) -> bool
+        ensures { result ≡ is_scalar self.now }
+    {
+        for (_, ty) in &self.params {
+            if !is_scalar_value(*ty) {
+                return false;
+            }
+        }
+        match self.result {
+            Some(ty) => is_scalar_value(ty),
+            None => false,
+        }
+    }
+
     /// An equal value. It refuses for want of memory alone.
     pub fn copied(&self, alloc: Global) -> Result<FuncType, Error>
         ensures value { IfOk result (λ f. f ≡ self.now) }

@@ -21,8 +21,8 @@ use Rattle.smith_types.specs.References.{ref_places, ref_to, ReadsRef}
 use Rattle.smith_types.specs.declared.make.declarations.DeclarationItem.{DeclarationItem}
 use Rattle.smith_types.specs.declared.make.references.RefKind.{RefKind}
 use Rattle.smith_types.specs.declared.make.references.RefTotals.{RefTotals}
-use Rattle.smith_types.proofs.MadeCore.{no_choice}
-use Rattle.smith_types.proofs.Places.{get_either}
+use Rattle.smith_core_types.proofs.MadeCore.{no_choice}
+use Rattle.smith_scopes.proofs.Places.{get_either}
 use Rattle.smith_types.proofs.References.{ref_formed, import_not_equal}
 
 -- tails
@@ -88,7 +88,7 @@ numbered_stands f xs k y e =
     (r.0, r.1, r.2 ∙ ap (λ m. f m r.0) at)
 
 -- what stands in a scope of that count
-named_in : {A : Type 0} (of : Scope → List A) (scopes : List Scope) (count i : ℕ) (s : Scope) (x : A) → slice_get scopes count ≡ Some s → slice_get (of s) i ≡ Some x
+pub named_in : {A : Type 0} (of : Scope → List A) (scopes : List Scope) (count i : ℕ) (s : Scope) (x : A) → slice_get scopes count ≡ Some s → slice_get (of s) i ≡ Some x
     → in_scope of scopes count i ≡ Some x
 named_in of scopes count i s x e f = ap (λ o. elim o [ None ↦ None | Some t ↦ slice_get (of t) i ]) e ∙ f
 

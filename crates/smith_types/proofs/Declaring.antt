@@ -1,16 +1,15 @@
 -- The scopes as declarations are made: what stands in one of them, and how the last one grows.
 use Rattle.std.proofs.Common.{◌≡◌, ℕ, zero, suc, ◌+◌, ◌<◌, ◌≤◌, Bool, true, false, cond, inl, inr, append_assoc, List, [], ◌∷◌, ◌++◌, length, map, reverse, refl, sym, ap, ◌∙◌, subst, arith}
 use Rattle.std.proofs.Math.ListN.{drop}
-use Rattle.std.proofs.lemmas.List.{reverse-append, length-append, length-map, length-reverse}
+use Rattle.std.proofs.lemmas.List.{reverse-append, reverse-reverse, length-append, length-map, length-reverse}
 use Rattle.std.proofs.lemmas.Option.{slice_get-map, slice_get-get_or, slice_get_within}
 use Rattle.std.proofs.lemmas.Bool.Decides.{nat_tests}
 use Rattle.std.specs.Option.{option_to_list}
-use Rattle.std.specs.Prelude.{OnOk, Result, Ok, Err}
-use Rattle.std.specs.Prelude.{nat_lt, Some, None, option_map, slice_get}
+use Rattle.std.specs.Prelude.{nat_lt, Some, option_map, slice_get}
 use Rattle.smith_input.specs.Choices.{ReadsAmong}
 use Rattle.smith_input.specs.Reading.{Reads}
 use Rattle.smith_syntax.specs.Entries.{FullDecl, type_alias, core_type_alias, keeps_type, keeps_core_type}
-use Rattle.smith_syntax.specs.Scope.{Scope, empty_scope, with_type, with_types, with_core_type, with_core_types, own_of, outer_of, places, in_scope, after_decl}
+use Rattle.smith_syntax.specs.Scope.{Scope, empty_scope, with_type, with_types, with_core_type, with_core_types, own_of, outer_of, places, after_decl}
 use Rattle.smith_syntax.specs.Shown.{shown_type, shown_core, full_alias}
 use Rattle.smith_syntax.specs.WellFormed.{FormedRef}
 use Rattle.smith_syntax.proofs.Shown.{alias_of_type, alias_of_core_type}
@@ -23,25 +22,17 @@ use Rattle.smith_syntax.specs.declared.core_types.CoreType.{CoreType}
 use Rattle.smith_syntax.specs.declared.deftype.DefType.{DefType}
 use Rattle.smith_types.specs.Declarations.{ReadsAlias, is_occupied, occupied, numbered, aliases_of}
 use Rattle.smith_types.specs.MakingTypes.{Declares, SameOuter, with_aliased, with_exported}
-use Rattle.smith_types.specs.Scopes.{Contents, shown_scope, inward, last_of, scope_at, AddsType, AddsCoreType}
-use Rattle.smith_types.proofs.DeclarationsRead.{numbered_stands}
-use Rattle.smith_types.proofs.Places.{place_stands, get_either}
-use Rattle.smith_types.proofs.Stack.{map-reverse, opened_scope, split_scopes, length-inward, length-last, own_last, grown, grown_core}
+use Rattle.smith_scopes.specs.Scopes.{Contents, shown_scope, inward, last_of, scope_at, AddsType, AddsCoreType}
+use Rattle.smith_types.proofs.DeclarationsRead.{named_in, numbered_stands}
+use Rattle.smith_scopes.proofs.Places.{place_stands, get_either, get_left, get_right}
+use Rattle.smith_scopes.proofs.Plain.{rest_from}
+use Rattle.smith_scopes.proofs.Stack.{map-reverse, opened_scope, split_scopes, length-inward, length-last, own_last, grown, grown_core}
 
 -- the scope of a count, as a plain tree
 pub scope_shown : (scopes : List Contents) (count : ℕ) → count < length scopes → slice_get (inward scopes) count ≡ Some (shown_scope (scope_at scopes count))
 scope_shown scopes count h =
     ap (λ ss. slice_get ss count) (map-reverse shown_scope scopes)
     ∙ (slice_get-map shown_scope (reverse scopes) count ∙ ap (option_map shown_scope) (slice_get-get_or (reverse scopes) count empty_scope (let l = length-reverse scopes in omega (arith, l, h))))
-
--- what a list has from an item on
-drop_from : {A : Type 0} (xs : List A) (i : ℕ) (x : A) → slice_get xs i ≡ Some x → drop i xs ≡ x ∷ drop (suc i) xs
-drop_from [] i x e = absurd (cc)
-drop_from (y ∷ xs) zero x e = let h : y ≡ x = cc in ap (λ z. z ∷ xs) h
-drop_from (y ∷ xs) (suc i) x e = drop_from xs i x e
-
-pub drop_at : {A : Type 0} (xs : List A) (i : ℕ) (x : A) → slice_get xs i ≡ Some x → drop i xs ≡ x ∷ drop (i + 1) xs
-drop_at xs i x e = drop_from xs i x e ∙ ap (λ n. x ∷ drop n xs) (let z : suc i ≡ i + 1 = omega arith in z)
 
 -- what an outer alias may name is counted, and stands where the choice says
 module _ {A B : Type 0} (f : ℕ → A → B) where
@@ -56,16 +47,6 @@ module _ {A B : Type 0} (f : ℕ → A → B) where
 
 numbered_here : {A B : Type 0} (f : ℕ → A → B) (xs : List A) (k : ℕ) (x : A) → slice_get xs k ≡ Some x → slice_get (numbered f 0 xs) k ≡ Some (f k x)
 numbered_here f xs k x e = numbered_at f xs 0 k x e ∙ ap (λ n. Some (f n x)) (let z : 0 + k ≡ k = omega arith in z)
-
-get_first : {A : Type 0} (xs ys : List A) (k : ℕ) (x : A) → slice_get xs k ≡ Some x → slice_get (xs ++ ys) k ≡ Some x
-get_first [] ys k x e = absurd (cc)
-get_first (z ∷ xs) ys zero x e = e
-get_first (z ∷ xs) ys (suc k) x e = get_first xs ys k x e
-
-get_second : {A : Type 0} (xs ys : List A) (k j : ℕ) → k ≡ length xs + j → slice_get (xs ++ ys) k ≡ slice_get ys j
-get_second [] ys k j e = ap (slice_get ys) (let z : k ≡ j = omega (arith, e) in z)
-get_second (z ∷ xs) ys zero j e = absurd (omega (arith, e))
-get_second (z ∷ xs) ys (suc k) j e = get_second xs ys k j (omega (arith, e))
 
 module _ (scopes : List Contents) (b mid rest : List ℕ) (count place : ℕ) (choice : ReadsAmong (occupied (inward scopes)) b count mid) (within : count < length scopes)
     (reads : Reads (length (scope_at scopes count).types + length (scope_at scopes count).core_types) mid place rest) where
@@ -98,16 +79,15 @@ module _ (scopes : List Contents) (b mid rest : List ℕ) (count place : ℕ) (c
   pub type_alias_read : (ty : DefType) → slice_get (scope_at scopes count).types place ≡ Some ty → ReadsAlias (inward scopes) b (type_alias count place (keeps_type (shown_type ty))) rest
   type_alias_read ty at =
       let s = scope_at scopes count in
-      alias_at (type_alias count place (keeps_type (shown_type ty)))
-      (get_first as_types as_core_types place _
-      (numbered_here {B = FullDecl} (λ i e. type_alias count i (keeps_type e)) (map shown_type s.types) place (shown_type ty) (slice_get-map shown_type s.types place ∙ ap (option_map shown_type) at)))
+      let here = numbered_here {B = FullDecl} (λ i e. type_alias count i (keeps_type e)) (map shown_type s.types) place (shown_type ty) (slice_get-map shown_type s.types place ∙ ap (option_map shown_type) at) in
+      alias_at (type_alias count place (keeps_type (shown_type ty))) (get_left as_types as_core_types place (slice_get_within as_types place _ here) ∙ here)
 
   pub core_type_alias_read : (i : ℕ) (ty : CoreType) → place ≡ length (scope_at scopes count).types + i → slice_get (scope_at scopes count).core_types i ≡ Some ty
       → ReadsAlias (inward scopes) b (core_type_alias count i (keeps_core_type (shown_core ty))) rest
   core_type_alias_read i ty past at =
       let s = scope_at scopes count in
       alias_at (core_type_alias count i (keeps_core_type (shown_core ty)))
-      (get_second as_types as_core_types place i (omega (arith, past, types_counted))
+      (get_right as_types as_core_types place i (omega (arith, past, types_counted))
       ∙ numbered_here {B = FullDecl} (λ j e. core_type_alias count j (keeps_core_type e)) (map shown_core s.core_types) i (shown_core ty) (slice_get-map shown_core s.core_types i ∙ ap (option_map shown_core) at))
 
 -- a scope that an alias may be chosen from stands there, and is not empty
@@ -135,7 +115,7 @@ module _ (scopes : List Contents) (i : ℕ) (h : i < length scopes) (so_far whol
   later = places is_occupied (i + 1) (drop (i + 1) (inward scopes))
 
   from_here : (b : Bool) → is_occupied (shown_scope scope) ≡ b → so_far ++ cond b (i ∷ later) later ≡ whole
-  from_here b e = ap (λ c. so_far ++ cond c (i ∷ later) later) (sym e) ∙ (ap (λ ss. so_far ++ places is_occupied i ss) (sym (drop_at (inward scopes) i (shown_scope scope) (scope_shown scopes i h))) ∙ here)
+  from_here b e = ap (λ c. so_far ++ cond c (i ∷ later) later) (sym e) ∙ (ap (λ ss. so_far ++ places is_occupied i ss) (sym (rest_from (inward scopes) i (shown_scope scope) (scope_shown scopes i h))) ∙ here)
 
   pub occupied_here : 0 < length scope.types + length scope.core_types → (next : List ℕ) → next ≡ so_far ++ i ∷ [] → next ++ later ≡ whole
   occupied_here some next e =
@@ -174,10 +154,6 @@ same_refl scopes = record { around = refl; depth = refl }
 pub same_trans : {a b c : List Contents} → SameOuter a b → SameOuter b c → SameOuter a c
 same_trans x y = record { around = y.around ∙ x.around; depth = y.depth ∙ x.depth }
 
-reverse-reverse : {A : Type 0} (xs : List A) → reverse (reverse xs) ≡ xs
-reverse-reverse [] = refl
-reverse-reverse (x ∷ xs) = ap reverse (reverse-append (x ∷ []) xs) ∙ (reverse-append (reverse xs) (x ∷ []) ∙ ap (λ ys. x ∷ ys) (reverse-reverse xs))
-
 -- a scope was opened and closed, and those around it stayed
 pub closed_again : (old opened changed new : List Contents) (inner last : Contents) → opened ≡ old ++ inner ∷ [] → SameOuter opened changed → changed ≡ new ++ last ∷ [] → new ≡ old
 closed_again old opened changed new inner last o same c =
@@ -189,17 +165,14 @@ closed_again old opened changed new inner last o same c =
 pub declares : (old new : List Contents) (d : FullDecl) → own_of (inward new) ≡ after_decl (outer_of (inward old)) (own_of (inward old)) d → outer_of (inward new) ≡ outer_of (inward old) → Declares old new d
 declares old new d own outer = record { own = own; outer = outer }
 
-named_there : {A : Type 0} (of : Scope → List A) (scopes : List Scope) (count i : ℕ) (s : Scope) (x : A) → slice_get scopes count ≡ Some s → slice_get (of s) i ≡ Some x → in_scope of scopes count i ≡ Some x
-named_there of scopes count i s x e f = ap (λ o. elim o [ None ↦ None | Some t ↦ slice_get (of t) i ]) e ∙ f
-
 -- An outer alias adds what it keeps, since it keeps what it names.
 pub alias_adds : (own : Scope) (outer : List Scope) (b : List ℕ) (d : FullDecl) (rest : List ℕ) → ReadsAlias (own ∷ outer) b d rest → with_aliased own d ≡ after_decl outer own d
 alias_adds own outer b d rest r =
     elim (get_either (numbered (λ i e. type_alias r.count i (keeps_type e)) 0 r.scope.types) (numbered (λ i e. core_type_alias r.count i (keeps_core_type e)) 0 r.scope.core_types) r.names.place d r.names.named) [
       | inl p ↦ (let t = numbered_stands (λ i e. type_alias r.count i (keeps_type e)) r.scope.types p.0 d p.1 in
-          subst (λ z. with_aliased own z ≡ after_decl outer own z) (sym t.2) (ap (λ o. with_types own (option_to_list o)) (sym (named_there (λ s. s.types) (own ∷ outer) r.count p.0 r.scope t.0 r.stands t.1))))
+          subst (λ z. with_aliased own z ≡ after_decl outer own z) (sym t.2) (ap (λ o. with_types own (option_to_list o)) (sym (named_in (λ s. s.types) (own ∷ outer) r.count p.0 r.scope t.0 r.stands t.1))))
       | inr p ↦ (let t = numbered_stands (λ i e. core_type_alias r.count i (keeps_core_type e)) r.scope.core_types p.0 d p.1 in
-          subst (λ z. with_aliased own z ≡ after_decl outer own z) (sym t.2) (ap (λ o. with_core_types own (option_to_list o)) (sym (named_there (λ s. s.core_types) (own ∷ outer) r.count p.0 r.scope t.0 r.stands t.1))))
+          subst (λ z. with_aliased own z ≡ after_decl outer own z) (sym t.2) (ap (λ o. with_core_types own (option_to_list o)) (sym (named_in (λ s. s.core_types) (own ∷ outer) r.count p.0 r.scope t.0 r.stands t.1))))
     ]
 
 -- what an alias of the program keeps was added
@@ -233,7 +206,3 @@ pub opened_around : (old new : List Contents) → new ≡ old ++ empty_scope ∷
 opened_around old new o deep =
     let grew : length new ≡ length old + 1 = ap length o ∙ length-append old (empty_scope ∷ []) in
     ap outer_of (opened_scope old new o) ∙ split_scopes (inward old) (omega (arith, grew, deep, length-inward old))
-
-pub both_on : {T E : Type 0} (P Q : Type 0) (r : Result T E) → OnOk r P → OnOk r Q → OnOk r (P × Q)
-both_on P Q (Ok x) p q = (p, q)
-both_on P Q (Err e) p q = tt

@@ -21,7 +21,7 @@ url_names_more so_far x = flat_map-append (λ y. url_name y.1) so_far (x ∷ [])
 
 module _ {A : Type 0} where
   -- What is new to a set is new among the names that it has.
-  new_among : {set : BTreeSet (String A)} {text name : List ℕ} {held : List (List ℕ)} → Holds set held → IsUniqueIn set text name → IsMadeUnique (is_among held) (length held) text name
+  pub new_among : {set : BTreeSet (String A)} {text name : List ℕ} {held : List (List ℕ)} → Holds set held → IsUniqueIn set text name → IsMadeUnique (is_among held) (length held) text name
   new_among {set = set} {text = text} {name = name} {held = held} h u = record {
     times = u.times;
     name_is = u.name_is ∙ ap (λ n. appended text (decimal n) u.times) h.size;

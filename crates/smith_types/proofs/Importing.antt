@@ -9,10 +9,10 @@ use Rattle.smith_syntax.specs.Entries.{FullDecl, import_decl, export_decl}
 use Rattle.smith_syntax.specs.Scope.{Scope, places, is_core_module}
 use Rattle.smith_syntax.specs.declared.deftype.ComponentTypeRef.{ComponentTypeRef}
 use Rattle.smith_types.specs.Declarations.{NamedExtern, NoImport, not_asked, none_fits, ReadsImport, ReadsExport, ReadsNamedExtern, has_reference}
-use Rattle.smith_types.specs.MadeCore.{indexes}
+use Rattle.smith_core_types.specs.MadeCore.{indexes}
 use Rattle.smith_types.specs.References.{ReadsRef, ref_kinds, ref_offers, has_place, uncounted}
 use Rattle.smith_types.specs.declared.make.references.RefKind.TheVariants as kind
-use Rattle.smith_types.proofs.MakingCore.{length-indexes}
+use Rattle.smith_core_types.proofs.MakingCore.{length-indexes}
 
 -- where nothing is offered, none is offered of the first
 first_offered : {A : Type 0} (b : Bool) (x : A) (os : List (Bool × A)) → offers_of ((b, x) ∷ os) ≡ [] → (b ≡ false) × (offers_of os ≡ [])

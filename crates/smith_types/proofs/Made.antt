@@ -20,8 +20,9 @@ use Rattle.smith_types.specs.declared.make.defined.DefinedKind.{DefinedKind}
 use Rattle.smith_types.specs.declared.make.defined.DefinedKind.TheVariants as kind
 use Rattle.smith_syntax.specs.declared.types.ComponentValType.{ComponentValType}
 use Rattle.smith_syntax.specs.declared.types.ComponentValType.TheVariants.{Primitive, Indexed}
-use Rattle.smith_types.proofs.Places.{place_stands}
-use Rattle.smith_types.proofs.Members.{members_tail, named_tail, members_few, members_size, members_all, members_named, named_name, labels_named, Same, members_same, named_same}
+use Rattle.smith_scopes.proofs.Places.{place_stands}
+use Rattle.smith_core_types.proofs.Same.{Same}
+use Rattle.smith_types.proofs.Members.{members_tail, named_tail, members_few, members_size, members_all, members_named, named_name, labels_named, members_same, named_same}
 
 -- tails
 

@@ -17,8 +17,8 @@ use Rattle.smith_types.specs.Made.{Made, spent_type, made_defined, made_function
 use Rattle.smith_types.specs.Made.{MadeDeclaration, made_import, made_export, made_alias, made_core_type, made_type, MadeDeclarations, no_more_decls, spent_decls, one_decl}
 use Rattle.smith_types.proofs.DeclarationsRead.{alias_holds, alias_formed, import_formed, export_formed}
 use Rattle.smith_types.proofs.Made.{defined_formed, function_formed}
-use Rattle.smith_types.proofs.MadeCore.{made_core_formed}
-use Rattle.smith_types.proofs.Names.{AreNew, new_distinct, distinct_new, none_before}
+use Rattle.smith_core_types.proofs.MadeCore.{made_core_formed}
+use Rattle.smith_core_types.proofs.Names.{AreNew, new_distinct, distinct_new, none_before}
 
 -- A plain tree of a plain tree is that tree.
 module _ {N K : Type 0} where

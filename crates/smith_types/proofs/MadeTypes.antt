@@ -17,7 +17,7 @@ use Rattle.smith_types.specs.Made.{MadeDeclaration, made_import, made_export, ma
 use Rattle.smith_types.specs.declared.make.declarations.DeclarationItem.TheVariants as item
 use Rattle.smith_types.proofs.DeclarationsRead.{import_tail, export_tail, alias_tail, no_import_tail, alias_holds, item_offered}
 use Rattle.smith_types.proofs.Made.{defined_tail, function_tail, defined_within, function_within}
-use Rattle.smith_types.proofs.MadeCore.{made_core_tail, made_core_size, made_core_limits}
+use Rattle.smith_core_types.proofs.MadeCore.{made_core_tail, made_core_size, made_core_limits}
 
 -- tails
 

@@ -13,7 +13,8 @@ use Rattle.smith_input.proofs.ReadingLemmas.{tail_trans, tail_is}
 use Rattle.smith_types.specs.Made.{IsSpent, ReadsMember, ReadsMembers, ReadsNamed}
 use Rattle.smith_types.specs.Script.{script_members, script_label, AreShort}
 use Rattle.smith_syntax.specs.WellFormed.{Named}
-use Rattle.smith_types.proofs.Names.{AreNew, new_distinct, distinct_new, none_before}
+use Rattle.smith_core_types.proofs.Same.{Same}
+use Rattle.smith_core_types.proofs.Names.{AreNew, new_distinct, distinct_new, none_before}
 
 -- tails
 
@@ -98,12 +99,6 @@ label_name so_far b x rest r = (rest, subst (λ ns. ReadsNew 100 ns b x rest) (s
 
 pub labels_named : {min max : ℕ} (b : List ℕ) (fuel : ℕ) (xs : List (List ℕ)) (rest : List ℕ) (left : ℕ) → max ≤ 100 → ReadsMembers (ReadsNew 100) min max b fuel xs rest left → Named xs
 labels_named b fuel xs rest left h l = subst Named (map-id xs) (members_named (λ x. x) label_name b fuel xs rest left h l)
-
--- what two readings share
-pub record Same {A : Type 0} (x y : A) (r s : List ℕ) (f g : ℕ) : Type 0 where
-  pub value : x ≡ y
-  pub rest : r ≡ s
-  pub left : f ≡ g
 
 pub members_same : {A : Type 0} {Member : List A → List ℕ → A → List ℕ → Type 0} {min max : ℕ} → ((so_far : List A) (b : List ℕ) (x y : A) (r s : List ℕ) → Member so_far b x r → Member so_far b y s → (x ≡ y) × (r ≡ s))
     → (b : List ℕ) (fuel : ℕ) (xs ys : List A) (r s : List ℕ) (f g : ℕ) → ReadsMembers Member min max b fuel xs r f → ReadsMembers Member min max b fuel ys s g → Same xs ys r s f g
@@ -202,10 +197,6 @@ label_read so_far n rest (k, s, w, _) = subst (λ ns. ReadsNew 100 ns (script_la
 pub all_unit : {A : Type 0} (xs : List A) → AllByRecursion (λ x. Unit {0}) xs
 all_unit [] = tt
 all_unit (x ∷ xs) = (tt, all_unit xs)
-
--- a list with one item more, as it is shown
-pub pushed : {X A : Type 0} (shown : X → A) (old new : List X) (x : X) → new ≡ old ++ x ∷ [] → map shown new ≡ map shown old ++ shown x ∷ []
-pushed shown old new x e = ap (map shown) e ∙ map-append shown old (x ∷ [])
 
 -- The same turn by turn, as the program takes them.
 

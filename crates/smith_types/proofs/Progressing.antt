@@ -12,7 +12,7 @@ use Rattle.smith_syntax.specs.WellFormed.{import_of, export_of}
 use Rattle.smith_types.specs.Declarations.{nothing_so_far, after_one}
 use Rattle.smith_types.specs.Made.{MadeDeclaration, MadeDeclarations, no_more_decls, spent_decls, one_decl}
 use Rattle.smith_types.specs.MakingTypes.{Declares, HasAtMost, HoldsExterns, Progress, onto}
-use Rattle.smith_types.specs.Scopes.{Contents, own_scope, outer_scopes}
+use Rattle.smith_scopes.specs.Scopes.{Contents, own_scope, outer_scopes}
 use Rattle.smith_types.specs.declared.make.externs.ExternNames.{ExternNames}
 
 pub onto_none : (ds : List FullDecl) → onto ds no_decls ≡ in_order ds

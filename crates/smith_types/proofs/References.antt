@@ -11,8 +11,8 @@ use Rattle.smith_types.specs.References.{ref_places, has_place, ref_offers, ref_
 use Rattle.smith_types.specs.declared.make.references.RefKind.{RefKind}
 use Rattle.smith_types.specs.declared.make.references.RefKind.TheVariants as kind
 use Rattle.smith_types.specs.declared.make.references.RefTotals.{RefTotals}
-use Rattle.smith_types.proofs.ModuleFronts.{both_true}
-use Rattle.smith_types.proofs.Places.{place_stands}
+use Rattle.smith_scopes.proofs.Plain.{both_true}
+use Rattle.smith_scopes.proofs.Places.{place_stands}
 
 kind_formed : (own : Scope) (k : RefKind) (place i : ℕ) → slice_get (ref_places own k) place ≡ Some i → FormedRef own (ref_to k i)
 kind_formed own kind.Module place i h = place_stands is_core_module own.core_types place i h

@@ -37,7 +37,7 @@ use Rattle.smith_syntax.specs.declared.types.ComponentValType.TheVariants.{Primi
 use Rattle.smith_syntax.specs.declared.types.PrimitiveValType.{PrimitiveValType}
 use Rattle.smith_syntax.specs.declared.types.PrimitiveValType.TheVariants as prim
 use Rattle.smith_types.proofs.Members.{Ready, members_read, IsReady, named_ready, named_read, label_read, all_unit}
-use Rattle.smith_types.proofs.Stack.{length-places}
+use Rattle.smith_scopes.proofs.Stack.{length-places}
 
 -- choices
 

@@ -1,15 +1,12 @@
 -- How the declarations of component types and instance types are read, but for the types in them.
 use Rattle.std.specs.Prelude.{◌≡◌, ℕ, ◌+◌, ◌<◌, Bool, true, false, ◌||◌, List, [], ◌∷◌, ◌++◌, drop, length, codes, nat_lt, slice_get, Option, Some, None}
 use Rattle.std.specs.List.{flat_map}
-use Rattle.std.specs.Option.{option_to_list}
 use Rattle.smith_input.specs.Choices.{ReadsAmong}
 use Rattle.smith_input.specs.Names.{ReadsNew}
 use Rattle.smith_input.specs.Reading.{Reads, Flips}
 use Rattle.smith_input.specs.Script.{offers_of}
-use Rattle.smith_core.specs.CoreTypes.{Function}
 use Rattle.smith_core.specs.declared.config.Config.{Config}
-use Rattle.smith_syntax.specs.Entries.{FullDecl, type_alias, core_type_alias, import_decl, export_decl, keeps_type, keeps_core_type, CoreEntry, core_func, core_module, ModuleDecl}
-use Rattle.smith_syntax.specs.ModuleTypes.{adds, aliased, alias_of}
+use Rattle.smith_syntax.specs.Entries.{FullDecl, type_alias, core_type_alias, import_decl, export_decl, keeps_type, keeps_core_type}
 use Rattle.smith_syntax.specs.Scope.{Scope, empty_scope, places, is_core_module, after_decl}
 use Rattle.smith_syntax.specs.declared.deftype.ComponentTypeRef.{ComponentTypeRef}
 use Rattle.smith_syntax.specs.WellFormed.{import_of, export_of, names}
@@ -123,13 +120,3 @@ pub record ReadsExport (config : Config) (own : Scope) (exports : List NamedExte
   pub of : ReadsRef config own uncounted false true bytes to mid
   pub name : ReadsNamedExtern exports mid named rest
   pub is : d ≡ export_decl named.0 named.1 to
-
--- the function types that the outer aliases of a module type name, in order
-abbrev pub functions_named : List CoreEntry → List Function → List ModuleDecl → List Function
-functions_named around own [] = []
-functions_named around own (d ∷ ds) = flat_map (λ a. option_to_list (aliased around own a.0 a.1)) (alias_of d) ++ functions_named around (own ++ adds around own d) ds
-
--- the same of a core type
-abbrev pub named_by_core : List CoreEntry → CoreEntry → List Function
-named_by_core around (core_func f) = []
-named_by_core around (core_module ds) = functions_named around [] ds

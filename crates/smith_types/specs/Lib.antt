@@ -1,8 +1,6 @@
 pub mod Script
-pub mod MadeCore
 pub mod References
 pub mod Declarations
 pub mod Made
-pub mod MakingCore
-pub mod Scopes
 pub mod MakingTypes
+pub mod Lifting

@@ -11,10 +11,10 @@ use Rattle.smith_syntax.specs.declared.deftype.ComponentTypeRef.{ComponentTypeRe
 use Rattle.smith_syntax.specs.declared.deftype.Import.{Import}
 use Rattle.std.specs.Prelude.{string_bytes}
 use Rattle.std.specs.Option.{option_to_list}
-use Rattle.smith_types.specs.Declarations.{NamedExtern, SoFar, nothing_so_far, ReadsAlias, ReadsExport, ReadsImport, NoImport, has_reference, occupied, url_names, named_by_core}
+use Rattle.smith_types.specs.Declarations.{NamedExtern, SoFar, nothing_so_far, ReadsAlias, ReadsExport, ReadsImport, NoImport, has_reference, occupied, url_names}
 use Rattle.smith_types.specs.Made.{Made, MadeDefined, MadeFunction, MadeDeclarations}
-use Rattle.smith_types.specs.MadeCore.{MadeCore}
-use Rattle.smith_types.specs.Scopes.{Contents, own_scope, outer_scopes}
+use Rattle.smith_core_types.specs.MadeCore.{MadeCore, named_by_core}
+use Rattle.smith_scopes.specs.Scopes.{Contents, own_scope, outer_scopes}
 use Rattle.smith_types.specs.declared.make.TypeKind.{TypeKind}
 use Rattle.smith_types.specs.declared.make.TypeKind.TheVariants as kind
 use Rattle.smith_types.specs.declared.make.declarations.DeclarationItem.{DeclarationItem}

@@ -6,7 +6,7 @@ use Rattle.smith_core.specs.declared.config.Config.{Config}
 use Rattle.smith_syntax.specs.Scope.{Scope, places, is_func, is_component, is_instance, is_core_module}
 use Rattle.smith_syntax.specs.declared.deftype.ComponentTypeRef.{ComponentTypeRef}
 use Rattle.smith_syntax.specs.declared.deftype.ComponentTypeRef.TheVariants as to
-use Rattle.smith_types.specs.MadeCore.{indexes}
+use Rattle.smith_core_types.specs.MadeCore.{indexes}
 use Rattle.smith_types.specs.declared.make.references.RefKind.{RefKind}
 use Rattle.smith_types.specs.declared.make.references.RefKind.TheVariants as kind
 use Rattle.smith_types.specs.declared.make.references.RefTotals.{RefTotals}

@@ -3,11 +3,6 @@ use Rattle.std.specs.Prelude.{ℕ, ◌+◌, ◌≤◌, List, [], ◌∷◌, ◌+
 use Rattle.std.specs.List.{AllByRecursion}
 use Rattle.std.specs.Option.{option_to_list}
 use Rattle.smith_input.specs.Script.{script_among, script_loop, script_name, pick}
-use Rattle.smith_core.specs.CoreScript as core
-use Rattle.smith_core.specs.CoreTypes as Core
-use Rattle.smith_core.specs.Limits.{configured}
-use Rattle.smith_core.specs.declared.config.Config.{Config}
-use Rattle.smith_syntax.specs.CoreLimits.{max_results}
 use Rattle.smith_syntax.specs.Entries.{DefValType, primitive_type, record_type, variant_type, list_type, tuple_type, flags_type, enum_type, option_type, result_type}
 use Rattle.smith_syntax.specs.Entries.{Field, Case, Signature, Entry, defined, function, component_type, instance_type}
 use Rattle.smith_syntax.specs.Scope.{Scope, defined_places}
@@ -94,10 +89,6 @@ script_type fuel own (defined t) = (if nat_le 2 fuel then script_type_kind Defin
 script_type fuel own (function s) = script_type_kind Function ++ script_function own s
 script_type fuel own (component_type ds) = []
 script_type fuel own (instance_type ds) = []
-
--- a core function type: the first of two, and then its parameters and its results
-abbrev pub script_core_type : Config → Core.Function → List ℕ
-script_core_type config f = pick 2 0 ++ core.script_function (configured config) (max_results config) f
 
 -- Names have at most 100 bytes.
 abbrev pub AreShort : List (List ℕ) → Type 0

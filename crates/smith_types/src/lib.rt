@@ -1,15 +1,17 @@
 //! The types of components: what they are, how they are read and how they are written.
 #![tactic(auto)]
 
+mod canonical;
 pub mod laws;
 mod make;
-mod scopes;
 
+pub use canonical::{canonical_abi_for, inverse_scalar_canonical_abi_for};
 pub use make::{
-    DeclarationItem, DefinedKind, ModuleItem, RefKind, RefTotals, TypeKind, arbitrary_core_type,
-    arbitrary_type, arbitrary_type_ref,
+    DeclarationItem, DefinedKind, ExternNames, RefKind, RefTotals, TypeKind, arbitrary_type,
+    arbitrary_type_ref, named_extern,
 };
-pub use scopes::{Kind, Scopes};
+pub use smith_core_types::{ModuleItem, arbitrary_core_type};
+pub use smith_scopes::{Kind, Scopes};
 pub use smith_syntax::{
     Alias, ComponentFormat, ComponentType, ComponentTypeDef, ComponentTypeRef, ComponentValType,
     CoreType, DefType, DefinedType, EnumType, FlagsType, FuncType, Import, InstanceType,

@@ -1,19 +1,10 @@
 //! Types from the input.
 
-mod aliases;
-mod core_functions;
-mod core_types;
 mod declarations;
-mod declared;
 mod defined;
-mod entities;
 mod externs;
-mod front;
-mod fuel;
 mod function;
 mod members;
-mod module_names;
-mod module_types;
 mod references;
 mod scoped;
 mod values;
@@ -22,20 +13,19 @@ ghost use Rattle.std.specs.Prelude.{◌≡◌, ◌+◌, ◌≤◌, length, max, 
 ghost use Rattle.smith_input.specs.Reading.{IsTail};
 ghost use Rattle.smith_core.specs.Limits.{configured, IsConsistent};
 ghost use Rattle.smith_types.specs.Made.{Made};
-ghost use Rattle.smith_types.specs.Scopes.{own_scope, outer_scopes};
+ghost use Rattle.smith_scopes.specs.Scopes.{own_scope, outer_scopes};
 ghost use Rattle.smith_syntax.specs.Shown.{full_type, shown_shared};
 ghost use Rattle.smith_syntax.specs.TypeLimits.{EntryLimits, nesting};
 ghost use Rattle.smith_syntax.specs.WellFormed.{FormedEntry, size};
 
-use crate::scopes::Scopes;
-pub use core_types::arbitrary_core_type;
 pub use declarations::DeclarationItem;
 pub use defined::DefinedKind;
-pub use module_types::ModuleItem;
+pub use externs::{ExternNames, named_extern};
 pub use references::{RefKind, RefTotals, arbitrary_type_ref};
 use scoped::made_type;
 use smith_core::{Config, ValType};
 use smith_input::{Error, Unstructured};
+use smith_scopes::Scopes;
 use smith_syntax::DefType;
 use std::alloc::Global;
 use std::rc::Rc;

@@ -16,6 +16,8 @@ mod declarations;
 #[cfg(test)]
 mod deep;
 #[cfg(test)]
+mod functions;
+#[cfg(test)]
 mod hashes;
 #[cfg(test)]
 mod limits;

@@ -1,11 +1,13 @@
 //! The choice that begins a turn.
 
-ghost use Rattle.std.specs.Prelude.{◌≡◌, ◌+◌, ◌≤◌, length};
+ghost use Rattle.std.specs.Prelude.{◌≡◌, ℕ, List, ◌+◌, ◌≤◌, length};
 ghost use Rattle.smith_input.specs.Reading.{IsTail};
 ghost use Rattle.smith_core.specs.Limits.{IsConsistent};
 ghost use Rattle.smith_component.specs.Building.{open_of};
-ghost use Rattle.smith_component.specs.Limits.{max_depth};
+ghost use Rattle.smith_component.specs.Filling.{CanFill};
+ghost use Rattle.smith_component.specs.Limits.{max_depth, OwnLimits};
 ghost use Rattle.smith_component.specs.Open.{is_module_offered, is_component_offered, items};
+ghost use Rattle.smith_component.specs.Turn.{Lacks};
 ghost use Rattle.smith_input.specs.Choices.{ReadsAmong};
 
 use crate::builder::Builder;
@@ -17,7 +19,7 @@ impl Builder {
     fn offers_module(&self) -> bool
         ensures { result ≡ is_module_offered self.now.config (open_of self.now) }
     {
-        self.modules < self.config.max_modules
+        self.totals.modules < self.config.max_modules
     }
 
     // May a component be opened?
@@ -25,15 +27,21 @@ impl Builder {
         ensures offered { result ≡ is_component_offered self.now.config (open_of self.now) }
         ensures depth { length (open_of self.now).outer + 1 ≤ max_depth self.now.config }
         ensures accepted { IsConsistent self.now.config }
+        ensures limits { OwnLimits self.now.config (open_of self.now).inner }
+        ensures fills { (left : List ℕ) → CanFill self.now.config (open_of self.now).inner
+            → ¬ Lacks self.now.config (open_of self.now) left }
     {
         self.outer.len() + 1 < self.config.max_nesting_depth
-            && self.components < self.config.max_components
+            && self.totals.components < self.config.max_components
     }
 
     // The choice that begins a turn: where no input is left, the inner component is finished.
     pub(crate) fn choose_item(&self, u: &mut Unstructured) -> Item
         ensures depth { length (open_of self.now).outer + 1 ≤ max_depth self.now.config }
         ensures accepted { IsConsistent self.now.config }
+        ensures limits { OwnLimits self.now.config (open_of self.now).inner }
+        ensures fills { (left : List ℕ) → CanFill self.now.config (open_of self.now).inner
+            → ¬ Lacks self.now.config (open_of self.now) left }
         ensures chooses { ReadsAmong (items self.now.config (open_of self.now) u.old) u.old result u.new }
         ensures tail { IsTail u.new u.old }
     {

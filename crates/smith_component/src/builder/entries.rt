@@ -5,7 +5,7 @@ ghost use Rattle.smith_input.specs.Loops.{Loop, Never};
 ghost use Rattle.smith_input.specs.Reading.{IsTail};
 ghost use Rattle.smith_core.specs.Limits.{configured, IsConsistent};
 ghost use Rattle.smith_core.specs.declared.config.Config.{Config};
-ghost use Rattle.smith_types.specs.Scopes.{own_scope, outer_scopes};
+ghost use Rattle.smith_scopes.specs.Scopes.{own_scope, outer_scopes};
 ghost use Rattle.smith_syntax.specs.Entries.{Entry, CoreEntry};
 ghost use Rattle.smith_syntax.specs.Scope.{Scope};
 ghost use Rattle.smith_syntax.specs.Shown.{shown_shared, shown_shared_core};
@@ -47,20 +47,22 @@ pub(super) trait SectionEntry: Drop {
         ensures tail { IsTail u.new u.old };
 }
 
-// The entries of a section, at most so many.
+// The entries of a section, at least and at most so many.
 pub(super) fn read_entries<E: SectionEntry>(
     alloc: Global,
     config: &Config,
     valtypes: &[ValType],
+    min: usize,
     max: usize,
     scopes: &mut Scopes,
     u: &mut Unstructured,
 ) -> Result<Vec<E>, Error>
+    requires ordered { min ≤ max }
     requires room { E.count (own_scope scopes.old) + max ≤ 4294967295 }
     requires configured { valtypes.now ≡ configured config.now }
     requires consistent { IsConsistent config.now }
     requires shallow { length scopes.old ≤ 1001 }
-    ensures entries { IfOk result (λ v. Loop Never (E.reads config.now (outer_scopes scopes.old)) 0 max 0
+    ensures entries { IfOk result (λ v. Loop Never (E.reads config.now (outer_scopes scopes.old)) min max 0
         (own_scope scopes.old) u.old (map E.shown v.items) u.new (own_scope scopes.new)) }
     ensures outer { IfOk result (λ _. outer_scopes scopes.new ≡ outer_scopes scopes.old) }
     ensures depth { IfOk result (λ _. length scopes.new ≡ length scopes.old) }
@@ -70,7 +72,7 @@ pub(super) fn read_entries<E: SectionEntry>(
 {
     let mut entries = Vec::new(alloc);
     for done in 0..max {
-        if !u.more(done, 0, max) {
+        if !u.more(done, min, max) {
             return Ok(entries);
         }
         let entry = E::read(alloc, config, valtypes, scopes, u)?;

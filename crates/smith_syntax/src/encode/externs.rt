@@ -1,10 +1,11 @@
 //! Imports and exports in the binary format (Binary.md, import and export definitions).
 #![tactic(auto, using(crate::proofs::Encoding::encoding))]
 
-ghost use Rattle.std.specs.Prelude.{◌≤◌, string_bytes};
+ghost use Rattle.std.specs.Prelude.{◌≤◌};
 ghost use Rattle.smith_core.specs.Piece.{◌⊕◌, byte, bytes, text, u};
 ghost use Rattle.smith_core.specs.Writing.{Puts, Appends, Takes, IsLengthOf};
-ghost use Rattle.smith_syntax.specs.Grammar.{externdesc, named_extern};
+ghost use Rattle.smith_syntax.specs.Grammar.{externdesc, named_extern, import_entry};
+ghost use Rattle.smith_syntax.specs.Shown.{import_shown};
 
 use super::values::ComponentFormat;
 use crate::deftype::{ComponentTypeRef, Import};
@@ -68,7 +69,7 @@ pub(super) fn named_len(name: &str, to: ComponentTypeRef) -> Option<u32>
 }
 
 impl Spelled<ComponentFormat> for Import {
-    ghost piece = { λ i. named_extern (string_bytes i.name) i.ty };
+    ghost piece = { λ i. import_entry (import_shown i) };
 
     fn put(&self, out: &mut Vec<u8>) -> Result<(), Error> {
         put_named(out, &self.name, self.ty)
@@ -81,14 +82,14 @@ impl Spelled<ComponentFormat> for Import {
 
 /// Appends an import, without its URL. It is too long where the length of its name passes 4,294,967,295.
 pub fn write_import(out: &mut Vec<u8>, import: &Import) -> Result<(), Error>
-    ensures { Appends result out.old out.new (named_extern (string_bytes import.now.name) import.now.ty) }
+    ensures { Appends result out.old out.new (import_entry (import_shown import.now)) }
 {
     write_spelled(out, import)
 }
 
 /// The length of an import's encoding; None exactly where it has none of at most 4,294,967,295 bytes.
 pub fn import_len(import: &Import) -> Option<u32>
-    ensures { IsLengthOf result (named_extern (string_bytes import.now.name) import.now.ty) }
+    ensures { IsLengthOf result (import_entry (import_shown import.now)) }
 {
     import.spelled_len()
 }

@@ -11,15 +11,15 @@ ghost use Rattle.smith_types.specs.Declarations.{declaration_items, has_referenc
 ghost use Rattle.smith_types.specs.MakingTypes.{Declares, HasTarget, HoldsExterns, IsNameless};
 ghost use Rattle.smith_types.specs.MakingTypes.{MadeItem, MaybeImport, SameOuter};
 ghost use Rattle.smith_types.specs.MakingTypes.{imported_by, shown_import, with_aliased, with_exported};
-ghost use Rattle.smith_types.specs.Scopes.{inward, own_scope, outer_scopes};
+ghost use Rattle.smith_scopes.specs.Scopes.{inward, own_scope, outer_scopes};
 ghost use Rattle.smith_types.specs.declared.make.declarations.DeclarationItem.TheVariants as item;
 
-use super::core_types::arbitrary_core_type;
 use super::externs::{ExternNames, named_extern};
 use super::references::{RefTotals, arbitrary_type_ref};
-use crate::scopes::{Kind, Scopes};
 use smith_core::{Config, ValType};
+use smith_core_types::arbitrary_core_type;
 use smith_input::{Error, Unstructured, choose_offered};
+use smith_scopes::{Kind, Scopes};
 use smith_syntax::{Alias, ComponentTypeRef, Import, InstanceTypeDecl, OuterAliasKind};
 use std::alloc::Global;
 

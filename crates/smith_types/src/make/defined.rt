@@ -5,15 +5,15 @@ ghost use Rattle.smith_input.specs.Reading.{IsTail};
 ghost use Rattle.smith_syntax.specs.Entries.{primitive_type, record_type, variant_type};
 ghost use Rattle.smith_syntax.specs.Entries.{tuple_type, flags_type, enum_type};
 ghost use Rattle.smith_types.specs.Made.{MadeAs, MadeDefined, ReadsMaybe, or_bool};
-ghost use Rattle.smith_types.specs.Scopes.{own_scope};
+ghost use Rattle.smith_scopes.specs.Scopes.{own_scope};
 ghost use Rattle.smith_syntax.specs.Shown.{shown_defined};
 ghost use Rattle.smith_syntax.specs.Signature.{named};
 ghost use Rattle.smith_syntax.specs.declared.types.PrimitiveValType.TheVariants as prim;
 
 use super::members::members;
 use super::values::{maybe_value_type, primitive_type, value_type};
-use crate::scopes::Scopes;
 use smith_input::{Error, Unstructured};
+use smith_scopes::Scopes;
 use smith_syntax::{
     ComponentValType, DefinedType, EnumType, FlagsType, ListType, OptionType, PrimitiveValType,
     RecordType, ResultType, TupleType, VariantType,

@@ -1,6 +1,6 @@
 //! Names of imports and exports, from the input.
 
-ghost use Rattle.std.specs.Prelude.{◌≡◌, List, [], ◌∷◌, ◌++◌, string_bytes, IfOk, IfErr};
+ghost use Rattle.std.specs.Prelude.{◌≡◌, List, [], ◌∷◌, ◌++◌, length, string_bytes, IfOk, IfErr};
 ghost use Rattle.smith_input.specs.Reading.{IsTail};
 ghost use Rattle.smith_syntax.specs.Shown.{shown_url};
 ghost use Rattle.smith_types.specs.Declarations.{NamedExtern, ReadsMaybeUrl, ReadsNamedExtern, url_name, url_names};
@@ -11,21 +11,30 @@ use smith_input::{Error, Unstructured, unique_kebab_string, unique_url};
 use std::alloc::Global;
 use std::collections::BTreeSet;
 
-// The names so far, and those in the URLs so far, of the imports or of the exports of one type.
+/// The names so far, and those in the URLs so far, of imports or of exports that must differ: of those of one type, or
+/// of one component.
 #[derive(Drop)]
-pub(super) struct ExternNames {
+pub struct ExternNames {
     pub(super) names: BTreeSet<String>,
     pub(super) urls: BTreeSet<String>,
 }
 
 impl ExternNames {
-    pub(super) fn new(alloc: Global) -> ExternNames
+    /// No names. It takes no memory.
+    pub fn new(alloc: Global) -> ExternNames
         ensures { HoldsExterns result [] }
     {
         ExternNames {
             names: BTreeSet::new(alloc),
             urls: BTreeSet::new(alloc),
         }
+    }
+
+    /// How many names there are so far, without those in URLs.
+    pub fn len(&self) -> usize
+        ensures { (so_far : List NamedExtern) → HoldsExterns self.now so_far → result ≡ length so_far }
+    {
+        self.names.len()
     }
 }
 
@@ -49,8 +58,9 @@ fn maybe_url(
     Ok(Some(url))
 }
 
-// A name that is new among those so far, and a URL or none.
-pub(super) fn named_extern(
+/// A name in kebab case that is new among those so far, a boolean, and where it is true a URL, which has a name that no
+/// URL has so far. Both are among the names so far then. It refuses for want of memory alone.
+pub fn named_extern(
     alloc: Global,
     u: &mut Unstructured,
     externs: &mut ExternNames,

@@ -3,13 +3,13 @@
 ghost use Rattle.std.specs.Prelude.{◌≡◌, [], IfOk, IfErr};
 ghost use Rattle.smith_input.specs.Reading.{IsTail};
 ghost use Rattle.smith_types.specs.Made.{MadeFunction, ReadsResult};
-ghost use Rattle.smith_types.specs.Scopes.{own_scope};
+ghost use Rattle.smith_scopes.specs.Scopes.{own_scope};
 
-use super::fuel::burn;
 use super::members::members;
 use super::values::value_type;
-use crate::scopes::Scopes;
+use smith_core_types::burn;
 use smith_input::{Error, Unstructured};
+use smith_scopes::Scopes;
 use smith_syntax::{ComponentValType, FuncType};
 use std::alloc::Global;
 

@@ -6,14 +6,14 @@ ghost use Rattle.smith_input.specs.Reading.{IsTail};
 ghost use Rattle.smith_syntax.specs.Entries.{Field, Case};
 ghost use Rattle.smith_types.specs.Made.{ReadsVal, ReadsMaybe, ReadsNamed, ReadsMembers};
 ghost use Rattle.smith_syntax.specs.Scope.{Scope};
-ghost use Rattle.smith_types.specs.Scopes.{own_scope};
+ghost use Rattle.smith_scopes.specs.Scopes.{own_scope};
 ghost use Rattle.smith_syntax.specs.Signature.{named};
 ghost use Rattle.smith_syntax.specs.declared.types.ComponentValType.{ComponentValType as Val};
 
-use super::fuel::burn;
 use super::values::{maybe_value_type, value_type};
-use crate::scopes::Scopes;
+use smith_core_types::burn;
 use smith_input::{Error, Unstructured, unique_kebab_string};
+use smith_scopes::Scopes;
 use smith_syntax::ComponentValType;
 use std::alloc::Global;
 use std::collections::BTreeSet;

@@ -5,11 +5,11 @@ ghost use Rattle.smith_input.specs.Choices.{ReadsAmong};
 ghost use Rattle.smith_input.specs.Reading.{IsTail};
 ghost use Rattle.smith_types.specs.References.{MaybeRef, allows_equal, allows_one, has_place};
 ghost use Rattle.smith_types.specs.References.{ref_kinds, ref_places, ref_to};
-ghost use Rattle.smith_types.specs.Scopes.{own_scope};
+ghost use Rattle.smith_scopes.specs.Scopes.{own_scope};
 
-use crate::scopes::{Kind, Scopes};
 use smith_core::Config;
 use smith_input::{Unstructured, choose_offered};
+use smith_scopes::{Kind, Scopes};
 use smith_syntax::ComponentTypeRef;
 
 /// What a reference is among. Public since contracts speak of it.

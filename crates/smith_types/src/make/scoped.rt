@@ -14,7 +14,7 @@ ghost use Rattle.smith_types.specs.Made.{Made, MadeDeclaration, MadeDeclarations
 ghost use Rattle.smith_types.specs.MakingTypes.{Declares, HasAtMost, HasTarget, HoldsExterns, IsNameless};
 ghost use Rattle.smith_types.specs.MakingTypes.{MadeItem, MadeKind, SameOuter};
 ghost use Rattle.smith_types.specs.Script.{type_kinds};
-ghost use Rattle.smith_types.specs.Scopes.{inward, own_scope, outer_scopes};
+ghost use Rattle.smith_scopes.specs.Scopes.{inward, own_scope, outer_scopes};
 ghost use Rattle.smith_types.specs.declared.make.declarations.DeclarationItem.TheVariants as item;
 ghost use Rattle.smith_types.specs.declared.make.TypeKind.TheVariants as kind;
 
@@ -23,12 +23,12 @@ use super::declarations::{
 };
 use super::defined::defined_type;
 use super::externs::ExternNames;
-use super::fuel::burn;
 use super::function::function_type;
 use super::{TYPE_KINDS, TypeKind};
-use crate::scopes::Scopes;
 use smith_core::{Config, ValType};
+use smith_core_types::burn;
 use smith_input::{Error, Unstructured};
+use smith_scopes::Scopes;
 use smith_syntax::{ComponentType, ComponentTypeDef, DefType, InstanceType, InstanceTypeDecl};
 use std::alloc::Global;
 use std::rc::Rc;

@@ -5,10 +5,10 @@ ghost use Rattle.smith_input.specs.Reading.{IsTail};
 ghost use Rattle.smith_input.specs.Choices.{ReadsAmong};
 ghost use Rattle.smith_types.specs.Script.{primitives};
 ghost use Rattle.smith_types.specs.Made.{ReadsVal, ReadsMaybe};
-ghost use Rattle.smith_types.specs.Scopes.{own_scope};
+ghost use Rattle.smith_scopes.specs.Scopes.{own_scope};
 
-use crate::scopes::{Kind, Scopes};
 use smith_input::Unstructured;
+use smith_scopes::{Kind, Scopes};
 use smith_syntax::{ComponentValType, PrimitiveValType};
 
 static PRIMITIVES: [PrimitiveValType; 13] = [

@@ -2,10 +2,10 @@ use Rattle.std.proofs.Common.{ℕ, ◌+◌, ◌≤◌, subst}
 use Rattle.std.specs.Prelude.{max}
 use Rattle.smith_syntax.specs.Shown.{shown_shared}
 use Rattle.smith_syntax.specs.TypeLimits.{nesting}
-use Rattle.smith_types.specs.Scopes.{inward}
+use Rattle.smith_scopes.specs.Scopes.{inward}
 use Rattle.smith_types.proofs.MadeFormed.{made_formed}
 use Rattle.smith_types.proofs.MadeTypes.{made_limits, made_size, stack_nesting}
-use Rattle.smith_types.proofs.Stack.{length-inward}
+use Rattle.smith_scopes.proofs.Stack.{length-inward}
 use Rattle.smith_types.proofs.make.arbitrary_type.Goals as goal
 
 pub returns-clause-formed : goal.returns-clause-formed

@@ -1,34 +1,44 @@
-use Rattle.std.proofs.Common.{◌∷◌, sym, subst, ap, ◌∙◌, arith}
+use Rattle.std.proofs.Common.{◌∷◌, sym, subst, ap, ◌∙◌, arith, length}
 use Rattle.smith_component.specs.Building.{Building, open_of}
 use Rattle.smith_component.specs.BuilderView.{building_of}
-use Rattle.smith_component.specs.Open.{scopes_in}
-use Rattle.smith_component.specs.Shown.{shown_section}
-use Rattle.smith_component.specs.Tree.{types_in, core_types_in}
+use Rattle.smith_component.specs.Open.{scopes_in, with_inner}
+use Rattle.smith_component.specs.Shown.{shown_section, shown_sections}
+use Rattle.smith_component.specs.Sound.{IsAddable, Sound}
+use Rattle.smith_component.specs.Tables.{Tabled}
 use Rattle.smith_component.specs.WellFormed.{scope_of}
-use Rattle.smith_component.proofs.Tree.{length-own-add}
-use Rattle.smith_component.proofs.Sound.{Quietly, part_added, own_limits_of}
+use Rattle.smith_component.proofs.Sound.{part_sound, scope_bare, totalled_part}
+use Rattle.smith_component.proofs.Standing.{tabled_added, none_imported}
 use Rattle.smith_component.proofs.builder.Builder.add_section.Goals as goal
 
-pub push-requires : goal.push-requires
-push-requires c =
+pub overflow_add-builder : goal.overflow_add-builder
+overflow_add-builder c =
     let b = c.builder.inside in
     let stack = open_of (building_of b) in
-    let Q : Building → Type 0 = λ v. Quietly v.config (open_of v) (shown_section c.args.section) in
-    let q = subst Q (sym c.builder.view_is) (record { addable = c.requires.addable; quiet = c.requires.quiet }) in
-    let o = q.addable.own (own_limits_of b.config b.modules b.components stack c.builder.invariant.sound) in
-    record {
-      types = omega (arith, o.types, b.inner.counted, length-own-add types_in stack.inner (shown_section c.args.section), c.builder.invariant.sound.consistent.types);
-      core_types = omega (arith, o.core_types, b.inner.core_counted, length-own-add core_types_in stack.inner (shown_section c.args.section), c.builder.invariant.sound.consistent.types);
-    }
+    let p = shown_section c.args.section in
+    let R : Building → Type 0 = λ v. IsAddable v.config (open_of v) p in
+    let a = subst R (sym c.builder.view_is) c.requires.addable in
+    let i = c.builder.invariant.0 in
+    let few = a.modules i.sound.maxima.modules in
+    omega (arith, few, i.totalled.modules, c.module_count-modules.ensures, i.sound.consistent.modules)
 
 pub invariant_of-builder : goal.invariant_of-builder
 invariant_of-builder c =
     let b = c.builder.inside in
     let stack = open_of (building_of b) in
-    let Q : Building → Type 0 = λ v. Quietly v.config (open_of v) (shown_section c.args.section) in
-    let q = subst Q (sym c.builder.view_is) (record { addable = c.requires.addable; quiet = c.requires.quiet }) in
-    record {
-      sound = part_added _ _ _ _ _ _ _ _ q.addable c.module_count-modules.ensures c.in_ok-push.ensures.ok c.builder.invariant.sound;
-      valtypes_are = c.builder.invariant.valtypes_are;
-      scopes_are = c.builder.invariant.scopes_are ∙ ap (λ s. s ∷ scopes_in stack.outer) (sym (ap scope_of c.in_ok-push.ensures.ok ∙ q.quiet));
-    }
+    let p = shown_section c.args.section in
+    let R : Building → Type 0 = λ v. IsAddable v.config (open_of v) p in
+    let a = subst R (sym c.builder.view_is) c.requires.addable in
+    let q = c.requires.quiet in
+    let i = c.builder.invariant in
+    let new = c.in_ok-push.ensures.ok in
+    let none = none_imported p q.imports in (
+      record {
+        sound = subst (λ t. Sound b.config (with_inner stack t)) (sym new) (part_sound b.config stack p a i.0.sound);
+        valtypes_are = i.0.valtypes_are;
+        scopes_are = i.0.scopes_are ∙ ap (λ s. s ∷ scopes_in stack.outer) (sym (ap scope_of new ∙ scope_bare stack.inner p q.types q.core_types));
+        totalled =
+            totalled_part b.config stack.outer stack.inner _ b.totals _ p a.no_component new (omega (arith, c.module_count-modules.ensures, ap length none.0)) (omega (arith, ap length none.1)) (omega (arith, ap length none.2))
+            i.0.totalled;
+      },
+      (subst (λ tb. Tabled tb (shown_sections c.push.new.self.sections.items)) (sym c.push.ensures.tables) (tabled_added stack.inner _ p new q.functions q.core_functions q.imports i.1.0), i.1.1),
+    )

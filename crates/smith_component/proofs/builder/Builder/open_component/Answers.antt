@@ -1,33 +1,58 @@
-use Rattle.std.proofs.Common.{◌≡◌, true, sym, ap, subst, ◌∙◌, ◌++◌, ◌∷◌, [], List, map, inl, inr, arith}
+use Rattle.std.proofs.Common.{◌≡◌, true, sym, ap, subst, refl, ◌∙◌, ◌++◌, ◌∷◌, [], List, map, inl, inr, arith}
 use Rattle.std.proofs.lemmas.List.{map-append}
+use Rattle.std.specs.List.{AllByRecursion}
 use Rattle.smith_syntax.specs.Scope.{empty_scope}
-use Rattle.smith_types.proofs.Stack.{opened_scope}
+use Rattle.smith_scopes.proofs.Stack.{opened_scope}
 use Rattle.smith_component.specs.Building.{Building, open_of}
-use Rattle.smith_component.specs.BuilderView.{building_of}
-use Rattle.smith_component.specs.Open.{scopes_in, is_component_offered}
+use Rattle.smith_component.specs.BuilderView.{building_of, IsTabled}
+use Rattle.smith_component.specs.Importing.{Totalled}
+use Rattle.smith_component.specs.Open.{Open, scopes_in, is_component_offered}
 use Rattle.smith_component.specs.Shown.{shown_sections}
+use Rattle.smith_component.specs.Sound.{Sound}
+use Rattle.smith_component.specs.Tables.{Tabled}
+use Rattle.smith_component.specs.Tree.{Tree, ends}
 use Rattle.smith_component.specs.WellFormed.{scope_of}
 use Rattle.smith_component.specs.declared.builder.open.OpenComponent.{OpenComponent}
 use Rattle.smith_component.specs.declared.component.Section.{Section}
 use Rattle.smith_component.proofs.Shown.{outer_popped, trees_of}
-use Rattle.smith_component.proofs.Sound.{opened, component_offered_is, scopes_from-snoc}
+use Rattle.smith_component.proofs.Sound.{sound_open, totalled_open, component_offered_is, scopes_from-snoc}
+use Rattle.smith_component.proofs.Tree.{all_both}
 use Rattle.smith_component.proofs.builder.Builder.open_component.Goals as goal
 
-pub invariant_of-builder : goal.invariant_of-builder
-invariant_of-builder c =
+pub overflow_add-builder : goal.overflow_add-builder
+overflow_add-builder c =
     let b = c.builder.inside in
     let stack = open_of (building_of b) in
     let P : Building → Type 0 = λ v. is_component_offered v.config (open_of v) ≡ true in
     let o = component_offered_is b.config stack (subst P (sym c.builder.view_is) c.requires) in
+    omega (arith, o.1, c.builder.invariant.0.totalled.components, c.builder.invariant.0.sound.consistent.components)
+
+pub invariant_of-builder : goal.invariant_of-builder
+invariant_of-builder c =
+    let b = c.builder.inside in
+    let i = c.builder.invariant in
+    let stack = open_of (building_of b) in
+    let P : Building → Type 0 = λ v. is_component_offered v.config (open_of v) ≡ true in
+    let o = component_offered_is b.config stack (subst P (sym c.builder.view_is) c.requires) in
     let outer = outer_popped _ _ _ c.in_ok-push.ensures.items ∙ ap (λ x. trees_of b.outer.items ++ shown_sections x.sections.items ∷ []) c.replace-around.ensures.value in
-    let inner = ap (λ x. shown_sections x.sections.items) c.replace-around.ensures.after ∙ ap shown_sections c.new-opened.ensures in
-    record {
-      sound = opened _ _ _ _ _ _ _ o.0 (omega (arith, o.1, c.builder.invariant.sound.components_are)) outer inner c.builder.invariant.sound;
-      valtypes_are = c.builder.invariant.valtypes_are;
-      scopes_are =
-          opened_scope _ _ c.in_ok-open_scope.ensures.ok
-          ∙ (ap (λ ss. empty_scope ∷ ss) (c.builder.invariant.scopes_are ∙ (sym (scopes_from-snoc stack.outer stack.inner []) ∙ ap scopes_in (sym outer))) ∙ ap (λ s. s ∷ scopes_in (trees_of c.push.new.self.items)) (sym (ap scope_of inner)));
-    }
+    let new : OpenComponent = c.new-opened.result in
+    let fresh = c.replace-around.ensures.after in
+    let inner = ap (λ x. shown_sections x.sections.items) fresh ∙ ap shown_sections c.new-opened.ensures.items in
+    let around = c.in_ok-push.ensures.items ∙ ap (λ x. b.outer.items ++ x ∷ []) c.replace-around.ensures.value in
+    let tables : IsTabled new = subst (λ t. Tabled new.tables t) (sym (ap shown_sections c.new-opened.ensures.items)) c.new-opened.ensures.tabled in (
+      record {
+        sound = subst (λ us. Sound b.config (record { outer = us; inner = shown_sections c.replace-around.new.dest.sections.items })) (sym outer) (subst (λ t. Sound b.config (record { outer = stack.outer ++ stack.inner ∷ []; inner = t })) (sym inner) (sound_open b.config stack.outer stack.inner o.0 o.1 i.0.sound));
+        valtypes_are = i.0.valtypes_are;
+        scopes_are =
+            opened_scope _ _ c.in_ok-open_scope.ensures.ok
+            ∙ (ap (λ ss. empty_scope ∷ ss) (i.0.scopes_are ∙ (sym (scopes_from-snoc stack.outer stack.inner []) ∙ ap scopes_in (sym outer))) ∙ ap (λ s. s ∷ scopes_in (trees_of c.push.new.self.items)) (sym (ap scope_of inner)));
+        totalled = totalled_open stack.outer _ stack.inner _ b.totals _ outer inner refl refl refl i.0.totalled;
+      },
+      (
+        subst IsTabled (sym fresh) tables,
+        subst (AllByRecursion IsTabled) (sym around) (all_both IsTabled b.outer.items (b.inner ∷ []) i.1.1 (i.1.0, tt)),
+      ),
+    )
 
 pub returns-clause-sections : goal.returns-clause-sections
 returns-clause-sections c =
@@ -35,5 +60,5 @@ returns-clause-sections c =
     let around = ap (map sections) c.in_ok-push.ensures.items ∙ map-append sections c.builder.inside.outer.items (_ ∷ []) in
     rw (← c.builder.view_is) (inr (inl (record {
       outer = around ∙ ap (λ x. map sections c.builder.inside.outer.items ++ sections x ∷ []) c.replace-around.ensures.value;
-      inner = ap sections c.replace-around.ensures.after ∙ c.new-opened.ensures;
+      inner = ap sections c.replace-around.ensures.after ∙ c.new-opened.ensures.items;
     })))

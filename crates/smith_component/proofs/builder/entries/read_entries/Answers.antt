@@ -3,7 +3,7 @@ use Rattle.std.proofs.lemmas.List.{map-append}
 use Rattle.smith_input.proofs.Loops.{begins, stops, ends_full, goes_on}
 use Rattle.smith_input.proofs.ReadingLemmas.{tail_same, tail_trans, more_tail}
 use Rattle.smith_syntax.specs.Scope.{Scope}
-use Rattle.smith_types.specs.Scopes.{own_scope}
+use Rattle.smith_scopes.specs.Scopes.{own_scope}
 use Rattle.smith_component.proofs.builder.entries.read_entries.Goals as goal
 
 pub loop-done-init : goal.loop-done-init

@@ -1,10 +1,14 @@
 use Rattle.std.proofs.Common.{ap, ◌∙◌, subst, sym, rules}
 use Rattle.smith_input.proofs.ReadingLemmas.{tail_same, tail_trans}
+use Rattle.smith_core.specs.declared.config.Config.{Config}
+use Rattle.smith_component.specs.Limits.{Limits}
 use Rattle.smith_component.specs.Open.{Open}
+use Rattle.smith_component.specs.Refusals.{IsRefusal}
 use Rattle.smith_component.specs.Steps.{next_of, StaysSound}
 use Rattle.smith_component.specs.declared.builder.Step.{Step}
+use Rattle.smith_component.proofs.Finishing.{refused}
 use Rattle.smith_component.proofs.Scripted.{Passed, passed_start, passed_step, passed_end}
-use Rattle.smith_component.proofs.RunsTo.{Reached, reached_start, reached_step, reached_answer}
+use Rattle.smith_component.proofs.RunsTo.{Reached, reached_start, reached_step, reached_refusal, reached_answer}
 use Rattle.smith_component.proofs.component.Component.new.Goals as goal
 
 pub loop-next-init : goal.loop-next-init
@@ -38,3 +42,15 @@ returns-in-Finished-clause-run c =
 pub returns-in-Finished-clause-reach : goal.returns-in-Finished-clause-reach
 returns-in-Finished-clause-reach c plan rest w e =
     passed_end _ _ _ _ _ _ _ _ plan rest c.loop-next.invariant.config (ap next_of c.in-Finished.is) c.loop-next.invariant.passed c.in_ok-next.ensures.follows w e
+
+pub returns-in_err-next-clause-refuses : goal.returns-in_err-next-clause-refuses
+returns-in_err-next-clause-refuses c =
+    let i = c.loop-next.invariant in
+    refused _ _ (IsRefusal c.args.config c.args.u.now) c.from_residual-in_err-next.ensures.1 (reached_refusal _ _ _ _ _ i.config i.reached i.consistent _ c.in_err-next.ensures.refuses)
+
+pub returns-in-Finished-clause-limits : goal.returns-in-Finished-clause-limits
+returns-in-Finished-clause-limits c =
+    let K : Step → Type 0 = StaysSound c.loop-next.builder.config in
+    let L : Config → Type 0 = λ config. Limits config c.in-Finished.component in
+    let kept = subst K c.in-Finished.is c.in_ok-next.ensures.keeps in
+    subst L c.loop-next.invariant.config kept.0

@@ -1,6 +1,6 @@
 use Rattle.std.proofs.Common.{arith}
 use Rattle.smith_types.proofs.Declaring.{added_type_alias, added_core_type_alias}
-use Rattle.smith_types.proofs.Stack.{length-last, length-last-core}
+use Rattle.smith_scopes.proofs.Stack.{length-last, length-last-core}
 use Rattle.smith_types.proofs.make.declarations.add_aliased.Goals as goal
 
 pub push_type-requires : goal.push_type-requires

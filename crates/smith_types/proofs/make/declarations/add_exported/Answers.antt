@@ -1,6 +1,6 @@
 use Rattle.std.proofs.Common.{arith}
 use Rattle.smith_types.proofs.Declaring.{equal_stands, added_equal}
-use Rattle.smith_types.proofs.Stack.{length-last}
+use Rattle.smith_scopes.proofs.Stack.{length-last}
 use Rattle.smith_types.proofs.make.declarations.add_exported.Goals as goal
 
 pub get-requires-clause-entry : goal.get-requires-clause-entry

@@ -2,7 +2,7 @@ use Rattle.std.proofs.Common.{ℕ, ◌-◌, ap, arith, refl, subst, sym, Some, �
 use Rattle.smith_input.specs.Reading.{Reads}
 use Rattle.smith_syntax.specs.Entries.{FullDecl}
 use Rattle.smith_types.specs.Declarations.{ReadsAlias}
-use Rattle.smith_types.specs.Scopes.{inward}
+use Rattle.smith_scopes.specs.Scopes.{inward}
 use Rattle.smith_syntax.proofs.Shown.{alias_of_type, alias_of_core_type}
 use Rattle.smith_types.proofs.Declaring.{among_occupied, scope_chosen, type_alias_read, core_type_alias_read}
 use Rattle.smith_types.proofs.make.declarations.alias_choice.Goals as goal

@@ -3,10 +3,10 @@ use Rattle.smith_syntax.specs.Scope.{own_of, outer_of, after_decl, with_core_typ
 use Rattle.smith_syntax.specs.Entries.{core_type_decl, keeps_functions}
 use Rattle.smith_syntax.specs.Shown.{shown_core}
 use Rattle.smith_syntax.proofs.Shown.{instance_core_decl}
-use Rattle.smith_types.specs.Scopes.{inward}
+use Rattle.smith_scopes.specs.Scopes.{inward}
 use Rattle.smith_types.proofs.Declaring.{declares}
-use Rattle.smith_types.proofs.KeptAliases.{kept_core_named}
-use Rattle.smith_types.proofs.Stack.{length-last-core, grown_core}
+use Rattle.smith_core_types.proofs.KeptAliases.{kept_core_named}
+use Rattle.smith_scopes.proofs.Stack.{length-last-core, grown_core}
 use Rattle.smith_types.proofs.make.declarations.core_type_decl.Goals as goal
 
 pub push_core_type-requires : goal.push_core_type-requires

@@ -4,7 +4,7 @@ use Rattle.smith_syntax.specs.Entries.{FullDecl}
 use Rattle.smith_syntax.specs.WellFormed.{export_of}
 use Rattle.smith_syntax.proofs.Shown.{instance_export}
 use Rattle.smith_types.specs.MakingTypes.{HoldsExterns}
-use Rattle.smith_types.specs.Scopes.{own_scope}
+use Rattle.smith_scopes.specs.Scopes.{own_scope}
 use Rattle.smith_types.proofs.Importing.{export_possible, export_read}
 use Rattle.smith_types.proofs.References.{ref_formed}
 use Rattle.smith_types.proofs.make.declarations.export.Goals as goal

@@ -2,7 +2,7 @@ use Rattle.std.proofs.Common.{ap, sym, subst, ◌∙◌, List}
 use Rattle.smith_syntax.specs.Scope.{Scope, after_decl, own_of, outer_of}
 use Rattle.smith_syntax.specs.Shown.{full_alias}
 use Rattle.smith_types.specs.Declarations.{ReadsAlias}
-use Rattle.smith_types.specs.Scopes.{inward}
+use Rattle.smith_scopes.specs.Scopes.{inward}
 use Rattle.smith_syntax.proofs.Shown.{instance_alias}
 use Rattle.smith_types.proofs.Declaring.{alias_adds, declares, split_occupied}
 use Rattle.smith_types.proofs.make.declarations.outer_alias.Goals as goal

@@ -3,7 +3,8 @@ use Rattle.smith_input.specs.Names.{Holds}
 use Rattle.smith_input.proofs.Loops.{stops, ends_early, goes_on, ends_full}
 use Rattle.smith_input.proofs.NewNames.{holds_none}
 use Rattle.smith_input.proofs.ReadingLemmas.{tail_same, tail_trans, more_tail}
-use Rattle.smith_types.proofs.Members.{pushed, starts, spends, has_read_as}
+use Rattle.smith_scopes.proofs.Plain.{pushed}
+use Rattle.smith_types.proofs.Members.{starts, spends, has_read_as}
 use Rattle.smith_types.proofs.make.members.members.Goals as goal
 
 pub loop-done-init : goal.loop-done-init

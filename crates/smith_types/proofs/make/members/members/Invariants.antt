@@ -4,7 +4,7 @@ use Rattle.smith_input.specs.Names.{Holds}
 use Rattle.smith_input.specs.Reading.{IsTail}
 use Rattle.smith_types.specs.Made.{IsSpent, ReadsMember}
 use Rattle.smith_syntax.specs.Scope.{own_of}
-use Rattle.smith_types.specs.Scopes.{inward}
+use Rattle.smith_scopes.specs.Scopes.{inward}
 use Rattle.smith_types.proofs.make.members.members.Given as goal
 
 -- The set has the names so far, and whatever the rest of the loop reads, the whole loop reads it after what was read.

@@ -6,10 +6,10 @@ use Rattle.smith_input.specs.Choices.{ReadsAmong}
 use Rattle.smith_core.specs.declared.config.Config.{Config}
 use Rattle.smith_syntax.specs.Scope.{Scope}
 use Rattle.smith_types.specs.References.{ref_kinds, ref_offers, ref_places}
-use Rattle.smith_types.specs.Scopes.{own_scope}
+use Rattle.smith_scopes.specs.Scopes.{own_scope}
 use Rattle.smith_types.specs.declared.make.references.RefKind.{RefKind}
 use Rattle.smith_types.specs.declared.make.references.RefTotals.{RefTotals}
-use Rattle.smith_types.proofs.ModuleFronts.{both_true}
+use Rattle.smith_scopes.proofs.Plain.{both_true}
 use Rattle.smith_types.proofs.make.references.arbitrary_type_ref.Goals as goal
 
 placed : (n : ℕ) (allowed : Bool) → (nat_lt 0 n && allowed) ≡ true → 0 < n

@@ -1,7 +1,7 @@
 use Rattle.std.proofs.Common.{length, sym, ap, ◌∙◌}
 use Rattle.smith_types.specs.References.{ref_places}
-use Rattle.smith_types.specs.Scopes.{own_scope}
-use Rattle.smith_types.proofs.MakingCore.{length-indexes}
+use Rattle.smith_scopes.specs.Scopes.{own_scope}
+use Rattle.smith_core_types.proofs.MakingCore.{length-indexes}
 use Rattle.smith_types.proofs.make.references.place_count.Goals as goal
 
 pub returns-in-TypeEq-clause-count : goal.returns-in-TypeEq-clause-count

@@ -11,12 +11,12 @@ use Rattle.smith_syntax.specs.declared.deftype.DefType.{DefType}
 use Rattle.smith_syntax.proofs.Shown.{component_import, full_component, full_instance, instance_type_decl}
 use Rattle.smith_types.specs.Declarations.{in_instance, nothing_so_far}
 use Rattle.smith_types.specs.Made.{Made, MadeDeclaration, MadeDeclarations, made_import}
-use Rattle.smith_types.specs.Scopes.{own_scope, outer_scopes}
+use Rattle.smith_scopes.specs.Scopes.{own_scope, outer_scopes}
 use Rattle.smith_types.proofs.Declaring.{declares, same_refl, same_trans, closed_again}
 use Rattle.smith_types.proofs.MadeTypes.{declaration_size}
 use Rattle.smith_types.proofs.MakingTypes.{item_made, type_made, names_stay}
 use Rattle.smith_types.proofs.Progressing.{begins, stops, spends, is_full, goes_on}
-use Rattle.smith_types.proofs.Stack.{length-last, grown}
+use Rattle.smith_scopes.proofs.Stack.{length-last, grown}
 use Rattle.smith_types.proofs.make.scoped.+making.Goals as goal
 
 pub component_declaration-returns-in-Some-clause-made : goal.component_declaration-returns-in-Some-clause-made

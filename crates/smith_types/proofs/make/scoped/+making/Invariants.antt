@@ -2,7 +2,7 @@ use Rattle.std.proofs.Common.{◌+◌, ◌*◌, ◌≤◌, true, false, map}
 use Rattle.smith_input.specs.Reading.{IsTail}
 use Rattle.smith_syntax.specs.Shown.{full_component_decl, full_instance_decl}
 use Rattle.smith_types.specs.MakingTypes.{Progress, SameOuter}
-use Rattle.smith_types.specs.Scopes.{outer_scopes}
+use Rattle.smith_scopes.specs.Scopes.{outer_scopes}
 use Rattle.smith_types.proofs.make.scoped.+making.Given as goal
 
 abbrev pub decreases-made_type : goal.decreases-made_type

@@ -1,5 +1,6 @@
 use Rattle.std.proofs.lemmas.Result.{on_ok_weaker}
-use Rattle.smith_types.proofs.Declaring.{both_on, opened_own, opened_around}
+use Rattle.smith_scopes.proofs.Plain.{both_on}
+use Rattle.smith_types.proofs.Declaring.{opened_own, opened_around}
 use Rattle.smith_types.proofs.make.scoped.open_inner.Goals as goal
 
 pub returns-clause-fresh : goal.returns-clause-fresh

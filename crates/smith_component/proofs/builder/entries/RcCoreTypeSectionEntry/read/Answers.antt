@@ -1,8 +1,8 @@
 use Rattle.std.proofs.Common.{◌∷◌, [], length, length-append, ap, ◌∙◌, arith}
-use Rattle.smith_types.specs.Scopes.{own_scope}
+use Rattle.smith_scopes.specs.Scopes.{own_scope}
 use Rattle.smith_syntax.specs.Scope.{with_core_type}
 use Rattle.smith_syntax.specs.Shown.{shown_core, shown_shared_core}
-use Rattle.smith_types.proofs.Stack.{length-last-core, length-inward, Grown, grown_core}
+use Rattle.smith_scopes.proofs.Stack.{length-last-core, length-inward, Grown, grown_core}
 use Rattle.smith_component.proofs.builder.entries.RcCoreTypeSectionEntry.read.Goals as goal
 
 pub push_core_type-requires : goal.push_core_type-requires

@@ -1,8 +1,8 @@
 use Rattle.std.proofs.Common.{◌∷◌, [], length, length-append, sym, ap, ◌∙◌, refl, arith}
-use Rattle.smith_types.specs.Scopes.{inward, own_scope}
+use Rattle.smith_scopes.specs.Scopes.{inward, own_scope}
 use Rattle.smith_syntax.specs.Scope.{own_of, outer_of, with_type}
 use Rattle.smith_syntax.specs.Shown.{full_type, shown_type, shown_shared}
-use Rattle.smith_types.proofs.Stack.{length-last, length-inward, Grown, grown}
+use Rattle.smith_scopes.proofs.Stack.{length-last, length-inward, Grown, grown}
 use Rattle.smith_component.proofs.builder.entries.RcDefTypeSectionEntry.read.Goals as goal
 
 pub push_type-requires : goal.push_type-requires

@@ -1,0 +1,324 @@
+-- A canonical section as the program makes it.
+use Rattle.std.proofs.Common.{◌≡◌, ◌⊎◌, inl, inr, ℕ, ◌+◌, ◌-◌, ◌<◌, ◌≤◌, Bool, true, false, List, [], ◌∷◌, ◌++◌, map, length, get_or, sym, ap, ◌∙◌, subst, arith, append-nil, append_assoc, length-append, Some}
+use Rattle.std.proofs.lemmas.Bool.{false≢true}
+use Rattle.std.proofs.lemmas.List.{map-append, nil_from_length}
+use Rattle.std.proofs.lemmas.Option.{get_or_from_slice_get, slice_get-get_or, slice_get_within}
+use Rattle.std.specs.Prelude.{slice_get}
+use Rattle.std.specs.declared.alloc.Global.{Global}
+use Rattle.std.specs.declared.rc.Rc.{Rc}
+use Rattle.smith_input.specs.Choices.{ReadsAmong}
+use Rattle.smith_input.specs.Loops.{Loop}
+use Rattle.smith_input.specs.Reading.{Reads}
+use Rattle.smith_input.proofs.Choices.{among}
+use Rattle.smith_core.specs.CoreTypes.{Function}
+use Rattle.smith_core.specs.declared.config.Config.{Config}
+use Rattle.smith_syntax.specs.Entries.{Entry, Signature, function, plain}
+use Rattle.smith_syntax.specs.Flat.{Flattens, is_scalar}
+use Rattle.smith_syntax.specs.Scope.{Scope, is_func, places, with_type}
+use Rattle.smith_syntax.specs.Shown.{has_signature, is_of_signature, shown_shared, shown_type}
+use Rattle.smith_syntax.specs.declared.deftype.DefType.{DefType}
+use Rattle.smith_syntax.specs.declared.deftype.DefType.TheVariants as def
+use Rattle.smith_syntax.specs.declared.deftype.ComponentType.{ComponentType}
+use Rattle.smith_syntax.specs.declared.deftype.InstanceType.{InstanceType}
+use Rattle.smith_syntax.specs.declared.func.FuncType.{FuncType}
+use Rattle.smith_syntax.specs.declared.types.DefinedType.{DefinedType}
+use Rattle.smith_syntax.proofs.Shown.{full_defined, full_func, full_component, full_instance}
+use Rattle.smith_types.specs.Lifting.{ReadsLifted}
+use Rattle.smith_scopes.specs.Scopes.{AddsType, Contents, last_of, own_scope}
+use Rattle.smith_types.proofs.Declaring.{equal_shown}
+use Rattle.smith_scopes.proofs.Stack.{grown as scopes_grown, length-last}
+use Rattle.smith_component.specs.Canonicals.{CanonTurn, Growing, NoCanon, ReadsCanons, empty_section, equal_types, grown, spaces_at, with_canon, with_defined, LiftsTo, to_equal, to_defined, given_up, ReadsLift, ReadsLower}
+use Rattle.smith_component.specs.Draft.{IsDraft, IsDrafted, IsLowered, KeepsFront, LiftsAs, growing}
+use Rattle.smith_component.specs.Shown.{shown_canon, shown_sections}
+use Rattle.smith_component.specs.Tables.{AddsCoreFunction, AddsFunction, IsLowerable, Tabled}
+use Rattle.smith_component.specs.Tree.{Tree, Canon, add, canons, types, lift, lower, core_functions_of, function_count}
+use Rattle.smith_component.specs.WellFormed.{scope_of}
+use Rattle.smith_component.specs.declared.builder.open.OpenComponent.{OpenComponent}
+use Rattle.smith_component.specs.declared.builder.tables.Tables.{Tables}
+use Rattle.smith_component.specs.declared.component.Func.{Func}
+use Rattle.smith_component.specs.declared.component.Func.TheVariants.{CanonLift, CanonLower}
+use Rattle.smith_component.specs.declared.component.Section.{Section}
+use Rattle.smith_component.specs.declared.item.CanonItem.{CanonItem}
+use Rattle.smith_component.proofs.ReadsCanons.{with_signature, spaces_signature}
+use Rattle.smith_component.proofs.Spaces.{IsScalarFunction, all_at, equal_at, equal_own, imports_canons, imports_types, scope_canons, spaces_canon, spaces_canons}
+use Rattle.smith_component.proofs.Tables.{scalar_at, tabled_core_function, tabled_function, tabled_quiet, tabled_types}
+
+-- one function more in the section
+pub funcs_more : (old new : List Func) (f : Func) → new ≡ old ++ f ∷ [] → map shown_canon new ≡ map shown_canon old ++ shown_canon f ∷ []
+funcs_more old new f e = ap (map shown_canon) e ∙ map-append shown_canon old (f ∷ [])
+
+pub growing_more : (old new : OpenComponent) (fs gs : List Func) (f : Func) → new.sections.items ≡ old.sections.items → gs ≡ fs ++ f ∷ [] → growing new gs ≡ with_canon (growing old fs) (shown_canon f)
+growing_more old new fs gs f e more =
+    let parts : shown_sections new.sections.items ≡ shown_sections old.sections.items = ap shown_sections e in
+    let funcs = funcs_more fs gs f more in
+    λ i. record { before = parts i; funcs = funcs i }
+
+-- The tables, where the section has one function more.
+
+tabled_lower : {old new : Tables} (s : Growing) (f : ℕ) → IsScalarFunction (spaces_at s) f → Tabled old (grown s) → AddsCoreFunction old f new → Tabled new (grown (with_canon s (lower f)))
+tabled_lower s f scalar tabled adds =
+    let e = spaces_canon s.before s.funcs (lower f) in
+    tabled_core_function (grown s) (grown (with_canon s (lower f))) scalar tabled adds (ap (λ z. z.types) e) (ap (λ z. z.functions) e ∙ append-nil (spaces_at s).functions) (ap (λ z. z.core_functions) e)
+    (imports_canons s.before (s.funcs ++ lower f ∷ []) ∙ sym (imports_canons s.before s.funcs))
+
+tabled_lift : {own : Scope} {old new : Tables} (s : Growing) (c t : ℕ) → own ≡ scope_of (grown s) → t < length own.types → Tabled old (grown s) → AddsFunction own old t new → Tabled new (grown (with_canon s (lift c t)))
+tabled_lift {own} s c t is known tabled adds =
+    let e = spaces_canon s.before s.funcs (lift c t) in
+    tabled_function (grown s) (grown (with_canon s (lift c t))) is (omega (arith, known, ap (λ z. length z.types) is)) tabled adds
+    (ap (λ z. z.types) e) (ap (λ z. z.functions) e) (ap (λ z. z.core_functions) e ∙ append-nil (spaces_at s).core_functions)
+    (imports_canons s.before (s.funcs ++ lift c t ∷ []) ∙ sym (imports_canons s.before s.funcs))
+
+tabled_signature : {tables : Tables} (s : Growing) (signature : Signature) → Tabled tables (grown s) → Tabled tables (grown (with_signature s signature))
+tabled_signature s signature tabled =
+    let es : List Entry = function signature ∷ [] in
+    let e = spaces_signature s signature in
+    tabled_types (grown s) (grown (with_signature s signature)) es tabled (ap (λ z. z.types) e) (ap (λ z. z.functions) e) (ap (λ z. z.core_functions) e) (imports_canons (add (grown s) (types es)) [] ∙ imports_types (grown s) es)
+
+scope_canon : (s : Growing) (c : Canon) → scope_of (grown (with_canon s c)) ≡ scope_of (grown s)
+scope_canon s c = scope_canons s.before (s.funcs ++ c ∷ []) ∙ sym (scope_canons s.before s.funcs)
+
+scope_signature : (s : Growing) (signature : Signature) → scope_of (grown (with_signature s signature)) ≡ with_type (scope_of (grown s)) (function signature)
+scope_signature s signature = ap (λ z. record { types = z.types; core_types = z.core_types }) (spaces_signature s signature)
+
+-- A function is lowered.
+module _ (old new : OpenComponent) (fs gs : List Func) (items b rest : List ℕ) (f : ℕ) (tabled : Tabled old.tables (grown (growing old fs))) (are : items ≡ old.tables.scalars.items) (chosen : (k : ℕ) × Reads (length items) b k rest × (slice_get items k ≡ Some f)) (same : new.sections.items ≡ old.sections.items) (more : gs ≡ fs ++ CanonLower f ∷ []) where
+  pub lower_reads : ReadsLower (growing old fs) b rest (growing new gs)
+  lower_reads = (f, subst (λ xs. ReadsAmong xs b f rest) (are ∙ tabled.scalars) (among chosen), growing_more old new fs gs (CanonLower f) same more)
+
+  pub lower_tabled : AddsCoreFunction old.tables f new.tables → Tabled new.tables (grown (growing new gs))
+  lower_tabled adds =
+      let s : Growing = growing old fs in
+      let scalar = scalar_at (grown s) chosen.0 f (ap (λ xs. slice_get xs chosen.0) (sym (are ∙ tabled.scalars)) ∙ chosen.2) in
+      subst (λ z. Tabled new.tables (grown z)) (sym (growing_more old new fs gs (CanonLower f) same more)) (tabled_lower s f scalar tabled adds)
+
+-- A component stays a draft where a function is lowered.
+pub lower_draft : (old new : OpenComponent) (fs gs : List Func) (scopes : List Contents) (b rest : List ℕ) → IsDraft scopes old fs → ReadsLower (growing old fs) b rest (growing new gs) → Tabled new.tables (grown (growing new gs)) → IsDraft scopes new gs
+lower_draft old new fs gs scopes b rest d (f, among, e) tabled = record {
+  scope_is = d.scope_is ∙ sym (ap (λ z. scope_of (grown z)) e ∙ scope_canon (growing old fs) (lower f));
+  tabled = tabled;
+}
+
+-- The function type of the component function that a core function lowers.
+
+pub shown_function : (f : Rc FuncType Global) → shown_type (def.Func f) ≡ function f.value
+shown_function f = ap plain (full_func f)
+
+same_function : (e : Entry) (a b : Signature) → e ≡ function a → e ≡ function b → a ≡ b
+same_function e a b p q = cc
+
+some_same : {A : Type 0} (x y : A) → Some x ≡ Some y → x ≡ y
+some_same x y e = cc
+
+no_function : (e : Entry) (s : Signature) → is_func e ≡ false → e ≡ function s → ⊥
+no_function e s h is = false≢true (sym h ∙ ap is_func is)
+
+-- a defined type, or the type of a component or of an instance
+abbrev pub IsOther : DefType → Type 0
+IsOther t = ((d : DefinedType) × (t ≡ def.Defined d)) ⊎ (((d : Rc ComponentType Global) × (t ≡ def.Component d)) ⊎ ((d : Rc InstanceType Global) × (t ≡ def.Instance d)))
+
+no_other : (t : DefType) (s : Signature) → shown_type t ≡ function s → IsOther t → ⊥
+no_other t s e (inl d) = no_function (shown_type t) s (ap (λ x. is_func (shown_type x)) d.1 ∙ ap (λ x. is_func (plain x)) (full_defined d.0)) e
+no_other t s e (inr (inl d)) = no_function (shown_type t) s (ap (λ x. is_func (shown_type x)) d.1 ∙ ap (λ x. is_func (plain x)) (full_component d.0)) e
+no_other t s e (inr (inr d)) = no_function (shown_type t) s (ap (λ x. is_func (shown_type x)) d.1 ∙ ap (λ x. is_func (plain x)) (full_instance d.0)) e
+
+module _ (scopes : List Contents) (tables : Tables) (c i t : ℕ) (known : IsLowered (own_scope scopes) tables c) (at : i ≡ get_or tables.core_functions.items c i) (of : t ≡ get_or tables.functions.items i t) where
+  index_is : i ≡ known.1.f
+  index_is = at ∙ get_or_from_slice_get tables.core_functions.items c known.1.f i known.1.lowers
+
+  stands_is : slice_get tables.functions.items i ≡ Some known.1.ty
+  stands_is = ap (slice_get tables.functions.items) index_is ∙ known.1.stands
+
+  type_is : t ≡ known.1.ty
+  type_is = of ∙ get_or_from_slice_get tables.functions.items i known.1.ty t stands_is
+
+  lowered_at : slice_get (own_scope scopes).types t ≡ Some (function known.0)
+  lowered_at = ap (slice_get (own_scope scopes).types) type_is ∙ known.1.is
+
+  pub lowered_within : t < length (last_of scopes).types
+  lowered_within = omega (arith, slice_get_within (own_scope scopes).types t (function known.0) lowered_at, length-last scopes)
+
+  module _ (ty : DefType) (here : slice_get (last_of scopes).types t ≡ Some ty) where
+    pub lowered_shown : shown_type ty ≡ function known.0
+    lowered_shown = some_same (shown_type ty) (function known.0) (sym (equal_shown scopes t ty here) ∙ lowered_at)
+
+    -- It is of no other type.
+    pub lowered_other : (other : DefType) → other ≡ ty → IsOther other → ⊥
+    lowered_other other e is = no_other ty known.0 lowered_shown (subst IsOther e is)
+
+    module _ (f : Rc FuncType Global) (is : ty ≡ def.Func f) where
+      lowered_is : f.value ≡ known.0
+      lowered_is = same_function (shown_type ty) f.value known.0 (ap shown_type is ∙ shown_function f) lowered_shown
+
+      pub lowered_scalar : is_scalar f.value ≡ true
+      lowered_scalar = ap is_scalar lowered_is ∙ known.2
+
+      -- It is read how the core function is lifted.
+      pub lifts_as : (core : Function) (lowered signature : Signature) (b rest : List ℕ) → lowered ≡ f.value → Flattens lowered core → ReadsLifted core b signature rest → LiftsAs (own_scope scopes) tables c b signature rest
+      lifts_as core lowered signature b rest e flat reads = record {
+        lowered = lowered;
+        core = core;
+        of = record { f = known.1.f; ty = known.1.ty; lowers = known.1.lowers; stands = known.1.stands; is = known.1.is ∙ ap (λ s. Some (function s)) (sym (e ∙ lowered_is)) };
+        flattens = flat;
+        reads = reads;
+      }
+
+-- What is known of a draft.
+module _ (scopes : List Contents) (component : OpenComponent) (funcs : List Func) (d : IsDraft scopes component funcs) where
+  abbrev s : Growing
+  s = growing component funcs
+
+  -- A core function lowers one that can be lowered.
+  pub draft_lowered : (c : ℕ) → c < length component.tables.core_functions.items → IsLowered (own_scope scopes) component.tables c
+  draft_lowered c h =
+      let items : List ℕ = component.tables.core_functions.items in
+      let f : ℕ = get_or items c 0 in
+      let at : slice_get items c ≡ Some f = slice_get-get_or items c 0 h in
+      let l : IsLowerable (grown s) f = all_at (IsLowerable (grown s)) (core_functions_of (grown s)) c f d.tabled.grounded.lowered (ap (λ xs. slice_get xs c) (sym d.tabled.core_functions) ∙ at) in (
+        l.0,
+        record {
+          f = f;
+          ty = l.1.ty;
+          lowers = at;
+          stands = ap (λ xs. slice_get xs f) d.tabled.functions ∙ l.1.stands;
+          is = ap (λ z. slice_get z.types l.1.ty) d.scope_is ∙ l.1.is;
+        },
+        l.2,
+      )
+
+  equal_are : (signature : Signature) → places (has_signature signature) 0 (last_of scopes).types ≡ equal_types s signature
+  equal_are signature = equal_own scopes signature ∙ ap (λ z. places (is_of_signature signature) 0 z.types) d.scope_is
+
+  -- One of the types that are equal is there.
+  pub equal_within : (signature : Signature) (k t : ℕ) → slice_get (places (has_signature signature) 0 (last_of scopes).types) k ≡ Some t → t < length (own_scope scopes).types
+  equal_within signature k t h =
+      let e : slice_get (equal_types s signature) k ≡ Some t = ap (λ xs. slice_get xs k) (sym (equal_are signature)) ∙ h in
+      omega (arith, slice_get_within (spaces_at s).types t (function signature) (equal_at (spaces_at s).types signature k t e), ap (λ z. length z.types) d.scope_is)
+
+  -- A lift is read by where it leads.
+  module _ (config : Config) (n c : ℕ) (signature : Signature) (b mid low rest : List ℕ) (next : Growing) (count : n ≡ length component.tables.core_functions.items) (chosen : Reads n b c mid) (lifts : LiftsAs (own_scope scopes) component.tables c mid signature low) where
+    pub lift_reads : LiftsTo config s c signature low rest next → ReadsLift config s b rest next
+    lift_reads to = record {
+      c = c;
+      mid = mid;
+      low = low;
+      f = lifts.of.f;
+      lowered = lifts.lowered;
+      core = lifts.core;
+      signature = signature;
+      chooses = subst (λ m. Reads m b c mid) (count ∙ ap length d.tabled.core_functions) chosen;
+      lowers = ap (λ xs. slice_get xs c) (sym d.tabled.core_functions) ∙ lifts.of.lowers;
+      of = record {
+        ty = lifts.of.ty;
+        stands = ap (λ xs. slice_get xs lifts.of.f) (sym d.tabled.functions) ∙ lifts.of.stands;
+        is = ap (λ z. slice_get z.types lifts.of.ty) (sym d.scope_is) ∙ lifts.of.is;
+      };
+      flattens = lifts.flattens;
+      reads = lifts.reads;
+      lifts = to;
+    }
+
+    -- to one of the types that are equal
+    pub lift_equal : (m k t : ℕ) → m ≡ length (places (has_signature signature) 0 (last_of scopes).types) → Reads m low k rest → slice_get (places (has_signature signature) 0 (last_of scopes).types) k ≡ Some t → next ≡ with_canon s (lift c t) → ReadsLift config s b rest next
+    lift_equal m k t many read at e =
+        let r : ReadsAmong (places (has_signature signature) 0 (last_of scopes).types) low t rest = record { place = k; reads = subst (λ z. Reads z low k rest) many read; named = at } in
+        lift_reads (to_equal (subst (λ xs. ReadsAmong xs low t rest) (equal_are signature) r) e)
+
+    none_equal : (m : ℕ) → m ≡ length (places (has_signature signature) 0 (last_of scopes).types) → m ≤ 0 → equal_types s signature ≡ []
+    none_equal m many none = sym (equal_are signature) ∙ nil_from_length (places (has_signature signature) 0 (last_of scopes).types) (omega (arith, many, none))
+
+    -- to one that it defines
+    pub lift_defined : (m : ℕ) → m ≡ length (places (has_signature signature) 0 (last_of scopes).types) → m ≤ 0 → length (own_scope scopes).types < config.max_types → rest ≡ low → next ≡ with_defined s c signature → ReadsLift config s b rest next
+    lift_defined m many none room left e = lift_reads (to_defined (none_equal m many none) (omega (arith, room, ap (λ z. length z.types) d.scope_is)) left e)
+
+    -- or not at all
+    pub lift_given_up : (m : ℕ) → m ≡ length (places (has_signature signature) 0 (last_of scopes).types) → m ≤ 0 → config.max_types ≤ length (own_scope scopes).types → rest ≡ low → next ≡ s → ReadsLift config s b rest next
+    lift_given_up m many none full left e = lift_reads (given_up (none_equal m many none) (omega (arith, full, ap (λ z. length z.types) d.scope_is)) left e)
+
+  -- It stays a draft where a core function is lifted to a type that is there.
+  pub lift_draft : (new : OpenComponent) (more : List Func) (c t : ℕ) → t < length (own_scope scopes).types → AddsFunction (own_scope scopes) component.tables t new.tables → growing new more ≡ with_canon s (lift c t) → IsDraft scopes new more
+  lift_draft new more c t known adds e = record {
+    scope_is = d.scope_is ∙ sym (ap (λ z. scope_of (grown z)) e ∙ scope_canon s (lift c t));
+    tabled = subst (λ z. Tabled new.tables (grown z)) (sym e) (tabled_lift s c t d.scope_is known d.tabled adds);
+  }
+
+  -- It stays one where the type is defined.
+  module _ (after : List Contents) (new : OpenComponent) (more : List Func) (c t : ℕ) (signature : Signature) (ty : DefType) (shows : shown_type ty ≡ function signature) (grows : AddsType scopes ty after) (e : growing new more ≡ with_defined s c signature) where
+    scope_after : own_scope after ≡ scope_of (grown (with_signature s signature))
+    scope_after = (scopes_grown scopes after ty grows).own ∙ (ap (with_type (own_scope scopes)) shows ∙ (ap (λ z. with_type z (function signature)) d.scope_is ∙ sym (scope_signature s signature)))
+
+    pub define_draft : t ≡ length (last_of scopes).types → AddsFunction (own_scope after) component.tables t new.tables → IsDraft after new more
+    define_draft index adds =
+        let u : Growing = with_signature s signature in
+        let at : t ≡ length (spaces_at s).types = omega (arith, index, length-last scopes, ap (λ z. length z.types) d.scope_is) in
+        let known : t < length (own_scope after).types = omega (arith, at, ap (λ z. length z.types) scope_after, ap (λ z. length z.types) (spaces_signature s signature), length-append (spaces_at s).types (function signature ∷ [])) in
+        let tabled = tabled_lift u c t scope_after known (tabled_signature s signature d.tabled) adds in
+        let same : growing new more ≡ with_canon u (lift c t) = e ∙ ap (λ n. with_canon u (lift c n)) (sym at) in
+        record {
+          scope_is = scope_after ∙ sym (ap (λ z. scope_of (grown z)) same ∙ scope_canon u (lift c t));
+          tabled = subst (λ z. Tabled new.tables (grown z)) (sym same) tabled;
+        }
+
+  pub type_index : (t : ℕ) → t ≡ length (last_of scopes).types → t ≡ length (spaces_at s).types
+  type_index t index = omega (arith, index, length-last scopes, ap (λ z. length z.types) d.scope_is)
+
+-- The section ends, the type is defined, and another section begins.
+pub defines : (s : Growing) (c t : ℕ) (signature : Signature) (middle last : Tree) (ended made : List Func) (entries : List (Rc DefType Global)) (shared : Rc DefType Global)
+    → middle ≡ add s.before (canons (map shown_canon ended)) → map shown_canon ended ≡ s.funcs → last ≡ add middle (types (map shown_shared entries)) → entries ≡ shared ∷ [] → shown_type shared.value ≡ function signature → made ≡ CanonLift t c ∷ []
+    → t ≡ length (spaces_at s).types → record { before = last; funcs = map shown_canon made } ≡ with_defined s c signature
+defines s c t signature middle last ended made entries shared a b e f g h index =
+    let es : map shown_shared entries ≡ function signature ∷ [] = ap (map shown_shared) f ∙ ap (λ x. x ∷ []) g in
+    let before : last ≡ add (grown s) (types (function signature ∷ [])) = e ∙ (ap (λ z. add z (types (map shown_shared entries))) (a ∙ ap (λ fs. add s.before (canons fs)) b) ∙ ap (λ xs. add (grown s) (types xs)) es) in
+    let funcs : map shown_canon made ≡ lift c (length (spaces_at s).types) ∷ [] = ap (map shown_canon) h ∙ ap (λ n. lift c n ∷ []) index in
+    λ i. record { before = before i; funcs = funcs i }
+
+-- Before the first turn the section is empty.
+
+pub first_growing : (component : OpenComponent) (funcs : List Func) → funcs ≡ [] → growing component funcs ≡ empty_section (shown_sections component.sections.items)
+first_growing component funcs none = let e = ap (map shown_canon) none in λ i. record { before = shown_sections component.sections.items; funcs = e i }
+
+pub first_draft : (scopes : List Contents) (component : OpenComponent) (funcs : List Func) → funcs ≡ [] → own_scope scopes ≡ scope_of (shown_sections component.sections.items) → Tabled component.tables (shown_sections component.sections.items) → IsDraft scopes component funcs
+first_draft scopes component funcs none is tabled =
+    let t : Tree = shown_sections component.sections.items in
+    let e = spaces_canons t [] in
+    let same = first_growing component funcs none in
+    record {
+      scope_is = is ∙ sym (ap (λ z. scope_of (grown z)) same ∙ scope_canons t []);
+      tabled = subst (λ z. Tabled component.tables (grown z)) (sym same)
+          (tabled_quiet t (add t (canons [])) tabled (ap (λ z. z.types) e) (ap (λ z. z.functions) e) (ap (λ z. z.core_functions) e) (imports_canons t []));
+    }
+
+pub first_count : (component : OpenComponent) (funcs : List Func) → funcs ≡ [] → function_count (grown (growing component funcs)) ≡ function_count (shown_sections component.sections.items)
+first_count component funcs none =
+    let t : Tree = shown_sections component.sections.items in
+    ap (λ z. function_count (grown z)) (first_growing component funcs none) ∙ ap (λ z. length z.functions + length z.core_functions) (spaces_canons t [])
+
+-- All turns together.
+pub all_read : (config : Config) (least most : ℕ) (t : Tree) (first next : Growing) (b rest : List ℕ) → first ≡ empty_section t → most ≡ config.max_funcs - function_count t
+    → (turns : List CanonItem) × Loop NoCanon (CanonTurn config) least most 0 first b turns rest next → (last : Tree) → last ≡ grown next
+    → (turns : List CanonItem) × (next : Growing) × ReadsCanons config least t b turns rest next × (last ≡ grown next)
+all_read config least most t first next b rest e m (turns, l) last is =
+    let P : Growing → Type 0 = λ s. Loop NoCanon (CanonTurn config) least most 0 s b turns rest next in
+    let Q : ℕ → Type 0 = λ n. Loop NoCanon (CanonTurn config) least n 0 (empty_section t) b turns rest next in
+    (turns, next, subst Q m (subst P e l), is)
+
+-- What stood in front stays in front.
+
+pub front_same : (old new : OpenComponent) → new.sections.items ≡ old.sections.items → KeepsFront old new
+front_same old new e = record { more = []; sections = e ∙ sym (append-nil old.sections.items) }
+
+pub front_then : (old mid new : OpenComponent) → KeepsFront old mid → KeepsFront mid new → KeepsFront old new
+front_then old mid new f g = record {
+  more = f.more ++ g.more;
+  sections = g.sections ∙ (ap (λ xs. xs ++ g.more) f.sections ∙ append_assoc old.sections.items f.more g.more);
+}
+
+pub front_push : (old mid new : OpenComponent) (section : Section) → KeepsFront old mid → new.sections.items ≡ mid.sections.items ++ section ∷ [] → KeepsFront old new
+front_push old mid new section f e = front_then old mid new f (record { more = section ∷ []; sections = e })
+
+-- What a turn of the program is.
+
+pub drafted_ends : (config : Config) (s next : Growing) (b rest : List ℕ) (made : Bool) → made ≡ false → IsDrafted config s b made rest next → NoCanon s b rest next
+drafted_ends config s next b rest made e d = subst (λ m. IsDrafted config s b m rest next) e d
+
+pub drafted_turn : (config : Config) (s next : Growing) (b rest : List ℕ) (made : Bool) → made ≡ true → IsDrafted config s b made rest next → (item : CanonItem) × CanonTurn config s b item rest next
+drafted_turn config s next b rest made e d = subst (λ m. IsDrafted config s b m rest next) e d

@@ -1,0 +1,91 @@
+-- What filling gives, and builders that follow one another.
+use Rattle.std.proofs.Common.{◌≡◌, ℕ, ◌+◌, ◌-◌, ◌<◌, ◌≤◌, List, [], ◌∷◌, ◌++◌, length, map, arith, ap, sym, subst, ◌∙◌, refl, inl, inr, append-nil, append_assoc, length-append, Result, IfErr}
+use Rattle.std.proofs.lemmas.Result.{err_from_is_err_and}
+use Rattle.std.specs.Result.{IsErrAnd}
+use Rattle.smith_input.specs.declared.error.Error.{Error}
+use Rattle.smith_input.specs.declared.error.Error.TheVariants.{OutOfMemory}
+use Rattle.smith_core.specs.declared.config.Config.{Config}
+use Rattle.smith_component.specs.Building.{Building, open_of}
+use Rattle.smith_component.specs.Limits.{Minima}
+use Rattle.smith_component.specs.Open.{Open, scopes_in, with_inner}
+use Rattle.smith_component.specs.Shown.{shown_sections}
+use Rattle.smith_component.specs.Steps.{AddsSections, ClosesSections, KeepsSections, StaysSound}
+use Rattle.smith_component.specs.Tree.{Tree, types, imports, add, types_in, imports_in, types_of, imports_of, function_count}
+use Rattle.smith_component.specs.Refusals.{IsFillRefusal}
+use Rattle.smith_component.specs.Turn.{AddsTypes, Closes, FillsAll, FillsImports, FillsFunctions, Next}
+use Rattle.smith_component.specs.declared.builder.Step.{Step}
+use Rattle.smith_component.specs.declared.builder.Step.TheVariants.{StillBuilding, Finished}
+use Rattle.smith_component.specs.declared.component.Section.{Section}
+use Rattle.smith_component.specs.declared.component.Section.TheVariants.{Component}
+use Rattle.smith_component.proofs.ReadsCanons.{canons_grow}
+use Rattle.smith_component.proofs.ReadsTypes.{types_enough}
+use Rattle.smith_component.proofs.Tables.{own_bare}
+use Rattle.smith_component.proofs.Tree.{length-own-add}
+
+-- the exit of a refusal
+pub refused : {T : Type 0} (r : Result T Error) (e : Error) (P : Error → Type 0) → IsErrAnd r (λ y. y ≡ e) → P e → IfErr r P
+refused r e P h p =
+    let s = err_from_is_err_and r h in
+    subst (λ x. IfErr x P) (sym s.1) (subst P (sym s.2) p)
+
+-- A type section has at least as many types as it must.
+pub types_filled : (config : Config) (stack : Open) (min : ℕ) (b rest : List ℕ) (t : Tree) → length (types_of stack.inner) + min ≤ config.max_types → AddsTypes config min stack b t rest → length (types_of stack.inner) + min ≤ length (types_of t)
+types_filled config stack min b rest t room (xs, scope, reads, e) =
+    omega (arith, types_enough config (scopes_in stack.outer) (let z : min ≤ config.max_types - length (types_of stack.inner) = omega (arith, room) in z) reads, ap (λ u. length (types_of u)) e, length-own-add types_in stack.inner (types xs))
+
+-- Sections more, and more again.
+pub adds_trans : {a b c : Building} → AddsSections a b → AddsSections b c → AddsSections a c
+adds_trans {a} {b} {c} f g = record {
+  more = f.more ++ g.more;
+  outer = g.outer ∙ f.outer;
+  inner = g.inner ∙ (ap (λ ss. ss ++ g.more) f.inner ∙ append_assoc a.inner f.more g.more);
+}
+
+-- A fact of a builder with the same components around its inner one.
+pub moved : (F : Config → Open → Type 0) (a b : Building) → b.config ≡ a.config → b.outer ≡ a.outer → F b.config (open_of b) → F a.config (with_inner (open_of a) (open_of b).inner)
+moved F a b c o f =
+    let G : List (List Section) → Type 0 = λ us. F b.config (record { outer = map shown_sections us; inner = shown_sections b.inner }) in
+    subst (λ k. F k (with_inner (open_of a) (open_of b).inner)) c (subst G o f)
+
+imports_types : (config : Config) (stack : Open) (b rest : List ℕ) (t : Tree) → FillsImports config stack b t rest → types_of t ≡ types_of stack.inner
+imports_types config stack b rest t (inl (enough, same, left)) = ap types_of same
+imports_types config stack b rest t (inr (lacks, (is, reads, e))) = ap types_of e ∙ own_bare types_in stack.inner (imports is) refl
+
+functions_keep : (config : Config) (stack : Open) (b rest : List ℕ) (t : Tree) → FillsFunctions config stack b t rest → (imports_of t ≡ imports_of stack.inner) × (length (types_of stack.inner) ≤ length (types_of t))
+functions_keep config stack b rest t (inl (enough, same, left)) = (ap imports_of same, omega (arith, ap (λ u. length (types_of u)) same))
+functions_keep config stack b rest t (inr (lacks, (turns, next, reads, e))) =
+    let g = canons_grow config _ stack.inner reads in
+    (ap imports_of e ∙ g.0, omega (arith, g.2, ap (λ u. length (types_of u)) e))
+
+-- What is filled has what it must have.
+pub filled_minima : (config : Config) (stack : Open) (b rest : List ℕ) (full : Tree) (f : FillsAll config stack b full rest) → config.min_types ≤ length (types_of f.typed) → Minima config full
+filled_minima config stack b rest full f h =
+    let i = imports_types config (with_inner stack f.typed) _ _ f.imported f.imports in
+    let k = functions_keep config (with_inner stack f.imported) _ _ full f.functions in
+    record {
+      types = omega (arith, h, ap length i, k.1);
+      imports = omega (arith, f.enough_imports, ap length k.0);
+      functions = f.enough_functions;
+    }
+
+more_in_front : (a b : Building) (f : AddsSections a b) (more : List Section) → b.inner ++ more ≡ a.inner ++ (f.more ++ more)
+more_in_front a b f more = ap (λ ss. ss ++ more) f.inner ∙ append_assoc a.inner f.more more
+
+-- A component that has more sections is closed.
+pub closes_after : (a b : Building) (s : Step) → AddsSections a b → ClosesSections b s → KeepsSections a s
+closes_after a b (StillBuilding new) f g = inr (inr (record {
+  parent = g.parent;
+  more = f.more ++ g.more;
+  outer = sym f.outer ∙ g.outer;
+  inner = g.inner ∙ ap (λ ss. g.parent ++ Component (shown_sections ss) ∷ []) (more_in_front a b f g.more);
+}))
+closes_after a b (Finished c) f g = (sym f.outer ∙ g.0, f.more ++ g.1, g.2 ∙ ap shown_sections (more_in_front a b f g.1))
+
+-- The same components are around it.
+pub closes_filled : (a b : Building) (n : Next) → b.outer ≡ a.outer → Closes (open_of b) n → Closes (with_inner (open_of a) (open_of b).inner) n
+closes_filled a b n e h =
+    let C : List (List Section) → Type 0 = λ us. Closes (record { outer = map shown_sections us; inner = shown_sections b.inner }) n in
+    subst C e h
+
+pub memory_fill : (config : Config) (stack : Open) (b : List ℕ) (e : Error) → e ≡ OutOfMemory → IsFillRefusal config stack b e
+memory_fill config stack b e h = subst (IsFillRefusal config stack b) (sym h) tt

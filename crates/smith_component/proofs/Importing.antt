@@ -1,0 +1,125 @@
+-- Imports as they are counted: each finds room, and the counts grow with the section.
+use Rattle.std.proofs.Common.{◌≡◌, ℕ, ◌+◌, ◌≤◌, ◌&&◌, max, Bool, true, false, List, [], ◌∷◌, ◌++◌, length, arith, refl, sym, ap, subst, length-append, nat_lt}
+use Rattle.std.specs.List.{flat_map}
+use Rattle.std.proofs.lemmas.Bool.{false≢true}
+use Rattle.std.proofs.lemmas.Bool.Decides.{nat_tests}
+use Rattle.smith_input.proofs.Offered.{offer_holds}
+use Rattle.smith_core.specs.declared.config.Config.{Config}
+use Rattle.smith_syntax.specs.Entries.{ImportEntry}
+use Rattle.smith_syntax.specs.Scope.{Scope}
+use Rattle.smith_syntax.specs.declared.deftype.ComponentTypeRef.{ComponentTypeRef}
+use Rattle.smith_types.specs.References.{ReadsRef, allows_one, has_place, ref_offers, ref_to}
+use Rattle.smith_types.specs.declared.make.references.RefKind.TheVariants as kind
+use Rattle.smith_types.specs.declared.make.references.RefTotals.{RefTotals}
+use Rattle.smith_scopes.proofs.Plain.{both_true}
+use Rattle.smith_component.specs.Importing.{Importing, Totalled}
+use Rattle.smith_component.specs.Imports.{totals_of, with_imports}
+use Rattle.smith_component.specs.Open.{Open}
+use Rattle.smith_component.specs.Tables.{Tabled}
+use Rattle.smith_component.specs.Tree.{imports, add, types_in, functions_in, core_functions_in, imports_in, function_of, module_of, component_of, instance_of}
+use Rattle.smith_component.specs.WellFormed.{scope_of}
+use Rattle.smith_component.specs.declared.builder.tables.Tables.{Tables}
+use Rattle.smith_component.specs.declared.builder.totals.TreeTotals.{TreeTotals}
+use Rattle.smith_component.proofs.Sound.{component_count-so_far, instance_count-so_far, module_count-so_far}
+use Rattle.smith_component.proofs.Tables.{flat_map_more, own_bare, tabled_quiet}
+use Rattle.smith_component.proofs.Tree.{length-own-add}
+
+-- Room for what is imported: where one more is counted, it finds room.
+pub record RefRoom (config : Config) (totals : RefTotals) (r : ComponentTypeRef) : Type 0 where
+  pub modules : totals.modules + length (module_of r) ≤ max totals.modules config.max_modules
+  pub funcs : totals.funcs + length (function_of r) ≤ max totals.funcs config.max_funcs
+  pub components : totals.components + length (component_of r) ≤ max totals.components config.max_components
+  pub instances : totals.instances + length (instance_of r) ≤ max totals.instances config.max_instances
+
+-- one more, where it is allowed
+one_allowed : (has : Bool) (count most : ℕ) → (has && allows_one true false count most) ≡ true → count + 1 ≤ max count most
+one_allowed has count most e = let lt : nat_lt count most ≡ true = (both_true has (nat_lt count most) e).1 in grind (arith, nat_tests, lt)
+
+-- An import that is read finds room.
+pub import_room : (config : Config) (own : Scope) (totals : RefTotals) (b : List ℕ) (r : ComponentTypeRef) (rest : List ℕ) → ReadsRef config own totals true false b r rest → RefRoom config totals r
+import_room config own totals b r rest h = subst (RefRoom config totals) (sym h.is) (each h.index)
+  where
+    none : (count most : ℕ) → count + 0 ≤ max count most
+    none count most = omega arith
+
+    each : (i : ℕ) → RefRoom config totals (ref_to h.kind i)
+    each =
+        offer_holds (λ k. (i : ℕ) → RefRoom config totals (ref_to k i)) (ref_offers config own totals true false) (
+          λ t i. record {
+            modules = one_allowed (has_place own kind.Module) totals.modules config.max_modules t;
+            funcs = none totals.funcs config.max_funcs;
+            components = none totals.components config.max_components;
+            instances = none totals.instances config.max_instances;
+          },
+          (
+            λ t. absurd (false≢true (both_true (has_place own kind.TypeEq) false t).1),
+            (
+              λ t i. record {
+                modules = none totals.modules config.max_modules;
+                funcs = one_allowed (has_place own kind.Func) totals.funcs config.max_funcs t;
+                components = none totals.components config.max_components;
+                instances = none totals.instances config.max_instances;
+              },
+              (
+                λ t i. record {
+                  modules = none totals.modules config.max_modules;
+                  funcs = none totals.funcs config.max_funcs;
+                  components = one_allowed (has_place own kind.Component) totals.components config.max_components t;
+                  instances = none totals.instances config.max_instances;
+                },
+                (
+                  λ t i. record {
+                    modules = none totals.modules config.max_modules;
+                    funcs = none totals.funcs config.max_funcs;
+                    components = none totals.components config.max_components;
+                    instances = one_allowed (has_place own kind.Instance) totals.instances config.max_instances t;
+                  },
+                  tt,
+                ),
+              ),
+            ),
+          ),
+        ) h.choice.place h.kind h.choice.named
+
+-- What is counted of imports, with one import more.
+module _ (stack : Open) (s : List ImportEntry) (x : ImportEntry) where
+  abbrev more : List ImportEntry
+  more = s ++ x ∷ []
+
+  pub modules_more : (totals_of (with_imports stack more)).modules ≡ (totals_of (with_imports stack s)).modules + length (module_of x.to)
+  modules_more = omega (
+    arith,
+    module_count-so_far stack.outer stack.inner (imports s),
+    module_count-so_far stack.outer stack.inner (imports more),
+    ap length (flat_map_more (λ (i : ImportEntry). module_of i.to) s x),
+    length-append (flat_map (λ (i : ImportEntry). module_of i.to) s) (module_of x.to),
+  )
+
+  pub components_more : (totals_of (with_imports stack more)).components ≡ (totals_of (with_imports stack s)).components + length (component_of x.to)
+  components_more = omega (
+    arith,
+    component_count-so_far stack.outer stack.inner (imports s),
+    component_count-so_far stack.outer stack.inner (imports more),
+    ap length (flat_map_more (λ (i : ImportEntry). component_of i.to) s x),
+    length-append (flat_map (λ (i : ImportEntry). component_of i.to) s) (component_of x.to),
+  )
+
+  pub instances_more : (totals_of (with_imports stack more)).instances ≡ (totals_of (with_imports stack s)).instances + length (instance_of x.to)
+  instances_more = omega (
+    arith,
+    instance_count-so_far stack.outer stack.inner (imports s),
+    instance_count-so_far stack.outer stack.inner (imports more),
+    ap length (flat_map_more (λ (i : ImportEntry). instance_of i.to) s x),
+    length-append (flat_map (λ (i : ImportEntry). instance_of i.to) s) (instance_of x.to),
+  )
+
+  pub funcs_more : (totals_of (with_imports stack more)).funcs ≡ (totals_of (with_imports stack s)).funcs + length (function_of x.to)
+  funcs_more = omega (
+    arith,
+    length-own-add functions_in stack.inner (imports s),
+    length-own-add functions_in stack.inner (imports more),
+    length-own-add core_functions_in stack.inner (imports s),
+    length-own-add core_functions_in stack.inner (imports more),
+    ap length (flat_map_more (λ (i : ImportEntry). function_of i.to) s x),
+    length-append (flat_map (λ (i : ImportEntry). function_of i.to) s) (function_of x.to),
+  )

@@ -1,0 +1,388 @@
+-- What canonical sections read: they keep what is true of the builder, and make as many turns as they must.
+use Rattle.std.proofs.Common.{◌≡◌, ℕ, ◌+◌, ◌-◌, ◌<◌, ◌≤◌, Bool, true, false, List, [], ◌∷◌, ◌++◌, map, length, length-append, refl, sym, ap, ◌∙◌, subst, arith, Some, Option, ⊎_elim, nat_lt}
+use Rattle.std.proofs.lemmas.Bool.{cases_lt, false≢true}
+use Rattle.std.proofs.lemmas.Bool.Decides.{nat_tests}
+use Rattle.std.proofs.lemmas.List.{length-map}
+use Rattle.std.specs.List.{AllByRecursion}
+use Rattle.std.specs.Option.{option_to_list}
+use Rattle.std.specs.Prelude.{slice_get}
+use Rattle.smith_input.specs.Loops.{Loop, no_more, by_itself, an_item}
+use Rattle.smith_input.specs.Reading.{IsTail, More}
+use Rattle.smith_input.specs.Script.{offers_of, script_end}
+use Rattle.smith_input.proofs.Choices.{among_tail}
+use Rattle.smith_input.proofs.Loops.{loop_tail, end_read}
+use Rattle.smith_input.proofs.ReadingLemmas.{tail_is, tail_trans, reads_tail, more_within, more_past, more_unique}
+use Rattle.smith_core.specs.CoreTypes.{Function}
+use Rattle.smith_core.specs.declared.config.Config.{Config}
+use Rattle.smith_core.specs.declared.types.ValType.{ValType}
+use Rattle.smith_syntax.specs.Entries.{Entry, Signature, defined, function, component_type, instance_type}
+use Rattle.smith_syntax.specs.Flat.{Flat, Flattens, flat_value}
+use Rattle.smith_syntax.specs.Scope.{Scope}
+use Rattle.smith_syntax.specs.WellFormed.{FormedEntry, FormedTypes, size}
+use Rattle.smith_syntax.specs.declared.types.ComponentValType.{ComponentValType}
+use Rattle.smith_syntax.proofs.Flat.{flattens_params}
+use Rattle.smith_types.proofs.Lifting.{lifted_tail, lifted_flattens, lifted_formed}
+use Rattle.smith_component.specs.Canonicals.{Growing, grown, spaces_at, with_canon, with_defined, scalar_functions, LiftsTo, to_equal, to_defined, given_up, ReadsLift, CanonTurn, NoCanon, empty_section, ReadsCanons}
+use Rattle.smith_component.specs.Open.{Open, scopes_in, tree_so_far, with_inner}
+use Rattle.smith_component.specs.Sound.{Sound}
+use Rattle.smith_component.specs.Tables.{IsGrounded}
+use Rattle.smith_component.specs.Tree.{Canon, lift, lower, Tree, Part, ends, first, custom, core_module, core_types, component, types, canons, imports, add, types_in, functions_in, core_functions_in, types_of, core_types_of, imports_of, function_count}
+use Rattle.smith_component.specs.WellFormed.{Spaces, spaces_of, scope_of, HasSignature, FormedCanon, FormedCanons, Formed, FormedPart}
+use Rattle.smith_component.specs.declared.item.CanonItem.{CanonItem}
+use Rattle.smith_component.specs.declared.item.CanonItem.TheVariants.{Lower, Lift}
+use Rattle.smith_component.proofs.Sound.{addable_types, own_limits-add, own_limits_of, own_sizes_of, part_sound}
+use Rattle.smith_component.proofs.Spaces.{all_at, get_last, spaces_canons, spaces_canon, spaces_types, imports_canons, imports_types, with_entries, functions_at, functions_after, extends_entries, has_signature_stays, Grounded, grounded_spaces, grounded_tree, grounded_entries, grounded_canon, formed_names, scalars_entries, scalars_grow, equal_at, formed_canons-snoc}
+use Rattle.smith_component.proofs.Tables.{scalar_at}
+use Rattle.smith_component.proofs.Tree.{all_both, length-own-add}
+use Rattle.smith_component.proofs.WellFormed.{formed_front}
+
+-- What turns keep, a loop keeps. Where it can't end by itself, it makes as many turns as it must.
+
+more_done : {done least most : ℕ} {b rest : List ℕ} → least ≤ most → done ≤ most → More done least most b false rest → least ≤ done
+more_done {done} {least} {most} h few m = ⊎_elim (λ lt. more_past lt m) (λ le. omega arith) (cases_lt done most)
+
+module _ {S A : Type 0} {Ends : S → List ℕ → List ℕ → S → Type 0} {Item : S → List ℕ → A → List ℕ → S → Type 0} {least most : ℕ} (P : ℕ → S → Type 0) where
+  pub loop_keeps : ((n : ℕ) (s : S) (b r : List ℕ) (t : S) → P n s → Ends s b r t → P n t)
+      → ((n : ℕ) (s : S) (b : List ℕ) (x : A) (r : List ℕ) (t : S) → n < most → P n s → Item s b x r t → P (n + 1) t)
+      → (done : ℕ) (s : S) (b : List ℕ) (xs : List A) (rest : List ℕ) (t : S) → done ≤ most → P done s → Loop Ends Item least most done s b xs rest t → (n : ℕ) × (n ≤ most) × P n t
+  loop_keeps over items done s b xs rest t h p (no_more m e) = (done, h, subst (P done) (sym e) p)
+  loop_keeps over items done s b xs rest t h p (by_itself {mid = mid} m e) = (done, h, over done s mid rest t p e)
+  loop_keeps over items done s b xs rest u h p (an_item {t = t} {mid = mid} {after = after} {x = x} {xs = ys} m i l) =
+      let lt : done < most = more_within m in
+      loop_keeps over items (done + 1) t after ys rest u (omega (arith, lt)) (items done s mid x after t lt p i) l
+
+  pub loop_reaches : ((n : ℕ) (s : S) (b r : List ℕ) (t : S) → P n s → Ends s b r t → ⊥)
+      → ((n : ℕ) (s : S) (b : List ℕ) (x : A) (r : List ℕ) (t : S) → n < most → P n s → Item s b x r t → P (n + 1) t) → least ≤ most
+      → (done : ℕ) (s : S) (b : List ℕ) (xs : List A) (rest : List ℕ) (t : S) → done ≤ most → P done s → Loop Ends Item least most done s b xs rest t → (n : ℕ) × (least ≤ n) × P n t
+  loop_reaches never items o done s b xs rest t h p (no_more m e) = (done, more_done o h m, subst (P done) (sym e) p)
+  loop_reaches never items o done s b xs rest t h p (by_itself {mid = mid} m e) = absurd (never done s mid rest t p e)
+  loop_reaches never items o done s b xs rest u h p (an_item {t = t} {mid = mid} {after = after} {x = x} {xs = ys} m i l) =
+      let lt : done < most = more_within m in
+      loop_reaches never items o (done + 1) t after ys rest u (omega (arith, lt)) (items done s mid x after t lt p i) l
+
+-- Function types of a well formed component have at most 16 parameters.
+
+abbrev FewParams : Entry → Type 0
+FewParams (defined t) = Unit {0}
+FewParams (function s) = length s.params ≤ 16
+FewParams (component_type ds) = Unit {0}
+FewParams (instance_type ds) = Unit {0}
+
+entry_few : (e : Entry) (own : Scope) (outer : List Scope) → FormedEntry e own outer → FewParams e
+entry_few (defined t) own outer f = tt
+entry_few (function s) own outer (named, values, few, result) = few
+entry_few (component_type ds) own outer f = tt
+entry_few (instance_type ds) own outer f = tt
+
+types_few : (es : List Entry) (own : Scope) (outer : List Scope) → FormedTypes es own outer → AllByRecursion FewParams es
+types_few [] own outer f = tt
+types_few (e ∷ es) own outer f = (entry_few e own outer f.0, types_few es _ outer f.1)
+
+part_few : (p : Part) (outer : List Scope) (before : Tree) → FormedPart p outer before → AllByRecursion FewParams (types_in p)
+part_few (custom name contents) outer before f = tt
+part_few (core_module text) outer before f = tt
+part_few (core_types ts) outer before f = tt
+part_few (component t) outer before f = tt
+part_few (types ts) outer before f = types_few ts (scope_of before) outer f
+part_few (canons fs) outer before f = tt
+part_few (imports is) outer before f = tt
+
+tree_few : (t : Tree) (outer : List Scope) (before : Tree) → Formed t outer before → AllByRecursion FewParams (types_of t)
+tree_few ends outer before f = tt
+tree_few (first p t) outer before f = all_both FewParams (types_in p) (types_of t) (part_few p outer before f.0) (tree_few t outer (add before p) f.1)
+
+inner_few : (stack : List Tree) (outer : List Scope) (t : Tree) → Formed (tree_so_far stack t) outer ends → AllByRecursion FewParams (types_of t)
+inner_few [] outer t f = tree_few t outer ends f
+inner_few (u ∷ stack) outer t f = inner_few stack (scope_of u ∷ outer) t (formed_front u (component (tree_so_far stack t)) outer ends f).1
+
+-- What a lift that defines its type is of.
+pub record Defines (config : Config) (s : Growing) (c : ℕ) (signature : Signature) : Type 0 where
+  pub f : ℕ
+  pub lowered : Signature
+  pub lowers : slice_get (spaces_at s).core_functions c ≡ Some f
+  pub of : HasSignature (spaces_at s) f lowered
+  pub flat : Flat signature lowered
+  pub formed : length lowered.params ≤ 16 → (own : Scope) (outer : List Scope) → FormedEntry (function signature) own outer
+  pub small : size (function signature) ≤ size (function lowered)
+  pub room : length (spaces_at s).types < config.max_types
+
+-- A turn adds a canonical function, or a type and a canonical function, or nothing.
+pub data Turned (config : Config) (s next : Growing) : Type 0 where
+  adds : (c : Canon) → FormedCanon (spaces_at s) c → next ≡ with_canon s c → Turned config s next
+  defines : (c : ℕ) (signature : Signature) → Defines config s c signature → next ≡ with_defined s c signature → Turned config s next
+  gives_up : config.max_types ≤ length (spaces_at s).types → next ≡ s → Turned config s next
+
+one_result : (o : Option ComponentValType) (vs : List ValType) → map flat_value (option_to_list o) ≡ map Some vs → length vs ≡ 1 → length (option_to_list o) ≡ 1
+one_result o vs e one = omega (arith, ap length e, one, length-map (option_to_list o) flat_value, length-map vs (λ (v : ValType). Some v))
+
+-- Signatures that flatten to one core function type are of one size.
+same_size : {a b : Signature} {f : Function} → Flattens a f → Flattens b f → size (function a) ≡ size (function b)
+same_size {a} {b} {f} p q =
+    omega (arith, flattens_params p, flattens_params q, one_result a.result f.1 p.result p.one, one_result b.result f.1 q.result q.one)
+
+lift_turned : {config : Config} {s : Growing} {b rest : List ℕ} {next : Growing} (r : ReadsLift config s b rest next) → LiftsTo config s r.c r.signature r.low rest next → Turned config s next
+lift_turned {s = s} r (to_equal {t = t} among e) =
+    adds (lift r.c t) (r.signature, r.lowered, r.f, equal_at (spaces_at s).types r.signature among.place t among.named, r.lowers, r.of, (r.core, lifted_flattens r.reads, r.flattens)) e
+lift_turned r (to_defined none room left e) =
+    defines r.c r.signature (record {
+      f = r.f;
+      lowered = r.lowered;
+      lowers = r.lowers;
+      of = r.of;
+      flat = (r.core, lifted_flattens r.reads, r.flattens);
+      formed = λ h. lifted_formed r.reads (omega (arith, h, flattens_params r.flattens));
+      small = omega (arith, same_size (lifted_flattens r.reads) r.flattens);
+      room = room;
+    }) e
+lift_turned r (given_up none full left e) = gives_up full e
+
+pub turned : (config : Config) (s : Growing) (b : List ℕ) (item : CanonItem) (rest : List ℕ) (next : Growing) → CanonTurn config s b item rest next → Turned config s next
+turned config s b Lower rest next (mid, chosen, (f, among, e)) = adds (lower f) (scalar_at (grown s) among.place f among.named) e
+turned config s b Lift rest next (mid, chosen, r) = lift_turned r r.lifts
+
+-- A type behind a canonical section, and an empty one behind that.
+abbrev pub with_signature : Growing → Signature → Growing
+with_signature s signature = empty_section (add (grown s) (types (function signature ∷ [])))
+
+pub spaces_signature : (s : Growing) (signature : Signature) → spaces_at (with_signature s signature) ≡ with_entries (spaces_at s) (function signature ∷ [])
+spaces_signature s signature = spaces_canons (add (grown s) (types (function signature ∷ []))) [] ∙ spaces_types (grown s) (function signature ∷ [])
+
+canon_count : (s : Growing) (c : Canon) → function_count (grown (with_canon s c)) ≡ function_count (grown s) + 1
+canon_count s c = ap functions_at (spaces_canon s.before s.funcs c) ∙ functions_after (spaces_at s) c
+
+signature_count : (s : Growing) (signature : Signature) → function_count (grown (with_signature s signature)) ≡ function_count (grown s)
+signature_count s signature = ap functions_at (spaces_signature s signature)
+
+signature_types : (s : Growing) (signature : Signature) (n : ℕ) → n ≤ length (types_of (grown s)) → n ≤ length (types_of (grown (with_signature s signature)))
+signature_types s signature n h = omega (arith, h, ap (λ z. length z.types) (spaces_signature s signature), length-append (types_of (grown s)) (function signature ∷ []))
+
+empty_count : (t : Tree) → function_count (grown (empty_section t)) ≡ function_count t
+empty_count t = ap functions_at (spaces_canons t [])
+
+-- The lift to the type that is defined is formed behind it.
+defined_canon : {config : Config} {s : Growing} {c : ℕ} {signature : Signature} → Defines config s c signature → FormedCanon (spaces_at (with_signature s signature)) (lift c (length (spaces_at s).types))
+defined_canon {s = s} {c = c} {signature = signature} d =
+    let es : List Entry = function signature ∷ [] in
+    let P : Spaces → Type 0 = λ u. FormedCanon u (lift c (length (spaces_at s).types)) in
+    subst P (sym (spaces_signature s signature))
+    (signature, d.lowered, d.f, get_last (spaces_at s).types (function signature), d.lowers, has_signature_stays (extends_entries (spaces_at s) es) d.of, d.flat)
+
+-- What a turn keeps, by what a canonical function and a type keep.
+turn_keeps : (P : ℕ → Growing → Type 0) (config : Config) (n : ℕ) (s next : Growing)
+    → ((u : Growing) (c : Canon) → FormedCanon (spaces_at u) c → P n u → P (n + 1) (with_canon u c))
+    → ((c : ℕ) (signature : Signature) → Defines config s c signature → P n s → P n (with_signature s signature))
+    → (config.max_types ≤ length (spaces_at s).types → P n s → P (n + 1) s) → P n s → Turned config s next → P (n + 1) next
+turn_keeps P config n s next canon type none p (adds c h e) = subst (P (n + 1)) (sym e) (canon s c h p)
+turn_keeps P config n s next canon type none p (defines c signature d e) =
+    subst (P (n + 1)) (sym e) (canon (with_signature s signature) (lift c (length (spaces_at s).types)) (defined_canon d) (type c signature d p))
+turn_keeps P config n s next canon type none p (gives_up full e) = subst (P (n + 1)) (sym e) (none full p)
+
+-- A turn adds at most one function.
+pub turn_count : (config : Config) (s : Growing) (b : List ℕ) (item : CanonItem) (rest : List ℕ) (next : Growing) → CanonTurn config s b item rest next → function_count (grown next) ≤ function_count (grown s) + 1
+turn_count config s b item rest next i =
+    let P : ℕ → Growing → Type 0 = λ n u. function_count (grown u) ≤ function_count (grown s) + n in
+    turn_keeps P config 0 s next (λ v c h p. omega (arith, p, canon_count v c)) (λ c signature d p. omega (arith, p, signature_count s signature)) (λ full p. omega (arith, p)) (omega arith) (turned config s b item rest next i)
+
+-- All stays grounded.
+
+canon_grounds : (s : Growing) (c : Canon) → FormedCanon (spaces_at s) c → Grounded (spaces_at s) → Grounded (spaces_at (with_canon s c))
+canon_grounds s c h g = subst Grounded (sym (spaces_canon s.before s.funcs c)) (grounded_canon (spaces_at s) c (formed_names (spaces_at s) c h) g)
+
+signature_grounds : (s : Growing) (signature : Signature) → Grounded (spaces_at s) → Grounded (spaces_at (with_signature s signature))
+signature_grounds s signature g = subst Grounded (sym (spaces_signature s signature)) (grounded_entries (spaces_at s) (function signature ∷ []) g)
+
+empty_grounds : (t : Tree) → IsGrounded t → Grounded (spaces_at (empty_section t))
+empty_grounds t g = subst Grounded (sym (spaces_canons t [])) (grounded_spaces t g)
+
+module _ (config : Config) (least : ℕ) (t : Tree) {b : List ℕ} {turns : List CanonItem} {rest : List ℕ} {next : Growing} (r : ReadsCanons config least t b turns rest next) where
+  turn_tail : (s : Growing) (b : List ℕ) (item : CanonItem) (rest : List ℕ) (next : Growing) → CanonTurn config s b item rest next → IsTail rest b
+  turn_tail s b Lower rest next (mid, chosen, (f, among, e)) = tail_trans (among_tail among) (among_tail chosen)
+  turn_tail s b Lift rest next (mid, chosen, r) = tail_trans (tail_trans (lifts_tail r.lifts) (tail_trans (lifted_tail r.reads) (reads_tail r.chooses))) (among_tail chosen)
+    where
+      lifts_tail : {c : ℕ} {signature : Signature} {low : List ℕ} → LiftsTo config s c signature low rest next → IsTail rest low
+      lifts_tail (to_equal among e) = among_tail among
+      lifts_tail (to_defined none room left e) = tail_is left
+      lifts_tail (given_up none full left e) = tail_is left
+
+  pub canons_tail : IsTail rest b
+  canons_tail = loop_tail (λ s b r t e. tail_is e.1) turn_tail 0 (empty_section t) b turns rest next r
+
+  pub canons_grounded : IsGrounded t → IsGrounded (grown next)
+  canons_grounded g =
+      let P : ℕ → Growing → Type 0 = λ n s. Grounded (spaces_at s) in
+      let all = loop_keeps P (λ n s b r t p e. subst (P n) (sym e.2) p)
+      (λ n s b x q u lt p i. turn_keeps P config n s u (λ v c h p. canon_grounds v c h p) (λ c signature d p. signature_grounds s signature p) (λ full p. p) p (turned config s b x q u i))
+      0 (empty_section t) b turns rest next (omega arith) (empty_grounds t g) r in
+      grounded_tree (grown next) all.2
+
+  -- They add at most as many functions as there may be.
+  pub canons_few : function_count (grown next) ≤ function_count t + (config.max_funcs - function_count t)
+  canons_few =
+      let P : ℕ → Growing → Type 0 = λ n s. function_count (grown s) ≤ function_count t + n in
+      let all = loop_keeps P (λ n s b r t p e. subst (P n) (sym e.2) p)
+      (λ n s b x q u lt p i.
+      turn_keeps P config n s u (λ v c h p. omega (arith, p, canon_count v c)) (λ c signature d p. omega (arith, p, signature_count s signature)) (λ full p. omega (arith, p)) p (turned config s b x q u i))
+      0 (empty_section t) b turns rest next (omega arith) (omega (arith, empty_count t)) r in
+      omega (arith, all.1, all.2)
+
+  -- They add no import and no core type, and take no type away.
+  pub canons_grow : (imports_of (grown next) ≡ imports_of t) × (core_types_of (grown next) ≡ core_types_of t) × (length (types_of t) ≤ length (types_of (grown next)))
+  canons_grow =
+      let P : ℕ → Growing → Type 0 = λ n s. (imports_of (grown s) ≡ imports_of t) × (core_types_of (grown s) ≡ core_types_of t) × (length (types_of t) ≤ length (types_of (grown s))) in
+      let all = loop_keeps P (λ n s b r t p e. subst (P n) (sym e.2) p)
+      (λ n s b x q u lt p i. turn_keeps P config n s u
+      (λ v c h p. (
+        imports_canons v.before (v.funcs ++ c ∷ []) ∙ (sym (imports_canons v.before v.funcs) ∙ p.0),
+        ap (λ z. z.core_types) (spaces_canon v.before v.funcs c) ∙ p.1,
+        omega (arith, p.2, ap (λ z. length z.types) (spaces_canon v.before v.funcs c)),
+      ))
+      (λ c signature d p. (
+        imports_canons (add (grown s) (types (function signature ∷ []))) [] ∙ (imports_types (grown s) (function signature ∷ []) ∙ p.0),
+        ap (λ z. z.core_types) (spaces_signature s signature) ∙ p.1,
+        signature_types s signature (length (types_of t)) p.2,
+      ))
+      (λ full p. p) p (turned config s b x q u i))
+      0 (empty_section t) b turns rest next (omega arith)
+      (imports_canons t [], ap (λ z. z.core_types) (spaces_canons t []), omega (arith, ap (λ z. length z.types) (spaces_canons t []))) r in
+      all.2
+
+-- A script of none adds an empty section.
+pub canons_none : (config : Config) (t : Tree) {b : List ℕ} {turns : List CanonItem} {rest : List ℕ} {next : Growing} (r : List ℕ) → ReadsCanons config 0 t b turns rest next → b ≡ script_end 0 (config.max_funcs - function_count t) ++ r → (grown next ≡ add t (canons [])) × (rest ≡ r)
+canons_none config t {b} {turns} {rest} {next} r l e = none l
+  where
+    most : ℕ
+    most = config.max_funcs - function_count t
+
+    ended : {answer : Bool} {mid : List ℕ} → More 0 0 most b answer mid → (answer ≡ false) × (mid ≡ r)
+    ended {answer} {mid} m = more_unique (subst (λ z. More 0 0 most z answer mid) e m) (end_read 0 most 0 r (omega arith) (omega arith))
+
+    none : {ts : List CanonItem} → Loop NoCanon (CanonTurn config) 0 most 0 (empty_section t) b ts rest next → (grown next ≡ add t (canons [])) × (rest ≡ r)
+    none (no_more m same) = (ap grown same, (ended m).1)
+    none (by_itself m end) = absurd (false≢true (sym (ended m).0))
+    none (an_item m i later) = absurd (false≢true (sym (ended m).0))
+
+-- What is true of the builder, so many turns after the section was begun.
+record Going (config : Config) (stack : Open) (n : ℕ) (s : Growing) : Type 0 where
+  pub sound : Sound config (with_inner stack s.before)
+  pub formed : FormedCanons s.funcs (spaces_of s.before)
+  pub few : function_count (grown s) ≤ function_count stack.inner + n
+
+module _ (config : Config) (stack : Open) (fits : function_count stack.inner ≤ config.max_funcs) where
+  section_sound : (n : ℕ) (s : Growing) → n ≤ config.max_funcs - function_count stack.inner → Going config stack n s → Sound config (with_inner stack (grown s))
+  section_sound n s h g =
+      part_sound config (with_inner stack s.before) (canons s.funcs) (record {
+        formed = g.formed;
+        own = λ o.
+            own_limits-add config s.before (canons s.funcs) o (omega (arith, o.types)) (omega (arith, o.core_types)) (omega (arith, o.imports))
+            (omega (arith, g.few, h, fits, length-own-add functions_in s.before (canons s.funcs), length-own-add core_functions_in s.before (canons s.funcs)))
+            tt tt tt;
+        sizes = (tt, tt);
+        modules = λ h. omega (arith, h);
+        components = λ h. omega (arith, h);
+        instances = λ h. omega (arith, h);
+        no_component = refl;
+        flat = refl;
+        scopes = λ h. omega (arith, h);
+      }) g.sound
+
+  going_canon : (n : ℕ) (s : Growing) (c : Canon) → FormedCanon (spaces_at s) c → Going config stack n s → Going config stack (n + 1) (with_canon s c)
+  going_canon n s c h g = record {
+    sound = g.sound;
+    formed = formed_canons-snoc (spaces_of s.before) s.funcs c g.formed (subst (λ u. FormedCanon u c) (spaces_canons s.before s.funcs) h);
+    few = omega (arith, g.few, canon_count s c);
+  }
+
+  going_signature : (n : ℕ) (s : Growing) (c : ℕ) (signature : Signature) → n ≤ config.max_funcs - function_count stack.inner → Defines config s c signature → Going config stack n s → Going config stack n (with_signature s signature)
+  going_signature n s c signature h d g =
+      let es : List Entry = function signature ∷ [] in
+      let u : Open = with_inner stack (grown s) in
+      let whole : Sound config u = section_sound n s h g in
+      let few : length d.lowered.params ≤ 16 = all_at FewParams (types_of (grown s)) d.of.ty (function d.lowered) (inner_few stack.outer [] (grown s) whole.formed) d.of.is in
+      let small : size (function d.lowered) ≤ config.max_type_size = all_at (λ e. size e ≤ config.max_type_size) (types_of (grown s)) d.of.ty (function d.lowered) (own_sizes_of config u whole).0 d.of.is in
+      let formed = d.formed few in
+      record {
+        sound =
+            part_sound config u (types es)
+            (addable_types config u es (formed (scope_of (grown s)) (scopes_in stack.outer), tt) (omega (arith, d.room)) (tt, tt) (omega arith) (omega (arith, small, d.small), tt))
+            whole;
+        formed = tt;
+        few = omega (arith, g.few, signature_count s signature);
+      }
+
+-- Canonical sections may be added.
+pub canons_sound : (config : Config) (least : ℕ) (stack : Open) {b : List ℕ} {turns : List CanonItem} {rest : List ℕ} {next : Growing} → ReadsCanons config least stack.inner b turns rest next → Sound config stack → Sound config (with_inner stack (grown next))
+canons_sound config least stack {b} {turns} {rest} {next} r sound =
+    let fits : function_count stack.inner ≤ config.max_funcs = (own_limits_of config stack sound).functions in
+    let P : ℕ → Growing → Type 0 = Going config stack in
+    let start : P 0 (empty_section stack.inner) = record { sound = sound; formed = tt; few = omega (arith, empty_count stack.inner) } in
+    let all = loop_keeps P (λ n s b r t p e. subst (P n) (sym e.2) p)
+    (λ n s b x q u lt p i.
+    turn_keeps P config n s u (λ v c h p. going_canon config stack fits n v c h p) (λ c signature d p. going_signature config stack fits n s c signature (omega (arith, lt)) d p)
+    (λ full p. record { sound = p.sound; formed = p.formed; few = omega (arith, p.few) }) p (turned config s b x q u i))
+    0 (empty_section stack.inner) b turns rest next (omega arith) start r in
+    section_sound config stack fits all.0 next all.1 all.2
+
+-- What holds where functions are filled: while fewer turns are made than must be, each adds a function, and there is room for a type.
+record Filling (config : Config) (least : ℕ) (t : Tree) (n : ℕ) (s : Growing) : Type 0 where
+  pub grounded : Grounded (spaces_at s)
+  pub some : 0 < length (scalar_functions (spaces_at s))
+  pub room : length (spaces_at s).types + (least - n) ≤ config.max_types
+  pub enough : function_count t + n ≤ function_count (grown s) + (n - least)
+
+some_items : (z : Bool) (m : ℕ) → z ≡ true → offers_of ((z, Lower) ∷ (nat_lt 0 m, Lift) ∷ []) ≡ [] → ⊥
+some_items true m e h = absurd (cc)
+some_items false m e h = absurd (false≢true e)
+
+module _ (config : Config) (least : ℕ) (t : Tree) where
+  filling_ends : (n : ℕ) (s : Growing) (b r : List ℕ) (u : Growing) → Filling config least t n s → NoCanon s b r u → ⊥
+  filling_ends n s b r u f (none, left, e) =
+      let h : 0 < length (scalar_functions (spaces_at s)) = f.some in
+      let z : nat_lt 0 (length (scalar_functions (spaces_at s))) ≡ true = grind (arith, nat_tests) in
+      some_items (nat_lt 0 (length (scalar_functions (spaces_at s)))) (length (spaces_at s).core_functions) z none
+
+  filling_canon : (n : ℕ) (s : Growing) (c : Canon) → FormedCanon (spaces_at s) c → length (spaces_at s).types + (least - (n + 1)) ≤ config.max_types → Filling config least t n s → Filling config least t (n + 1) (with_canon s c)
+  filling_canon n s c h room f =
+      let e = spaces_canon s.before s.funcs c in
+      record {
+        grounded = canon_grounds s c h f.grounded;
+        some = omega (arith, f.some, scalars_grow (spaces_at s) c, ap (λ z. length (scalar_functions z)) e);
+        room = omega (arith, room, ap (λ z. length z.types) e);
+        enough = omega (arith, f.enough, canon_count s c);
+      }
+
+  filling_signature : (n : ℕ) (s : Growing) (c : ℕ) (signature : Signature) → Defines config s c signature → Filling config least t n s → Filling config least t (n + 1) (with_defined s c signature)
+  filling_signature n s c signature d f =
+      let es : List Entry = function signature ∷ [] in
+      let u : Growing = with_signature s signature in
+      let k : Canon = lift c (length (spaces_at s).types) in
+      let e = spaces_signature s signature in
+      let a = spaces_canon u.before u.funcs k in
+      let grounded = signature_grounds s signature f.grounded in
+      let scalars : length (scalar_functions (spaces_at u)) ≡ length (scalar_functions (spaces_at s)) = ap (λ z. length (scalar_functions z)) e ∙ ap length (scalars_entries (spaces_at s) es f.grounded) in
+      let count : length (spaces_at u).types ≡ length (spaces_at s).types + 1 = omega (arith, ap (λ z. length z.types) e, length-append (spaces_at s).types es) in
+      record {
+        grounded = canon_grounds u k (defined_canon d) grounded;
+        some = omega (arith, f.some, scalars, scalars_grow (spaces_at u) k, ap (λ z. length (scalar_functions z)) a);
+        room = omega (arith, f.room, d.room, count, ap (λ z. length z.types) a);
+        enough = omega (arith, f.enough, signature_count s signature, canon_count u k);
+      }
+
+  filling_turn : (n : ℕ) (s next : Growing) → Filling config least t n s → Turned config s next → Filling config least t (n + 1) next
+  filling_turn n s next f (adds c h e) = subst (Filling config least t (n + 1)) (sym e) (filling_canon n s c h (omega (arith, f.room)) f)
+  filling_turn n s next f (defines c signature d e) = subst (Filling config least t (n + 1)) (sym e) (filling_signature n s c signature d f)
+  filling_turn n s next f (gives_up full e) =
+      subst (Filling config least t (n + 1)) (sym e) (record { grounded = f.grounded; some = f.some; room = omega (arith, f.room); enough = omega (arith, f.enough, f.room, full) })
+
+  -- As many functions are added as must be, where one can be lowered and there is room for the types that lifts define.
+  pub canons_enough : {b : List ℕ} {turns : List CanonItem} {rest : List ℕ} {next : Growing} → ReadsCanons config least t b turns rest next → IsGrounded t → least ≤ config.max_funcs - function_count t → 0 < length (scalar_functions (spaces_of t))
+      → length (types_of t) + least ≤ config.max_types → function_count t + least ≤ function_count (grown next)
+  canons_enough {b} {turns} {rest} {next} r g few some room =
+      let e = spaces_canons t [] in
+      let start : Filling config least t 0 (empty_section t) = record {
+        grounded = empty_grounds t g;
+        some = omega (arith, some, ap (λ z. length (scalar_functions z)) e);
+        room = omega (arith, room, ap (λ z. length z.types) e);
+        enough = omega (arith, empty_count t);
+      } in
+      let all = loop_reaches (Filling config least t) filling_ends (λ n s b x q u lt p i. filling_turn n s u p (turned config s b x q u i)) few 0 (empty_section t) b turns rest next (omega arith) start r in
+      omega (arith, all.1, all.2.enough)

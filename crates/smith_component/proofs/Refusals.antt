@@ -1,0 +1,79 @@
+-- Which refusals follow from which.
+use Rattle.std.proofs.Common.{◌≡◌, ℕ, List, refl, sym, subst}
+use Rattle.smith_input.specs.Choices.{ReadsAmong}
+use Rattle.smith_input.specs.declared.error.Error.{Error}
+use Rattle.smith_input.specs.declared.error.Error.TheVariants.{InconsistentLimits, MinimumNotMet, ModuleRefused, TooLong, OutOfMemory, PartsDisagree}
+use Rattle.smith_core.specs.Limits.{IsConsistent}
+use Rattle.smith_core.specs.declared.config.Config.{Config}
+use Rattle.smith_component.specs.Open.{Open, items}
+use Rattle.smith_component.specs.Refusals.{IsNewRefusal, IsFillRefusal, IsStepRefusal, LacksOn, IsRefusal, IsGenerateRefusal}
+use Rattle.smith_component.specs.Turn.{Lacks, LacksAt}
+use Rattle.smith_component.specs.declared.item.Item.TheVariants.{Finish}
+
+module _ (config : Config) (stack : Open) (left : List ℕ) where
+  -- Where nothing lacks, memory does.
+  pub fill_refused : (Lacks config stack left → ⊥) → (e : Error) → IsFillRefusal config stack left e → e ≡ OutOfMemory
+  fill_refused never InconsistentLimits h = absurd h
+  fill_refused never MinimumNotMet h = absurd (never h)
+  fill_refused never ModuleRefused h = absurd h
+  fill_refused never TooLong h = absurd h
+  fill_refused never OutOfMemory h = refl
+  fill_refused never PartsDisagree h = absurd h
+
+  -- A component that lacks something is one whose finish was chosen.
+  pub finish_refused : (after : List ℕ) → ReadsAmong (items config stack left) left Finish after → (e : Error) → IsFillRefusal config stack after e → IsStepRefusal config stack left e
+  finish_refused after choice InconsistentLimits h = absurd h
+  finish_refused after choice MinimumNotMet h = (after, choice, h)
+  finish_refused after choice ModuleRefused h = absurd h
+  finish_refused after choice TooLong h = absurd h
+  finish_refused after choice OutOfMemory h = tt
+  finish_refused after choice PartsDisagree h = absurd h
+
+  -- For want of memory a step is refused.
+  pub memory_refused : (e : Error) → e ≡ OutOfMemory → IsStepRefusal config stack left e
+  memory_refused e h = subst (IsStepRefusal config stack left) (sym h) tt
+
+  -- What refuses a step refuses the run that leads to it.
+  pub step_refused : (input : List ℕ) → IsConsistent config → (LacksAt config stack left → LacksOn config input) → (e : Error) → IsStepRefusal config stack left e → IsRefusal config input e
+  step_refused input consistent lacks InconsistentLimits h = absurd h
+  step_refused input consistent lacks MinimumNotMet h = (consistent, lacks h)
+  step_refused input consistent lacks ModuleRefused h = absurd h
+  step_refused input consistent lacks TooLong h = absurd h
+  step_refused input consistent lacks OutOfMemory h = consistent
+  step_refused input consistent lacks PartsDisagree h = absurd h
+
+module _ (config : Config) where
+  -- What refuses a builder refuses the run.
+  pub new_refused : (input : List ℕ) (e : Error) → IsNewRefusal config e → IsRefusal config input e
+  new_refused input InconsistentLimits h = h
+  new_refused input MinimumNotMet h = absurd h
+  new_refused input ModuleRefused h = absurd h
+  new_refused input TooLong h = absurd h
+  new_refused input OutOfMemory h = h
+  new_refused input PartsDisagree h = absurd h
+
+  -- Where limits fit together, memory is wanting.
+  pub new_accepted : IsConsistent config → (e : Error) → IsNewRefusal config e → e ≡ OutOfMemory
+  new_accepted consistent InconsistentLimits h = absurd (h consistent)
+  new_accepted consistent MinimumNotMet h = absurd h
+  new_accepted consistent ModuleRefused h = absurd h
+  new_accepted consistent TooLong h = absurd h
+  new_accepted consistent OutOfMemory h = refl
+  new_accepted consistent PartsDisagree h = absurd h
+
+  pub refused_accepted : (input : List ℕ) → IsConsistent config → (LacksOn config input → ⊥) → (e : Error) → IsRefusal config input e → e ≡ OutOfMemory
+  refused_accepted input consistent never InconsistentLimits h = absurd (h consistent)
+  refused_accepted input consistent never MinimumNotMet h = absurd (never h.1)
+  refused_accepted input consistent never ModuleRefused h = absurd h
+  refused_accepted input consistent never TooLong h = absurd h
+  refused_accepted input consistent never OutOfMemory h = refl
+  refused_accepted input consistent never PartsDisagree h = absurd h
+
+  -- What refuses a component refuses what is generated.
+  pub generate_refused : (input : List ℕ) (e : Error) → IsRefusal config input e → IsGenerateRefusal config input e
+  generate_refused input InconsistentLimits h = h
+  generate_refused input MinimumNotMet h = h
+  generate_refused input ModuleRefused h = absurd h
+  generate_refused input TooLong h = absurd h
+  generate_refused input OutOfMemory h = h
+  generate_refused input PartsDisagree h = absurd h

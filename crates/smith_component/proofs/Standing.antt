@@ -1,0 +1,62 @@
+-- What is kept of a component where a part is added to it.
+use Rattle.std.proofs.Common.{◌≡◌, ℕ, ◌+◌, List, [], ◌∷◌, length, arith, ap, sym, subst, ◌∙◌, refl}
+use Rattle.std.specs.List.{flat_map}
+use Rattle.std.proofs.lemmas.List.{length-map}
+use Rattle.smith_input.proofs.Loops.{loop_gives}
+use Rattle.smith_core.specs.declared.config.Config.{Config}
+use Rattle.smith_syntax.specs.Entries.{Signature, function}
+use Rattle.smith_component.specs.Canonicals.{CanonTurn, Growing, LiftsTo, ReadsCanons, empty_section, given_up, grown, to_defined, to_equal}
+use Rattle.smith_component.specs.Importing.{Totalled}
+use Rattle.smith_component.specs.Tree.{Tree, Part, custom, core_module, core_types, component, types, canons, imports, add, function_of, module_of, component_of, instance_of}
+use Rattle.smith_component.specs.Tree.{types_of, functions_of, core_functions_of, imports_of, types_in, functions_in, core_functions_in, imports_in, imported_modules_in, imported_components_in, imported_instances_in}
+use Rattle.smith_component.specs.Tables.{Tabled}
+use Rattle.smith_component.specs.declared.builder.tables.Tables.{Tables}
+use Rattle.smith_component.specs.declared.builder.totals.TreeTotals.{TreeTotals}
+use Rattle.smith_component.specs.declared.item.CanonItem.{CanonItem}
+use Rattle.smith_component.specs.declared.item.CanonItem.TheVariants.{Lower, Lift}
+use Rattle.smith_component.proofs.Sound.{totalled_part}
+use Rattle.smith_component.proofs.Tables.{own_bare, tabled_types}
+use Rattle.smith_component.proofs.Tree.{own-add}
+
+-- A part without functions and imports leaves the tables as they are.
+pub tabled_added : {tables : Tables} (t new : Tree) (p : Part) → new ≡ add t p → functions_in p ≡ [] → core_functions_in p ≡ [] → imports_in p ≡ [] → Tabled tables t → Tabled tables new
+tabled_added t new p e fs cs is tabled =
+    tabled_types t new (types_in p) tabled (ap types_of e ∙ own-add types_in t p) (ap functions_of e ∙ own_bare functions_in t p fs) (ap core_functions_of e ∙ own_bare core_functions_in t p cs) (ap imports_of e ∙ own_bare imports_in t p is)
+
+-- A part without imports imports nothing of any kind.
+pub none_imported : (p : Part) → imports_in p ≡ [] → (imported_modules_in p ≡ []) × (imported_components_in p ≡ []) × (imported_instances_in p ≡ [])
+none_imported (custom n c) e = (refl, refl, refl)
+none_imported (core_module m) e = (refl, refl, refl)
+none_imported (core_types ts) e = (refl, refl, refl)
+none_imported (component t) e = (refl, refl, refl)
+none_imported (types ts) e = (refl, refl, refl)
+none_imported (canons fs) e = (refl, refl, refl)
+none_imported (imports is) e = (ap (flat_map (λ i. module_of i.to)) e, ap (flat_map (λ i. component_of i.to)) e, ap (flat_map (λ i. instance_of i.to)) e)
+
+-- The names of the imports are as many as the imports.
+pub import_count : {tables : Tables} {t : Tree} (tabled : Tabled tables t) → length tabled.externs ≡ length (imports_of t)
+import_count {t = t} tabled = sym (length-map tabled.externs (λ x. x.0)) ∙ (ap length tabled.names_are ∙ length-map (imports_of t) (λ i. i.name))
+
+-- A canonical section leaves the totals as they are.
+with_section : (config : Config) (totals : TreeTotals) (outer : List Tree) (s : Growing) → Totalled totals (record { outer = outer; inner = s.before }) → Totalled totals (record { outer = outer; inner = grown s })
+with_section config totals outer s h = totalled_part config outer s.before _ totals totals (canons s.funcs) refl refl (omega arith) (omega arith) (omega arith) h
+
+-- So do those that turns lead to.
+pub canons_totalled : (config : Config) (totals : TreeTotals) (outer : List Tree) (min : ℕ) (t : Tree) (b rest : List ℕ) (turns : List CanonItem) (next : Growing) → ReadsCanons config min t b turns rest next
+    → Totalled totals (record { outer = outer; inner = t }) → Totalled totals (record { outer = outer; inner = grown next })
+canons_totalled config totals outer min t b rest turns next r h =
+    with_section config totals outer next (loop_gives (λ s xs u. T s → T u) (λ s k. k) (λ s c q u e k. subst T (sym e.2) k) (λ s v u c item q xs turn later k. later (turned s item v c q turn k)) 0 (empty_section t) b turns rest next r h)
+  where
+    T : Growing → Type 0
+    T s = Totalled totals (record { outer = outer; inner = s.before })
+
+    lifted : (s next : Growing) (c : ℕ) (signature : Signature) (b rest : List ℕ) → LiftsTo config s c signature b rest next → T s → T next
+    lifted s next c signature b rest (to_equal m e) k = subst T (sym e) k
+    lifted s next c signature b rest (to_defined n m l e) k =
+        let one = with_section config totals outer s k in
+        subst T (sym e) (totalled_part config outer (grown s) _ totals totals (types (function signature ∷ [])) refl refl (omega arith) (omega arith) (omega arith) one)
+    lifted s next c signature b rest (given_up n m l e) k = subst T (sym e) k
+
+    turned : (s : Growing) (item : CanonItem) (next : Growing) (b rest : List ℕ) → CanonTurn config s b item rest next → T s → T next
+    turned s Lower next b rest turn k = subst T (sym turn.2.2) k
+    turned s Lift next b rest turn k = lifted s next turn.2.c turn.2.signature _ _ turn.2.lifts k

@@ -1,0 +1,180 @@
+-- How what is kept of a component grows with it.
+use Rattle.std.proofs.Common.{◌≡◌, ℕ, ◌+◌, ◌<◌, Bool, true, false, List, [], ◌∷◌, ◌++◌, length, arith, ap, sym, subst, ◌∙◌, refl, append-nil, append_assoc, length-append}
+use Rattle.std.specs.List.{AllByRecursion, flat_map}
+use Rattle.std.specs.Prelude.{Option, Some, None, slice_get, if◌then◌else◌}
+use Rattle.std.proofs.lemmas.Bool.{false≢true}
+use Rattle.std.proofs.lemmas.List.{map-append}
+use Rattle.std.proofs.lemmas.List.Concat.{flat_map-append}
+use Rattle.std.proofs.lemmas.Option.{slice_get_within}
+use Rattle.smith_syntax.specs.Entries.{Entry, defined, function, component_type, instance_type, ImportEntry, Signature}
+use Rattle.smith_syntax.specs.Flat.{is_scalar}
+use Rattle.smith_syntax.specs.Scope.{Scope, places}
+use Rattle.smith_syntax.specs.WellFormed.{names}
+use Rattle.smith_types.specs.Declarations.{NamedExtern}
+use Rattle.smith_types.specs.MakingTypes.{HoldsExterns}
+use Rattle.smith_types.proofs.Externs.{names_more}
+use Rattle.smith_scopes.proofs.Places.{get_left, place_stands}
+use Rattle.smith_scopes.proofs.Stack.{places-append}
+use Rattle.smith_component.specs.Canonicals.{is_scalar_entry, is_scalar_type, scalar_functions}
+use Rattle.smith_component.specs.Tables.{AddsCoreFunction, AddsFunction, IsGrounded, IsLowerable, Tabled}
+use Rattle.smith_component.specs.Tree.{Tree, Part, add, own, types_of, functions_of, core_functions_of, imports_of}
+use Rattle.smith_component.specs.WellFormed.{import_names, scope_of, spaces_of}
+use Rattle.smith_component.specs.declared.builder.tables.Tables.{Tables}
+use Rattle.smith_component.proofs.Tree.{all_both, own-add}
+
+-- What a component has grows as its last part does.
+pub own_grown : {A : Type 0} (f : Part → List A) (t : Tree) (p q : Part) (more : List A) → f q ≡ f p ++ more → own f (add t q) ≡ own f (add t p) ++ more
+own_grown f t p q more e = own-add f t q ∙ (ap (λ z. own f t ++ z) e ∙ (sym (append_assoc (own f t) (f p) more) ∙ ap (λ z. z ++ more) (sym (own-add f t p))))
+
+-- the same of a part that adds nothing
+pub own_bare : {A : Type 0} (f : Part → List A) (t : Tree) (p : Part) → f p ≡ [] → own f (add t p) ≡ own f t
+own_bare f t p e = own-add f t p ∙ (ap (λ z. own f t ++ z) e ∙ append-nil (own f t))
+
+-- one entry more in a part that is a list of entries
+pub flat_map_more : {X A : Type 0} (f : X → List A) (xs : List X) (x : X) → flat_map f (xs ++ x ∷ []) ≡ flat_map f xs ++ f x
+flat_map_more f xs x = flat_map-append f xs (x ∷ []) ∙ ap (λ z. flat_map f xs ++ z) (append-nil (f x))
+
+-- a fact of each that gives another of each
+pub all_weaker : {A : Type 0} (P Q : A → Type 0) → ((x : A) → P x → Q x) → (xs : List A) → AllByRecursion P xs → AllByRecursion Q xs
+all_weaker P Q h [] all = tt
+all_weaker P Q h (x ∷ xs) all = (h x all.0, all_weaker P Q h xs all.1)
+
+-- Tests that agree have the same places.
+pub places_agree : {A : Type 0} (p q : A → Bool) (i : ℕ) (xs : List A) → AllByRecursion (λ x. p x ≡ q x) xs → places p i xs ≡ places q i xs
+places_agree p q i [] all = refl
+places_agree p q i (x ∷ xs) all =
+    let rest = places_agree p q (i + 1) xs all.1 in
+    ap (λ b. if b then i ∷ places p (i + 1) xs else places p (i + 1) xs) all.0 ∙ ap (λ ks. if q x then i ∷ ks else ks) rest
+
+-- what stands in a list stands in a longer one
+get_longer : {A : Type 0} (xs more ys : List A) (k : ℕ) (x : A) → ys ≡ xs ++ more → slice_get xs k ≡ Some x → slice_get ys k ≡ Some x
+get_longer xs more ys k x e h = ap (λ z. slice_get z k) e ∙ (get_left xs more k (slice_get_within xs k x h) ∙ h)
+
+same_type : (ts more us : List Entry) → us ≡ ts ++ more → (ty : ℕ) → ty < length ts → is_scalar_type us ty ≡ is_scalar_type ts ty
+same_type ts more us e ty h =
+    let at : slice_get us ty ≡ slice_get ts ty = ap (λ z. slice_get z ty) e ∙ get_left ts more ty h in
+    ap (λ o. elim o [ None ↦ false | Some x ↦ is_scalar_entry x ]) at
+
+-- A function that can be lowered can be where the component has more.
+pub lowerable_more : (t u : Tree) (es : List Entry) (fs : List ℕ) → types_of u ≡ types_of t ++ es → functions_of u ≡ functions_of t ++ fs → (f : ℕ) → IsLowerable t f → IsLowerable u f
+lowerable_more t u es fs e g f (signature, has, scalar) = (
+  signature,
+  record {
+    ty = has.ty;
+    stands = get_longer (functions_of t) fs (functions_of u) f has.ty g has.stands;
+    is = get_longer (types_of t) es (types_of u) has.ty (function signature) e has.is;
+  },
+  scalar,
+)
+
+-- The tables of a component that has more types, functions and core functions, and its imports by name.
+module _ (old new : Tables) (t u : Tree) (es : List Entry) (fs cs : List ℕ) (tabled : Tabled old t) (types : types_of u ≡ types_of t ++ es) (functions : functions_of u ≡ functions_of t ++ fs) (core_functions : core_functions_of u ≡ core_functions_of t ++ cs) where
+  grounded_more : AllByRecursion (λ ty. ty < length (types_of u)) fs → AllByRecursion (IsLowerable u) cs → IsGrounded u
+  grounded_more known lowered =
+      let longer : (ty : ℕ) → ty < length (types_of t) → ty < length (types_of u) = λ ty h. omega (arith, h, ap length types, length-append (types_of t) es) in
+      record {
+        known =
+            subst (AllByRecursion (λ ty. ty < length (types_of u))) (sym functions) (all_both (λ ty. ty < length (types_of u)) (functions_of t) fs (all_weaker (λ ty. ty < length (types_of t)) (λ ty. ty < length (types_of u)) longer (functions_of t) tabled.grounded.known) known);
+        lowered =
+            subst (AllByRecursion (IsLowerable u)) (sym core_functions) (all_both (IsLowerable u) (core_functions_of t) cs (all_weaker (IsLowerable t) (IsLowerable u) (lowerable_more t u es fs types functions) (core_functions_of t) tabled.grounded.lowered) lowered);
+      }
+
+  scalars_more : scalar_functions (spaces_of u) ≡ scalar_functions (spaces_of t) ++ places (is_scalar_type (types_of u)) (0 + length (functions_of t)) fs
+  scalars_more =
+      let test : ℕ → Bool = is_scalar_type (types_of u) in
+      let agree : places test 0 (functions_of t) ≡ scalar_functions (spaces_of t) =
+      places_agree test (is_scalar_type (types_of t)) 0 (functions_of t) (all_weaker (λ ty. ty < length (types_of t)) (λ ty. test ty ≡ is_scalar_type (types_of t) ty) (same_type (types_of t) es (types_of u) types) (functions_of t) tabled.grounded.known) in
+      ap (places test 0) functions ∙ (places-append test 0 (functions_of t) fs ∙ ap (λ z. z ++ places test (0 + length (functions_of t)) fs) agree)
+
+  pub tabled_more : AllByRecursion (λ ty. ty < length (types_of u)) fs → AllByRecursion (IsLowerable u) cs → new.functions.items ≡ old.functions.items ++ fs → new.core_functions.items ≡ old.core_functions.items ++ cs
+      → new.scalars.items ≡ old.scalars.items ++ places (is_scalar_type (types_of u)) (length old.functions.items) fs → (externs : List NamedExtern) → names externs ≡ import_names (imports_of u) → HoldsExterns new.imports externs → Tabled new u
+  tabled_more known lowered fnew cnew snew externs named holds =
+      let test : ℕ → Bool = is_scalar_type (types_of u) in
+      let at : length old.functions.items ≡ 0 + length (functions_of t) = omega (arith, ap length tabled.functions) in
+      record {
+        functions = fnew ∙ (ap (λ z. z ++ fs) tabled.functions ∙ sym functions);
+        core_functions = cnew ∙ (ap (λ z. z ++ cs) tabled.core_functions ∙ sym core_functions);
+        scalars = snew ∙ (ap (λ n. old.scalars.items ++ places test n fs) at ∙ (ap (λ z. z ++ places test (0 + length (functions_of t)) fs) tabled.scalars ∙ sym scalars_more));
+        externs = externs;
+        names_are = named;
+        holds = holds;
+        grounded = grounded_more known lowered;
+      }
+
+-- the same list with nothing more
+same_more : {A : Type 0} (xs ys : List A) → ys ≡ xs → ys ≡ xs ++ []
+same_more xs ys e = e ∙ sym (append-nil xs)
+
+same_names : (t u : Tree) (externs : List NamedExtern) → imports_of u ≡ imports_of t → names externs ≡ import_names (imports_of t) → names externs ≡ import_names (imports_of u)
+same_names t u externs e h = h ∙ ap import_names (sym e)
+
+same_holds : (old new : Tables) (externs : List NamedExtern) → new.imports ≡ old.imports → HoldsExterns old.imports externs → HoldsExterns new.imports externs
+same_holds old new externs e h = subst (λ z. HoldsExterns z externs) (sym e) h
+
+-- A component function more, of a type that is there.
+pub tabled_function : {own : Scope} {old new : Tables} {ty : ℕ} (t u : Tree) → own ≡ scope_of t → ty < length (types_of t) → Tabled old t → AddsFunction own old ty new
+    → types_of u ≡ types_of t → functions_of u ≡ functions_of t ++ ty ∷ [] → core_functions_of u ≡ core_functions_of t → imports_of u ≡ imports_of t → Tabled new u
+tabled_function {own} {old} {new} {ty} t u scope known tabled adds types functions core_functions imports =
+    let same : own.types ≡ types_of u = ap (λ s. s.types) scope ∙ sym types in
+    tabled_more old new t u [] (ty ∷ []) [] tabled (same_more _ _ types) functions (same_more _ _ core_functions) (omega (arith, known, ap length types), tt) tt
+    adds.functions (same_more _ _ adds.core_functions)
+    (adds.scalars ∙ ap (λ ts. old.scalars.items ++ (if is_scalar_type ts ty then length old.functions.items ∷ [] else [])) same)
+    tabled.externs (same_names t u tabled.externs imports tabled.names_are) (same_holds old new tabled.externs adds.imports tabled.holds)
+
+-- A core function more, which lowers one that can be lowered.
+pub tabled_core_function : {old new : Tables} {f : ℕ} (t u : Tree) → IsLowerable t f → Tabled old t → AddsCoreFunction old f new
+    → types_of u ≡ types_of t → functions_of u ≡ functions_of t → core_functions_of u ≡ core_functions_of t ++ f ∷ [] → imports_of u ≡ imports_of t → Tabled new u
+tabled_core_function {old} {new} {f} t u lowerable tabled adds types functions core_functions imports =
+    tabled_more old new t u [] [] (f ∷ []) tabled (same_more _ _ types) (same_more _ _ functions) core_functions tt
+    (lowerable_more t u [] [] (same_more _ _ types) (same_more _ _ functions) f lowerable, tt)
+    (same_more _ _ adds.functions) adds.core_functions (same_more _ _ adds.scalars)
+    tabled.externs (same_names t u tabled.externs imports tabled.names_are) (same_holds old new tabled.externs adds.imports tabled.holds)
+
+-- Types more leave the tables as they are.
+pub tabled_types : {tables : Tables} (t u : Tree) (es : List Entry) → Tabled tables t → types_of u ≡ types_of t ++ es → functions_of u ≡ functions_of t → core_functions_of u ≡ core_functions_of t → imports_of u ≡ imports_of t → Tabled tables u
+tabled_types {tables} t u es tabled types functions core_functions imports =
+    tabled_more tables tables t u es [] [] tabled types (same_more _ _ functions) (same_more _ _ core_functions) tt tt
+    (same_more _ _ refl) (same_more _ _ refl) (same_more _ _ refl) tabled.externs (same_names t u tabled.externs imports tabled.names_are) tabled.holds
+
+-- So does what adds none of all these.
+pub tabled_quiet : {tables : Tables} (t u : Tree) → Tabled tables t → types_of u ≡ types_of t → functions_of u ≡ functions_of t → core_functions_of u ≡ core_functions_of t → imports_of u ≡ imports_of t → Tabled tables u
+tabled_quiet t u tabled types functions core_functions imports = tabled_types t u [] tabled (same_more _ _ types) functions core_functions imports
+
+-- the names of imports with one more
+pub import_names_more : (is : List ImportEntry) (x : ImportEntry) → import_names (is ++ x ∷ []) ≡ import_names is ++ x.name ∷ []
+import_names_more is x = map-append (λ (i : ImportEntry). i.name) is (x ∷ [])
+
+pub names_grown : (t u : Tree) (x : ImportEntry) (named : NamedExtern) (externs : List NamedExtern) → names externs ≡ import_names (imports_of t) → imports_of u ≡ imports_of t ++ x ∷ [] → named.0 ≡ x.name
+    → names (externs ++ named ∷ []) ≡ import_names (imports_of u)
+names_grown t u x named externs are imports name =
+    names_more externs named
+    ∙ (ap (λ z. z ++ named.0 ∷ []) are ∙ (ap (λ n. import_names (imports_of t) ++ n ∷ []) name ∙ (sym (import_names_more (imports_of t) x) ∙ ap import_names (sym imports))))
+
+-- An import more, by its name.
+pub tabled_import : {old new : Tables} (t u : Tree) (x : ImportEntry) (named : NamedExtern) (tabled : Tabled old t)
+    → types_of u ≡ types_of t → functions_of u ≡ functions_of t → core_functions_of u ≡ core_functions_of t → imports_of u ≡ imports_of t ++ x ∷ [] → named.0 ≡ x.name
+    → new.functions.items ≡ old.functions.items → new.core_functions.items ≡ old.core_functions.items → new.scalars.items ≡ old.scalars.items → HoldsExterns new.imports (tabled.externs ++ named ∷ []) → Tabled new u
+tabled_import {old} {new} t u x named tabled types functions core_functions imports name fnew cnew snew holds =
+    tabled_more old new t u [] [] [] tabled (same_more _ _ types) (same_more _ _ functions) (same_more _ _ core_functions) tt tt
+    (same_more _ _ fnew) (same_more _ _ cnew) (same_more _ _ snew) (tabled.externs ++ named ∷ []) (names_grown t u x named tabled.externs tabled.names_are imports name) holds
+
+scalar_entry_is : (e : Entry) → is_scalar_entry e ≡ true → (signature : Signature) × (e ≡ function signature) × (is_scalar signature ≡ true)
+scalar_entry_is (defined t) h = absurd (false≢true h)
+scalar_entry_is (function s) h = (s, refl, h)
+scalar_entry_is (component_type ds) h = absurd (false≢true h)
+scalar_entry_is (instance_type ds) h = absurd (false≢true h)
+
+-- A type that flattens is a function type.
+pub scalar_type_is : (ts : List Entry) (ty : ℕ) → is_scalar_type ts ty ≡ true → (signature : Signature) × (slice_get ts ty ≡ Some (function signature)) × (is_scalar signature ≡ true)
+scalar_type_is ts ty h = found (slice_get ts ty) refl h
+  where
+    found : (o : Option Entry) → slice_get ts ty ≡ o → (elim o [ None ↦ false | Some e ↦ is_scalar_entry e ]) ≡ true → (signature : Signature) × (slice_get ts ty ≡ Some (function signature)) × (is_scalar signature ≡ true)
+    found None g i = absurd (false≢true i)
+    found (Some e) g i = let s = scalar_entry_is e i in (s.0, g ∙ ap Some s.1, s.2)
+
+-- A function whose type flattens can be lowered.
+pub scalar_at : (t : Tree) (k f : ℕ) → slice_get (scalar_functions (spaces_of t)) k ≡ Some f → IsLowerable t f
+scalar_at t k f h =
+    let p = place_stands (is_scalar_type (types_of t)) (functions_of t) k f h in
+    let s = scalar_type_is (types_of t) p.0 p.2 in
+    (s.0, record { ty = p.0; stands = p.1; is = s.1 }, s.2)

@@ -1,0 +1,212 @@
+use Rattle.std.proofs.Common.{◌≡◌, ℕ, ◌+◌, ◌<◌, ◌≤◌, max, List, [], ◌∷◌, ◌++◌, length, arith, ap, sym, subst, ◌∙◌, refl, true, false, append-nil, string_bytes}
+use Rattle.std.specs.List.{AllByRecursion}
+use Rattle.std.specs.Prelude.{if◌then◌else◌}
+use Rattle.std.proofs.lemmas.Option.{slice_get_within}
+use Rattle.smith_input.proofs.ReadingLemmas.{tail_trans}
+use Rattle.smith_core.specs.declared.config.Config.{Config}
+use Rattle.smith_syntax.specs.Entries.{ImportEntry}
+use Rattle.smith_syntax.specs.Scope.{Scope, places}
+use Rattle.smith_syntax.specs.Shown.{shown_url}
+use Rattle.smith_syntax.specs.WellFormed.{FormedRef}
+use Rattle.smith_syntax.specs.declared.deftype.ComponentTypeRef.{ComponentTypeRef}
+use Rattle.smith_syntax.specs.declared.deftype.ComponentTypeRef.TheVariants as to
+use Rattle.smith_types.specs.Declarations.{NamedExtern, ReadsNamedExtern}
+use Rattle.smith_types.specs.MakingTypes.{HoldsExterns}
+use Rattle.smith_types.specs.References.{ReadsRef}
+use Rattle.smith_scopes.specs.Scopes.{own_scope}
+use Rattle.smith_types.specs.declared.make.externs.ExternNames.{ExternNames}
+use Rattle.smith_types.specs.declared.make.references.RefTotals.{RefTotals}
+use Rattle.smith_types.proofs.References.{ref_formed}
+use Rattle.smith_component.specs.Canonicals.{is_scalar_type}
+use Rattle.smith_component.specs.Importing.{Importing}
+use Rattle.smith_component.specs.Imports.{ReadsImport, totals_of, with_imports}
+use Rattle.smith_component.specs.Open.{Open}
+use Rattle.smith_component.specs.Tables.{AddsFunction, Tabled}
+use Rattle.smith_component.specs.Tree.{Tree, add, component_of, core_functions_in, function_of, functions_in, imports, imports_in, imports_of, instance_of, module_of, types_in, types_of}
+use Rattle.smith_component.specs.WellFormed.{import_names, scope_of}
+use Rattle.smith_component.specs.declared.builder.tables.Tables.{Tables}
+use Rattle.smith_component.specs.declared.builder.totals.TreeTotals.{TreeTotals}
+use Rattle.smith_component.proofs.Importing.{components_more, import_room, instances_more, modules_more}
+use Rattle.smith_component.proofs.Tables.{flat_map_more, names_grown, own_bare, own_grown, tabled_more}
+use Rattle.smith_component.proofs.Tree.{own-add}
+use Rattle.smith_component.proofs.builder.imports.read_import.Goals as goal
+use Rattle.smith_component.proofs.builder.imports.read_import.Goals.{in-Func+in_ok-add_function, in_default-ty}
+
+-- What the tables keep of what an import is of, and the names that they have then.
+record Takes (own : Scope) (old : Tables) (r : ComponentTypeRef) (externs : ExternNames) (new : Tables) : Type 0 where
+  pub functions : new.functions.items ≡ old.functions.items ++ function_of r
+  pub scalars : new.scalars.items ≡ old.scalars.items ++ places (is_scalar_type own.types) (length old.functions.items) (function_of r)
+  pub core_functions : new.core_functions.items ≡ old.core_functions.items
+  pub imports : new.imports ≡ externs
+
+-- a function
+takes_function : (own : Scope) (old mid new : Tables) (r : ComponentTypeRef) (i : ℕ) → r ≡ to.Func i → mid.functions.items ≡ old.functions.items → mid.scalars.items ≡ old.scalars.items → mid.core_functions.items ≡ old.core_functions.items → AddsFunction own mid i new
+    → Takes own old r mid.imports new
+takes_function own old mid new r i e fs ss cs adds =
+    subst (λ z. Takes own old z mid.imports new) (sym e) (record {
+      functions = adds.functions ∙ ap (λ z. z ++ i ∷ []) fs;
+      scalars =
+          adds.scalars
+          ∙ (ap (λ z. z ++ (if is_scalar_type own.types i then length mid.functions.items ∷ [] else [])) ss
+          ∙ ap (λ z. old.scalars.items ++ (if is_scalar_type own.types i then length z ∷ [] else [])) fs);
+      core_functions = adds.core_functions ∙ cs;
+      imports = adds.imports;
+    })
+
+no_function : (r : ComponentTypeRef) → ((i : ℕ) → r ≡ to.Func i → ⊥) → function_of r ≡ []
+no_function (to.Module i) h = refl
+no_function (to.Func i) h = absurd (h i refl)
+no_function (to.TypeEq i) h = refl
+no_function (to.Component i) h = refl
+no_function (to.Instance i) h = refl
+
+-- none
+takes_none : (own : Scope) (old new : Tables) (r : ComponentTypeRef) (externs : ExternNames) → function_of r ≡ [] → new.functions.items ≡ old.functions.items → new.scalars.items ≡ old.scalars.items → new.core_functions.items ≡ old.core_functions.items → new.imports ≡ externs
+    → Takes own old r externs new
+takes_none own old new r externs e fs ss cs is = record {
+  functions = fs ∙ sym (ap (λ z. old.functions.items ++ z) e ∙ append-nil old.functions.items);
+  scalars = ss ∙ sym (ap (λ z. old.scalars.items ++ places (is_scalar_type own.types) (length old.functions.items) z) e ∙ append-nil old.scalars.items);
+  core_functions = cs;
+  imports = is;
+}
+
+function_within : (own : Scope) (r : ComponentTypeRef) → FormedRef own r → AllByRecursion (λ ty. ty < length own.types) (function_of r)
+function_within own (to.Module i) f = tt
+function_within own (to.Func i) f = (slice_get_within own.types i f.0 f.1, tt)
+function_within own (to.TypeEq i) f = tt
+function_within own (to.Component i) f = tt
+function_within own (to.Instance i) f = tt
+
+module _ (config : Config) (stack : Open) (is : List ImportEntry) (own : Scope) (totals : TreeTotals) (tables : Tables) (importing : Importing stack is own totals tables) where
+  counts_are : (counts : RefTotals) → counts.modules ≡ totals.modules → counts.funcs ≡ length tables.functions.items + length tables.core_functions.items → counts.components ≡ totals.components → counts.instances ≡ totals.instances
+      → counts ≡ totals_of (with_imports stack is)
+  counts_are counts ms fs cs ns =
+      let m = ms ∙ importing.totalled.modules in
+      let f : counts.funcs ≡ (totals_of (with_imports stack is)).funcs = omega (arith, fs, ap length importing.tabled.functions, ap length importing.tabled.core_functions) in
+      let c = cs ∙ importing.totalled.components in
+      let n = ns ∙ importing.totalled.instances in
+      λ i. record { modules = m i; funcs = f i; components = c i; instances = n i }
+
+  module _ (b mid rest : List ℕ) (r : ComponentTypeRef) (x : NamedExtern) where
+    abbrev entry : ImportEntry
+    entry = record { name = x.0; to = r }
+
+    import_is_read : (counts : RefTotals) → counts ≡ totals_of (with_imports stack is) → ReadsRef config own counts true false b r mid → ((so_far : List NamedExtern) → HoldsExterns tables.imports so_far → ReadsNamedExtern so_far mid x rest)
+        → ReadsImport config stack is b entry rest (is ++ entry ∷ [])
+    import_is_read counts e of named = record {
+      mid = mid;
+      so_far = importing.tabled.externs;
+      url = x.1;
+      of = subst (λ z. ReadsRef config (scope_of stack.inner) z true false b r mid) e (subst (λ z. ReadsRef config z counts true false b r mid) importing.scope_is of);
+      names_are = importing.tabled.names_are ∙ ap import_names (own-add imports_in stack.inner (imports is));
+      named = named importing.tabled.externs importing.tabled.holds;
+      next_is = refl;
+    }
+
+    abbrev old_tree : Tree
+    old_tree = add stack.inner (imports is)
+
+    abbrev new_tree : Tree
+    new_tree = add stack.inner (imports (is ++ entry ∷ []))
+
+    import_is_kept : (externs : ExternNames) (new : Tables) → FormedRef own r → Takes own tables r externs new → ((so_far : List NamedExtern) → HoldsExterns tables.imports so_far → HoldsExterns externs (so_far ++ x ∷ [])) → Tabled new new_tree
+    import_is_kept externs new formed takes holds =
+        let tabled : Tabled tables old_tree = importing.tabled in
+        let same : own.types ≡ types_of new_tree = ap (λ s. s.types) importing.scope_is ∙ sym (own_bare types_in stack.inner (imports (is ++ entry ∷ [])) refl) in
+        let grown : imports_of new_tree ≡ imports_of old_tree ++ entry ∷ [] = own_grown imports_in stack.inner (imports is) (imports (is ++ entry ∷ [])) (entry ∷ []) refl in
+        tabled_more tables new old_tree new_tree [] (function_of r) [] tabled
+        (own_grown types_in stack.inner (imports is) (imports (is ++ entry ∷ [])) [] refl)
+        (own_grown functions_in stack.inner (imports is) (imports (is ++ entry ∷ [])) (function_of r) (flat_map_more (λ (i : ImportEntry). function_of i.to) is entry))
+        (own_grown core_functions_in stack.inner (imports is) (imports (is ++ entry ∷ [])) [] refl)
+        (subst (λ ts. AllByRecursion (λ ty. ty < length ts) (function_of r)) same (function_within own r formed))
+        tt
+        takes.functions
+        (takes.core_functions ∙ sym (append-nil tables.core_functions.items))
+        (takes.scalars ∙ ap (λ ts. tables.scalars.items ++ places (is_scalar_type ts) (length tables.functions.items) (function_of r)) same)
+        (tabled.externs ++ x ∷ [])
+        (names_grown old_tree new_tree entry x tabled.externs tabled.names_are grown refl)
+        (subst (λ z. HoldsExterns z (tabled.externs ++ x ∷ [])) (sym takes.imports) (holds tabled.externs tabled.holds))
+
+    import_goes_on : (totals2 : TreeTotals) (new : Tables) → totals2.modules ≡ totals.modules + length (module_of r) → totals2.components ≡ totals.components + length (component_of r) → totals2.instances ≡ totals.instances + length (instance_of r) → Tabled new new_tree
+        → Importing stack (is ++ entry ∷ []) own totals2 new
+    import_goes_on totals2 new ms cs ns tabled = record {
+      scope_is = importing.scope_is;
+      totalled = record {
+        modules = omega (arith, ms, importing.totalled.modules, modules_more stack is entry);
+        components = omega (arith, cs, importing.totalled.components, components_more stack is entry);
+        instances = omega (arith, ns, importing.totalled.instances, instances_more stack is entry);
+      };
+      tabled = tabled;
+    }
+
+-- what is counted finds room
+counts_fit : (old more count most : ℕ) → count ≡ old → count + more ≤ max count most → most ≤ 4294967295 → 0 < more → old + 1 < 18446744073709551616
+counts_fit old more count most e room few some = omega (arith, e, room, few, some)
+
+pub count-requires-clause-modules : goal.count-requires-clause-modules
+count-requires-clause-modules c some =
+    let counts = c.with_functions-counts in
+    let room = import_room c.args.config.now (own_scope c.args.scopes.now) counts.result c.args.u.now c.in-Some.ty c.arbitrary_type_ref.new.u c.in-Some.ensures.reads in
+    counts_fit c.args.totals.now.modules (length (module_of c.in-Some.ty)) counts.result.modules c.args.config.now.max_modules counts.ensures.modules room.modules c.requires.consistent.modules some
+
+pub count-requires-clause-components : goal.count-requires-clause-components
+count-requires-clause-components c some =
+    let counts = c.with_functions-counts in
+    let room = import_room c.args.config.now (own_scope c.args.scopes.now) counts.result c.args.u.now c.in-Some.ty c.arbitrary_type_ref.new.u c.in-Some.ensures.reads in
+    counts_fit c.args.totals.now.components (length (component_of c.in-Some.ty)) counts.result.components c.args.config.now.max_components counts.ensures.components room.components c.requires.consistent.components some
+
+pub count-requires-clause-instances : goal.count-requires-clause-instances
+count-requires-clause-instances c some =
+    let counts = c.with_functions-counts in
+    let room = import_room c.args.config.now (own_scope c.args.scopes.now) counts.result c.args.u.now c.in-Some.ty c.arbitrary_type_ref.new.u c.in-Some.ensures.reads in
+    counts_fit c.args.totals.now.instances (length (instance_of c.in-Some.ty)) counts.result.instances c.args.config.now.max_instances counts.ensures.instances room.instances c.requires.consistent.instances some
+
+func_within : (own : Scope) (r : ComponentTypeRef) (i : ℕ) → r ≡ to.Func i → FormedRef own r → i < length own.types
+func_within own r i e f = let g : FormedRef own (to.Func i) = subst (FormedRef own) e f in slice_get_within own.types i g.0 g.1
+
+pub add_function-requires-clause-known : goal.add_function-requires-clause-known
+add_function-requires-clause-known c =
+    let own = own_scope c.args.scopes.now in
+    let counts = c.with_functions-counts.result in
+    func_within own c.in-Some.ty c.in-Func.i c.in-Func.is (ref_formed c.args.config.now own counts true false c.args.u.now c.in-Some.ty c.arbitrary_type_ref.new.u c.in-Some.ensures.reads)
+
+pub add_function-requires-clause-room : goal.add_function-requires-clause-room
+add_function-requires-clause-room c =
+    let counts = c.with_functions-counts in
+    let room = import_room c.args.config.now (own_scope c.args.scopes.now) counts.result c.args.u.now c.in-Some.ty c.arbitrary_type_ref.new.u c.in-Some.ensures.reads in
+    omega (arith, room.funcs, ap (λ r. length (function_of r)) c.in-Func.is, counts.ensures.funcs, c.function_count.ensures, c.requires.consistent.funcs)
+
+-- The import is read and counted, whatever it is of.
+imported : (c : goal.Joined-ty) (new : Tables) (ty : ComponentTypeRef) → ty ≡ c.in-Some.ty → Takes (own_scope c.args.scopes.now) c.args.tables.now c.in-Some.ty c.named_extern.new.externs new → (stack : Open) (is : List ImportEntry)
+    → Importing stack is (own_scope c.args.scopes.now) c.args.totals.now c.args.tables.now
+    → ReadsImport c.args.config.now stack is c.args.u.now (record { name = string_bytes c.in_ok-name.name; to = ty }) c.named_extern.new.u (is ++ (record { name = string_bytes c.in_ok-name.name; to = ty }) ∷ [])
+    × Importing stack (is ++ (record { name = string_bytes c.in_ok-name.name; to = ty }) ∷ []) (own_scope c.args.scopes.now) c.count.new.self new
+imported c new ty same takes stack is importing =
+    let config = c.args.config.now in
+    let own = own_scope c.args.scopes.now in
+    let r : ComponentTypeRef = c.in-Some.ty in
+    let x : NamedExtern = (string_bytes c.in_ok-name.name, shown_url c.in_ok-name.url) in
+    let counts = c.with_functions-counts in
+    let e = counts_are config stack is own c.args.totals.now c.args.tables.now importing counts.result counts.ensures.modules (counts.ensures.funcs ∙ c.function_count.ensures) counts.ensures.components counts.ensures.instances in
+    let reads = import_is_read config stack is own c.args.totals.now c.args.tables.now importing c.args.u.now c.arbitrary_type_ref.new.u c.named_extern.new.u r x counts.result e c.in-Some.ensures.reads c.in_ok-name.ensures.reads in
+    let formed = ref_formed config own counts.result true false c.args.u.now r c.arbitrary_type_ref.new.u c.in-Some.ensures.reads in
+    let kept = import_is_kept config stack is own c.args.totals.now c.args.tables.now importing c.args.u.now c.arbitrary_type_ref.new.u c.named_extern.new.u r x c.named_extern.new.externs new formed takes c.in_ok-name.ensures.names in
+    let goes_on = import_goes_on config stack is own c.args.totals.now c.args.tables.now importing c.args.u.now c.arbitrary_type_ref.new.u c.named_extern.new.u r x c.count.new.self new c.count.ensures.modules c.count.ensures.components c.count.ensures.instances kept in
+    let P : ComponentTypeRef → Type 0 = λ t. ReadsImport config stack is c.args.u.now (record { name = x.0; to = t }) c.named_extern.new.u (is ++ (record { name = x.0; to = t }) ∷ []) × Importing stack (is ++ (record { name = x.0; to = t }) ∷ []) own c.count.new.self new in
+    subst P (sym same) (reads, goes_on)
+
+pub returns-clause-imports : goal.returns-clause-imports
+returns-clause-imports c =
+    let own = own_scope c.args.scopes.now in
+    let old : Tables = c.args.tables.now in
+    let mid : Tables = record { functions = old.functions; core_functions = old.core_functions; scalars = old.scalars; imports = c.named_extern.new.externs } in
+    let Kept : Tables → Type 0 = λ new. Takes own old c.in-Some.ty c.named_extern.new.externs new in
+    elim c.match-ty.branch [
+      | in-Func+in_ok-add_function w ↦
+          imported c c.match-ty.tables c.match-ty.ty (w.ty-is ∙ sym w.in-Func.is) (subst Kept (sym w.tables-is) (takes_function own old mid w.add_function.new.self c.in-Some.ty w.in-Func.i w.in-Func.is refl refl refl w.in_ok-add_function.ensures.ok))
+      | in_default-ty w ↦
+          imported c c.match-ty.tables c.match-ty.ty w.ty-is (subst Kept (sym w.tables-is) (takes_none own old mid c.in-Some.ty c.named_extern.new.externs (no_function c.in-Some.ty w.in_default-ty.not-Func) refl refl refl refl))
+    ]
+
+pub returns-clause-tail : goal.returns-clause-tail
+returns-clause-tail c = tail_trans c.in_ok-name.ensures.tail c.in-Some.ensures.tail

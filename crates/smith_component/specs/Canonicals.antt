@@ -1,0 +1,110 @@
+-- How canonical functions are read, and where a lift defines its type.
+use Rattle.std.specs.Prelude.{◌≡◌, ℕ, ◌-◌, ◌<◌, ◌≤◌, Bool, true, false, List, [], ◌∷◌, ◌++◌, length, nat_lt, Option, Some, None, slice_get}
+use Rattle.smith_input.specs.Choices.{ReadsAmong}
+use Rattle.smith_input.specs.Loops.{Loop}
+use Rattle.smith_input.specs.Reading.{Reads}
+use Rattle.smith_input.specs.Script.{offers_of}
+use Rattle.smith_core.specs.CoreTypes.{Function}
+use Rattle.smith_core.specs.declared.config.Config.{Config}
+use Rattle.smith_syntax.specs.Entries.{Entry, defined, function, component_type, instance_type, Signature}
+use Rattle.smith_syntax.specs.Flat.{Flattens, is_scalar}
+use Rattle.smith_syntax.specs.Scope.{places}
+use Rattle.smith_syntax.specs.Shown.{is_of_signature}
+use Rattle.smith_types.specs.Lifting.{ReadsLifted}
+use Rattle.smith_component.specs.Tree.{Canon, lift, lower, Tree, types, canons, add, function_count}
+use Rattle.smith_component.specs.WellFormed.{Spaces, spaces_of, HasSignature}
+use Rattle.smith_component.specs.declared.item.CanonItem.{CanonItem}
+use Rattle.smith_component.specs.declared.item.CanonItem.TheVariants.{Lower, Lift}
+
+-- A canonical section that grows: the parts in front of it, and what it has so far.
+pub record Growing : Type 0 where
+  pub before : Tree
+  pub funcs : List Canon
+
+-- the component with that section
+abbrev pub grown : Growing → Tree
+grown s = add s.before (canons s.funcs)
+
+abbrev pub spaces_at : Growing → Spaces
+spaces_at s = spaces_of (grown s)
+
+-- the section with one function more
+abbrev pub with_canon : Growing → Canon → Growing
+with_canon s c = record { before = s.before; funcs = s.funcs ++ c ∷ [] }
+
+-- Is it a function type that flattens?
+abbrev pub is_scalar_entry : Entry → Bool
+is_scalar_entry (defined t) = false
+is_scalar_entry (function s) = is_scalar s
+is_scalar_entry (component_type ds) = false
+is_scalar_entry (instance_type ds) = false
+
+-- Is the type of that index one?
+abbrev pub is_scalar_type : List Entry → ℕ → Bool
+is_scalar_type ts t = elim (slice_get ts t) [ None ↦ false | Some e ↦ is_scalar_entry e ]
+
+-- the component functions that can be lowered, ascending
+abbrev pub scalar_functions : Spaces → List ℕ
+scalar_functions s = places (is_scalar_type s.types) 0 s.functions
+
+-- what a turn is among: a lower where there is a function that can be lowered, and a lift where there is a core function
+abbrev pub canon_offers : Spaces → List (Bool × CanonItem)
+canon_offers s = (nat_lt 0 (length (scalar_functions s)), Lower) ∷ (nat_lt 0 (length s.core_functions), Lift) ∷ []
+
+abbrev pub canon_items : Spaces → List CanonItem
+canon_items s = offers_of (canon_offers s)
+
+-- a choice of a function that can be lowered
+abbrev pub ReadsLower : Growing → List ℕ → List ℕ → Growing → Type 0
+ReadsLower s bytes rest next = (f : ℕ) × ReadsAmong (scalar_functions (spaces_at s)) bytes f rest × (next ≡ with_canon s (lower f))
+
+-- the types of the component that are equal to a function type
+abbrev pub equal_types : Growing → Signature → List ℕ
+equal_types s signature = places (is_of_signature signature) 0 (spaces_at s).types
+
+-- A type section of that type behind the canonical section, and a canonical section with the lift behind that.
+abbrev pub with_defined : Growing → ℕ → Signature → Growing
+with_defined s c signature = record { before = add (grown s) (types (function signature ∷ [])); funcs = lift c (length (spaces_at s).types) ∷ [] }
+
+-- A lift is to a type that is equal, by a choice among these. Where there is none, it defines the type, if the component may have one
+-- more; else it is given up.
+pub data LiftsTo (config : Config) (s : Growing) (c : ℕ) (signature : Signature) (bytes rest : List ℕ) (next : Growing) : Type 0 where
+  to_equal : {t : ℕ} → ReadsAmong (equal_types s signature) bytes t rest → next ≡ with_canon s (lift c t) → LiftsTo config s c signature bytes rest next
+  to_defined : equal_types s signature ≡ [] → length (spaces_at s).types < config.max_types → rest ≡ bytes → next ≡ with_defined s c signature → LiftsTo config s c signature bytes rest next
+  given_up : equal_types s signature ≡ [] → config.max_types ≤ length (spaces_at s).types → rest ≡ bytes → next ≡ s → LiftsTo config s c signature bytes rest next
+
+-- A lift: a choice of a core function, and a function type that flattens as the type of the function that it lowers.
+pub record ReadsLift (config : Config) (s : Growing) (bytes rest : List ℕ) (next : Growing) : Type 0 where
+  pub c : ℕ
+  pub mid : List ℕ
+  pub low : List ℕ
+  pub f : ℕ
+  pub lowered : Signature
+  pub core : Function
+  pub signature : Signature
+  pub chooses : Reads (length (spaces_at s).core_functions) bytes c mid
+  pub lowers : slice_get (spaces_at s).core_functions c ≡ Some f
+  pub of : HasSignature (spaces_at s) f lowered
+  pub flattens : Flattens lowered core
+  pub reads : ReadsLifted core mid signature low
+  pub lifts : LiftsTo config s c signature low rest next
+
+-- a turn by what was chosen
+abbrev pub ReadsCanon : Config → Growing → CanonItem → List ℕ → List ℕ → Growing → Type 0
+ReadsCanon config s Lower bytes rest next = ReadsLower s bytes rest next
+ReadsCanon config s Lift bytes rest next = ReadsLift config s bytes rest next
+
+abbrev pub CanonTurn : Config → Growing → List ℕ → CanonItem → List ℕ → Growing → Type 0
+CanonTurn config s bytes item rest next = (mid : List ℕ) × ReadsAmong (canon_items (spaces_at s)) bytes item mid × ReadsCanon config s item mid rest next
+
+-- The section ends where no function can be lowered or lifted.
+abbrev pub NoCanon : Growing → List ℕ → List ℕ → Growing → Type 0
+NoCanon s bytes rest next = (canon_items (spaces_at s) ≡ []) × (rest ≡ bytes) × (next ≡ s)
+
+-- an empty section at the end of the component
+abbrev pub empty_section : Tree → Growing
+empty_section t = record { before = t; funcs = [] }
+
+-- at least so many turns, and at most as many as the component may still have functions
+abbrev pub ReadsCanons : Config → ℕ → Tree → List ℕ → List CanonItem → List ℕ → Growing → Type 0
+ReadsCanons config min t bytes turns rest next = Loop NoCanon (CanonTurn config) min (config.max_funcs - function_count t) 0 (empty_section t) bytes turns rest next

@@ -1,0 +1,63 @@
+-- A canonical section as the program makes it.
+use Rattle.std.specs.Prelude.{◌≡◌, ℕ, ◌<◌, Bool, true, false, not, List, [], ◌∷◌, ◌++◌, map, length, nat_lt, Some, slice_get}
+use Rattle.smith_input.specs.Script.{offers_of}
+use Rattle.smith_core.specs.CoreTypes.{Function}
+use Rattle.smith_core.specs.declared.config.Config.{Config}
+use Rattle.smith_syntax.specs.Entries.{Signature, function}
+use Rattle.smith_syntax.specs.Flat.{Flattens, is_scalar}
+use Rattle.smith_syntax.specs.Scope.{Scope}
+use Rattle.smith_types.specs.Lifting.{ReadsLifted}
+use Rattle.smith_scopes.specs.Scopes.{Contents, own_scope}
+use Rattle.smith_component.specs.Canonicals.{CanonTurn, Growing, NoCanon, grown}
+use Rattle.smith_component.specs.Shown.{shown_canon, shown_sections}
+use Rattle.smith_component.specs.Tables.{Tabled}
+use Rattle.smith_component.specs.WellFormed.{scope_of}
+use Rattle.smith_component.specs.declared.builder.open.OpenComponent.{OpenComponent}
+use Rattle.smith_component.specs.declared.builder.tables.Tables.{Tables}
+use Rattle.smith_component.specs.declared.component.Func.{Func}
+use Rattle.smith_component.specs.declared.component.Section.{Section}
+use Rattle.smith_component.specs.declared.item.CanonItem.{CanonItem}
+use Rattle.smith_component.specs.declared.item.CanonItem.TheVariants.{Lower, Lift}
+
+-- the section that grows behind the sections of a component
+abbrev pub growing : OpenComponent → List Func → Growing
+growing component funcs = record { before = shown_sections component.sections.items; funcs = map shown_canon funcs }
+
+-- The last scope and the tables are those of the component with that section.
+pub record IsDraft (scopes : List Contents) (component : OpenComponent) (funcs : List Func) : Type 0 where
+  pub scope_is : own_scope scopes ≡ scope_of (grown (growing component funcs))
+  pub tabled : Tabled component.tables (grown (growing component funcs))
+
+-- The sections that stood before stay in front.
+pub record KeepsFront (old new : OpenComponent) : Type 0 where
+  pub more : List Section
+  pub sections : new.sections.items ≡ old.sections.items ++ more
+
+-- what a turn is among, by the tables
+abbrev pub canon_items_of : Tables → List CanonItem
+canon_items_of tables = offers_of ((nat_lt 0 (length tables.scalars.items), Lower) ∷ (nat_lt 0 (length tables.core_functions.items), Lift) ∷ [])
+
+-- The core function lowers a component function whose type is of that signature.
+pub record LowersAs (own : Scope) (tables : Tables) (c : ℕ) (signature : Signature) : Type 0 where
+  pub f : ℕ
+  pub ty : ℕ
+  pub lowers : slice_get tables.core_functions.items c ≡ Some f
+  pub stands : slice_get tables.functions.items f ≡ Some ty
+  pub is : slice_get own.types ty ≡ Some (function signature)
+
+-- It lowers one whose type flattens.
+abbrev pub IsLowered : Scope → Tables → ℕ → Type 0
+IsLowered own tables c = (signature : Signature) × LowersAs own tables c signature × (is_scalar signature ≡ true)
+
+-- A signature is read that flattens as that of the function which the core function lowers.
+pub record LiftsAs (own : Scope) (tables : Tables) (c : ℕ) (bytes : List ℕ) (signature : Signature) (rest : List ℕ) : Type 0 where
+  pub lowered : Signature
+  pub core : Function
+  pub of : LowersAs own tables c lowered
+  pub flattens : Flattens lowered core
+  pub reads : ReadsLifted core bytes signature rest
+
+-- a turn that is made, or none because no function can be lowered or lifted
+abbrev pub IsDrafted : Config → Growing → List ℕ → Bool → List ℕ → Growing → Type 0
+IsDrafted config s b true rest next = (item : CanonItem) × CanonTurn config s b item rest next
+IsDrafted config s b false rest next = NoCanon s b rest next

@@ -1,0 +1,32 @@
+-- An import section as the program makes it.
+use Rattle.std.specs.Prelude.{◌≡◌, ℕ, List, ◌∷◌, [], ◌++◌, Option, Some, None}
+use Rattle.smith_core.specs.declared.config.Config.{Config}
+use Rattle.smith_syntax.specs.Entries.{ImportEntry}
+use Rattle.smith_syntax.specs.Scope.{Scope}
+use Rattle.smith_syntax.specs.Shown.{import_shown}
+use Rattle.smith_syntax.specs.declared.deftype.Import.{Import}
+use Rattle.smith_component.specs.Imports.{with_imports, NoImport, ReadsImport}
+use Rattle.smith_component.specs.Open.{Open, tree_so_far}
+use Rattle.smith_component.specs.Tables.{Tabled}
+use Rattle.smith_component.specs.Tree.{module_count, component_count, instance_count}
+use Rattle.smith_component.specs.WellFormed.{scope_of}
+use Rattle.smith_component.specs.declared.builder.tables.Tables.{Tables}
+use Rattle.smith_component.specs.declared.builder.totals.TreeTotals.{TreeTotals}
+
+-- The running totals are those of the tree so far.
+pub record Totalled (totals : TreeTotals) (stack : Open) : Type 0 where
+  pub modules : totals.modules ≡ module_count (tree_so_far stack.outer stack.inner)
+  pub components : totals.components ≡ component_count (tree_so_far stack.outer stack.inner)
+  pub instances : totals.instances ≡ instance_count (tree_so_far stack.outer stack.inner)
+
+-- The scope, the totals and the tables are those of the open components, where a section has these imports.
+pub record Importing (stack : Open) (is : List ImportEntry) (own : Scope) (totals : TreeTotals) (tables : Tables) : Type 0 where
+  pub scope_is : own ≡ scope_of stack.inner
+  pub totalled : Totalled totals (with_imports stack is)
+  pub tabled : Tabled tables (with_imports stack is).inner
+
+-- an import that is read and counted, or none
+abbrev pub ImportsOne : Config → Open → List ImportEntry → Scope → TreeTotals → Tables → List ℕ → Option Import → List ℕ → Type 0
+ImportsOne config stack is own totals tables b None rest = NoImport config stack is b rest is × Importing stack is own totals tables
+ImportsOne config stack is own totals tables b (Some i) rest =
+    ReadsImport config stack is b (import_shown i) rest (is ++ import_shown i ∷ []) × Importing stack (is ++ import_shown i ∷ []) own totals tables

@@ -1,0 +1,50 @@
+-- How an import section is read.
+use Rattle.std.specs.Prelude.{◌≡◌, ℕ, ◌-◌, true, false, List, [], ◌∷◌, ◌++◌, length, Option}
+use Rattle.smith_input.specs.Loops.{Loop}
+use Rattle.smith_core.specs.declared.config.Config.{Config}
+use Rattle.smith_syntax.specs.Entries.{ImportEntry}
+use Rattle.smith_syntax.specs.WellFormed.{names}
+use Rattle.smith_types.specs.Declarations.{NamedExtern, ReadsNamedExtern}
+use Rattle.smith_types.specs.References.{ReadsRef, ref_kinds}
+use Rattle.smith_types.specs.declared.make.references.RefKind.{RefKind}
+use Rattle.smith_types.specs.declared.make.references.RefTotals.{RefTotals}
+use Rattle.smith_component.specs.Open.{Open, tree_so_far, with_inner}
+use Rattle.smith_component.specs.Tree.{Tree, imports, add, imports_of, module_count, component_count, instance_count, function_count}
+use Rattle.smith_component.specs.WellFormed.{scope_of, import_names}
+
+-- the open components, where the inner one has these imports more in a section of their own
+abbrev pub with_imports : Open → List ImportEntry → Open
+with_imports stack is = with_inner stack (add stack.inner (imports is))
+
+-- how many modules, components and instances the tree has so far, and how many functions the inner component
+abbrev pub totals_of : Open → RefTotals
+totals_of stack = record {
+  modules = module_count (tree_so_far stack.outer stack.inner);
+  funcs = function_count stack.inner;
+  components = component_count (tree_so_far stack.outer stack.inner);
+  instances = instance_count (tree_so_far stack.outer stack.inner);
+}
+
+-- what the next import may be of, where the section has these
+abbrev pub import_kinds : Config → Open → List ImportEntry → List RefKind
+import_kinds config stack is = ref_kinds config (scope_of stack.inner) (totals_of (with_imports stack is)) true false
+
+-- An import behind these of its section: what it is of, a name that is new among the component's imports, and a URL or none, which is
+-- new among some of which a plain tree knows nothing.
+pub record ReadsImport (config : Config) (stack : Open) (is : List ImportEntry) (bytes : List ℕ) (x : ImportEntry) (rest : List ℕ) (next : List ImportEntry) : Type 0 where
+  pub mid : List ℕ
+  pub so_far : List NamedExtern
+  pub url : Option (List ℕ)
+  pub of : ReadsRef config (scope_of stack.inner) (totals_of (with_imports stack is)) true false bytes x.to mid
+  pub names_are : names so_far ≡ import_names (imports_of stack.inner ++ is)
+  pub named : ReadsNamedExtern so_far mid (x.name, url) rest
+  pub next_is : next ≡ is ++ x ∷ []
+
+-- The section ends where nothing can be imported.
+abbrev pub NoImport : Config → Open → List ImportEntry → List ℕ → List ℕ → List ImportEntry → Type 0
+NoImport config stack is bytes rest next = (import_kinds config stack is ≡ []) × (rest ≡ bytes) × (next ≡ is)
+
+-- a section of at least so many imports, and of at most as many as the component may still have
+abbrev pub ReadsImports : Config → ℕ → Open → List ℕ → List ImportEntry → List ℕ → Type 0
+ReadsImports config min stack bytes is rest =
+    Loop (NoImport config stack) (ReadsImport config stack) min (config.max_imports - length (imports_of stack.inner)) 0 [] bytes is rest is

@@ -1,0 +1,80 @@
+//! The imports of a section.
+
+ghost use Rattle.std.specs.Prelude.{◌≡◌, ◌≤◌, [], List, map, IfOk, IfErr};
+ghost use Rattle.smith_input.specs.Reading.{IsTail};
+ghost use Rattle.smith_input.specs.Loops.{Loop};
+ghost use Rattle.smith_core.specs.Limits.{IsConsistent};
+ghost use Rattle.smith_syntax.specs.Entries.{ImportEntry};
+ghost use Rattle.smith_syntax.specs.Shown.{import_shown};
+ghost use Rattle.smith_scopes.specs.Scopes.{own_scope};
+ghost use Rattle.smith_component.specs.Importing.{Importing, ImportsOne};
+ghost use Rattle.smith_component.specs.Imports.{NoImport, ReadsImport};
+ghost use Rattle.smith_component.specs.Open.{Open};
+
+use crate::builder::tables::Tables;
+use crate::builder::totals::TreeTotals;
+use smith_core::Config;
+use smith_input::{Error, Unstructured};
+use smith_types::{ComponentTypeRef, Import, Scopes, arbitrary_type_ref, named_extern};
+use std::alloc::Global;
+
+// An import, or none where nothing can be imported. It is counted.
+fn read_import(
+    alloc: Global,
+    config: &Config,
+    scopes: &Scopes,
+    totals: &mut TreeTotals,
+    tables: &mut Tables,
+    u: &mut Unstructured,
+) -> Result<Option<Import>, Error>
+    requires consistent { IsConsistent config.now }
+    ensures imports { (stack : Open) (is : List ImportEntry) → Importing stack is (own_scope scopes.now) totals.old tables.old
+        → IfOk result (λ i. ImportsOne config.now stack is (own_scope scopes.now) totals.new tables.new u.old i u.new) }
+    ensures memory { IfErr result (λ e. e ≡ Error.OutOfMemory) }
+    ensures tail { IsTail u.new u.old }
+{
+    let counts = totals.with_functions(tables.function_count());
+    let Some(ty) = arbitrary_type_ref(u, config, scopes, counts, true, false) else {
+        return Ok(None);
+    };
+    let (name, url) = named_extern(alloc, u, &mut tables.imports)?;
+    totals.count(ty);
+    if let ComponentTypeRef::Func(i) = ty {
+        tables.add_function(scopes, i)?;
+    }
+    Ok(Some(Import { name, url, ty }))
+}
+
+// The imports of a section, at least and at most so many, unless nothing can be imported.
+pub(super) fn read_imports(
+    alloc: Global,
+    config: &Config,
+    scopes: &Scopes,
+    totals: &mut TreeTotals,
+    tables: &mut Tables,
+    min: usize,
+    max: usize,
+    u: &mut Unstructured,
+) -> Result<Vec<Import>, Error>
+    requires consistent { IsConsistent config.now }
+    requires ordered { min ≤ max }
+    ensures reads { (stack : Open) → Importing stack [] (own_scope scopes.now) totals.old tables.old
+        → IfOk result (λ v. Loop (NoImport config.now stack) (ReadsImport config.now stack) min max 0
+        [] u.old (map import_shown v.items) u.new (map import_shown v.items)) }
+    ensures counts { (stack : Open) → Importing stack [] (own_scope scopes.now) totals.old tables.old
+        → IfOk result (λ v. Importing stack (map import_shown v.items) (own_scope scopes.now) totals.new tables.new) }
+    ensures memory { IfErr result (λ e. e ≡ Error.OutOfMemory) }
+    ensures tail { IsTail u.new u.old }
+{
+    let mut imports = Vec::new(alloc);
+    for done in 0..max {
+        if !u.more(done, min, max) {
+            return Ok(imports);
+        }
+        let Some(import) = read_import(alloc, config, scopes, totals, tables, u)? else {
+            return Ok(imports);
+        };
+        imports.push(import)?;
+    }
+    Ok(imports)
+}

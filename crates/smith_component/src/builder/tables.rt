@@ -1,0 +1,75 @@
+//! What is kept of a component beside its sections, so that no turn searches them.
+
+ghost use Rattle.std.specs.Prelude.{◌≡◌, ◌+◌, ◌<◌, length, OnOk, IfErr};
+ghost use Rattle.smith_scopes.specs.Scopes.{own_scope};
+ghost use Rattle.smith_component.specs.Canonicals.{is_scalar_type};
+ghost use Rattle.smith_component.specs.Tables.{Tabled, AddsFunction, AddsCoreFunction};
+ghost use Rattle.smith_component.specs.Tree.{ends};
+
+use smith_input::Error;
+use smith_types::{DefType, ExternNames, Scopes};
+use std::alloc::Global;
+
+// The component functions by the indexes of their types, the core functions by those of the component functions that
+// they lower, the component functions that can be lowered, and the names of the imports.
+#[derive(Drop)]
+pub(super) struct Tables {
+    pub(super) functions: Vec<u32>,
+    pub(super) core_functions: Vec<u32>,
+    pub(super) scalars: Vec<u32>,
+    pub(super) imports: ExternNames,
+}
+
+// Is the type of the last scope with that index a function type that flattens?
+fn is_scalar_type(scopes: &Scopes, ty: u32) -> bool
+    requires { ty < length (own_scope scopes.now).types }
+    ensures { result ≡ is_scalar_type (own_scope scopes.now).types ty }
+{
+    match &**scopes.get(0, ty) {
+        DefType::Func(func) => func.is_scalar(),
+        DefType::Defined(_) | DefType::Component(_) | DefType::Instance(_) => false,
+    }
+}
+
+impl Tables {
+    pub(super) fn new(alloc: Global) -> Tables
+        ensures { Tabled result ends }
+    {
+        Tables {
+            functions: Vec::new(alloc),
+            core_functions: Vec::new(alloc),
+            scalars: Vec::new(alloc),
+            imports: ExternNames::new(alloc),
+        }
+    }
+
+    // How many functions there are, component functions and core functions together.
+    pub(super) fn function_count(&self) -> usize
+        ensures { result ≡ length self.now.functions.items + length self.now.core_functions.items }
+    {
+        self.functions.len() + self.core_functions.len()
+    }
+
+    // Adds a component function of the type with that index.
+    pub(super) fn add_function(&mut self, scopes: &Scopes, ty: u32) -> Result<(), Error>
+        requires known { ty < length (own_scope scopes.now).types }
+        requires room { length self.old.functions.items < 4294967295 }
+        ensures ok { OnOk result (AddsFunction (own_scope scopes.now) self.old ty self.new) }
+        ensures memory { IfErr result (λ e. e ≡ Error.OutOfMemory) }
+    {
+        if is_scalar_type(scopes, ty) {
+            self.scalars.push(self.functions.len() as u32)?;
+        }
+        self.functions.push(ty)?;
+        Ok(())
+    }
+
+    // Adds a core function that lowers the component function with that index.
+    pub(super) fn add_core_function(&mut self, func_index: u32) -> Result<(), Error>
+        ensures ok { OnOk result (AddsCoreFunction self.old func_index self.new) }
+        ensures memory { IfErr result (λ e. e ≡ Error.OutOfMemory) }
+    {
+        self.core_functions.push(func_index)?;
+        Ok(())
+    }
+}

@@ -1,0 +1,190 @@
+-- What the program keeps of a module type that it makes, step by step.
+use Rattle.std.proofs.Common.{◌≡◌, ℕ, zero, suc, ◌+◌, ◌-◌, ◌<◌, ◌≤◌, Bool, true, false, List, [], ◌∷◌, ◌++◌, map, length, refl, sym, ap, ◌∙◌, subst, arith, append-nil, append_assoc, length-append, bytes_eq}
+use Rattle.std.proofs.lemmas.Bool.{false≢true}
+use Rattle.std.proofs.lemmas.List.{length-map, map-append}
+use Rattle.std.proofs.lemmas.List.Concat.{flat_map-cons}
+use Rattle.std.proofs.lemmas.List.Elements.{filter-append}
+use Rattle.std.proofs.lemmas.Bool.Decides.{nat_tests}
+use Rattle.std.proofs.lemmas.Option.{slice_get_within, slice_get-map}
+use Rattle.std.specs.Option.{option_to_list}
+use Rattle.std.specs.List.{filter, flat_map, IsDistinct}
+use Rattle.std.specs.Prelude.{◌↔◌, IsTrue, IfSome, nat_lt, Option, Some, None, option_map, slice_get}
+use Rattle.smith_core.specs.CoreFormed.{FormedMemory}
+use Rattle.smith_core.specs.CoreTypes.{Function}
+use Rattle.smith_core.specs.Entities.{CoreImport}
+use Rattle.smith_core.specs.declared.config.Config.{Config}
+use Rattle.smith_core.specs.declared.types.EntityType.{EntityType}
+use Rattle.smith_core.specs.declared.types.MemoryType.{MemoryType}
+use Rattle.smith_input.specs.Choices.{ReadsAmong}
+use Rattle.smith_input.specs.Names.{is_among}
+use Rattle.smith_syntax.specs.Entries.{CoreEntry, ModuleDecl, aliases, core_func, core_module}
+use Rattle.smith_core_types.specs.MadeCore.{ReadsDecl, ReadsFront, indexes, module_items, no_export, no_import}
+use Rattle.smith_core_types.specs.MadeCore.{Declared as SoFar}
+use Rattle.smith_core_types.specs.MakingCore.{Adds, Turns, choices_among}
+use Rattle.smith_syntax.specs.ModuleTypes.{adds, aliased, export_names, export_of, HasNewNames, import_of, names_from}
+use Rattle.smith_syntax.specs.Scope.{Scope, is_core_func, own_of, places}
+use Rattle.smith_scopes.specs.Scopes.{Contents, inward, last_of}
+use Rattle.smith_syntax.specs.Shown.{shown_core}
+use Rattle.smith_syntax.specs.declared.core_types.CoreType.{CoreType}
+use Rattle.smith_core_types.specs.declared.module_types.ModuleItem.{ModuleItem}
+use Rattle.smith_core_types.specs.declared.module_types.ModuleItem.TheVariants as item
+use Rattle.smith_scopes.proofs.Stack.{length-last-core, own_last}
+use Rattle.smith_core_types.proofs.MadeCore.{decl_of_formed}
+use Rattle.smith_core_types.proofs.ModuleFronts.{front_is}
+use Rattle.smith_core_types.proofs.ModuleTypes.{HasNewName, exported_more, export_new, import_new, judged_front, judged_names, names_more}
+use Rattle.smith_core_types.proofs.Names.{AreNew, distinct_new, new_distinct, none_before}
+use Rattle.smith_scopes.proofs.Places.{place_stands, get_left, get_right}
+
+-- indexes
+
+pub length-indexes : {A : Type 0} (i : ℕ) (xs : List A) → length (places (λ x. true) i xs) ≡ length xs
+length-indexes i [] = refl
+length-indexes i (x ∷ xs) = ap suc (length-indexes (i + 1) xs)
+
+pub index_at : {A : Type 0} (i : ℕ) (xs : List A) (k : ℕ) → k < length xs → slice_get (places (λ x. true) i xs) k ≡ Some (i + k)
+index_at i [] k h = absurd (omega arith)
+index_at i (x ∷ xs) zero h = let e : i ≡ i + 0 = omega arith in ap Some e
+index_at i (x ∷ xs) (suc k) h = let e : i + 1 + k ≡ i + suc k = omega arith in index_at (i + 1) xs k (omega arith) ∙ ap Some e
+
+pub own_at : {A : Type 0} (xs : List A) (k : ℕ) → k < length xs → slice_get (places (λ x. true) 0 xs) k ≡ Some k
+own_at xs k h = let e : 0 + k ≡ k = omega arith in index_at 0 xs k h ∙ ap Some e
+
+-- counts
+
+abbrev entities_in : ModuleDecl → List EntityType
+entities_in d = map (λ i. i.2) (import_of d) ++ map (λ x. x.1) (export_of d)
+
+-- names
+
+new_at : (before xs : List (List ℕ)) (n : List ℕ) (ys : List (List ℕ)) → AreNew before (xs ++ n ∷ ys) → is_among (before ++ xs) n ≡ false
+new_at before [] n ys a = ap (λ z. is_among z n) (append-nil before) ∙ a.0
+new_at before (x ∷ xs) n ys a = ap (λ z. is_among z n) (sym (append_assoc before (x ∷ []) xs)) ∙ new_at (before ++ x ∷ []) xs n ys a.1
+
+-- one of distinct names is none of those before it
+pub new_after : (all xs : List (List ℕ)) (n : List ℕ) (ys : List (List ℕ)) → IsDistinct bytes_eq all → xs ++ n ∷ ys ≡ all → is_among xs n ≡ false
+new_after all xs n ys d e = new_at [] xs n ys (distinct_new [] (xs ++ n ∷ ys) (none_before (xs ++ n ∷ ys)) (subst (IsDistinct bytes_eq) (sym e) d))
+
+prefix_new : (before xs ys : List (List ℕ)) → AreNew before (xs ++ ys) → AreNew before xs
+prefix_new before [] ys a = tt
+prefix_new before (x ∷ xs) ys a = (a.0, prefix_new (before ++ x ∷ []) xs ys a.1)
+
+-- the names before others are distinct
+pub distinct_prefix : (all xs ys : List (List ℕ)) → IsDistinct bytes_eq all → xs ++ ys ≡ all → IsDistinct bytes_eq xs
+distinct_prefix all xs ys d e = new_distinct [] xs (prefix_new [] xs ys (distinct_new [] (xs ++ ys) (none_before (xs ++ ys)) (subst (IsDistinct bytes_eq) (sym e) d)))
+
+pub exports_more : (d : ModuleDecl) (ds : List ModuleDecl) → export_names (d ∷ ds) ≡ export_names (d ∷ []) ++ export_names ds
+exports_more d ds =
+    ap (map (λ x. x.0)) (flat_map-cons export_of d ds) ∙ map-append (λ x. x.0) (export_of d) (flat_map export_of ds)
+    ∙ ap (λ z. map (λ x. x.0) z ++ export_names ds) (sym (append-nil (export_of d)))
+
+pub imports_more : (from : List ℕ) (d : ModuleDecl) (ds : List ModuleDecl) → names_from from (d ∷ ds) ≡ names_from from (d ∷ []) ++ names_from from ds
+imports_more from d ds =
+    let mine : List CoreImport → List (List ℕ) = λ z. map (λ i. i.1) (filter (λ i. bytes_eq i.0 from) z) in
+    ap mine (flat_map-cons import_of d ds)
+    ∙ ap (map (λ i. i.1)) (filter-append (λ i. bytes_eq i.0 from) (import_of d) (flat_map import_of ds))
+    ∙ map-append (λ i. i.1) (filter (λ i. bytes_eq i.0 from) (import_of d)) (filter (λ i. bytes_eq i.0 from) (flat_map import_of ds))
+    ∙ ap (λ z. mine z ++ names_from from ds) (sym (append-nil (import_of d)))
+
+-- outer aliases
+
+pub choices_count : (around : Scope) (own : List Function) → length (choices_among around own) ≡ length (places is_core_func 0 around.core_types) + length own
+choices_count around own =
+    let here = places is_core_func 0 around.core_types in
+    let f : ℕ → ℕ × ℕ = λ i. (1, i) in
+    let g : ℕ → ℕ × ℕ = λ i. (0, i) in
+    omega (arith, length-append (map f here) (map g (indexes own)), length-map here f, length-map (indexes own) g, length-indexes 0 own)
+
+pub choice_around : (around : Scope) (own : List Function) (k i : ℕ) → slice_get (places is_core_func 0 around.core_types) k ≡ Some i → slice_get (choices_among around own) k ≡ Some (1, i)
+choice_around around own k i h =
+    let here = places is_core_func 0 around.core_types in
+    let f : ℕ → ℕ × ℕ = λ i. (1, i) in
+    get_left (map f here) (map (λ i. (0, i)) (indexes own)) k (omega (arith, length-map here f, slice_get_within here k i h))
+    ∙ (slice_get-map f here k ∙ ap (option_map f) h)
+
+pub choice_own : (around : Scope) (own : List Function) (k j : ℕ) → k ≡ length (places is_core_func 0 around.core_types) + j → j < length own → slice_get (choices_among around own) k ≡ Some (0, j)
+choice_own around own k j e h =
+    let here = places is_core_func 0 around.core_types in
+    let f : ℕ → ℕ × ℕ = λ i. (1, i) in
+    let g : ℕ → ℕ × ℕ = λ i. (0, i) in
+    get_right (map f here) (map g (indexes own)) k j (omega (arith, length-map here f, e))
+    ∙ (slice_get-map g (indexes own) j ∙ ap (option_map g) (own_at own j h))
+
+pub alias_adds : (around : List CoreEntry) (own : List Function) (count i : ℕ) (f : Function) → aliased around own count i ≡ Some f → adds around own (aliases count i) ≡ f ∷ []
+alias_adds around own count i f e = ap (λ o. option_to_list o ++ []) e
+
+pub same_state : {a b : List Function} {c d : List ModuleDecl} (f g : ℕ) → a ≡ b → c ≡ d → f ≡ g → let x : SoFar = record { own = a; decls = c; fuel = f } in let y : SoFar = record { own = b; decls = d; fuel = g } in x ≡ y
+same_state f g p q r = λ i. record { own = p i; decls = q i; fuel = r i }
+
+-- what a core function type of the innermost scope is
+
+pub record Around (scopes : List Contents) (p : ℕ) : Type 0 where
+  pub func : Function
+  pub at : slice_get (own_of (inward scopes)).core_types p ≡ Some (core_func func)
+  pub within : p < length (last_of scopes).core_types
+
+is_func_of : (e : CoreEntry) → is_core_func e ≡ true → (f : Function) × (e ≡ core_func f)
+is_func_of (core_func f) h = (f, refl)
+is_func_of (core_module ds) h = absurd (false≢true h)
+
+pub around_at : (scopes : List Contents) (k p : ℕ) → slice_get (places is_core_func 0 (own_of (inward scopes)).core_types) k ≡ Some p → Around scopes p
+around_at scopes k p h =
+    let es = (own_of (inward scopes)).core_types in
+    let f = place_stands is_core_func es k p h in
+    let g = is_func_of f.0 f.2 in
+    record { func = g.0; at = f.1 ∙ ap Some g.1; within = omega (arith, slice_get_within es p f.0 f.1, length-last-core scopes) }
+
+pub shown_at : (scopes : List Contents) (p : ℕ) (t : CoreType) → slice_get (last_of scopes).core_types p ≡ Some t → slice_get (own_of (inward scopes)).core_types p ≡ Some (shown_core t)
+shown_at scopes p t h =
+    ap (λ s. slice_get s.core_types p) (own_last scopes) ∙ (slice_get-map shown_core (last_of scopes).core_types p ∙ ap (option_map shown_core) h)
+
+-- what a boolean of 99 among 100 says
+
+by_place : (b : Bool) (k : ℕ) → (IsTrue b ↔ (1 + k ≤ 99)) → b ≡ false → (z : Bool) → nat_lt k 99 ≡ z → 99 ≤ k
+by_place b k h e true f = let lt : k < 99 = grind (arith, nat_tests) in let t : IsTrue b = h.1 (omega (arith, lt)) in absurd (false≢true (sym e ∙ t))
+by_place b k h e false f = grind (arith, nat_tests)
+
+pub ratio_false : (b : Bool) (k : ℕ) → (IsTrue b ↔ (1 + k ≤ 99)) → b ≡ false → 99 ≤ k
+ratio_false b k h e = by_place b k h e (nat_lt k 99) refl
+
+pub ratio_true : (b : Bool) (k : ℕ) → (IsTrue b ↔ (1 + k ≤ 99)) → b ≡ true → k < 99
+ratio_true b k h e = let t : 1 + k ≤ 99 = h.0 e in omega (arith, t)
+
+-- a core function type is no module type
+pub no_module : {f : Function} {e : CoreEntry} {ds : List ModuleDecl} → e ≡ core_func f → e ≡ core_module ds → ⊥
+no_module p q = false≢true (sym (ap is_core_func q) ∙ ap is_core_func p)
+
+-- the first item of two that are one
+pub same_item : {A : Type 0} {x y : A} → Some x ≡ Some y → x ≡ y
+same_item e = cc
+
+-- names stay new
+
+as_new : (ns : List (List ℕ)) → IsDistinct bytes_eq ns → AreNew [] ns
+as_new ns d = distinct_new [] ns (none_before ns) d
+
+pub names_kept : (ds : List ModuleDecl) (d : ModuleDecl) → HasNewNames ds → HasNewName ds d → HasNewNames (ds ++ d ∷ [])
+names_kept ds d h new = record {
+  imported = λ from. new_distinct [] (names_from from (ds ++ d ∷ [])) (subst (AreNew []) (sym (names_more from ds d)) (import_new ds d from new (as_new (names_from from ds) (h.imported from))));
+  exported = new_distinct [] (export_names (ds ++ d ∷ [])) (subst (AreNew []) (sym (exported_more ds d)) (export_new ds d new (as_new (export_names ds) h.exported)));
+}
+
+pub decl_names : (config : Config) (around : Scope) (s : SoFar) (b : List ℕ) (d : ModuleDecl) (rest : List ℕ) (t : SoFar) → ReadsDecl config around s b d rest t → HasNewNames s.decls → HasNewNames t.decls
+decl_names config around s b d rest t r h =
+    subst (λ z. HasNewNames z.decls) (sym r.state) (names_kept s.decls d h (decl_of_formed config around s r.item r.mid d rest r.reads).1)
+
+memory_is_formed : (config : Config) (m : Option MemoryType) → IfSome m (λ t. FormedMemory t × (0 < config.max_memories)) → IfSome m FormedMemory
+memory_is_formed config None h = tt
+memory_is_formed config (Some m) h = h.0
+
+pub front_names : (config : Config) (b : List ℕ) (fuel : ℕ) (s : SoFar) (rest : List ℕ) → ReadsFront config b fuel s rest → HasNewNames s.decls
+front_names config b fuel s rest r =
+    let f = front_is config b fuel s rest r in
+    subst (λ z. HasNewNames z.decls) (sym f.state) (judged_names [] _ _ (judged_front [] f.memory f.reallocs f.frees (memory_is_formed config f.memory f.has_memory)))
+
+-- a turn, by what it adds
+pub turns_of : (config : Config) (around : Scope) (s : SoFar) (i : ModuleItem) (b mid rest : List ℕ) (t : SoFar) → 0 < s.fuel - 1 → ReadsAmong (module_items config around s) b i mid → (more : Bool) → Adds config around s i mid more rest t → Turns config around s b more rest t
+turns_of config around s i b mid rest t lasts c true (d, r, e) = (d, record { lasts = lasts; item = i; mid = mid; choice = c; reads = r; state = e })
+turns_of config around s item.Import b mid rest t lasts c false ((from, name, r, none), e) = no_import lasts c r none e
+turns_of config around s item.Export b mid rest t lasts c false ((name, r, none), e) = no_export lasts c r none e
+turns_of config around s item.Type b mid rest t lasts c false (z, e) = absurd z
+turns_of config around s item.Alias b mid rest t lasts c false (z, e) = absurd z

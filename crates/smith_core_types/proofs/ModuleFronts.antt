@@ -1,0 +1,153 @@
+-- What a module type begins with for the canonical ABI: its shapes, and what stands after it.
+use Rattle.std.proofs.Common.{◌≡◌, ℕ, ◌<◌, ◌≤◌, Bool, true, false, ◌&&◌, List, [], ◌∷◌, ◌++◌, length, refl, sym, ap, ◌∙◌, subst, arith}
+use Rattle.std.proofs.lemmas.Bool.{false≢true, ltb-true, lt-ltb}
+use Rattle.std.proofs.lemmas.Bool.Decides.{nat_tests}
+use Rattle.std.specs.Prelude.{Option, Some, None, IfSome, codes, nat_lt, if◌then◌else◌}
+use Rattle.smith_core.specs.CoreFormed.{FormedMemory}
+use Rattle.smith_core.specs.CoreReading.{ReadsMemory}
+use Rattle.smith_core.specs.CoreTypes.{Function}
+use Rattle.smith_core.specs.declared.config.Config.{Config}
+use Rattle.smith_core.specs.declared.types.EntityType.TheVariants.{Func, Memory}
+use Rattle.smith_core.specs.declared.types.ExportKind.TheVariants as kind
+use Rattle.smith_core.specs.declared.types.MemoryType.{MemoryType}
+use Rattle.smith_core.proofs.CoreReading.{limits_formed}
+use Rattle.smith_syntax.specs.Entries.{ModuleDecl, declares, exports}
+use Rattle.smith_scopes.proofs.Plain.{both_true}
+use Rattle.smith_core_types.specs.MadeCore.{Declared, undeclared, with_front, allows_function, allows_type, ReadsLine, not_allowed, declined, taken, MemoryLine, ReadsFunctionLine, ReadsFront}
+use Rattle.smith_syntax.specs.ModuleTypes.{realloc, free, is_export, is_of_kind, is_type, is_function_of, after_memory, after_function, after_realloc, after_free, after_front}
+
+-- the shapes: with an export of a memory or without, with a function that allocates or without, with one that frees or without
+
+abbrev memory_decls : Option MemoryType → List ModuleDecl
+memory_decls None = []
+memory_decls (Some m) = exports (codes "memory") (Memory m) ∷ []
+
+abbrev realloc_decls : Bool → List ModuleDecl
+realloc_decls false = []
+realloc_decls true = declares realloc ∷ exports (codes "canonical_abi_realloc") (Func 0) ∷ []
+
+abbrev free_decls : Bool → Bool → List ModuleDecl
+free_decls r false = []
+free_decls r true = declares free ∷ exports (codes "canonical_abi_free") (Func (if r then 1 else 0)) ∷ []
+
+abbrev pub front_own : Bool → Bool → List Function
+front_own r f = (if r then realloc ∷ [] else []) ++ (if f then free ∷ [] else [])
+
+abbrev pub front_decls : Option MemoryType → Bool → Bool → List ModuleDecl
+front_decls m r f = memory_decls m ++ realloc_decls r ++ free_decls r f
+
+abbrev pub front_state : ℕ → Option MemoryType → Bool → Bool → Declared
+front_state fuel m r f = record { own = front_own r f; decls = front_decls m r f; fuel = fuel }
+
+-- one of the shapes, as the limits allow it
+pub record IsFront (config : Config) (fuel : ℕ) (s : Declared) : Type 0 where
+  pub memory : Option MemoryType
+  pub reallocs : Bool
+  pub frees : Bool
+  pub state : s ≡ front_state fuel memory reallocs frees
+  pub has_memory : IfSome memory (λ m. FormedMemory m × (0 < config.max_memories))
+  pub has_realloc : reallocs ≡ true → (0 < config.max_funcs) × (0 < config.max_types)
+  pub has_free : frees ≡ true → (length (front_own reallocs false) < config.max_funcs) × (length (front_own reallocs false) < config.max_types)
+
+both_below : (n m a b : ℕ) → (nat_lt n a && nat_lt m b) ≡ true → (n < a) × (m < b)
+both_below n m a b e = let t = both_true (nat_lt n a) (nat_lt m b) e in (ltb-true n a t.0, ltb-true m b t.1)
+
+pub memory_formed : {b rest : List ℕ} {m : MemoryType} → ReadsMemory b m rest → FormedMemory m
+memory_formed r = record { limits = limits_formed r.limits; shared = r.shared; memory64 = r.memory64 }
+
+module _ (config : Config) (fuel : ℕ) where
+  memory_is : (b rest : List ℕ) (t : Declared) → ReadsLine (nat_lt 0 config.max_memories) MemoryLine (undeclared fuel) b t rest
+      → (m : Option MemoryType) × (t ≡ front_state fuel m false false) × IfSome m (λ m. FormedMemory m × (0 < config.max_memories))
+  memory_is b rest t (not_allowed n e) = (None, e, tt)
+  memory_is b rest t (declined m c k e) = (None, e, tt)
+  memory_is b rest t (taken may c k (m, r, i) e) = (Some m, e ∙ ap (with_front (undeclared fuel)) i, (memory_formed r, ltb-true 0 config.max_memories may))
+
+  with_realloc_is : (m : Option MemoryType) → with_front (front_state fuel m false false) (declares realloc ∷ exports (codes "canonical_abi_realloc") (Func 0) ∷ []) ≡ front_state fuel m true false
+  with_realloc_is None = refl
+  with_realloc_is (Some m) = refl
+
+  realloc_allowed : (m : Option MemoryType) → (allows_function config (front_state fuel m false false) && allows_type config (front_state fuel m false false)) ≡ true → (0 < config.max_funcs) × (0 < config.max_types)
+  realloc_allowed None e = both_below 0 0 config.max_funcs config.max_types e
+  realloc_allowed (Some m) e = both_below 0 0 config.max_funcs config.max_types e
+
+  realloc_is : (m : Option MemoryType) (b rest : List ℕ) (t : Declared) → ReadsFunctionLine config (codes "canonical_abi_realloc") realloc (front_state fuel m false false) b t rest
+      → (r : Bool) × (t ≡ front_state fuel m r false) × (r ≡ true → (0 < config.max_funcs) × (0 < config.max_types))
+  realloc_is m b rest t (not_allowed n e) = (false, e, λ f. absurd (false≢true f))
+  realloc_is m b rest t (declined a c k e) = (false, e, λ f. absurd (false≢true f))
+  realloc_is m b rest t (taken may c k l e) = (true, e ∙ (ap (with_front (front_state fuel m false false)) l.1 ∙ with_realloc_is m), λ f. realloc_allowed m may)
+
+  with_free_is : (m : Option MemoryType) (r : Bool) → with_front (front_state fuel m r false) (declares free ∷ exports (codes "canonical_abi_free") (Func (length (front_own r false))) ∷ []) ≡ front_state fuel m r true
+  with_free_is None false = refl
+  with_free_is None true = refl
+  with_free_is (Some m) false = refl
+  with_free_is (Some m) true = refl
+
+  free_allowed : (m : Option MemoryType) (r : Bool) → (allows_function config (front_state fuel m r false) && allows_type config (front_state fuel m r false)) ≡ true
+      → (length (front_own r false) < config.max_funcs) × (length (front_own r false) < config.max_types)
+  free_allowed None false e = both_below 0 0 config.max_funcs config.max_types e
+  free_allowed None true e = both_below 1 1 config.max_funcs config.max_types e
+  free_allowed (Some m) false e = both_below 0 0 config.max_funcs config.max_types e
+  free_allowed (Some m) true e = both_below 1 1 config.max_funcs config.max_types e
+
+  free_is : (m : Option MemoryType) (r : Bool) (b rest : List ℕ) (t : Declared) → ReadsFunctionLine config (codes "canonical_abi_free") free (front_state fuel m r false) b t rest
+      → (f : Bool) × (t ≡ front_state fuel m r f) × (f ≡ true → (length (front_own r false) < config.max_funcs) × (length (front_own r false) < config.max_types))
+  free_is m r b rest t (not_allowed n e) = (false, e, λ f. absurd (false≢true f))
+  free_is m r b rest t (declined a c k e) = (false, e, λ f. absurd (false≢true f))
+  free_is m r b rest t (taken may c k l e) = (true, e ∙ (ap (with_front (front_state fuel m r false)) l.1 ∙ with_free_is m r), λ f. free_allowed m r may)
+
+pub front_is : (config : Config) (b : List ℕ) (fuel : ℕ) (s : Declared) (rest : List ℕ) → ReadsFront config b fuel s rest → IsFront config fuel s
+front_is config b fuel s rest x =
+    let m = memory_is config fuel b x.after_memory x.with_memory x.memory in
+    let Reallocs : Declared → Type 0 = λ d. ReadsFunctionLine config (codes "canonical_abi_realloc") realloc d x.after_memory x.with_realloc x.after_realloc in
+    let r = realloc_is config fuel m.0 x.after_memory x.after_realloc x.with_realloc (subst Reallocs m.1 x.reallocs) in
+    let Frees : Declared → Type 0 = λ d. ReadsFunctionLine config (codes "canonical_abi_free") free d x.after_realloc s rest in
+    let f = free_is config fuel m.0 r.0 x.after_realloc rest s (subst Frees r.1 x.frees) in
+    record { memory = m.0; reallocs = r.0; frees = f.0; state = f.1; has_memory = m.2; has_realloc = r.2; has_free = f.2 }
+
+-- what stands after it
+
+one_less : (b : Bool) (d : ModuleDecl) (ds : List ModuleDecl) → length (if b then ds else d ∷ ds) ≤ length (d ∷ ds)
+one_less true d ds = omega arith
+one_less false d ds = omega arith
+
+two_less : (b : Bool) (d e : ModuleDecl) (ds : List ModuleDecl) → length (if b then ds else d ∷ e ∷ ds) ≤ length (d ∷ e ∷ ds)
+two_less true d e ds = omega arith
+two_less false d e ds = omega arith
+
+memory_less : (ds : List ModuleDecl) → length (after_memory ds) ≤ length ds
+memory_less [] = omega arith
+memory_less (d ∷ ds) = one_less (is_export (codes "memory") (is_of_kind kind.Memory) d) d ds
+
+function_less : (name : List ℕ) (f : Function) (i : ℕ) (ds : List ModuleDecl) → length (after_function name f i ds) ≤ length ds
+function_less name f i [] = omega arith
+function_less name f i (d ∷ []) = omega arith
+function_less name f i (d ∷ e ∷ ds) = two_less (is_type f d && is_export name (is_function_of i) e) d e ds
+
+free_less : (ds : List ModuleDecl) → length (after_free ds) ≤ length ds
+free_less ds =
+    omega (arith, function_less (codes "canonical_abi_realloc") realloc 0 ds, function_less (codes "canonical_abi_free") free (if nat_lt (length (after_realloc ds)) (length ds) then 1 else 0) (after_realloc ds))
+
+-- both functions, and the one that frees alone
+abbrev after_free_at : ℕ → Bool → List ModuleDecl → List ModuleDecl
+after_free_at i r more = after_function (codes "canonical_abi_free") free i (free_decls r true ++ more)
+
+both_functions : (more : List ModuleDecl) → length (after_free (realloc_decls true ++ free_decls true true ++ more)) ≤ length more
+both_functions more =
+    let below : nat_lt (length (free_decls true true ++ more)) (length (realloc_decls true ++ free_decls true true ++ more)) ≡ true = lt-ltb _ _ (omega arith) in
+    subst (λ b. length (after_free_at (if b then 1 else 0) true more) ≤ length more) (sym below) (omega arith)
+
+one_function : (more : List ModuleDecl) → length (after_free (free_decls false true ++ more)) ≤ length more
+one_function more =
+    let whole : List ModuleDecl = free_decls false true ++ more in
+    let same : nat_lt (length whole) (length whole) ≡ false = grind (arith, nat_tests) in
+    subst (λ b. length (after_free_at (if b then 1 else 0) false more) ≤ length more) (sym same) (omega arith)
+
+pub front_size : (m : Option MemoryType) (r f : Bool) (more : List ModuleDecl) → length (after_front (front_decls m r f ++ more)) ≤ length more
+front_size None false false more = omega (arith, memory_less more, free_less (after_memory more))
+front_size None true false more = function_less (codes "canonical_abi_free") free _ more
+front_size None false true more = one_function more
+front_size None true true more = both_functions more
+front_size (Some m) false false more = free_less more
+front_size (Some m) true false more = function_less (codes "canonical_abi_free") free _ more
+front_size (Some m) false true more = one_function more
+front_size (Some m) true true more = both_functions more

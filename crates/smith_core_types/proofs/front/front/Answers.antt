@@ -1,0 +1,30 @@
+use Rattle.std.proofs.Common.{ap, map, refl, subst, sym, [], ◌≡◌, ◌∙◌}
+use Rattle.smith_core.specs.CoreTypes.{shown_func}
+use Rattle.smith_core_types.specs.MadeCore.{MemoryLine, ReadsLine}
+use Rattle.smith_core_types.specs.MadeCore.{Declared as SoFar}
+use Rattle.smith_core_types.specs.MakingCore.{KeepEach, own_after, shown_funcs, so_far}
+use Rattle.smith_syntax.specs.Shown.{shown_decl}
+use Rattle.std.specs.Prelude.{nat_lt}
+use Rattle.smith_core_types.proofs.MakingCore.{same_state}
+use Rattle.smith_core_types.proofs.front.front.Goals as goal
+
+pub returns-clause-reads : goal.returns-clause-reads
+returns-clause-reads c fuel =
+    let first = so_far c.memory_line.new.declared fuel in
+    let L : SoFar → Type 0 = λ s. ReadsLine (nat_lt 0 c.args.config.now.max_memories) MemoryLine s c.args.u.now first c.memory_line.new.u in
+    record {
+      with_memory = first;
+      after_memory = c.memory_line.new.u;
+      memory = subst L (same_state fuel fuel (ap (map (λ t. shown_func t.value)) c.new.ensures.items) (ap (map shown_decl) c.new-2.ensures.items) refl) (c.in_ok-memory_line.ensures.reads fuel);
+      with_realloc = so_far c.function_line.new.declared fuel;
+      after_realloc = c.function_line.new.u;
+      reallocs = c.in_ok-function_line.ensures.reads fuel;
+      frees = c.in_ok-function_line-2.ensures.reads fuel;
+    }
+
+pub returns-clause-kept : goal.returns-clause-kept
+returns-clause-kept c around =
+    let owns = ap shown_funcs c.new.ensures.items in
+    let defs = c.new-2.ensures.items in
+    let first : KeepEach around [] c.new-2.result.items × (own_after around [] (map shown_decl c.new-2.result.items) ≡ shown_funcs c.new.result.items) = (subst (KeepEach around []) (sym defs) tt, ap (λ ds. own_after around [] (map shown_decl ds)) defs ∙ sym owns) in
+    c.in_ok-function_line-2.ensures.kept around (c.in_ok-function_line.ensures.kept around (c.in_ok-memory_line.ensures.kept around first))

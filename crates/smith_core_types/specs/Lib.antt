@@ -1,0 +1,3 @@
+pub mod Script
+pub mod MadeCore
+pub mod MakingCore

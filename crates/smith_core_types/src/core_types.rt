@@ -1,0 +1,79 @@
+//! Core types from the input.
+
+ghost use Rattle.std.specs.Prelude.{◌≡◌, ◌+◌, ◌≤◌, IfOk, IfErr};
+ghost use Rattle.smith_input.specs.Reading.{IsTail};
+ghost use Rattle.smith_core.specs.Limits.{configured};
+ghost use Rattle.smith_syntax.specs.CoreLimits.{CoreLimits};
+ghost use Rattle.smith_core_types.specs.MadeCore.{MadeCore};
+ghost use Rattle.smith_core_types.specs.MakingCore.{KeepsAliased};
+ghost use Rattle.smith_scopes.specs.Scopes.{own_scope};
+ghost use Rattle.smith_syntax.specs.Shown.{shown_core, shown_shared_core};
+ghost use Rattle.smith_syntax.specs.WellFormed.{FormedCore, core_size};
+
+use crate::core_functions::core_function;
+use crate::fuel::burn;
+use crate::module_types::module_type;
+use smith_core::{Config, ValType};
+use smith_input::{Error, Unstructured};
+use smith_scopes::Scopes;
+use smith_syntax::{CoreType, ModuleType};
+use std::alloc::Global;
+use std::rc::Rc;
+
+// A core type, by the rules of `arbitrary_core_type`.
+fn made_core_type(
+    alloc: Global,
+    u: &mut Unstructured,
+    config: &Config,
+    valtypes: &[ValType],
+    scopes: &Scopes,
+    fuel: &mut u32,
+) -> Result<CoreType, Error>
+    requires { valtypes.now ≡ configured config.now }
+    ensures made { IfOk result (λ t. MadeCore config.now (own_scope scopes.now) u.old fuel.old (shown_core t)
+        u.new fuel.new) }
+    ensures kept { IfOk result (λ t. KeepsAliased (own_scope scopes.now).core_types t) }
+    ensures memory { IfErr result (λ e. e ≡ Error.OutOfMemory) }
+    ensures tail { IsTail u.new u.old }
+{
+    burn(fuel);
+    if *fuel == 0 {
+        let defs = Vec::new(alloc);
+        return Ok(CoreType::Module(Rc::new(alloc, ModuleType { defs })?));
+    }
+    if u.choose_index(2) == 0 {
+        return Ok(CoreType::Func(core_function(alloc, u, config, valtypes)?));
+    }
+    let defs = module_type(alloc, u, config, valtypes, scopes, fuel)?;
+    Ok(CoreType::Module(Rc::new(alloc, ModuleType { defs })?))
+}
+
+/// A core type for these scopes, which takes fuel: one for itself, and one for each declaration of a module type. Where
+/// none is left at first, it is the empty module type; else a choice of two: a function type, or a module type.
+///
+/// A function type has at most 20 parameters, and at most 20 results or one. A module type begins with what the
+/// canonical ABI asks, each of its three lines with 99 of 100 choices where the limits allow it, and has at most 100
+/// declarations more. It names the last scope's core function types alone. Each of its outer aliases keeps the function
+/// type that it names. It refuses for want of memory alone.
+pub fn arbitrary_core_type(
+    alloc: Global,
+    u: &mut Unstructured,
+    config: &Config,
+    valtypes: &[ValType],
+    scopes: &Scopes,
+    fuel: &mut u32,
+) -> Result<Rc<CoreType>, Error>
+    requires { valtypes.now ≡ configured config.now }
+    ensures made { IfOk result (λ t. MadeCore config.now (own_scope scopes.now) u.old fuel.old (shown_shared_core t)
+        u.new fuel.new) }
+    ensures kept { IfOk result (λ t. KeepsAliased (own_scope scopes.now).core_types t.value) }
+    ensures formed { IfOk result (λ t. FormedCore (shown_shared_core t) (own_scope scopes.now).core_types) }
+    ensures limits { IfOk result (λ t. CoreLimits config.now (shown_shared_core t)) }
+    ensures size { IfOk result (λ t. core_size (shown_shared_core t) + fuel.new ≤ fuel.old) }
+    ensures memory { IfErr result (λ e. e ≡ Error.OutOfMemory) }
+    ensures tail { IsTail u.new u.old }
+{
+    let made = made_core_type(alloc, u, config, valtypes, scopes, fuel)?;
+    let shared = Rc::new(alloc, made)?;
+    Ok(shared)
+}

@@ -1,0 +1,134 @@
+//! What a module type imports and exports, from the input.
+
+ghost use Rattle.std.specs.Prelude.{◌≡◌, ℕ, ◌<◌, ◌&&◌, List, [], map, length, nat_lt, MatchOption, IfSome, IfOk, IfErr};
+ghost use Rattle.smith_input.specs.Choices.{ReadsAmong};
+ghost use Rattle.smith_input.specs.Reading.{IsTail, Flips};
+ghost use Rattle.smith_core.specs.Limits.{configured};
+ghost use Rattle.smith_core.specs.declared.types.ExportKind.TheVariants as kind;
+ghost use Rattle.smith_core_types.specs.MadeCore.{ReadsEntityOf, entity_kinds, indexes};
+ghost use Rattle.smith_core_types.specs.MakingCore.{HasTypeFor, MaybeEntity, shown_funcs, so_far};
+ghost use Rattle.smith_syntax.specs.ModuleTypes.{count_of, is_tag_type};
+ghost use Rattle.smith_syntax.specs.Scope.{places};
+ghost use Rattle.smith_syntax.specs.Shown.{shown_decl};
+
+use crate::declared::{Declared, allows, tag_types};
+use smith_core::{
+    Config, EntityType, ExportKind, FuncType, GlobalType, ValType, arbitrary_memtype,
+    arbitrary_table_type, arbitrary_tag_type,
+};
+use smith_input::{Error, Unstructured, choose_offered};
+use std::alloc::Global;
+use std::rc::Rc;
+
+// A global type: one of the value types, and a boolean for whether it may change.
+fn global_type(u: &mut Unstructured, valtypes: &[ValType]) -> GlobalType
+    requires { 0 < length valtypes.now }
+    ensures reads { (mid : List ℕ) × ReadsAmong valtypes.now u.old result.val_type mid
+        × Flips mid result.mutable u.new }
+    ensures tail { IsTail u.new u.old }
+{
+    let val_type = *u.choose(valtypes);
+    let mutable = u.arbitrary_bool();
+    GlobalType { val_type, mutable }
+}
+
+// One of the own types, by its index.
+fn own_type(u: &mut Unstructured, own: &[Rc<FuncType>]) -> u32
+    requires some { 0 < length own.now }
+    requires few { length own.now < 1000 }
+    ensures reads { ReadsAmong (indexes (shown_funcs own.now)) u.old result u.new }
+    ensures tail { IsTail u.new u.old }
+{
+    u.choose_index(own.len()) as u32
+}
+
+// Is a tag allowed: below the limit, where there are tags, and where there is a type for one?
+fn allows_tag(config: &Config, declared: &Declared, has_type: bool) -> bool
+    ensures { result ≡ (nat_lt (count_of kind.Tag (map shown_decl declared.now.defs.items)) config.now.max_tags
+        && config.now.exceptions_enabled && has_type) }
+{
+    allows(&declared.defs, ExportKind::Tag, config.max_tags)
+        && config.exceptions_enabled
+        && has_type
+}
+
+// Is a function allowed: below the limit, and where there is a type?
+fn allows_function(config: &Config, declared: &Declared) -> bool
+    ensures { result ≡ (nat_lt 0 (length (shown_funcs declared.now.own.items))
+        && nat_lt (count_of kind.Func (map shown_decl declared.now.defs.items)) config.now.max_funcs) }
+{
+    declared.own.len() > 0 && allows(&declared.defs, ExportKind::Func, config.max_funcs)
+}
+
+// The kind of an entity: each below its limit, a tag where there is a type for it, a function where there is a type.
+fn entity_kind(
+    u: &mut Unstructured,
+    config: &Config,
+    declared: &Declared,
+    has_tag_type: bool,
+) -> Option<ExportKind>
+    requires { has_tag_type ≡ nat_lt 0 (length (places is_tag_type 0 (shown_funcs declared.now.own.items))) }
+    ensures reads { MatchOption result
+        ((entity_kinds config.now (so_far declared.now 0) ≡ []) × (u.new ≡ u.old))
+        (λ k. ReadsAmong (entity_kinds config.now (so_far declared.now 0)) u.old k u.new) }
+    ensures possible { IfSome result (HasTypeFor (shown_funcs declared.now.own.items)) }
+{
+    let with_global = allows(&declared.defs, ExportKind::Global, config.max_globals);
+    let with_table = allows(&declared.defs, ExportKind::Table, config.max_tables);
+    let with_memory = allows(&declared.defs, ExportKind::Memory, config.max_memories);
+    let offers = [
+        (with_global, ExportKind::Global),
+        (with_table, ExportKind::Table),
+        (with_memory, ExportKind::Memory),
+        (allows_tag(config, declared, has_tag_type), ExportKind::Tag),
+        (allows_function(config, declared), ExportKind::Func),
+    ];
+    choose_offered(u, &offers)
+}
+
+// An entity of a kind.
+fn entity_of(
+    u: &mut Unstructured,
+    config: &Config,
+    valtypes: &[ValType],
+    declared: &Declared,
+    tag_types: &[u32],
+    kind: ExportKind,
+) -> EntityType
+    requires valtypes { valtypes.now ≡ configured config.now }
+    requires few { length declared.now.own.items < 1000 }
+    requires tag_types { tag_types.now ≡ places is_tag_type 0 (shown_funcs declared.now.own.items) }
+    requires possible { HasTypeFor (shown_funcs declared.now.own.items) kind }
+    ensures reads { (fuel : ℕ) → ReadsEntityOf config.now (so_far declared.now fuel) kind u.old result u.new }
+    ensures tail { IsTail u.new u.old }
+{
+    match kind {
+        ExportKind::Global => EntityType::Global(global_type(u, valtypes)),
+        ExportKind::Table => EntityType::Table(arbitrary_table_type(u, config)),
+        ExportKind::Memory => EntityType::Memory(arbitrary_memtype(u, config)),
+        ExportKind::Tag => EntityType::Tag(arbitrary_tag_type(u, tag_types)),
+        ExportKind::Func => EntityType::Func(own_type(u, &declared.own)),
+    }
+}
+
+// An entity, or none where nothing can be imported or exported.
+pub(crate) fn entity(
+    alloc: Global,
+    u: &mut Unstructured,
+    config: &Config,
+    valtypes: &[ValType],
+    declared: &Declared,
+) -> Result<Option<EntityType>, Error>
+    requires valtypes { valtypes.now ≡ configured config.now }
+    requires few { length declared.now.own.items < 1000 }
+    ensures reads { IfOk result (λ e. (fuel : ℕ) →
+        MaybeEntity config.now (so_far declared.now fuel) u.old e u.new) }
+    ensures memory { IfErr result (λ e. e ≡ Error.OutOfMemory) }
+    ensures tail { IsTail u.new u.old }
+{
+    let tag_types = tag_types(alloc, &declared.own)?;
+    let Some(kind) = entity_kind(u, config, declared, tag_types.len() > 0) else {
+        return Ok(None);
+    };
+    Ok(Some(entity_of(u, config, valtypes, declared, &tag_types, kind)))
+}

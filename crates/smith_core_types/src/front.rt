@@ -1,0 +1,144 @@
+//! What the canonical ABI asks of a module type, from the input.
+
+ghost use Rattle.std.specs.Prelude.{◌≡◌, ◌+◌, ◌<◌, ◌≤◌, ◌&&◌, ℕ, length, nat_lt, OnOk, IfOk, IfErr};
+ghost use Rattle.smith_input.specs.Reading.{IsTail};
+ghost use Rattle.smith_core.specs.CoreTypes.{shown_func};
+ghost use Rattle.smith_core_types.specs.MadeCore.{allows_function, allows_type, MemoryLine};
+ghost use Rattle.smith_core_types.specs.MadeCore.{ReadsFront, ReadsFunctionLine, ReadsLine};
+ghost use Rattle.smith_core_types.specs.MakingCore.{Keeps, so_far};
+ghost use Rattle.smith_syntax.specs.ModuleTypes.{realloc, free};
+
+use crate::declared::{Declared, allows, declare};
+use smith_core::{Config, EntityType, ExportKind, FuncType, ValType, arbitrary_memtype};
+use smith_input::{Error, Unstructured};
+use smith_syntax::ModuleTypeDef;
+use std::alloc::Global;
+use std::rc::Rc;
+
+static FOUR: [ValType; 4] = [ValType::I32, ValType::I32, ValType::I32, ValType::I32];
+
+static THREE: [ValType; 3] = [ValType::I32, ValType::I32, ValType::I32];
+
+static ONE: [ValType; 1] = [ValType::I32];
+
+static NONE: [ValType; 0] = [];
+
+// The export of a memory, where one is allowed.
+fn memory_line(
+    alloc: Global,
+    u: &mut Unstructured,
+    config: &Config,
+    declared: &mut Declared,
+) -> Result<(), Error>
+    ensures reads { (fuel : ℕ) → OnOk result (ReadsLine (nat_lt 0 config.now.max_memories) MemoryLine
+        (so_far declared.old fuel) u.old (so_far declared.new fuel) u.new) }
+    ensures own { OnOk result (declared.new.own.items ≡ declared.old.own.items) }
+    ensures kept { (around : _) → Keeps around declared.old → OnOk result (Keeps around declared.new) }
+    ensures memory { IfErr result (λ e. e ≡ Error.OutOfMemory) }
+    ensures tail { IsTail u.new u.old }
+{
+    if config.max_memories == 0 {
+        return Ok(());
+    }
+    if !u.ratio(99, 100) {
+        return Ok(());
+    }
+    let name = String::from_str(alloc, "memory")?;
+    let memory = EntityType::Memory(arbitrary_memtype(u, config));
+    declared.defs.push(ModuleTypeDef::Export(name, memory))?;
+    Ok(())
+}
+
+// A function type of these parameters and results.
+fn function_of(
+    alloc: Global,
+    params: &[ValType],
+    results: &[ValType],
+) -> Result<Rc<FuncType>, Error>
+    ensures made { IfOk result (λ t. shown_func t.value ≡ (params.now, results.now)) }
+    ensures memory { IfErr result (λ e. e ≡ Error.OutOfMemory) }
+{
+    let mut ty = FuncType {
+        params: Vec::new(alloc),
+        results: Vec::new(alloc),
+    };
+    ty.params.extend_from_slice(params)?;
+    ty.results.extend_from_slice(results)?;
+    Ok(Rc::new(alloc, ty)?)
+}
+
+// Are one more type and one more function below the limits?
+fn allows_line(config: &Config, declared: &Declared) -> bool
+    ensures { result ≡ (allows_function config.now (so_far declared.now 0)
+        && allows_type config.now (so_far declared.now 0)) }
+{
+    allows(&declared.defs, ExportKind::Func, config.max_funcs)
+        && declared.own.len() < config.max_types
+}
+
+// A function type and the export of a function of it, where both are allowed.
+fn function_line(
+    alloc: Global,
+    u: &mut Unstructured,
+    config: &Config,
+    declared: &mut Declared,
+    name: &str,
+    params: &[ValType],
+    results: &[ValType],
+) -> Result<(), Error>
+    requires { length declared.old.own.items < 1000 }
+    ensures reads { (fuel : ℕ) → OnOk result (ReadsFunctionLine config.now name.now (params.now, results.now)
+        (so_far declared.old fuel) u.old (so_far declared.new fuel) u.new) }
+    ensures own { OnOk result (length declared.new.own.items ≤ length declared.old.own.items + 1) }
+    ensures kept { (around : _) → Keeps around declared.old → OnOk result (Keeps around declared.new) }
+    ensures memory { IfErr result (λ e. e ≡ Error.OutOfMemory) }
+    ensures tail { IsTail u.new u.old }
+{
+    if !allows_line(config, declared) {
+        return Ok(());
+    }
+    if !u.ratio(99, 100) {
+        return Ok(());
+    }
+    let index = declared.own.len() as u32;
+    declare(declared, function_of(alloc, params, results)?)?;
+    let name = String::from_str(alloc, name)?;
+    declared
+        .defs
+        .push(ModuleTypeDef::Export(name, EntityType::Func(index)))?;
+    Ok(())
+}
+
+// What the canonical ABI asks, in its three lines.
+pub(crate) fn front(alloc: Global, u: &mut Unstructured, config: &Config) -> Result<Declared, Error>
+    ensures reads { IfOk result (λ d. (fuel : ℕ) → ReadsFront config.now u.old fuel (so_far d fuel) u.new) }
+    ensures few { IfOk result (λ d. length d.own.items ≤ 2) }
+    ensures kept { IfOk result (λ d. (around : _) → Keeps around d) }
+    ensures memory { IfErr result (λ e. e ≡ Error.OutOfMemory) }
+    ensures tail { IsTail u.new u.old }
+{
+    let mut declared = Declared {
+        own: Vec::new(alloc),
+        defs: Vec::new(alloc),
+    };
+    memory_line(alloc, u, config, &mut declared)?;
+    function_line(
+        alloc,
+        u,
+        config,
+        &mut declared,
+        "canonical_abi_realloc",
+        &FOUR,
+        &ONE,
+    )?;
+    function_line(
+        alloc,
+        u,
+        config,
+        &mut declared,
+        "canonical_abi_free",
+        &THREE,
+        &NONE,
+    )?;
+    Ok(declared)
+}

@@ -1,0 +1,10 @@
+//! Fuel, which bounds how large a type becomes.
+
+ghost use Rattle.std.specs.Prelude.{◌≡◌, ◌-◌};
+
+/// Takes one from the fuel, unless none is left.
+pub fn burn(fuel: &mut u32)
+    ensures { fuel.new ≡ fuel.old - 1 }
+{
+    *fuel = fuel.saturating_sub(1);
+}

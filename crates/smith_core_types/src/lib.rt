@@ -1,0 +1,17 @@
+//! Core types of components from the input: core function types and module types.
+#![tactic(auto)]
+
+mod aliases;
+mod core_functions;
+mod core_types;
+mod declared;
+mod entities;
+mod front;
+mod fuel;
+pub mod laws;
+mod module_names;
+mod module_types;
+
+pub use core_types::arbitrary_core_type;
+pub use fuel::burn;
+pub use module_types::ModuleItem;

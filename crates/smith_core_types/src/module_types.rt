@@ -1,0 +1,254 @@
+//! Module types from the input.
+
+ghost use Rattle.std.specs.Prelude.{◌≡◌, ◌+◌, ◌-◌, ◌<◌, ◌≤◌, ◌&&◌, ℕ, Bool, List, []};
+ghost use Rattle.std.specs.Prelude.{map, length, nat_lt, OnOk, IfOk, IfErr};
+ghost use Rattle.smith_input.specs.Choices.{ReadsAmong};
+ghost use Rattle.smith_input.specs.Loops.{Loop};
+ghost use Rattle.smith_input.specs.Reading.{IsTail};
+ghost use Rattle.smith_core.specs.Limits.{configured};
+ghost use Rattle.smith_syntax.specs.Entries.{ModuleDecl};
+ghost use Rattle.smith_core_types.specs.MadeCore.{MadeModule, ModuleEnds, ReadsDecl};
+ghost use Rattle.smith_core_types.specs.MadeCore.{allows_type, alias_choices, module_items};
+ghost use Rattle.smith_core_types.specs.MakingCore.{Adds, HasChoiceFor, KeepEach, Keeps, Turns, shown_funcs, so_far};
+ghost use Rattle.smith_syntax.specs.ModuleTypes.{HasNewNames};
+ghost use Rattle.smith_scopes.specs.Scopes.{own_scope};
+ghost use Rattle.smith_syntax.specs.Shown.{shown_decl};
+ghost use Rattle.smith_core_types.specs.declared.module_types.ModuleItem.TheVariants as item;
+
+use crate::aliases::{add_alias, alias_count};
+use crate::core_functions::core_function;
+use crate::declared::{Declared, declare};
+use crate::entities::entity;
+use crate::front::front;
+use crate::fuel::burn;
+use crate::module_names::{export_name, import_names};
+use smith_core::{Config, Import, ValType};
+use smith_input::{Error, Unstructured, choose_offered};
+use smith_scopes::Scopes;
+use smith_syntax::ModuleTypeDef;
+use std::alloc::Global;
+
+/// What a declaration of a module type is among. Public since contracts speak of it.
+#[derive(Debug, Clone, Copy, PartialEq, Eq)]
+pub enum ModuleItem {
+    Import,
+    Export,
+    Type,
+    Alias,
+}
+
+// Is one more type below the limit?
+fn allows_type(config: &Config, declared: &Declared) -> bool
+    ensures { result ≡ allows_type config.now (so_far declared.now 0) }
+{
+    declared.own.len() < config.max_types
+}
+
+// Is an alias allowed: a type below the limit, and something to name?
+fn allows_alias(config: &Config, scopes: &Scopes, declared: &Declared) -> bool
+    requires { length declared.now.own.items < 1000 }
+    ensures { result ≡ (allows_type config.now (so_far declared.now 0)
+        && nat_lt 0 (length (alias_choices (own_scope scopes.now) (so_far declared.now 0)))) }
+{
+    allows_type(config, declared) && alias_count(scopes, declared) > 0
+}
+
+// What sort of declaration is read: a type below the limit, and an alias where there is one to name.
+fn module_item(
+    u: &mut Unstructured,
+    config: &Config,
+    scopes: &Scopes,
+    declared: &Declared,
+) -> ModuleItem
+    requires { length declared.now.own.items < 1000 }
+    ensures reads { ReadsAmong (module_items config.now (own_scope scopes.now) (so_far declared.now 0))
+        u.old result u.new }
+    ensures possible { HasChoiceFor (own_scope scopes.now) (so_far declared.now 0) result }
+{
+    let offers = [
+        (true, ModuleItem::Import),
+        (true, ModuleItem::Export),
+        (allows_type(config, declared), ModuleItem::Type),
+        (allows_alias(config, scopes, declared), ModuleItem::Alias),
+    ];
+    choose_offered(u, &offers).unwrap_or(ModuleItem::Import)
+}
+
+// An import, or false where nothing can be imported.
+fn import(
+    alloc: Global,
+    u: &mut Unstructured,
+    config: &Config,
+    valtypes: &[ValType],
+    declared: &mut Declared,
+) -> Result<bool, Error>
+    requires valtypes { valtypes.now ≡ configured config.now }
+    requires few { length declared.old.own.items < 1000 }
+    requires names { HasNewNames (map shown_decl declared.old.defs.items) }
+    ensures adds { (around : _) (fuel : ℕ) → IfOk result (λ b.
+        Adds config.now around (so_far declared.old fuel) item.Import u.old b u.new (so_far declared.new (fuel - 1))) }
+    ensures own { OnOk result (length declared.new.own.items ≤ length declared.old.own.items + 1) }
+    ensures kept { (around : _) → Keeps around declared.old → OnOk result (Keeps around declared.new) }
+    ensures memory { IfErr result (λ e. e ≡ Error.OutOfMemory) }
+    ensures tail { IsTail u.new u.old }
+{
+    let (module, name) = import_names(alloc, u, &declared.defs)?;
+    match entity(alloc, u, config, valtypes, declared)? {
+        None => Ok(false),
+        Some(entity_type) => {
+            let import = Import {
+                module,
+                name,
+                entity_type,
+            };
+            declared.defs.push(ModuleTypeDef::Import(import))?;
+            Ok(true)
+        }
+    }
+}
+
+// An export, or false where nothing can be exported.
+fn export(
+    alloc: Global,
+    u: &mut Unstructured,
+    config: &Config,
+    valtypes: &[ValType],
+    declared: &mut Declared,
+) -> Result<bool, Error>
+    requires valtypes { valtypes.now ≡ configured config.now }
+    requires few { length declared.old.own.items < 1000 }
+    requires names { HasNewNames (map shown_decl declared.old.defs.items) }
+    ensures adds { (around : _) (fuel : ℕ) → IfOk result (λ b.
+        Adds config.now around (so_far declared.old fuel) item.Export u.old b u.new (so_far declared.new (fuel - 1))) }
+    ensures own { OnOk result (length declared.new.own.items ≤ length declared.old.own.items + 1) }
+    ensures kept { (around : _) → Keeps around declared.old → OnOk result (Keeps around declared.new) }
+    ensures memory { IfErr result (λ e. e ≡ Error.OutOfMemory) }
+    ensures tail { IsTail u.new u.old }
+{
+    let name = export_name(alloc, u, &declared.defs)?;
+    match entity(alloc, u, config, valtypes, declared)? {
+        None => Ok(false),
+        Some(entity) => {
+            declared.defs.push(ModuleTypeDef::Export(name, entity))?;
+            Ok(true)
+        }
+    }
+}
+
+// A declaration of a sort, or false where nothing can be imported or exported.
+fn add_of(
+    alloc: Global,
+    u: &mut Unstructured,
+    config: &Config,
+    valtypes: &[ValType],
+    scopes: &Scopes,
+    declared: &mut Declared,
+    item: ModuleItem,
+) -> Result<bool, Error>
+    requires valtypes { valtypes.now ≡ configured config.now }
+    requires few { length declared.old.own.items < 1000 }
+    requires names { HasNewNames (map shown_decl declared.old.defs.items) }
+    requires possible { HasChoiceFor (own_scope scopes.now) (so_far declared.old 0) item }
+    ensures adds { (fuel : ℕ) → IfOk result (λ b. Adds config.now (own_scope scopes.now) (so_far declared.old fuel)
+        item u.old b u.new (so_far declared.new (fuel - 1))) }
+    ensures own { OnOk result (length declared.new.own.items ≤ length declared.old.own.items + 1) }
+    ensures kept { Keeps (own_scope scopes.now).core_types declared.old
+        → OnOk result (Keeps (own_scope scopes.now).core_types declared.new) }
+    ensures memory { IfErr result (λ e. e ≡ Error.OutOfMemory) }
+    ensures tail { IsTail u.new u.old }
+{
+    match item {
+        ModuleItem::Import => import(alloc, u, config, valtypes, declared),
+        ModuleItem::Export => export(alloc, u, config, valtypes, declared),
+        ModuleItem::Type => {
+            declare(declared, core_function(alloc, u, config, valtypes)?)?;
+            Ok(true)
+        }
+        ModuleItem::Alias => {
+            add_alias(u, scopes, declared)?;
+            Ok(true)
+        }
+    }
+}
+
+// A turn of the loop over the declarations, after its fuel is taken: a declaration, or false where it ends the loop.
+fn turn(
+    alloc: Global,
+    u: &mut Unstructured,
+    config: &Config,
+    valtypes: &[ValType],
+    scopes: &Scopes,
+    declared: &mut Declared,
+) -> Result<bool, Error>
+    requires valtypes { valtypes.now ≡ configured config.now }
+    requires few { length declared.old.own.items < 1000 }
+    requires names { HasNewNames (map shown_decl declared.old.defs.items) }
+    ensures turns { (fuel : ℕ) → 0 < fuel - 1 → IfOk result (λ b. Turns config.now (own_scope scopes.now)
+        (so_far declared.old fuel) u.old b u.new (so_far declared.new (fuel - 1))) }
+    ensures own { OnOk result (length declared.new.own.items ≤ length declared.old.own.items + 1) }
+    ensures kept { Keeps (own_scope scopes.now).core_types declared.old
+        → OnOk result (Keeps (own_scope scopes.now).core_types declared.new) }
+    ensures memory { IfErr result (λ e. e ≡ Error.OutOfMemory) }
+    ensures tail { IsTail u.new u.old }
+{
+    let item = module_item(u, config, scopes, declared);
+    add_of(alloc, u, config, valtypes, scopes, declared, item)
+}
+
+// The declarations after what the canonical ABI asks.
+fn declarations(
+    alloc: Global,
+    u: &mut Unstructured,
+    config: &Config,
+    valtypes: &[ValType],
+    scopes: &Scopes,
+    fuel: &mut u32,
+    declared: &mut Declared,
+) -> Result<(), Error>
+    requires valtypes { valtypes.now ≡ configured config.now }
+    requires few { length declared.old.own.items ≤ 2 }
+    requires names { HasNewNames (map shown_decl declared.old.defs.items) }
+    ensures reads { OnOk result ((more : List ModuleDecl) × Loop (ModuleEnds config.now (own_scope scopes.now))
+        (ReadsDecl config.now (own_scope scopes.now)) 0 100 0 (so_far declared.old fuel.old) u.old more u.new
+        (so_far declared.new fuel.new)) }
+    ensures kept { Keeps (own_scope scopes.now).core_types declared.old
+        → OnOk result (Keeps (own_scope scopes.now).core_types declared.new) }
+    ensures memory { IfErr result (λ e. e ≡ Error.OutOfMemory) }
+    ensures tail { IsTail u.new u.old }
+{
+    for done in 0..100 {
+        if !u.more(done, 0, 100) {
+            return Ok(());
+        }
+        burn(fuel);
+        if *fuel == 0 {
+            return Ok(());
+        }
+        if !turn(alloc, u, config, valtypes, scopes, declared)? {
+            return Ok(());
+        }
+    }
+    Ok(())
+}
+
+// The declarations of a module type: what the canonical ABI asks, and then at most 100 that take fuel.
+pub(crate) fn module_type(
+    alloc: Global,
+    u: &mut Unstructured,
+    config: &Config,
+    valtypes: &[ValType],
+    scopes: &Scopes,
+    fuel: &mut u32,
+) -> Result<Vec<ModuleTypeDef>, Error>
+    requires { valtypes.now ≡ configured config.now }
+    ensures made { IfOk result (λ defs. MadeModule config.now (own_scope scopes.now) u.old fuel.old
+        (map shown_decl defs.items) u.new fuel.new) }
+    ensures kept { IfOk result (λ defs. KeepEach (own_scope scopes.now).core_types [] defs.items) }
+    ensures memory { IfErr result (λ e. e ≡ Error.OutOfMemory) }
+    ensures tail { IsTail u.new u.old }
+{
+    let mut declared = front(alloc, u, config)?;
+    declarations(alloc, u, config, valtypes, scopes, fuel, &mut declared)?;
+    let Declared { own: _, defs } = declared;
+    Ok(defs)
+}

@@ -1,0 +1,51 @@
+-- Places of a list: what stands at those where a test holds.
+use Rattle.std.proofs.Common.{◌≡◌, ◌⊎◌, inl, inr, ℕ, zero, suc, ◌+◌, ◌<◌, Bool, true, false, cond, List, [], ◌∷◌, ◌++◌, map, length, refl, ap, ◌∙◌, arith}
+use Rattle.std.specs.Prelude.{Some, None, slice_get}
+use Rattle.smith_syntax.specs.Scope.{places}
+
+module _ {A : Type 0} (test : A → Bool) where
+  -- What stands at a place where the test holds passes it.
+  abbrev StandsAt : List A → ℕ → ℕ → Type 0
+  StandsAt es n i = (e : A) × (j : ℕ) × (i ≡ n + j) × (slice_get es j ≡ Some e) × (test e ≡ true)
+
+  stands_later : (e : A) (es : List A) (n i : ℕ) → StandsAt es (n + 1) i → StandsAt (e ∷ es) n i
+  stands_later e es n i (x, j, at, here, t) = (x, suc j, omega (arith, at), here, t)
+
+  stands_split : (e : A) (es : List A) (n k i : ℕ) → ((m : ℕ) → slice_get (places test (n + 1) es) m ≡ Some i → StandsAt es (n + 1) i) → (b : Bool) → test e ≡ b
+      → slice_get (cond b (n ∷ places test (n + 1) es) (places test (n + 1) es)) k ≡ Some i → StandsAt (e ∷ es) n i
+  stands_split e es n zero i later true t g = let h : n ≡ i = cc in (e, 0, omega (arith, h), refl, t)
+  stands_split e es n (suc k) i later true t g = stands_later e es n i (later k g)
+  stands_split e es n k i later false t g = stands_later e es n i (later k g)
+
+  stands_at : (es : List A) (n k i : ℕ) → slice_get (places test n es) k ≡ Some i → StandsAt es n i
+  stands_at [] n k i h = absurd (cc)
+  stands_at (e ∷ es) n k i h = stands_split e es n k i (λ m g. stands_at es (n + 1) m i g) (test e) refl h
+
+  pub place_stands : (es : List A) (k i : ℕ) → slice_get (places test 0 es) k ≡ Some i → (e : A) × (slice_get es i ≡ Some e) × (test e ≡ true)
+  place_stands es k i h =
+      let p = stands_at es 0 k i h in
+      let same : i ≡ p.1 = omega (arith, p.2) in
+      (p.0, ap (slice_get es) same ∙ p.3, p.4)
+
+-- the items of two lists in a row
+pub get_left : {A : Type 0} (xs ys : List A) (k : ℕ) → k < length xs → slice_get (xs ++ ys) k ≡ slice_get xs k
+get_left [] ys k h = absurd (omega arith)
+get_left (x ∷ xs) ys zero h = refl
+get_left (x ∷ xs) ys (suc k) h = get_left xs ys k (omega arith)
+
+pub get_right : {A : Type 0} (xs ys : List A) (k j : ℕ) → k ≡ length xs + j → slice_get (xs ++ ys) k ≡ slice_get ys j
+get_right [] ys k j h = let e : k ≡ j = omega (arith, h) in ap (slice_get ys) e
+get_right (x ∷ xs) ys zero j h = absurd (omega arith)
+get_right (x ∷ xs) ys (suc k) j h = get_right xs ys k j (omega arith)
+
+-- an item of two lists in a row stands in one of them
+pub get_either : {A : Type 0} (xs ys : List A) (k : ℕ) (x : A) → slice_get (xs ++ ys) k ≡ Some x → ((j : ℕ) × (slice_get xs j ≡ Some x)) ⊎ ((j : ℕ) × (slice_get ys j ≡ Some x))
+get_either [] ys k x e = inr (k, e)
+get_either (z ∷ xs) ys zero x e = inl (0, e)
+get_either (z ∷ xs) ys (suc k) x e = elim (get_either xs ys k x e) [ inl p ↦ inl (suc p.0, p.1) | inr p ↦ inr p ]
+
+-- an item of a list that was mapped comes from one of the list
+pub get_mapped : {A B : Type 0} (f : A → B) (xs : List A) (k : ℕ) (y : B) → slice_get (map f xs) k ≡ Some y → (x : A) × (slice_get xs k ≡ Some x) × (y ≡ f x)
+get_mapped f [] k y e = absurd (let z : None ≡ Some y = e in cc)
+get_mapped f (x ∷ xs) zero y e = (x, refl, (let z : y ≡ f x = cc in z))
+get_mapped f (x ∷ xs) (suc k) y e = get_mapped f xs k y e

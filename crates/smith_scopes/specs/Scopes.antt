@@ -1,0 +1,99 @@
+-- The scopes of the program, outermost first, and what it keeps beside the types of each.
+use Rattle.std.specs.Prelude.{◌≡◌, ℕ, ◌≤◌, List, [], ◌∷◌, ◌++◌, map, length, reverse, get_or, Option, Some, None, if◌then◌else◌}
+use Rattle.std.specs.HashMap.{HashMap, get}
+use Rattle.std.specs.declared.alloc.Global.{Global}
+use Rattle.std.specs.declared.rc.Rc.{Rc}
+use Rattle.std.specs.declared.vec.Vec.{Vec}
+use Rattle.smith_syntax.specs.Entries.{Signature}
+use Rattle.smith_syntax.specs.Scope.{ScopeOf, Scope, empty_scope, with_type, with_core_type, own_of, outer_of, places, is_defined, is_func, is_component, is_instance, is_core_func, is_core_module}
+use Rattle.smith_syntax.specs.Shown.{shown_type, shown_core, has_signature}
+use Rattle.smith_syntax.specs.Signature.{same_signature}
+use Rattle.smith_syntax.specs.declared.core_types.CoreType.{CoreType}
+use Rattle.smith_scopes.specs.declared.scopes.Kind.{Kind}
+use Rattle.smith_scopes.specs.declared.scopes.Kind.TheVariants as kind
+use Rattle.smith_syntax.specs.declared.deftype.DefType.{DefType}
+
+-- a scope of the program's own types
+abbrev pub Contents : Type 0
+Contents = ScopeOf DefType CoreType
+
+-- the same as plain trees
+abbrev pub shown_scope : Contents → Scope
+shown_scope d = record { types = map shown_type d.types; core_types = map shown_core d.core_types }
+
+-- the scopes as plain trees, innermost first
+abbrev pub inward : List Contents → List Scope
+inward scopes = reverse (map shown_scope scopes)
+
+-- the innermost scope as plain trees, and those around it
+abbrev pub own_scope : List Contents → Scope
+own_scope scopes = own_of (inward scopes)
+
+abbrev pub outer_scopes : List Contents → List Scope
+outer_scopes scopes = outer_of (inward scopes)
+
+-- the scope of that count, where 0 is the last
+abbrev pub scope_at : List Contents → ℕ → Contents
+scope_at scopes count = get_or (reverse scopes) count empty_scope
+
+abbrev pub last_of : List Contents → Contents
+last_of scopes = scope_at scopes 0
+
+-- new is old with another last scope
+pub record Changes (f : Contents → Contents) (old new : List Contents) : Type 0 where
+  pub outer : List Contents
+  pub own : Contents
+  pub before : old ≡ outer ++ own ∷ []
+  pub after : new ≡ outer ++ f own ∷ []
+
+-- new is old with the type at the end of the last scope
+abbrev pub AddsType : List Contents → DefType → List Contents → Type 0
+AddsType old ty new = Changes (λ d. with_type d ty) old new
+
+-- new is old with the core type at the end of the last scope
+abbrev pub AddsCoreType : List Contents → CoreType → List Contents → Type 0
+AddsCoreType old ty new = Changes (λ d. with_core_type d ty) old new
+
+-- the indexes of the entries of a kind, ascending
+abbrev pub kind_places : Kind → Scope → List ℕ
+kind_places kind.Defined s = places is_defined 0 s.types
+kind_places kind.Func s = places is_func 0 s.types
+kind_places kind.Component s = places is_component 0 s.types
+kind_places kind.Instance s = places is_instance 0 s.types
+kind_places kind.CoreFunc s = places is_core_func 0 s.core_types
+kind_places kind.CoreModule s = places is_core_module 0 s.core_types
+
+-- A row of a map from function types to indexes. A type that the map doesn't have has the empty row.
+abbrev pub row_in : {Z : Type 0} → Option (Vec ℕ Z) → List ℕ
+row_in None = []
+row_in (Some row) = row.items
+
+module _ {Z S : Type 0} where
+  abbrev pub row_of : HashMap Signature (Vec ℕ Z) S → Signature → List ℕ
+  row_of m s = row_in (get same_signature m s)
+
+  abbrev pub SameRows : HashMap Signature (Vec ℕ Z) S → HashMap Signature (Vec ℕ Z) S → Type 0
+  SameRows old new = (s : Signature) → row_of new s ≡ row_of old s
+
+  -- the row of f has i at its end, and every other row is as it was
+  abbrev pub Notes : Signature → ℕ → HashMap Signature (Vec ℕ Z) S → HashMap Signature (Vec ℕ Z) S → Type 0
+  Notes f i old new = (s : Signature) → row_of new s ≡ (if same_signature f s then row_of old s ++ i ∷ [] else row_of old s)
+
+-- what shared types and shared core types are
+abbrev pub values_of : {X : Type 0} → List (Rc X Global) → List X
+values_of entries = map (λ e. e.value) entries
+
+-- The indexes of each kind, and for each function type the indexes of its equals. An index has 32 bits.
+pub record IsTied {Z S : Type 0} (types : List DefType) (defined funcs components instances : List ℕ) (equal : HashMap Signature (Vec ℕ Z) S) : Type 0 where
+  pub defined_are : defined ≡ places is_defined 0 (map shown_type types)
+  pub funcs_are : funcs ≡ places is_func 0 (map shown_type types)
+  pub components_are : components ≡ places is_component 0 (map shown_type types)
+  pub instances_are : instances ≡ places is_instance 0 (map shown_type types)
+  pub equal_are : (s : Signature) → row_of equal s ≡ places (has_signature s) 0 types
+  pub few : length types ≤ 4294967295
+
+-- the indexes of each kind of core type
+pub record IsCoreTied (types : List CoreType) (funcs modules : List ℕ) : Type 0 where
+  pub funcs_are : funcs ≡ places is_core_func 0 (map shown_core types)
+  pub modules_are : modules ≡ places is_core_module 0 (map shown_core types)
+  pub few : length types ≤ 4294967295

@@ -1,0 +1,381 @@
+//! Scopes: what types stand where (Explainer.md, index spaces).
+
+ghost use Rattle.std.specs.Prelude.{◌≡◌, ℕ, ◌+◌, ◌<◌, ◌≤◌, [], ◌∷◌, ◌++◌, length, Some, slice_get};
+ghost use Rattle.std.specs.Prelude.{OnOk, IfOk, OnErr, IfErr};
+ghost use Rattle.smith_syntax.specs.Scope.{empty_scope, with_type, with_core_type, places};
+ghost use Rattle.smith_scopes.specs.Scopes.{own_scope, shown_scope, kind_places, last_of, scope_at};
+ghost use Rattle.smith_syntax.specs.Shown.{has_signature};
+ghost use Rattle.smith_scopes.specs.Scopes.{AddsType, AddsCoreType, Notes, SameRows};
+
+use smith_input::Error;
+use smith_syntax::{CoreType, DefType, FuncType, drop_last_first};
+use std::alloc::Global;
+use std::collections::HashMap;
+use std::hash::{BuildHasherDefault, DefaultHasher};
+use std::marker::Model;
+use std::mem;
+use std::rc::Rc;
+
+/// The kinds of entries that are counted and named by their rank.
+#[derive(Debug, Clone, Copy, PartialEq, Eq, Hash)]
+pub enum Kind {
+    /// A defined type, as against that of a function, a component or an instance.
+    Defined,
+    /// The type of a function.
+    Func,
+    /// The type of a component.
+    Component,
+    /// The type of an instance.
+    Instance,
+    /// A core function type.
+    CoreFunc,
+    /// The type of a core module.
+    CoreModule,
+}
+
+// The indexes of the equals of each function type. The names in them come from the input: a hasher that such names can
+// steer would make the map slow, and SipHash is none.
+type Equals = HashMap<FuncType, Vec<u32>, BuildHasherDefault<DefaultHasher>>;
+
+// The types and core types of one scope, with the indexes of each kind and, by each function type, those of its equals.
+// Contracts see types and core types. It drops its types from the last to the first, since each may come to hold
+// those before it; no clause can say so.
+struct Scope {
+    types: Vec<Rc<DefType>>,
+    defined: Vec<u32>,
+    funcs: Vec<u32>,
+    components: Vec<u32>,
+    instances: Vec<u32>,
+    equal: Equals,
+    core_types: Vec<Rc<CoreType>>,
+    core_funcs: Vec<u32>,
+    core_modules: Vec<u32>,
+}
+
+impl Model for Scope {
+    ghost use Rattle.smith_scopes.specs.Scopes.{Contents, values_of, IsTied, IsCoreTied};
+
+    ghost Value = { Contents };
+
+    ghost use Rattle.smith_syntax.specs.contracts.deftype.DefType as kind;
+    ghost use Rattle.std.specs.Coded.{codes};
+
+    ghost coded = { Prim.hlevel (codes, kind.the_row.coded) };
+
+    ghost view = { λ s. record { types = values_of s.types.items; core_types = values_of s.core_types.items } };
+
+    ghost invariant = { λ s. IsTied (values_of s.types.items) s.defined.items s.funcs.items
+        s.components.items s.instances.items s.equal
+        × IsCoreTied (values_of s.core_types.items) s.core_funcs.items s.core_modules.items };
+}
+
+/// A stack of scopes, never empty. Contracts see the list, outermost first, of the types and core types in each. It is
+/// dropped from the last scope to the first, and each scope from its last type to its first, so that the stack that
+/// this takes does not grow with the number of types; no clause can say so.
+pub struct Scopes {
+    alloc: Global,
+    outer: Vec<Scope>,
+    inner: Scope,
+}
+
+impl Model for Scopes {
+    ghost use Rattle.std.specs.Prelude.{List, [], ◌∷◌, ◌++◌};
+    ghost use Rattle.smith_scopes.specs.Scopes.{Contents};
+
+    ghost Value = { List Contents };
+
+    ghost use Rattle.smith_syntax.specs.contracts.deftype.DefType as kind;
+    ghost use Rattle.std.specs.Coded.{codes};
+
+    ghost coded = { Prim.hlevel (codes, kind.the_row.coded) };
+
+    ghost view = { λ s. s.outer.items ++ s.inner ∷ [] };
+}
+
+impl Drop for Scope {
+    fn drop(self) {
+        let Scope {
+            types,
+            defined: _,
+            funcs: _,
+            components: _,
+            instances: _,
+            equal: _,
+            core_types,
+            core_funcs: _,
+            core_modules: _,
+        } = self;
+        drop_last_first(types);
+        drop_last_first(core_types);
+    }
+}
+
+impl Drop for Scopes {
+    fn drop(self) {
+        let Scopes {
+            alloc: _,
+            outer,
+            inner,
+        } = self;
+        drop(inner);
+        drop_last_first(outer);
+    }
+}
+
+// Puts the index at the end of the row of a function type. Where it refuses, each row is as it was.
+fn note(equal: &mut Equals, alloc: Global, func: &FuncType, index: u32) -> Result<(), Error>
+    ensures ok { OnOk result (Notes func.now index equal.old equal.new) }
+    ensures err { OnErr result (SameRows equal.old equal.new) }
+    ensures memory { IfErr result (λ e. e ≡ Error.OutOfMemory) }
+{
+    if let Some(row) = equal.get_mut(func) {
+        row.push(index)?;
+        return Ok(());
+    }
+    let mut row = Vec::with_capacity(alloc, 1)?;
+    row.push_reserved(index);
+    let key = func.copied(alloc)?;
+    equal.insert(key, row)?;
+    Ok(())
+}
+
+impl Scope {
+    fn new(alloc: Global) -> Scope
+        ensures { result ≡ empty_scope }
+    {
+        Scope {
+            types: Vec::new(alloc),
+            defined: Vec::new(alloc),
+            funcs: Vec::new(alloc),
+            components: Vec::new(alloc),
+            instances: Vec::new(alloc),
+            equal: HashMap::with_hasher(alloc, BuildHasherDefault::default()),
+            core_types: Vec::new(alloc),
+            core_funcs: Vec::new(alloc),
+            core_modules: Vec::new(alloc),
+        }
+    }
+
+    // Adds a type at the end. Each list has room before one of them grows.
+    fn push_type(&mut self, alloc: Global, entry: Rc<DefType>) -> Result<u32, Error>
+        requires { length self.old.types < 4294967295 }
+        ensures ok { OnOk result (self.new ≡ with_type self.old entry.value) }
+        ensures index { IfOk result (λ i. i ≡ length self.old.types) }
+        ensures err { OnErr result (self.new ≡ self.old) }
+        ensures memory { IfErr result (λ e. e ≡ Error.OutOfMemory) }
+    {
+        let index = self.types.len() as u32;
+        self.types.reserve(1)?;
+        match &*entry {
+            DefType::Defined(_) => self.defined.push(index)?,
+            DefType::Func(func) => {
+                self.funcs.reserve(1)?;
+                note(&mut self.equal, alloc, &**func, index)?;
+                self.funcs.push_reserved(index);
+            }
+            DefType::Component(_) => self.components.push(index)?,
+            DefType::Instance(_) => self.instances.push(index)?,
+        }
+        self.types.push_reserved(entry);
+        Ok(index)
+    }
+
+    // Adds a core type at the end. Each list has room before one of them grows.
+    fn push_core_type(&mut self, entry: Rc<CoreType>) -> Result<u32, Error>
+        requires { length self.old.core_types < 4294967295 }
+        ensures ok { OnOk result (self.new ≡ with_core_type self.old entry.value) }
+        ensures index { IfOk result (λ i. i ≡ length self.old.core_types) }
+        ensures err { OnErr result (self.new ≡ self.old) }
+        ensures memory { IfErr result (λ e. e ≡ Error.OutOfMemory) }
+    {
+        let index = self.core_types.len() as u32;
+        self.core_types.reserve(1)?;
+        match &*entry {
+            CoreType::Func(_) => self.core_funcs.push(index)?,
+            CoreType::Module(_) => self.core_modules.push(index)?,
+        }
+        self.core_types.push_reserved(entry);
+        Ok(index)
+    }
+
+    // The indexes of the entries of that kind.
+    fn places(&self, kind: Kind) -> &[u32]
+        ensures places { result.now ≡ kind_places kind (shown_scope self.now) }
+        ensures few { length result.now ≤ 4294967295 }
+        ensures small { length result.now < 9223372036854775808 }
+    {
+        match kind {
+            Kind::Defined => &self.defined,
+            Kind::Func => &self.funcs,
+            Kind::Component => &self.components,
+            Kind::Instance => &self.instances,
+            Kind::CoreFunc => &self.core_funcs,
+            Kind::CoreModule => &self.core_modules,
+        }
+    }
+
+    fn equals(&self, func: &FuncType) -> &[u32]
+        ensures { result.now ≡ places (has_signature func.now) 0 self.now.types }
+    {
+        match self.equal.get(func) {
+            Some(row) => row,
+            None => &[],
+        }
+    }
+}
+
+impl Scopes {
+    /// One scope, empty.
+    pub fn new(alloc: Global) -> Scopes
+        ensures { result ≡ empty_scope ∷ [] }
+    {
+        Scopes {
+            alloc,
+            outer: Vec::new(alloc),
+            inner: Scope::new(alloc),
+        }
+    }
+
+    /// Adds an empty scope. It refuses for want of memory alone, and all is as it was then.
+    pub fn open_scope(&mut self) -> Result<(), Error>
+        ensures ok { OnOk result (self.new ≡ self.old ++ empty_scope ∷ []) }
+        ensures deep { OnOk result (2 ≤ length self.new) }
+        ensures err { OnErr result (self.new ≡ self.old) }
+        ensures memory { IfErr result (λ e. e ≡ Error.OutOfMemory) }
+    {
+        self.outer.reserve(1)?;
+        let around = mem::replace(&mut self.inner, Scope::new(self.alloc));
+        self.outer.push_reserved(around);
+        Ok(())
+    }
+
+    /// Takes the last scope away.
+    pub fn close_scope(&mut self)
+        requires { 2 ≤ length self.old }
+        ensures { self.old ≡ self.new ++ last_of self.old ∷ [] }
+    {
+        if let Some(around) = self.outer.pop() {
+            self.inner = around;
+        }
+    }
+
+    /// Adds a type to the last scope, and answers its index there. It refuses for want of memory alone, and all is
+    /// as it was then.
+    pub fn push_type(&mut self, entry: Rc<DefType>) -> Result<u32, Error>
+        requires { length (last_of self.old).types < 4294967295 }
+        ensures ok { OnOk result (AddsType self.old entry.value self.new) }
+        ensures index { IfOk result (λ i. i ≡ length (last_of self.old).types) }
+        ensures err { OnErr result (self.new ≡ self.old) }
+        ensures memory { IfErr result (λ e. e ≡ Error.OutOfMemory) }
+    {
+        self.inner.push_type(self.alloc, entry)
+    }
+
+    /// Adds a core type to the last scope, and answers its index there. It refuses for want of memory alone, and all is
+    /// as it was then.
+    pub fn push_core_type(&mut self, entry: Rc<CoreType>) -> Result<u32, Error>
+        requires { length (last_of self.old).core_types < 4294967295 }
+        ensures ok { OnOk result (AddsCoreType self.old entry.value self.new) }
+        ensures index { IfOk result (λ i. i ≡ length (last_of self.old).core_types) }
+        ensures err { OnErr result (self.new ≡ self.old) }
+        ensures memory { IfErr result (λ e. e ≡ Error.OutOfMemory) }
+    {
+        self.inner.push_core_type(entry)
+    }
+
+    /// How many scopes there are.
+    pub fn depth(&self) -> usize
+        ensures count { result ≡ length self.now }
+        ensures some { 1 ≤ result }
+    {
+        self.outer.len() + 1
+    }
+
+    // The scope of that count, where 0 is the last.
+    fn scope(&self, count: u32) -> &Scope
+        requires { count < length self.now }
+        ensures { result.now ≡ scope_at self.now count }
+    {
+        if count == 0 {
+            &self.inner
+        } else {
+            &self.outer[self.outer.len() - count as usize]
+        }
+    }
+
+    /// How many types the scope of that count has, where 0 is the last.
+    pub fn len(&self, count: u32) -> usize
+        requires { count < length self.now }
+        ensures count { result ≡ length (scope_at self.now count).types }
+        ensures few { result ≤ 4294967295 }
+    {
+        self.scope(count).types.len()
+    }
+
+    /// How many core types the scope of that count has, where 0 is the last.
+    pub fn len_core(&self, count: u32) -> usize
+        requires { count < length self.now }
+        ensures count { result ≡ length (scope_at self.now count).core_types }
+        ensures few { result ≤ 4294967295 }
+    {
+        self.scope(count).core_types.len()
+    }
+
+    /// The type with the index `i` in the scope of that count, where 0 is the last.
+    pub fn get(&self, count: u32, i: u32) -> &Rc<DefType>
+        requires scope { count < length self.now }
+        requires entry { i < length (scope_at self.now count).types }
+        ensures { slice_get (scope_at self.now count).types i ≡ Some result.now.value }
+    {
+        &self.scope(count).types[i as usize]
+    }
+
+    /// The core type with the index `i` in the scope of that count, where 0 is the last.
+    pub fn get_core(&self, count: u32, i: u32) -> &Rc<CoreType>
+        requires scope { count < length self.now }
+        requires entry { i < length (scope_at self.now count).core_types }
+        ensures { slice_get (scope_at self.now count).core_types i ≡ Some result.now.value }
+    {
+        &self.scope(count).core_types[i as usize]
+    }
+
+    /// How many types the last scope has.
+    pub fn own_len(&self) -> usize
+        ensures count { result ≡ length (own_scope self.now).types }
+        ensures few { result ≤ 4294967295 }
+    {
+        self.inner.types.len()
+    }
+
+    /// How many entries of the last scope are of that kind.
+    pub fn kind_len(&self, kind: Kind) -> usize
+        ensures count { result ≡ length (kind_places kind (own_scope self.now)) }
+        ensures few { result ≤ 4294967295 }
+        ensures small { result < 9223372036854775808 }
+    {
+        self.inner.places(kind).len()
+    }
+
+    /// The index of the entry of the last scope that has `k` earlier ones of its kind.
+    pub fn kind_at(&self, kind: Kind, k: usize) -> u32
+        requires { k < length (kind_places kind (own_scope self.now)) }
+        ensures { slice_get (kind_places kind (own_scope self.now)) k ≡ Some result }
+    {
+        self.inner.places(kind)[k]
+    }
+
+    /// How many types of the last scope are function types equal to that one.
+    pub fn equal_len(&self, func: &FuncType) -> usize
+        ensures { result ≡ length (places (has_signature func.now) 0 (last_of self.now).types) }
+    {
+        self.inner.equals(func).len()
+    }
+
+    /// The index of the function type of the last scope that equals that one and has `k` earlier such ones.
+    pub fn equal_at(&self, func: &FuncType, k: usize) -> u32
+        requires { k < length (places (has_signature func.now) 0 (last_of self.now).types) }
+        ensures { slice_get (places (has_signature func.now) 0 (last_of self.now).types) k ≡ Some result }
+    {
+        self.inner.equals(func)[k]
+    }
+}

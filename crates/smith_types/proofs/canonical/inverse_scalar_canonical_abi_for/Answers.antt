@@ -1,0 +1,16 @@
+use Rattle.std.proofs.Common.{ap, arith, length}
+use Rattle.smith_core.specs.CoreTypes.{shown_func}
+use Rattle.smith_types.proofs.Lifting.{all_lifted, lifted_flattens, params_named}
+use Rattle.smith_types.proofs.canonical.inverse_scalar_canonical_abi_for.Goals as goal
+
+pub returns-clause-reads : goal.returns-clause-reads
+returns-clause-reads c =
+    all_lifted (shown_func c.args.core.now) _ _ _ _ _ _ _ c.deref.ensures.value c.requires.liftable.one c.index.ensures c.in_ok-params.ensures.reads c.lifted_primitive-result.ensures.reads
+
+pub returns-clause-flattens : goal.returns-clause-flattens
+returns-clause-flattens c = lifted_flattens (returns-clause-reads c)
+
+pub returns-clause-named : goal.returns-clause-named
+returns-clause-named c =
+    let held = c.args.core.now.params in
+    params_named (omega (arith, ap length c.deref.ensures.value, held.ok.0, held.ok.1, held.small)) c.in_ok-params.ensures.reads

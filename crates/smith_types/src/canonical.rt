@@ -1,0 +1,157 @@
+//! Function types of components as core function types (CanonicalABI.md, flattening), and the other way round.
+
+ghost use Rattle.std.specs.Prelude.{◌≡◌, true, [], map, Some, IfOk, IfErr};
+ghost use Rattle.std.specs.List.{AllByRecursion, list_all};
+ghost use Rattle.std.specs.Option.{is_some};
+ghost use Rattle.smith_core.specs.CoreTypes.{shown_func};
+ghost use Rattle.smith_input.specs.Choices.{ReadsAmong};
+ghost use Rattle.smith_input.specs.Reading.{IsTail};
+ghost use Rattle.smith_syntax.specs.Flat.{flat_primitive, flat_value, is_scalar, Flattens};
+ghost use Rattle.smith_syntax.specs.Signature.{named};
+ghost use Rattle.smith_syntax.specs.WellFormed.{Named};
+ghost use Rattle.smith_types.specs.Lifting.{lifted, IsLiftable, IsLiftableFunction, ReadsParams, ReadsLifted};
+
+use smith_core::ValType;
+use smith_input::{Error, Unstructured, unique_kebab_string};
+use smith_syntax::{ComponentValType, FuncType, PrimitiveValType};
+use std::alloc::Global;
+use std::collections::BTreeSet;
+use std::rc::Rc;
+
+static LIFTED_I32: [PrimitiveValType; 8] = [
+    PrimitiveValType::Char,
+    PrimitiveValType::Bool,
+    PrimitiveValType::S8,
+    PrimitiveValType::U8,
+    PrimitiveValType::S16,
+    PrimitiveValType::U16,
+    PrimitiveValType::S32,
+    PrimitiveValType::U32,
+];
+
+static LIFTED_I64: [PrimitiveValType; 2] = [PrimitiveValType::S64, PrimitiveValType::U64];
+
+static LIFTED_F32: [PrimitiveValType; 1] = [PrimitiveValType::F32];
+
+static LIFTED_F64: [PrimitiveValType; 1] = [PrimitiveValType::F64];
+
+// The core value type of a primitive. A string has none.
+fn flat_primitive(ty: PrimitiveValType) -> Option<ValType>
+    ensures { result ≡ flat_primitive ty }
+{
+    match ty {
+        PrimitiveValType::Bool
+        | PrimitiveValType::S8
+        | PrimitiveValType::U8
+        | PrimitiveValType::S16
+        | PrimitiveValType::U16
+        | PrimitiveValType::S32
+        | PrimitiveValType::U32
+        | PrimitiveValType::Char => Some(ValType::I32),
+        PrimitiveValType::S64 | PrimitiveValType::U64 => Some(ValType::I64),
+        PrimitiveValType::F32 => Some(ValType::F32),
+        PrimitiveValType::F64 => Some(ValType::F64),
+        PrimitiveValType::String => None,
+    }
+}
+
+// The same of a value type in use: an indexed one has none.
+fn flat_value(ty: ComponentValType) -> Option<ValType>
+    ensures { result ≡ flat_value ty }
+{
+    match ty {
+        ComponentValType::Primitive(primitive) => flat_primitive(primitive),
+        ComponentValType::Indexed(_) => None,
+    }
+}
+
+fn flat_params(alloc: Global, params: &[(String, ComponentValType)]) -> Result<Vec<ValType>, Error>
+    requires { list_all (λ p. is_some (flat_value p.1)) (map named params.now) ≡ true }
+    ensures flat { IfOk result (λ v. map (λ p. flat_value p.1) (map named params.now) ≡ map Some v.items) }
+    ensures memory { IfErr result (λ e. e ≡ Error.OutOfMemory) }
+{
+    let mut flat = Vec::with_capacity(alloc, params.len())?;
+    for (_, ty) in params {
+        flat.push(flat_value(*ty).unwrap())?;
+    }
+    Ok(flat)
+}
+
+/// The core function type that a scalar function type flattens to: a core value type for each parameter, and one for
+/// the result. It refuses for want of memory alone.
+pub fn canonical_abi_for(alloc: Global, func: &FuncType) -> Result<Rc<smith_core::FuncType>, Error>
+    requires { is_scalar func.now ≡ true }
+    ensures flattens { IfOk result (λ f. Flattens func.now (shown_func f.value)) }
+    ensures memory { IfErr result (λ e. e ≡ Error.OutOfMemory) }
+{
+    let params = flat_params(alloc, &func.params)?;
+    let mut results = Vec::new(alloc);
+    results.push(flat_value(func.result.unwrap()).unwrap())?;
+    let core = Rc::new(alloc, smith_core::FuncType { params, results })?;
+    Ok(core)
+}
+
+// The primitives that flatten to a core value type.
+fn lifted(ty: ValType) -> &'static [PrimitiveValType]
+    ensures { result.now ≡ lifted ty }
+{
+    match ty {
+        ValType::I32 => &LIFTED_I32,
+        ValType::I64 => &LIFTED_I64,
+        ValType::F32 => &LIFTED_F32,
+        ValType::F64 => &LIFTED_F64,
+        ValType::V128 | ValType::Ref(_) => &[],
+    }
+}
+
+// One of them, by a choice. A choice among one reads nothing.
+fn lifted_primitive(u: &mut Unstructured, ty: ValType) -> PrimitiveValType
+    requires { IsLiftable ty }
+    ensures reads { ReadsAmong (lifted ty) u.old result u.new }
+    ensures tail { IsTail u.new u.old }
+{
+    *u.choose(lifted(ty))
+}
+
+fn lifted_params(
+    alloc: Global,
+    u: &mut Unstructured,
+    core: &[ValType],
+) -> Result<Vec<(String, ComponentValType)>, Error>
+    requires { AllByRecursion IsLiftable core.now }
+    ensures reads { IfOk result (λ v. ReadsParams [] core.now u.old (map named v.items) u.new) }
+    ensures memory { IfErr result (λ e. e ≡ Error.OutOfMemory) }
+    ensures tail { IsTail u.new u.old }
+{
+    let mut names = BTreeSet::new(alloc);
+    let mut params = Vec::with_capacity(alloc, core.len())?;
+    for ty in core {
+        let name = unique_kebab_string(alloc, 100, &mut names, u)?;
+        let primitive = lifted_primitive(u, *ty);
+        params.push((name, ComponentValType::Primitive(primitive)))?;
+    }
+    Ok(params)
+}
+
+/// A function type that flattens to a core function type, of which all parameters and the one result are i32, i64, f32
+/// or f64. For each parameter it reads a name in kebab case that none before it has, and a choice among the primitives
+/// that flatten to the parameter's type; then a choice for the result. It refuses for want of memory alone.
+pub fn inverse_scalar_canonical_abi_for(
+    alloc: Global,
+    u: &mut Unstructured,
+    core: &smith_core::FuncType,
+) -> Result<FuncType, Error>
+    requires liftable { IsLiftableFunction (shown_func core.now) }
+    ensures reads { IfOk result (λ f. ReadsLifted (shown_func core.now) u.old f u.new) }
+    ensures flattens { IfOk result (λ f. Flattens f (shown_func core.now)) }
+    ensures named { IfOk result (λ f. Named (map (λ p. p.0) f.params)) }
+    ensures memory { IfErr result (λ e. e ≡ Error.OutOfMemory) }
+    ensures tail { IsTail u.new u.old }
+{
+    let params = lifted_params(alloc, u, &core.params)?;
+    let result = lifted_primitive(u, core.results[0]);
+    Ok(FuncType {
+        params,
+        result: Some(ComponentValType::Primitive(result)),
+    })
+}
