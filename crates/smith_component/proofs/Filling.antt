@@ -1,53 +1,47 @@
 -- What is filled: nothing where nothing lacks, and all that lacks where it can be.
 use Rattle.std.proofs.Common.{◌≡◌, ℕ, ◌+◌, ◌-◌, ◌<◌, ◌≤◌, List, length, arith, sym, ap, ◌∙◌, subst, inl, inr, length-append}
-use Rattle.smith_core.specs.Limits.{IsConsistent}
-use Rattle.smith_core.specs.declared.config.Config.{Config}
+use Rattle.smith_format.specs.Limits.{IsConsistent}
+use Rattle.smith_format.specs.declared.config.Config.{Config}
 use Rattle.smith_syntax.specs.Entries.{Entry, ImportEntry}
 use Rattle.smith_syntax.specs.Scope.{places, is_func}
 use Rattle.smith_scopes.proofs.Stack.{places-append}
 use Rattle.smith_component.specs.Canonicals.{scalar_functions}
+use Rattle.smith_component.specs.Counted.{count_of, minimum_of}
 use Rattle.smith_component.specs.Filling.{CanFill}
 use Rattle.smith_component.specs.Limits.{Minima}
 use Rattle.smith_component.specs.Open.{Open, with_inner}
 use Rattle.smith_component.specs.Tables.{IsGrounded}
 use Rattle.smith_component.specs.Tree.{Tree, types, imports, add, types_of, types_in, imports_of, imports_in, functions_in, core_functions_in, function_count}
-use Rattle.smith_component.specs.Turn.{AddsTypes, AddsImports, AddsCanons, Fills, FillsTypes, FillsImports, FillsFunctions, FillsAll, Lacks, of_imports, of_functions}
+use Rattle.smith_component.specs.Turn.{Fills, FillsAll, Lacks, of_imports, of_functions}
 use Rattle.smith_component.specs.WellFormed.{spaces_of}
+use Rattle.smith_component.specs.declared.item.Counted.{Counted}
+use Rattle.smith_component.specs.declared.item.Counted.TheVariants as counted
 use Rattle.smith_component.proofs.ReadsCanons.{canons_enough}
 use Rattle.smith_component.proofs.ReadsImports.{imports_enough}
 use Rattle.smith_component.proofs.Tree.{own-add, length-own-add}
 
 -- where there are enough, nothing is filled
-fill_none : (Adds : ℕ → Open → List ℕ → Tree → List ℕ → Type 0) (count min : ℕ) (stack : Open) (b : List ℕ) (t : Tree) (rest : List ℕ) → min ≤ count → Fills Adds count min stack b t rest → (t ≡ stack.inner) × (rest ≡ b)
-fill_none Adds count min stack b t rest few (inl (h, e, l)) = (e, l)
-fill_none Adds count min stack b t rest few (inr (lacks, a)) = absurd (omega (arith, few, lacks))
+fill_none : (what : Counted) (config : Config) (stack : Open) (b : List ℕ) (t : Tree) (rest : List ℕ) → minimum_of what config ≤ count_of what stack.inner → Fills what config stack b t rest → (t ≡ stack.inner) × (rest ≡ b)
+fill_none what config stack b t rest few (inl (h, e, l)) = (e, l)
+fill_none what config stack b t rest few (inr (lacks, a)) = absurd (omega (arith, few, lacks))
 
 module _ (config : Config) where
-  no_types : (stack : Open) (b : List ℕ) (t : Tree) (rest : List ℕ) → config.min_types ≤ length (types_of stack.inner) → FillsTypes config stack b t rest → (t ≡ stack.inner) × (rest ≡ b)
-  no_types stack b t rest few f = fill_none (AddsTypes config) (length (types_of stack.inner)) config.min_types stack b t rest few f
-
-  no_imports : (stack : Open) (b : List ℕ) (t : Tree) (rest : List ℕ) → config.min_imports ≤ length (imports_of stack.inner) → FillsImports config stack b t rest → (t ≡ stack.inner) × (rest ≡ b)
-  no_imports stack b t rest few f = fill_none (AddsImports config) (length (imports_of stack.inner)) config.min_imports stack b t rest few f
-
-  no_functions : (stack : Open) (b : List ℕ) (t : Tree) (rest : List ℕ) → config.min_funcs ≤ function_count stack.inner → FillsFunctions config stack b t rest → (t ≡ stack.inner) × (rest ≡ b)
-  no_functions stack b t rest few f = fill_none (AddsCanons config) (function_count stack.inner) config.min_funcs stack b t rest few f
-
   -- types and imports, where neither lack
   neither : (stack : Open) (b : List ℕ) (typed : Tree) (mid : List ℕ) (imported : Tree) (low : List ℕ) → config.min_types ≤ length (types_of stack.inner) → config.min_imports ≤ length (imports_of stack.inner)
-      → FillsTypes config stack b typed mid → FillsImports config (with_inner stack typed) mid imported low → (imported ≡ stack.inner) × (low ≡ b)
+      → Fills counted.Types config stack b typed mid → Fills counted.Imports config (with_inner stack typed) mid imported low → (imported ≡ stack.inner) × (low ≡ b)
   neither stack b typed mid imported low few_types few_imports ts is =
-      let t = no_types stack b typed mid few_types ts in
+      let t = fill_none counted.Types config stack b typed mid few_types ts in
       let few : config.min_imports ≤ length (imports_of typed) = subst (λ x. config.min_imports ≤ length (imports_of x)) (sym t.0) few_imports in
-      let i = no_imports (with_inner stack typed) mid imported low few is in
+      let i = fill_none counted.Imports config (with_inner stack typed) mid imported low few is in
       (i.0 ∙ t.0, i.1 ∙ t.1)
 
   -- all three, where none lack
   none_of_three : (stack : Open) (b : List ℕ) (typed : Tree) (mid : List ℕ) (imported : Tree) (low : List ℕ) (full : Tree) (rest : List ℕ) → Minima config stack.inner
-      → FillsTypes config stack b typed mid → FillsImports config (with_inner stack typed) mid imported low → FillsFunctions config (with_inner stack imported) low full rest → (full ≡ stack.inner) × (rest ≡ b)
+      → Fills counted.Types config stack b typed mid → Fills counted.Imports config (with_inner stack typed) mid imported low → Fills counted.Functions config (with_inner stack imported) low full rest → (full ≡ stack.inner) × (rest ≡ b)
   none_of_three stack b typed mid imported low full rest m ts is fs =
       let i = neither stack b typed mid imported low m.types m.imports ts is in
       let few : config.min_funcs ≤ function_count imported = subst (λ x. config.min_funcs ≤ function_count x) (sym i.0) m.functions in
-      let f = no_functions (with_inner stack imported) low full rest few fs in
+      let f = fill_none counted.Functions config (with_inner stack imported) low full rest few fs in
       (f.0 ∙ i.0, f.1 ∙ i.1)
 
 -- A component that lacks nothing stays as it is.
@@ -94,7 +88,7 @@ with_imports old new is e = record {
 }
 
 module _ (config : Config) where
-  typed_is : (stack : Open) (b : List ℕ) (typed : Tree) (mid : List ℕ) → FillsTypes config stack b typed mid → IsTyped stack.inner typed
+  typed_is : (stack : Open) (b : List ℕ) (typed : Tree) (mid : List ℕ) → Fills counted.Types config stack b typed mid → IsTyped stack.inner typed
   typed_is stack b typed mid (inl (few, e, l)) = record {
     imports = ap (λ t. length (imports_of t)) e;
     functions = ap (λ t. function_count t) e;
@@ -102,13 +96,13 @@ module _ (config : Config) where
   }
   typed_is stack b typed mid (inr (lacks, (xs, scope, reads, e))) = with_types stack.inner typed xs e
 
-  imported_is : (stack : Open) (b : List ℕ) (imported : Tree) (low : List ℕ) → FillsImports config stack b imported low → IsImported stack.inner imported
+  imported_is : (stack : Open) (b : List ℕ) (imported : Tree) (low : List ℕ) → Fills counted.Imports config stack b imported low → IsImported stack.inner imported
   imported_is stack b imported low (inl (few, e, l)) = record { imports = omega (arith, ap (λ t. length (imports_of t)) e); functions = omega (arith, ap (λ t. function_count t) e) }
   imported_is stack b imported low (inr (lacks, (is, reads, e))) = with_imports stack.inner imported is e
 
   -- Imports that are enough lack nowhere.
   enough_imports : (stack : Open) (b : List ℕ) (typed : Tree) (mid : List ℕ) (imported : Tree) (low : List ℕ) → config.min_imports ≤ length (imports_of stack.inner)
-      → FillsTypes config stack b typed mid → FillsImports config (with_inner stack typed) mid imported low → length (imports_of imported) < config.min_imports → ⊥
+      → Fills counted.Types config stack b typed mid → Fills counted.Imports config (with_inner stack typed) mid imported low → length (imports_of imported) < config.min_imports → ⊥
   enough_imports stack b typed mid imported low few ts is less =
       let t = typed_is stack b typed mid ts in
       let i = imported_is (with_inner stack typed) mid imported low is in
@@ -116,23 +110,23 @@ module _ (config : Config) where
 
   -- Nor do functions.
   enough_functions : (stack : Open) (b : List ℕ) (typed : Tree) (mid : List ℕ) (imported : Tree) (low : List ℕ) (full : Tree) (rest : List ℕ) → config.min_funcs ≤ function_count stack.inner
-      → FillsTypes config stack b typed mid → FillsImports config (with_inner stack typed) mid imported low → FillsFunctions config (with_inner stack imported) low full rest → function_count full < config.min_funcs → ⊥
+      → Fills counted.Types config stack b typed mid → Fills counted.Imports config (with_inner stack typed) mid imported low → Fills counted.Functions config (with_inner stack imported) low full rest → function_count full < config.min_funcs → ⊥
   enough_functions stack b typed mid imported low full rest few ts is fs less =
       let t = typed_is stack b typed mid ts in
       let i = imported_is (with_inner stack typed) mid imported low is in
       let enough : config.min_funcs ≤ function_count imported = omega (arith, few, t.functions, i.functions) in
-      let same = no_functions config (with_inner stack imported) low full rest enough fs in
+      let same = fill_none counted.Functions config (with_inner stack imported) low full rest enough fs in
       omega (arith, enough, less, ap (λ t. function_count t) same.0)
 
 filled_imports : (config : Config) (stack : Open) (b : List ℕ) (imported : Tree) (low : List ℕ) → IsConsistent config → 0 < func_types stack.inner
-    → function_count stack.inner + (config.min_imports - length (imports_of stack.inner)) ≤ config.max_funcs → FillsImports config stack b imported low → length (imports_of imported) < config.min_imports → ⊥
+    → function_count stack.inner + (config.min_imports - length (imports_of stack.inner)) ≤ config.max_funcs → Fills counted.Imports config stack b imported low → length (imports_of imported) < config.min_imports → ⊥
 filled_imports config stack b imported low consistent some room (inl (few, e, l)) less = omega (arith, few, less, ap (λ t. length (imports_of t)) e)
 filled_imports config stack b imported low consistent some room (inr (lacks, (is, reads, e))) less =
     let enough = imports_enough config stack some room (omega (arith, consistent.imports_cross)) reads in
     omega (arith, enough, less, ap (λ t. length (imports_of t)) e, length-own-add imports_in stack.inner (imports is))
 
 filled_functions : (config : Config) (stack : Open) (b : List ℕ) (full : Tree) (rest : List ℕ) → IsConsistent config → IsGrounded stack.inner → 0 < length (scalar_functions (spaces_of stack.inner))
-    → length (types_of stack.inner) + (config.min_funcs - function_count stack.inner) ≤ config.max_types → FillsFunctions config stack b full rest → function_count full < config.min_funcs → ⊥
+    → length (types_of stack.inner) + (config.min_funcs - function_count stack.inner) ≤ config.max_types → Fills counted.Functions config stack b full rest → function_count full < config.min_funcs → ⊥
 filled_functions config stack b full rest consistent grounded some room (inl (few, e, l)) less = omega (arith, few, less, ap (λ t. function_count t) e)
 filled_functions config stack b full rest consistent grounded some room (inr (lacks, (turns, next, reads, e))) less =
     let enough = canons_enough config (config.min_funcs - function_count stack.inner) stack.inner reads grounded (omega (arith, consistent.funcs_cross)) some room in
@@ -151,5 +145,5 @@ filled_surely config stack b consistent grounded (inr (inl can)) (of_functions {
 filled_surely config stack b consistent grounded (inr (inr can)) (of_imports {typed} {imported} {mid} {low} ts is less) = enough_imports config stack b typed mid imported low can.imports ts is less
 filled_surely config stack b consistent grounded (inr (inr can)) (of_functions {typed} {imported} {full} {mid} {low} {rest} ts is fs less) =
     let e = neither config stack b typed mid imported low can.types can.imports ts is in
-    let P : Tree → Type 0 = λ u. FillsFunctions config (with_inner stack u) low full rest in
+    let P : Tree → Type 0 = λ u. Fills counted.Functions config (with_inner stack u) low full rest in
     filled_functions config stack low full rest consistent grounded can.has_scalar can.room (subst P e.0 fs) less

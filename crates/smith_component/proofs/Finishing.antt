@@ -1,22 +1,24 @@
 -- What filling gives, and builders that follow one another.
-use Rattle.std.proofs.Common.{◌≡◌, ℕ, ◌+◌, ◌-◌, ◌<◌, ◌≤◌, List, [], ◌∷◌, ◌++◌, length, map, arith, ap, sym, subst, ◌∙◌, refl, inl, inr, append-nil, append_assoc, length-append, Result, IfErr}
+use Rattle.std.proofs.Common.{◌≡◌, ℕ, ◌-◌, ◌≤◌, List, [], ◌∷◌, ◌++◌, length, map, arith, ap, sym, subst, ◌∙◌, refl, inl, inr, append_assoc, Result, IfErr}
 use Rattle.std.proofs.lemmas.Result.{err_from_is_err_and}
 use Rattle.std.specs.Result.{IsErrAnd}
 use Rattle.smith_input.specs.declared.error.Error.{Error}
 use Rattle.smith_input.specs.declared.error.Error.TheVariants.{OutOfMemory}
-use Rattle.smith_core.specs.declared.config.Config.{Config}
+use Rattle.smith_format.specs.Limits.{IsConsistent}
+use Rattle.smith_format.specs.declared.config.Config.{Config}
 use Rattle.smith_component.specs.Building.{Building, open_of}
 use Rattle.smith_component.specs.Limits.{Minima}
 use Rattle.smith_component.specs.Open.{Open, scopes_in, with_inner}
 use Rattle.smith_component.specs.Shown.{shown_sections}
-use Rattle.smith_component.specs.Steps.{AddsSections, ClosesSections, KeepsSections, StaysSound}
-use Rattle.smith_component.specs.Tree.{Tree, types, imports, add, types_in, imports_in, types_of, imports_of, function_count}
+use Rattle.smith_component.specs.Steps.{AddsSections, ClosesSections, KeepsSections}
+use Rattle.smith_component.specs.Tree.{Tree, types, imports, types_in, types_of, imports_of}
 use Rattle.smith_component.specs.Refusals.{IsFillRefusal}
-use Rattle.smith_component.specs.Turn.{AddsTypes, Closes, FillsAll, FillsImports, FillsFunctions, Next}
+use Rattle.smith_component.specs.Turn.{Closes, Fills, FillsAll, Next}
 use Rattle.smith_component.specs.declared.builder.Step.{Step}
 use Rattle.smith_component.specs.declared.builder.Step.TheVariants.{StillBuilding, Finished}
 use Rattle.smith_component.specs.declared.component.Section.{Section}
 use Rattle.smith_component.specs.declared.component.Section.TheVariants.{Component}
+use Rattle.smith_component.specs.declared.item.Counted.TheVariants as counted
 use Rattle.smith_component.proofs.ReadsCanons.{canons_grow}
 use Rattle.smith_component.proofs.ReadsTypes.{types_enough}
 use Rattle.smith_component.proofs.Tables.{own_bare}
@@ -27,11 +29,6 @@ pub refused : {T : Type 0} (r : Result T Error) (e : Error) (P : Error → Type 
 refused r e P h p =
     let s = err_from_is_err_and r h in
     subst (λ x. IfErr x P) (sym s.1) (subst P (sym s.2) p)
-
--- A type section has at least as many types as it must.
-pub types_filled : (config : Config) (stack : Open) (min : ℕ) (b rest : List ℕ) (t : Tree) → length (types_of stack.inner) + min ≤ config.max_types → AddsTypes config min stack b t rest → length (types_of stack.inner) + min ≤ length (types_of t)
-types_filled config stack min b rest t room (xs, scope, reads, e) =
-    omega (arith, types_enough config (scopes_in stack.outer) (let z : min ≤ config.max_types - length (types_of stack.inner) = omega (arith, room) in z) reads, ap (λ u. length (types_of u)) e, length-own-add types_in stack.inner (types xs))
 
 -- Sections more, and more again.
 pub adds_trans : {a b c : Building} → AddsSections a b → AddsSections b c → AddsSections a c
@@ -47,19 +44,27 @@ moved F a b c o f =
     let G : List (List Section) → Type 0 = λ us. F b.config (record { outer = map shown_sections us; inner = shown_sections b.inner }) in
     subst (λ k. F k (with_inner (open_of a) (open_of b).inner)) c (subst G o f)
 
-imports_types : (config : Config) (stack : Open) (b rest : List ℕ) (t : Tree) → FillsImports config stack b t rest → types_of t ≡ types_of stack.inner
+-- Types that are filled are as many as they must be.
+filled_types : (config : Config) (stack : Open) (b rest : List ℕ) (t : Tree) → IsConsistent config → Fills counted.Types config stack b t rest → config.min_types ≤ length (types_of t)
+filled_types config stack b rest t consistent (inl (enough, same, left)) = omega (arith, enough, ap (λ u. length (types_of u)) same)
+filled_types config stack b rest t consistent (inr (lacks, (xs, scope, reads, e))) =
+    let room : config.min_types - length (types_of stack.inner) ≤ config.max_types - length (types_of stack.inner) = omega (arith, consistent.types_cross) in
+    omega (arith, lacks, types_enough config (scopes_in stack.outer) room reads, ap (λ u. length (types_of u)) e, length-own-add types_in stack.inner (types xs))
+
+imports_types : (config : Config) (stack : Open) (b rest : List ℕ) (t : Tree) → Fills counted.Imports config stack b t rest → types_of t ≡ types_of stack.inner
 imports_types config stack b rest t (inl (enough, same, left)) = ap types_of same
 imports_types config stack b rest t (inr (lacks, (is, reads, e))) = ap types_of e ∙ own_bare types_in stack.inner (imports is) refl
 
-functions_keep : (config : Config) (stack : Open) (b rest : List ℕ) (t : Tree) → FillsFunctions config stack b t rest → (imports_of t ≡ imports_of stack.inner) × (length (types_of stack.inner) ≤ length (types_of t))
+functions_keep : (config : Config) (stack : Open) (b rest : List ℕ) (t : Tree) → Fills counted.Functions config stack b t rest → (imports_of t ≡ imports_of stack.inner) × (length (types_of stack.inner) ≤ length (types_of t))
 functions_keep config stack b rest t (inl (enough, same, left)) = (ap imports_of same, omega (arith, ap (λ u. length (types_of u)) same))
 functions_keep config stack b rest t (inr (lacks, (turns, next, reads, e))) =
     let g = canons_grow config _ stack.inner reads in
     (ap imports_of e ∙ g.0, omega (arith, g.2, ap (λ u. length (types_of u)) e))
 
 -- What is filled has what it must have.
-pub filled_minima : (config : Config) (stack : Open) (b rest : List ℕ) (full : Tree) (f : FillsAll config stack b full rest) → config.min_types ≤ length (types_of f.typed) → Minima config full
-filled_minima config stack b rest full f h =
+pub filled_minima : (config : Config) (stack : Open) (b rest : List ℕ) (full : Tree) → IsConsistent config → FillsAll config stack b full rest → Minima config full
+filled_minima config stack b rest full consistent f =
+    let h = filled_types config stack _ _ f.typed consistent f.types in
     let i = imports_types config (with_inner stack f.typed) _ _ f.imported f.imports in
     let k = functions_keep config (with_inner stack f.imported) _ _ full f.functions in
     record {

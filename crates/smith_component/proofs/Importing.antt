@@ -1,10 +1,10 @@
 -- Imports as they are counted: each finds room, and the counts grow with the section.
-use Rattle.std.proofs.Common.{◌≡◌, ℕ, ◌+◌, ◌≤◌, ◌&&◌, max, Bool, true, false, List, [], ◌∷◌, ◌++◌, length, arith, refl, sym, ap, subst, length-append, nat_lt}
+use Rattle.std.proofs.Common.{◌≡◌, ℕ, ◌+◌, ◌≤◌, ◌&&◌, max, Bool, true, false, List, [], ◌∷◌, ◌++◌, length, arith, sym, ap, subst, length-append, nat_lt}
 use Rattle.std.specs.List.{flat_map}
 use Rattle.std.proofs.lemmas.Bool.{false≢true}
 use Rattle.std.proofs.lemmas.Bool.Decides.{nat_tests}
 use Rattle.smith_input.proofs.Offered.{offer_holds}
-use Rattle.smith_core.specs.declared.config.Config.{Config}
+use Rattle.smith_format.specs.declared.config.Config.{Config}
 use Rattle.smith_syntax.specs.Entries.{ImportEntry}
 use Rattle.smith_syntax.specs.Scope.{Scope}
 use Rattle.smith_syntax.specs.declared.deftype.ComponentTypeRef.{ComponentTypeRef}
@@ -12,16 +12,11 @@ use Rattle.smith_types.specs.References.{ReadsRef, allows_one, has_place, ref_of
 use Rattle.smith_types.specs.declared.make.references.RefKind.TheVariants as kind
 use Rattle.smith_types.specs.declared.make.references.RefTotals.{RefTotals}
 use Rattle.smith_scopes.proofs.Plain.{both_true}
-use Rattle.smith_component.specs.Importing.{Importing, Totalled}
 use Rattle.smith_component.specs.Imports.{totals_of, with_imports}
 use Rattle.smith_component.specs.Open.{Open}
-use Rattle.smith_component.specs.Tables.{Tabled}
-use Rattle.smith_component.specs.Tree.{imports, add, types_in, functions_in, core_functions_in, imports_in, function_of, module_of, component_of, instance_of}
-use Rattle.smith_component.specs.WellFormed.{scope_of}
-use Rattle.smith_component.specs.declared.builder.tables.Tables.{Tables}
-use Rattle.smith_component.specs.declared.builder.totals.TreeTotals.{TreeTotals}
+use Rattle.smith_component.specs.Tree.{imports, functions_in, core_functions_in, function_of, module_of, component_of, instance_of}
 use Rattle.smith_component.proofs.Sound.{component_count-so_far, instance_count-so_far, module_count-so_far}
-use Rattle.smith_component.proofs.Tables.{flat_map_more, own_bare, tabled_quiet}
+use Rattle.smith_component.proofs.Tables.{flat_map_more}
 use Rattle.smith_component.proofs.Tree.{length-own-add}
 
 -- Room for what is imported: where one more is counted, it finds room.

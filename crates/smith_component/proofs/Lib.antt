@@ -8,6 +8,7 @@ pub mod ReadsCanons
 pub mod ReadsCoreTypes
 pub mod ReadsCustom
 pub mod ReadsImports
+pub mod ReadsModule
 pub mod ReadsTypes
 pub mod Refusals
 pub mod RunsTo

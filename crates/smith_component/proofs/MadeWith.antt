@@ -1,7 +1,7 @@
 -- What a type that is read is, as a plain tree.
 use Rattle.std.proofs.Common.{◌≡◌, ℕ, ◌+◌, ◌≤◌, ◌∷◌, max, List, length, arith, sym, ap, ◌∙◌, subst}
 use Rattle.smith_input.specs.Reading.{IsTail}
-use Rattle.smith_core.specs.declared.config.Config.{Config}
+use Rattle.smith_format.specs.declared.config.Config.{Config}
 use Rattle.smith_syntax.specs.Entries.{Entry, plain}
 use Rattle.smith_syntax.specs.Scope.{Scope}
 use Rattle.smith_syntax.specs.TypeLimits.{EntryLimits, nesting}

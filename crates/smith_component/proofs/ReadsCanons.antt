@@ -12,9 +12,9 @@ use Rattle.smith_input.specs.Script.{offers_of, script_end}
 use Rattle.smith_input.proofs.Choices.{among_tail}
 use Rattle.smith_input.proofs.Loops.{loop_tail, end_read}
 use Rattle.smith_input.proofs.ReadingLemmas.{tail_is, tail_trans, reads_tail, more_within, more_past, more_unique}
-use Rattle.smith_core.specs.CoreTypes.{Function}
-use Rattle.smith_core.specs.declared.config.Config.{Config}
-use Rattle.smith_core.specs.declared.types.ValType.{ValType}
+use Rattle.smith_format.specs.CoreTypes.{Function}
+use Rattle.smith_format.specs.declared.config.Config.{Config}
+use Rattle.smith_format.specs.declared.types.ValType.{ValType}
 use Rattle.smith_syntax.specs.Entries.{Entry, Signature, defined, function, component_type, instance_type}
 use Rattle.smith_syntax.specs.Flat.{Flat, Flattens, flat_value}
 use Rattle.smith_syntax.specs.Scope.{Scope}

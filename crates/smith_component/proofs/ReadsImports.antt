@@ -13,7 +13,7 @@ use Rattle.smith_input.specs.Script.{offers_of, script_end}
 use Rattle.smith_input.proofs.Loops.{end_read, loop_all, loop_few, loop_gives, loop_tail}
 use Rattle.smith_input.proofs.NewNames.{new_kebab}
 use Rattle.smith_input.proofs.ReadingLemmas.{more_past, more_unique, tail_is, tail_trans}
-use Rattle.smith_core.specs.declared.config.Config.{Config}
+use Rattle.smith_format.specs.declared.config.Config.{Config}
 use Rattle.smith_syntax.specs.Entries.{ImportEntry}
 use Rattle.smith_syntax.specs.Scope.{Scope, is_func, places}
 use Rattle.smith_syntax.specs.WellFormed.{Named}

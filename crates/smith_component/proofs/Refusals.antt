@@ -1,24 +1,20 @@
 -- Which refusals follow from which.
-use Rattle.std.proofs.Common.{◌≡◌, ℕ, List, refl, sym, subst}
+use Rattle.std.proofs.Common.{◌≡◌, ℕ, List, refl, sym, subst, ◌∙◌}
 use Rattle.smith_input.specs.Choices.{ReadsAmong}
 use Rattle.smith_input.specs.declared.error.Error.{Error}
 use Rattle.smith_input.specs.declared.error.Error.TheVariants.{InconsistentLimits, MinimumNotMet, ModuleRefused, TooLong, OutOfMemory, PartsDisagree}
-use Rattle.smith_core.specs.Limits.{IsConsistent}
-use Rattle.smith_core.specs.declared.config.Config.{Config}
+use Rattle.smith_format.specs.Limits.{IsConsistent}
+use Rattle.smith_format.specs.declared.config.Config.{Config}
+use Rattle.smith_core.specs.StandIn.{IsStandInRefusal}
 use Rattle.smith_component.specs.Open.{Open, items}
-use Rattle.smith_component.specs.Refusals.{IsNewRefusal, IsFillRefusal, IsStepRefusal, LacksOn, IsRefusal, IsGenerateRefusal}
-use Rattle.smith_component.specs.Turn.{Lacks, LacksAt}
-use Rattle.smith_component.specs.declared.item.Item.TheVariants.{Finish}
+use Rattle.smith_component.specs.Refusals.{IsNewRefusal, IsFillRefusal, IsStepRefusal, LacksOn, RefusesModuleOn, IsRefusal, IsGenerateRefusal}
+use Rattle.smith_component.specs.Turn.{Lacks, LacksAt, RefusesModuleAt}
+use Rattle.smith_component.specs.declared.item.Item.TheVariants.{Finish, Module}
 
 module _ (config : Config) (stack : Open) (left : List ℕ) where
-  -- Where nothing lacks, memory does.
-  pub fill_refused : (Lacks config stack left → ⊥) → (e : Error) → IsFillRefusal config stack left e → e ≡ OutOfMemory
-  fill_refused never InconsistentLimits h = absurd h
-  fill_refused never MinimumNotMet h = absurd (never h)
-  fill_refused never ModuleRefused h = absurd h
-  fill_refused never TooLong h = absurd h
-  fill_refused never OutOfMemory h = refl
-  fill_refused never PartsDisagree h = absurd h
+  -- Where nothing lacks, it is no minimum that refuses.
+  pub fill_refused : (Lacks config stack left → ⊥) → (e : Error) → IsFillRefusal config stack left e → ¬ (e ≡ MinimumNotMet)
+  fill_refused never e h m = never (subst (IsFillRefusal config stack left) m h)
 
   -- A component that lacks something is one whose finish was chosen.
   pub finish_refused : (after : List ℕ) → ReadsAmong (items config stack left) left Finish after → (e : Error) → IsFillRefusal config stack after e → IsStepRefusal config stack left e
@@ -29,18 +25,34 @@ module _ (config : Config) (stack : Open) (left : List ℕ) where
   finish_refused after choice OutOfMemory h = tt
   finish_refused after choice PartsDisagree h = absurd h
 
+  -- A core module that is refused is one that was chosen.
+  pub module_refused : (after : List ℕ) → ReadsAmong (items config stack left) left Module after → (e : Error) → IsStandInRefusal config e → IsStepRefusal config stack left e
+  module_refused after choice InconsistentLimits h = absurd h
+  module_refused after choice MinimumNotMet h = absurd h
+  module_refused after choice ModuleRefused h = (after, choice, h)
+  module_refused after choice TooLong h = absurd h
+  module_refused after choice OutOfMemory h = tt
+  module_refused after choice PartsDisagree h = absurd h
+
   -- For want of memory a step is refused.
   pub memory_refused : (e : Error) → e ≡ OutOfMemory → IsStepRefusal config stack left e
   memory_refused e h = subst (IsStepRefusal config stack left) (sym h) tt
 
   -- What refuses a step refuses the run that leads to it.
-  pub step_refused : (input : List ℕ) → IsConsistent config → (LacksAt config stack left → LacksOn config input) → (e : Error) → IsStepRefusal config stack left e → IsRefusal config input e
-  step_refused input consistent lacks InconsistentLimits h = absurd h
-  step_refused input consistent lacks MinimumNotMet h = (consistent, lacks h)
-  step_refused input consistent lacks ModuleRefused h = absurd h
-  step_refused input consistent lacks TooLong h = absurd h
-  step_refused input consistent lacks OutOfMemory h = consistent
-  step_refused input consistent lacks PartsDisagree h = absurd h
+  pub step_refused : (input : List ℕ) → IsConsistent config → (LacksAt config stack left → LacksOn config input) → (RefusesModuleAt config stack left → RefusesModuleOn config input) → (e : Error) → IsStepRefusal config stack left e → IsRefusal config input e
+  step_refused input consistent lacks refuses InconsistentLimits h = absurd h
+  step_refused input consistent lacks refuses MinimumNotMet h = (consistent, lacks h)
+  step_refused input consistent lacks refuses ModuleRefused h = (consistent, refuses h)
+  step_refused input consistent lacks refuses TooLong h = absurd h
+  step_refused input consistent lacks refuses OutOfMemory h = consistent
+  step_refused input consistent lacks refuses PartsDisagree h = absurd h
+
+-- Want of memory is no minimum, and no refusal of a core module is one.
+pub memory_no_minimum : (e : Error) → e ≡ OutOfMemory → ¬ (e ≡ MinimumNotMet)
+memory_no_minimum e h m = let z : OutOfMemory ≡ MinimumNotMet = sym h ∙ m in cc
+
+pub module_no_minimum : (config : Config) (e : Error) → IsStandInRefusal config e → ¬ (e ≡ MinimumNotMet)
+module_no_minimum config e h m = subst (IsStandInRefusal config) m h
 
 module _ (config : Config) where
   -- What refuses a builder refuses the run.
@@ -61,19 +73,19 @@ module _ (config : Config) where
   new_accepted consistent OutOfMemory h = refl
   new_accepted consistent PartsDisagree h = absurd h
 
-  pub refused_accepted : (input : List ℕ) → IsConsistent config → (LacksOn config input → ⊥) → (e : Error) → IsRefusal config input e → e ≡ OutOfMemory
-  refused_accepted input consistent never InconsistentLimits h = absurd (h consistent)
-  refused_accepted input consistent never MinimumNotMet h = absurd (never h.1)
-  refused_accepted input consistent never ModuleRefused h = absurd h
-  refused_accepted input consistent never TooLong h = absurd h
-  refused_accepted input consistent never OutOfMemory h = refl
-  refused_accepted input consistent never PartsDisagree h = absurd h
+  pub refused_accepted : (input : List ℕ) → IsConsistent config → (LacksOn config input → ⊥) → (RefusesModuleOn config input → ⊥) → (e : Error) → IsRefusal config input e → e ≡ OutOfMemory
+  refused_accepted input consistent never left InconsistentLimits h = absurd (h consistent)
+  refused_accepted input consistent never left MinimumNotMet h = absurd (never h.1)
+  refused_accepted input consistent never left ModuleRefused h = absurd (left h.1)
+  refused_accepted input consistent never left TooLong h = absurd h
+  refused_accepted input consistent never left OutOfMemory h = refl
+  refused_accepted input consistent never left PartsDisagree h = absurd h
 
   -- What refuses a component refuses what is generated.
   pub generate_refused : (input : List ℕ) (e : Error) → IsRefusal config input e → IsGenerateRefusal config input e
   generate_refused input InconsistentLimits h = h
   generate_refused input MinimumNotMet h = h
-  generate_refused input ModuleRefused h = absurd h
+  generate_refused input ModuleRefused h = h
   generate_refused input TooLong h = absurd h
   generate_refused input OutOfMemory h = h
   generate_refused input PartsDisagree h = absurd h

@@ -1,13 +1,13 @@
 -- How far a run has come.
 use Rattle.std.proofs.Common.{◌≡◌, ℕ, suc, ◌+◌, ◌≤◌, List, [], ◌∷◌, length, arith, refl, subst}
 use Rattle.smith_input.specs.declared.error.Error.{Error}
-use Rattle.smith_core.specs.Limits.{IsConsistent}
-use Rattle.smith_core.specs.declared.config.Config.{Config}
+use Rattle.smith_format.specs.Limits.{IsConsistent}
+use Rattle.smith_format.specs.declared.config.Config.{Config}
 use Rattle.smith_component.specs.Tree.{Tree}
-use Rattle.smith_component.specs.Turn.{RunsTo, Next, building, answered, Turn, Turns, LacksAt, todo, Falls}
+use Rattle.smith_component.specs.Turn.{RunsTo, Next, building, answered, Turn, Turns, LacksAt, RefusesModuleAt, todo, Falls}
 use Rattle.smith_component.specs.Limits.{max_depth}
 use Rattle.smith_component.specs.Open.{Open, root}
-use Rattle.smith_component.specs.Refusals.{IsStepRefusal, LacksOn, IsRefusal}
+use Rattle.smith_component.specs.Refusals.{IsStepRefusal, Comes, IsRefusal}
 use Rattle.smith_component.proofs.Refusals.{step_refused}
 
 -- From the start these open components and bytes left were reached: what goes on from there goes on from the start.
@@ -45,11 +45,11 @@ reached_end config input stack c left left2 r t =
     let j = r.onward (answered c) left2 1 (answered c, left2, t, (refl, refl)) in
     record { turns = j.0; few = omega (arith, j.1, r.bound, todo_some config left stack); run = j.2 }
 
--- A component that lacks something lacks it on the input.
-reached_lacking : (config : Config) (input : List ℕ) (stack : Open) (left : List ℕ) → Reached config input stack left → LacksAt config stack left → LacksOn config input
-reached_lacking config input stack left r lacks =
+-- What is true where the run has come comes to be on the input.
+reached_there : (At : Open → List ℕ → Type 0) (config : Config) (input : List ℕ) (stack : Open) (left : List ℕ) → Reached config input stack left → At stack left → Comes config At input
+reached_there At config input stack left r there =
     let j = r.onward (building stack) left 0 (refl, refl) in
-    record { stack = stack; left = left; turns = j.0; run = j.2; lacks = lacks }
+    record { stack = stack; left = left; turns = j.0; run = j.2; there = there }
 
 -- The same where the config and what comes next are known by equations.
 
@@ -64,7 +64,7 @@ reached_step config same input stack next now left left2 e n r t f =
 pub reached_refusal : (config same : Config) (input : List ℕ) (stack : Open) (left : List ℕ) → same ≡ config → Reached config input stack left → IsConsistent config → (e : Error) → IsStepRefusal same stack left e → IsRefusal config input e
 reached_refusal config same input stack left e r consistent error h =
     let P : Config → Type 0 = λ x. IsStepRefusal x stack left error in
-    step_refused config stack left input consistent (reached_lacking config input stack left r) error (subst P e h)
+    step_refused config stack left input consistent (reached_there (LacksAt config) config input stack left r) (reached_there (RefusesModuleAt config) config input stack left r) error (subst P e h)
 
 pub reached_answer : (config same : Config) (input : List ℕ) (stack : Open) (c : Tree) (now : Next) (left left2 : List ℕ) → same ≡ config → now ≡ answered c → Reached config input stack left → Turn same stack left now left2 → RunsTo config input c left2
 reached_answer config same input stack c now left left2 e n r t =

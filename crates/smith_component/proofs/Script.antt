@@ -10,7 +10,7 @@ use Rattle.smith_input.specs.Choices.{ReadsAmong}
 use Rattle.smith_input.specs.Script.{rank_of, pick}
 use Rattle.smith_input.proofs.Choices.{rank_found, among_read}
 use Rattle.smith_input.proofs.Picks.{pick-byte}
-use Rattle.smith_core.specs.declared.config.Config.{Config}
+use Rattle.smith_format.specs.declared.config.Config.{Config}
 use Rattle.smith_syntax.specs.Scope.{Scope}
 use Rattle.smith_component.specs.Tree.{Tree, ends, first, Part, custom, core_module, core_types, component, types, canons, imports, add, join, inside, component_count, no_depth, most_nested}
 use Rattle.smith_component.specs.WellFormed.{Formed}

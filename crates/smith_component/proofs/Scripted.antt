@@ -3,17 +3,18 @@ use Rattle.std.proofs.Common.{◌≡◌, ℕ, zero, suc, ◌+◌, ◌-◌, ◌�
 use Rattle.smith_input.specs.Choices.{ReadsAmong}
 use Rattle.std.specs.List.{AllByRecursion}
 use Rattle.smith_input.proofs.Choices.{among_same}
-use Rattle.smith_core.specs.declared.config.Config.{Config}
+use Rattle.smith_format.specs.declared.config.Config.{Config}
 use Rattle.smith_syntax.specs.CoreLimits.{CoreLimits}
 use Rattle.smith_syntax.specs.Entries.{Entry, CoreEntry}
 use Rattle.smith_syntax.specs.Scope.{Scope}
+use Rattle.smith_component.specs.Counted.{item_for}
 use Rattle.smith_component.specs.Limits.{OwnLimits}
 use Rattle.smith_component.specs.Open.{Open, root, items, scopes_in, with_inner}
-use Rattle.smith_component.specs.Refusals.{LacksOn}
+use Rattle.smith_component.specs.Refusals.{Comes, LacksOn, RefusesModuleOn}
 use Rattle.smith_component.specs.Script.{item_of, script_part, script, IsPlanPart, Within}
 use Rattle.smith_component.specs.Scripted.{AddsPart, Follows, Scripted, Scripts}
 use Rattle.smith_component.specs.Tree.{Tree, Part, custom, core_module, core_types, component, types, canons, imports, add, own, names_in, types_in, types_of, core_types_of, core_types_in}
-use Rattle.smith_component.specs.Turn.{Next, building, answered, Closes, ReadsCustom, ReadsCoreTypes, ReadsTypes, AddsTypes, AddsImports, AddsCanons, Does, Turn, Turns, LacksAt, with_part}
+use Rattle.smith_component.specs.Turn.{Next, building, answered, Closes, ReadsCustom, ReadsCoreTypes, ReadsTypes, AddsTypes, AddsImports, AddsCanons, Adds, Does, Turn, Turns, LacksAt, RefusesModuleAt, with_part}
 use Rattle.smith_component.specs.WellFormed.{FormedPart, scope_of}
 use Rattle.smith_component.proofs.Filling.{fills_none, lacks_none}
 use Rattle.smith_component.proofs.ReadsCustom.{custom_follows}
@@ -25,6 +26,8 @@ use Rattle.smith_component.proofs.ReadsImports.{imports_none}
 use Rattle.smith_component.proofs.ReadsTypes.{types_same, types_read}
 use Rattle.smith_component.proofs.Sound.{Short}
 use Rattle.smith_component.proofs.Turn.{closes_same}
+use Rattle.smith_component.specs.declared.item.Counted.{Counted}
+use Rattle.smith_component.specs.declared.item.Counted.TheVariants as counted
 use Rattle.smith_component.specs.declared.item.Item.{Item}
 use Rattle.smith_component.specs.declared.item.Item.TheVariants.{Finish, Custom, CoreTypes, Types, Imports, Canonical, Module, Component}
 
@@ -105,6 +108,12 @@ module _ (config : Config) (stack : Open) (b : List ℕ) (r : List ℕ) (next : 
       let T : List ℕ → Type 0 = λ z. ReadsTypes config (scopes_in stack.outer) 0 room (scope_of stack.inner) z xs r scope in
       let d = types_same config (scopes_in stack.outer) (subst T s.begins reads) (types_read config (scopes_in stack.outer) ys room (scope_of stack.inner) rest s.formed s.planned (omega (arith, few)) (omega (arith, few, small))) in
       (ap (λ z. building (with_inner stack z)) (e ∙ ap (λ z. add stack.inner (types z)) d.0) ∙ sym s.leads, d.1)
+
+  -- So are all three.
+  pub counted_follow : (what : Counted) {t : Tree} → config.max_types ≤ 2 ^ 64 → Adds what config 0 stack b t r → Follows config (item_for what) stack b next rest → (building (with_inner stack t) ≡ next) × (r ≡ rest)
+  counted_follow counted.Types small a f = types_follow small a f
+  counted_follow counted.Imports small a f = imports_follow a f
+  counted_follow counted.Functions small a f = canons_follow a f
 
 -- Core types that were read are those of the script.
 pub core_types_follow : (config : Config) (stack : Open) (b r : List ℕ) (next : Next) (rest : List ℕ) {xs : List CoreEntry} {scope : Scope}
@@ -205,10 +214,24 @@ lacks_none_at config stack left c r (suc j) (after, choice, lacks) (mid, left1, 
     let f : Follows config Finish stack after mid left1 = wanted config stack left Finish after mid left1 choice one in
     lacks_none f.0 lacks
 
--- The script of a plan leads to no component that lacks anything.
-pub scripts_lack_none : (config : Config) (input : List ℕ) (plan : Tree) (rest : List ℕ) → config.max_types ≤ 2 ^ 64 → Within config plan → input ≡ script config plan ++ rest → LacksOn config input → ⊥
-scripts_lack_none config input plan rest small w i l =
+-- No core module is chosen where a script goes on.
+chooses_no_module_at : (config : Config) (stack : Open) (left : List ℕ) (c : Tree) (r : List ℕ) (j : ℕ) → RefusesModuleAt config stack left → Scripts config (building stack) left (answered c) r j → ⊥
+chooses_no_module_at config stack left c r zero refuses s = let e : answered c ≡ building stack = s.0 in cc
+chooses_no_module_at config stack left c r (suc j) (after, choice, refuses) (mid, left1, one, more) =
+    no_module config stack after mid left1 (wanted config stack left Module after mid left1 choice one)
+
+-- The script of a plan leads to nothing that scripts do not go on from.
+scripts_never : (At : Open → List ℕ → Type 0) (config : Config) (input : List ℕ) (plan : Tree) (rest : List ℕ) → ((stack : Open) (left : List ℕ) (c : Tree) (r : List ℕ) (j : ℕ) → At stack left → Scripts config (building stack) left (answered c) r j → ⊥)
+    → config.max_types ≤ 2 ^ 64 → Within config plan → input ≡ script config plan ++ rest → Comes config At input → ⊥
+scripts_never At config input plan rest never small w i l =
     let r = reach config plan rest w in
     let S : List ℕ → Type 0 = λ z. Scripts config (building root) z (answered plan) rest r.0 in
     let h = runs_along l.turns config (building root) input l.stack l.left plan rest r.0 small l.run (subst S (sym i) r.1) in
-    lacks_none_at config l.stack l.left plan rest h.0 l.lacks h.1
+    never l.stack l.left plan rest h.0 l.there h.1
+
+-- It leads to no component that lacks anything, and to no core module.
+pub scripts_lack_none : (config : Config) (input : List ℕ) (plan : Tree) (rest : List ℕ) → config.max_types ≤ 2 ^ 64 → Within config plan → input ≡ script config plan ++ rest → LacksOn config input → ⊥
+scripts_lack_none config input plan rest = scripts_never (LacksAt config) config input plan rest (lacks_none_at config)
+
+pub scripts_choose_no_module : (config : Config) (input : List ℕ) (plan : Tree) (rest : List ℕ) → config.max_types ≤ 2 ^ 64 → Within config plan → input ≡ script config plan ++ rest → RefusesModuleOn config input → ⊥
+scripts_choose_no_module config input plan rest = scripts_never (RefusesModuleAt config) config input plan rest (chooses_no_module_at config)

@@ -1,14 +1,14 @@
 -- What each item keeps.
-use Rattle.std.proofs.Common.{◌≡◌, ℕ, ◌+◌, ◌<◌, ◌≤◌, max, List, [], ◌∷◌, ◌++◌, length, arith, ap, sym, subst, ◌∙◌, refl, true, inr, append-nil, append_assoc}
+use Rattle.std.proofs.Common.{◌≡◌, ℕ, ◌+◌, ◌<◌, ◌≤◌, max, List, [], ◌∷◌, ◌++◌, length, arith, ap, sym, subst, ◌∙◌, refl, true, inr, append-nil}
 use Rattle.std.specs.List.{AllByRecursion, flat_map}
 use Rattle.std.proofs.lemmas.Bool.Decides.{nat_tests}
 use Rattle.std.proofs.lemmas.List.Concat.{flat_map-append}
-use Rattle.smith_core.specs.declared.config.Config.{Config}
+use Rattle.smith_format.specs.declared.config.Config.{Config}
 use Rattle.smith_syntax.specs.CoreLimits.{CoreLimits}
 use Rattle.smith_syntax.specs.Entries.{Entry, CoreEntry}
 use Rattle.smith_syntax.specs.Scope.{Scope, with_types, with_core_types}
 use Rattle.smith_syntax.specs.TypeLimits.{EntryLimits}
-use Rattle.smith_component.specs.Tree.{Tree, ends, Part, custom, core_module, core_types, component, types, canons, imports, add, own, inside, modules, names_in, types_in, core_types_in, imports_in, functions_in, core_functions_in, components_in, modules_in, imported_modules_in, imported_components_in, imported_instances_in, anywhere, anywhere_in, depth_in, no_depth, most_nested, scope_depth_in}
+use Rattle.smith_component.specs.Tree.{Tree, ends, Part, custom, core_module, core_types, component, types, canons, imports, add, own, inside, names_in, types_in, core_types_in, imports_in, functions_in, core_functions_in, components_in, modules_in, imported_modules_in, imported_components_in, imported_instances_in, anywhere_in, depth_in, no_depth, most_nested, scope_depth_in}
 use Rattle.smith_component.specs.Tree.{function_count, module_count, component_count, instance_count, types_of, core_types_of, imports_of}
 use Rattle.smith_component.specs.Importing.{Totalled}
 use Rattle.smith_component.specs.Open.{Open, tree_so_far, is_module_offered, is_component_offered, scopes_in, scopes_from, with_inner}
@@ -18,7 +18,7 @@ use Rattle.smith_component.specs.Limits.{SmallTypes, SmallCoreTypes, OwnSizes, S
 use Rattle.smith_component.specs.Sound.{IsAddable, IsQuiet, Sound, finished_in}
 use Rattle.smith_component.specs.declared.builder.totals.TreeTotals.{TreeTotals}
 use Rattle.smith_component.proofs.WellFormed.{formed_so_far}
-use Rattle.smith_component.proofs.Tree.{tree_so_far-close, depth-so_far, length-anywhere-so_far, anywhere-add, IsSteady, depth-outer, own-add, length-own-add, all_both, all_front, all_back, all_so_far, all_inner, Swaps}
+use Rattle.smith_component.proofs.Tree.{tree_so_far-close, depth-so_far, length-anywhere-so_far, anywhere-add, depth-outer, own-add, length-own-add, all_both, all_front, all_back, all_so_far, all_inner, Swaps}
 
 -- names that are short enough
 abbrev pub Short : List (List ℕ) → Type 0

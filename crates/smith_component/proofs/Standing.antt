@@ -1,13 +1,13 @@
 -- What is kept of a component where a part is added to it.
-use Rattle.std.proofs.Common.{◌≡◌, ℕ, ◌+◌, List, [], ◌∷◌, length, arith, ap, sym, subst, ◌∙◌, refl}
+use Rattle.std.proofs.Common.{◌≡◌, ℕ, List, [], ◌∷◌, length, arith, ap, sym, subst, ◌∙◌, refl}
 use Rattle.std.specs.List.{flat_map}
 use Rattle.std.proofs.lemmas.List.{length-map}
 use Rattle.smith_input.proofs.Loops.{loop_gives}
-use Rattle.smith_core.specs.declared.config.Config.{Config}
+use Rattle.smith_format.specs.declared.config.Config.{Config}
 use Rattle.smith_syntax.specs.Entries.{Signature, function}
 use Rattle.smith_component.specs.Canonicals.{CanonTurn, Growing, LiftsTo, ReadsCanons, empty_section, given_up, grown, to_defined, to_equal}
 use Rattle.smith_component.specs.Importing.{Totalled}
-use Rattle.smith_component.specs.Tree.{Tree, Part, custom, core_module, core_types, component, types, canons, imports, add, function_of, module_of, component_of, instance_of}
+use Rattle.smith_component.specs.Tree.{Tree, Part, custom, core_module, core_types, component, types, canons, imports, add, module_of, component_of, instance_of}
 use Rattle.smith_component.specs.Tree.{types_of, functions_of, core_functions_of, imports_of, types_in, functions_in, core_functions_in, imports_in, imported_modules_in, imported_components_in, imported_instances_in}
 use Rattle.smith_component.specs.Tables.{Tabled}
 use Rattle.smith_component.specs.declared.builder.tables.Tables.{Tables}

@@ -1,24 +1,26 @@
 -- What a turn chooses, and that it lowers what is left to do.
-use Rattle.std.proofs.Common.{◌≡◌, ℕ, zero, suc, ◌+◌, ◌-◌, ◌^◌, ◌≤◌, List, [], ◌∷◌, ◌++◌, length, drop, arith, ap, sym, subst, ◌∙◌, refl, true, false, Bool, inl, inr, map, length-append, length-drop}
+use Rattle.std.proofs.Common.{◌≡◌, ℕ, zero, suc, ◌+◌, ◌^◌, ◌≤◌, List, [], ◌∷◌, ◌++◌, length, drop, arith, ap, sym, subst, ◌∙◌, refl, true, false, Bool, inl, inr, map, length-append, length-drop}
 use Rattle.std.specs.List.{AllByRecursion}
 use Rattle.std.specs.Prelude.{slice_get, Some}
 use Rattle.smith_input.specs.Choices.{ReadsAmong}
 use Rattle.smith_input.specs.Reading.{IsWidth, Reads, IsTail}
 use Rattle.smith_input.proofs.Offered.{offer_holds}
 use Rattle.smith_input.proofs.ReadingLemmas.{width_unique, tail_is, tail_trans}
-use Rattle.smith_core.specs.declared.config.Config.{Config}
-use Rattle.smith_component.specs.Tree.{Tree, ends, Part, custom, core_module, core_types, component, add, types_of, imports_of, function_count}
-use Rattle.smith_core.specs.Module.{core_preamble}
+use Rattle.smith_format.specs.declared.config.Config.{Config}
+use Rattle.smith_component.specs.Tree.{Tree, ends, Part, custom, core_module, core_types, component, add}
 use Rattle.smith_component.specs.Building.{Building, open_of}
 use Rattle.smith_component.specs.Limits.{max_depth}
 use Rattle.smith_component.specs.Open.{Open, more_items, is_module_offered, is_component_offered, items, offers, with_inner}
-use Rattle.smith_component.specs.Shown.{shown_sections}
+use Rattle.smith_component.specs.Shown.{shown_module, shown_sections}
 use Rattle.smith_component.specs.Steps.{AddsSections}
-use Rattle.smith_component.specs.Turn.{Next, building, answered, Turn, AddsTypes, AddsImports, AddsCanons, Fills, FillsAll, Closes, Does, with_part, todo, Falls}
+use Rattle.smith_component.specs.Turn.{Next, building, answered, Turn, Adds, Fills, FillsAll, Closes, Does, with_part, todo, Falls}
+use Rattle.smith_component.specs.declared.item.Counted.{Counted}
+use Rattle.smith_component.specs.declared.item.Counted.TheVariants as counted
 use Rattle.smith_component.specs.declared.item.Item.{Item}
 use Rattle.smith_component.specs.declared.item.Item.TheVariants.{Finish, Custom, CoreTypes, Types, Imports, Canonical, Module, Component}
 use Rattle.smith_component.proofs.ReadsCustom.{custom_tail}
 use Rattle.smith_component.proofs.ReadsCoreTypes.{core_types_read_tail}
+use Rattle.smith_component.proofs.ReadsModule.{stand_in_tail}
 use Rattle.smith_component.proofs.ReadsCanons.{canons_tail}
 use Rattle.smith_component.proofs.ReadsImports.{imports_tail}
 use Rattle.smith_component.proofs.ReadsTypes.{types_read_tail}
@@ -76,26 +78,20 @@ inner_length stack next t e =
 
 -- what the sections with a minimum leave
 
-adds_types_tail : (config : Config) (min : ℕ) (stack : Open) (b : List ℕ) (t : Tree) (rest : List ℕ) → AddsTypes config min stack b t rest → IsTail rest b
-adds_types_tail config min stack b t rest (xs, scope, es, e) = types_read_tail config _ es
+adds_tail : (what : Counted) (config : Config) (min : ℕ) (stack : Open) (b : List ℕ) (t : Tree) (rest : List ℕ) → Adds what config min stack b t rest → IsTail rest b
+adds_tail counted.Types config min stack b t rest (xs, scope, es, e) = types_read_tail config _ es
+adds_tail counted.Imports config min stack b t rest (is, reads, e) = imports_tail config stack reads
+adds_tail counted.Functions config min stack b t rest (turns, next, reads, e) = canons_tail config min stack.inner reads
 
-adds_imports_tail : (config : Config) (min : ℕ) (stack : Open) (b : List ℕ) (t : Tree) (rest : List ℕ) → AddsImports config min stack b t rest → IsTail rest b
-adds_imports_tail config min stack b t rest (is, reads, e) = imports_tail config stack reads
-
-adds_canons_tail : (config : Config) (min : ℕ) (stack : Open) (b : List ℕ) (t : Tree) (rest : List ℕ) → AddsCanons config min stack b t rest → IsTail rest b
-adds_canons_tail config min stack b t rest (turns, next, reads, e) = canons_tail config min stack.inner reads
-
-fill_tail : (Adds : ℕ → Open → List ℕ → Tree → List ℕ → Type 0) (count min : ℕ) (stack : Open) (b : List ℕ) (t : Tree) (rest : List ℕ) → ((n : ℕ) → Adds n stack b t rest → IsTail rest b) → Fills Adds count min stack b t rest → IsTail rest b
-fill_tail Adds count min stack b t rest adds (inl (few, e, l)) = tail_is l
-fill_tail Adds count min stack b t rest adds (inr (lacks, a)) = adds (min - count) a
+fill_tail : (what : Counted) (config : Config) (stack : Open) (b : List ℕ) (t : Tree) (rest : List ℕ) → Fills what config stack b t rest → IsTail rest b
+fill_tail what config stack b t rest (inl (few, e, l)) = tail_is l
+fill_tail what config stack b t rest (inr (lacks, a)) = adds_tail what config _ stack b t rest a
 
 pub fills_tail : {config : Config} {stack : Open} {b : List ℕ} {full : Tree} {rest : List ℕ} → FillsAll config stack b full rest → IsTail rest b
 fills_tail {config} {stack} {b} {full} {rest} f =
-    let typed : Open = with_inner stack f.typed in
-    let imported : Open = with_inner stack f.imported in
-    let ts = fill_tail (AddsTypes config) (length (types_of stack.inner)) config.min_types stack b f.typed f.mid (λ n a. adds_types_tail config n stack b f.typed f.mid a) f.types in
-    let is = fill_tail (AddsImports config) (length (imports_of f.typed)) config.min_imports typed f.mid f.imported f.low (λ n a. adds_imports_tail config n typed f.mid f.imported f.low a) f.imports in
-    let fs = fill_tail (AddsCanons config) (function_count f.imported) config.min_funcs imported f.low full rest (λ n a. adds_canons_tail config n imported f.low full rest a) f.functions in
+    let ts = fill_tail counted.Types config stack b f.typed f.mid f.types in
+    let is = fill_tail counted.Imports config (with_inner stack f.typed) f.mid f.imported f.low f.imports in
+    let fs = fill_tail counted.Functions config (with_inner stack f.imported) f.low full rest f.functions in
     tail_trans fs (tail_trans is ts)
 
 -- How many components are open after an item, and how many bytes are left.
@@ -103,10 +99,10 @@ does_length : (config : Config) (item : Item) (stack next : Open) (b r : List �
 does_length config Finish stack next b r e m (full, f, c) = (omega (arith, closes_length (with_inner stack full) next c), tail_length r b (fills_tail f))
 does_length config Custom stack next b r e m (name, contents, read, c) = (omega (arith, part_length config stack next (custom name contents) c), tail_length r b (custom_tail b name contents r read))
 does_length config CoreTypes stack next b r e m (xs, scope, es, c) = (omega (arith, part_length config stack next (core_types xs) c), tail_length r b (core_types_read_tail config es))
-does_length config Types stack next b r e m (t, a, c) = (omega (arith, inner_length stack next t c), tail_length r b (adds_types_tail config 0 stack b t r a))
-does_length config Imports stack next b r e m (t, a, c) = (omega (arith, inner_length stack next t c), tail_length r b (adds_imports_tail config 0 stack b t r a))
-does_length config Canonical stack next b r e m (t, a, c) = (omega (arith, inner_length stack next t c), tail_length r b (adds_canons_tail config 0 stack b t r a))
-does_length config Module stack next b r e m (d, c) = (omega (arith, part_length config stack next (core_module core_preamble) c), omega (arith, ap length d))
+does_length config Types stack next b r e m (t, a, c) = (omega (arith, inner_length stack next t c), tail_length r b (adds_tail counted.Types config 0 stack b t r a))
+does_length config Imports stack next b r e m (t, a, c) = (omega (arith, inner_length stack next t c), tail_length r b (adds_tail counted.Imports config 0 stack b t r a))
+does_length config Canonical stack next b r e m (t, a, c) = (omega (arith, inner_length stack next t c), tail_length r b (adds_tail counted.Functions config 0 stack b t r a))
+does_length config Module stack next b r e m (parts, read, c) = (omega (arith, part_length config stack next (core_module (shown_module parts)) c), tail_length r b (stand_in_tail config b parts r read))
 does_length config Component stack next b r e m (d, c) =
     let f : next ≡ record { outer = stack.outer ++ stack.inner ∷ []; inner = ends } = cc in
     let o = component_offered_is config stack (e refl) in

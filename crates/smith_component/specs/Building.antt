@@ -1,6 +1,6 @@
 -- What contracts see of a builder.
 use Rattle.std.specs.Prelude.{List, map}
-use Rattle.smith_core.specs.declared.config.Config.{Config}
+use Rattle.smith_format.specs.declared.config.Config.{Config}
 use Rattle.smith_component.specs.Shown.{shown_sections}
 use Rattle.smith_component.specs.Open.{Open}
 use Rattle.smith_component.specs.declared.component.Section.{Section}

@@ -1,11 +1,11 @@
 -- How canonical functions are read, and where a lift defines its type.
-use Rattle.std.specs.Prelude.{◌≡◌, ℕ, ◌-◌, ◌<◌, ◌≤◌, Bool, true, false, List, [], ◌∷◌, ◌++◌, length, nat_lt, Option, Some, None, slice_get}
+use Rattle.std.specs.Prelude.{◌≡◌, ℕ, ◌-◌, ◌<◌, ◌≤◌, Bool, false, List, [], ◌∷◌, ◌++◌, length, nat_lt, Some, None, slice_get}
 use Rattle.smith_input.specs.Choices.{ReadsAmong}
 use Rattle.smith_input.specs.Loops.{Loop}
 use Rattle.smith_input.specs.Reading.{Reads}
 use Rattle.smith_input.specs.Script.{offers_of}
-use Rattle.smith_core.specs.CoreTypes.{Function}
-use Rattle.smith_core.specs.declared.config.Config.{Config}
+use Rattle.smith_format.specs.CoreTypes.{Function}
+use Rattle.smith_format.specs.declared.config.Config.{Config}
 use Rattle.smith_syntax.specs.Entries.{Entry, defined, function, component_type, instance_type, Signature}
 use Rattle.smith_syntax.specs.Flat.{Flattens, is_scalar}
 use Rattle.smith_syntax.specs.Scope.{places}

@@ -1,6 +1,6 @@
 -- Where what lacks of the minima can be filled, whatever the input.
 use Rattle.std.specs.Prelude.{ℕ, ◌+◌, ◌-◌, ◌<◌, ◌≤◌, ◌⊎◌, length}
-use Rattle.smith_core.specs.declared.config.Config.{Config}
+use Rattle.smith_format.specs.declared.config.Config.{Config}
 use Rattle.smith_syntax.specs.Scope.{places, is_func}
 use Rattle.smith_component.specs.Canonicals.{scalar_functions}
 use Rattle.smith_component.specs.Tree.{Tree, types_of, imports_of, function_count}

@@ -1,6 +1,6 @@
 -- What is generated.
 use Rattle.std.specs.Prelude.{◌≡◌, ◌↔◌, ℕ, List}
-use Rattle.smith_core.specs.declared.config.Config.{Config}
+use Rattle.smith_format.specs.declared.config.Config.{Config}
 use Rattle.smith_component.specs.Grammar.{Spells}
 use Rattle.smith_component.specs.Limits.{Limits, Sized}
 use Rattle.smith_component.specs.Tree.{Tree}

@@ -1,7 +1,7 @@
 -- How an import section is read.
 use Rattle.std.specs.Prelude.{◌≡◌, ℕ, ◌-◌, true, false, List, [], ◌∷◌, ◌++◌, length, Option}
 use Rattle.smith_input.specs.Loops.{Loop}
-use Rattle.smith_core.specs.declared.config.Config.{Config}
+use Rattle.smith_format.specs.declared.config.Config.{Config}
 use Rattle.smith_syntax.specs.Entries.{ImportEntry}
 use Rattle.smith_syntax.specs.WellFormed.{names}
 use Rattle.smith_types.specs.Declarations.{NamedExtern, ReadsNamedExtern}
@@ -9,7 +9,7 @@ use Rattle.smith_types.specs.References.{ReadsRef, ref_kinds}
 use Rattle.smith_types.specs.declared.make.references.RefKind.{RefKind}
 use Rattle.smith_types.specs.declared.make.references.RefTotals.{RefTotals}
 use Rattle.smith_component.specs.Open.{Open, tree_so_far, with_inner}
-use Rattle.smith_component.specs.Tree.{Tree, imports, add, imports_of, module_count, component_count, instance_count, function_count}
+use Rattle.smith_component.specs.Tree.{imports, add, imports_of, module_count, component_count, instance_count, function_count}
 use Rattle.smith_component.specs.WellFormed.{scope_of, import_names}
 
 -- the open components, where the inner one has these imports more in a section of their own

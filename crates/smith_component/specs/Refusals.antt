@@ -1,13 +1,13 @@
 -- Which refusal comes.
 use Rattle.std.specs.Prelude.{◌≡◌, ℕ, ◌<◌, ◌≤◌, List, None, Result, MatchResult}
-use Rattle.smith_core.specs.Limits.{IsConsistent}
-use Rattle.smith_core.specs.declared.config.Config.{Config}
+use Rattle.smith_format.specs.Limits.{IsConsistent}
+use Rattle.smith_format.specs.declared.config.Config.{Config}
 use Rattle.smith_input.specs.declared.error.Error.{Error}
 use Rattle.smith_input.specs.declared.error.Error.TheVariants.{InconsistentLimits, MinimumNotMet, ModuleRefused, TooLong, OutOfMemory, PartsDisagree}
 use Rattle.smith_component.specs.Grammar.{component_text}
 use Rattle.smith_component.specs.Tree.{Tree}
 use Rattle.smith_component.specs.Open.{Open, root}
-use Rattle.smith_component.specs.Turn.{Lacks, LacksAt, RunsTo, Turns, building}
+use Rattle.smith_component.specs.Turn.{Lacks, LacksAt, RefusesModuleAt, RunsTo, Turns, building}
 
 -- A builder is refused where limits do not fit together, and else only for want of memory.
 abbrev pub IsNewRefusal : Config → Error → Type 0
@@ -31,29 +31,38 @@ IsFillRefusal config stack b PartsDisagree = ⊥
 abbrev pub IsMinimum : {T : Type 0} → Result T Error → ℕ → ℕ → Type 0
 IsMinimum result min count = MatchResult result (λ _. min ≤ count) (λ e. (e ≡ MinimumNotMet) × (count < min))
 
--- A turn is refused where the inner component is to be finished and imports or functions lack, and else only for want of memory.
+-- A turn is refused where the inner component is to be finished and imports or functions lack, where a core module is chosen that the
+-- limits on memories do not leave, and else only for want of memory.
 abbrev pub IsStepRefusal : Config → Open → List ℕ → Error → Type 0
 IsStepRefusal config stack left InconsistentLimits = ⊥
 IsStepRefusal config stack left MinimumNotMet = LacksAt config stack left
-IsStepRefusal config stack left ModuleRefused = ⊥
+IsStepRefusal config stack left ModuleRefused = RefusesModuleAt config stack left
 IsStepRefusal config stack left TooLong = ⊥
 IsStepRefusal config stack left OutOfMemory = Unit {0}
 IsStepRefusal config stack left PartsDisagree = ⊥
 
--- Turns in a row lead from the input to a component that is to be finished, of which imports or functions lack.
-pub record LacksOn (config : Config) (input : List ℕ) : Type 0 where
+-- Turns in a row lead from the input to components that are open and bytes that are left, of which something is true.
+pub record Comes (config : Config) (At : Open → List ℕ → Type 0) (input : List ℕ) : Type 0 where
   pub stack : Open
   pub left : List ℕ
   pub turns : ℕ
   pub run : Turns config (building root) input (building stack) left turns
-  pub lacks : LacksAt config stack left
+  pub there : At stack left
 
--- Limits that do not fit together are refused as such; a component is refused that lacks of a minimum, and all else only for want
--- of memory.
+-- the input leads to a component that is to be finished, of which imports or functions lack
+abbrev pub LacksOn : Config → List ℕ → Type 0
+LacksOn config input = Comes config (LacksAt config) input
+
+-- the input leads to a core module that the limits on memories do not leave
+abbrev pub RefusesModuleOn : Config → List ℕ → Type 0
+RefusesModuleOn config input = Comes config (RefusesModuleAt config) input
+
+-- Limits that do not fit together are refused as such; a component is refused that lacks of a minimum, or that is to have a core module
+-- that the limits do not leave, and all else only for want of memory.
 abbrev pub IsRefusal : Config → List ℕ → Error → Type 0
 IsRefusal config input InconsistentLimits = ¬ IsConsistent config
 IsRefusal config input MinimumNotMet = IsConsistent config × LacksOn config input
-IsRefusal config input ModuleRefused = ⊥
+IsRefusal config input ModuleRefused = IsConsistent config × RefusesModuleOn config input
 IsRefusal config input TooLong = ⊥
 IsRefusal config input OutOfMemory = IsConsistent config
 IsRefusal config input PartsDisagree = ⊥
@@ -62,7 +71,7 @@ IsRefusal config input PartsDisagree = ⊥
 abbrev pub IsGenerateRefusal : Config → List ℕ → Error → Type 0
 IsGenerateRefusal config input InconsistentLimits = ¬ IsConsistent config
 IsGenerateRefusal config input MinimumNotMet = IsConsistent config × LacksOn config input
-IsGenerateRefusal config input ModuleRefused = ⊥
+IsGenerateRefusal config input ModuleRefused = IsConsistent config × RefusesModuleOn config input
 IsGenerateRefusal config input TooLong = IsConsistent config × (tree : Tree) × (left : List ℕ) × RunsTo config input tree left × (component_text tree ≡ None)
 IsGenerateRefusal config input OutOfMemory = IsConsistent config
 IsGenerateRefusal config input PartsDisagree = ⊥

@@ -3,7 +3,7 @@ use Rattle.std.specs.Prelude.{◌≡◌, ◌≤◌, ℕ, ◌-◌, List, [], ◌�
 use Rattle.std.specs.List.{AllByRecursion}
 use Rattle.std.specs.Str.{IsUtf8}
 use Rattle.smith_input.specs.Script.{script_among, script_end, script_loop, script_text, script_bytes}
-use Rattle.smith_core.specs.declared.config.Config.{Config}
+use Rattle.smith_format.specs.declared.config.Config.{Config}
 use Rattle.smith_syntax.specs.Entries.{Entry, CoreEntry, core_func, core_module}
 use Rattle.smith_syntax.specs.Scope.{Scope, with_type, with_core_type}
 use Rattle.smith_core_types.specs.Script.{script_core_type}

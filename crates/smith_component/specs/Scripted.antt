@@ -1,6 +1,6 @@
 -- A turn of a script, and runs of such turns.
 use Rattle.std.specs.Prelude.{◌≡◌, ℕ, List, ◌++◌}
-use Rattle.smith_core.specs.declared.config.Config.{Config}
+use Rattle.smith_format.specs.declared.config.Config.{Config}
 use Rattle.smith_component.specs.Limits.{Minima, OwnLimits}
 use Rattle.smith_component.specs.Open.{Open, scopes_in}
 use Rattle.smith_component.specs.Script.{item_of, script_part, IsPlanPart}

@@ -1,9 +1,9 @@
 -- What is true of a builder at every moment, and which parts keep it true.
 use Rattle.std.specs.Prelude.{◌≡◌, ◌+◌, ◌≤◌, List, [], ◌∷◌, ◌++◌, length}
 use Rattle.std.specs.List.{AllByRecursion, flat_map}
-use Rattle.smith_core.specs.Limits.{IsConsistent, configured}
-use Rattle.smith_core.specs.declared.config.Config.{Config}
-use Rattle.smith_core.specs.declared.types.ValType.{ValType}
+use Rattle.smith_format.specs.Limits.{IsConsistent, configured}
+use Rattle.smith_format.specs.declared.config.Config.{Config}
+use Rattle.smith_format.specs.declared.types.ValType.{ValType}
 use Rattle.smith_syntax.specs.Scope.{Scope}
 use Rattle.smith_component.specs.Importing.{Totalled}
 use Rattle.smith_component.specs.Limits.{max_depth, OwnLimits, Maxima, Minima, SmallTypes, SmallCoreTypes, Sized}

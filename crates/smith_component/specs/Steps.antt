@@ -1,6 +1,6 @@
 -- What a step leads to.
 use Rattle.std.specs.Prelude.{◌≡◌, ◌⊎◌, List, [], ◌∷◌, ◌++◌}
-use Rattle.smith_core.specs.declared.config.Config.{Config}
+use Rattle.smith_format.specs.declared.config.Config.{Config}
 use Rattle.smith_component.specs.Turn.{Next, building, answered}
 use Rattle.smith_component.specs.WellFormed.{WellFormed}
 use Rattle.smith_component.specs.Limits.{Limits, Sized}

@@ -3,19 +3,24 @@ use Rattle.std.specs.Prelude.{◌≡◌, ℕ, ◌+◌, ◌-◌, ◌<◌, ◌≤�
 use Rattle.smith_input.specs.Choices.{ReadsAmong}
 use Rattle.smith_input.specs.Loops.{Loop, Never}
 use Rattle.smith_input.specs.Texts.{ReadsText, ReadsBytes}
-use Rattle.smith_core.specs.Module.{core_preamble}
-use Rattle.smith_core.specs.declared.config.Config.{Config}
+use Rattle.smith_core.specs.StandIn.{ReadsStandIn}
+use Rattle.smith_core.specs.declared.module.parts.ModuleParts.{ModuleParts}
+use Rattle.smith_format.specs.declared.config.Config.{Config}
 use Rattle.smith_syntax.specs.Entries.{Entry, CoreEntry, ImportEntry}
 use Rattle.smith_types.specs.Made.{MadeWith}
 use Rattle.smith_core_types.specs.MadeCore.{MadeCore}
 use Rattle.smith_syntax.specs.Scope.{Scope, with_type, with_core_type}
 use Rattle.smith_component.specs.Tree.{Tree, Part, ends, custom, core_module, core_types, component, types, imports, add, types_of, core_types_of, imports_of, function_count}
 use Rattle.smith_component.specs.Canonicals.{Growing, ReadsCanons, grown}
+use Rattle.smith_component.specs.Counted.{count_of, minimum_of}
 use Rattle.smith_component.specs.Imports.{ReadsImports}
 use Rattle.smith_component.specs.Limits.{max_depth}
 use Rattle.smith_component.specs.Open.{Open, root, scopes_in, items, with_inner}
+use Rattle.smith_component.specs.Shown.{shown_module}
 use Rattle.smith_component.specs.WellFormed.{scope_of}
 use Rattle.smith_component.specs.declared.item.CanonItem.{CanonItem}
+use Rattle.smith_component.specs.declared.item.Counted.{Counted}
+use Rattle.smith_component.specs.declared.item.Counted.TheVariants as counted
 use Rattle.smith_component.specs.declared.item.Item.{Item}
 use Rattle.smith_component.specs.declared.item.Item.TheVariants.{Finish, Custom, CoreTypes, Types, Imports, Canonical, Module, Component}
 
@@ -89,18 +94,21 @@ AddsImports config min stack b t rest = (is : List ImportEntry) × ReadsImports 
 abbrev pub AddsCanons : Config → ℕ → Open → List ℕ → Tree → List ℕ → Type 0
 AddsCanons config min stack b t rest = (turns : List CanonItem) × (next : Growing) × ReadsCanons config min stack.inner b turns rest next × (t ≡ grown next)
 
+-- by what is counted
+abbrev pub Adds : Counted → Config → ℕ → Open → List ℕ → Tree → List ℕ → Type 0
+Adds counted.Types config min stack b t rest = AddsTypes config min stack b t rest
+Adds counted.Imports config min stack b t rest = AddsImports config min stack b t rest
+Adds counted.Functions config min stack b t rest = AddsCanons config min stack b t rest
+
+-- a turn of such a section, which adds any number
+abbrev pub AddsAny : Counted → Config → Open → List ℕ → Next → List ℕ → Type 0
+AddsAny what config stack b next rest = (t : Tree) × Adds what config 0 stack b t rest × (next ≡ building (with_inner stack t))
+
 -- What lacks of a minimum is filled, and where nothing lacks nothing is done.
-abbrev pub Fills : (ℕ → Open → List ℕ → Tree → List ℕ → Type 0) → ℕ → ℕ → Open → List ℕ → Tree → List ℕ → Type 0
-Fills Adds count min stack b t rest = ((min ≤ count) × (t ≡ stack.inner) × (rest ≡ b)) ⊎ ((count < min) × Adds (min - count) stack b t rest)
-
-abbrev pub FillsTypes : Config → Open → List ℕ → Tree → List ℕ → Type 0
-FillsTypes config stack b t rest = Fills (AddsTypes config) (length (types_of stack.inner)) config.min_types stack b t rest
-
-abbrev pub FillsImports : Config → Open → List ℕ → Tree → List ℕ → Type 0
-FillsImports config stack b t rest = Fills (AddsImports config) (length (imports_of stack.inner)) config.min_imports stack b t rest
-
-abbrev pub FillsFunctions : Config → Open → List ℕ → Tree → List ℕ → Type 0
-FillsFunctions config stack b t rest = Fills (AddsCanons config) (function_count stack.inner) config.min_funcs stack b t rest
+abbrev pub Fills : Counted → Config → Open → List ℕ → Tree → List ℕ → Type 0
+Fills what config stack b t rest =
+    ((minimum_of what config ≤ count_of what stack.inner) × (t ≡ stack.inner) × (rest ≡ b))
+    ⊎ ((count_of what stack.inner < minimum_of what config) × Adds what config (minimum_of what config - count_of what stack.inner) stack b t rest)
 
 -- Types are filled first, then imports, and then functions, each counted anew, and no import or function lacks then.
 pub record FillsAll (config : Config) (stack : Open) (b : List ℕ) (full : Tree) (rest : List ℕ) : Type 0 where
@@ -108,18 +116,18 @@ pub record FillsAll (config : Config) (stack : Open) (b : List ℕ) (full : Tree
   pub mid : List ℕ
   pub imported : Tree
   pub low : List ℕ
-  pub types : FillsTypes config stack b typed mid
-  pub imports : FillsImports config (with_inner stack typed) mid imported low
+  pub types : Fills counted.Types config stack b typed mid
+  pub imports : Fills counted.Imports config (with_inner stack typed) mid imported low
   pub enough_imports : config.min_imports ≤ length (imports_of imported)
-  pub functions : FillsFunctions config (with_inner stack imported) low full rest
+  pub functions : Fills counted.Functions config (with_inner stack imported) low full rest
   pub enough_functions : config.min_funcs ≤ function_count full
 
 -- Imports or functions lack when they are filled.
 pub data Lacks (config : Config) (stack : Open) (b : List ℕ) : Type 0 where
-  of_imports : {typed imported : Tree} {mid low : List ℕ} → FillsTypes config stack b typed mid → FillsImports config (with_inner stack typed) mid imported low
+  of_imports : {typed imported : Tree} {mid low : List ℕ} → Fills counted.Types config stack b typed mid → Fills counted.Imports config (with_inner stack typed) mid imported low
       → length (imports_of imported) < config.min_imports → Lacks config stack b
-  of_functions : {typed imported full : Tree} {mid low rest : List ℕ} → FillsTypes config stack b typed mid → FillsImports config (with_inner stack typed) mid imported low
-      → FillsFunctions config (with_inner stack imported) low full rest → function_count full < config.min_funcs → Lacks config stack b
+  of_functions : {typed imported full : Tree} {mid low rest : List ℕ} → Fills counted.Types config stack b typed mid → Fills counted.Imports config (with_inner stack typed) mid imported low
+      → Fills counted.Functions config (with_inner stack imported) low full rest → function_count full < config.min_funcs → Lacks config stack b
 
 -- what an item does on the bytes b
 abbrev pub Does : Config → Item → Open → List ℕ → Next → List ℕ → Type 0
@@ -127,10 +135,10 @@ Does config Finish stack b next rest = (full : Tree) × FillsAll config stack b 
 Does config Custom stack b next rest = (name contents : List ℕ) × ReadsCustom b name contents rest × (next ≡ with_part stack (custom name contents))
 Does config CoreTypes stack b next rest =
     (xs : List CoreEntry) × (scope : Scope) × ReadsCoreTypes config (config.max_types - length (core_types_of stack.inner)) (scope_of stack.inner) b xs rest scope × (next ≡ with_part stack (core_types xs))
-Does config Types stack b next rest = (t : Tree) × AddsTypes config 0 stack b t rest × (next ≡ building (with_inner stack t))
-Does config Imports stack b next rest = (t : Tree) × AddsImports config 0 stack b t rest × (next ≡ building (with_inner stack t))
-Does config Canonical stack b next rest = (t : Tree) × AddsCanons config 0 stack b t rest × (next ≡ building (with_inner stack t))
-Does config Module stack b next rest = (rest ≡ b) × (next ≡ with_part stack (core_module core_preamble))
+Does config Types stack b next rest = AddsAny counted.Types config stack b next rest
+Does config Imports stack b next rest = AddsAny counted.Imports config stack b next rest
+Does config Canonical stack b next rest = AddsAny counted.Functions config stack b next rest
+Does config Module stack b next rest = (m : ModuleParts) × ReadsStandIn config b m rest × (next ≡ with_part stack (core_module (shown_module m)))
 Does config Component stack b next rest = (rest ≡ b) × (next ≡ with_open stack)
 
 abbrev pub Turn : Config → Open → List ℕ → Next → List ℕ → Type 0
@@ -139,6 +147,10 @@ Turn config stack left next left2 = TurnBy (Does config) config stack left next 
 -- The finish is chosen, and imports or functions lack.
 abbrev pub LacksAt : Config → Open → List ℕ → Type 0
 LacksAt config stack left = (after : List ℕ) × ReadsAmong (items config stack left) left Finish after × Lacks config stack after
+
+-- A core module is chosen, and the limits on memories leave none.
+abbrev pub RefusesModuleAt : Config → Open → List ℕ → Type 0
+RefusesModuleAt config stack left = (after : List ℕ) × ReadsAmong (items config stack left) left Module after × (config.max_memories < config.min_memories)
 
 abbrev pub Turns : Config → Next → List ℕ → Next → List ℕ → ℕ → Type 0
 Turns config now left next left2 k = TurnsBy (Does config) config now left next left2 k

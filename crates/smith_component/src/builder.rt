@@ -2,7 +2,7 @@
 
 ghost use Rattle.std.specs.Prelude.{◌≡◌, ℕ, List, ◌+◌, ◌≤◌, length, IfOk, IfErr};
 ghost use Rattle.smith_input.specs.Reading.{IsTail};
-ghost use Rattle.smith_core.specs.Limits.{IsConsistent};
+ghost use Rattle.smith_format.specs.Limits.{IsConsistent};
 ghost use Rattle.smith_component.specs.Building.{open_of};
 ghost use Rattle.smith_component.specs.Filling.{CanFill};
 ghost use Rattle.smith_component.specs.Limits.{max_depth};
@@ -27,9 +27,9 @@ mod totals;
 mod turns;
 
 use crate::component::Component;
-use crate::item::Item;
+use crate::item::{Counted, Item};
 use open::OpenComponent;
-use smith_core::{Config, ValType, configured_valtypes};
+use smith_format::{Config, ValType, configured_valtypes};
 use smith_input::{Error, Unstructured};
 use smith_types::Scopes;
 use std::alloc::Global;
@@ -107,24 +107,25 @@ impl Builder {
         ensures depth { length (open_of self).outer + 1 ≤ max_depth self.config }
         ensures accepted { IsConsistent self.config }
         ensures refuses { IfErr result (IsStepRefusal self.config (open_of self) u.old) }
-        ensures fills { CanFill self.config (open_of self).inner → IfErr result (λ e. e ≡ Error.OutOfMemory) }
+        ensures fills { CanFill self.config (open_of self).inner → IfErr result (λ e. ¬ (e ≡ Error.MinimumNotMet)) }
         ensures tail { IsTail u.new u.old }
     {
         match self.choose_item(u) {
             Item::Finish => self.finish(u),
             Item::Custom => self.add_custom(u),
             Item::CoreTypes => self.add_core_types(u),
-            Item::Types => self.types_turn(u),
-            Item::Imports => self.imports_turn(u),
-            Item::Canonical => self.canonicals_turn(u),
-            Item::Module => self.add_module(),
+            Item::Types => self.section_turn(Counted::Types, u),
+            Item::Imports => self.section_turn(Counted::Imports, u),
+            Item::Canonical => self.section_turn(Counted::Functions, u),
+            Item::Module => self.add_module(u),
             Item::Component => self.open_component(),
         }
     }
 
     /// One turn: a choice among what may be done, and that. Where the choice is to finish a component, what it lacks of
     /// the minima is added first: types, then imports, then functions. Where imports or functions lack after that, no
-    /// component is finished, and `MinimumNotMet` is answered only there. Nothing else is refused but for want of memory.
+    /// component is finished, and `MinimumNotMet` is answered only there. Where the choice is a core module, and the
+    /// limits on memories leave none, it is `ModuleRefused`. Nothing else is refused but for want of memory.
     pub fn step(self, u: &mut Unstructured) -> Result<Step, Error>
         ensures turn { IfOk result (λ s. Turn self.config (open_of self) u.old (next_of s) u.new) }
         ensures follows { (n : Next) (rest : List ℕ) → Scripted self.config (open_of self) u.old n rest
@@ -134,7 +135,7 @@ impl Builder {
         ensures falls { IfOk result (λ s. Falls self.config u.old (open_of self) u.new (next_of s)) }
         ensures accepted { IsConsistent self.config }
         ensures refuses { IfErr result (IsStepRefusal self.config (open_of self) u.old) }
-        ensures fills { CanFill self.config (open_of self).inner → IfErr result (λ e. e ≡ Error.OutOfMemory) }
+        ensures fills { CanFill self.config (open_of self).inner → IfErr result (λ e. ¬ (e ≡ Error.MinimumNotMet)) }
         ensures tail { IsTail u.new u.old }
     {
         let next = self.take_turn(u)?;

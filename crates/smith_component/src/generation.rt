@@ -2,7 +2,7 @@
 
 ghost use Rattle.std.specs.Prelude.{◌≡◌, ℕ, List, ◌++◌, IfOk, IfErr, OnOk};
 ghost use Rattle.smith_input.specs.Reading.{IsTail};
-ghost use Rattle.smith_core.specs.Limits.{IsConsistent};
+ghost use Rattle.smith_format.specs.Limits.{IsConsistent};
 ghost use Rattle.smith_component.specs.Generates.{Generates};
 ghost use Rattle.smith_component.specs.Turn.{RunsTo};
 ghost use Rattle.smith_component.specs.Refusals.{IsGenerateRefusal};
@@ -11,7 +11,7 @@ ghost use Rattle.smith_component.specs.Script.{Within, script};
 ghost use Rattle.smith_component.specs.Tree.{Tree};
 
 use crate::component::Component;
-use smith_core::Config;
+use smith_format::Config;
 use smith_input::{Error, Unstructured};
 use std::alloc::Global;
 
@@ -26,8 +26,9 @@ pub struct Generated {
 ///
 /// Limits that do not fit together are refused with `InconsistentLimits` before a byte is read. A component that is to
 /// be finished and lacks imports or functions of a minimum, though what can be filled is, is refused with
-/// `MinimumNotMet`; one of which a written length or count passes 4,294,967,295 with `TooLong`. Nothing else is refused
-/// but for want of memory.
+/// `MinimumNotMet`; one that is to have a core module where the limits on memories leave none with `ModuleRefused`; one
+/// of which a written length or count passes 4,294,967,295 with `TooLong`. Nothing else is refused but for want of
+/// memory.
 pub fn generate(alloc: Global, config: Config, u: &mut Unstructured) -> Result<Generated, Error>
     // The bytes have one reading, the component, which is well formed and within the limits.
     ensures generated { IfOk result (λ g. Generates config g.component g.bytes.items) }

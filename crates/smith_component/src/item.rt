@@ -19,3 +19,11 @@ pub enum CanonItem {
     Lower,
     Lift,
 }
+
+/// What a component has a minimum of. Public since contracts speak of it.
+#[derive(Debug, Clone, Copy)]
+pub enum Counted {
+    Types,
+    Imports,
+    Functions,
+}

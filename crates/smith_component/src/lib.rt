@@ -15,5 +15,5 @@ pub use component::{
     TypeSection,
 };
 pub use generation::{Generated, generate};
-pub use smith_core::Config;
+pub use smith_format::Config;
 pub use smith_input::{Error, Unstructured};

@@ -2,19 +2,19 @@
 
 ghost use Rattle.std.specs.Prelude.{◌≡◌, ℕ, List, ◌+◌, ◌≤◌, ◌++◌, length, IfOk, IfErr, OnOk};
 ghost use Rattle.smith_input.specs.Reading.{IsTail};
-ghost use Rattle.smith_core.specs.Limits.{IsConsistent};
-ghost use Rattle.smith_core.specs.Limits.{IsDefault};
+ghost use Rattle.smith_format.specs.Limits.{IsConsistent};
+ghost use Rattle.smith_format.specs.Limits.{IsDefault};
 ghost use Rattle.smith_component.specs.Turn.{RunsTo};
 ghost use Rattle.smith_component.specs.Limits.{Limits, Sized};
 ghost use Rattle.smith_component.specs.Refusals.{IsRefusal};
 ghost use Rattle.smith_component.specs.Script.{Within, script};
 ghost use Rattle.smith_component.specs.Tree.{Tree};
 ghost use Rattle.smith_component.specs.WellFormed.{WellFormed};
-ghost use Rattle.smith_core.specs.declared.config.Config.{Config};
+ghost use Rattle.smith_format.specs.declared.config.Config.{Config};
 
 use crate::builder::{Builder, Step};
 use crate::component::Component;
-use smith_core::Config;
+use smith_format::Config;
 use smith_input::{Error, Unstructured};
 use std::alloc::Global;
 
@@ -22,7 +22,8 @@ impl Component {
     /// The component that the input gives, turn by turn: a run of turns from one empty open component, of at
     /// most as many as the input has bytes and components may nest. Limits that do not fit together are refused
     /// with `InconsistentLimits` before a byte is read, and a component that is to be finished and lacks imports or
-    /// functions of a minimum with `MinimumNotMet`. Nothing else is refused but for want of memory.
+    /// functions of a minimum with `MinimumNotMet`. Where a core module is chosen, and the limits on memories leave
+    /// none, that is `ModuleRefused`. Nothing else is refused but for want of memory.
     pub fn new(alloc: Global, config: Config, u: &mut Unstructured) -> Result<Component, Error>
         ensures limits { IfOk result (λ c. Limits config c) }
         ensures formed { IfOk result (λ c. WellFormed c) }
@@ -32,9 +33,10 @@ impl Component {
             → IfOk result (λ c. (c ≡ plan) × (u.new ≡ rest)) }
         ensures accepts { OnOk result (IsConsistent config) }
         ensures refuses { IfErr result (IsRefusal config u.old) }
-        // Where no import and no function is owed, it refuses for want of memory alone.
+        // Where no import and no function is owed, and the limits on memories do not cross, it refuses for want of memory
+        // alone.
         ensures acceptance { IsConsistent config → config.min_imports ≡ 0 → config.min_funcs ≡ 0
-            → IfErr result (λ e. e ≡ Error.OutOfMemory) }
+            → config.min_memories ≤ config.max_memories → IfErr result (λ e. e ≡ Error.OutOfMemory) }
         ensures unread { ¬ IsConsistent config → u.new ≡ u.old }
         ensures tail { IsTail u.new u.old }
     {

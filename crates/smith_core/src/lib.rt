@@ -1,31 +1,16 @@
-//! Core types, the limits of what is built, and the bytes of numbers, texts and sections.
+//! The limits of what is built, core types, core modules and their bytes.
 #![tactic(auto)]
 
-mod buffer;
-mod config;
-mod encode;
-mod entity;
 pub mod laws;
-mod lists;
-mod make;
 mod module;
-mod numbers;
-mod pieces;
-mod types;
 
-pub use buffer::{CoreFormat, Spelled, write_byte, write_bytes, write_spelled};
-pub use config::Config;
-pub use encode::{core_val_len, func_type_len, write_core_val, write_func_type};
-pub use entity::{core_import_len, entity_len, write_core_import, write_entity};
-pub use lists::{many_len, put_many, put_tagged, tagged_len};
-pub use make::{arbitrary_func_type, arbitrary_memtype, arbitrary_table_type, arbitrary_tag_type};
-pub use module::Module;
-pub use numbers::{
-    count_len, s64_len, type_index_len, u32_len, u64_len, write_count, write_s64, write_type_index,
-    write_u32, write_u64,
+pub use module::{
+    Code, CompositeType, DataSegment, DataSegmentKind, ElementKind, ElementSegment, Elements,
+    FieldType, Instructions, Module, ModuleParts, Offset, StorageType, SubType,
 };
-pub use pieces::{raw_len, text_len, write_head, write_raw, write_section, write_text};
-pub use types::{
-    EntityType, ExportKind, FuncType, GlobalType, Import, MemoryType, RefType, TableType, TagType,
-    ValType, configured_valtypes,
+pub use smith_format::{
+    Config, EntityType, ExportKind, FuncType, GlobalType, Import, MemoryType, RefType, TableType,
+    TagType, ValType, arbitrary_func_type, arbitrary_memtype, arbitrary_table_type,
+    arbitrary_tag_type, configured_valtypes, entity_len, s64_len, text_len, u32_len, u64_len,
+    write_entity, write_s64, write_section, write_text, write_u32, write_u64,
 };

@@ -1,40 +1,95 @@
-//! Core modules.
-#![tactic(auto, using(crate::proofs::Steps::writing, crate::proofs::Sizes::measuring))]
+//! Core modules (core specification, Modules).
 
-ghost use Rattle.std.specs.Prelude.{◌≡◌};
-ghost use Rattle.smith_core.specs.Module.{core_preamble, module_text};
-ghost use Rattle.smith_core.specs.Piece.{bytes};
-ghost use Rattle.smith_core.specs.Writing.{Appends, Measures};
+ghost use Rattle.std.specs.Prelude.{◌≡◌, ◌↔◌, ◌⊎◌, IsOk, IfOk, IfErr, IsErrOf, None, Some};
+ghost use Rattle.smith_format.specs.Writing.{Appends, Measures};
+ghost use Rattle.smith_core.specs.Module.{module_text};
+ghost use Rattle.smith_core.specs.Parts.{Agree};
 
-use crate::buffer::write_bytes;
+mod agree;
+mod encode;
+mod parts;
+mod sections;
+mod segments;
+mod stand_in;
+mod types;
+mod write;
+
+pub use parts::ModuleParts;
+pub use segments::{
+    Code, DataSegment, DataSegmentKind, ElementKind, ElementSegment, Elements, Instructions, Offset,
+};
+use smith_format::settled;
 use smith_input::Error;
+use std::alloc::Global;
+use std::marker::Model;
+pub use types::{CompositeType, FieldType, StorageType, SubType};
 
-/// A core module. One without sections is all there is so far: its text is the core preamble.
+/// A core module. Contracts see it as its parts, which agree with one another.
 #[derive(Debug, Drop)]
-pub struct Module {}
+pub struct Module {
+    parts: ModuleParts,
+}
 
-const PREAMBLE: [u8; 8] = [0x00, 0x61, 0x73, 0x6d, 0x01, 0x00, 0x00, 0x00];
+impl Model for Module {
+    ghost use Rattle.smith_core.specs.declared.module.parts.ModuleParts.{ModuleParts};
+    ghost use Rattle.smith_core.specs.contracts.module.parts.ModuleParts as parts_of;
+    ghost use Rattle.std.specs.Coded.{codes};
+    ghost use Rattle.smith_core.specs.Parts.{Agree};
+
+    ghost Value = { ModuleParts };
+
+    ghost coded = { Prim.hlevel (codes, parts_of.the_row.coded) };
+
+    ghost view = { λ m. m.parts };
+
+    ghost invariant = { λ m. Agree m.parts };
+}
 
 impl Module {
-    /// A module without sections.
-    pub fn empty() -> Module
-        ensures { module_text result ≡ core_preamble }
+    /// The module of these parts. It refuses exactly parts that disagree, with `PartsDisagree` and the parts as they
+    /// were: where more functions, tables, memories or tags are defined than there are; where the groups do not hold
+    /// each type once and in order; where a defined global is not there; where a segment of functions, or an active one
+    /// that names no table, is of another type than function references. It takes no memory.
+    pub fn from_parts(parts: ModuleParts) -> Result<Module, (Error, ModuleParts)>
+        ensures accepts { IsOk result ↔ Agree parts }
+        ensures same { IfOk result (λ m. m ≡ parts) }
+        ensures refuses { IfErr result (λ e. (e.0 ≡ Error.PartsDisagree) × (e.1 ≡ parts)) }
     {
-        Module {}
+        if !parts.agree() {
+            return Err((Error::PartsDisagree, parts));
+        }
+        Ok(Module { parts })
     }
 
     /// The length of the module's bytes. It is too long exactly where a length or a count written in them passes
     /// 4,294,967,295.
     pub fn measure(&self) -> Result<u64, Error>
-        ensures { Measures result (bytes (module_text self.now)) }
+        ensures { Measures result (module_text self.now) }
     {
-        Ok(8)
+        self.parts.measure()
     }
 
     /// Appends the module's bytes.
     pub fn write(&self, out: &mut Vec<u8>) -> Result<(), Error>
-        ensures { Appends result out.old out.new (bytes (module_text self.now)) }
+        ensures { Appends result out.old out.new (module_text self.now) }
     {
-        write_bytes(out, &PREAMBLE)
+        let start = out.len();
+        let given = self.parts.put(out);
+        settled(out, start, given)
+    }
+
+    /// The module's bytes. Memory is asked for once, after they were measured.
+    pub fn to_bytes(&self, alloc: Global) -> Result<Vec<u8>, Error>
+        ensures written { IfOk result (λ v. module_text self.now ≡ Some v.items) }
+        // A module is too long exactly where it has no bytes.
+        ensures too_long { IsErrOf result Error.TooLong ↔ (module_text self.now ≡ None) }
+        ensures errors { IfErr result (λ e. (e ≡ Error.TooLong) ⊎ (e ≡ Error.OutOfMemory)) }
+    {
+        let length = self.measure()?;
+        let mut out = Vec::with_capacity(alloc, length as usize)?;
+        let filled = self.parts.put(&mut out);
+        prove!(filled.is_ok());
+        filled?;
+        Ok(out)
     }
 }

@@ -3,7 +3,7 @@ use Rattle.std.proofs.Common.{◌≡◌, List, [], ◌∷◌, ◌++◌, map, ref
 use Rattle.std.proofs.lemmas.List.{map-append}
 use Rattle.std.specs.List.{flat_map}
 use Rattle.std.specs.Option.{option_to_list}
-use Rattle.smith_core.specs.CoreTypes.{Function}
+use Rattle.smith_format.specs.CoreTypes.{Function}
 use Rattle.smith_syntax.specs.Entries.{CoreEntry}
 use Rattle.smith_core_types.specs.MadeCore.{functions_named, named_by_core}
 use Rattle.smith_core_types.specs.MakingCore.{KeepEach, KeepsNamed, KeepsAliased, own_after}

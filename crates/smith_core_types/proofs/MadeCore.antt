@@ -15,22 +15,22 @@ use Rattle.smith_input.proofs.Offered.{offer_holds}
 use Rattle.smith_input.proofs.Picks.{reads-pick}
 use Rattle.smith_input.proofs.ReadingLemmas.{tail_same, tail_is, tail_trans, reads_tail, reads_unique, flips_unique}
 use Rattle.smith_input.proofs.TextsLemmas.{text_tail, text_unique}
-use Rattle.smith_core.specs.CoreFormed.{FormedFunction, FormedMemory}
-use Rattle.smith_core.specs.CoreScript as core
-use Rattle.smith_core.specs.CoreReading.{ReadsElement, only_functions, either, ReadsFunction}
-use Rattle.smith_core.specs.CoreTypes.{Function}
-use Rattle.smith_core.specs.Limits.{configured}
-use Rattle.smith_core.specs.declared.config.Config.{Config}
-use Rattle.smith_core.specs.declared.types.EntityType.{EntityType}
-use Rattle.smith_core.specs.declared.types.EntityType.TheVariants.{Func, Table, Memory, Global, Tag}
-use Rattle.smith_core.specs.declared.types.ExportKind.{ExportKind}
-use Rattle.smith_core.specs.declared.types.ExportKind.TheVariants as kind
-use Rattle.smith_core.specs.declared.types.RefType.{RefType}
-use Rattle.smith_core.specs.declared.types.RefType.TheVariants.{FuncRef, ExternRef}
-use Rattle.smith_core.specs.declared.types.ValType.TheVariants.{I32, I64, F32, F64, V128, Ref}
-use Rattle.smith_core.proofs.CoreReading.{limits_tail, limits_formed, element_formed, function_tail, function_formed, function_unique, memory_unique, table_unique, tag_unique}
-use Rattle.smith_core.proofs.CoreScript.{function_read}
-use Rattle.smith_syntax.specs.CoreLimits.{max_results, ModuleLimits, CoreLimits}
+use Rattle.smith_format.specs.CoreFormed.{FormedFunction, FormedMemory}
+use Rattle.smith_format.specs.CoreScript as core
+use Rattle.smith_format.specs.CoreReading.{ReadsElement, only_functions, either, ReadsFunction}
+use Rattle.smith_format.specs.CoreTypes.{Function}
+use Rattle.smith_format.specs.Limits.{configured, max_results}
+use Rattle.smith_format.specs.declared.config.Config.{Config}
+use Rattle.smith_format.specs.declared.types.EntityType.{EntityType}
+use Rattle.smith_format.specs.declared.types.EntityType.TheVariants.{Func, Table, Memory, Global, Tag}
+use Rattle.smith_format.specs.declared.types.ExportKind.{ExportKind}
+use Rattle.smith_format.specs.declared.types.ExportKind.TheVariants as kind
+use Rattle.smith_format.specs.declared.types.RefType.{RefType}
+use Rattle.smith_format.specs.declared.types.RefType.TheVariants.{FuncRef, ExternRef}
+use Rattle.smith_format.specs.declared.types.ValType.TheVariants.{I32, I64, F32, F64, V128, Ref}
+use Rattle.smith_format.proofs.CoreReading.{limits_tail, limits_formed, element_formed, function_tail, function_formed, function_unique, memory_unique, table_unique, tag_unique}
+use Rattle.smith_format.proofs.CoreScript.{function_read}
+use Rattle.smith_syntax.specs.CoreLimits.{ModuleLimits, CoreLimits}
 use Rattle.smith_syntax.specs.Entries.{CoreEntry, ModuleDecl, core_func, core_module, imports, declares, aliases, exports}
 use Rattle.smith_core_types.specs.MadeCore.{Declared, undeclared, with_decl, with_front, with_fuel, indexes, kind_offers, entity_kinds, ReadsEntityOf, ReadsEntity, ReadsNewText, ReadsImportNames, ReadsExportName, alias_choices, item_offers, module_items, ReadsDeclOf, ReadsDecl}
 use Rattle.smith_core_types.specs.MadeCore.{ModuleEnds, no_fuel, no_import, no_export, ReadsLine, not_allowed, declined, taken, MemoryLine, ReadsFunctionLine, ReadsFront, MadeModule, MadeCore, spent_core, of_function, of_module}

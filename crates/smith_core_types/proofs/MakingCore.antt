@@ -9,12 +9,12 @@ use Rattle.std.proofs.lemmas.Option.{slice_get_within, slice_get-map}
 use Rattle.std.specs.Option.{option_to_list}
 use Rattle.std.specs.List.{filter, flat_map, IsDistinct}
 use Rattle.std.specs.Prelude.{◌↔◌, IsTrue, IfSome, nat_lt, Option, Some, None, option_map, slice_get}
-use Rattle.smith_core.specs.CoreFormed.{FormedMemory}
-use Rattle.smith_core.specs.CoreTypes.{Function}
-use Rattle.smith_core.specs.Entities.{CoreImport}
-use Rattle.smith_core.specs.declared.config.Config.{Config}
-use Rattle.smith_core.specs.declared.types.EntityType.{EntityType}
-use Rattle.smith_core.specs.declared.types.MemoryType.{MemoryType}
+use Rattle.smith_format.specs.CoreFormed.{FormedMemory}
+use Rattle.smith_format.specs.CoreTypes.{Function}
+use Rattle.smith_format.specs.Entities.{CoreImport}
+use Rattle.smith_format.specs.declared.config.Config.{Config}
+use Rattle.smith_format.specs.declared.types.EntityType.{EntityType}
+use Rattle.smith_format.specs.declared.types.MemoryType.{MemoryType}
 use Rattle.smith_input.specs.Choices.{ReadsAmong}
 use Rattle.smith_input.specs.Names.{is_among}
 use Rattle.smith_syntax.specs.Entries.{CoreEntry, ModuleDecl, aliases, core_func, core_module}

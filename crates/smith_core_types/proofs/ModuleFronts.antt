@@ -3,14 +3,14 @@ use Rattle.std.proofs.Common.{◌≡◌, ℕ, ◌<◌, ◌≤◌, Bool, true, fa
 use Rattle.std.proofs.lemmas.Bool.{false≢true, ltb-true, lt-ltb}
 use Rattle.std.proofs.lemmas.Bool.Decides.{nat_tests}
 use Rattle.std.specs.Prelude.{Option, Some, None, IfSome, codes, nat_lt, if◌then◌else◌}
-use Rattle.smith_core.specs.CoreFormed.{FormedMemory}
-use Rattle.smith_core.specs.CoreReading.{ReadsMemory}
-use Rattle.smith_core.specs.CoreTypes.{Function}
-use Rattle.smith_core.specs.declared.config.Config.{Config}
-use Rattle.smith_core.specs.declared.types.EntityType.TheVariants.{Func, Memory}
-use Rattle.smith_core.specs.declared.types.ExportKind.TheVariants as kind
-use Rattle.smith_core.specs.declared.types.MemoryType.{MemoryType}
-use Rattle.smith_core.proofs.CoreReading.{limits_formed}
+use Rattle.smith_format.specs.CoreFormed.{FormedMemory}
+use Rattle.smith_format.specs.CoreReading.{ReadsMemory}
+use Rattle.smith_format.specs.CoreTypes.{Function}
+use Rattle.smith_format.specs.declared.config.Config.{Config}
+use Rattle.smith_format.specs.declared.types.EntityType.TheVariants.{Func, Memory}
+use Rattle.smith_format.specs.declared.types.ExportKind.TheVariants as kind
+use Rattle.smith_format.specs.declared.types.MemoryType.{MemoryType}
+use Rattle.smith_format.proofs.CoreReading.{limits_formed}
 use Rattle.smith_syntax.specs.Entries.{ModuleDecl, declares, exports}
 use Rattle.smith_scopes.proofs.Plain.{both_true}
 use Rattle.smith_core_types.specs.MadeCore.{Declared, undeclared, with_front, allows_function, allows_type, ReadsLine, not_allowed, declined, taken, MemoryLine, ReadsFunctionLine, ReadsFront}

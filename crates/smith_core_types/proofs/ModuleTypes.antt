@@ -9,19 +9,19 @@ use Rattle.std.specs.List.{AllByRecursion, Contains, filter, flat_map}
 use Rattle.std.specs.Option.{option_to_list}
 use Rattle.std.specs.Prelude.{Option, Some, None, IfSome, codes, if◌then◌else◌}
 use Rattle.smith_input.specs.Names.{is_among}
-use Rattle.smith_core.specs.CoreFormed.{FormedFunction, FormedMemory}
-use Rattle.smith_core.specs.CoreTypes.{Function}
-use Rattle.smith_core.specs.Entities.{kind_of}
-use Rattle.smith_core.specs.Limits.{configured}
-use Rattle.smith_core.specs.declared.config.Config.{Config}
-use Rattle.smith_core.specs.declared.types.EntityType.{EntityType}
-use Rattle.smith_core.specs.declared.types.EntityType.TheVariants.{Func, Memory}
-use Rattle.smith_core.specs.declared.types.ExportKind.{ExportKind}
-use Rattle.smith_core.specs.declared.types.ExportKind.TheVariants as kind
-use Rattle.smith_core.specs.declared.types.MemoryType.{MemoryType}
-use Rattle.smith_core.specs.declared.types.ValType.TheVariants.{I32}
-use Rattle.smith_core.specs.contracts.types.ExportKindPartialEq.TheImpl.{ghosts as kinds}
-use Rattle.smith_syntax.specs.CoreLimits.{max_results, GlobalLimits}
+use Rattle.smith_format.specs.CoreFormed.{FormedFunction, FormedMemory}
+use Rattle.smith_format.specs.CoreTypes.{Function}
+use Rattle.smith_format.specs.Entities.{kind_of}
+use Rattle.smith_format.specs.Limits.{configured, max_results}
+use Rattle.smith_format.specs.declared.config.Config.{Config}
+use Rattle.smith_format.specs.declared.types.EntityType.{EntityType}
+use Rattle.smith_format.specs.declared.types.EntityType.TheVariants.{Func, Memory}
+use Rattle.smith_format.specs.declared.types.ExportKind.{ExportKind}
+use Rattle.smith_format.specs.declared.types.ExportKind.TheVariants as kind
+use Rattle.smith_format.specs.declared.types.MemoryType.{MemoryType}
+use Rattle.smith_format.specs.declared.types.ValType.TheVariants.{I32}
+use Rattle.smith_format.specs.contracts.types.ExportKindPartialEq.TheImpl.{ghosts as kinds}
+use Rattle.smith_syntax.specs.CoreLimits.{GlobalLimits}
 use Rattle.smith_syntax.specs.Entries.{CoreEntry, ModuleDecl, imports, declares, aliases, exports}
 use Rattle.smith_core_types.specs.MadeCore.{Declared}
 use Rattle.smith_core_types.specs.MakingCore.{own_after}

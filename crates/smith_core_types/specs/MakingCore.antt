@@ -2,12 +2,12 @@
 use Rattle.std.specs.Prelude.{◌≡◌, ℕ, ◌-◌, ◌<◌, Bool, true, false, List, [], ◌∷◌, ◌++◌, map, length, Option, Some, MatchOption}
 use Rattle.std.specs.declared.alloc.Global.{Global}
 use Rattle.std.specs.declared.rc.Rc.{Rc}
-use Rattle.smith_core.specs.CoreTypes.{Function, shown_func}
-use Rattle.smith_core.specs.declared.config.Config.{Config}
-use Rattle.smith_core.specs.declared.types.EntityType.{EntityType}
-use Rattle.smith_core.specs.declared.types.ExportKind.{ExportKind}
-use Rattle.smith_core.specs.declared.types.ExportKind.TheVariants as kind
-use Rattle.smith_core.specs.declared.types.FuncType.{FuncType}
+use Rattle.smith_format.specs.CoreTypes.{Function, shown_func}
+use Rattle.smith_format.specs.declared.config.Config.{Config}
+use Rattle.smith_format.specs.declared.types.EntityType.{EntityType}
+use Rattle.smith_format.specs.declared.types.ExportKind.{ExportKind}
+use Rattle.smith_format.specs.declared.types.ExportKind.TheVariants as kind
+use Rattle.smith_format.specs.declared.types.FuncType.{FuncType}
 use Rattle.smith_syntax.specs.Entries.{CoreEntry, ModuleDecl}
 use Rattle.smith_core_types.specs.MadeCore.{ReadsDecl, ReadsDeclOf, ReadsEntity, ReadsImportNames, ReadsExportName, ModuleEnds, alias_choices, entity_kinds, with_decl, with_fuel}
 use Rattle.smith_core_types.specs.MadeCore.{Declared as SoFar}

@@ -3,7 +3,7 @@
 ghost use Rattle.std.specs.Prelude.{◌≡◌, ◌+◌, ◌-◌, ◌<◌, ◌≤◌, ℕ, length, slice_get, true, Some, OnOk, IfOk, IfErr};
 ghost use Rattle.smith_input.specs.Choices.{ReadsAmong};
 ghost use Rattle.smith_input.specs.Reading.{IsTail};
-ghost use Rattle.smith_core.specs.CoreTypes.{shown_func};
+ghost use Rattle.smith_format.specs.CoreTypes.{shown_func};
 ghost use Rattle.smith_core_types.specs.MadeCore.{alias_choices};
 ghost use Rattle.smith_core_types.specs.MakingCore.{Adds, Keeps, choices_among, shown_funcs, so_far};
 ghost use Rattle.smith_syntax.specs.ModuleTypes.{aliased, func_in};
@@ -12,7 +12,7 @@ ghost use Rattle.smith_core_types.specs.declared.module_types.ModuleItem.TheVari
 ghost use Rattle.smith_scopes.specs.declared.scopes.Kind.TheVariants as kind;
 
 use crate::declared::Declared;
-use smith_core::FuncType;
+use smith_format::FuncType;
 use smith_input::{Error, Unstructured};
 use smith_scopes::{Kind, Scopes};
 use smith_syntax::{CoreType, ModuleTypeDef};

@@ -2,12 +2,12 @@
 
 ghost use Rattle.std.specs.Prelude.{◌≡◌, IfOk, IfErr};
 ghost use Rattle.smith_input.specs.Reading.{IsTail};
-ghost use Rattle.smith_core.specs.CoreReading.{ReadsFunction};
-ghost use Rattle.smith_core.specs.CoreTypes.{shown_func};
-ghost use Rattle.smith_core.specs.Limits.{configured};
-ghost use Rattle.smith_syntax.specs.CoreLimits.{max_results};
+ghost use Rattle.smith_format.specs.CoreReading.{ReadsFunction};
+ghost use Rattle.smith_format.specs.CoreTypes.{shown_func};
+ghost use Rattle.smith_format.specs.Limits.{configured};
+ghost use Rattle.smith_format.specs.Limits.{max_results};
 
-use smith_core::{Config, FuncType, ValType, arbitrary_func_type};
+use smith_format::{Config, FuncType, ValType, configured_func_type};
 use smith_input::{Error, Unstructured};
 use std::alloc::Global;
 use std::rc::Rc;
@@ -25,8 +25,7 @@ pub(crate) fn core_function(
     ensures memory { IfErr result (λ e. e ≡ Error.OutOfMemory) }
     ensures tail { IsTail u.new u.old }
 {
-    let max_results = if config.multi_value_enabled { 20 } else { 1 };
-    let func = arbitrary_func_type(alloc, u, valtypes, max_results)?;
+    let func = configured_func_type(alloc, u, config, valtypes)?;
     let shared = Rc::new(alloc, func)?;
     Ok(shared)
 }

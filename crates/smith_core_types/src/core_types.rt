@@ -2,7 +2,7 @@
 
 ghost use Rattle.std.specs.Prelude.{◌≡◌, ◌+◌, ◌≤◌, IfOk, IfErr};
 ghost use Rattle.smith_input.specs.Reading.{IsTail};
-ghost use Rattle.smith_core.specs.Limits.{configured};
+ghost use Rattle.smith_format.specs.Limits.{configured};
 ghost use Rattle.smith_syntax.specs.CoreLimits.{CoreLimits};
 ghost use Rattle.smith_core_types.specs.MadeCore.{MadeCore};
 ghost use Rattle.smith_core_types.specs.MakingCore.{KeepsAliased};
@@ -13,7 +13,7 @@ ghost use Rattle.smith_syntax.specs.WellFormed.{FormedCore, core_size};
 use crate::core_functions::core_function;
 use crate::fuel::burn;
 use crate::module_types::module_type;
-use smith_core::{Config, ValType};
+use smith_format::{Config, ValType};
 use smith_input::{Error, Unstructured};
 use smith_scopes::Scopes;
 use smith_syntax::{CoreType, ModuleType};

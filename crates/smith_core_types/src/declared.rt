@@ -2,14 +2,14 @@
 
 ghost use Rattle.std.specs.Prelude.{◌≡◌, ◌+◌, ◌<◌, [], ◌∷◌, ◌++◌, map, length, nat_lt, if◌then◌else◌};
 ghost use Rattle.std.specs.Prelude.{OnOk, IfOk, IfErr};
-ghost use Rattle.smith_core.specs.CoreTypes.{shown_func};
+ghost use Rattle.smith_format.specs.CoreTypes.{shown_func};
 ghost use Rattle.smith_syntax.specs.Entries.{declares};
 ghost use Rattle.smith_core_types.specs.MakingCore.{Keeps, shown_funcs};
 ghost use Rattle.smith_syntax.specs.ModuleTypes.{count_of, is_tag_type};
 ghost use Rattle.smith_syntax.specs.Scope.{places};
 ghost use Rattle.smith_syntax.specs.Shown.{shown_decl};
 
-use smith_core::{ExportKind, FuncType};
+use smith_format::{ExportKind, FuncType};
 use smith_input::Error;
 use smith_syntax::ModuleTypeDef;
 use std::alloc::Global;

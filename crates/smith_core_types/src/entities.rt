@@ -3,8 +3,8 @@
 ghost use Rattle.std.specs.Prelude.{◌≡◌, ℕ, ◌<◌, ◌&&◌, List, [], map, length, nat_lt, MatchOption, IfSome, IfOk, IfErr};
 ghost use Rattle.smith_input.specs.Choices.{ReadsAmong};
 ghost use Rattle.smith_input.specs.Reading.{IsTail, Flips};
-ghost use Rattle.smith_core.specs.Limits.{configured};
-ghost use Rattle.smith_core.specs.declared.types.ExportKind.TheVariants as kind;
+ghost use Rattle.smith_format.specs.Limits.{configured};
+ghost use Rattle.smith_format.specs.declared.types.ExportKind.TheVariants as kind;
 ghost use Rattle.smith_core_types.specs.MadeCore.{ReadsEntityOf, entity_kinds, indexes};
 ghost use Rattle.smith_core_types.specs.MakingCore.{HasTypeFor, MaybeEntity, shown_funcs, so_far};
 ghost use Rattle.smith_syntax.specs.ModuleTypes.{count_of, is_tag_type};
@@ -12,7 +12,7 @@ ghost use Rattle.smith_syntax.specs.Scope.{places};
 ghost use Rattle.smith_syntax.specs.Shown.{shown_decl};
 
 use crate::declared::{Declared, allows, tag_types};
-use smith_core::{
+use smith_format::{
     Config, EntityType, ExportKind, FuncType, GlobalType, ValType, arbitrary_memtype,
     arbitrary_table_type, arbitrary_tag_type,
 };

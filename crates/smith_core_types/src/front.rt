@@ -2,14 +2,14 @@
 
 ghost use Rattle.std.specs.Prelude.{◌≡◌, ◌+◌, ◌<◌, ◌≤◌, ◌&&◌, ℕ, length, nat_lt, OnOk, IfOk, IfErr};
 ghost use Rattle.smith_input.specs.Reading.{IsTail};
-ghost use Rattle.smith_core.specs.CoreTypes.{shown_func};
+ghost use Rattle.smith_format.specs.CoreTypes.{shown_func};
 ghost use Rattle.smith_core_types.specs.MadeCore.{allows_function, allows_type, MemoryLine};
 ghost use Rattle.smith_core_types.specs.MadeCore.{ReadsFront, ReadsFunctionLine, ReadsLine};
 ghost use Rattle.smith_core_types.specs.MakingCore.{Keeps, so_far};
 ghost use Rattle.smith_syntax.specs.ModuleTypes.{realloc, free};
 
 use crate::declared::{Declared, allows, declare};
-use smith_core::{Config, EntityType, ExportKind, FuncType, ValType, arbitrary_memtype};
+use smith_format::{Config, EntityType, ExportKind, FuncType, ValType, arbitrary_memtype};
 use smith_input::{Error, Unstructured};
 use smith_syntax::ModuleTypeDef;
 use std::alloc::Global;

@@ -1,12 +1,12 @@
 //! Laws of how core types are read. Each function does nothing: its contract is the law.
 
 ghost use Rattle.std.specs.Prelude.{◌≤◌, ◌-◌, ℕ};
-ghost use Rattle.smith_core.specs.CoreFormed.{FormedFunction};
-ghost use Rattle.smith_core.specs.CoreTypes.{Function};
-ghost use Rattle.smith_core.specs.Limits.{configured};
-ghost use Rattle.smith_core.specs.declared.config.Config.{Config};
+ghost use Rattle.smith_format.specs.CoreFormed.{FormedFunction};
+ghost use Rattle.smith_format.specs.CoreTypes.{Function};
+ghost use Rattle.smith_format.specs.Limits.{configured};
+ghost use Rattle.smith_format.specs.declared.config.Config.{Config};
 ghost use Rattle.smith_input.specs.Reading.{IsDecided, IsReadAs};
-ghost use Rattle.smith_syntax.specs.CoreLimits.{max_results};
+ghost use Rattle.smith_format.specs.Limits.{max_results};
 ghost use Rattle.smith_syntax.specs.Entries.{CoreEntry, core_func};
 ghost use Rattle.smith_syntax.specs.Scope.{Scope};
 ghost use Rattle.smith_core_types.specs.MadeCore.{MadeCore};

@@ -5,7 +5,7 @@ use Rattle.std.specs.HashMap.{HashMap, get}
 use Rattle.std.specs.declared.alloc.Global.{Global}
 use Rattle.std.specs.declared.rc.Rc.{Rc}
 use Rattle.std.specs.declared.vec.Vec.{Vec}
-use Rattle.smith_core.specs.declared.types.FuncType.{FuncType as CoreFuncType}
+use Rattle.smith_format.specs.declared.types.FuncType.{FuncType as CoreFuncType}
 use Rattle.smith_syntax.specs.Entries.{Signature, plain}
 use Rattle.smith_syntax.specs.Scope.{places, is_defined, is_func, is_component, is_instance, is_core_func, is_core_module}
 use Rattle.smith_syntax.specs.Shown.{full_type, has_signature, is_of_signature}

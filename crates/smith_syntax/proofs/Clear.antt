@@ -1,13 +1,13 @@
 -- No bytes begin with two types of values or of functions, and none with two core types.
 use Rattle.std.proofs.Common.{◌≡◌, ℕ, ◌<◌, ◌≤◌, inl, inr, List, [], ◌∷◌, refl, ap, arith, Some, None, Option, lit≤, lit<}
-use Rattle.smith_core.specs.Clear.{Agree, IsClear}
-use Rattle.smith_core.specs.CoreTypes.{core_val, core_function}
-use Rattle.smith_core.specs.Entities.{entity}
-use Rattle.smith_core.specs.Piece.{Piece, ◌⊕◌, byte, s_index, text, many, u}
-use Rattle.smith_core.specs.declared.types.EntityType.{EntityType}
-use Rattle.smith_core.proofs.Clear.{tail, head, then_head, then_tail, then_agree, clash, clear_byte, clear_s_index, s_index_head, clear_text, clear_u, clear_many, clear_both}
-use Rattle.smith_core.proofs.CoreTypes.{clear_core_function}
-use Rattle.smith_core.proofs.Entities.{clear_entity}
+use Rattle.smith_format.specs.Clear.{Agree, IsClear}
+use Rattle.smith_format.specs.CoreTypes.{core_val, core_function}
+use Rattle.smith_format.specs.Entities.{entity}
+use Rattle.smith_format.specs.Piece.{Piece, ◌⊕◌, byte, s_index, text, many, u}
+use Rattle.smith_format.specs.declared.types.EntityType.{EntityType}
+use Rattle.smith_format.proofs.Clear.{tail, head, then_head, then_tail, then_agree, clash, clear_byte, clear_s_index, s_index_head, clear_text, clear_u, clear_many, clear_both}
+use Rattle.smith_format.proofs.CoreTypes.{clear_core_function}
+use Rattle.smith_format.proofs.Entities.{clear_entity}
 use Rattle.smith_syntax.specs.Entries.{DefValType, primitive_type, record_type, variant_type, list_type, tuple_type, flags_type, enum_type, option_type, result_type}
 use Rattle.smith_syntax.specs.Entries.{Field, Signature, CoreEntry, core_func, core_module, ModuleDecl, imports, declares, aliases, exports}
 use Rattle.smith_syntax.specs.Grammar.{primvaltype, valtype, maybe_valtype, labelvaltype, case, resultlist, defvaltype, functype, moduledecl, core_entry}

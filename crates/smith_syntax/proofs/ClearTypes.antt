@@ -1,9 +1,9 @@
 -- No bytes begin with two types, with two declarations of a type, or with two imports.
 use Rattle.std.proofs.Common.{◌≡◌, ℕ, Bool, true, false, List, [], ◌∷◌, ◌++◌, refl, ap, sym, ◌∙◌, arith, Some, None}
-use Rattle.smith_core.specs.Clear.{Agree, IsClear}
-use Rattle.smith_core.specs.Piece.{Piece, ◌⊕◌, bytes, text, many, u}
-use Rattle.smith_core.proofs.Clear.{then_head, then_tail, then_agree, clash, clear_text, clear_u, clear_both}
-use Rattle.smith_core.proofs.Piece.{assoc, left_nil, left_none}
+use Rattle.smith_format.specs.Clear.{Agree, IsClear}
+use Rattle.smith_format.specs.Piece.{Piece, ◌⊕◌, bytes, text, many, u}
+use Rattle.smith_format.proofs.Clear.{then_head, then_tail, then_agree, clash, clear_text, clear_u, clear_both}
+use Rattle.smith_format.proofs.Piece.{assoc, left_nil, left_none}
 use Rattle.smith_syntax.specs.Entries.{Entry, ImportEntry, defined, function, component_type, instance_type}
 use Rattle.smith_syntax.specs.Entries.{Decl, Decls, core_type_decl, type_decl, type_alias, core_type_alias, import_decl, export_decl, no_decls, then_decls, decl_count}
 use Rattle.smith_syntax.specs.Grammar.{labelvaltype, resultlist, core_entry, externdesc, named_extern, importdecl, import_entry, entry, decl, decls}

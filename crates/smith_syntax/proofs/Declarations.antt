@@ -2,10 +2,10 @@
 use Rattle.std.proofs.Common.{◌≡◌, ℕ, ◌+◌, ◌<◌, ◌^◌, arith, Bool, true, false, List, [], ◌∷◌, length, map, Option, SomeIff, refl, ap, ◌∙◌}
 use Rattle.std.specs.declared.rc.Rc.{Rc}
 use Rattle.std.specs.declared.alloc.Global.{Global}
-use Rattle.smith_core.specs.Piece.{Piece, ◌⊕◌, byte, bytes, u, each, many}
-use Rattle.smith_core.proofs.Many.{many-map}
-use Rattle.smith_core.proofs.Sizes.{length_is, takes_bytes, takes_then}
-use Rattle.smith_core.specs.Writing.{IsLengthOf, Takes}
+use Rattle.smith_format.specs.Piece.{Piece, ◌⊕◌, byte, bytes, u, each, many}
+use Rattle.smith_format.proofs.Many.{many-map}
+use Rattle.smith_format.proofs.Sizes.{length_is, takes_bytes, takes_then}
+use Rattle.smith_format.specs.Writing.{IsLengthOf, Takes}
 use Rattle.smith_syntax.specs.declared.core_types.CoreType.{CoreType}
 use Rattle.smith_syntax.specs.declared.deftype.Alias.{Alias}
 use Rattle.smith_syntax.specs.declared.deftype.ComponentType.{ComponentType}

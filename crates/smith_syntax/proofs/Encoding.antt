@@ -1,10 +1,10 @@
 -- What proves the steps of writers and of length calls.
 use Rattle.std.proofs.Common.{◌≡◌, ℕ, ◌<◌, ◌^◌, Some, pos}
-use Rattle.smith_core.specs.Numbers.{signed}
-use Rattle.smith_core.specs.Piece.{s_index}
-use Rattle.smith_core.proofs.Piece.{s_index_fits}
-use Rattle.smith_core.proofs.Sizes.{measuring}
-use Rattle.smith_core.proofs.Steps.{writing}
+use Rattle.smith_format.specs.Numbers.{signed}
+use Rattle.smith_format.specs.Piece.{s_index}
+use Rattle.smith_format.proofs.Piece.{s_index_fits}
+use Rattle.smith_format.proofs.Sizes.{measuring}
+use Rattle.smith_format.proofs.Steps.{writing}
 
 -- `s_index_fits`, for `grind`
 pub s_index_is : (n : ℕ) → n < 2 ^ 32 → s_index n ≡ Some (signed (pos n))

@@ -5,8 +5,8 @@ use Rattle.std.proofs.lemmas.List.{length-map}
 use Rattle.std.specs.List.{list_all}
 use Rattle.std.specs.Option.{is_some, option_to_list}
 use Rattle.std.specs.Prelude.{Option, Some, None}
-use Rattle.smith_core.specs.CoreTypes.{Function}
-use Rattle.smith_core.specs.declared.types.ValType.{ValType}
+use Rattle.smith_format.specs.CoreTypes.{Function}
+use Rattle.smith_format.specs.declared.types.ValType.{ValType}
 use Rattle.smith_syntax.specs.Entries.{Field, Signature}
 use Rattle.smith_syntax.specs.Flat.{flat_value, is_scalar, is_scalar_result, Flattens}
 use Rattle.smith_syntax.specs.declared.types.ComponentValType.{ComponentValType}

@@ -8,9 +8,9 @@ use Rattle.std.specs.List.{flat_map}
 use Rattle.std.specs.Prelude.{◌&&◌}
 use Rattle.std.specs.declared.alloc.Global.{Global}
 use Rattle.std.specs.declared.string.String.{String}
-use Rattle.smith_core.specs.Piece.{◌⊕◌, byte, many}
-use Rattle.smith_core.proofs.Piece.{assoc}
-use Rattle.smith_core.proofs.Many.{many-map}
+use Rattle.smith_format.specs.Piece.{◌⊕◌, byte, many}
+use Rattle.smith_format.proofs.Piece.{assoc}
+use Rattle.smith_format.proofs.Many.{many-map}
 use Rattle.smith_syntax.specs.Entries.{Signature, EntryOf, defined, function, component_type, instance_type, plain}
 use Rattle.smith_syntax.specs.Grammar.{labelvaltype, resultlist, functype}
 use Rattle.smith_syntax.specs.Shown.{full_type, shown_type, is_of_signature, has_signature}

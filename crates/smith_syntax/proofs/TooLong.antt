@@ -1,38 +1,20 @@
 -- Types that have no encoding.
-use Rattle.std.proofs.Common.{◌≡◌, ℕ, ◌⊎◌, inl, inr, ◌↔◌, Bool, true, false, List, [], ◌∷◌, length, refl, sym, ◌∙◌, Some, None, Option}
-use Rattle.std.specs.Str.{is_utf8}
-use Rattle.std.proofs.lemmas.Bool.{false≢true}
-use Rattle.std.proofs.lemmas.Str.{IsUtf8-from_is_utf8, is_utf8-from_IsUtf8}
-use Rattle.smith_core.specs.CoreTypes.{core_function}
-use Rattle.smith_core.specs.Entities.{entity}
-use Rattle.smith_core.specs.Piece.{◌⊕◌, bytes, u, utf8, text, many}
-use Rattle.smith_core.specs.TooLong.{Passes}
-use Rattle.smith_core.proofs.Piece.{right_none}
-use Rattle.smith_core.proofs.Sizes.{u_none_where, s_index_none_where, text_none_where}
-use Rattle.smith_core.proofs.TooLong.{join_none, after_bytes, before_bytes, bytes_none, many_none_where, function_none_where, entity_none_where}
+use Rattle.std.proofs.Common.{◌≡◌, ℕ, ◌⊎◌, ◌↔◌, Bool, true, false, List, [], ◌∷◌, refl, Some, None, Option}
+use Rattle.smith_format.specs.CoreTypes.{core_function}
+use Rattle.smith_format.specs.Entities.{entity}
+use Rattle.smith_format.specs.Piece.{◌⊕◌, bytes, u, text, many}
+use Rattle.smith_format.specs.TooLong.{Passes, ListTooLong}
+use Rattle.smith_format.proofs.Sizes.{u_none_where, s_index_none_where}
+use Rattle.smith_format.proofs.TooLong.{join_none, after_bytes, before_bytes, bytes_none, name_none, many_none_where, function_none_where, entity_none_where}
 use Rattle.smith_syntax.specs.Entries.{DefValType, primitive_type, record_type, variant_type, list_type, tuple_type, flags_type, enum_type, option_type, result_type}
 use Rattle.smith_syntax.specs.Entries.{Field, Case, Signature, Entry, defined, function, component_type, instance_type, CoreEntry, core_func, core_module, ModuleDecl, imports, declares, aliases, exports}
 use Rattle.smith_syntax.specs.Entries.{ImportEntry, Decl, Decls, core_type_decl, type_decl, type_alias, core_type_alias, import_decl, export_decl, no_decls, then_decls, decl_count}
 use Rattle.smith_syntax.specs.Grammar.{primvaltype, valtype, maybe_valtype, labelvaltype, case, resultlist, defvaltype, functype, moduledecl, core_entry, externdesc, named_extern, importdecl, import_entry, entry, decl, decls}
-use Rattle.smith_syntax.specs.TooLong.{NameTooLong, ValTooLong, MaybeTooLong, FieldTooLong, CaseTooLong, DefinedTooLong, DeclTooLong, CoreEntryTooLong, ListTooLong, RefTooLong, ExternTooLong, ImportEntryTooLong, ImportTooLong, EntryTooLong, DeclarationTooLong, DeclarationsTooLong}
+use Rattle.smith_syntax.specs.TooLong.{ValTooLong, MaybeTooLong, FieldTooLong, CaseTooLong, DefinedTooLong, DeclTooLong, CoreEntryTooLong, RefTooLong, ExternTooLong, ImportEntryTooLong, ImportTooLong, EntryTooLong, DeclarationTooLong, DeclarationsTooLong}
 use Rattle.smith_syntax.specs.declared.deftype.ComponentTypeRef.{ComponentTypeRef}
 use Rattle.smith_syntax.specs.declared.deftype.ComponentTypeRef.TheVariants as to
 use Rattle.smith_syntax.specs.declared.types.ComponentValType.{ComponentValType}
 use Rattle.smith_syntax.specs.declared.types.ComponentValType.TheVariants.{Primitive, Indexed}
-
-no_text : (n : List ℕ) → is_utf8 n ≡ false → text n ≡ None
-unfolding text utf8
-no_text n e = rw e (right_none (u (length n)))
-
-pub name_none : (n : List ℕ) → (text n ≡ None) ↔ NameTooLong n
-name_none n = by_test (is_utf8 n) refl
-  where
-    by_test : (b : Bool) → is_utf8 n ≡ b → (text n ≡ None) ↔ NameTooLong n
-    by_test true e =
-        let utf8 = IsUtf8-from_is_utf8 n e in
-        let at = text_none_where n utf8 in
-        (λ t. inl (at.0 t), λ h. elim h [ inl l ↦ at.1 l | inr not ↦ absurd (not utf8) ])
-    by_test false e = (λ t. inr (λ h. false≢true (sym e ∙ is_utf8-from_IsUtf8 n h)), λ h. no_text n e)
 
 val_none : (v : ComponentValType) → (valtype v ≡ None) ↔ ValTooLong v
 val_none (Primitive p) = bytes_none (primvaltype p ∷ [])

@@ -1,19 +1,15 @@
 -- The limits of a config within a core type.
-use Rattle.std.specs.Prelude.{ℕ, ◌≤◌, List, if◌then◌else◌}
+use Rattle.std.specs.Prelude.{ℕ, ◌≤◌, List}
 use Rattle.std.specs.List.{AllByRecursion, Contains}
-use Rattle.smith_core.specs.Limits.{configured}
-use Rattle.smith_core.specs.CoreFormed.{FormedFunction}
-use Rattle.smith_core.specs.declared.config.Config.{Config}
-use Rattle.smith_core.specs.declared.types.EntityType.{EntityType}
-use Rattle.smith_core.specs.declared.types.EntityType.TheVariants.{Func, Table, Memory, Global, Tag}
-use Rattle.smith_core.specs.declared.types.ExportKind.TheVariants as kind
+use Rattle.smith_format.specs.Limits.{configured, max_results}
+use Rattle.smith_format.specs.CoreFormed.{FormedFunction}
+use Rattle.smith_format.specs.declared.config.Config.{Config}
+use Rattle.smith_format.specs.declared.types.EntityType.{EntityType}
+use Rattle.smith_format.specs.declared.types.EntityType.TheVariants.{Func, Table, Memory, Global, Tag}
+use Rattle.smith_format.specs.declared.types.ExportKind.TheVariants as kind
 use Rattle.smith_syntax.specs.Entries.{CoreEntry, ModuleDecl, core_func, core_module}
 use Rattle.smith_syntax.specs.ModuleTypes.{declared_in, entities_of, type_count, count_of}
 use Rattle.smith_syntax.specs.WellFormed.{core_size}
-
--- how many results a core function may have
-abbrev pub max_results : Config → ℕ
-max_results config = if config.multi_value_enabled then 20 else 1
 
 -- globals are of the configured value types
 abbrev pub GlobalLimits : Config → EntityType → Type 0

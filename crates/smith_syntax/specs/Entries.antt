@@ -1,7 +1,7 @@
 -- Types as plain trees (Explainer.md, type definitions): nothing is shared.
 use Rattle.std.specs.Prelude.{ℕ, ◌+◌, List, [], ◌∷◌, Option}
-use Rattle.smith_core.specs.CoreTypes.{Function}
-use Rattle.smith_core.specs.declared.types.EntityType.{EntityType}
+use Rattle.smith_format.specs.CoreTypes.{Function}
+use Rattle.smith_format.specs.declared.types.EntityType.{EntityType}
 use Rattle.smith_syntax.specs.declared.deftype.ComponentTypeRef.{ComponentTypeRef}
 use Rattle.smith_syntax.specs.declared.types.ComponentValType.{ComponentValType}
 use Rattle.smith_syntax.specs.declared.types.PrimitiveValType.{PrimitiveValType}

@@ -2,9 +2,9 @@
 use Rattle.std.specs.Prelude.{◌≡◌, Bool, false, ◌&&◌, map, length, Option, Some, None}
 use Rattle.std.specs.List.{list_all}
 use Rattle.std.specs.Option.{is_some, option_to_list}
-use Rattle.smith_core.specs.CoreTypes.{Function}
-use Rattle.smith_core.specs.declared.types.ValType.{ValType}
-use Rattle.smith_core.specs.declared.types.ValType.TheVariants.{I32, I64, F32, F64}
+use Rattle.smith_format.specs.CoreTypes.{Function}
+use Rattle.smith_format.specs.declared.types.ValType.{ValType}
+use Rattle.smith_format.specs.declared.types.ValType.TheVariants.{I32, I64, F32, F64}
 use Rattle.smith_syntax.specs.Entries.{Signature}
 use Rattle.smith_syntax.specs.declared.types.ComponentValType.{ComponentValType}
 use Rattle.smith_syntax.specs.declared.types.ComponentValType.TheVariants.{Primitive, Indexed}

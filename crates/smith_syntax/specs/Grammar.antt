@@ -1,8 +1,8 @@
 -- How types are spelled (Binary.md, type definitions), one line for each row.
 use Rattle.std.specs.Prelude.{ℕ, Bool, true, false, List, [], ◌∷◌, Option, Some, None}
-use Rattle.smith_core.specs.CoreTypes.{core_function}
-use Rattle.smith_core.specs.Entities.{entity}
-use Rattle.smith_core.specs.Piece.{Piece, ◌⊕◌, byte, bytes, text, many, s_index, u}
+use Rattle.smith_format.specs.CoreTypes.{core_function}
+use Rattle.smith_format.specs.Entities.{entity}
+use Rattle.smith_format.specs.Piece.{Piece, ◌⊕◌, byte, bytes, text, many, s_index, u}
 use Rattle.smith_syntax.specs.Entries.{Field, Case, Signature, ModuleDecl, imports, declares, aliases, exports}
 use Rattle.smith_syntax.specs.Entries.{DefValType, primitive_type, record_type, variant_type, list_type, tuple_type, flags_type, enum_type, option_type, result_type}
 use Rattle.smith_syntax.specs.Entries.{Entry, defined, function, component_type, instance_type, CoreEntry, core_func, core_module, ImportEntry}

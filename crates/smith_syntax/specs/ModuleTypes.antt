@@ -4,15 +4,15 @@ use Rattle.std.specs.Prelude.{ℕ, zero, suc, ◌+◌, Bool, false, ◌&&◌, Li
 use Rattle.std.specs.Cmp.Lexicographic.{pointwise}
 use Rattle.std.specs.List.{filter, flat_map, list_any, IsDistinct}
 use Rattle.std.specs.Option.{option_to_list}
-use Rattle.smith_core.specs.CoreTypes.{Function}
-use Rattle.smith_core.specs.Entities.{CoreImport, kind_of}
-use Rattle.smith_core.specs.Equality.{same_val}
-use Rattle.smith_core.specs.declared.types.EntityType.{EntityType}
-use Rattle.smith_core.specs.declared.types.EntityType.TheVariants.{Func, Table, Memory, Global, Tag}
-use Rattle.smith_core.specs.declared.types.ExportKind.{ExportKind}
-use Rattle.smith_core.specs.declared.types.ExportKind.TheVariants as kind
-use Rattle.smith_core.specs.declared.types.ValType.TheVariants.{I32}
-use Rattle.smith_core.specs.contracts.types.ExportKindPartialEq.TheImpl.{ghosts as kinds}
+use Rattle.smith_format.specs.CoreTypes.{Function}
+use Rattle.smith_format.specs.Entities.{CoreImport, kind_of}
+use Rattle.smith_format.specs.Equality.{same_val}
+use Rattle.smith_format.specs.declared.types.EntityType.{EntityType}
+use Rattle.smith_format.specs.declared.types.EntityType.TheVariants.{Func, Table, Memory, Global, Tag}
+use Rattle.smith_format.specs.declared.types.ExportKind.{ExportKind}
+use Rattle.smith_format.specs.declared.types.ExportKind.TheVariants as kind
+use Rattle.smith_format.specs.declared.types.ValType.TheVariants.{I32}
+use Rattle.smith_format.specs.contracts.types.ExportKindPartialEq.TheImpl.{ghosts as kinds}
 use Rattle.smith_syntax.specs.Entries.{CoreEntry, ModuleDecl, core_func, core_module, imports, declares, aliases, exports}
 
 -- a core function type, where it is one

@@ -3,7 +3,7 @@ use Rattle.std.specs.Prelude.{ℕ, Bool, false, List, [], ◌∷◌, Option, Som
 use Rattle.std.specs.List.{flat_map}
 use Rattle.std.specs.declared.alloc.Global.{Global}
 use Rattle.std.specs.declared.rc.Rc.{Rc}
-use Rattle.smith_core.specs.CoreTypes.{Function, shown_func}
+use Rattle.smith_format.specs.CoreTypes.{Function, shown_func}
 use Rattle.smith_syntax.specs.Entries.{DefValType, primitive_type, record_type, variant_type, list_type, tuple_type, flags_type, enum_type, option_type, result_type}
 use Rattle.smith_syntax.specs.Entries.{EntryOf, FullEntry, FullDecl, FullDecls, component_type, instance_type, core_type_decl, type_decl, type_alias, core_type_alias, import_decl, export_decl}
 use Rattle.smith_syntax.specs.Entries.{keeps_type, keeps_core_type, keeps_functions, in_order, plain, plain_decl}

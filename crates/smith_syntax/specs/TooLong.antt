@@ -1,8 +1,6 @@
 -- Which types have no encoding, since a count, the length of a name or an index in them passes 4,294,967,295.
-use Rattle.std.specs.Prelude.{ℕ, ◌⊎◌, Bool, true, false, List, length, Option, Some, None}
-use Rattle.std.specs.List.{Any}
-use Rattle.std.specs.Str.{IsUtf8}
-use Rattle.smith_core.specs.TooLong.{Passes, FunctionTooLong, EntityTooLong}
+use Rattle.std.specs.Prelude.{ℕ, ◌⊎◌, Bool, true, false, List, Option, Some, None}
+use Rattle.smith_format.specs.TooLong.{Passes, NameTooLong, ListTooLong, FunctionTooLong, EntityTooLong}
 use Rattle.smith_syntax.specs.Entries.{DefValType, primitive_type, record_type, variant_type, list_type, tuple_type, flags_type, enum_type, option_type, result_type}
 use Rattle.smith_syntax.specs.Entries.{Field, Case, Entry, defined, function, component_type, instance_type, CoreEntry, core_func, core_module, ModuleDecl, imports, declares, aliases, exports}
 use Rattle.smith_syntax.specs.Entries.{ImportEntry, Decl, Decls, core_type_decl, type_decl, type_alias, core_type_alias, import_decl, export_decl, no_decls, then_decls, decl_count}
@@ -10,10 +8,6 @@ use Rattle.smith_syntax.specs.declared.deftype.ComponentTypeRef.{ComponentTypeRe
 use Rattle.smith_syntax.specs.declared.deftype.ComponentTypeRef.TheVariants as to
 use Rattle.smith_syntax.specs.declared.types.ComponentValType.{ComponentValType}
 use Rattle.smith_syntax.specs.declared.types.ComponentValType.TheVariants.{Primitive, Indexed}
-
--- a name that is too long, or is no UTF-8, which each name of the program is
-abbrev pub NameTooLong : List ℕ → Type 0
-NameTooLong n = Passes (length n) ⊎ (¬ IsUtf8 n)
 
 abbrev pub ValTooLong : ComponentValType → Type 0
 ValTooLong (Primitive p) = ⊥
@@ -28,10 +22,6 @@ FieldTooLong f = NameTooLong f.0 ⊎ ValTooLong f.1
 
 abbrev pub CaseTooLong : Case → Type 0
 CaseTooLong c = NameTooLong c.0 ⊎ MaybeTooLong c.1
-
--- the count of a list, or one of its items
-abbrev pub ListTooLong : {A : Type 0} → (A → Type 0) → List A → Type 0
-ListTooLong P xs = Passes (length xs) ⊎ Any P xs
 
 abbrev pub DefinedTooLong : DefValType → Type 0
 DefinedTooLong (primitive_type p) = ⊥

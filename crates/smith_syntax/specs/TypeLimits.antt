@@ -1,6 +1,6 @@
 -- The limits of a config within a type, and how many scopes a type opens.
 use Rattle.std.specs.Prelude.{ℕ, ◌+◌, ◌≤◌, max}
-use Rattle.smith_core.specs.declared.config.Config.{Config}
+use Rattle.smith_format.specs.declared.config.Config.{Config}
 use Rattle.smith_syntax.specs.CoreLimits.{CoreLimits}
 use Rattle.smith_syntax.specs.Entries.{Entry, defined, function, component_type, instance_type}
 use Rattle.smith_syntax.specs.Entries.{Decl, Decls, core_type_decl, type_decl, type_alias, core_type_alias, import_decl, export_decl, no_decls, then_decls, decl_count}

@@ -1,6 +1,6 @@
 //! Core types that a component declares (Explainer.md, core type definitions).
 
-use smith_core::{EntityType, FuncType, Import};
+use smith_format::{EntityType, FuncType, Import};
 use std::rc::Rc;
 
 /// A core type.

@@ -9,8 +9,8 @@ mod externs;
 mod values;
 
 ghost use Rattle.std.specs.Prelude.{◌≤◌};
-ghost use Rattle.smith_core.specs.Piece.{◌⊕◌, byte, bytes};
-ghost use Rattle.smith_core.specs.Writing.{Puts, Appends, Takes, IsLengthOf};
+ghost use Rattle.smith_format.specs.Piece.{◌⊕◌, byte, bytes};
+ghost use Rattle.smith_format.specs.Writing.{Puts, Appends, Takes, IsLengthOf};
 ghost use Rattle.smith_syntax.specs.Grammar.{valtype, resultlist, functype, entry};
 ghost use Rattle.smith_syntax.specs.Shown.{shown_type, shown_shared};
 
@@ -21,7 +21,7 @@ pub use core_types::{core_type_len, write_core_type};
 use declarations::put_type;
 pub use declarations::type_len;
 pub use externs::{import_len, write_import};
-use smith_core::{Spelled, put_tagged, tagged_len, write_byte, write_bytes, write_spelled};
+use smith_format::{Spelled, put_tagged, tagged_len, write_byte, write_bytes, write_spelled};
 use smith_input::Error;
 use std::rc::Rc;
 pub use values::ComponentFormat;

@@ -1,7 +1,7 @@
 //! Laws of types. Each function does nothing: its contract is the law.
 
 ghost use Rattle.std.specs.Prelude.{◌≡◌, ◌↔◌, ℕ, true, List, None};
-ghost use Rattle.smith_core.specs.Clear.{IsClear};
+ghost use Rattle.smith_format.specs.Clear.{IsClear};
 ghost use Rattle.smith_syntax.specs.Entries.{Signature, Entry, function, CoreEntry};
 ghost use Rattle.smith_syntax.specs.Grammar.{valtype, maybe_valtype, entry, core_entry, named_extern};
 ghost use Rattle.smith_syntax.specs.Shown.{shown_type, has_signature};

@@ -7,7 +7,7 @@ use Rattle.smith_input.specs.Kebab.{Kebab}
 use Rattle.smith_input.specs.Names.{ReadsNew}
 use Rattle.smith_input.proofs.NewNames.{new_kebab}
 use Rattle.smith_input.proofs.ReadingLemmas.{more_within}
-use Rattle.smith_core.specs.declared.config.Config.{Config}
+use Rattle.smith_format.specs.declared.config.Config.{Config}
 use Rattle.smith_syntax.specs.Entries.{EntryOf, DeclOf, DeclsOf, defined, function, component_type, instance_type, core_type_decl, type_decl, type_alias, core_type_alias, import_decl, export_decl, no_decls, then_decls}
 use Rattle.smith_syntax.specs.Entries.{FullEntry, FullDecl, FullDecls, plain, plain_decl, plain_decls}
 use Rattle.smith_syntax.specs.Scope.{Scope, with_type, after_decl}

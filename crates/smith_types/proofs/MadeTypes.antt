@@ -6,7 +6,7 @@ use Rattle.std.specs.Prelude.{max}
 use Rattle.smith_input.specs.Reading.{IsTail}
 use Rattle.smith_input.proofs.Choices.{among_tail}
 use Rattle.smith_input.proofs.ReadingLemmas.{tail_trans, more_tail, more_within}
-use Rattle.smith_core.specs.declared.config.Config.{Config}
+use Rattle.smith_format.specs.declared.config.Config.{Config}
 use Rattle.smith_syntax.specs.Entries.{FullEntry, FullDecl, FullDecls, plain, plain_decl, plain_decls, decl_count}
 use Rattle.smith_syntax.specs.Scope.{Scope, own_of, outer_of}
 use Rattle.smith_syntax.specs.TypeLimits.{EntryLimits, DeclLimits, DeclsLimits, nesting, decl_nesting, decls_nesting}

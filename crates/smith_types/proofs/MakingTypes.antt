@@ -1,6 +1,6 @@
 -- Types as the program makes them, by kind and by sort of declaration.
 use Rattle.std.proofs.Common.{◌≡◌, ℕ, zero, suc, ◌-◌, ◌<◌, Bool, List, [], ◌++◌, refl, sym, ap, ◌∙◌, subst, arith, append-nil}
-use Rattle.smith_core.specs.declared.config.Config.{Config}
+use Rattle.smith_format.specs.declared.config.Config.{Config}
 use Rattle.smith_input.specs.Choices.{ReadsAmong}
 use Rattle.smith_syntax.specs.Entries.{FullEntry, FullDecl}
 use Rattle.smith_syntax.specs.Scope.{Scope}

@@ -12,7 +12,7 @@ use Rattle.smith_input.specs.Names.{ReadsNew}
 use Rattle.smith_input.proofs.Choices.{among_read}
 use Rattle.smith_input.proofs.Picks.{reads-pick}
 use Rattle.smith_input.proofs.ReadingLemmas.{flips_one, flips_zero}
-use Rattle.smith_core.specs.declared.config.Config.{Config}
+use Rattle.smith_format.specs.declared.config.Config.{Config}
 use Rattle.smith_syntax.specs.Entries.{DefValType, primitive_type, record_type, variant_type, list_type, tuple_type, flags_type, enum_type, option_type, result_type}
 use Rattle.smith_syntax.specs.Entries.{Field, Case, Signature, Entry, defined, function, component_type, instance_type}
 use Rattle.smith_types.specs.Script.{primitives, defined_kinds, type_kinds}

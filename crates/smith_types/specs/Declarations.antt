@@ -5,7 +5,7 @@ use Rattle.smith_input.specs.Choices.{ReadsAmong}
 use Rattle.smith_input.specs.Names.{ReadsNew}
 use Rattle.smith_input.specs.Reading.{Reads, Flips}
 use Rattle.smith_input.specs.Script.{offers_of}
-use Rattle.smith_core.specs.declared.config.Config.{Config}
+use Rattle.smith_format.specs.declared.config.Config.{Config}
 use Rattle.smith_syntax.specs.Entries.{FullDecl, type_alias, core_type_alias, import_decl, export_decl, keeps_type, keeps_core_type}
 use Rattle.smith_syntax.specs.Scope.{Scope, empty_scope, places, is_core_module, after_decl}
 use Rattle.smith_syntax.specs.declared.deftype.ComponentTypeRef.{ComponentTypeRef}

@@ -9,7 +9,7 @@ use Rattle.smith_syntax.specs.Entries.{DefValType, primitive_type, record_type, 
 use Rattle.smith_syntax.specs.Entries.{Signature, Entry, FullEntry, FullDecl, FullDecls, defined, function, component_type, instance_type, plain}
 use Rattle.smith_syntax.specs.Entries.{core_type_decl, type_decl, no_decls, then_decls, keeps_functions, CoreEntry}
 use Rattle.smith_syntax.specs.Scope.{Scope, defined_places}
-use Rattle.smith_core.specs.declared.config.Config.{Config}
+use Rattle.smith_format.specs.declared.config.Config.{Config}
 use Rattle.smith_types.specs.Declarations.{SoFar, nothing_so_far, after_one, ReadsAlias, ReadsExport, ReadsImport, declaration_items, NoImport}
 use Rattle.smith_core_types.specs.MadeCore.{MadeCore, named_by_core}
 use Rattle.smith_types.specs.Script.{primitives, defined_kinds, type_kinds}

@@ -1,6 +1,6 @@
 -- A type as the program makes it: what it keeps beside the declarations, and what one call adds.
 use Rattle.std.specs.Prelude.{◌≡◌, ℕ, ◌<◌, ◌≤◌, Bool, true, false, List, [], ◌∷◌, drop, length, reverse, Option, None, Some}
-use Rattle.smith_core.specs.declared.config.Config.{Config}
+use Rattle.smith_format.specs.declared.config.Config.{Config}
 use Rattle.smith_input.specs.Names.{Holds}
 use Rattle.smith_syntax.specs.Entries.{Kept, keeps_type, keeps_core_type, import_decl, export_decl, type_alias, core_type_alias}
 use Rattle.smith_syntax.specs.Entries.{Signature, CoreEntry, DefValType, FullEntry, FullDecl, FullDecls, defined, function, component_type, instance_type, core_type_decl, type_decl, then_decls, keeps_functions}

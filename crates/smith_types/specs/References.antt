@@ -2,7 +2,7 @@
 use Rattle.std.specs.Prelude.{◌≡◌, ℕ, Bool, ◌&&◌, ◌||◌, not, List, [], ◌∷◌, length, nat_lt, Option, Some, None}
 use Rattle.smith_input.specs.Choices.{ReadsAmong}
 use Rattle.smith_input.specs.Script.{offers_of}
-use Rattle.smith_core.specs.declared.config.Config.{Config}
+use Rattle.smith_format.specs.declared.config.Config.{Config}
 use Rattle.smith_syntax.specs.Scope.{Scope, places, is_func, is_component, is_instance, is_core_module}
 use Rattle.smith_syntax.specs.declared.deftype.ComponentTypeRef.{ComponentTypeRef}
 use Rattle.smith_syntax.specs.declared.deftype.ComponentTypeRef.TheVariants as to

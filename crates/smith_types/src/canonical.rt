@@ -3,7 +3,7 @@
 ghost use Rattle.std.specs.Prelude.{◌≡◌, true, [], map, Some, IfOk, IfErr};
 ghost use Rattle.std.specs.List.{AllByRecursion, list_all};
 ghost use Rattle.std.specs.Option.{is_some};
-ghost use Rattle.smith_core.specs.CoreTypes.{shown_func};
+ghost use Rattle.smith_format.specs.CoreTypes.{shown_func};
 ghost use Rattle.smith_input.specs.Choices.{ReadsAmong};
 ghost use Rattle.smith_input.specs.Reading.{IsTail};
 ghost use Rattle.smith_syntax.specs.Flat.{flat_primitive, flat_value, is_scalar, Flattens};
@@ -11,7 +11,7 @@ ghost use Rattle.smith_syntax.specs.Signature.{named};
 ghost use Rattle.smith_syntax.specs.WellFormed.{Named};
 ghost use Rattle.smith_types.specs.Lifting.{lifted, IsLiftable, IsLiftableFunction, ReadsParams, ReadsLifted};
 
-use smith_core::ValType;
+use smith_format::ValType;
 use smith_input::{Error, Unstructured, unique_kebab_string};
 use smith_syntax::{ComponentValType, FuncType, PrimitiveValType};
 use std::alloc::Global;
@@ -79,7 +79,7 @@ fn flat_params(alloc: Global, params: &[(String, ComponentValType)]) -> Result<V
 
 /// The core function type that a scalar function type flattens to: a core value type for each parameter, and one for
 /// the result. It refuses for want of memory alone.
-pub fn canonical_abi_for(alloc: Global, func: &FuncType) -> Result<Rc<smith_core::FuncType>, Error>
+pub fn canonical_abi_for(alloc: Global, func: &FuncType) -> Result<Rc<smith_format::FuncType>, Error>
     requires { is_scalar func.now ≡ true }
     ensures flattens { IfOk result (λ f. Flattens func.now (shown_func f.value)) }
     ensures memory { IfErr result (λ e. e ≡ Error.OutOfMemory) }
@@ -87,7 +87,7 @@ pub fn canonical_abi_for(alloc: Global, func: &FuncType) -> Result<Rc<smith_core
     let params = flat_params(alloc, &func.params)?;
     let mut results = Vec::new(alloc);
     results.push(flat_value(func.result.unwrap()).unwrap())?;
-    let core = Rc::new(alloc, smith_core::FuncType { params, results })?;
+    let core = Rc::new(alloc, smith_format::FuncType { params, results })?;
     Ok(core)
 }
 
@@ -139,7 +139,7 @@ fn lifted_params(
 pub fn inverse_scalar_canonical_abi_for(
     alloc: Global,
     u: &mut Unstructured,
-    core: &smith_core::FuncType,
+    core: &smith_format::FuncType,
 ) -> Result<FuncType, Error>
     requires liftable { IsLiftableFunction (shown_func core.now) }
     ensures reads { IfOk result (λ f. ReadsLifted (shown_func core.now) u.old f u.new) }

@@ -1,7 +1,7 @@
 //! Laws of how types are read. Each function does nothing: its contract is the law.
 
 ghost use Rattle.std.specs.Prelude.{◌≤◌, ◌^◌, ℕ, List, length};
-ghost use Rattle.smith_core.specs.declared.config.Config.{Config};
+ghost use Rattle.smith_format.specs.declared.config.Config.{Config};
 ghost use Rattle.smith_input.specs.Reading.{IsDecided, IsReadAs};
 ghost use Rattle.smith_syntax.specs.Entries.{Entry, FullEntry};
 ghost use Rattle.smith_syntax.specs.Scope.{Scope};

@@ -11,7 +11,7 @@ mod values;
 
 ghost use Rattle.std.specs.Prelude.{◌≡◌, ◌+◌, ◌≤◌, length, max, IfOk, IfErr};
 ghost use Rattle.smith_input.specs.Reading.{IsTail};
-ghost use Rattle.smith_core.specs.Limits.{configured, IsConsistent};
+ghost use Rattle.smith_format.specs.Limits.{configured, IsConsistent};
 ghost use Rattle.smith_types.specs.Made.{Made};
 ghost use Rattle.smith_scopes.specs.Scopes.{own_scope, outer_scopes};
 ghost use Rattle.smith_syntax.specs.Shown.{full_type, shown_shared};
@@ -23,7 +23,7 @@ pub use defined::DefinedKind;
 pub use externs::{ExternNames, named_extern};
 pub use references::{RefKind, RefTotals, arbitrary_type_ref};
 use scoped::made_type;
-use smith_core::{Config, ValType};
+use smith_format::{Config, ValType};
 use smith_input::{Error, Unstructured};
 use smith_scopes::Scopes;
 use smith_syntax::DefType;

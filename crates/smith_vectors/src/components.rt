@@ -1,7 +1,7 @@
 //! Components from inputs.
 
 use crate::common::{PREAMBLE, Row, check, small_limits};
-use smith_component::{Component, Config, Unstructured};
+use smith_component::{Component, Config, Error, Unstructured, generate};
 use std::test::Fail;
 
 #[test]
@@ -74,6 +74,15 @@ fn components_within_small_limits(rt: HostRuntime) -> Result<(), Fail> {
             leaves: b"",
         },
         Row {
+            name: "an embedded module with a type and a memory",
+            input: b"\x06\x01\x00\x00\x00\x01\x01\x00\x00",
+            gives: &[
+                1, 19, 0x00, 0x61, 0x73, 0x6d, 0x01, 0x00, 0x00, 0x00, 1, 4, 1, 0x60, 0, 0, 5, 3,
+                1, 0, 1,
+            ],
+            leaves: b"",
+        },
+        Row {
             name: "both components close at the end of input",
             input: b"\x07",
             gives: &[4, 8, 0x00, 0x61, 0x73, 0x6d, 0x0d, 0x00, 0x01, 0x00],
@@ -142,4 +151,21 @@ fn the_empty_input_gives_the_empty_component_call_by_call(rt: HostRuntime) -> Re
     assert_eq!(rt; component.to_bytes(rt.alloc())?.as_slice(), PREAMBLE);
     assert_eq!(rt; component.measure()?, 8);
     Ok(())
+}
+
+#[test]
+fn a_module_without_memories_to_have_is_refused_where_it_is_chosen(rt: HostRuntime) {
+    let config = Config {
+        min_memories: 2,
+        ..small_limits()
+    };
+    let mut u = Unstructured::new(b"\x06\x01");
+    let refused = generate(rt.alloc(), config, &mut u).err();
+    assert_eq!(rt; refused, Some(Error::ModuleRefused));
+    assert_eq!(rt; u.left(), b"\x01".as_slice());
+    let mut u = Unstructured::new(b"\x07\x06");
+    let refused = generate(rt.alloc(), config, &mut u).err();
+    assert_eq!(rt; refused, Some(Error::ModuleRefused));
+    let mut u = Unstructured::new(b"\x00\x06");
+    assert!(rt; generate(rt.alloc(), config, &mut u).is_ok());
 }

@@ -1,7 +1,7 @@
 //! Core types as they are read and written. The bytes are those of the core specification's and DWARF's examples, or
 //! worked out by hand from the core specification's binary format.
 
-use smith_core::{
+use smith_format::{
     Config, EntityType, FuncType, GlobalType, Import, MemoryType, RefType, TableType, TagType,
     ValType, arbitrary_func_type, arbitrary_memtype, arbitrary_table_type, arbitrary_tag_type,
     core_import_len, core_val_len, entity_len, func_type_len, write_core_import, write_core_val,

@@ -2,8 +2,13 @@
 
 use crate::common::PREAMBLE;
 use smith_component::{Component, Config, Unstructured, generate};
+use smith_types::{
+    Alias, DefType, DefinedType, InstanceType, InstanceTypeDecl, OuterAliasKind, PrimitiveValType,
+    Scopes,
+};
 use std::alloc::AllocError;
 use std::process::Abort;
+use std::rc::Rc;
 use std::test::Fail;
 
 #[test]
@@ -54,8 +59,8 @@ fn a_thousand_components_are_written_and_dropped(rt: HostRuntime) -> Result<(), 
     Ok(())
 }
 
-// Each component is measured once, when it is finished, and not again at each depth that it stands at: a measure at
-// each depth would make this take some 300 times as long. 1 MiB of such input took 42 times longer at a depth of 1000
+// Modules that may have neither types nor memories read nothing. Each component is measured once, when it is finished,
+// and not again at each depth that it stands at: a measure at each depth would make this take some 300 times as long. 1 MiB of such input took 42 times longer at a depth of 1000
 // than at a depth of 2.
 #[test]
 fn components_at_each_depth_are_written_in_linear_time(rt: HostRuntime) -> Result<(), Fail> {
@@ -63,6 +68,8 @@ fn components_at_each_depth_are_written_in_linear_time(rt: HostRuntime) -> Resul
         max_modules: 60_000,
         max_components: 60_000,
         max_nesting_depth: 1000,
+        max_types: 0,
+        max_memories: 0,
         ..Config::default()
     };
     let mut input = Vec::new(rt.alloc());
@@ -140,6 +147,31 @@ fn a_hundred_thousand_sections_that_name_the_one_before(rt: HostRuntime) -> Resu
     assert_eq!(rt; generated.bytes.len(), 8 + 100_000 * 3 + types);
     let end = b"\x07\x0a\x01\x41\x01\x02\x03\x02\x01\x9e\x8d\x06";
     assert!(rt; generated.bytes.ends_with(end));
+    Ok(())
+}
+
+// A stack of scopes holds the types, each of which names the one before, and but for the last nothing else does.
+#[test]
+fn scopes_of_a_hundred_thousand_types_are_dropped(rt: HostRuntime) -> Result<(), Fail> {
+    let alloc = rt.alloc();
+    let mut scopes = Scopes::new(alloc);
+    let first = DefType::Defined(DefinedType::Primitive(PrimitiveValType::Bool));
+    let mut before = Rc::new(alloc, first)?;
+    scopes.push_type(Rc::clone(&before)?)?;
+    for last in 0..99_999u32 {
+        let mut defs = Vec::new(alloc);
+        defs.push(InstanceTypeDecl::Alias(Alias {
+            count: 1,
+            i: last,
+            kind: OuterAliasKind::OfType(before),
+        }))?;
+        let ty = Rc::new(alloc, InstanceType { defs })?;
+        before = Rc::new(alloc, DefType::Instance(ty))?;
+        assert_eq!(rt; scopes.depth(), 1);
+        assert!(rt; scopes.len(0) < 100_000);
+        scopes.push_type(Rc::clone(&before)?)?;
+    }
+    assert_eq!(rt; scopes.own_len(), 100_000);
     Ok(())
 }
 

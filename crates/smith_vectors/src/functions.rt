@@ -179,6 +179,28 @@ fn the_url_of_an_import_is_kept(rt: HostRuntime) -> Result<(), Fail> {
 }
 
 #[test]
+fn a_url_that_is_taken_is_made_new(rt: HostRuntime) -> Result<(), Fail> {
+    let input =
+        b"\x03\x01\x01\x00\x00\x00\x04\x01\x01\x00\x01\x01\x00\x01\x01\x01\x01\x01\x00\x00\x00" as &[u8];
+    let mut u = Unstructured::new(input);
+    let generated = generate(rt.alloc(), small_limits(), &mut u)?;
+    let Some(Section::Imports(section)) = generated.component.sections().get(1) else {
+        assert!(&rt; false, "no import section");
+        return Ok(());
+    };
+    let expected = [
+        ("a", "https://example.com/a"),
+        ("b", "https://example.com/a1"),
+    ];
+    assert_eq!(rt; section.imports.len(), expected.len());
+    for (import, (name, url)) in section.imports.iter().zip(&expected) {
+        assert_eq!(rt; import.name.as_str(), *name);
+        assert_eq!(rt; import.url.as_deref(), Some(*url));
+    }
+    Ok(())
+}
+
+#[test]
 fn canonical_functions_by_their_indexes(rt: HostRuntime) -> Result<(), Fail> {
     let input =
         b"\x03\x01\x01\x01\x01\x00\x06\x00\x01\x00\x00\x04\x01\x01\x01\x00\x00\x05\x01\x01\x01\x01\x01\x00\x00\x00\x00" as &[u8];

@@ -22,6 +22,12 @@ mod hashes;
 #[cfg(test)]
 mod limits;
 #[cfg(test)]
+mod module_parts;
+#[cfg(test)]
+mod module_sections;
+#[cfg(test)]
+mod modules;
+#[cfg(test)]
 mod names;
 #[cfg(test)]
 mod nested_types;

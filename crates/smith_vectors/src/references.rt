@@ -40,7 +40,7 @@ fn empty_core_type(alloc: Global, kind: Kind) -> Result<CoreType, Fail> {
         return Ok(CoreType::Module(Rc::new(alloc, ModuleType { defs })?));
     }
     let params: Vec<ValType> = Vec::new(alloc);
-    let func = smith_core::FuncType {
+    let func = smith_format::FuncType {
         params,
         results: Vec::new(alloc),
     };

@@ -74,9 +74,9 @@ fn of_i32<R: Abort + AllocGlobal>(
     rt: &R,
     params: usize,
     results: usize,
-) -> Result<Rc<smith_core::FuncType>, Fail> {
+) -> Result<Rc<smith_format::FuncType>, Fail> {
     let alloc = rt.alloc();
-    let func = smith_core::FuncType {
+    let func = smith_format::FuncType {
         params: Vec::from_elem(alloc, ValType::I32, params)?,
         results: Vec::from_elem(alloc, ValType::I32, results)?,
     };

@@ -4,7 +4,7 @@ ghost use Rattle.std.specs.Prelude.{◌≡◌, ◌+◌, ◌-◌, ◌<◌, ◌≤
 ghost use Rattle.smith_input.specs.Choices.{ReadsAmong};
 ghost use Rattle.smith_input.specs.Loops.{Loop};
 ghost use Rattle.smith_input.specs.Reading.{IsTail};
-ghost use Rattle.smith_core.specs.Limits.{IsConsistent};
+ghost use Rattle.smith_format.specs.Limits.{IsConsistent};
 ghost use Rattle.smith_scopes.specs.Scopes.{own_scope, outer_scopes};
 ghost use Rattle.smith_component.specs.Canonicals.{CanonTurn, Growing, NoCanon, ReadsCanons, ReadsLift, ReadsLower, grown, with_defined};
 ghost use Rattle.smith_component.specs.Draft.{IsDraft, IsDrafted, IsLowered, LiftsAs, KeepsFront, canon_items_of, growing};
@@ -18,7 +18,7 @@ use crate::builder::open::OpenComponent;
 use crate::builder::tables::Tables;
 use crate::component::{CanonicalSection, Func, Section, TypeSection};
 use crate::item::CanonItem;
-use smith_core::Config;
+use smith_format::Config;
 use smith_input::{Error, Unstructured, choose_offered};
 use smith_types::{DefType, FuncType, Scopes, canonical_abi_for, inverse_scalar_canonical_abi_for};
 use std::alloc::Global;

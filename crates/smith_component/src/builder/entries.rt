@@ -3,15 +3,15 @@
 ghost use Rattle.std.specs.Prelude.{◌≡◌, ℕ, ◌+◌, ◌<◌, ◌≤◌, List, map, length, IfOk, IfErr};
 ghost use Rattle.smith_input.specs.Loops.{Loop, Never};
 ghost use Rattle.smith_input.specs.Reading.{IsTail};
-ghost use Rattle.smith_core.specs.Limits.{configured, IsConsistent};
-ghost use Rattle.smith_core.specs.declared.config.Config.{Config};
+ghost use Rattle.smith_format.specs.Limits.{configured, IsConsistent};
+ghost use Rattle.smith_format.specs.declared.config.Config.{Config};
 ghost use Rattle.smith_scopes.specs.Scopes.{own_scope, outer_scopes};
 ghost use Rattle.smith_syntax.specs.Entries.{Entry, CoreEntry};
 ghost use Rattle.smith_syntax.specs.Scope.{Scope};
 ghost use Rattle.smith_syntax.specs.Shown.{shown_shared, shown_shared_core};
 ghost use Rattle.smith_component.specs.Turn.{ReadsType, ReadsCoreType};
 
-use smith_core::{Config, ValType};
+use smith_format::{Config, ValType};
 use smith_input::{Error, Unstructured};
 use smith_types::{CoreType, DefType, Scopes, arbitrary_core_type, arbitrary_type};
 use std::alloc::Global;

@@ -1,86 +1,69 @@
 //! Components are finished, when they have what they must have.
 
-ghost use Rattle.std.specs.Prelude.{◌≡◌, ◌≤◌, ℕ, List, length, IfOk, IfErr};
+ghost use Rattle.std.specs.Prelude.{◌≡◌, ℕ, List, IfOk, IfErr};
 ghost use Rattle.smith_input.specs.Reading.{IsTail};
+ghost use Rattle.smith_format.specs.Limits.{IsConsistent};
 ghost use Rattle.smith_component.specs.Building.{open_of};
+ghost use Rattle.smith_component.specs.Counted.{count_of, minimum_of};
 ghost use Rattle.smith_component.specs.Limits.{Minima};
 ghost use Rattle.smith_component.specs.Refusals.{IsFillRefusal, IsMinimum};
 ghost use Rattle.smith_component.specs.Scripted.{Follows};
 ghost use Rattle.smith_component.specs.Steps.{next_of, AddsSections, ClosesSections, KeepsSections, StaysSound};
-ghost use Rattle.smith_component.specs.Tree.{function_count, imports_of, types_of};
-ghost use Rattle.smith_component.specs.Turn.{Next, Closes, Does, FillsAll, FillsTypes, FillsImports, FillsFunctions};
+ghost use Rattle.smith_component.specs.Turn.{Next, Closes, Does, Fills, FillsAll};
 ghost use Rattle.smith_component.specs.declared.item.Item.TheVariants.{Finish};
 
 use crate::builder::{Builder, Step};
 use crate::component::{Component, Section};
+use crate::item::Counted;
 use smith_input::{Error, Unstructured};
 use std::mem;
 
 impl Builder {
-    // Adds the types that lack.
-    fn fill_types(self, u: &mut Unstructured) -> Result<Builder, Error>
-        ensures filled { IfOk result (λ b. FillsTypes self.config (open_of self) u.old (open_of b).inner u.new) }
-        ensures enough { IfOk result (λ b. self.config.min_types ≤ length (types_of (open_of b).inner)) }
+    // How many the inner component has.
+    fn count(&self, what: Counted) -> usize
+        ensures { result ≡ count_of what (open_of self.now).inner }
+    {
+        match what {
+            Counted::Types => self.scopes.own_len(),
+            Counted::Imports => self.inner.tables.imports.len(),
+            Counted::Functions => self.inner.tables.function_count(),
+        }
+    }
+
+    // How many it must have. The limits fit together.
+    fn minimum(&self, what: Counted) -> usize
+        ensures least { result ≡ minimum_of what self.now.config }
+        ensures accepted { IsConsistent self.now.config }
+    {
+        match what {
+            Counted::Types => self.config.min_types,
+            Counted::Imports => self.config.min_imports,
+            Counted::Functions => self.config.min_funcs,
+        }
+    }
+
+    // Adds what lacks of a minimum, as far as it can be added.
+    fn fill_one(self, what: Counted, u: &mut Unstructured) -> Result<Builder, Error>
+        ensures filled { IfOk result (λ b. Fills what self.config (open_of self) u.old (open_of b).inner u.new) }
+        ensures accepted { IsConsistent self.config }
         ensures keeps { IfOk result (λ b. b.config ≡ self.config) }
         ensures sections { IfOk result (AddsSections self) }
         ensures memory { IfErr result (λ e. e ≡ Error.OutOfMemory) }
         ensures tail { IsTail u.new u.old }
     {
-        let count = self.scopes.own_len();
-        if self.config.min_types <= count {
+        let count = self.count(what);
+        let minimum = self.minimum(what);
+        if minimum <= count {
             return Ok(self);
         }
-        let missing = self.config.min_types - count;
-        self.add_types(missing, u)
+        self.add(what, minimum - count, u)
     }
 
-    // Adds the imports that lack, as far as there is something to import.
-    fn fill_imports(self, u: &mut Unstructured) -> Result<Builder, Error>
-        ensures filled { IfOk result (λ b. FillsImports self.config (open_of self) u.old (open_of b).inner u.new) }
-        ensures keeps { IfOk result (λ b. b.config ≡ self.config) }
-        ensures sections { IfOk result (AddsSections self) }
-        ensures memory { IfErr result (λ e. e ≡ Error.OutOfMemory) }
-        ensures tail { IsTail u.new u.old }
+    // Is that minimum met?
+    fn check_minimum(&self, what: Counted) -> Result<(), Error>
+        ensures { IsMinimum result (minimum_of what self.now.config) (count_of what (open_of self.now).inner) }
     {
-        let count = self.inner.tables.imports.len();
-        if self.config.min_imports <= count {
-            return Ok(self);
-        }
-        let missing = self.config.min_imports - count;
-        self.add_imports(missing, u)
-    }
-
-    // Adds the functions that lack, as far as they can be lowered and lifted.
-    fn fill_functions(self, u: &mut Unstructured) -> Result<Builder, Error>
-        ensures filled { IfOk result (λ b. FillsFunctions self.config (open_of self) u.old (open_of b).inner u.new) }
-        ensures keeps { IfOk result (λ b. b.config ≡ self.config) }
-        ensures sections { IfOk result (AddsSections self) }
-        ensures memory { IfErr result (λ e. e ≡ Error.OutOfMemory) }
-        ensures tail { IsTail u.new u.old }
-    {
-        let count = self.inner.tables.function_count();
-        if self.config.min_funcs <= count {
-            return Ok(self);
-        }
-        let missing = self.config.min_funcs - count;
-        self.add_canonicals(missing, u)
-    }
-
-    // Has the inner component the imports that it must have?
-    fn check_imports(&self) -> Result<(), Error>
-        ensures { IsMinimum result self.now.config.min_imports (length (imports_of (open_of self.now).inner)) }
-    {
-        if self.inner.tables.imports.len() < self.config.min_imports {
-            return Err(Error::MinimumNotMet);
-        }
-        Ok(())
-    }
-
-    // Has it the functions that it must have?
-    fn check_functions(&self) -> Result<(), Error>
-        ensures { IsMinimum result self.now.config.min_funcs (function_count (open_of self.now).inner) }
-    {
-        if self.inner.tables.function_count() < self.config.min_funcs {
+        if self.count(what) < self.minimum(what) {
             return Err(Error::MinimumNotMet);
         }
         Ok(())
@@ -95,11 +78,11 @@ impl Builder {
         ensures refuses { IfErr result (IsFillRefusal self.config (open_of self) u.old) }
         ensures tail { IsTail u.new u.old }
     {
-        let typed = self.fill_types(u)?;
-        let imported = typed.fill_imports(u)?;
-        imported.check_imports()?;
-        let full = imported.fill_functions(u)?;
-        full.check_functions()?;
+        let typed = self.fill_one(Counted::Types, u)?;
+        let imported = typed.fill_one(Counted::Imports, u)?;
+        imported.check_minimum(Counted::Imports)?;
+        let full = imported.fill_one(Counted::Functions, u)?;
+        full.check_minimum(Counted::Functions)?;
         Ok(full)
     }
 

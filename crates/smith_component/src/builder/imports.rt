@@ -3,7 +3,7 @@
 ghost use Rattle.std.specs.Prelude.{◌≡◌, ◌≤◌, [], List, map, IfOk, IfErr};
 ghost use Rattle.smith_input.specs.Reading.{IsTail};
 ghost use Rattle.smith_input.specs.Loops.{Loop};
-ghost use Rattle.smith_core.specs.Limits.{IsConsistent};
+ghost use Rattle.smith_format.specs.Limits.{IsConsistent};
 ghost use Rattle.smith_syntax.specs.Entries.{ImportEntry};
 ghost use Rattle.smith_syntax.specs.Shown.{import_shown};
 ghost use Rattle.smith_scopes.specs.Scopes.{own_scope};
@@ -13,7 +13,7 @@ ghost use Rattle.smith_component.specs.Open.{Open};
 
 use crate::builder::tables::Tables;
 use crate::builder::totals::TreeTotals;
-use smith_core::Config;
+use smith_format::Config;
 use smith_input::{Error, Unstructured};
 use smith_types::{ComponentTypeRef, Import, Scopes, arbitrary_type_ref, named_extern};
 use std::alloc::Global;

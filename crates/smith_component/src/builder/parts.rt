@@ -2,16 +2,17 @@
 
 ghost use Rattle.std.specs.Prelude.{◌≡◌, ℕ, ◌+◌, ◌≤◌, List, length, IfOk, IfErr, IsTrue};
 ghost use Rattle.smith_input.specs.Reading.{IsTail};
-ghost use Rattle.smith_core.specs.Module.{core_preamble};
+ghost use Rattle.smith_core.specs.StandIn.{IsStandInRefusal};
 ghost use Rattle.smith_component.specs.Sound.{IsAddable, IsQuiet};
 ghost use Rattle.smith_component.specs.Building.{open_of};
 ghost use Rattle.smith_component.specs.Scripted.{Follows};
 ghost use Rattle.smith_component.specs.Shown.{shown_section};
 ghost use Rattle.smith_component.specs.Steps.{next_of, AddsSections, KeepsSections, StaysSound};
-ghost use Rattle.smith_component.specs.Tree.{core_module, types_of, imports_of, function_count};
+ghost use Rattle.smith_component.specs.Tree.{types_of, imports_of, function_count};
 ghost use Rattle.smith_component.specs.Turn.{Next, Does, AddsCanons, AddsImports, AddsTypes, with_part};
 ghost use Rattle.smith_component.specs.Open.{is_module_offered};
 ghost use Rattle.smith_component.specs.declared.item.Item.TheVariants.{Custom, CoreTypes};
+ghost use Rattle.smith_component.specs.declared.item.Item.TheVariants as item;
 
 use crate::builder::canonicals::read_canonicals;
 use crate::builder::entries::read_entries;
@@ -54,15 +55,17 @@ impl Builder {
         self.add_section(Section::Custom(section))
     }
 
-    // A core module without sections.
-    pub(crate) fn add_module(self) -> Result<Step, Error>
+    // A core module that stands for a generated one.
+    pub(crate) fn add_module(self, u: &mut Unstructured) -> Result<Step, Error>
         requires { IsTrue (is_module_offered self.config (open_of self)) }
-        ensures added { IfOk result (λ s. next_of s ≡ with_part (open_of self) (core_module core_preamble)) }
+        ensures added { IfOk result (λ s. Does self.config item.Module (open_of self) u.old (next_of s) u.new) }
         ensures keeps { IfOk result (StaysSound self.config) }
         ensures sections { IfOk result (KeepsSections self) }
-        ensures memory { IfErr result (λ e. e ≡ Error.OutOfMemory) }
+        ensures refuses { IfErr result (IsStandInRefusal self.config) }
+        ensures tail { IsTail u.new u.old }
     {
-        self.add_section(Section::CoreModule(Module::empty()))
+        let module = Module::new_internal(self.alloc, self.config, u)?;
+        self.add_section(Section::CoreModule(module))
     }
 
     // A core type section, with as many core types as the component may still have.

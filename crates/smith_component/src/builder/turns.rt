@@ -1,62 +1,54 @@
-//! Turns that add sections with a minimum of none.
+//! Sections of what has a minimum.
 
-ghost use Rattle.std.specs.Prelude.{◌≡◌, ℕ, List, IfOk, IfErr};
+ghost use Rattle.std.specs.Prelude.{◌≡◌, ℕ, List, ◌+◌, ◌≤◌, IfOk, IfErr};
 ghost use Rattle.smith_input.specs.Reading.{IsTail};
-ghost use Rattle.smith_core.specs.Limits.{IsConsistent};
+ghost use Rattle.smith_format.specs.Limits.{IsConsistent};
 ghost use Rattle.smith_component.specs.Building.{open_of};
+ghost use Rattle.smith_component.specs.Counted.{count_of, item_for, maximum_of};
 ghost use Rattle.smith_component.specs.Limits.{OwnLimits};
 ghost use Rattle.smith_component.specs.Scripted.{Follows};
-ghost use Rattle.smith_component.specs.Steps.{next_of, KeepsSections, StaysSound};
-ghost use Rattle.smith_component.specs.Turn.{Next, Does};
-ghost use Rattle.smith_component.specs.declared.item.Item.TheVariants.{Types, Imports, Canonical};
+ghost use Rattle.smith_component.specs.Steps.{next_of, AddsSections, KeepsSections, StaysSound};
+ghost use Rattle.smith_component.specs.Turn.{Next, Adds, AddsAny};
 
 use crate::builder::{Builder, Step};
+use crate::item::Counted;
 use smith_input::{Error, Unstructured};
 
 impl Builder {
-    // A type section.
-    pub(crate) fn types_turn(self, u: &mut Unstructured) -> Result<Step, Error>
+    // Adds at least so many, as far as they can be added.
+    pub(super) fn add(
+        self,
+        what: Counted,
+        min: usize,
+        u: &mut Unstructured,
+    ) -> Result<Builder, Error>
+        requires room { count_of what (open_of self).inner + min ≤ maximum_of what self.config }
+        ensures added { IfOk result (λ b. Adds what self.config min (open_of self) u.old (open_of b).inner u.new) }
+        ensures keeps { IfOk result (λ b. b.config ≡ self.config) }
+        ensures sections { IfOk result (AddsSections self) }
+        ensures memory { IfErr result (λ e. e ≡ Error.OutOfMemory) }
+        ensures tail { IsTail u.new u.old }
+    {
+        match what {
+            Counted::Types => self.add_types(min, u),
+            Counted::Imports => self.add_imports(min, u),
+            Counted::Functions => self.add_canonicals(min, u),
+        }
+    }
+
+    // A turn that adds any number.
+    pub(crate) fn section_turn(self, what: Counted, u: &mut Unstructured) -> Result<Step, Error>
         requires consistent { IsConsistent self.config }
         requires limits { OwnLimits self.config (open_of self).inner }
-        ensures added { IfOk result (λ s. Does self.config Types (open_of self) u.old (next_of s) u.new) }
-        ensures follows { (n : Next) (rest : List ℕ) → Follows self.config Types (open_of self) u.old n rest
+        ensures added { IfOk result (λ s. AddsAny what self.config (open_of self) u.old (next_of s) u.new) }
+        ensures follows { (n : Next) (rest : List ℕ) → Follows self.config (item_for what) (open_of self) u.old n rest
             → IfOk result (λ s. (next_of s ≡ n) × (u.new ≡ rest)) }
         ensures keeps { IfOk result (StaysSound self.config) }
         ensures sections { IfOk result (KeepsSections self) }
         ensures memory { IfErr result (λ e. e ≡ Error.OutOfMemory) }
         ensures tail { IsTail u.new u.old }
     {
-        let builder = self.add_types(0, u)?;
-        Ok(Step::StillBuilding(builder))
-    }
-
-    // An import section.
-    pub(crate) fn imports_turn(self, u: &mut Unstructured) -> Result<Step, Error>
-        requires limits { OwnLimits self.config (open_of self).inner }
-        ensures added { IfOk result (λ s. Does self.config Imports (open_of self) u.old (next_of s) u.new) }
-        ensures follows { (n : Next) (rest : List ℕ) → Follows self.config Imports (open_of self) u.old n rest
-            → IfOk result (λ s. (next_of s ≡ n) × (u.new ≡ rest)) }
-        ensures keeps { IfOk result (StaysSound self.config) }
-        ensures sections { IfOk result (KeepsSections self) }
-        ensures memory { IfErr result (λ e. e ≡ Error.OutOfMemory) }
-        ensures tail { IsTail u.new u.old }
-    {
-        let builder = self.add_imports(0, u)?;
-        Ok(Step::StillBuilding(builder))
-    }
-
-    // A canonical section, and a type section and a canonical section for each lift that defines its type.
-    pub(crate) fn canonicals_turn(self, u: &mut Unstructured) -> Result<Step, Error>
-        requires limits { OwnLimits self.config (open_of self).inner }
-        ensures added { IfOk result (λ s. Does self.config Canonical (open_of self) u.old (next_of s) u.new) }
-        ensures follows { (n : Next) (rest : List ℕ) → Follows self.config Canonical (open_of self) u.old n rest
-            → IfOk result (λ s. (next_of s ≡ n) × (u.new ≡ rest)) }
-        ensures keeps { IfOk result (StaysSound self.config) }
-        ensures sections { IfOk result (KeepsSections self) }
-        ensures memory { IfErr result (λ e. e ≡ Error.OutOfMemory) }
-        ensures tail { IsTail u.new u.old }
-    {
-        let builder = self.add_canonicals(0, u)?;
+        let builder = self.add(what, 0, u)?;
         Ok(Step::StillBuilding(builder))
     }
 }

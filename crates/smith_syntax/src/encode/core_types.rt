@@ -2,14 +2,14 @@
 #![tactic(auto, using(crate::proofs::Encoding::encoding))]
 
 ghost use Rattle.std.specs.Prelude.{ℕ, map};
-ghost use Rattle.smith_core.specs.Piece.{Piece, ◌⊕◌, byte, bytes, many, text, u};
-ghost use Rattle.smith_core.specs.Writing.{Puts, Appends, IsLengthOf};
+ghost use Rattle.smith_format.specs.Piece.{Piece, ◌⊕◌, byte, bytes, many, text, u};
+ghost use Rattle.smith_format.specs.Writing.{Puts, Appends, IsLengthOf};
 ghost use Rattle.smith_syntax.specs.Grammar.{moduledecl, core_entry};
 ghost use Rattle.smith_syntax.specs.Shown.{shown_decl, shown_core, shown_shared_core};
 
 use super::values::ComponentFormat;
 use crate::core_types::{CoreType, ModuleTypeDef};
-use smith_core::{
+use smith_format::{
     Spelled, core_import_len, entity_len, func_type_len, put_tagged, tagged_len, text_len, u32_len,
     write_byte, write_bytes, write_core_import, write_entity, write_func_type, write_spelled,
     write_text, write_u32,

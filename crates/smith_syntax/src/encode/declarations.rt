@@ -2,8 +2,8 @@
 #![tactic(auto, using(crate::proofs::Encoding::encoding))]
 
 ghost use Rattle.std.specs.Prelude.{ℕ, ◌≤◌, Bool, true, false};
-ghost use Rattle.smith_core.specs.Piece.{◌⊕◌, byte, bytes, many, u};
-ghost use Rattle.smith_core.specs.Writing.{Puts, Takes, IsLengthOf};
+ghost use Rattle.smith_format.specs.Piece.{◌⊕◌, byte, bytes, many, u};
+ghost use Rattle.smith_format.specs.Writing.{Puts, Takes, IsLengthOf};
 ghost use Rattle.smith_syntax.specs.Grammar.{core_entry, named_extern, entry, decl};
 ghost use Rattle.smith_syntax.specs.Shown.{shown_type, shown_core, shown_alias};
 ghost use Rattle.smith_syntax.specs.Shown.{shown_component_decl, shown_instance_decl};
@@ -16,7 +16,7 @@ use crate::core_types::CoreType;
 use crate::deftype::{
     Alias, ComponentTypeDef, ComponentTypeRef, DefType, InstanceTypeDecl, OuterAliasKind,
 };
-use smith_core::{count_len, u32_len, write_byte, write_bytes, write_count, write_u32};
+use smith_format::{count_len, u32_len, write_byte, write_bytes, write_count, write_u32};
 use smith_input::Error;
 
 fn put_core_decl(out: &mut Vec<u8>, ty: &CoreType) -> Result<(), Error>

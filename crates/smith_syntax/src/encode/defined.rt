@@ -2,15 +2,15 @@
 #![tactic(auto, using(crate::proofs::Encoding::encoding))]
 
 ghost use Rattle.std.specs.Prelude.{map};
-ghost use Rattle.smith_core.specs.Piece.{◌⊕◌, byte, many, text};
-ghost use Rattle.smith_core.specs.Writing.{Puts, IsLengthOf};
+ghost use Rattle.smith_format.specs.Piece.{◌⊕◌, byte, many, text};
+ghost use Rattle.smith_format.specs.Writing.{Puts, IsLengthOf};
 ghost use Rattle.smith_syntax.specs.Grammar.{valtype, labelvaltype, maybe_valtype, case, defvaltype};
 ghost use Rattle.smith_syntax.specs.Shown.{shown_defined};
 ghost use Rattle.smith_syntax.specs.Signature.{named};
 
 use super::values::{ComponentFormat, code, maybe_val_len, put_maybe_val, put_val, val_len};
 use crate::types::{ComponentValType, DefinedType};
-use smith_core::{Spelled, put_tagged, tagged_len, text_len, write_byte, write_text};
+use smith_format::{Spelled, put_tagged, tagged_len, text_len, write_byte, write_text};
 use smith_input::Error;
 
 impl Spelled<ComponentFormat> for (String, ComponentValType) {

@@ -2,14 +2,14 @@
 #![tactic(auto, using(crate::proofs::Encoding::encoding))]
 
 ghost use Rattle.std.specs.Prelude.{◌≤◌};
-ghost use Rattle.smith_core.specs.Piece.{◌⊕◌, byte, bytes, text, u};
-ghost use Rattle.smith_core.specs.Writing.{Puts, Appends, Takes, IsLengthOf};
+ghost use Rattle.smith_format.specs.Piece.{◌⊕◌, byte, bytes, text, u};
+ghost use Rattle.smith_format.specs.Writing.{Puts, Appends, Takes, IsLengthOf};
 ghost use Rattle.smith_syntax.specs.Grammar.{externdesc, named_extern, import_entry};
 ghost use Rattle.smith_syntax.specs.Shown.{import_shown};
 
 use super::values::ComponentFormat;
 use crate::deftype::{ComponentTypeRef, Import};
-use smith_core::{
+use smith_format::{
     Spelled, text_len, u32_len, write_byte, write_bytes, write_spelled, write_text, write_u32,
 };
 use smith_input::Error;

@@ -2,12 +2,12 @@
 #![tactic(auto, using(crate::proofs::Encoding::encoding))]
 
 ghost use Rattle.std.specs.Prelude.{◌≡◌, ◌≤◌};
-ghost use Rattle.smith_core.specs.Piece.{◌⊕◌, byte, s_index};
-ghost use Rattle.smith_core.specs.Writing.{Puts, Takes};
+ghost use Rattle.smith_format.specs.Piece.{◌⊕◌, byte, s_index};
+ghost use Rattle.smith_format.specs.Writing.{Puts, Takes};
 ghost use Rattle.smith_syntax.specs.Grammar.{primvaltype, valtype, maybe_valtype};
 
 use crate::types::{ComponentValType, PrimitiveValType};
-use smith_core::{Spelled, type_index_len, write_byte, write_type_index};
+use smith_format::{Spelled, type_index_len, write_byte, write_type_index};
 use smith_input::Error;
 
 /// The binary format of components, as the name of a format. Public for the crate above alone.

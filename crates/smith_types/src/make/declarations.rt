@@ -1,7 +1,7 @@
 //! Declarations of component types and instance types, from the input, but for the types in them.
 
 ghost use Rattle.std.specs.Prelude.{◌≡◌, ◌<◌, ◌≤◌, List, [], ◌∷◌, ◌++◌, true, length, nat_lt, IfOk, OnOk, IfErr};
-ghost use Rattle.smith_core.specs.Limits.{configured};
+ghost use Rattle.smith_format.specs.Limits.{configured};
 ghost use Rattle.smith_input.specs.Choices.{ReadsAmong};
 ghost use Rattle.smith_input.specs.Reading.{IsTail};
 ghost use Rattle.smith_syntax.specs.Shown.{full_alias, full_instance_decl};
@@ -16,7 +16,7 @@ ghost use Rattle.smith_types.specs.declared.make.declarations.DeclarationItem.Th
 
 use super::externs::{ExternNames, named_extern};
 use super::references::{RefTotals, arbitrary_type_ref};
-use smith_core::{Config, ValType};
+use smith_format::{Config, ValType};
 use smith_core_types::arbitrary_core_type;
 use smith_input::{Error, Unstructured, choose_offered};
 use smith_scopes::{Kind, Scopes};

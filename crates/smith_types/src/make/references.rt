@@ -7,7 +7,7 @@ ghost use Rattle.smith_types.specs.References.{MaybeRef, allows_equal, allows_on
 ghost use Rattle.smith_types.specs.References.{ref_kinds, ref_places, ref_to};
 ghost use Rattle.smith_scopes.specs.Scopes.{own_scope};
 
-use smith_core::Config;
+use smith_format::Config;
 use smith_input::{Unstructured, choose_offered};
 use smith_scopes::{Kind, Scopes};
 use smith_syntax::ComponentTypeRef;

@@ -3,7 +3,7 @@
 ghost use Rattle.std.specs.Prelude.{◌≡◌, ◌+◌, ◌≤◌, ◌<◌, List, [], ◌∷◌, ◌++◌, true, false, length, map};
 ghost use Rattle.std.specs.Prelude.{IfOk, IfErr, OnOk, OnErr};
 ghost use Rattle.smith_input.specs.Choices.{ReadsAmong};
-ghost use Rattle.smith_core.specs.Limits.{configured, IsConsistent};
+ghost use Rattle.smith_format.specs.Limits.{configured, IsConsistent};
 ghost use Rattle.smith_input.specs.Reading.{IsTail};
 ghost use Rattle.smith_syntax.specs.Entries.{in_order};
 ghost use Rattle.smith_syntax.specs.Shown.{full_component_decl, full_instance_decl, full_type};
@@ -25,7 +25,7 @@ use super::defined::defined_type;
 use super::externs::ExternNames;
 use super::function::function_type;
 use super::{TYPE_KINDS, TypeKind};
-use smith_core::{Config, ValType};
+use smith_format::{Config, ValType};
 use smith_core_types::burn;
 use smith_input::{Error, Unstructured};
 use smith_scopes::Scopes;

@@ -1,4 +1,4 @@
-use Rattle.smith_core.proofs.Many.{Put}
+use Rattle.smith_format.proofs.Many.{Put}
 use Rattle.smith_component.specs.Grammar.{part}
 use Rattle.smith_component.specs.Shown.{shown_section}
 use Rattle.smith_component.proofs.encode.+sections.Given as goal

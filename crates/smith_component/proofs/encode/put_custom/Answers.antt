@@ -1,4 +1,4 @@
-use Rattle.smith_core.proofs.Steps.{ends_sized}
+use Rattle.smith_format.proofs.Steps.{ends_sized}
 use Rattle.smith_component.proofs.encode.put_custom.Goals as goal
 
 pub returns : goal.returns

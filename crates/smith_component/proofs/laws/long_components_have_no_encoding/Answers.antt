@@ -2,4 +2,4 @@ use Rattle.smith_component.proofs.TooLong.{component_none}
 use Rattle.smith_component.proofs.laws.long_components_have_no_encoding.Goals as goal
 
 pub returns : goal.returns
-returns c = component_none
+returns c t = component_none t

@@ -1,6 +1,6 @@
 use Rattle.std.proofs.Common.{◌≡◌, ◌++◌, [], ◌∷◌, true, false, nat_lt, refl, arith, map, ap, sym, ◌∙◌, append-nil}
 use Rattle.std.proofs.lemmas.Bool.Decides.{nat_tests}
-use Rattle.smith_core.specs.declared.types.EntityType.TheVariants.{Memory}
+use Rattle.smith_format.specs.declared.types.EntityType.TheVariants.{Memory}
 use Rattle.smith_syntax.specs.Entries.{exports}
 use Rattle.smith_core_types.specs.MakingCore.{shown_funcs}
 use Rattle.smith_core_types.specs.MadeCore.{not_allowed, declined, taken}

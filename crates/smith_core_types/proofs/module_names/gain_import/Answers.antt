@@ -1,7 +1,7 @@
 use Rattle.std.proofs.Common.{◌≡◌, true, false, cond, List, [], ◌∷◌, ◌++◌, map, ap, sym, ◌∙◌, subst, string_bytes, bytes_eq}
 use Rattle.std.specs.BTreeSet.{contains_text}
 use Rattle.std.proofs.lemmas.Result.{IfOk-weaker}
-use Rattle.smith_core.specs.Entities.{CoreImport}
+use Rattle.smith_format.specs.Entities.{CoreImport}
 use Rattle.smith_input.specs.Names.{Holds}
 use Rattle.smith_input.proofs.NewNames.{holds_more}
 use Rattle.smith_syntax.specs.ModuleTypes.{names_from}

@@ -1,4 +1,4 @@
-use Rattle.smith_core.proofs.Sizes.{length_then, too_much_left}
+use Rattle.smith_format.proofs.Sizes.{length_then, too_much_left}
 use Rattle.smith_syntax.proofs.Signature.{functype_is}
 use Rattle.smith_syntax.proofs.encode.function_len.Goals as goal
 

@@ -1,4 +1,4 @@
-use Rattle.smith_core.proofs.Steps.{ends, exits, due_left}
+use Rattle.smith_format.proofs.Steps.{ends, exits, due_left}
 use Rattle.smith_syntax.proofs.Signature.{functype_is}
 use Rattle.smith_syntax.proofs.encode.put_function.Goals as goal
 

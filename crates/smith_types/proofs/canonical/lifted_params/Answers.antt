@@ -1,7 +1,7 @@
 use Rattle.std.proofs.Common.{map, refl, sym, subst}
 use Rattle.std.specs.Prelude.{String}
 use Rattle.std.specs.declared.alloc.Global.{Global}
-use Rattle.smith_core.specs.declared.types.ValType.TheVariants.{I32}
+use Rattle.smith_format.specs.declared.types.ValType.TheVariants.{I32}
 use Rattle.smith_input.specs.Names.{Holds}
 use Rattle.smith_input.proofs.NewNames.{holds_more}
 use Rattle.smith_input.proofs.ReadingLemmas.{tail_trans}

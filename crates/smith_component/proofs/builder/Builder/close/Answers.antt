@@ -1,11 +1,11 @@
-use Rattle.std.proofs.Common.{◌≡◌, ℕ, ◌+◌, ◌≤◌, ◌++◌, ◌∷◌, [], List, map, sym, subst, ap, ◌∙◌, refl, arith, length, length-append, inl, inr, append-nil}
+use Rattle.std.proofs.Common.{◌≡◌, ◌++◌, ◌∷◌, [], List, map, sym, subst, ap, ◌∙◌, refl, arith, length, length-append, append-nil}
 use Rattle.std.proofs.lemmas.List.{map-append}
 use Rattle.std.specs.List.{AllByRecursion}
-use Rattle.smith_core.specs.declared.config.Config.{Config}
+use Rattle.smith_format.specs.declared.config.Config.{Config}
 use Rattle.smith_scopes.specs.Scopes.{last_of}
 use Rattle.smith_scopes.proofs.Stack.{length-inward, closed_scope}
 use Rattle.smith_component.specs.Building.{Building, open_of}
-use Rattle.smith_component.specs.BuilderView.{building_of, IsTabled}
+use Rattle.smith_component.specs.BuilderView.{IsTabled}
 use Rattle.smith_component.specs.Limits.{Limits, Minima, Sized}
 use Rattle.smith_component.specs.Open.{scopes_in}
 use Rattle.smith_component.specs.Shown.{shown_sections}

@@ -5,12 +5,10 @@ use Rattle.smith_syntax.specs.Scope.{empty_scope}
 use Rattle.smith_scopes.proofs.Stack.{opened_scope}
 use Rattle.smith_component.specs.Building.{Building, open_of}
 use Rattle.smith_component.specs.BuilderView.{building_of, IsTabled}
-use Rattle.smith_component.specs.Importing.{Totalled}
-use Rattle.smith_component.specs.Open.{Open, scopes_in, is_component_offered}
+use Rattle.smith_component.specs.Open.{scopes_in, is_component_offered}
 use Rattle.smith_component.specs.Shown.{shown_sections}
 use Rattle.smith_component.specs.Sound.{Sound}
 use Rattle.smith_component.specs.Tables.{Tabled}
-use Rattle.smith_component.specs.Tree.{Tree, ends}
 use Rattle.smith_component.specs.WellFormed.{scope_of}
 use Rattle.smith_component.specs.declared.builder.open.OpenComponent.{OpenComponent}
 use Rattle.smith_component.specs.declared.component.Section.{Section}

@@ -1,7 +1,7 @@
 use Rattle.std.proofs.Common.{refl, sym, ◌∙◌}
 use Rattle.std.proofs.lemmas.Result.{IfOk-weaker, IfErr-weaker}
 use Rattle.smith_component.specs.Building.{open_of}
-use Rattle.smith_component.proofs.Refusals.{fill_refused, finish_refused, memory_refused}
+use Rattle.smith_component.proofs.Refusals.{fill_refused, finish_refused, memory_no_minimum, memory_refused, module_no_minimum, module_refused}
 use Rattle.smith_component.proofs.Scripted.{wanted, no_module}
 use Rattle.smith_component.proofs.Turn.{chosen}
 use Rattle.smith_component.proofs.builder.Builder.take_turn.Goals as goal
@@ -25,7 +25,7 @@ pub returns-in-Module-clause-follows : goal.returns-in-Module-clause-follows
 returns-in-Module-clause-follows c n rest s = absurd (no_module _ _ _ _ _ (wanted _ _ _ _ _ n rest c.in-Module.ensures.chooses s))
 
 pub returns-in-Module-clause-refuses : goal.returns-in-Module-clause-refuses
-returns-in-Module-clause-refuses c = IfErr-weaker c.add_module.result _ _ (memory_refused c.args.self.config (open_of c.args.self) c.args.u.now) c.add_module.ensures.memory
+returns-in-Module-clause-refuses c = IfErr-weaker c.add_module.result _ _ (module_refused c.args.self.config (open_of c.args.self) c.args.u.now _ c.in-Module.ensures.chooses) c.add_module.ensures.refuses
 
 pub returns-in-Component-clause-follows : goal.returns-in-Component-clause-follows
 returns-in-Component-clause-follows c n rest s =
@@ -42,25 +42,46 @@ pub returns-in-CoreTypes-clause-refuses : goal.returns-in-CoreTypes-clause-refus
 returns-in-CoreTypes-clause-refuses c = IfErr-weaker c.add_core_types.result _ _ (memory_refused c.args.self.config (open_of c.args.self) c.args.u.now) c.add_core_types.ensures.memory
 
 pub returns-in-Types-clause-follows : goal.returns-in-Types-clause-follows
-returns-in-Types-clause-follows c n rest s = c.types_turn.ensures.follows n rest (wanted _ _ _ _ _ n rest c.in-Types.ensures.chooses s)
+returns-in-Types-clause-follows c n rest s = c.section_turn.ensures.follows n rest (wanted _ _ _ _ _ n rest c.in-Types.ensures.chooses s)
 
 pub returns-in-Types-clause-refuses : goal.returns-in-Types-clause-refuses
-returns-in-Types-clause-refuses c = IfErr-weaker c.types_turn.result _ _ (memory_refused c.args.self.config (open_of c.args.self) c.args.u.now) c.types_turn.ensures.memory
+returns-in-Types-clause-refuses c = IfErr-weaker c.section_turn.result _ _ (memory_refused c.args.self.config (open_of c.args.self) c.args.u.now) c.section_turn.ensures.memory
 
 pub returns-in-Imports-clause-follows : goal.returns-in-Imports-clause-follows
-returns-in-Imports-clause-follows c n rest s = c.imports_turn.ensures.follows n rest (wanted _ _ _ _ _ n rest c.in-Imports.ensures.chooses s)
+returns-in-Imports-clause-follows c n rest s = c.section_turn-in-Imports.ensures.follows n rest (wanted _ _ _ _ _ n rest c.in-Imports.ensures.chooses s)
 
 pub returns-in-Imports-clause-refuses : goal.returns-in-Imports-clause-refuses
-returns-in-Imports-clause-refuses c = IfErr-weaker c.imports_turn.result _ _ (memory_refused c.args.self.config (open_of c.args.self) c.args.u.now) c.imports_turn.ensures.memory
+returns-in-Imports-clause-refuses c = IfErr-weaker c.section_turn-in-Imports.result _ _ (memory_refused c.args.self.config (open_of c.args.self) c.args.u.now) c.section_turn-in-Imports.ensures.memory
 
 pub returns-in-Canonical-clause-follows : goal.returns-in-Canonical-clause-follows
-returns-in-Canonical-clause-follows c n rest s = c.canonicals_turn.ensures.follows n rest (wanted _ _ _ _ _ n rest c.in-Canonical.ensures.chooses s)
+returns-in-Canonical-clause-follows c n rest s = c.section_turn-in-Canonical.ensures.follows n rest (wanted _ _ _ _ _ n rest c.in-Canonical.ensures.chooses s)
 
 pub returns-in-Canonical-clause-refuses : goal.returns-in-Canonical-clause-refuses
-returns-in-Canonical-clause-refuses c = IfErr-weaker c.canonicals_turn.result _ _ (memory_refused c.args.self.config (open_of c.args.self) c.args.u.now) c.canonicals_turn.ensures.memory
+returns-in-Canonical-clause-refuses c = IfErr-weaker c.section_turn-in-Canonical.result _ _ (memory_refused c.args.self.config (open_of c.args.self) c.args.u.now) c.section_turn-in-Canonical.ensures.memory
 
 pub add_module-requires : goal.add_module-requires
 add_module-requires c = (chosen c.args.self.config (open_of c.args.self) _ _ _ c.in-Module.ensures.chooses).0 refl
 
 pub open_component-requires : goal.open_component-requires
 open_component-requires c = (chosen c.args.self.config (open_of c.args.self) _ _ _ c.in-Component.ensures.chooses).1 refl
+
+pub returns-in-Custom-clause-fills : goal.returns-in-Custom-clause-fills
+returns-in-Custom-clause-fills c can = IfErr-weaker c.add_custom.result _ _ memory_no_minimum c.add_custom.ensures.memory
+
+pub returns-in-CoreTypes-clause-fills : goal.returns-in-CoreTypes-clause-fills
+returns-in-CoreTypes-clause-fills c can = IfErr-weaker c.add_core_types.result _ _ memory_no_minimum c.add_core_types.ensures.memory
+
+pub returns-in-Types-clause-fills : goal.returns-in-Types-clause-fills
+returns-in-Types-clause-fills c can = IfErr-weaker c.section_turn.result _ _ memory_no_minimum c.section_turn.ensures.memory
+
+pub returns-in-Imports-clause-fills : goal.returns-in-Imports-clause-fills
+returns-in-Imports-clause-fills c can = IfErr-weaker c.section_turn-in-Imports.result _ _ memory_no_minimum c.section_turn-in-Imports.ensures.memory
+
+pub returns-in-Canonical-clause-fills : goal.returns-in-Canonical-clause-fills
+returns-in-Canonical-clause-fills c can = IfErr-weaker c.section_turn-in-Canonical.result _ _ memory_no_minimum c.section_turn-in-Canonical.ensures.memory
+
+pub returns-in-Component-clause-fills : goal.returns-in-Component-clause-fills
+returns-in-Component-clause-fills c can = IfErr-weaker c.open_component.result _ _ memory_no_minimum c.open_component.ensures.memory
+
+pub returns-in-Module-clause-fills : goal.returns-in-Module-clause-fills
+returns-in-Module-clause-fills c can = IfErr-weaker c.add_module.result _ _ (module_no_minimum c.args.self.config) c.add_module.ensures.refuses

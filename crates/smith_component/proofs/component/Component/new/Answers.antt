@@ -1,6 +1,6 @@
 use Rattle.std.proofs.Common.{ap, ◌∙◌, subst, sym, rules}
 use Rattle.smith_input.proofs.ReadingLemmas.{tail_same, tail_trans}
-use Rattle.smith_core.specs.declared.config.Config.{Config}
+use Rattle.smith_format.specs.declared.config.Config.{Config}
 use Rattle.smith_component.specs.Limits.{Limits}
 use Rattle.smith_component.specs.Open.{Open}
 use Rattle.smith_component.specs.Refusals.{IsRefusal}

@@ -1,6 +1,6 @@
 use Rattle.std.proofs.Common.{◌≡◌}
 use Rattle.smith_input.specs.Reading.{IsTail}
-use Rattle.smith_core.specs.Limits.{IsConsistent}
+use Rattle.smith_format.specs.Limits.{IsConsistent}
 use Rattle.smith_component.specs.Building.{open_of}
 use Rattle.smith_component.specs.Turn.{todo}
 use Rattle.smith_component.proofs.Scripted.{Passed}

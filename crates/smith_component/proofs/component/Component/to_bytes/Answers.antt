@@ -1,5 +1,5 @@
 use Rattle.std.proofs.Common.{sym, ◌∙◌, subst}
-use Rattle.smith_core.proofs.Piece.{left_nil}
+use Rattle.smith_format.proofs.Piece.{left_nil}
 use Rattle.smith_component.specs.Grammar.{Spells}
 use Rattle.smith_component.specs.Tree.{Tree}
 use Rattle.smith_component.proofs.Clear.{spells_law}

@@ -1,4 +1,4 @@
-use Rattle.smith_core.proofs.Many.{many-map}
+use Rattle.smith_format.proofs.Many.{many-map}
 use Rattle.smith_syntax.specs.Grammar.{moduledecl}
 use Rattle.smith_syntax.specs.Shown.{shown_decl}
 use Rattle.smith_syntax.proofs.encode.core_types.put_core_type.Goals as goal

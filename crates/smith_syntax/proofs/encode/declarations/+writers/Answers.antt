@@ -1,5 +1,5 @@
-use Rattle.smith_core.proofs.Many.{put_none, put_next, loop_done, loop_exit}
-use Rattle.smith_core.proofs.Steps.{due_left, ends, exits, keeps_begins}
+use Rattle.smith_format.proofs.Many.{put_none, put_next, loop_done, loop_exit}
+use Rattle.smith_format.proofs.Steps.{due_left, ends, exits, keeps_begins}
 use Rattle.smith_syntax.proofs.Declarations.{entry_component, entry_instance}
 use Rattle.smith_syntax.proofs.encode.declarations.+writers.Goals as goal
 

@@ -1,5 +1,5 @@
 use Rattle.std.proofs.Common.{true, false}
-use Rattle.smith_core.proofs.Many.{Put}
+use Rattle.smith_format.proofs.Many.{Put}
 use Rattle.smith_syntax.specs.Grammar.{decl}
 use Rattle.smith_syntax.specs.Shown.{shown_component_decl, shown_instance_decl}
 use Rattle.smith_syntax.proofs.encode.declarations.+writers.Given as goal

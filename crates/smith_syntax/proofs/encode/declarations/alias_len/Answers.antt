@@ -1,5 +1,5 @@
 use Rattle.std.proofs.Common.{refl}
-use Rattle.smith_core.proofs.Sizes.{takes_bytes, takes_then}
+use Rattle.smith_format.proofs.Sizes.{takes_bytes, takes_then}
 use Rattle.smith_syntax.proofs.Declarations.{core_type_alias_is, type_alias_is}
 use Rattle.smith_syntax.proofs.encode.declarations.alias_len.Goals as goal
 

@@ -1,6 +1,6 @@
 use Rattle.std.proofs.Common.{string_bytes}
-use Rattle.smith_core.specs.Piece.{text}
-use Rattle.smith_core.proofs.Many.{many-map}
+use Rattle.smith_format.specs.Piece.{text}
+use Rattle.smith_format.proofs.Many.{many-map}
 use Rattle.smith_syntax.specs.Grammar.{labelvaltype, case}
 use Rattle.smith_syntax.specs.Signature.{named}
 use Rattle.smith_syntax.proofs.encode.defined.defined_len.Goals as goal

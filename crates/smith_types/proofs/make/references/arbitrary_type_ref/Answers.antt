@@ -3,7 +3,7 @@ use Rattle.std.proofs.lemmas.Bool.Decides.{nat_tests}
 use Rattle.std.specs.Prelude.{nat_lt}
 use Rattle.smith_input.proofs.Offered.{offer_holds}
 use Rattle.smith_input.specs.Choices.{ReadsAmong}
-use Rattle.smith_core.specs.declared.config.Config.{Config}
+use Rattle.smith_format.specs.declared.config.Config.{Config}
 use Rattle.smith_syntax.specs.Scope.{Scope}
 use Rattle.smith_types.specs.References.{ref_kinds, ref_offers, ref_places}
 use Rattle.smith_scopes.specs.Scopes.{own_scope}

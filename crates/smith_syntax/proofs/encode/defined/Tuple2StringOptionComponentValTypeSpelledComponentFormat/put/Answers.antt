@@ -1,5 +1,5 @@
-use Rattle.smith_core.specs.Piece.{byte}
-use Rattle.smith_core.proofs.Steps.{exits_between}
+use Rattle.smith_format.specs.Piece.{byte}
+use Rattle.smith_format.proofs.Steps.{exits_between}
 use Rattle.smith_syntax.proofs.encode.defined.Tuple2StringOptionComponentValTypeSpelledComponentFormat.put.Goals as goal
 
 pub returns-in_err-put_maybe_val : goal.returns-in_err-put_maybe_val

@@ -1,5 +1,0 @@
-use Rattle.smith_core.proofs.Steps.{gains_bytes}
-use Rattle.smith_core.proofs.buffer.write_bytes.Goals as goal
-
-pub returns : goal.returns
-returns c = gains_bytes _ c.in_ok-extend_from_slice.ensures.items c.in_ok-extend_from_slice.ensures.capacity

@@ -1,9 +1,0 @@
-use Rattle.smith_core.specs.Numbers.{unsigned}
-use Rattle.smith_core.proofs.Steps.{Towards}
-use Rattle.smith_core.proofs.numbers.put_u64.Given as goal
-
-abbrev pub invariant-loop-rest : goal.invariant-loop-rest
-invariant-loop-rest l = Towards l.fn.out (unsigned l.n) l.out (unsigned l.rest)
-
-abbrev pub decreases-loop-rest : goal.decreases-loop-rest
-decreases-loop-rest l = l.rest

@@ -1,7 +1,0 @@
-use Rattle.std.proofs.Common.{length, ap, arith}
-use Rattle.smith_core.specs.Numbers.{unsigned}
-use Rattle.smith_core.proofs.Digits.{unsigned_short_32}
-use Rattle.smith_core.proofs.numbers.u32_len.Goals as goal
-
-pub returns-clause-most : goal.returns-clause-most
-returns-clause-most c = let n = ap (λ m. length (unsigned m)) c.from.ensures in omega (arith, unsigned_short_32 c.args.n c.ranges.n.fits)

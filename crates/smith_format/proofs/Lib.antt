@@ -1,0 +1,11 @@
+pub mod Clear
+pub mod CoreReading
+pub mod CoreScript
+pub mod CoreTypes
+pub mod Entities
+pub mod Many
+pub mod Digits
+pub mod Piece
+pub mod Sizes
+pub mod Steps
+pub mod TooLong

@@ -1,0 +1,5 @@
+use Rattle.smith_format.proofs.Steps.{gains_bytes}
+use Rattle.smith_format.proofs.buffer.write_bytes.Goals as goal
+
+pub returns : goal.returns
+returns c = gains_bytes _ c.in_ok-extend_from_slice.ensures.items c.in_ok-extend_from_slice.ensures.capacity

@@ -1,0 +1,12 @@
+pub mod Numbers
+pub mod Piece
+pub mod CoreTypes
+pub mod Entities
+pub mod Limits
+pub mod CoreFormed
+pub mod CoreReading
+pub mod Equality
+pub mod CoreScript
+pub mod Writing
+pub mod TooLong
+pub mod Clear

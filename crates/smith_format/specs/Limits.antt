@@ -1,0 +1,58 @@
+-- The limits of what is built: which fit together, which hold where none are given, and which core value types they allow.
+use Rattle.std.specs.Prelude.{◌≡◌, ℕ, ◌≤◌, true, List, [], ◌∷◌, ◌++◌, if◌then◌else◌}
+use Rattle.smith_input.specs.Script.{offered}
+use Rattle.smith_format.specs.declared.config.Config.{Config}
+use Rattle.smith_format.specs.declared.types.RefType.TheVariants.{FuncRef, ExternRef}
+use Rattle.smith_format.specs.declared.types.ValType.{ValType}
+use Rattle.smith_format.specs.declared.types.ValType.TheVariants.{I32, I64, F32, F64, V128, Ref}
+
+-- No minimum passes its maximum, what is counted in the written bytes fits 32 bits, and components nest at most 1000 deep.
+pub record IsConsistent (config : Config) : Type 0 where
+  pub types_cross : config.min_types ≤ config.max_types
+  pub imports_cross : config.min_imports ≤ config.max_imports
+  pub funcs_cross : config.min_funcs ≤ config.max_funcs
+  pub types : config.max_types ≤ 4294967295
+  pub imports : config.max_imports ≤ 4294967295
+  pub funcs : config.max_funcs ≤ 4294967295
+  pub modules : config.max_modules ≤ 4294967295
+  pub components : config.max_components ≤ 4294967295
+  pub instances : config.max_instances ≤ 4294967295
+  pub nesting : config.max_nesting_depth ≤ 1000
+
+-- the limits that hold where none are given
+abbrev pub IsDefault : Config → Type 0
+IsDefault c =
+    c
+    ≡ record {
+      min_types = 0;
+      min_imports = 0;
+      min_funcs = 0;
+      min_memories = 0;
+      max_types = 100;
+      max_imports = 100;
+      max_funcs = 100;
+      max_globals = 100;
+      max_tables = 100;
+      max_tags = 100;
+      multi_value_enabled = true;
+      exceptions_enabled = true;
+      reference_types_enabled = true;
+      simd_enabled = true;
+      allow_floats = true;
+      bulk_memory_enabled = true;
+      max_memories = 1;
+      max_modules = 10;
+      max_components = 10;
+      max_instances = 10;
+      max_nesting_depth = 10;
+      max_type_size = 1000;
+    }
+
+-- the core value types that the limits allow (core specification, Types, Value Types)
+abbrev pub configured : Config → List ValType
+configured c =
+    (I32 ∷ I64 ∷ []) ++ offered c.allow_floats (F32 ∷ F64 ∷ []) ++ offered c.simd_enabled (V128 ∷ []) ++ offered c.reference_types_enabled (Ref FuncRef ∷ Ref ExternRef ∷ [])
+
+-- how many results the limits allow a core function
+abbrev pub max_results : Config → ℕ
+max_results config = if config.multi_value_enabled then 20 else 1

@@ -1,0 +1,60 @@
+-- What has no encoding, since a count, the length of a text or an index in it passes 4,294,967,295.
+use Rattle.std.specs.Prelude.{ℕ, ◌^◌, ◌<◌, ◌≤◌, ◌⊎◌, List, length}
+use Rattle.std.specs.List.{Any, AllByRecursion}
+use Rattle.std.specs.Str.{IsUtf8}
+use Rattle.smith_format.specs.CoreTypes.{Function}
+use Rattle.smith_format.specs.Entities.{CoreImport}
+use Rattle.smith_format.specs.Piece.{Piece, piece_length}
+use Rattle.smith_format.specs.declared.types.EntityType.{EntityType}
+use Rattle.smith_format.specs.declared.types.EntityType.TheVariants.{Func, Table, Memory, Global, Tag}
+use Rattle.smith_format.specs.declared.types.RefType.{RefType}
+use Rattle.smith_format.specs.declared.types.RefType.TheVariants.{FuncRef, ExternRef, Concrete}
+use Rattle.smith_format.specs.declared.types.ValType.{ValType}
+use Rattle.smith_format.specs.declared.types.ValType.TheVariants.{I32, I64, F32, F64, V128, Ref}
+
+-- it is no length, count or index
+abbrev pub Passes : ℕ → Type 0
+Passes n = 2 ^ 32 ≤ n
+
+-- a name that is too long, or is no UTF-8, which each name of the program is
+abbrev pub NameTooLong : List ℕ → Type 0
+NameTooLong n = Passes (length n) ⊎ (¬ IsUtf8 n)
+
+-- numbers that are no bytes, which none of the program's bytes are
+abbrev pub NoBytes : List ℕ → Type 0
+NoBytes bs = ¬ AllByRecursion (λ b. b < 256) bs
+
+-- the count of a list, or one of its items
+abbrev pub ListTooLong : {A : Type 0} → (A → Type 0) → List A → Type 0
+ListTooLong P xs = Passes (length xs) ⊎ Any P xs
+
+-- what stands after its length, as the contents of a section do
+abbrev pub ContentsTooLong : Piece → Type 0
+ContentsTooLong contents = Passes (piece_length contents)
+
+abbrev pub RefTooLong : RefType → Type 0
+RefTooLong FuncRef = ⊥
+RefTooLong ExternRef = ⊥
+RefTooLong (Concrete nullable i) = Passes i
+
+abbrev pub ValTooLong : ValType → Type 0
+ValTooLong I32 = ⊥
+ValTooLong I64 = ⊥
+ValTooLong F32 = ⊥
+ValTooLong F64 = ⊥
+ValTooLong V128 = ⊥
+ValTooLong (Ref r) = RefTooLong r
+
+-- the count of parameters or of results, or one of them
+abbrev pub FunctionTooLong : Function → Type 0
+FunctionTooLong f = (Passes (length f.0) ⊎ Any ValTooLong f.0) ⊎ (Passes (length f.1) ⊎ Any ValTooLong f.1)
+
+abbrev pub EntityTooLong : EntityType → Type 0
+EntityTooLong (Func i) = Passes i
+EntityTooLong (Table t) = RefTooLong t.element_type
+EntityTooLong (Memory m) = ⊥
+EntityTooLong (Global g) = ValTooLong g.val_type
+EntityTooLong (Tag t) = Passes t.func_type_idx
+
+abbrev pub ImportTooLong : CoreImport → Type 0
+ImportTooLong i = Passes (length i.0) ⊎ (Passes (length i.1) ⊎ EntityTooLong i.2)

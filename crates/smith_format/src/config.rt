@@ -1,0 +1,118 @@
+//! The limits of what is built.
+
+ghost use Rattle.std.specs.Prelude.{◌≡◌, ◌↔◌, IsOk, IfErr};
+
+use smith_input::Error;
+
+/// The limits of what is built. Every number counts things, but `max_type_size`, which is the fuel of a type.
+///
+/// What a component lacks of a minimum is added when it is finished, whatever the input has. So a large minimum costs
+/// time and memory in proportion to it, for each component.
+#[derive(Debug, Clone, Copy, PartialEq, Eq)]
+pub struct Config {
+    /// The fewest types of a component. They can always be added.
+    pub min_types: usize,
+    /// The fewest imports of a component. Where they can not be added, it is refused with `MinimumNotMet`.
+    pub min_imports: usize,
+    /// The fewest functions of a component: imported ones, lifts and lowers together. Where they can not be added, it
+    /// is refused with `MinimumNotMet`.
+    pub min_funcs: usize,
+    /// The fewest memories of a core module.
+    pub min_memories: usize,
+    /// The most types of a component, and the most core types.
+    pub max_types: usize,
+    /// The most imports of a component.
+    pub max_imports: usize,
+    /// The most functions of a component: imported ones, lifts and lowers together.
+    pub max_funcs: usize,
+    /// The most globals that a module type imports and exports.
+    pub max_globals: usize,
+    /// The most tables that a module type imports and exports.
+    pub max_tables: usize,
+    /// The most tags that a module type imports and exports.
+    pub max_tags: usize,
+    /// Whether a core function may have several results.
+    pub multi_value_enabled: bool,
+    /// Whether there are tags.
+    pub exceptions_enabled: bool,
+    /// Whether there are reference types as core value types.
+    pub reference_types_enabled: bool,
+    /// Whether there is the core value type v128.
+    pub simd_enabled: bool,
+    /// Whether there are the core value types f32 and f64.
+    pub allow_floats: bool,
+    /// Whether core modules count their data segments in a section.
+    pub bulk_memory_enabled: bool,
+    /// The most memories of a core module, and those that a module type imports and exports.
+    pub max_memories: usize,
+    /// The most core modules of the whole tree, embedded and imported.
+    pub max_modules: usize,
+    /// The most components of the whole tree below the root, nested and imported.
+    pub max_components: usize,
+    /// The most instances that the whole tree imports.
+    pub max_instances: usize,
+    /// How deep components nest, the root at 1. A limit of 0 counts as 1.
+    pub max_nesting_depth: usize,
+    /// The fuel of a type: its members and declarations at all depths are at most so many.
+    pub max_type_size: u32,
+}
+
+impl Default for Config {
+    ghost use Rattle.smith_format.specs.Limits.{IsDefault};
+
+    ghost is_default = { IsDefault };
+
+    /// Minima of 0, counts of 100 within a component and of 10 over the tree, one memory, a depth of 10, a
+    /// fuel of 1000, and every feature on.
+    fn default() -> Config {
+        Config {
+            min_types: 0,
+            min_imports: 0,
+            min_funcs: 0,
+            min_memories: 0,
+            max_types: 100,
+            max_imports: 100,
+            max_funcs: 100,
+            max_globals: 100,
+            max_tables: 100,
+            max_tags: 100,
+            multi_value_enabled: true,
+            exceptions_enabled: true,
+            reference_types_enabled: true,
+            simd_enabled: true,
+            allow_floats: true,
+            bulk_memory_enabled: true,
+            max_memories: 1,
+            max_modules: 10,
+            max_components: 10,
+            max_instances: 10,
+            max_nesting_depth: 10,
+            max_type_size: 1000,
+        }
+    }
+}
+
+impl Config {
+    ghost use Rattle.smith_format.specs.Limits.{IsConsistent};
+
+    /// Accepts limits that fit together: no minimum passes its maximum, counts that are written are at most
+    /// 4,294,967,295, and the nesting depth is at most 1000. Others are refused with `InconsistentLimits`.
+    pub fn check(&self) -> Result<(), Error>
+        ensures accepts { IsOk result ↔ IsConsistent self.now }
+        ensures refuses { IfErr result (λ e. e ≡ Error.InconsistentLimits) }
+    {
+        let crossed = self.min_types > self.max_types
+            || self.min_imports > self.max_imports
+            || self.min_funcs > self.max_funcs;
+        let wide = self.max_types > 0xffff_ffff
+            || self.max_imports > 0xffff_ffff
+            || self.max_funcs > 0xffff_ffff
+            || self.max_modules > 0xffff_ffff
+            || self.max_components > 0xffff_ffff
+            || self.max_instances > 0xffff_ffff;
+        if crossed || wide || self.max_nesting_depth > 1000 {
+            return Err(Error::InconsistentLimits);
+        }
+        Ok(())
+    }
+}
