@@ -79,7 +79,10 @@ fn flat_params(alloc: Global, params: &[(String, ComponentValType)]) -> Result<V
 
 /// The core function type that a scalar function type flattens to: a core value type for each parameter, and one for
 /// the result. It refuses for want of memory alone.
-pub fn canonical_abi_for(alloc: Global, func: &FuncType) -> Result<Rc<smith_format::FuncType>, Error>
+pub fn canonical_abi_for(
+    alloc: Global,
+    func: &FuncType,
+) -> Result<Rc<smith_format::FuncType>, Error>
     requires { is_scalar func.now ≡ true }
     ensures flattens { IfOk result (λ f. Flattens func.now (shown_func f.value)) }
     ensures memory { IfErr result (λ e. e ≡ Error.OutOfMemory) }

@@ -16,8 +16,8 @@ ghost use Rattle.smith_types.specs.declared.make.declarations.DeclarationItem.Th
 
 use super::externs::{ExternNames, named_extern};
 use super::references::{RefTotals, arbitrary_type_ref};
-use smith_format::{Config, ValType};
 use smith_core_types::arbitrary_core_type;
+use smith_format::{Config, ValType};
 use smith_input::{Error, Unstructured, choose_offered};
 use smith_scopes::{Kind, Scopes};
 use smith_syntax::{Alias, ComponentTypeRef, Import, InstanceTypeDecl, OuterAliasKind};
