@@ -1,11 +1,13 @@
 -- What a run takes from its reader, and what it gives to its writer. `Some` bytes are what a reader has left, or a writer holds; `None` tells nothing.
-use Rattle.std.specs.Prelude.{◌≢◌, ℕ, ◌≡◌, ◌+◌, ◌≤◌, List, length, ⊤, Option, Result, Ok, Err}
+use Rattle.std.specs.Prelude.{◌≢◌, ℕ, ◌≡◌, ◌+◌, ◌≤◌, ◌++◌, List, length, ⊤, Option, Result, Ok, Err}
 use Rattle.std.specs.Io.KnownBytes.{Appends, Consumes, IsAtEnd}
 use Rattle.smith_input.specs.Reading.{IsTail}
 use Rattle.smith_input.specs.declared.error.Error.TheVariants.{OutOfMemory}
 use Rattle.smith_component.specs.declared.Config.{Config}
 use Rattle.smith_component.specs.Tree.{Tree}
 use Rattle.smith_component.specs.Generates.{Generates}
+use Rattle.smith_component.specs.Grammar.{Spells}
+use Rattle.smith_component.specs.Script.{Within, script}
 use Rattle.smith_component.specs.Turn.{RunsTo}
 use Rattle.smith_component.specs.Refusals.{IsGenerateRefusal}
 use Rattle.smith_cli.specs.declared.run.RunError.{RunError}
@@ -28,7 +30,8 @@ pub record GivesTooMuch (before after : Option (List ℕ)) : Type 0 where
   pub given : Consumes before after taken
   pub past : length taken ≡ longest_input + 1
 
--- The bytes of the component that a run of turns makes of the input, and how many bytes it leaves, are written as a page.
+-- The bytes of the component that a run of turns makes of the input, and how many bytes it leaves, are written as a page. Where the input
+-- begins with the script of a plan, they are the plan's bytes, and what stands behind the script is left.
 pub record WritesPage (config : Config) (input : List ℕ) (before after : Option (List ℕ)) : Type 0 where
   pub component : Tree
   pub bytes : List ℕ
@@ -36,6 +39,7 @@ pub record WritesPage (config : Config) (input : List ℕ) (before after : Optio
   pub left : List ℕ
   pub is_left : IsTail left input
   pub run : RunsTo config input component left
+  pub reach : (plan : Tree) (rest : List ℕ) → Within config plan → input ≡ script config plan ++ rest → Spells plan bytes × (left ≡ rest)
   pub written : Appends before after (page bytes (length left))
 
 -- It comes only once the whole input is read.

@@ -5,14 +5,13 @@ use Rattle.smith_format.specs.declared.config.Config.{Config}
 use Rattle.smith_syntax.specs.Entries.{Entry, ImportEntry}
 use Rattle.smith_syntax.specs.Scope.{places, is_func}
 use Rattle.smith_scopes.proofs.Stack.{places-append}
-use Rattle.smith_component.specs.Canonicals.{scalar_functions}
+use Rattle.smith_component.specs.Offers.{scalar_functions}
 use Rattle.smith_component.specs.Counted.{count_of, minimum_of}
 use Rattle.smith_component.specs.Filling.{CanFill}
-use Rattle.smith_component.specs.Limits.{Minima}
 use Rattle.smith_component.specs.Open.{Open, with_inner}
 use Rattle.smith_component.specs.Tables.{IsGrounded}
 use Rattle.smith_component.specs.Tree.{Tree, types, imports, add, types_of, types_in, imports_of, imports_in, functions_in, core_functions_in, function_count}
-use Rattle.smith_component.specs.Turn.{Fills, FillsAll, Lacks, of_imports, of_functions}
+use Rattle.smith_component.specs.Turn.{Fills, Lacks, of_imports, of_functions}
 use Rattle.smith_component.specs.WellFormed.{spaces_of}
 use Rattle.smith_component.specs.declared.item.Counted.{Counted}
 use Rattle.smith_component.specs.declared.item.Counted.TheVariants as counted
@@ -34,27 +33,6 @@ module _ (config : Config) where
       let few : config.min_imports ≤ length (imports_of typed) = subst (λ x. config.min_imports ≤ length (imports_of x)) (sym t.0) few_imports in
       let i = fill_none counted.Imports config (with_inner stack typed) mid imported low few is in
       (i.0 ∙ t.0, i.1 ∙ t.1)
-
-  -- all three, where none lack
-  none_of_three : (stack : Open) (b : List ℕ) (typed : Tree) (mid : List ℕ) (imported : Tree) (low : List ℕ) (full : Tree) (rest : List ℕ) → Minima config stack.inner
-      → Fills counted.Types config stack b typed mid → Fills counted.Imports config (with_inner stack typed) mid imported low → Fills counted.Functions config (with_inner stack imported) low full rest → (full ≡ stack.inner) × (rest ≡ b)
-  none_of_three stack b typed mid imported low full rest m ts is fs =
-      let i = neither stack b typed mid imported low m.types m.imports ts is in
-      let few : config.min_funcs ≤ function_count imported = subst (λ x. config.min_funcs ≤ function_count x) (sym i.0) m.functions in
-      let f = fill_none counted.Functions config (with_inner stack imported) low full rest few fs in
-      (f.0 ∙ i.0, f.1 ∙ i.1)
-
--- A component that lacks nothing stays as it is.
-pub fills_none : {config : Config} {stack : Open} {b : List ℕ} {full : Tree} {rest : List ℕ} → Minima config stack.inner → FillsAll config stack b full rest → (full ≡ stack.inner) × (rest ≡ b)
-fills_none {config} {stack} {b} {full} {rest} m f = none_of_three config stack b f.typed f.mid f.imported f.low full rest m f.types f.imports f.functions
-
-pub lacks_none : {config : Config} {stack : Open} {b : List ℕ} → Minima config stack.inner → Lacks config stack b → ⊥
-lacks_none {config} {stack} {b} m (of_imports {typed} {imported} {mid} {low} ts is less) =
-    let i = neither config stack b typed mid imported low m.types m.imports ts is in
-    omega (arith, less, ap (λ t. length (imports_of t)) i.0, m.imports)
-lacks_none {config} {stack} {b} m (of_functions {typed} {imported} {full} {mid} {low} {rest} ts is fs less) =
-    let f = none_of_three config stack b typed mid imported low full rest m ts is fs in
-    omega (arith, less, ap (λ t. function_count t) f.0, m.functions)
 
 -- how many types of functions there are
 abbrev func_types : Tree → ℕ

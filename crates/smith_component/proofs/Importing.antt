@@ -8,11 +8,12 @@ use Rattle.smith_format.specs.declared.config.Config.{Config}
 use Rattle.smith_syntax.specs.Entries.{ImportEntry}
 use Rattle.smith_syntax.specs.Scope.{Scope}
 use Rattle.smith_syntax.specs.declared.deftype.ComponentTypeRef.{ComponentTypeRef}
-use Rattle.smith_types.specs.References.{ReadsRef, allows_one, has_place, ref_offers, ref_to}
+use Rattle.smith_types.specs.References.{ReadsRef, ref_to}
+use Rattle.smith_types.specs.Offers.{allows_one, has_place, ref_offers}
 use Rattle.smith_types.specs.declared.make.references.RefKind.TheVariants as kind
 use Rattle.smith_types.specs.declared.make.references.RefTotals.{RefTotals}
 use Rattle.smith_scopes.proofs.Plain.{both_true}
-use Rattle.smith_component.specs.Imports.{totals_of, with_imports}
+use Rattle.smith_component.specs.Offers.{totals_of, with_imports}
 use Rattle.smith_component.specs.Open.{Open}
 use Rattle.smith_component.specs.Tree.{imports, functions_in, core_functions_in, function_of, module_of, component_of, instance_of}
 use Rattle.smith_component.proofs.Sound.{component_count-so_far, instance_count-so_far, module_count-so_far}

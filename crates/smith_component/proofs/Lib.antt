@@ -1,9 +1,17 @@
+pub mod CanonsRead
+pub mod CanonsSame
 pub mod Clear
+pub mod Decided
 pub mod Draft
 pub mod Filling
+pub mod Finishing
 pub mod Grammar
 pub mod Importing
+pub mod ImportsRead
+pub mod ImportsSame
 pub mod MadeWith
+pub mod PartsRead
+pub mod Plans
 pub mod ReadsCanons
 pub mod ReadsCoreTypes
 pub mod ReadsCustom
@@ -11,9 +19,9 @@ pub mod ReadsImports
 pub mod ReadsModule
 pub mod ReadsTypes
 pub mod Refusals
+pub mod Reproducible
 pub mod RunsTo
 pub mod Script
-pub mod Scripted
 pub mod Shown
 pub mod Sound
 pub mod Spaces
@@ -23,4 +31,3 @@ pub mod TooLong
 pub mod Tree
 pub mod Turn
 pub mod WellFormed
-pub mod Finishing

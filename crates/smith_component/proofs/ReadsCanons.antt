@@ -8,10 +8,10 @@ use Rattle.std.specs.Option.{option_to_list}
 use Rattle.std.specs.Prelude.{slice_get}
 use Rattle.smith_input.specs.Loops.{Loop, no_more, by_itself, an_item}
 use Rattle.smith_input.specs.Reading.{IsTail, More}
-use Rattle.smith_input.specs.Script.{offers_of, script_end}
+use Rattle.smith_input.specs.Script.{offers_of}
 use Rattle.smith_input.proofs.Choices.{among_tail}
-use Rattle.smith_input.proofs.Loops.{loop_tail, end_read}
-use Rattle.smith_input.proofs.ReadingLemmas.{tail_is, tail_trans, reads_tail, more_within, more_past, more_unique}
+use Rattle.smith_input.proofs.Loops.{loop_tail}
+use Rattle.smith_input.proofs.ReadingLemmas.{tail_is, tail_trans, reads_tail, more_within, more_past}
 use Rattle.smith_format.specs.CoreTypes.{Function}
 use Rattle.smith_format.specs.declared.config.Config.{Config}
 use Rattle.smith_format.specs.declared.types.ValType.{ValType}
@@ -22,7 +22,8 @@ use Rattle.smith_syntax.specs.WellFormed.{FormedEntry, FormedTypes, size}
 use Rattle.smith_syntax.specs.declared.types.ComponentValType.{ComponentValType}
 use Rattle.smith_syntax.proofs.Flat.{flattens_params}
 use Rattle.smith_types.proofs.Lifting.{lifted_tail, lifted_flattens, lifted_formed}
-use Rattle.smith_component.specs.Canonicals.{Growing, grown, spaces_at, with_canon, with_defined, scalar_functions, LiftsTo, to_equal, to_defined, given_up, ReadsLift, CanonTurn, NoCanon, empty_section, ReadsCanons}
+use Rattle.smith_component.specs.Canonicals.{Growing, grown, spaces_at, with_canon, with_defined, LiftsTo, to_equal, to_defined, given_up, ReadsLift, CanonTurn, NoCanon, empty_section, ReadsCanons}
+use Rattle.smith_component.specs.Offers.{scalar_functions}
 use Rattle.smith_component.specs.Open.{Open, scopes_in, tree_so_far, with_inner}
 use Rattle.smith_component.specs.Sound.{Sound}
 use Rattle.smith_component.specs.Tables.{IsGrounded}
@@ -33,7 +34,8 @@ use Rattle.smith_component.specs.declared.item.CanonItem.TheVariants.{Lower, Lif
 use Rattle.smith_component.proofs.Sound.{addable_types, own_limits-add, own_limits_of, own_sizes_of, part_sound}
 use Rattle.smith_component.proofs.Spaces.{all_at, get_last, spaces_canons, spaces_canon, spaces_types, imports_canons, imports_types, with_entries, functions_at, functions_after, extends_entries, has_signature_stays, Grounded, grounded_spaces, grounded_tree, grounded_entries, grounded_canon, formed_names, scalars_entries, scalars_grow, equal_at, formed_canons-snoc}
 use Rattle.smith_component.proofs.Tables.{scalar_at}
-use Rattle.smith_component.proofs.Tree.{all_both, length-own-add}
+use Rattle.smith_component.proofs.Tree.{length-own-add}
+use Rattle.smith_scopes.proofs.Plain.{all_both}
 use Rattle.smith_component.proofs.WellFormed.{formed_front}
 
 -- What turns keep, a loop keeps. Where it can't end by itself, it makes as many turns as it must.
@@ -245,21 +247,6 @@ module _ (config : Config) (least : ℕ) (t : Tree) {b : List ℕ} {turns : List
       0 (empty_section t) b turns rest next (omega arith)
       (imports_canons t [], ap (λ z. z.core_types) (spaces_canons t []), omega (arith, ap (λ z. length z.types) (spaces_canons t []))) r in
       all.2
-
--- A script of none adds an empty section.
-pub canons_none : (config : Config) (t : Tree) {b : List ℕ} {turns : List CanonItem} {rest : List ℕ} {next : Growing} (r : List ℕ) → ReadsCanons config 0 t b turns rest next → b ≡ script_end 0 (config.max_funcs - function_count t) ++ r → (grown next ≡ add t (canons [])) × (rest ≡ r)
-canons_none config t {b} {turns} {rest} {next} r l e = none l
-  where
-    most : ℕ
-    most = config.max_funcs - function_count t
-
-    ended : {answer : Bool} {mid : List ℕ} → More 0 0 most b answer mid → (answer ≡ false) × (mid ≡ r)
-    ended {answer} {mid} m = more_unique (subst (λ z. More 0 0 most z answer mid) e m) (end_read 0 most 0 r (omega arith) (omega arith))
-
-    none : {ts : List CanonItem} → Loop NoCanon (CanonTurn config) 0 most 0 (empty_section t) b ts rest next → (grown next ≡ add t (canons [])) × (rest ≡ r)
-    none (no_more m same) = (ap grown same, (ended m).1)
-    none (by_itself m end) = absurd (false≢true (sym (ended m).0))
-    none (an_item m i later) = absurd (false≢true (sym (ended m).0))
 
 -- What is true of the builder, so many turns after the section was begun.
 record Going (config : Config) (stack : Open) (n : ℕ) (s : Growing) : Type 0 where

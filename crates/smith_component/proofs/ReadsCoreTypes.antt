@@ -13,7 +13,9 @@ use Rattle.smith_syntax.specs.WellFormed.{FormedCores}
 use Rattle.smith_core_types.proofs.MadeCore.{made_core_tail, made_core_formed, made_core_limits, made_core_size, made_core_same, core_type_read}
 use Rattle.smith_scopes.proofs.Stack.{with_core_none}
 use Rattle.smith_component.specs.Limits.{SmallCoreTypes}
-use Rattle.smith_component.specs.Script.{script_core_entry, script_core_types, LastsCore}
+use Rattle.smith_component.specs.Script.{script_core_types}
+use Rattle.smith_types.specs.Script.{script_core, LastsCore}
+use Rattle.smith_types.proofs.ScopedScript.{core_read}
 use Rattle.smith_component.specs.Turn.{ReadsCoreType, ReadsCoreTypes}
 
 module _ (config : Config) where
@@ -59,14 +61,13 @@ module _ (config : Config) where
   all_said [] own f l = tt
   all_said (x ∷ xs) own f l = ((f.0, l.0), all_said xs (with_core_type own x) f.1 l.1)
 
-  one_read : (s : Scope) (x : CoreEntry) (rest : List ℕ) → Said s x → ReadsCoreType config s (script_core_entry config x ++ rest) x rest (with_core_type s x)
-  one_read s (core_func f) rest (formed, lasts) = (_, core_type_read config s config.max_type_size f rest lasts formed, refl)
-  one_read s (core_module ds) rest (formed, lasts) = absurd lasts
+  one_read : (s : Scope) (x : CoreEntry) (rest : List ℕ) → Said s x → ReadsCoreType config s (script_core config x ++ rest) x rest (with_core_type s x)
+  one_read s x rest (formed, lasts) = (_, core_read config s config.max_type_size x rest formed lasts, refl)
 
   -- Their script is read as them.
   pub core_types_read : (xs : List CoreEntry) (max : ℕ) (own : Scope) (rest : List ℕ) → AllByRecursion (CoreLimits config) xs → AllByRecursion (LastsCore config.max_type_size) xs → length xs ≤ max
       → ReadsCoreTypes config max own (script_core_types config max own xs ++ rest) xs rest (after_all with_core_type own xs)
-  core_types_read xs max own rest f l few = loop_read (λ s x. script_core_entry config x) with_core_type Said one_read xs 0 own rest (all_said xs own f l) (omega arith) (omega arith)
+  core_types_read xs max own rest f l few = loop_read (λ s x. script_core config x) with_core_type Said one_read xs 0 own rest (all_said xs own f l) (omega arith) (omega arith)
 
 -- The same where the scopes and the room are known by equations.
 pub core_types_read_where : (config : Config) (scopes outer : List Scope) (own : Scope) (max room : ℕ) {next : Scope} {b rest : List ℕ} {xs : List CoreEntry} → scopes ≡ own ∷ outer → max ≡ room → ReadsCoreTypes config max (own_of scopes) b xs rest next → ReadsCoreTypes config room own b xs rest next

@@ -9,21 +9,22 @@ use Rattle.smith_input.specs.Kebab.{Kebab}
 use Rattle.smith_input.specs.Loops.{Loop, no_more, by_itself, an_item}
 use Rattle.smith_input.specs.Names.{ReadsNew, is_among}
 use Rattle.smith_input.specs.Reading.{IsTail, More}
-use Rattle.smith_input.specs.Script.{offers_of, script_end}
-use Rattle.smith_input.proofs.Loops.{end_read, loop_all, loop_few, loop_gives, loop_tail}
+use Rattle.smith_input.specs.Script.{offers_of}
+use Rattle.smith_input.proofs.Loops.{loop_all, loop_few, loop_gives, loop_tail}
 use Rattle.smith_input.proofs.NewNames.{new_kebab}
-use Rattle.smith_input.proofs.ReadingLemmas.{more_past, more_unique, tail_is, tail_trans}
+use Rattle.smith_input.proofs.ReadingLemmas.{more_past, tail_is, tail_trans}
 use Rattle.smith_format.specs.declared.config.Config.{Config}
 use Rattle.smith_syntax.specs.Entries.{ImportEntry}
 use Rattle.smith_syntax.specs.Scope.{Scope, is_func, places}
 use Rattle.smith_syntax.specs.WellFormed.{Named}
 use Rattle.smith_syntax.specs.declared.deftype.ComponentTypeRef.{ComponentTypeRef}
 use Rattle.smith_syntax.specs.declared.deftype.ComponentTypeRef.TheVariants as to
-use Rattle.smith_types.specs.References.{ref_offers}
+use Rattle.smith_types.specs.Offers.{ref_offers}
 use Rattle.smith_types.proofs.DeclarationsRead.{extern_tail, ref_tail}
 use Rattle.smith_core_types.proofs.Names.{distinct_new, new_distinct, new_more, none_before}
 use Rattle.smith_types.proofs.References.{import_not_equal, ref_formed}
-use Rattle.smith_component.specs.Imports.{NoImport, ReadsImport, ReadsImports, import_kinds, totals_of, with_imports}
+use Rattle.smith_component.specs.Imports.{NoImport, ReadsImport, ReadsImports}
+use Rattle.smith_component.specs.Offers.{import_kinds, totals_of, with_imports}
 use Rattle.smith_component.specs.Limits.{OwnLimits}
 use Rattle.smith_component.specs.Open.{Open, tree_so_far}
 use Rattle.smith_component.specs.Sound.{IsAddable, Sound}
@@ -32,7 +33,8 @@ use Rattle.smith_component.specs.WellFormed.{Formed, FormedImport, FormedPart, i
 use Rattle.smith_component.proofs.Importing.{RefRoom, components_more, funcs_more, import_room, instances_more, modules_more}
 use Rattle.smith_component.proofs.Sound.{component_count-so_far, instance_count-so_far, module_count-so_far, own_limits-add, own_limits_of}
 use Rattle.smith_component.proofs.Tables.{import_names_more, own_bare}
-use Rattle.smith_component.proofs.Tree.{all_both, join-add, join-ends, length-own-add, own-add}
+use Rattle.smith_component.proofs.Tree.{join-add, join-ends, length-own-add, own-add}
+use Rattle.smith_scopes.proofs.Plain.{all_both}
 use Rattle.smith_component.proofs.WellFormed.{formed_front}
 
 -- Names in kebab case, none of them twice, and one more that is none of them.
@@ -248,14 +250,3 @@ module _ (config : Config) (stack : Open) where
       let start : (totals_of (with_imports stack [])).funcs ≤ function_count stack.inner + 0 = omega (arith, length-own-add functions_in stack.inner (imports []), length-own-add core_functions_in stack.inner (imports [])) in
       let enough : min ≤ 0 + length is = enough_from min room ordered has fits 0 [] b is rest is start r in
       omega (arith, enough)
-
-  none_read : (most : ℕ) (s : List ImportEntry) (b : List ℕ) (xs : List ImportEntry) (rest : List ℕ) (t : List ImportEntry) (r : List ℕ) → b ≡ script_end 0 most ++ r → Loop (NoImport config stack) (ReadsImport config stack) 0 most 0 s b xs rest t → (xs ≡ []) × (rest ≡ r)
-  none_read most s b xs rest t r e (no_more m f) = (refl, (more_unique (subst (λ z. More 0 0 most z false rest) e m) (end_read 0 most 0 r (omega arith) (omega arith))).1)
-  none_read most s b xs rest t r e (by_itself {mid = mid} m f) =
-      absurd (false≢true (sym (more_unique (subst (λ z. More 0 0 most z true mid) e m) (end_read 0 most 0 r (omega arith) (omega arith))).0))
-  none_read most s b xs rest t r e (an_item {mid = mid} m i l) =
-      absurd (false≢true (sym (more_unique (subst (λ z. More 0 0 most z true mid) e m) (end_read 0 most 0 r (omega arith) (omega arith))).0))
-
-  -- The script of no imports is read as none.
-  pub imports_none : {b rest r : List ℕ} {is : List ImportEntry} → ReadsImports config 0 stack b is rest → b ≡ script_end 0 (config.max_imports - length (imports_of stack.inner)) ++ r → (is ≡ []) × (rest ≡ r)
-  imports_none {b = b} {rest = rest} {r = r} {is = is} reads e = none_read room [] b is rest is r e reads

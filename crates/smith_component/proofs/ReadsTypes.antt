@@ -1,6 +1,6 @@
 -- What a type section reads: well formed types, as many as there must be, within the limits and their fuel, a tail of the bytes; and
 -- what its script says.
-use Rattle.std.proofs.Common.{◌≡◌, ℕ, ◌+◌, ◌-◌, ◌≤◌, ◌^◌, max, List, [], ◌∷◌, ◌++◌, length, arith, refl, sym, ap, ◌∙◌, subst, length-append, append_assoc}
+use Rattle.std.proofs.Common.{◌≡◌, ℕ, suc, ◌+◌, ◌-◌, ◌≤◌, ◌^◌, max, List, [], ◌∷◌, ◌++◌, length, arith, refl, sym, ap, ◌∙◌, subst, length-append, append_assoc}
 use Rattle.std.specs.List.{AllByRecursion}
 use Rattle.smith_input.specs.Loops.{Along, after_all}
 use Rattle.smith_input.specs.Reading.{IsTail}
@@ -8,7 +8,7 @@ use Rattle.smith_input.proofs.Loops.{loop_tail, loop_gives, loop_all, loop_enoug
 use Rattle.smith_format.specs.declared.config.Config.{Config}
 use Rattle.smith_syntax.specs.Entries.{Entry}
 use Rattle.smith_syntax.specs.Scope.{Scope, with_type, with_types, own_of, outer_of}
-use Rattle.smith_types.specs.Script.{script_type, Lasts}
+use Rattle.smith_types.specs.Script.{script_type, Fit, Lasts}
 use Rattle.smith_syntax.specs.TypeLimits.{EntryLimits, nesting}
 use Rattle.smith_syntax.specs.WellFormed.{FormedEntry, FormedTypes}
 use Rattle.smith_scopes.proofs.Stack.{with_none}
@@ -16,7 +16,7 @@ use Rattle.smith_component.specs.Limits.{SmallTypes}
 use Rattle.smith_component.specs.Tree.{most_nested}
 use Rattle.smith_component.specs.Script.{script_types}
 use Rattle.smith_component.specs.Turn.{ReadsType, ReadsTypes}
-use Rattle.smith_types.proofs.Script.{type_read}
+use Rattle.smith_types.proofs.ScopedScript.{type_read}
 use Rattle.smith_component.proofs.MadeWith.{made_with_tail, made_with_formed, made_with_limits, made_with_nesting, made_with_size, made_with_same}
 
 module _ (config : Config) (outer : List Scope) where
@@ -76,22 +76,29 @@ module _ (config : Config) (outer : List Scope) where
           let m = made_with_same made other in
           (m.0, m.1, e ∙ (ap (with_type s) m.0 ∙ sym f))
 
+  -- no more stand in a scope than a choice can be spelled of
+  abbrev pub IsFew : Scope → Type 0
+  IsFew s = length s.types + length s.core_types ≤ 2 ^ 64
+
   -- A type may stand in a scope, and its script can say it.
   abbrev Said : Scope → Entry → Type 0
-  Said s x = FormedEntry x s outer × Lasts config.max_type_size x × (length s.types ≤ 2 ^ 64)
+  Said s x = FormedEntry x s outer × EntryLimits config x × Lasts x config (suc (length outer)) config.max_type_size × IsFew s
 
-  all_said : (xs : List Entry) (own : Scope) → FormedTypes xs own outer → AllByRecursion (Lasts config.max_type_size) xs → length own.types + length xs ≤ 2 ^ 64 → Along Said with_type own xs
-  all_said [] own f l small = tt
-  all_said (x ∷ xs) own f l small = ((f.0, l.0, omega arith), all_said xs (with_type own x) f.1 l.1 (omega (arith, length-append own.types (x ∷ []))))
+  all_said : (xs : List Entry) (own : Scope) → FormedTypes xs own outer → AllByRecursion (EntryLimits config) xs → AllByRecursion (λ e. Lasts e config (suc (length outer)) config.max_type_size) xs → length own.types + length own.core_types + length xs ≤ 2 ^ 64 → Along Said with_type own xs
+  all_said [] own f m l small = tt
+  all_said (x ∷ xs) own f m l small = ((f.0, m.0, l.0, omega arith), all_said xs (with_type own x) f.1 m.1 l.1 (omega (arith, length-append own.types (x ∷ []))))
 
   -- Their script is read as them.
-  pub types_read : (xs : List Entry) (max : ℕ) (own : Scope) (rest : List ℕ) → FormedTypes xs own outer → AllByRecursion (Lasts config.max_type_size) xs → length xs ≤ max → length own.types + length xs ≤ 2 ^ 64
-      → ReadsTypes config outer 0 max own (script_types config max own xs ++ rest) xs rest (after_all with_type own xs)
-  types_read xs max own rest f l few small =
-      loop_read (script_type config.max_type_size) with_type Said one xs 0 own rest (all_said xs own f l small) (omega arith) (omega arith)
+  pub types_read : AllByRecursion IsFew outer → suc (length outer) ≤ 1000 → config.max_nesting_depth ≤ 1000 → (xs : List Entry) (max : ℕ) (own : Scope) (rest : List ℕ) → FormedTypes xs own outer → AllByRecursion (EntryLimits config) xs
+      → AllByRecursion (λ e. Lasts e config (suc (length outer)) config.max_type_size) xs → length xs ≤ max → length own.types + length own.core_types + length xs ≤ 2 ^ 64
+      → ReadsTypes config outer 0 max own (script_types config max own outer xs ++ rest) xs rest (after_all with_type own xs)
+  types_read around shallow deep xs max own rest f m l few small =
+      loop_read (λ s e. script_type e config config.max_type_size s outer) with_type Said one xs 0 own rest (all_said xs own f m l small) (omega arith) (omega arith)
     where
-      one : (s : Scope) (x : Entry) (rest : List ℕ) → Said s x → ReadsType config outer s (script_type config.max_type_size s x ++ rest) x rest (with_type s x)
-      one s x rest (formed, lasts, small) = (type_read s small config outer config.max_type_size x rest formed lasts, refl)
+      one : (s : Scope) (x : Entry) (rest : List ℕ) → Said s x → ReadsType config outer s (script_type x config config.max_type_size s outer ++ rest) x rest (with_type s x)
+      one s x rest (formed, limits, lasts, small) =
+          let fit : Fit (s ∷ outer) = record { many = omega (arith, shallow); each = (small, around) } in
+          (type_read config deep s outer config.max_type_size x rest (record { formed = formed; limits = limits; lasts = lasts; fit = fit; shallow = shallow }), refl)
 
 -- The same where the scopes and the room are known by equations.
 pub types_read_where : (config : Config) (scopes outer : List Scope) (own : Scope) (max room : ℕ) {min : ℕ} {next : Scope} {b rest : List ℕ} {xs : List Entry} → scopes ≡ own ∷ outer → max ≡ room → ReadsTypes config (outer_of scopes) min max (own_of scopes) b xs rest next → ReadsTypes config outer min room own b xs rest next

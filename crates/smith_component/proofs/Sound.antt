@@ -18,7 +18,8 @@ use Rattle.smith_component.specs.Limits.{SmallTypes, SmallCoreTypes, OwnSizes, S
 use Rattle.smith_component.specs.Sound.{IsAddable, IsQuiet, Sound, finished_in}
 use Rattle.smith_component.specs.declared.builder.totals.TreeTotals.{TreeTotals}
 use Rattle.smith_component.proofs.WellFormed.{formed_so_far}
-use Rattle.smith_component.proofs.Tree.{tree_so_far-close, depth-so_far, length-anywhere-so_far, anywhere-add, depth-outer, own-add, length-own-add, all_both, all_front, all_back, all_so_far, all_inner, Swaps}
+use Rattle.smith_component.proofs.Tree.{tree_so_far-close, depth-so_far, length-anywhere-so_far, anywhere-add, depth-outer, own-add, length-own-add, all_so_far, all_inner, Swaps}
+use Rattle.smith_scopes.proofs.Plain.{all_both, all_front, all_back}
 
 -- names that are short enough
 abbrev pub Short : List (List ℕ) → Type 0

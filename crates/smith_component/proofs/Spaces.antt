@@ -13,12 +13,13 @@ use Rattle.smith_syntax.specs.declared.deftype.DefType.{DefType}
 use Rattle.smith_scopes.specs.Scopes.{Contents, last_of, own_scope}
 use Rattle.smith_scopes.proofs.Places.{get_left, place_stands}
 use Rattle.smith_scopes.proofs.Stack.{own_last, places-append}
-use Rattle.smith_component.specs.Canonicals.{is_scalar_entry, is_scalar_type, scalar_functions}
+use Rattle.smith_component.specs.Offers.{is_scalar_entry, is_scalar_type, scalar_functions}
 use Rattle.smith_component.specs.Tables.{IsGrounded}
 use Rattle.smith_component.specs.Tree.{Tree, Canon, lift, lower, lifted_by, lowered_by, types, canons, add, types_in, core_types_in, functions_in, core_functions_in, imports_in, types_of, core_types_of, functions_of, core_functions_of, imports_of}
 use Rattle.smith_component.specs.WellFormed.{Spaces, spaces_of, scope_of, after_canon, HasSignature, FormedCanon, FormedCanons}
 use Rattle.smith_component.proofs.Tables.{all_weaker, places_agree}
-use Rattle.smith_component.proofs.Tree.{all_both, own-add}
+use Rattle.smith_component.proofs.Tree.{own-add}
+use Rattle.smith_scopes.proofs.Plain.{all_both}
 
 -- lists that grow at the end
 

@@ -15,12 +15,13 @@ use Rattle.smith_types.specs.MakingTypes.{HoldsExterns}
 use Rattle.smith_types.proofs.Externs.{names_more}
 use Rattle.smith_scopes.proofs.Places.{get_left, place_stands}
 use Rattle.smith_scopes.proofs.Stack.{places-append}
-use Rattle.smith_component.specs.Canonicals.{is_scalar_entry, is_scalar_type, scalar_functions}
+use Rattle.smith_component.specs.Offers.{is_scalar_entry, is_scalar_type, scalar_functions}
 use Rattle.smith_component.specs.Tables.{AddsCoreFunction, AddsFunction, IsGrounded, IsLowerable, Tabled}
 use Rattle.smith_component.specs.Tree.{Tree, Part, add, own, types_of, functions_of, core_functions_of, imports_of}
 use Rattle.smith_component.specs.WellFormed.{import_names, scope_of, spaces_of}
 use Rattle.smith_component.specs.declared.builder.tables.Tables.{Tables}
-use Rattle.smith_component.proofs.Tree.{all_both, own-add}
+use Rattle.smith_component.proofs.Tree.{own-add}
+use Rattle.smith_scopes.proofs.Plain.{all_both}
 
 -- What a component has grows as its last part does.
 pub own_grown : {A : Type 0} (f : Part → List A) (t : Tree) (p q : Part) (more : List A) → f q ≡ f p ++ more → own f (add t q) ≡ own f (add t p) ++ more

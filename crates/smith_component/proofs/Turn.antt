@@ -139,6 +139,10 @@ turn_falls config stack next (x ∷ xs) left2 m t =
     let a : t.after ≡ xs = after_one _ x xs t.chooses.place t.after (omega (arith, some.0)) (omega (arith, some.1)) t.chooses.reads in
     omega (arith, todo_bound config left2 next (length xs) d.0 (omega (arith, d.1, ap length a)))
 
+-- No more components are open after a turn than may be.
+pub turn_shallow : (config : Config) (stack next : Open) (left left2 : List ℕ) → length stack.outer + 1 ≤ max_depth config → Turn config stack left (building next) left2 → length next.outer + 1 ≤ max_depth config
+turn_shallow config stack next left left2 m t = (does_length config t.item stack next t.after left2 (chosen config stack left t.after t.item t.chooses).1 m t.does).0
+
 pub falls : (config : Config) (stack : Open) (next : Next) (left left2 : List ℕ) → length stack.outer + 1 ≤ max_depth config → Turn config stack left next left2 → Falls config left stack left2 next
 falls config stack (building next) left left2 m t = turn_falls config stack next left left2 m t
 falls config stack (answered c) left left2 m t = tt

@@ -1,13 +1,12 @@
 -- How canonical functions are read, and where a lift defines its type.
-use Rattle.std.specs.Prelude.{◌≡◌, ℕ, ◌-◌, ◌<◌, ◌≤◌, Bool, false, List, [], ◌∷◌, ◌++◌, length, nat_lt, Some, None, slice_get}
+use Rattle.std.specs.Prelude.{◌≡◌, ℕ, ◌-◌, ◌<◌, ◌≤◌, List, [], ◌∷◌, ◌++◌, length, Some, slice_get}
 use Rattle.smith_input.specs.Choices.{ReadsAmong}
 use Rattle.smith_input.specs.Loops.{Loop}
 use Rattle.smith_input.specs.Reading.{Reads}
-use Rattle.smith_input.specs.Script.{offers_of}
 use Rattle.smith_format.specs.CoreTypes.{Function}
 use Rattle.smith_format.specs.declared.config.Config.{Config}
-use Rattle.smith_syntax.specs.Entries.{Entry, defined, function, component_type, instance_type, Signature}
-use Rattle.smith_syntax.specs.Flat.{Flattens, is_scalar}
+use Rattle.smith_syntax.specs.Entries.{function, Signature}
+use Rattle.smith_syntax.specs.Flat.{Flattens}
 use Rattle.smith_syntax.specs.Scope.{places}
 use Rattle.smith_syntax.specs.Shown.{is_of_signature}
 use Rattle.smith_types.specs.Lifting.{ReadsLifted}
@@ -15,6 +14,7 @@ use Rattle.smith_component.specs.Tree.{Canon, lift, lower, Tree, types, canons, 
 use Rattle.smith_component.specs.WellFormed.{Spaces, spaces_of, HasSignature}
 use Rattle.smith_component.specs.declared.item.CanonItem.{CanonItem}
 use Rattle.smith_component.specs.declared.item.CanonItem.TheVariants.{Lower, Lift}
+use Rattle.smith_component.specs.Offers.{canon_items, scalar_functions}
 
 -- A canonical section that grows: the parts in front of it, and what it has so far.
 pub record Growing : Type 0 where
@@ -31,28 +31,6 @@ spaces_at s = spaces_of (grown s)
 -- the section with one function more
 abbrev pub with_canon : Growing → Canon → Growing
 with_canon s c = record { before = s.before; funcs = s.funcs ++ c ∷ [] }
-
--- Is it a function type that flattens?
-abbrev pub is_scalar_entry : Entry → Bool
-is_scalar_entry (defined t) = false
-is_scalar_entry (function s) = is_scalar s
-is_scalar_entry (component_type ds) = false
-is_scalar_entry (instance_type ds) = false
-
--- Is the type of that index one?
-abbrev pub is_scalar_type : List Entry → ℕ → Bool
-is_scalar_type ts t = elim (slice_get ts t) [ None ↦ false | Some e ↦ is_scalar_entry e ]
-
--- the component functions that can be lowered, ascending
-abbrev pub scalar_functions : Spaces → List ℕ
-scalar_functions s = places (is_scalar_type s.types) 0 s.functions
-
--- what a turn is among: a lower where there is a function that can be lowered, and a lift where there is a core function
-abbrev pub canon_offers : Spaces → List (Bool × CanonItem)
-canon_offers s = (nat_lt 0 (length (scalar_functions s)), Lower) ∷ (nat_lt 0 (length s.core_functions), Lift) ∷ []
-
-abbrev pub canon_items : Spaces → List CanonItem
-canon_items s = offers_of (canon_offers s)
 
 -- a choice of a function that can be lowered
 abbrev pub ReadsLower : Growing → List ℕ → List ℕ → Growing → Type 0

@@ -2,7 +2,7 @@
 use Rattle.std.specs.Prelude.{ℕ, ◌+◌, ◌-◌, ◌<◌, ◌≤◌, ◌⊎◌, length}
 use Rattle.smith_format.specs.declared.config.Config.{Config}
 use Rattle.smith_syntax.specs.Scope.{places, is_func}
-use Rattle.smith_component.specs.Canonicals.{scalar_functions}
+use Rattle.smith_component.specs.Offers.{scalar_functions}
 use Rattle.smith_component.specs.Tree.{Tree, types_of, imports_of, function_count}
 use Rattle.smith_component.specs.WellFormed.{spaces_of}
 

@@ -5,7 +5,8 @@ use Rattle.smith_syntax.specs.Entries.{ImportEntry}
 use Rattle.smith_syntax.specs.Scope.{Scope}
 use Rattle.smith_syntax.specs.Shown.{import_shown}
 use Rattle.smith_syntax.specs.declared.deftype.Import.{Import}
-use Rattle.smith_component.specs.Imports.{with_imports, NoImport, ReadsImport}
+use Rattle.smith_component.specs.Imports.{NoImport, ReadsImport}
+use Rattle.smith_component.specs.Offers.{with_imports}
 use Rattle.smith_component.specs.Open.{Open, tree_so_far}
 use Rattle.smith_component.specs.Tables.{Tabled}
 use Rattle.smith_component.specs.Tree.{module_count, component_count, instance_count}

@@ -5,29 +5,11 @@ use Rattle.smith_format.specs.declared.config.Config.{Config}
 use Rattle.smith_syntax.specs.Entries.{ImportEntry}
 use Rattle.smith_syntax.specs.WellFormed.{names}
 use Rattle.smith_types.specs.Declarations.{NamedExtern, ReadsNamedExtern}
-use Rattle.smith_types.specs.References.{ReadsRef, ref_kinds}
-use Rattle.smith_types.specs.declared.make.references.RefKind.{RefKind}
-use Rattle.smith_types.specs.declared.make.references.RefTotals.{RefTotals}
-use Rattle.smith_component.specs.Open.{Open, tree_so_far, with_inner}
-use Rattle.smith_component.specs.Tree.{imports, add, imports_of, module_count, component_count, instance_count, function_count}
+use Rattle.smith_types.specs.References.{ReadsRef}
+use Rattle.smith_component.specs.Open.{Open}
+use Rattle.smith_component.specs.Tree.{imports_of}
 use Rattle.smith_component.specs.WellFormed.{scope_of, import_names}
-
--- the open components, where the inner one has these imports more in a section of their own
-abbrev pub with_imports : Open → List ImportEntry → Open
-with_imports stack is = with_inner stack (add stack.inner (imports is))
-
--- how many modules, components and instances the tree has so far, and how many functions the inner component
-abbrev pub totals_of : Open → RefTotals
-totals_of stack = record {
-  modules = module_count (tree_so_far stack.outer stack.inner);
-  funcs = function_count stack.inner;
-  components = component_count (tree_so_far stack.outer stack.inner);
-  instances = instance_count (tree_so_far stack.outer stack.inner);
-}
-
--- what the next import may be of, where the section has these
-abbrev pub import_kinds : Config → Open → List ImportEntry → List RefKind
-import_kinds config stack is = ref_kinds config (scope_of stack.inner) (totals_of (with_imports stack is)) true false
+use Rattle.smith_component.specs.Offers.{with_imports, totals_of, import_kinds}
 
 -- An import behind these of its section: what it is of, a name that is new among the component's imports, and a URL or none, which is
 -- new among some of which a plain tree knows nothing.

@@ -1,18 +1,19 @@
 -- The input that a plan is read from.
-use Rattle.std.specs.Prelude.{◌≡◌, ◌≤◌, ℕ, ◌-◌, List, [], ◌∷◌, ◌++◌, length}
+use Rattle.std.specs.Prelude.{◌≤◌, ℕ, suc, ◌-◌, true, false, List, [], ◌∷◌, ◌++◌, length}
 use Rattle.std.specs.List.{AllByRecursion}
 use Rattle.std.specs.Str.{IsUtf8}
-use Rattle.smith_input.specs.Script.{script_among, script_end, script_loop, script_text, script_bytes}
+use Rattle.smith_input.specs.Script.{script_among, script_loop, script_text, script_bytes}
 use Rattle.smith_format.specs.declared.config.Config.{Config}
-use Rattle.smith_syntax.specs.Entries.{Entry, CoreEntry, core_func, core_module}
+use Rattle.smith_syntax.specs.Entries.{Entry, CoreEntry, ImportEntry}
 use Rattle.smith_syntax.specs.Scope.{Scope, with_type, with_core_type}
-use Rattle.smith_core_types.specs.Script.{script_core_type}
-use Rattle.smith_types.specs.Script.{script_type, Lasts}
+use Rattle.smith_types.specs.Script.{script_type, script_core, script_ref, script_extern, Lasts, LastsCore}
 use Rattle.smith_component.specs.Tree.{Tree, ends, first, Part, custom, core_module, core_types, component, types, canons, imports, add, types_of, core_types_of, imports_of, function_count}
+use Rattle.smith_component.specs.CanonScript.{script_canons}
 use Rattle.smith_component.specs.Grammar.{Spells}
-use Rattle.smith_component.specs.Open.{items_with_input}
-use Rattle.smith_component.specs.WellFormed.{WellFormed, scope_of}
-use Rattle.smith_component.specs.Limits.{Limits}
+use Rattle.smith_component.specs.Offers.{totals_of, with_imports}
+use Rattle.smith_component.specs.Open.{Open, items_with_input, scopes_in, tree_so_far}
+use Rattle.smith_component.specs.WellFormed.{Formed, WellFormed, scope_of, spaces_of}
+use Rattle.smith_component.specs.Limits.{Limits, Maxima}
 use Rattle.smith_component.specs.contracts.item.ItemPartialEq.TheImpl.{ghosts as equal}
 use Rattle.smith_component.specs.declared.item.Item.{Item}
 use Rattle.smith_component.specs.declared.item.Item.TheVariants as item
@@ -32,17 +33,19 @@ abbrev pub script_item : Config → List Tree → Tree → Item → List ℕ
 script_item config outer before chosen = script_among equal.eq (items_with_input config (record { outer = outer; inner = before })) chosen
 
 -- The entries of a type section: a byte before each, and one at the end where there might be another.
-abbrev pub script_types : Config → ℕ → Scope → List Entry → List ℕ
-script_types config max own ts = script_loop (script_type config.max_type_size) with_type 0 max 0 own ts
-
--- a core type of a plan, which is a function type
-abbrev pub script_core_entry : Config → CoreEntry → List ℕ
-script_core_entry config (core_func f) = script_core_type config f
-script_core_entry config (core_module ds) = []
+abbrev pub script_types : Config → ℕ → Scope → List Scope → List Entry → List ℕ
+script_types config max own outer ts = script_loop (λ s e. script_type e config config.max_type_size s outer) with_type 0 max 0 own ts
 
 -- The same of a core type section.
 abbrev pub script_core_types : Config → ℕ → Scope → List CoreEntry → List ℕ
-script_core_types config max own ts = script_loop (λ s x. script_core_entry config x) with_core_type 0 max 0 own ts
+script_core_types config max own ts = script_loop (λ s x. script_core config x) with_core_type 0 max 0 own ts
+
+-- an import where the section has these: what it is of, its name, and that there is no URL
+abbrev pub script_import : Config → Open → List ImportEntry → ImportEntry → List ℕ
+script_import config stack is x = script_ref config (scope_of stack.inner) (totals_of (with_imports stack is)) true false x.to ++ script_extern x.name
+
+abbrev pub script_imports : Config → Open → List ImportEntry → List ℕ
+script_imports config stack is = script_loop (script_import config stack) (λ s x. s ++ x ∷ []) 0 (config.max_imports - length (imports_of stack.inner)) 0 [] is
 
 -- The rest of a component, where these components are open around it and these parts stand before it; and what follows the choice
 -- of its item in the script of a part.
@@ -56,37 +59,43 @@ abbrev mutual
   script_part (core_module text) config outer before = []
   script_part (core_types ts) config outer before = script_core_types config (config.max_types - length (core_types_of before)) (scope_of before) ts
   script_part (component t) config outer before = script_from t config (outer ++ before ∷ []) ends
-  script_part (types ts) config outer before = script_types config (config.max_types - length (types_of before)) (scope_of before) ts
-  script_part (canons fs) config outer before = script_end 0 (config.max_funcs - function_count before)
-  script_part (imports is) config outer before = script_end 0 (config.max_imports - length (imports_of before))
+  script_part (types ts) config outer before = script_types config (config.max_types - length (types_of before)) (scope_of before) (scopes_in outer) ts
+  script_part (canons fs) config outer before = script_canons (config.max_funcs - function_count before) (spaces_of before) fs
+  script_part (imports is) config outer before = script_imports config (record { outer = outer; inner = before }) is
 
 abbrev pub script : Config → Tree → List ℕ
 script config plan = script_from plan config [] ends
 
--- A core type is a function type, and the fuel lasts for it.
-abbrev pub LastsCore : ℕ → CoreEntry → Type 0
-LastsCore fuel (core_func f) = 2 ≤ fuel
-LastsCore fuel (core_module ds) = ⊥
+-- an import whose name can be read
+abbrev pub IsPlanImport : ImportEntry → Type 0
+IsPlanImport x = length x.name ≤ 100
 
--- A plan that scripts can say: custom sections, core type sections of function types, type sections for which the fuel lasts, import
--- and canonical sections without entries, and components of these.
+-- A plan that scripts can say, where so many scopes are on the stack: custom sections, core type sections of function types, type
+-- sections for which the fuel lasts, imports, canonical functions, and components of these. No lift of a script defines its type: each is
+-- to one that stands there.
 abbrev mutual
-  pub IsPlan : Config → Tree → Type 0
-  IsPlan config ends = Unit {0}
-  IsPlan config (first p t) = IsPlanPart config p × IsPlan config t
+  pub IsPlan : Config → ℕ → Tree → Type 0
+  IsPlan config scopes ends = Unit {0}
+  IsPlan config scopes (first p t) = IsPlanPart config scopes p × IsPlan config scopes t
 
-  pub IsPlanPart : Config → Part → Type 0
-  IsPlanPart config (custom name contents) = IsUtf8 name
-  IsPlanPart config (core_module text) = ⊥
-  IsPlanPart config (core_types ts) = AllByRecursion (LastsCore config.max_type_size) ts
-  IsPlanPart config (component t) = IsPlan config t
-  IsPlanPart config (types ts) = AllByRecursion (Lasts config.max_type_size) ts
-  IsPlanPart config (canons fs) = fs ≡ []
-  IsPlanPart config (imports is) = is ≡ []
+  pub IsPlanPart : Config → ℕ → Part → Type 0
+  IsPlanPart config scopes (custom name contents) = IsUtf8 name
+  IsPlanPart config scopes (core_module text) = ⊥
+  IsPlanPart config scopes (core_types ts) = AllByRecursion (LastsCore config.max_type_size) ts
+  IsPlanPart config scopes (component t) = IsPlan config (suc scopes) t
+  IsPlanPart config scopes (types ts) = AllByRecursion (λ e. Lasts e config scopes config.max_type_size) ts
+  IsPlanPart config scopes (canons fs) = Unit {0}
+  IsPlanPart config scopes (imports is) = AllByRecursion IsPlanImport is
 
 -- a plan within the limits of a config, which has a spelling
 pub record Within (config : Config) (plan : Tree) : Type 0 where
-  pub scripted : IsPlan config plan
+  pub scripted : IsPlan config 1 plan
   pub formed : WellFormed plan
   pub limits : Limits config plan
   pub spelled : (b : List ℕ) × Spells plan b
+
+-- With a part more, the inner component stays the beginning of a plan, and the tree within its limits.
+pub record Continues (config : Config) (stack : Open) (p : Part) : Type 0 where
+  pub plan : IsPlan config (suc (length stack.outer)) (add stack.inner p)
+  pub formed : Formed (add stack.inner p) (scopes_in stack.outer) ends
+  pub maxima : Maxima config (tree_so_far stack.outer (add stack.inner p))

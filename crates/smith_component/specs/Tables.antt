@@ -7,7 +7,7 @@ use Rattle.smith_syntax.specs.Scope.{Scope}
 use Rattle.smith_syntax.specs.WellFormed.{names}
 use Rattle.smith_types.specs.Declarations.{NamedExtern}
 use Rattle.smith_types.specs.MakingTypes.{HoldsExterns}
-use Rattle.smith_component.specs.Canonicals.{is_scalar_type, scalar_functions}
+use Rattle.smith_component.specs.Offers.{is_scalar_type, scalar_functions}
 use Rattle.smith_component.specs.Tree.{Tree, types_of, functions_of, core_functions_of, imports_of}
 use Rattle.smith_component.specs.WellFormed.{HasSignature, import_names, spaces_of}
 use Rattle.smith_component.specs.declared.builder.tables.Tables.{Tables}

@@ -43,21 +43,6 @@ Closes stack next =
     ((stack.outer ≡ []) × (next ≡ answered stack.inner))
     ⊎ ((outers : List Tree) × (parent : Tree) × (stack.outer ≡ outers ++ parent ∷ []) × (next ≡ building (record { outer = outers; inner = add parent (component stack.inner) })))
 
--- One turn leads from the open components and the bytes left to what comes next and the bytes left then: a choice names an item, and
--- the rule says what that does.
-pub record TurnBy (Rule : Item → Open → List ℕ → Next → List ℕ → Type 0) (config : Config) (stack : Open) (left : List ℕ) (next : Next) (left2 : List ℕ) : Type 0 where
-  pub item : Item
-  pub after : List ℕ
-  pub chooses : ReadsAmong (items config stack left) left item after
-  pub does : Rule item stack after next left2
-
--- k such turns in a row
-abbrev pub TurnsBy : (Item → Open → List ℕ → Next → List ℕ → Type 0) → Config → Next → List ℕ → Next → List ℕ → ℕ → Type 0
-TurnsBy Rule config now left next left2 zero = (next ≡ now) × (left2 ≡ left)
-TurnsBy Rule config (answered t) left next left2 (suc k) = ⊥
-TurnsBy Rule config (building stack) left next left2 (suc k) =
-    (mid : Next) × (left1 : List ℕ) × TurnBy Rule config stack left mid left1 × TurnsBy Rule config mid left1 next left2 k
-
 -- a custom section: a text of at most 1000 bytes, and then any bytes
 abbrev pub ReadsCustom : List ℕ → List ℕ → List ℕ → List ℕ → Type 0
 ReadsCustom b name contents rest = (mid : List ℕ) × ReadsText 1000 b name mid × ReadsBytes mid contents rest
@@ -141,8 +126,13 @@ Does config Canonical stack b next rest = AddsAny counted.Functions config stack
 Does config Module stack b next rest = (m : ModuleParts) × ReadsStandIn config b m rest × (next ≡ with_part stack (core_module (shown_module m)))
 Does config Component stack b next rest = (rest ≡ b) × (next ≡ with_open stack)
 
-abbrev pub Turn : Config → Open → List ℕ → Next → List ℕ → Type 0
-Turn config stack left next left2 = TurnBy (Does config) config stack left next left2
+-- One turn leads from the open components and the bytes left to what comes next and the bytes left then: a choice names an item, and
+-- that is done.
+pub record Turn (config : Config) (stack : Open) (left : List ℕ) (next : Next) (left2 : List ℕ) : Type 0 where
+  pub item : Item
+  pub after : List ℕ
+  pub chooses : ReadsAmong (items config stack left) left item after
+  pub does : Does config item stack after next left2
 
 -- The finish is chosen, and imports or functions lack.
 abbrev pub LacksAt : Config → Open → List ℕ → Type 0
@@ -152,8 +142,11 @@ LacksAt config stack left = (after : List ℕ) × ReadsAmong (items config stack
 abbrev pub RefusesModuleAt : Config → Open → List ℕ → Type 0
 RefusesModuleAt config stack left = (after : List ℕ) × ReadsAmong (items config stack left) left Module after × (config.max_memories < config.min_memories)
 
+-- k such turns in a row
 abbrev pub Turns : Config → Next → List ℕ → Next → List ℕ → ℕ → Type 0
-Turns config now left next left2 k = TurnsBy (Does config) config now left next left2 k
+Turns config now left next left2 zero = (next ≡ now) × (left2 ≡ left)
+Turns config (answered t) left next left2 (suc k) = ⊥
+Turns config (building stack) left next left2 (suc k) = (mid : Next) × (left1 : List ℕ) × Turn config stack left mid left1 × Turns config mid left1 next left2 k
 
 -- k turns in a row lead from one empty open component to the answer
 abbrev pub Run : Config → List ℕ → Tree → List ℕ → ℕ → Type 0

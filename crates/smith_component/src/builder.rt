@@ -7,7 +7,6 @@ ghost use Rattle.smith_component.specs.Building.{open_of};
 ghost use Rattle.smith_component.specs.Filling.{CanFill};
 ghost use Rattle.smith_component.specs.Limits.{max_depth};
 ghost use Rattle.smith_component.specs.Refusals.{IsNewRefusal, IsStepRefusal};
-ghost use Rattle.smith_component.specs.Scripted.{Scripted};
 ghost use Rattle.smith_component.specs.Shown.{shown_sections};
 ghost use Rattle.smith_component.specs.Steps.{next_of, KeepsSections, StaysSound};
 ghost use Rattle.smith_component.specs.Tree.{ends};
@@ -100,8 +99,6 @@ impl Builder {
     // What the choice names is done.
     fn take_turn(self, u: &mut Unstructured) -> Result<Step, Error>
         ensures turn { IfOk result (λ s. Turn self.config (open_of self) u.old (next_of s) u.new) }
-        ensures follows { (n : Next) (rest : List ℕ) → Scripted self.config (open_of self) u.old n rest
-            → IfOk result (λ s. (next_of s ≡ n) × (u.new ≡ rest)) }
         ensures keeps { IfOk result (StaysSound self.config) }
         ensures sections { IfOk result (KeepsSections self) }
         ensures depth { length (open_of self).outer + 1 ≤ max_depth self.config }
@@ -128,8 +125,6 @@ impl Builder {
     /// limits on memories leave none, it is `ModuleRefused`. Nothing else is refused but for want of memory.
     pub fn step(self, u: &mut Unstructured) -> Result<Step, Error>
         ensures turn { IfOk result (λ s. Turn self.config (open_of self) u.old (next_of s) u.new) }
-        ensures follows { (n : Next) (rest : List ℕ) → Scripted self.config (open_of self) u.old n rest
-            → IfOk result (λ s. (next_of s ≡ n) × (u.new ≡ rest)) }
         ensures keeps { IfOk result (StaysSound self.config) }
         ensures sections { IfOk result (KeepsSections self) }
         ensures falls { IfOk result (λ s. Falls self.config u.old (open_of self) u.new (next_of s)) }

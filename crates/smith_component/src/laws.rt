@@ -1,9 +1,20 @@
 //! Laws of components. Each function does nothing: its contract is the law.
 
-ghost use Rattle.std.specs.Prelude.{◌≡◌, ◌↔◌, ℕ, List, None};
+ghost use Rattle.std.specs.Prelude.{◌≡◌, ◌↔◌, ◌++◌, ℕ, List, None, true};
+ghost use Rattle.smith_format.specs.Limits.{IsConsistent};
+ghost use Rattle.smith_format.specs.declared.config.Config.{Config};
+ghost use Rattle.smith_input.specs.Reading.{IsDecided, IsReadAs};
+ghost use Rattle.smith_input.specs.declared.error.Error.{Error};
+ghost use Rattle.smith_input.specs.declared.error.Error.TheVariants.{OutOfMemory};
 ghost use Rattle.smith_component.specs.Grammar.{Spells, component_text};
+ghost use Rattle.smith_component.specs.Refusals.{IsGenerateRefusal};
+ghost use Rattle.smith_component.specs.Limits.{Minima};
+ghost use Rattle.smith_component.specs.Open.{Open, is_component_offered};
+ghost use Rattle.smith_component.specs.Script.{Continues, Within, item_of, script, script_item, script_part};
 ghost use Rattle.smith_component.specs.TooLong.{TreeTooLong};
-ghost use Rattle.smith_component.specs.Tree.{Tree};
+ghost use Rattle.smith_component.specs.Tree.{Part, Tree};
+ghost use Rattle.smith_component.specs.Turn.{Closes, Next, RunsTo, Turn, with_open, with_part};
+ghost use Rattle.smith_component.specs.declared.item.Item.TheVariants.{Component as ItemComponent, Finish};
 
 /// No bytes have two readings.
 pub fn one_reading()
@@ -15,4 +26,54 @@ pub fn one_reading()
 /// are.
 pub fn long_components_have_no_encoding()
     ensures { (t : Tree) → (component_text t ≡ None) ↔ TreeTooLong t }
+{}
+
+/// The limits and the input alone decide which component a run leads to, and what is left.
+pub fn runs_are_decided()
+    ensures { (config : Config) → IsDecided (RunsTo config) }
+{}
+
+/// The script of a plan, followed by any bytes, leads to that plan, and leaves those bytes.
+pub fn plans_are_read()
+    ensures { (config : Config) (plan : Tree) → IsConsistent config → Within config plan
+        → IsReadAs (RunsTo config) (script config plan) plan }
+{}
+
+/// Where a run leads to a component that has bytes, nothing is refused but for want of memory.
+pub fn answers_are_not_refused()
+    ensures { (config : Config) (input : List ℕ) (tree : Tree) (left b : List ℕ) → IsConsistent config
+        → RunsTo config input tree left → Spells tree b
+        → (e : Error) → IsGenerateRefusal config input e → e ≡ OutOfMemory }
+{}
+
+/// The limits and the input alone decide which refusal comes, but for want of memory.
+pub fn refusals_are_decided()
+    ensures { (config : Config) (input : List ℕ) (d e : Error) → IsGenerateRefusal config input d
+        → IsGenerateRefusal config input e → ¬ (d ≡ OutOfMemory) → ¬ (e ≡ OutOfMemory) → d ≡ e }
+{}
+
+/// The limits, what is open and the bytes alone decide what a turn leads to, and what it leaves.
+pub fn turns_are_decided()
+    ensures { (config : Config) (stack : Open) → IsDecided (Turn config stack) }
+{}
+
+/// The script of a part of a plan, but of a component, is a turn that adds this part, for who builds turn by turn.
+pub fn scripted_parts_are_added()
+    ensures { (config : Config) (stack : Open) (p : Part) → IsConsistent config → ¬ (item_of p ≡ ItemComponent)
+        → Continues config stack p
+        → IsReadAs (Turn config stack)
+        (script_item config stack.outer stack.inner (item_of p) ++ script_part p config stack.outer stack.inner)
+        (with_part stack p) }
+{}
+
+/// Where a component may be opened, the script of that choice is a turn that opens it.
+pub fn scripted_components_are_opened()
+    ensures { (config : Config) (stack : Open) → is_component_offered config stack ≡ true
+        → IsReadAs (Turn config stack) (script_item config stack.outer stack.inner ItemComponent) (with_open stack) }
+{}
+
+/// Where the inner component lacks nothing, the script of the choice to finish is a turn that closes it as it is.
+pub fn scripted_ends_are_closed()
+    ensures { (config : Config) (stack : Open) (next : Next) → Minima config stack.inner → Closes stack next
+        → IsReadAs (Turn config stack) (script_item config stack.outer stack.inner Finish) next }
 {}

@@ -31,6 +31,9 @@ impl Component {
         ensures run { IfOk result (λ c. RunsTo config u.old c u.new) }
         ensures reach { (plan : Tree) (rest : List ℕ) → Within config plan → u.old ≡ script config plan ++ rest
             → IfOk result (λ c. (c ≡ plan) × (u.new ≡ rest)) }
+        // It is answered, want of memory aside.
+        ensures answers { (plan : Tree) (rest : List ℕ) → IsConsistent config → Within config plan
+            → u.old ≡ script config plan ++ rest → IfErr result (λ e. e ≡ Error.OutOfMemory) }
         ensures accepts { OnOk result (IsConsistent config) }
         ensures refuses { IfErr result (IsRefusal config u.old) }
         // Where no import and no function is owed, and the limits on memories do not cross, it refuses for want of memory

@@ -8,3 +8,4 @@ pub mod StandIn
 pub mod SubTypes
 pub mod Tiles
 pub mod TooLong
+pub mod StandInSame

@@ -53,9 +53,10 @@ pub record HasTypesAndMemories (m : ModuleParts) : Type 0 where
   pub no_code : m.code.items ≡ []
   pub no_data : m.data_segments.items ≡ []
 
--- At most 20 function types, and then as many memories as the limits allow.
+-- At most 20 function types, and then as many memories as the limits allow, which do not cross.
 pub record ReadsStandIn (config : Config) (bytes : List ℕ) (m : ModuleParts) (rest : List ℕ) : Type 0 where
   pub mid : List ℕ
+  pub ordered : config.min_memories ≤ config.max_memories
   pub types : Loop Never (ReadsSubType config) 0 (min config.max_types 20) 0 tt bytes m.types.items mid tt
   pub memories : Loop Never ReadsMemoryType config.min_memories config.max_memories 0 tt mid m.memories.items rest tt
   pub bulk_memory : m.bulk_memory_enabled ≡ config.bulk_memory_enabled

@@ -2,9 +2,11 @@
 //! the law.
 
 ghost use Rattle.std.specs.Prelude.{◌≡◌, ◌↔◌, ◌++◌, ℕ, ◌<◌, List, map, Some, None};
+ghost use Rattle.smith_format.specs.declared.config.Config.{Config};
 ghost use Rattle.std.specs.List.{AllByRecursion};
 ghost use Rattle.smith_core.specs.Module.{core_preamble, module_text};
 ghost use Rattle.smith_core.specs.Parts.{Agree};
+ghost use Rattle.smith_core.specs.StandIn.{ReadsStandIn};
 ghost use Rattle.smith_core.specs.Split.{CoreSection, Splits, sections_of, shown_section};
 ghost use Rattle.smith_core.specs.TooLong.{ModuleTooLong};
 ghost use Rattle.smith_core.specs.declared.module.parts.ModuleParts.{ModuleParts};
@@ -33,4 +35,10 @@ pub fn modules_are_bytes()
 /// or of a section in it passes 4,294,967,295; its names being UTF-8 and its bytes bytes, as those of the program are.
 pub fn long_modules_have_no_encoding()
     ensures { (m : ModuleParts) → Agree m → (module_text m ≡ None) ↔ ModuleTooLong m }
+{}
+
+/// The limits and the bytes alone decide the bytes of the module that stands for a generated one, and what is left.
+pub fn stand_ins_are_decided()
+    ensures { (config : Config) (b : List ℕ) (m n : ModuleParts) (r q : List ℕ) → ReadsStandIn config b m r
+        → ReadsStandIn config b n q → (module_text m ≡ module_text n) × (r ≡ q) }
 {}

@@ -134,13 +134,13 @@ module _ (config : Config) (around : Scope) where
   module_few m = let few = loop_few 0 m.front m.mid m.more _ m.whole (omega arith) m.goes_on in omega (arith, few)
 
   -- what was declared after what the canonical ABI asks
-  module_after : {b : List ℕ} {fuel : ℕ} {ds : List ModuleDecl} {rest : List ℕ} {left : ℕ} → (m : MadeModule config around b fuel ds rest left) → core_size (core_module ds) ≤ length m.more
+  pub module_after : {b : List ℕ} {fuel : ℕ} {ds : List ModuleDecl} {rest : List ℕ} {left : ℕ} → (m : MadeModule config around b fuel ds rest left) → core_size (core_module ds) ≤ length m.more
   module_after {b = b} {fuel = fuel} m =
       let front = front_is config b fuel m.front m.mid m.begins in
       let whole = m.decls ∙ ((module_grows m).decls ∙ ap (λ s. s.decls ++ m.more) front.state) in
       subst (λ ds. core_size (core_module ds) ≤ length m.more) (sym whole) (front_size front.memory front.reallocs front.frees m.more)
 
-  module_size : {b : List ℕ} {fuel : ℕ} {ds : List ModuleDecl} {rest : List ℕ} {left : ℕ} → MadeModule config around b fuel ds rest left → core_size (core_module ds) + left ≤ fuel
+  pub module_size : {b : List ℕ} {fuel : ℕ} {ds : List ModuleDecl} {rest : List ℕ} {left : ℕ} → MadeModule config around b fuel ds rest left → core_size (core_module ds) + left ≤ fuel
   module_size {b = b} {fuel = fuel} m =
       let front = front_is config b fuel m.front m.mid m.begins in
       omega (arith, module_after m, (module_grows m).fuel, ap (λ s. s.fuel) front.state, m.fuel_left)

@@ -46,3 +46,7 @@ module _ {A : Type 0} (eq : A → A → Bool) (decides : (x y : A) → Decides (
 
   pub among_written : (xs : List A) (x : A) (rest : List ℕ) → length xs ≤ 2 ^ 64 → Contains xs x → ReadsAmong xs (script_among eq xs x ++ rest) x rest
   among_written xs x rest many c = among_read xs x c.0 rest many (slice_get_read xs (length xs) c.0 x refl c.1 (sym c.2))
+
+-- Nothing is chosen among nothing.
+pub among_none : {A : Type 0} {xs : List A} {b : List ℕ} {x : A} {r : List ℕ} → xs ≡ [] → ReadsAmong xs b x r → ⊥
+among_none {x = x} none c = let e : slice_get [] c.place ≡ Some x = ap (λ ys. slice_get ys c.place) (sym none) ∙ c.named in cc

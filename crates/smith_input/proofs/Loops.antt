@@ -1,5 +1,5 @@
 -- Loops that ask before each turn: what they leave, that they are determined, what a script says, and turn by turn.
-use Rattle.std.proofs.Common.{◌≡◌, ℕ, ◌+◌, ◌<◌, ◌≤◌, Bool, true, false, List, [], ◌∷◌, ◌++◌, length, refl, sym, ap, ◌∙◌, subst, arith, append-nil, append_assoc, nat_lt}
+use Rattle.std.proofs.Common.{◌≡◌, ℕ, ◌+◌, ◌<◌, ◌≤◌, Bool, true, false, List, [], ◌∷◌, ◌++◌, length, refl, sym, ap, ◌∙◌, subst, arith, append-nil, append_assoc, nat_lt, map}
 use Rattle.std.specs.List.{AllByRecursion}
 use Rattle.std.specs.Prelude.{if◌then◌else◌}
 use Rattle.std.proofs.lemmas.Bool.Decides.{nat_tests}
@@ -147,3 +147,11 @@ module _ {S A : Type 0} {Ends : S → List ℕ → List ℕ → S → Type 0} {I
 
   pub one_more : {x : A} {rest : List ℕ} {t : S} → answer ≡ true → More 0 0 1 b answer mid → Item s mid x rest t → Loop Ends Item 0 1 0 s b (x ∷ []) rest t
   one_more {rest = rest} e m one = an_item (subst (λ a. More 0 0 1 b a mid) e m) one (no_more (more_full rest (omega arith)) refl)
+
+-- A loop over what its items show.
+pub loop_map : {S A B : Type 0} {Ends : S → List ℕ → List ℕ → S → Type 0} {Item : S → List ℕ → A → List ℕ → S → Type 0} {Other : S → List ℕ → B → List ℕ → S → Type 0} {min max : ℕ} (f : A → B)
+    → ((s : S) (b : List ℕ) (x : A) (r : List ℕ) (t : S) → Item s b x r t → Other s b (f x) r t)
+    → (done : ℕ) (s : S) (b : List ℕ) (xs : List A) (rest : List ℕ) (t : S) → Loop Ends Item min max done s b xs rest t → Loop Ends Other min max done s b (map f xs) rest t
+loop_map f one done s b xs rest t (no_more m e) = no_more m e
+loop_map f one done s b xs rest t (by_itself m e) = by_itself m e
+loop_map f one done s b xs rest u (an_item {t = t} {mid = mid} {after = after} {x = x} {xs = ys} m i l) = an_item m (one s mid x after t i) (loop_map f one (done + 1) t after ys rest u l)

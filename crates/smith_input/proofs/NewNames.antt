@@ -10,7 +10,7 @@ use Rattle.std.specs.Fmt.{decimal}
 use Rattle.std.proofs.lemmas.Bool.{cases_lt}
 use Rattle.smith_input.specs.Reading.{IsTail}
 use Rattle.smith_input.specs.Kebab.{Kebab}
-use Rattle.smith_input.specs.Names.{IsMadeUnique, GainsName, appended, is_among, Holds, ReadsNew}
+use Rattle.smith_input.specs.Names.{IsMadeUnique, GainsName, appended, is_among, Holds, ReadsKebab, ReadsNew}
 use Rattle.smith_input.specs.Script.{script_name}
 use Rattle.smith_input.proofs.Kebabs.{kebab_is_read, kebab_is_kept, kebab_tail, kebab_unique, name_read}
 
@@ -69,3 +69,11 @@ new_read max names name rest h k l n = record {
   reads = name_read max name rest h k l;
   unique = record { times = 0; name_is = refl; taken = λ m b. absurd (omega (arith, b)); is_new = n };
 }
+
+-- The script of a name that the names lack gives that name.
+pub unique_scripted : (has : List ℕ → Bool) (size max : ℕ) (bytes text name left spelled rest : List ℕ) → max < 2 ^ 64 → Kebab spelled → length spelled ≤ max → has spelled ≡ false → bytes ≡ script_name max spelled ++ rest
+    → ReadsKebab max bytes text left → IsMadeUnique has size text name → (name ≡ spelled) × (left ≡ rest)
+unique_scripted has size max bytes text name left spelled rest h k l n e reads unique =
+    let same = kebab_unique (subst (λ z. ReadsKebab max z text left) e reads) (name_read max spelled rest h k l) in
+    let as_read : IsMadeUnique has size spelled spelled = record { times = 0; name_is = refl; taken = λ m b. absurd (omega (arith, b)); is_new = n } in
+    (made_unique_same has size spelled name spelled (subst (λ t. IsMadeUnique has size t name) same.0 unique) as_read, same.1)

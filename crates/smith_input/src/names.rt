@@ -1,10 +1,12 @@
 //! Names that are read, and are new to a set of names.
 
-ghost use Rattle.std.specs.Prelude.{◌≡◌, ◌<◌, string_bytes, IfOk, IfErr, OnErr};
+ghost use Rattle.std.specs.Prelude.{◌≡◌, ◌<◌, ◌≤◌, ◌++◌, ℕ, List, false, length, string_bytes, IfOk, IfErr, OnErr};
+ghost use Rattle.std.specs.BTreeSet.{contains_text};
 ghost use Rattle.smith_input.specs.Reading.{IsTail};
 ghost use Rattle.smith_input.specs.Texts.{ReadsText};
 ghost use Rattle.smith_input.specs.Kebab.{Kebab};
 ghost use Rattle.smith_input.specs.Names.{character, ReadsKebab, IsUniqueIn, ReadsUnique, ReadsUrl, GainsName};
+ghost use Rattle.smith_input.specs.Script.{script_name};
 
 use crate::{Error, Unstructured, limited_string};
 use std::alloc::Global;
@@ -92,6 +94,9 @@ pub fn unique_kebab_string(
     ensures read { IfOk result (λ name. ReadsUnique (ReadsKebab max) names.old u.old (string_bytes name) u.new) }
     ensures kebab { IfOk result (λ name. Kebab (string_bytes name)) }
     ensures gained { IfOk result (λ name. GainsName names.old names.new (string_bytes name)) }
+    // The script of a name that the set lacks gives that name.
+    ensures script { (name rest : List ℕ) → Kebab name → length name ≤ max → contains_text names.old name ≡ false
+        → u.old ≡ script_name max name ++ rest → IfOk result (λ text. (string_bytes text ≡ name) × (u.new ≡ rest)) }
     ensures refused { OnErr result (names.new.keys ≡ names.old.keys) }
     ensures memory { IfErr result (λ e. e ≡ Error.OutOfMemory) }
     ensures tail { IsTail u.new u.old }

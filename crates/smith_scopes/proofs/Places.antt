@@ -27,6 +27,26 @@ module _ {A : Type 0} (test : A → Bool) where
       let same : i ≡ p.1 = omega (arith, p.2) in
       (p.0, ap (slice_get es) same ∙ p.3, p.4)
 
+-- What passes a test stands among the places of what does.
+module _ {A : Type 0} (test : A → Bool) where
+  place_split : (x : A) (xs : List A) (n i : ℕ) → (k : ℕ) × (slice_get (places test (n + 1) xs) k ≡ Some i) → (b : Bool) → test x ≡ b → (k : ℕ) × (slice_get (cond b (n ∷ places test (n + 1) xs) (places test (n + 1) xs)) k ≡ Some i)
+  place_split x xs n i later true t = (suc later.0, later.1)
+  place_split x xs n i later false t = later
+
+  place_from : (es : List A) (n i : ℕ) (e : A) → slice_get es i ≡ Some e → test e ≡ true → (k : ℕ) × (slice_get (places test n es) k ≡ Some (n + i))
+  place_from [] n i e h t = absurd (cc)
+  place_from (x ∷ xs) n zero e h t =
+      let same : x ≡ e = cc in
+      let yes : test x ≡ true = ap test same ∙ t in
+      (0, ap (λ b. slice_get (cond b (n ∷ places test (n + 1) xs) (places test (n + 1) xs)) 0) yes ∙ ap Some (let z : n ≡ n + 0 = omega arith in z))
+  place_from (x ∷ xs) n (suc j) e h t =
+      let later = place_from xs (n + 1) j e h t in
+      let at : n + 1 + j ≡ n + suc j = omega arith in
+      place_split x xs n (n + suc j) (later.0, later.1 ∙ ap Some at) (test x) refl
+
+  pub place_found : (es : List A) (i : ℕ) (e : A) → slice_get es i ≡ Some e → test e ≡ true → (k : ℕ) × (slice_get (places test 0 es) k ≡ Some i)
+  place_found es i e h t = let p = place_from es 0 i e h t in (p.0, p.1 ∙ ap Some (let z : 0 + i ≡ i = omega arith in z))
+
 -- the items of two lists in a row
 pub get_left : {A : Type 0} (xs ys : List A) (k : ℕ) → k < length xs → slice_get (xs ++ ys) k ≡ slice_get xs k
 get_left [] ys k h = absurd (omega arith)

@@ -14,10 +14,10 @@ use Rattle.smith_syntax.specs.Entries.{Kept, FullDecl, plain_decl, type_alias, c
 use Rattle.smith_syntax.specs.Scope.{Scope, in_scope}
 use Rattle.smith_syntax.specs.WellFormed.{FormedDeclaration}
 use Rattle.smith_syntax.specs.declared.deftype.ComponentTypeRef.{ComponentTypeRef}
-use Rattle.smith_types.specs.Declarations.{NamedExtern, ReadsMaybeUrl, no_url, a_url, url_names, ReadsNamedExtern, numbered, occupied, aliases_of, ReadsAlias, declaration_offers, declaration_items}
-use Rattle.smith_types.specs.Declarations.{NoImport, in_instance, nothing_there, not_asked, none_fits, ReadsImport, ReadsExport}
+use Rattle.smith_types.specs.Declarations.{NamedExtern, ReadsMaybeUrl, no_url, a_url, url_names, ReadsNamedExtern, ReadsAlias, NoImport, in_instance, nothing_there, not_asked, none_fits, ReadsImport, ReadsExport}
+use Rattle.smith_types.specs.Offers.{numbered, occupied, aliases_of, declaration_offers, declaration_items, ref_places}
 use Rattle.smith_types.specs.MakingTypes.{HasTarget}
-use Rattle.smith_types.specs.References.{ref_places, ref_to, ReadsRef}
+use Rattle.smith_types.specs.References.{ref_to, ReadsRef}
 use Rattle.smith_types.specs.declared.make.declarations.DeclarationItem.{DeclarationItem}
 use Rattle.smith_types.specs.declared.make.references.RefKind.{RefKind}
 use Rattle.smith_types.specs.declared.make.references.RefTotals.{RefTotals}

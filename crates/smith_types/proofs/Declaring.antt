@@ -20,7 +20,8 @@ use Rattle.std.specs.declared.alloc.Global.{Global}
 use Rattle.std.specs.declared.rc.Rc.{Rc}
 use Rattle.smith_syntax.specs.declared.core_types.CoreType.{CoreType}
 use Rattle.smith_syntax.specs.declared.deftype.DefType.{DefType}
-use Rattle.smith_types.specs.Declarations.{ReadsAlias, is_occupied, occupied, numbered, aliases_of}
+use Rattle.smith_types.specs.Declarations.{ReadsAlias}
+use Rattle.smith_types.specs.Offers.{is_occupied, occupied, numbered, aliases_of}
 use Rattle.smith_types.specs.MakingTypes.{Declares, SameOuter, with_aliased, with_exported}
 use Rattle.smith_scopes.specs.Scopes.{Contents, shown_scope, inward, last_of, scope_at, AddsType, AddsCoreType}
 use Rattle.smith_types.proofs.DeclarationsRead.{named_in, numbered_stands}

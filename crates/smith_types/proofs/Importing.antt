@@ -8,9 +8,10 @@ use Rattle.smith_input.specs.Script.{offers_of}
 use Rattle.smith_syntax.specs.Entries.{FullDecl, import_decl, export_decl}
 use Rattle.smith_syntax.specs.Scope.{Scope, places, is_core_module}
 use Rattle.smith_syntax.specs.declared.deftype.ComponentTypeRef.{ComponentTypeRef}
-use Rattle.smith_types.specs.Declarations.{NamedExtern, NoImport, not_asked, none_fits, ReadsImport, ReadsExport, ReadsNamedExtern, has_reference}
+use Rattle.smith_types.specs.Declarations.{NamedExtern, NoImport, not_asked, none_fits, ReadsImport, ReadsExport, ReadsNamedExtern}
+use Rattle.smith_types.specs.Offers.{has_reference, ref_kinds, ref_offers, has_place, uncounted}
 use Rattle.smith_core_types.specs.MadeCore.{indexes}
-use Rattle.smith_types.specs.References.{ReadsRef, ref_kinds, ref_offers, has_place, uncounted}
+use Rattle.smith_types.specs.References.{ReadsRef}
 use Rattle.smith_types.specs.declared.make.references.RefKind.TheVariants as kind
 use Rattle.smith_core_types.proofs.MakingCore.{length-indexes}
 

@@ -1,7 +1,10 @@
 pub mod DeclarationsRead
 pub mod Declaring
+pub mod Exact
 pub mod Externs
 pub mod Importing
+pub mod LiftedRead
+pub mod LiftedSame
 pub mod Lifting
 pub mod Made
 pub mod MadeFormed
@@ -9,6 +12,9 @@ pub mod MadeSame
 pub mod MadeTypes
 pub mod MakingTypes
 pub mod Members
+pub mod Naming
+pub mod Needs
 pub mod Progressing
 pub mod References
+pub mod ScopedScript
 pub mod Script

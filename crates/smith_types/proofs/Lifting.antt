@@ -23,7 +23,8 @@ use Rattle.smith_syntax.specs.declared.types.ComponentValType.{ComponentValType}
 use Rattle.smith_syntax.specs.declared.types.ComponentValType.TheVariants.{Primitive, Indexed}
 use Rattle.smith_syntax.specs.declared.types.PrimitiveValType.{PrimitiveValType}
 use Rattle.smith_syntax.specs.declared.types.PrimitiveValType.TheVariants as prim
-use Rattle.smith_types.specs.Lifting.{lifted, IsLiftable, IsLiftableFunction, ReadsParams, no_params, a_param, ReadsLifted}
+use Rattle.smith_types.specs.Lifting.{IsLiftable, IsLiftableFunction, ReadsParams, no_params, a_param, ReadsLifted}
+use Rattle.smith_types.specs.Offers.{lifted}
 use Rattle.smith_core_types.proofs.Names.{AreNew, new_distinct}
 
 -- core value types

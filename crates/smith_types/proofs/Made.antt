@@ -9,11 +9,9 @@ use Rattle.smith_input.specs.Reading.{IsTail}
 use Rattle.smith_input.proofs.Choices.{among_tail, among_same}
 use Rattle.smith_input.proofs.NewNames.{new_tail, new_unique}
 use Rattle.smith_input.proofs.ReadingLemmas.{tail_trans, reads_tail, reads_unique, flips_unique}
-use Rattle.smith_syntax.specs.Entries.{DefValType, primitive_type, record_type, variant_type, list_type, tuple_type, flags_type, enum_type, option_type, result_type}
-use Rattle.smith_syntax.specs.Entries.{Signature, function}
-use Rattle.smith_types.specs.Script.{primitives}
-use Rattle.smith_types.specs.Made.{ReadsVal, only_primitive, either_primitive, either_index, ReadsMaybe, absent, present}
-use Rattle.smith_types.specs.Made.{or_bool, MadeMembers, MadeAs, MadeDefined, ReadsResult, MadeFunction}
+use Rattle.smith_syntax.specs.Entries.{DefValType, primitive_type, record_type, variant_type, list_type, tuple_type, flags_type, enum_type, option_type, result_type, Signature, function}
+use Rattle.smith_types.specs.Offers.{primitives}
+use Rattle.smith_types.specs.Made.{ReadsVal, only_primitive, either_primitive, either_index, ReadsMaybe, absent, present, or_bool, MadeMembers, MadeAs, MadeDefined, ReadsResult, MadeFunction}
 use Rattle.smith_syntax.specs.Scope.{Scope, defined_places, is_defined}
 use Rattle.smith_syntax.specs.WellFormed.{FormedVal, FormedMaybe, FormedDefined, FormedEntry, defined_size, size}
 use Rattle.smith_types.specs.declared.make.defined.DefinedKind.{DefinedKind}

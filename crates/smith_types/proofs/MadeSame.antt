@@ -6,9 +6,9 @@ use Rattle.smith_input.proofs.ReadingLemmas.{more_unique}
 use Rattle.smith_format.specs.declared.config.Config.{Config}
 use Rattle.smith_syntax.specs.Entries.{FullEntry, FullDecl, FullDecls, defined, function, component_type, instance_type, core_type_decl, type_decl, then_decls, keeps_functions}
 use Rattle.smith_syntax.specs.Scope.{Scope}
-use Rattle.smith_types.specs.Declarations.{SoFar, nothing_so_far, after_one, ReadsAlias, ReadsExport, NoImport, declaration_items}
-use Rattle.smith_types.specs.Made.{MadeDefined, MadeFunction, Made, spent_type, made_defined, made_function, made_component, made_instance}
-use Rattle.smith_types.specs.Made.{MadeDeclaration, made_import, made_export, made_alias, made_core_type, made_type, MadeDeclarations, no_more_decls, spent_decls, one_decl}
+use Rattle.smith_types.specs.Declarations.{SoFar, nothing_so_far, after_one, ReadsAlias, ReadsExport, NoImport}
+use Rattle.smith_types.specs.Offers.{declaration_items}
+use Rattle.smith_types.specs.Made.{MadeDefined, MadeFunction, Made, spent_type, made_defined, made_function, made_component, made_instance, MadeDeclaration, made_import, made_export, made_alias, made_core_type, made_type, MadeDeclarations, no_more_decls, spent_decls, one_decl}
 use Rattle.smith_core_types.specs.MadeCore.{MadeCore, named_by_core}
 use Rattle.smith_types.specs.declared.make.TypeKind.TheVariants.{Defined, Function, Component, Instance}
 use Rattle.smith_types.specs.declared.make.declarations.DeclarationItem.{DeclarationItem}

@@ -4,10 +4,10 @@ use Rattle.smith_format.specs.declared.config.Config.{Config}
 use Rattle.smith_input.specs.Choices.{ReadsAmong}
 use Rattle.smith_syntax.specs.Entries.{FullEntry, FullDecl}
 use Rattle.smith_syntax.specs.Scope.{Scope}
-use Rattle.smith_types.specs.Declarations.{NamedExtern, SoFar, NoImport, declaration_items}
+use Rattle.smith_types.specs.Declarations.{NamedExtern, SoFar, NoImport}
+use Rattle.smith_types.specs.Offers.{declaration_items, type_kinds}
 use Rattle.smith_types.specs.Made.{Made, spent_type, made_defined, made_function, made_component, made_instance, MadeDeclaration, made_export, made_alias, made_core_type, made_type}
 use Rattle.smith_types.specs.MakingTypes.{HoldsExterns, MadeItem, MadeKind}
-use Rattle.smith_types.specs.Script.{type_kinds}
 use Rattle.smith_types.specs.declared.make.TypeKind.{TypeKind}
 use Rattle.smith_types.specs.declared.make.TypeKind.TheVariants as kind
 use Rattle.smith_types.specs.declared.make.declarations.DeclarationItem.{DeclarationItem}

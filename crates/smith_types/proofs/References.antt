@@ -7,7 +7,8 @@ use Rattle.smith_format.specs.declared.config.Config.{Config}
 use Rattle.smith_syntax.specs.Scope.{Scope, is_func, is_component, is_instance, is_core_module}
 use Rattle.smith_syntax.specs.WellFormed.{FormedRef, is_type_eq}
 use Rattle.smith_syntax.specs.declared.deftype.ComponentTypeRef.{ComponentTypeRef}
-use Rattle.smith_types.specs.References.{ref_places, has_place, ref_offers, ref_to, ReadsRef}
+use Rattle.smith_types.specs.References.{ref_to, ReadsRef}
+use Rattle.smith_types.specs.Offers.{ref_places, has_place, ref_offers}
 use Rattle.smith_types.specs.declared.make.references.RefKind.{RefKind}
 use Rattle.smith_types.specs.declared.make.references.RefKind.TheVariants as kind
 use Rattle.smith_types.specs.declared.make.references.RefTotals.{RefTotals}

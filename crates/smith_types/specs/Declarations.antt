@@ -1,18 +1,17 @@
 -- How the declarations of component types and instance types are read, but for the types in them.
-use Rattle.std.specs.Prelude.{◌≡◌, ℕ, ◌+◌, ◌<◌, Bool, true, false, ◌||◌, List, [], ◌∷◌, ◌++◌, drop, length, codes, nat_lt, slice_get, Option, Some, None}
+use Rattle.std.specs.Prelude.{◌≡◌, ℕ, ◌+◌, ◌<◌, Bool, true, false, List, [], ◌∷◌, ◌++◌, drop, codes, slice_get, Option, Some, None}
 use Rattle.std.specs.List.{flat_map}
 use Rattle.smith_input.specs.Choices.{ReadsAmong}
 use Rattle.smith_input.specs.Names.{ReadsNew}
 use Rattle.smith_input.specs.Reading.{Reads, Flips}
-use Rattle.smith_input.specs.Script.{offers_of}
 use Rattle.smith_format.specs.declared.config.Config.{Config}
-use Rattle.smith_syntax.specs.Entries.{FullDecl, type_alias, core_type_alias, import_decl, export_decl, keeps_type, keeps_core_type}
-use Rattle.smith_syntax.specs.Scope.{Scope, empty_scope, places, is_core_module, after_decl}
+use Rattle.smith_syntax.specs.Entries.{FullDecl, import_decl, export_decl}
+use Rattle.smith_syntax.specs.Scope.{Scope, empty_scope, after_decl}
 use Rattle.smith_syntax.specs.declared.deftype.ComponentTypeRef.{ComponentTypeRef}
 use Rattle.smith_syntax.specs.WellFormed.{import_of, export_of, names}
-use Rattle.smith_types.specs.References.{ReadsRef, ref_kinds, uncounted}
-use Rattle.smith_types.specs.declared.make.declarations.DeclarationItem.{DeclarationItem}
-use Rattle.smith_types.specs.declared.make.declarations.DeclarationItem.TheVariants as item
+use Rattle.smith_types.specs.References.{ReadsRef}
+use Rattle.smith_types.specs.Offers.{ref_kinds, uncounted}
+use Rattle.smith_types.specs.Offers.{has_reference, occupied, aliases_of}
 
 -- a name, and a URL or none
 abbrev pub NamedExtern : Type 0
@@ -50,27 +49,6 @@ pub record ReadsNamedExtern (so_far : List NamedExtern) (bytes : List ℕ) (x : 
   pub name : ReadsNew 100 (names so_far) bytes x.0 mid
   pub url : ReadsMaybeUrl (url_names so_far) mid x.1 rest
 
--- Has the scope something that an import or an export may be of: a type, or the type of a core module?
-abbrev pub has_reference : Scope → Bool
-has_reference own = nat_lt 0 (length own.types) || nat_lt 0 (length (places is_core_module 0 own.core_types))
-
--- Has a scope an entry?
-abbrev pub is_occupied : Scope → Bool
-is_occupied s = nat_lt 0 (length s.types + length s.core_types)
-
--- the counts of the scopes that have an entry, innermost first
-abbrev pub occupied : List Scope → List ℕ
-occupied scopes = places is_occupied 0 scopes
-
--- the items with their indexes, where the first has the index i
-abbrev pub numbered : {A B : Type 0} → (ℕ → A → B) → ℕ → List A → List B
-numbered f i [] = []
-numbered f i (x ∷ xs) = f i x ∷ numbered f (i + 1) xs
-
--- the outer aliases of what stands in a scope: its types, and then its core types
-abbrev pub aliases_of : ℕ → Scope → List FullDecl
-aliases_of count s = numbered (λ i e. type_alias count i (keeps_type e)) 0 s.types ++ numbered (λ i e. core_type_alias count i (keeps_core_type e)) 0 s.core_types
-
 -- An outer alias: a choice of a scope that has an entry, and of an entry of it. It keeps what it names.
 pub record ReadsAlias (scopes : List Scope) (bytes : List ℕ) (d : FullDecl) (rest : List ℕ) : Type 0 where
   pub count : ℕ
@@ -79,18 +57,6 @@ pub record ReadsAlias (scopes : List Scope) (bytes : List ℕ) (d : FullDecl) (r
   pub choice : ReadsAmong (occupied scopes) bytes count mid
   pub stands : slice_get scopes count ≡ Some scope
   pub names : ReadsAmong (aliases_of count scope) mid d rest
-
--- what a declaration is among: an export and an outer alias where there is something to name, and a type where one more scope may nest
-abbrev pub declaration_offers : Config → List Scope → Scope → List (Bool × DeclarationItem)
-declaration_offers config outer own =
-    (has_reference own, item.Export)
-    ∷ (nat_lt 0 (length (occupied (own ∷ outer))), item.Alias)
-    ∷ (true, item.CoreType)
-    ∷ (nat_lt (length (own ∷ outer)) config.max_nesting_depth, item.Type)
-    ∷ []
-
-abbrev pub declaration_items : Config → List Scope → Scope → List DeclarationItem
-declaration_items config outer own = offers_of (declaration_offers config outer own)
 
 -- No import is declared: in an instance type; and in a component type where there is nothing to name, where the choice of four does
 -- not ask for an import, and where it does but none can be had.

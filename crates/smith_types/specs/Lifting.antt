@@ -3,22 +3,12 @@ use Rattle.std.specs.Prelude.{◌≡◌, ℕ, ◌<◌, List, [], ◌∷◌, ◌+
 use Rattle.std.specs.List.{AllByRecursion}
 use Rattle.smith_format.specs.CoreTypes.{Function}
 use Rattle.smith_format.specs.declared.types.ValType.{ValType}
-use Rattle.smith_format.specs.declared.types.ValType.TheVariants.{I32, I64, F32, F64, V128, Ref}
 use Rattle.smith_input.specs.Choices.{ReadsAmong}
 use Rattle.smith_input.specs.Names.{ReadsNew}
 use Rattle.smith_syntax.specs.Entries.{Field, Signature}
 use Rattle.smith_syntax.specs.declared.types.ComponentValType.TheVariants.{Primitive}
 use Rattle.smith_syntax.specs.declared.types.PrimitiveValType.{PrimitiveValType}
-use Rattle.smith_syntax.specs.declared.types.PrimitiveValType.TheVariants as prim
-
--- what is lifted to a choice of primitives: each that flattens to the core value type
-abbrev pub lifted : ValType → List PrimitiveValType
-lifted I32 = prim.Char ∷ prim.Bool ∷ prim.S8 ∷ prim.U8 ∷ prim.S16 ∷ prim.U16 ∷ prim.S32 ∷ prim.U32 ∷ []
-lifted I64 = prim.S64 ∷ prim.U64 ∷ []
-lifted F32 = prim.F32 ∷ []
-lifted F64 = prim.F64 ∷ []
-lifted V128 = []
-lifted (Ref r) = []
+use Rattle.smith_types.specs.Offers.{lifted}
 
 -- Can it be lifted?
 abbrev pub IsLiftable : ValType → Type 0

@@ -5,14 +5,12 @@ use Rattle.smith_input.specs.Choices.{ReadsAmong}
 use Rattle.smith_input.specs.Loops.{Loop}
 use Rattle.smith_input.specs.Names.{ReadsNew}
 use Rattle.smith_input.specs.Reading.{Reads, Flips, More}
-use Rattle.smith_syntax.specs.Entries.{DefValType, primitive_type, record_type, variant_type, list_type, tuple_type, flags_type, enum_type, option_type, result_type}
-use Rattle.smith_syntax.specs.Entries.{Signature, Entry, FullEntry, FullDecl, FullDecls, defined, function, component_type, instance_type, plain}
-use Rattle.smith_syntax.specs.Entries.{core_type_decl, type_decl, no_decls, then_decls, keeps_functions, CoreEntry}
+use Rattle.smith_syntax.specs.Entries.{DefValType, primitive_type, record_type, variant_type, list_type, tuple_type, flags_type, enum_type, option_type, result_type, Signature, Entry, FullEntry, FullDecl, FullDecls, defined, function, component_type, instance_type, plain, core_type_decl, type_decl, no_decls, then_decls, keeps_functions, CoreEntry}
 use Rattle.smith_syntax.specs.Scope.{Scope, defined_places}
 use Rattle.smith_format.specs.declared.config.Config.{Config}
-use Rattle.smith_types.specs.Declarations.{SoFar, nothing_so_far, after_one, ReadsAlias, ReadsExport, ReadsImport, declaration_items, NoImport}
+use Rattle.smith_types.specs.Declarations.{SoFar, nothing_so_far, after_one, ReadsAlias, ReadsExport, ReadsImport, NoImport}
+use Rattle.smith_types.specs.Offers.{declaration_items, primitives, defined_kinds, type_kinds}
 use Rattle.smith_core_types.specs.MadeCore.{MadeCore, named_by_core}
-use Rattle.smith_types.specs.Script.{primitives, defined_kinds, type_kinds}
 use Rattle.smith_types.specs.declared.make.declarations.DeclarationItem.TheVariants as item
 use Rattle.smith_types.specs.declared.make.TypeKind.TheVariants.{Defined, Function, Component, Instance}
 use Rattle.smith_types.specs.declared.make.defined.DefinedKind.{DefinedKind}

@@ -1,17 +1,16 @@
 -- A type as the program makes it: what it keeps beside the declarations, and what one call adds.
-use Rattle.std.specs.Prelude.{◌≡◌, ℕ, ◌<◌, ◌≤◌, Bool, true, false, List, [], ◌∷◌, drop, length, reverse, Option, None, Some}
+use Rattle.std.specs.Prelude.{◌≡◌, ℕ, ◌<◌, ◌≤◌, Bool, true, false, List, [], ◌∷◌, drop, length, reverse, Option, None, Some, string_bytes}
 use Rattle.smith_format.specs.declared.config.Config.{Config}
 use Rattle.smith_input.specs.Names.{Holds}
-use Rattle.smith_syntax.specs.Entries.{Kept, keeps_type, keeps_core_type, import_decl, export_decl, type_alias, core_type_alias}
-use Rattle.smith_syntax.specs.Entries.{Signature, CoreEntry, DefValType, FullEntry, FullDecl, FullDecls, defined, function, component_type, instance_type, core_type_decl, type_decl, then_decls, keeps_functions}
+use Rattle.smith_syntax.specs.Entries.{Kept, keeps_type, keeps_core_type, import_decl, export_decl, type_alias, core_type_alias, Signature, CoreEntry, DefValType, FullEntry, FullDecl, FullDecls, defined, function, component_type, instance_type, core_type_decl, type_decl, then_decls, keeps_functions}
 use Rattle.smith_syntax.specs.Scope.{Scope, with_type, with_core_type, with_types, after_decl, exported_type}
 use Rattle.smith_syntax.specs.Shown.{shown_url}
 use Rattle.smith_syntax.specs.WellFormed.{names, import_of, export_of}
 use Rattle.smith_syntax.specs.declared.deftype.ComponentTypeRef.{ComponentTypeRef}
 use Rattle.smith_syntax.specs.declared.deftype.Import.{Import}
-use Rattle.std.specs.Prelude.{string_bytes}
 use Rattle.std.specs.Option.{option_to_list}
-use Rattle.smith_types.specs.Declarations.{NamedExtern, SoFar, nothing_so_far, ReadsAlias, ReadsExport, ReadsImport, NoImport, has_reference, occupied, url_names}
+use Rattle.smith_types.specs.Declarations.{NamedExtern, SoFar, nothing_so_far, ReadsAlias, ReadsExport, ReadsImport, NoImport, url_names}
+use Rattle.smith_types.specs.Offers.{has_reference, occupied}
 use Rattle.smith_types.specs.Made.{Made, MadeDefined, MadeFunction, MadeDeclarations}
 use Rattle.smith_core_types.specs.MadeCore.{MadeCore, named_by_core}
 use Rattle.smith_scopes.specs.Scopes.{Contents, own_scope, outer_scopes}

@@ -1,12 +1,24 @@
 -- The input that a type is read from: what a script says of it.
-use Rattle.std.specs.Prelude.{ℕ, ◌+◌, ◌≤◌, List, [], ◌∷◌, ◌++◌, map, length, Option, Some, None, nat_eq, nat_le, if◌then◌else◌}
+use Rattle.std.specs.Prelude.{◌≡◌, ℕ, suc, ◌+◌, ◌-◌, ◌<◌, ◌≤◌, ◌^◌, Bool, true, false, ◌&&◌, List, [], ◌∷◌, ◌++◌, map, length, Option, Some, None, slice_get, nat_eq, nat_le, if◌then◌else◌}
 use Rattle.std.specs.List.{AllByRecursion}
 use Rattle.std.specs.Option.{option_to_list}
-use Rattle.smith_input.specs.Script.{script_among, script_loop, script_name, pick}
-use Rattle.smith_syntax.specs.Entries.{DefValType, primitive_type, record_type, variant_type, list_type, tuple_type, flags_type, enum_type, option_type, result_type}
-use Rattle.smith_syntax.specs.Entries.{Field, Case, Signature, Entry, defined, function, component_type, instance_type}
-use Rattle.smith_syntax.specs.Scope.{Scope, defined_places}
-use Rattle.smith_syntax.specs.WellFormed.{size}
+use Rattle.smith_input.specs.Script.{script_among, script_end, script_loop, script_name, pick}
+use Rattle.smith_core_types.specs.Script.{script_core_type}
+use Rattle.smith_format.specs.declared.config.Config.{Config}
+use Rattle.smith_syntax.specs.Entries.{DefValType, primitive_type, record_type, variant_type, list_type, tuple_type, flags_type, enum_type, option_type, result_type, Field, Case, Signature, Entry, defined, function, component_type, instance_type, CoreEntry, core_func, core_module, Decl, Decls, core_type_decl, type_decl, type_alias, core_type_alias, import_decl, export_decl, no_decls, then_decls}
+use Rattle.smith_syntax.specs.Scope.{Scope, empty_scope, defined_places, after_decl}
+use Rattle.smith_syntax.specs.TypeLimits.{EntryLimits}
+use Rattle.smith_syntax.specs.WellFormed.{FormedEntry, size, defined_size, core_size}
+use Rattle.smith_syntax.specs.declared.deftype.ComponentTypeRef.{ComponentTypeRef}
+use Rattle.smith_syntax.specs.declared.deftype.ComponentTypeRef.TheVariants as to
+use Rattle.smith_types.specs.Offers.{has_reference, occupied, aliases_of, declaration_items, ref_kinds, ref_places, uncounted}
+use Rattle.smith_types.specs.contracts.make.declarations.DeclarationItemPartialEq.TheImpl.{ghosts as items}
+use Rattle.smith_types.specs.contracts.make.references.RefKindPartialEq.TheImpl.{ghosts as refs}
+use Rattle.smith_types.specs.declared.make.declarations.DeclarationItem.{DeclarationItem}
+use Rattle.smith_types.specs.declared.make.declarations.DeclarationItem.TheVariants as item
+use Rattle.smith_types.specs.declared.make.references.RefKind.{RefKind}
+use Rattle.smith_types.specs.declared.make.references.RefKind.TheVariants as ref
+use Rattle.smith_types.specs.declared.make.references.RefTotals.{RefTotals}
 use Rattle.smith_types.specs.contracts.make.TypeKindPartialEq.TheImpl.{ghosts as types}
 use Rattle.smith_types.specs.contracts.make.defined.DefinedKindPartialEq.TheImpl.{ghosts as kinds}
 use Rattle.smith_syntax.specs.contracts.types.PrimitiveValTypePartialEq.TheImpl.{ghosts as prims}
@@ -17,20 +29,8 @@ use Rattle.smith_types.specs.declared.make.defined.DefinedKind.TheVariants as ki
 use Rattle.smith_syntax.specs.declared.types.ComponentValType.{ComponentValType}
 use Rattle.smith_syntax.specs.declared.types.ComponentValType.TheVariants.{Primitive, Indexed}
 use Rattle.smith_syntax.specs.declared.types.PrimitiveValType.{PrimitiveValType}
-use Rattle.smith_syntax.specs.declared.types.PrimitiveValType.TheVariants as prim
-
--- what a choice of a primitive type is among
-abbrev pub primitives : List PrimitiveValType
-primitives =
-    prim.Bool ∷ prim.S8 ∷ prim.U8 ∷ prim.S16 ∷ prim.U16 ∷ prim.S32 ∷ prim.U32 ∷ prim.S64 ∷ prim.U64 ∷ prim.F32 ∷ prim.F64 ∷ prim.Char ∷ prim.String ∷ []
-
--- what a choice of a defined type is among
-abbrev pub defined_kinds : List DefinedKind
-defined_kinds = kind.Primitive ∷ kind.Record ∷ kind.Variant ∷ kind.List ∷ kind.Tuple ∷ kind.Flags ∷ kind.Enum ∷ kind.Option ∷ kind.Result ∷ []
-
--- what a choice of a type is among
-abbrev pub type_kinds : List TypeKind
-type_kinds = Defined ∷ Function ∷ Component ∷ Instance ∷ []
+use Rattle.smith_types.specs.Offers.{primitives, defined_kinds, type_kinds, lifted}
+use Rattle.smith_syntax.specs.Flat.{flat_primitive}
 
 -- that a value type is primitive, where it may be an indexed one
 abbrev pub script_either : ℕ → List ℕ
@@ -82,13 +82,116 @@ script_function own s = script_members (script_field own) 0 16 s.params ++ scrip
 abbrev pub script_type_kind : TypeKind → List ℕ
 script_type_kind k = script_among types.eq type_kinds k
 
--- A type with so much fuel: which of four kinds it is, where the fuel lasts, and then what it is. The fuel lasts for a function. Types of
--- components and instances have no script.
-abbrev pub script_type : ℕ → Scope → Entry → List ℕ
-script_type fuel own (defined t) = (if nat_le 2 fuel then script_type_kind Defined else []) ++ script_defined own t
-script_type fuel own (function s) = script_type_kind Function ++ script_function own s
-script_type fuel own (component_type ds) = []
-script_type fuel own (instance_type ds) = []
+-- a primitive among those that flatten as it does
+abbrev pub script_scalar : ComponentValType → List ℕ
+script_scalar (Primitive p) = elim (flat_primitive p) [ None ↦ [] | Some v ↦ script_among prims.eq (lifted v) p ]
+script_scalar (Indexed i) = []
+
+abbrev pub script_params : List Field → List ℕ
+script_params [] = []
+script_params (f ∷ fs) = script_label f.0 ++ (script_scalar f.1 ++ script_params fs)
+
+abbrev pub script_result : Option ComponentValType → List ℕ
+script_result None = []
+script_result (Some v) = script_scalar v
+
+-- the signature of a function type that is lifted: a name and a primitive for each parameter, and a primitive for the result
+abbrev pub script_lifted : Signature → List ℕ
+script_lifted s = script_params s.params ++ script_result s.result
+
+-- How much fuel a type takes: one for itself, and one for each turn of its loops. What stands in it takes its own.
+abbrev pub core_cost : CoreEntry → ℕ
+core_cost e = core_size e + 1
+
+abbrev mutual
+  pub cost : Entry → ℕ
+  cost (defined t) = defined_size t + 1
+  cost (function s) = size (function s) + 1
+  cost (component_type ds) = decls_cost ds + 1
+  cost (instance_type ds) = decls_cost ds + 1
+
+  pub decl_cost : Decl → ℕ
+  decl_cost (core_type_decl t k) = core_cost t
+  decl_cost (type_decl e) = cost e
+  decl_cost (type_alias count i k) = 0
+  decl_cost (core_type_alias count i k) = 0
+  decl_cost (import_decl name n r) = 0
+  decl_cost (export_decl name n r) = 0
+
+  pub decls_cost : Decls → ℕ
+  decls_cost no_decls = 0
+  decls_cost (then_decls d ds) = decl_cost d + decls_cost ds + 1
+
+-- the kind of a reference, and its index
+abbrev pub kind_in : ComponentTypeRef → RefKind
+kind_in (to.Module i) = ref.Module
+kind_in (to.TypeEq i) = ref.TypeEq
+kind_in (to.Func i) = ref.Func
+kind_in (to.Component i) = ref.Component
+kind_in (to.Instance i) = ref.Instance
+
+abbrev pub index_in : ComponentTypeRef → ℕ
+index_in (to.Module i) = i
+index_in (to.TypeEq i) = i
+index_in (to.Func i) = i
+index_in (to.Component i) = i
+index_in (to.Instance i) = i
+
+-- what an import or an export is of: a choice of a kind, and of an entry of that kind
+abbrev pub script_ref : Config → Scope → RefTotals → Bool → Bool → ComponentTypeRef → List ℕ
+script_ref config own totals for_import for_type_def r =
+    script_among refs.eq (ref_kinds config own totals for_import for_type_def) (kind_in r) ++ script_among nat_eq (ref_places own (kind_in r)) (index_in r)
+
+-- a name, and no URL
+abbrev pub script_extern : List ℕ → List ℕ
+script_extern name = script_label name ++ 0 ∷ []
+
+-- an outer alias: a choice of the scope, and of what stands in it, the core types behind the types
+abbrev pub script_entry : ℕ → (Scope → ℕ) → Option Scope → List ℕ
+script_entry count place None = []
+script_entry count place (Some s) = pick (length (aliases_of count s)) (place s)
+
+abbrev pub script_alias : List Scope → ℕ → (Scope → ℕ) → List ℕ
+script_alias scopes count place = script_among nat_eq (occupied scopes) count ++ script_entry count place (slice_get scopes count)
+
+-- that no import is declared, where one might be
+abbrev pub script_no_import : Bool → Scope → List ℕ
+script_no_import importing own = if importing && has_reference own then pick 4 1 else []
+
+-- what is declared
+abbrev pub script_item : Config → List Scope → Scope → DeclarationItem → List ℕ
+script_item config outer own chosen = script_among items.eq (declaration_items config outer own) chosen
+
+abbrev pub script_declares : Config → Bool → Scope → List Scope → DeclarationItem → List ℕ
+script_declares config importing own outer chosen = script_no_import importing own ++ script_item config outer own chosen
+
+-- A core type: a function type. Module types have no script, but for the empty one where the fuel does not last.
+abbrev pub script_core : Config → CoreEntry → List ℕ
+script_core config (core_func f) = script_core_type config f
+script_core config (core_module ds) = []
+
+-- A type with so much fuel: which of four kinds it is, where the fuel lasts, and then what it is. The fuel lasts for all but a type of
+-- values.
+abbrev mutual
+  pub script_type : Entry → Config → ℕ → Scope → List Scope → List ℕ
+  script_type (defined t) config fuel own outer = (if nat_le 2 fuel then script_type_kind Defined else []) ++ script_defined own t
+  script_type (function s) config fuel own outer = script_type_kind Function ++ script_function own s
+  script_type (component_type ds) config fuel own outer = script_type_kind Component ++ script_decls ds config true (fuel - 1) 0 empty_scope (own ∷ outer)
+  script_type (instance_type ds) config fuel own outer = script_type_kind Instance ++ script_decls ds config false (fuel - 1) 0 empty_scope (own ∷ outer)
+
+  pub script_decl : Decl → Config → Bool → ℕ → Scope → List Scope → List ℕ
+  script_decl (core_type_decl t k) config importing fuel own outer = script_declares config importing own outer item.CoreType ++ script_core config t
+  script_decl (type_decl e) config importing fuel own outer = script_declares config importing own outer item.«Type» ++ script_type e config fuel own outer
+  script_decl (type_alias count i k) config importing fuel own outer = script_declares config importing own outer item.Alias ++ script_alias (own ∷ outer) count (λ s. i)
+  script_decl (core_type_alias count i k) config importing fuel own outer = script_declares config importing own outer item.Alias ++ script_alias (own ∷ outer) count (λ s. length s.types + i)
+  script_decl (import_decl name n r) config importing fuel own outer = pick 4 0 ++ (script_ref config own uncounted true true r ++ script_extern name)
+  script_decl (export_decl name n r) config importing fuel own outer = script_declares config importing own outer item.Export ++ (script_ref config own uncounted false true r ++ script_extern name)
+
+  -- A byte asks for each declaration, so many being made before. Each turn takes one from the fuel.
+  pub script_decls : Decls → Config → Bool → ℕ → ℕ → Scope → List Scope → List ℕ
+  script_decls no_decls config importing fuel done own outer = script_end done 100
+  script_decls (then_decls d ds) config importing fuel done own outer =
+      1 ∷ (script_decl d config importing (fuel - 1) own outer ++ script_decls ds config importing (fuel - 1 - decl_cost d) (done + 1) (after_decl outer own d) outer)
 
 -- Names have at most 100 bytes.
 abbrev pub AreShort : List (List ℕ) → Type 0
@@ -106,8 +209,41 @@ LastsDefined fuel (enum_type ns) = AreShort ns × (length ns + 2 ≤ fuel)
 LastsDefined fuel (option_type v) = Unit {0}
 LastsDefined fuel (result_type ok err) = Unit {0}
 
-abbrev pub Lasts : ℕ → Entry → Type 0
-Lasts fuel (defined t) = LastsDefined fuel t
-Lasts fuel (function s) = AreShort (map (λ p. p.0) s.params) × (size (function s) + 2 ≤ fuel)
-Lasts fuel (component_type ds) = ⊥
-Lasts fuel (instance_type ds) = ⊥
+-- A core type is a function type for which the fuel lasts, or the empty module type where it does not.
+abbrev pub LastsCore : ℕ → CoreEntry → Type 0
+LastsCore fuel (core_func f) = 2 ≤ fuel
+LastsCore fuel (core_module ds) = (fuel ≤ 1) × (ds ≡ [])
+
+-- The same where so many scopes are on the stack: fewer may be than the nesting allows where a type is declared in a type.
+abbrev mutual
+  pub Lasts : Entry → Config → ℕ → ℕ → Type 0
+  Lasts (defined t) config scopes fuel = LastsDefined fuel t
+  Lasts (function s) config scopes fuel = AreShort (map (λ p. p.0) s.params) × (size (function s) + 2 ≤ fuel)
+  Lasts (component_type ds) config scopes fuel = (2 ≤ fuel) × LastsDecls ds config (suc scopes) (fuel - 1)
+  Lasts (instance_type ds) config scopes fuel = (2 ≤ fuel) × LastsDecls ds config (suc scopes) (fuel - 1)
+
+  pub LastsDecl : Decl → Config → ℕ → ℕ → Type 0
+  LastsDecl (core_type_decl t k) config scopes fuel = LastsCore fuel t
+  LastsDecl (type_decl e) config scopes fuel = (scopes < config.max_nesting_depth) × Lasts e config scopes fuel
+  LastsDecl (type_alias count i k) config scopes fuel = Unit {0}
+  LastsDecl (core_type_alias count i k) config scopes fuel = Unit {0}
+  LastsDecl (import_decl name n r) config scopes fuel = length name ≤ 100
+  LastsDecl (export_decl name n r) config scopes fuel = length name ≤ 100
+
+  pub LastsDecls : Decls → Config → ℕ → ℕ → Type 0
+  LastsDecls no_decls config scopes fuel = Unit {0}
+  LastsDecls (then_decls d ds) config scopes fuel = (2 ≤ fuel) × LastsDecl d config scopes (fuel - 1) × LastsDecls ds config scopes (fuel - 1 - decl_cost d)
+
+-- A choice among the scopes can be spelled, and one among what stands in each.
+pub record Fit (scopes : List Scope) : Type 0 where
+  pub many : length scopes ≤ 2 ^ 64
+  pub each : AllByRecursion (λ s. length s.types + length s.core_types ≤ 2 ^ 64) scopes
+
+-- What a script can say of a type where these scopes stand and so much fuel is left: it is well formed in them and within the limits, the
+-- fuel lasts for it, and each choice in it can be spelled.
+pub record IsSayable (config : Config) (own : Scope) (outer : List Scope) (fuel : ℕ) (e : Entry) : Type 0 where
+  pub formed : FormedEntry e own outer
+  pub limits : EntryLimits config e
+  pub lasts : Lasts e config (length (own ∷ outer)) fuel
+  pub fit : Fit (own ∷ outer)
+  pub shallow : length (own ∷ outer) ≤ 1000

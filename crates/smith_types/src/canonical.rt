@@ -1,15 +1,18 @@
 //! Function types of components as core function types (CanonicalABI.md, flattening), and the other way round.
 
-ghost use Rattle.std.specs.Prelude.{◌≡◌, true, [], map, Some, IfOk, IfErr};
+ghost use Rattle.std.specs.Prelude.{◌≡◌, ◌++◌, ℕ, List, true, [], map, Some, IfOk, IfErr};
 ghost use Rattle.std.specs.List.{AllByRecursion, list_all};
 ghost use Rattle.std.specs.Option.{is_some};
 ghost use Rattle.smith_format.specs.CoreTypes.{shown_func};
 ghost use Rattle.smith_input.specs.Choices.{ReadsAmong};
 ghost use Rattle.smith_input.specs.Reading.{IsTail};
+ghost use Rattle.smith_syntax.specs.Entries.{Signature};
 ghost use Rattle.smith_syntax.specs.Flat.{flat_primitive, flat_value, is_scalar, Flattens};
 ghost use Rattle.smith_syntax.specs.Signature.{named};
 ghost use Rattle.smith_syntax.specs.WellFormed.{Named};
-ghost use Rattle.smith_types.specs.Lifting.{lifted, IsLiftable, IsLiftableFunction, ReadsParams, ReadsLifted};
+ghost use Rattle.smith_types.specs.Lifting.{IsLiftable, IsLiftableFunction, ReadsParams, ReadsLifted};
+ghost use Rattle.smith_types.specs.Offers.{lifted};
+ghost use Rattle.smith_types.specs.Script.{AreShort, script_lifted};
 
 use smith_format::ValType;
 use smith_input::{Error, Unstructured, unique_kebab_string};
@@ -148,6 +151,10 @@ pub fn inverse_scalar_canonical_abi_for(
     ensures reads { IfOk result (λ f. ReadsLifted (shown_func core.now) u.old f u.new) }
     ensures flattens { IfOk result (λ f. Flattens f (shown_func core.now)) }
     ensures named { IfOk result (λ f. Named (map (λ p. p.0) f.params)) }
+    // The script of a function type that flattens to the core function type gives that type.
+    ensures script { (s : Signature) (rest : List ℕ) → Flattens s (shown_func core.now)
+        → Named (map (λ p. p.0) s.params) → AreShort (map (λ p. p.0) s.params) → u.old ≡ script_lifted s ++ rest
+        → IfOk result (λ f. (f ≡ s) × (u.new ≡ rest)) }
     ensures memory { IfErr result (λ e. e ≡ Error.OutOfMemory) }
     ensures tail { IsTail u.new u.old }
 {

@@ -1,13 +1,20 @@
 //! Laws of how types are read. Each function does nothing: its contract is the law.
 
-ghost use Rattle.std.specs.Prelude.{◌≤◌, ◌^◌, ℕ, List, length};
+ghost use Rattle.std.specs.Prelude.{◌≡◌, ◌≤◌, ◌↔◌, ◌∷◌, ℕ, List, [], length, true, false, nat_eq};
 ghost use Rattle.smith_format.specs.declared.config.Config.{Config};
 ghost use Rattle.smith_input.specs.Reading.{IsDecided, IsReadAs};
-ghost use Rattle.smith_syntax.specs.Entries.{Entry, FullEntry};
-ghost use Rattle.smith_syntax.specs.Scope.{Scope};
-ghost use Rattle.smith_syntax.specs.WellFormed.{FormedEntry};
+ghost use Rattle.smith_input.specs.Script.{script_among};
+ghost use Rattle.smith_syntax.specs.Entries.{Entry, FullEntry, plain};
+ghost use Rattle.smith_syntax.specs.Scope.{Scope, is_component, is_core_module, is_func, is_instance, places};
+ghost use Rattle.smith_syntax.specs.TypeLimits.{EntryLimits};
+ghost use Rattle.smith_syntax.specs.WellFormed.{FormedEntry, FormedRef};
+ghost use Rattle.smith_syntax.specs.declared.deftype.ComponentTypeRef.TheVariants.{Func};
+ghost use Rattle.smith_types.specs.Brief.{Brief};
 ghost use Rattle.smith_types.specs.Made.{Made, MadeWith};
-ghost use Rattle.smith_types.specs.Script.{Lasts, script_type};
+ghost use Rattle.smith_types.specs.Needs.{need, Nests};
+ghost use Rattle.smith_types.specs.Offers.{IsAllowed};
+ghost use Rattle.smith_types.specs.Script.{Fit, IsSayable, script_ref, script_type};
+ghost use Rattle.smith_types.specs.declared.make.references.RefTotals.{RefTotals};
 
 pub use smith_core_types::laws::{core_scripts_are_read, core_types_are_decided};
 
@@ -18,9 +25,38 @@ pub fn types_are_decided()
         → IsDecided (λ bytes (made : FullEntry × ℕ) rest. Made config own outer bytes fuel made.0 rest made.1) }
 {}
 
-/// The script of a type that is well formed in its scopes and for which the fuel lasts is read as that type.
+/// The script of a type that is well formed in its scopes and within the limits, and for which the fuel lasts, is read
+/// as that type.
 pub fn scripts_are_read()
     ensures { (config : Config) (own : Scope) (outer : List Scope) (fuel : ℕ) (e : Entry)
-        → FormedEntry e own outer → Lasts fuel e → length own.types ≤ 2 ^ 64
-        → IsReadAs (MadeWith config own outer fuel) (script_type fuel own e) e }
+        → config.max_nesting_depth ≤ 1000 → IsSayable config own outer fuel e
+        → IsReadAs (MadeWith config own outer fuel) (script_type e config fuel own outer) e }
+{}
+
+/// Where no type of a component, of an instance or of a core module stands in a scope, the script of what an import of a
+/// component is of has no byte for its kind: it is a choice among the function types.
+pub fn function_imports_choose_no_kind()
+    ensures { (config : Config) (own : Scope) (totals : RefTotals) (i : ℕ)
+        → places is_core_module 0 own.core_types ≡ [] → places is_component 0 own.types ≡ []
+        → places is_instance 0 own.types ≡ [] → FormedRef own (Func i)
+        → IsAllowed config own totals true false (Func i)
+        → script_ref config own totals true false (Func i) ≡ script_among nat_eq (places is_func 0 own.types) i }
+{}
+
+/// A type that is read, on any input, needs no more fuel than there was, and declares types only where one more scope
+/// may nest.
+pub fn answers_need_no_more()
+    ensures { (config : Config) (own : Scope) (outer : List Scope) (bytes : List ℕ) (fuel : ℕ) (made : FullEntry) (rest : List ℕ) (left : ℕ)
+        → Made config own outer bytes fuel made rest left
+        → (need (plain made) ≤ fuel) × Nests (plain made) config (length (own ∷ outer)) }
+{}
+
+/// A type with short names and no module types, well formed in its scopes and within the limits, is read on some input
+/// exactly if there is fuel for it and it declares types only where one more scope may nest.
+pub fn types_are_exact()
+    ensures { (config : Config) (own : Scope) (outer : List Scope) (fuel : ℕ) (e : Entry)
+        → config.max_nesting_depth ≤ 1000 → FormedEntry e own outer → EntryLimits config e → Brief e
+        → Fit (own ∷ outer) → length (own ∷ outer) ≤ 1000
+        → ((bytes rest : List ℕ) × MadeWith config own outer fuel bytes e rest)
+        ↔ ((need e ≤ fuel) × Nests e config (length (own ∷ outer))) }
 {}

@@ -9,11 +9,13 @@ mod references;
 mod scoped;
 mod values;
 
-ghost use Rattle.std.specs.Prelude.{◌≡◌, ◌+◌, ◌≤◌, length, max, IfOk, IfErr};
+ghost use Rattle.std.specs.Prelude.{◌≡◌, ◌+◌, ◌≤◌, ◌++◌, ℕ, List, length, max, IfOk, IfErr};
 ghost use Rattle.smith_input.specs.Reading.{IsTail};
 ghost use Rattle.smith_format.specs.Limits.{configured, IsConsistent};
 ghost use Rattle.smith_types.specs.Made.{Made};
+ghost use Rattle.smith_types.specs.Script.{IsSayable, script_type};
 ghost use Rattle.smith_scopes.specs.Scopes.{own_scope, outer_scopes};
+ghost use Rattle.smith_syntax.specs.Entries.{Entry};
 ghost use Rattle.smith_syntax.specs.Shown.{full_type, shown_shared};
 ghost use Rattle.smith_syntax.specs.TypeLimits.{EntryLimits, nesting};
 ghost use Rattle.smith_syntax.specs.WellFormed.{FormedEntry, size};
@@ -74,6 +76,11 @@ pub fn arbitrary_type(
     ensures nesting { IfOk result (λ t. length scopes.old + nesting (shown_shared t)
         ≤ max (length scopes.old + 1) config.now.max_nesting_depth) }
     ensures size { IfOk result (λ t. size (shown_shared t) + fuel.new ≤ fuel.old) }
+    // The script of a type gives that type.
+    ensures script { (e : Entry) (rest : List ℕ)
+        → IsSayable config.now (own_scope scopes.old) (outer_scopes scopes.old) fuel.old e
+        → u.old ≡ script_type e config.now fuel.old (own_scope scopes.old) (outer_scopes scopes.old) ++ rest
+        → IfOk result (λ t. (shown_shared t ≡ e) × (u.new ≡ rest)) }
     ensures scopes { scopes.new ≡ scopes.old }
     ensures memory { IfErr result (λ e. e ≡ Error.OutOfMemory) }
     ensures tail { IsTail u.new u.old }

@@ -32,6 +32,8 @@ mod names;
 #[cfg(test)]
 mod nested_types;
 #[cfg(test)]
+mod plans;
+#[cfg(test)]
 mod reader;
 #[cfg(test)]
 mod references;

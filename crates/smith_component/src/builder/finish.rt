@@ -7,7 +7,6 @@ ghost use Rattle.smith_component.specs.Building.{open_of};
 ghost use Rattle.smith_component.specs.Counted.{count_of, minimum_of};
 ghost use Rattle.smith_component.specs.Limits.{Minima};
 ghost use Rattle.smith_component.specs.Refusals.{IsFillRefusal, IsMinimum};
-ghost use Rattle.smith_component.specs.Scripted.{Follows};
 ghost use Rattle.smith_component.specs.Steps.{next_of, AddsSections, ClosesSections, KeepsSections, StaysSound};
 ghost use Rattle.smith_component.specs.Turn.{Next, Closes, Does, Fills, FillsAll};
 ghost use Rattle.smith_component.specs.declared.item.Item.TheVariants.{Finish};
@@ -113,8 +112,6 @@ impl Builder {
     // What lacks is added, and then the inner component is finished.
     pub(crate) fn finish(self, u: &mut Unstructured) -> Result<Step, Error>
         ensures done { IfOk result (λ s. Does self.config Finish (open_of self) u.old (next_of s) u.new) }
-        ensures follows { (n : Next) (rest : List ℕ) → Follows self.config Finish (open_of self) u.old n rest
-            → IfOk result (λ s. (next_of s ≡ n) × (u.new ≡ rest)) }
         ensures keeps { IfOk result (StaysSound self.config) }
         ensures sections { IfOk result (KeepsSections self) }
         ensures refuses { IfErr result (IsFillRefusal self.config (open_of self) u.old) }

@@ -2,7 +2,7 @@
 
 ghost use Rattle.std.specs.Prelude.{◌≡◌, ◌+◌, ◌<◌, length, OnOk, IfErr};
 ghost use Rattle.smith_scopes.specs.Scopes.{own_scope};
-ghost use Rattle.smith_component.specs.Canonicals.{is_scalar_type};
+ghost use Rattle.smith_component.specs.Offers.{is_scalar_type};
 ghost use Rattle.smith_component.specs.Tables.{Tabled, AddsFunction, AddsCoreFunction};
 ghost use Rattle.smith_component.specs.Tree.{ends};
 

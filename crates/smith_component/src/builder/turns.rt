@@ -6,7 +6,6 @@ ghost use Rattle.smith_format.specs.Limits.{IsConsistent};
 ghost use Rattle.smith_component.specs.Building.{open_of};
 ghost use Rattle.smith_component.specs.Counted.{count_of, item_for, maximum_of};
 ghost use Rattle.smith_component.specs.Limits.{OwnLimits};
-ghost use Rattle.smith_component.specs.Scripted.{Follows};
 ghost use Rattle.smith_component.specs.Steps.{next_of, AddsSections, KeepsSections, StaysSound};
 ghost use Rattle.smith_component.specs.Turn.{Next, Adds, AddsAny};
 
@@ -41,8 +40,6 @@ impl Builder {
         requires consistent { IsConsistent self.config }
         requires limits { OwnLimits self.config (open_of self).inner }
         ensures added { IfOk result (λ s. AddsAny what self.config (open_of self) u.old (next_of s) u.new) }
-        ensures follows { (n : Next) (rest : List ℕ) → Follows self.config (item_for what) (open_of self) u.old n rest
-            → IfOk result (λ s. (next_of s ≡ n) × (u.new ≡ rest)) }
         ensures keeps { IfOk result (StaysSound self.config) }
         ensures sections { IfOk result (KeepsSections self) }
         ensures memory { IfErr result (λ e. e ≡ Error.OutOfMemory) }

@@ -7,7 +7,7 @@ ghost use Rattle.smith_input.specs.Reading.{IsTail};
 ghost use Rattle.smith_syntax.specs.Shown.{full_alias, full_instance_decl};
 ghost use Rattle.smith_syntax.specs.WellFormed.{export_of, import_of, FormedRef};
 ghost use Rattle.smith_types.specs.Declarations.{NamedExtern, ReadsAlias, ReadsExport};
-ghost use Rattle.smith_types.specs.Declarations.{declaration_items, has_reference, occupied};
+ghost use Rattle.smith_types.specs.Offers.{declaration_items, has_reference, occupied};
 ghost use Rattle.smith_types.specs.MakingTypes.{Declares, HasTarget, HoldsExterns, IsNameless};
 ghost use Rattle.smith_types.specs.MakingTypes.{MadeItem, MaybeImport, SameOuter};
 ghost use Rattle.smith_types.specs.MakingTypes.{imported_by, shown_import, with_aliased, with_exported};

@@ -1,10 +1,12 @@
 //! What imports and exports are of, from the input.
 
-ghost use Rattle.std.specs.Prelude.{◌≡◌, ◌<◌, ◌≤◌, ◌&&◌, [], length, slice_get, Some, MatchOption};
+ghost use Rattle.std.specs.Prelude.{◌≡◌, ◌<◌, ◌≤◌, ◌&&◌, ◌++◌, ℕ, List, [], length, slice_get, Some, MatchOption};
 ghost use Rattle.smith_input.specs.Choices.{ReadsAmong};
 ghost use Rattle.smith_input.specs.Reading.{IsTail};
-ghost use Rattle.smith_types.specs.References.{MaybeRef, allows_equal, allows_one, has_place};
-ghost use Rattle.smith_types.specs.References.{ref_kinds, ref_places, ref_to};
+ghost use Rattle.smith_syntax.specs.WellFormed.{FormedRef};
+ghost use Rattle.smith_types.specs.Offers.{IsAllowed, allows_equal, allows_one, has_place, ref_kinds, ref_places};
+ghost use Rattle.smith_types.specs.References.{MaybeRef, ref_to};
+ghost use Rattle.smith_types.specs.Script.{script_ref};
 ghost use Rattle.smith_scopes.specs.Scopes.{own_scope};
 
 use smith_format::Config;
@@ -148,6 +150,11 @@ pub fn arbitrary_type_ref(
     for_type_def: bool,
 ) -> Option<ComponentTypeRef>
     ensures reads { MaybeRef config.now (own_scope scopes.now) totals for_import for_type_def u.old result u.new }
+    // The script of a reference that may be had gives that reference.
+    ensures script { (r : ComponentTypeRef) (rest : List ℕ) → FormedRef (own_scope scopes.now) r
+        → IsAllowed config.now (own_scope scopes.now) totals for_import for_type_def r
+        → u.old ≡ script_ref config.now (own_scope scopes.now) totals for_import for_type_def r ++ rest
+        → (result ≡ Some r) × (u.new ≡ rest) }
     ensures tail { IsTail u.new u.old }
 {
     let kind = ref_kind(u, config, scopes, totals, for_import, for_type_def)?;

@@ -3,7 +3,7 @@
 ghost use Rattle.std.specs.Prelude.{◌≡◌};
 ghost use Rattle.smith_input.specs.Reading.{IsTail};
 ghost use Rattle.smith_input.specs.Choices.{ReadsAmong};
-ghost use Rattle.smith_types.specs.Script.{primitives};
+ghost use Rattle.smith_types.specs.Offers.{primitives};
 ghost use Rattle.smith_types.specs.Made.{ReadsVal, ReadsMaybe};
 ghost use Rattle.smith_scopes.specs.Scopes.{own_scope};
 

@@ -1,9 +1,9 @@
-use Rattle.std.proofs.Common.{◌≡◌, ◌≤◌, ◌^◌, arith, sym}
+use Rattle.std.proofs.Common.{◌≡◌, sym}
 use Rattle.smith_input.specs.declared.error.Error.{Error}
 use Rattle.smith_input.specs.declared.error.Error.TheVariants.{OutOfMemory}
 use Rattle.smith_component.proofs.Finishing.{refused}
 use Rattle.smith_component.proofs.Refusals.{refused_accepted}
-use Rattle.smith_component.proofs.Scripted.{scripts_lack_none, scripts_choose_no_module}
+use Rattle.smith_component.proofs.Plans.{plan_lacks_none, plan_refuses_no_module}
 use Rattle.smith_component.proofs.generation.generate.Goals as goal
 
 pub returns-clause-reach : goal.returns-clause-reach
@@ -13,8 +13,7 @@ returns-clause-reach c plan rest w e =
 
 pub returns-in_err-component-clause-answers : goal.returns-in_err-component-clause-answers
 returns-in_err-component-clause-answers c plan rest consistent w e =
-    let small : c.args.config.max_types ≤ 2 ^ 64 = omega (arith, consistent.types) in
     let P : Error → Type 0 = λ x. x ≡ OutOfMemory in
-    let lacks = scripts_lack_none c.args.config c.args.u.now plan rest small w e in
-    let no_module = scripts_choose_no_module c.args.config c.args.u.now plan rest small w e in
+    let lacks = plan_lacks_none c.args.config c.args.u.now plan rest consistent w e in
+    let no_module = plan_refuses_no_module c.args.config c.args.u.now plan rest consistent w e in
     refused _ _ P c.from_residual.ensures.1 (refused_accepted c.args.config c.args.u.now consistent lacks no_module _ c.in_err-component.ensures.refuses)

@@ -1,12 +1,13 @@
-use Rattle.std.proofs.Common.{sym, subst, ◌+◌, ◌≤◌}
+use Rattle.std.proofs.Common.{sym, ap, ◌∙◌, subst, ◌+◌, ◌≤◌, ℕ, List}
 use Rattle.smith_syntax.specs.CoreLimits.{CoreLimits}
+use Rattle.smith_core_types.specs.MadeCore.{MadeCore}
 use Rattle.smith_core_types.specs.MakingCore.{KeepsAliased}
 use Rattle.smith_syntax.specs.Scope.{own_of}
 use Rattle.smith_scopes.specs.Scopes.{inward}
 use Rattle.smith_syntax.specs.Shown.{shown_core}
 use Rattle.smith_syntax.specs.WellFormed.{FormedCore, core_size}
 use Rattle.smith_syntax.specs.declared.core_types.CoreType.{CoreType}
-use Rattle.smith_core_types.proofs.MadeCore.{made_core_formed, made_core_limits, made_core_size}
+use Rattle.smith_core_types.proofs.MadeCore.{core_type_read, made_core_formed, made_core_limits, made_core_same, made_core_size}
 use Rattle.smith_core_types.proofs.core_types.arbitrary_core_type.Goals as goal
 
 pub returns-clause-formed : goal.returns-clause-formed
@@ -28,3 +29,12 @@ pub returns-clause-kept : goal.returns-clause-kept
 returns-clause-kept c =
     let P : CoreType → Type 0 = λ t. KeepsAliased (own_of (inward c.args.scopes.now)).core_types t in
     subst P (sym c.in_ok-shared.ensures.ok) c.in_ok-made.ensures.kept
+
+pub returns-clause-script : goal.returns-clause-script
+returns-clause-script c f rest lasts formed e =
+    let config = c.args.config.now in
+    let own = own_of (inward c.args.scopes.now) in
+    let fuel = c.args.fuel.now in
+    let P : List ℕ → Type 0 = λ bytes. MadeCore config own bytes fuel (shown_core c.in_ok-made.made) c.made_core_type.new.u c.made_core_type.new.fuel in
+    let d = made_core_same (subst P e c.in_ok-made.ensures.made) (core_type_read config own fuel f rest lasts formed) in
+    (ap shown_core c.in_ok-shared.ensures.ok ∙ d.value, d.rest)

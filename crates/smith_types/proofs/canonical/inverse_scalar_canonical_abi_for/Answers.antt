@@ -1,5 +1,6 @@
 use Rattle.std.proofs.Common.{ap, arith, length}
 use Rattle.smith_format.specs.CoreTypes.{shown_func}
+use Rattle.smith_types.proofs.LiftedRead.{lifted_scripted}
 use Rattle.smith_types.proofs.Lifting.{all_lifted, lifted_flattens, params_named}
 use Rattle.smith_types.proofs.canonical.inverse_scalar_canonical_abi_for.Goals as goal
 
@@ -14,3 +15,6 @@ pub returns-clause-named : goal.returns-clause-named
 returns-clause-named c =
     let held = c.args.core.now.params in
     params_named (omega (arith, ap length c.deref.ensures.value, held.ok.0, held.ok.1, held.small)) c.in_ok-params.ensures.reads
+
+pub returns-clause-script : goal.returns-clause-script
+returns-clause-script c s rest flat names short begins = lifted_scripted (shown_func c.args.core.now) s _ _ rest _ flat names short begins (returns-clause-reads c)

@@ -6,6 +6,7 @@ use Rattle.smith_scopes.specs.Scopes.{inward}
 use Rattle.smith_types.proofs.MadeFormed.{made_formed}
 use Rattle.smith_types.proofs.MadeTypes.{made_limits, made_size, stack_nesting}
 use Rattle.smith_scopes.proofs.Stack.{length-inward}
+use Rattle.smith_types.proofs.ScopedScript.{type_scripted}
 use Rattle.smith_types.proofs.make.arbitrary_type.Goals as goal
 
 pub returns-clause-formed : goal.returns-clause-formed
@@ -21,3 +22,6 @@ returns-clause-nesting c =
 
 pub returns-clause-size : goal.returns-clause-size
 returns-clause-size c = made_size _ _ _ _ _ _ _ _ c.in_ok-made.ensures.made
+
+pub returns-clause-script : goal.returns-clause-script
+returns-clause-script c e rest said begins = type_scripted c.args.config.now c.requires.consistent.nesting _ _ _ _ e _ _ rest _ said begins c.in_ok-made.ensures.made

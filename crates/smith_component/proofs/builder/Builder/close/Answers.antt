@@ -19,7 +19,7 @@ use Rattle.smith_component.specs.declared.component.Section.TheVariants.{Compone
 use Rattle.smith_component.proofs.Shown.{none_open, outer_popped, trees_of}
 use Rattle.smith_component.proofs.Sound.{root_kept, sound_close, totalled_close, closes, scope_bare, scopes_from-snoc, length-scopes_from, same_tail}
 use Rattle.smith_component.proofs.Standing.{tabled_added}
-use Rattle.smith_component.proofs.Tree.{all_back, all_front}
+use Rattle.smith_scopes.proofs.Plain.{all_back, all_front}
 use Rattle.smith_component.proofs.builder.Builder.close.Goals as goal
 
 -- no component is open where none was taken

@@ -14,7 +14,7 @@ use Rattle.smith_component.specs.declared.builder.open.OpenComponent.{OpenCompon
 use Rattle.smith_component.specs.declared.component.Section.{Section}
 use Rattle.smith_component.proofs.Shown.{outer_popped, trees_of}
 use Rattle.smith_component.proofs.Sound.{sound_open, totalled_open, component_offered_is, scopes_from-snoc}
-use Rattle.smith_component.proofs.Tree.{all_both}
+use Rattle.smith_scopes.proofs.Plain.{all_both}
 use Rattle.smith_component.proofs.builder.Builder.open_component.Goals as goal
 
 pub overflow_add-builder : goal.overflow_add-builder

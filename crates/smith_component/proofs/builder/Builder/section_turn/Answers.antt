@@ -1,4 +1,4 @@
-use Rattle.std.proofs.Common.{◌+◌, ◌≤◌, arith, inl, ◌∙◌}
+use Rattle.std.proofs.Common.{◌+◌, ◌≤◌, arith, inl}
 use Rattle.smith_format.specs.declared.config.Config.{Config}
 use Rattle.smith_component.specs.Building.{open_of}
 use Rattle.smith_component.specs.Counted.{count_of, maximum_of}
@@ -6,7 +6,6 @@ use Rattle.smith_component.specs.Limits.{OwnLimits}
 use Rattle.smith_component.specs.Tree.{Tree}
 use Rattle.smith_component.specs.declared.item.Counted.{Counted}
 use Rattle.smith_component.specs.declared.item.Counted.TheVariants.{Types, Imports, Functions}
-use Rattle.smith_component.proofs.Scripted.{counted_follow}
 use Rattle.smith_component.proofs.Turn.{still_building}
 use Rattle.smith_component.proofs.builder.Builder.section_turn.Goals as goal
 
@@ -21,11 +20,6 @@ add-requires c = record { room = none_fit c.args.what c.args.self.config (open_o
 
 pub returns-clause-added : goal.returns-clause-added
 returns-clause-added c = ((open_of c.in_ok-builder.builder).inner, c.in_ok-builder.ensures.added, still_building _ _ c.in_ok-builder.ensures.sections)
-
-pub returns-clause-follows : goal.returns-clause-follows
-returns-clause-follows c n rest f =
-    let r = counted_follow _ _ _ _ n rest c.args.what (omega (arith, c.requires.consistent.types)) c.in_ok-builder.ensures.added f in
-    (still_building _ _ c.in_ok-builder.ensures.sections ∙ r.0, r.1)
 
 pub returns-clause-sections : goal.returns-clause-sections
 returns-clause-sections c = inl c.in_ok-builder.ensures.sections

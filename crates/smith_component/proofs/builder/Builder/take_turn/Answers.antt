@@ -1,13 +1,9 @@
-use Rattle.std.proofs.Common.{refl, sym, ◌∙◌}
-use Rattle.std.proofs.lemmas.Result.{IfOk-weaker, IfErr-weaker}
+use Rattle.std.proofs.Common.{refl}
+use Rattle.std.proofs.lemmas.Result.{IfErr-weaker}
 use Rattle.smith_component.specs.Building.{open_of}
 use Rattle.smith_component.proofs.Refusals.{fill_refused, finish_refused, memory_no_minimum, memory_refused, module_no_minimum, module_refused}
-use Rattle.smith_component.proofs.Scripted.{wanted, no_module}
 use Rattle.smith_component.proofs.Turn.{chosen}
 use Rattle.smith_component.proofs.builder.Builder.take_turn.Goals as goal
-
-pub returns-in-Finish-clause-follows : goal.returns-in-Finish-clause-follows
-returns-in-Finish-clause-follows c n rest s = c.finish.ensures.follows n rest (wanted _ _ _ _ _ n rest c.in-Finish.ensures.chooses s)
 
 pub returns-in-Finish-clause-refuses : goal.returns-in-Finish-clause-refuses
 returns-in-Finish-clause-refuses c = IfErr-weaker c.finish.result _ _ (finish_refused _ _ _ _ c.in-Finish.ensures.chooses) c.finish.ensures.refuses
@@ -15,46 +11,23 @@ returns-in-Finish-clause-refuses c = IfErr-weaker c.finish.result _ _ (finish_re
 pub returns-in-Finish-clause-fills : goal.returns-in-Finish-clause-fills
 returns-in-Finish-clause-fills c can = IfErr-weaker c.finish.result _ _ (fill_refused _ _ _ (c.in-Finish.ensures.fills _ can)) c.finish.ensures.refuses
 
-pub returns-in-Custom-clause-follows : goal.returns-in-Custom-clause-follows
-returns-in-Custom-clause-follows c n rest s = c.add_custom.ensures.follows n rest (wanted _ _ _ _ _ n rest c.in-Custom.ensures.chooses s)
-
 pub returns-in-Custom-clause-refuses : goal.returns-in-Custom-clause-refuses
 returns-in-Custom-clause-refuses c = IfErr-weaker c.add_custom.result _ _ (memory_refused c.args.self.config (open_of c.args.self) c.args.u.now) c.add_custom.ensures.memory
-
-pub returns-in-Module-clause-follows : goal.returns-in-Module-clause-follows
-returns-in-Module-clause-follows c n rest s = absurd (no_module _ _ _ _ _ (wanted _ _ _ _ _ n rest c.in-Module.ensures.chooses s))
 
 pub returns-in-Module-clause-refuses : goal.returns-in-Module-clause-refuses
 returns-in-Module-clause-refuses c = IfErr-weaker c.add_module.result _ _ (module_refused c.args.self.config (open_of c.args.self) c.args.u.now _ c.in-Module.ensures.chooses) c.add_module.ensures.refuses
 
-pub returns-in-Component-clause-follows : goal.returns-in-Component-clause-follows
-returns-in-Component-clause-follows c n rest s =
-    let w = wanted _ _ _ _ _ n rest c.in-Component.ensures.chooses s in
-    IfOk-weaker c.open_component.result _ _ (λ r h. (h ∙ sym w.1, sym w.0)) c.open_component.ensures.opened
-
 pub returns-in-Component-clause-refuses : goal.returns-in-Component-clause-refuses
 returns-in-Component-clause-refuses c = IfErr-weaker c.open_component.result _ _ (memory_refused c.args.self.config (open_of c.args.self) c.args.u.now) c.open_component.ensures.memory
-
-pub returns-in-CoreTypes-clause-follows : goal.returns-in-CoreTypes-clause-follows
-returns-in-CoreTypes-clause-follows c n rest s = c.add_core_types.ensures.follows n rest (wanted _ _ _ _ _ n rest c.in-CoreTypes.ensures.chooses s)
 
 pub returns-in-CoreTypes-clause-refuses : goal.returns-in-CoreTypes-clause-refuses
 returns-in-CoreTypes-clause-refuses c = IfErr-weaker c.add_core_types.result _ _ (memory_refused c.args.self.config (open_of c.args.self) c.args.u.now) c.add_core_types.ensures.memory
 
-pub returns-in-Types-clause-follows : goal.returns-in-Types-clause-follows
-returns-in-Types-clause-follows c n rest s = c.section_turn.ensures.follows n rest (wanted _ _ _ _ _ n rest c.in-Types.ensures.chooses s)
-
 pub returns-in-Types-clause-refuses : goal.returns-in-Types-clause-refuses
 returns-in-Types-clause-refuses c = IfErr-weaker c.section_turn.result _ _ (memory_refused c.args.self.config (open_of c.args.self) c.args.u.now) c.section_turn.ensures.memory
 
-pub returns-in-Imports-clause-follows : goal.returns-in-Imports-clause-follows
-returns-in-Imports-clause-follows c n rest s = c.section_turn-in-Imports.ensures.follows n rest (wanted _ _ _ _ _ n rest c.in-Imports.ensures.chooses s)
-
 pub returns-in-Imports-clause-refuses : goal.returns-in-Imports-clause-refuses
 returns-in-Imports-clause-refuses c = IfErr-weaker c.section_turn-in-Imports.result _ _ (memory_refused c.args.self.config (open_of c.args.self) c.args.u.now) c.section_turn-in-Imports.ensures.memory
-
-pub returns-in-Canonical-clause-follows : goal.returns-in-Canonical-clause-follows
-returns-in-Canonical-clause-follows c n rest s = c.section_turn-in-Canonical.ensures.follows n rest (wanted _ _ _ _ _ n rest c.in-Canonical.ensures.chooses s)
 
 pub returns-in-Canonical-clause-refuses : goal.returns-in-Canonical-clause-refuses
 returns-in-Canonical-clause-refuses c = IfErr-weaker c.section_turn-in-Canonical.result _ _ (memory_refused c.args.self.config (open_of c.args.self) c.args.u.now) c.section_turn-in-Canonical.ensures.memory

@@ -17,9 +17,9 @@ use Rattle.smith_scopes.specs.Scopes.{own_scope}
 use Rattle.smith_types.specs.declared.make.externs.ExternNames.{ExternNames}
 use Rattle.smith_types.specs.declared.make.references.RefTotals.{RefTotals}
 use Rattle.smith_types.proofs.References.{ref_formed}
-use Rattle.smith_component.specs.Canonicals.{is_scalar_type}
+use Rattle.smith_component.specs.Offers.{is_scalar_type, totals_of, with_imports}
 use Rattle.smith_component.specs.Importing.{Importing}
-use Rattle.smith_component.specs.Imports.{ReadsImport, totals_of, with_imports}
+use Rattle.smith_component.specs.Imports.{ReadsImport}
 use Rattle.smith_component.specs.Open.{Open}
 use Rattle.smith_component.specs.Tables.{AddsFunction, Tabled}
 use Rattle.smith_component.specs.Tree.{Tree, add, component_of, core_functions_in, function_of, functions_in, imports, imports_in, imports_of, instance_of, module_of, types_in, types_of}

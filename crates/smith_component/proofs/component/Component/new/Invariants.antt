@@ -3,7 +3,6 @@ use Rattle.smith_input.specs.Reading.{IsTail}
 use Rattle.smith_format.specs.Limits.{IsConsistent}
 use Rattle.smith_component.specs.Building.{open_of}
 use Rattle.smith_component.specs.Turn.{todo}
-use Rattle.smith_component.proofs.Scripted.{Passed}
 use Rattle.smith_component.proofs.RunsTo.{Reached}
 use Rattle.smith_component.proofs.component.Component.new.Given as goal
 
@@ -13,7 +12,6 @@ invariant-loop-next l = record {
   consistent : IsConsistent l.fn.config;
   tail : IsTail l.u l.fn.u;
   reached : Reached l.fn.config l.fn.u (open_of l.builder) l.u;
-  passed : Passed l.fn.config l.fn.u (open_of l.builder) l.u;
 }
 
 abbrev pub decreases-loop-next : goal.decreases-loop-next

@@ -1,4 +1,4 @@
-use Rattle.std.proofs.Common.{refl}
+use Rattle.std.proofs.Common.{refl, rules}
 use Rattle.smith_core.proofs.StandIn.{agrees, stands}
 use Rattle.smith_core.proofs.module.Module.new_internal.Goals as goal
 
@@ -10,6 +10,7 @@ invariant_of-result c =
 pub returns-clause-reads : goal.returns-clause-reads
 returns-clause-reads c = record {
   mid = _;
+  ordered = search rules;
   types = rw c.min.ensures at ((c.in_ok-types.ensures {u = tt}).reads);
   memories = (c.in_ok-memories.ensures {u = tt}).reads;
   bulk_memory = refl;

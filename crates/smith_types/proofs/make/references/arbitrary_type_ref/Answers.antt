@@ -1,15 +1,16 @@
-use Rattle.std.proofs.Common.{◌≡◌, ◌<◌, ℕ, ◌&&◌, Bool, true, List, length, arith}
+use Rattle.std.proofs.Common.{◌≡◌, ◌<◌, ◌≤◌, ◌^◌, ap, rules, Some, ℕ, ◌&&◌, Bool, true, List, length, arith}
 use Rattle.std.proofs.lemmas.Bool.Decides.{nat_tests}
 use Rattle.std.specs.Prelude.{nat_lt}
 use Rattle.smith_input.proofs.Offered.{offer_holds}
 use Rattle.smith_input.specs.Choices.{ReadsAmong}
 use Rattle.smith_format.specs.declared.config.Config.{Config}
 use Rattle.smith_syntax.specs.Scope.{Scope}
-use Rattle.smith_types.specs.References.{ref_kinds, ref_offers, ref_places}
+use Rattle.smith_types.specs.Offers.{ref_kinds, ref_offers, ref_places}
 use Rattle.smith_scopes.specs.Scopes.{own_scope}
 use Rattle.smith_types.specs.declared.make.references.RefKind.{RefKind}
 use Rattle.smith_types.specs.declared.make.references.RefTotals.{RefTotals}
 use Rattle.smith_scopes.proofs.Plain.{both_true}
+use Rattle.smith_types.proofs.Naming.{ref_not_none, ref_scripted}
 use Rattle.smith_types.proofs.make.references.arbitrary_type_ref.Goals as goal
 
 placed : (n : ℕ) (allowed : Bool) → (nat_lt 0 n && allowed) ≡ true → 0 < n
@@ -24,3 +25,25 @@ pub choose_index-rank-requires : goal.choose_index-rank-requires
 choose_index-rank-requires c =
     let some = chosen_has_place c.args.config.now (own_scope c.args.scopes.now) c.args.totals c.args.for_import c.args.for_type_def _ c.in_ok-kind.kind _ c.in_ok-kind.ensures in
     omega (arith, some, c.place_count.ensures.count)
+
+pub returns-clause-reads : goal.returns-clause-reads
+returns-clause-reads c = record {
+  kind = c.in_ok-kind.kind;
+  mid = _;
+  index = _;
+  choice = c.in_ok-kind.ensures;
+  names = record { place = _; reads = search rules; named = c.place_at.ensures };
+  is = c.reference.ensures;
+}
+
+pub returns-clause-script : goal.returns-clause-script
+unfolding returns-clause-reads
+returns-clause-script c r rest formed allowed begins =
+    let own = own_scope c.args.scopes.now in
+    let few : length (ref_places own c.in_ok-kind.kind) ≤ 2 ^ 64 = omega (arith, c.place_count.ensures.count, c.place_count.ensures.few) in
+    let d = ref_scripted c.args.config.now own c.args.totals c.args.for_import c.args.for_type_def _ r _ _ rest formed allowed begins (returns-clause-reads c) few in
+    (ap Some d.0, d.1)
+
+pub returns-in_err-kind-clause-script : goal.returns-in_err-kind-clause-script
+returns-in_err-kind-clause-script c r rest formed allowed begins =
+    absurd (ref_not_none c.args.config.now (own_scope c.args.scopes.now) c.args.totals c.args.for_import c.args.for_type_def r formed allowed c.in_err-kind.ensures.0)

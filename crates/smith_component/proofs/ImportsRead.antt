@@ -1,0 +1,144 @@
+-- The script of imports is read as them.
+use Rattle.std.proofs.Common.{◌≡◌, ℕ, ◌+◌, ◌-◌, ◌<◌, ◌≤◌, ◌^◌, Bool, true, false, List, [], ◌∷◌, ◌++◌, map, length, arith, refl, sym, ap, ◌∙◌, subst, append_assoc, append-nil, nat_lt, None}
+use Rattle.std.proofs.lemmas.Bool.Decides.{nat_tests}
+use Rattle.std.proofs.lemmas.List.{map-append}
+use Rattle.std.specs.List.{AllByRecursion}
+use Rattle.smith_input.specs.Kebab.{Kebab}
+use Rattle.smith_input.specs.Loops.{Along, Loop, after_all}
+use Rattle.smith_input.specs.Names.{is_among}
+use Rattle.smith_input.specs.Script.{script_name}
+use Rattle.smith_input.proofs.Loops.{loop_read}
+use Rattle.smith_input.proofs.NewNames.{new_read}
+use Rattle.smith_input.proofs.ReadingLemmas.{flips_zero}
+use Rattle.smith_format.specs.declared.config.Config.{Config}
+use Rattle.smith_syntax.specs.Entries.{ImportEntry}
+use Rattle.smith_syntax.specs.WellFormed.{Named, names, is_type_eq}
+use Rattle.smith_syntax.specs.declared.deftype.ComponentTypeRef.{ComponentTypeRef}
+use Rattle.smith_syntax.specs.declared.deftype.ComponentTypeRef.TheVariants as to
+use Rattle.smith_core_types.proofs.Names.{AreNew, distinct_new, none_before}
+use Rattle.smith_types.specs.Declarations.{NamedExtern, no_url}
+use Rattle.smith_types.specs.Script.{script_ref}
+use Rattle.smith_types.specs.declared.make.references.RefTotals.{RefTotals}
+use Rattle.smith_types.proofs.Naming.{ref_read}
+use Rattle.smith_types.specs.Offers.{IsAllowed}
+use Rattle.smith_component.specs.Imports.{NoImport, ReadsImport, ReadsImports}
+use Rattle.smith_component.specs.Offers.{totals_of, with_imports}
+use Rattle.smith_component.specs.Open.{Open}
+use Rattle.smith_component.specs.Script.{script_import, script_imports, IsPlanImport}
+use Rattle.smith_component.specs.Tree.{module_of, function_of, component_of, instance_of, imports_of, types_of, core_types_of}
+use Rattle.smith_component.specs.WellFormed.{FormedImport, import_names, scope_of}
+use Rattle.smith_component.proofs.Importing.{modules_more, funcs_more, components_more, instances_more}
+use Rattle.smith_component.proofs.Tables.{import_names_more}
+
+-- names with no URLs
+abbrev plain_names : List (List ℕ) → List NamedExtern
+plain_names ns = map (λ n. (n, None)) ns
+
+plain_names_are : (ns : List (List ℕ)) → names (plain_names ns) ≡ ns
+plain_names_are [] = refl
+plain_names_are (n ∷ ns) = λ i. n ∷ plain_names_are ns i
+
+-- of new names those behind some are new behind them
+new_back : (before front back : List (List ℕ)) → AreNew before (front ++ back) → AreNew (before ++ front) back
+new_back before [] back h = subst (λ z. AreNew z back) (sym (append-nil before)) h
+new_back before (n ∷ ns) back h = subst (λ z. AreNew z back) (append_assoc before (n ∷ []) ns) (new_back (before ++ n ∷ []) ns back h.1)
+
+all_behind : {A : Type 0} (P : A → Type 0) (xs ys : List A) → AllByRecursion P (xs ++ ys) → AllByRecursion P ys
+all_behind P [] ys h = h
+all_behind P (x ∷ xs) ys h = all_behind P xs ys h.1
+
+-- that no more is counted than may be
+pub record Room (config : Config) (t : RefTotals) : Type 0 where
+  pub modules : t.modules ≤ config.max_modules
+  pub funcs : t.funcs ≤ config.max_funcs
+  pub components : t.components ≤ config.max_components
+  pub instances : t.instances ≤ config.max_instances
+
+module _ (config : Config) (stack : Open) (few : length (types_of stack.inner) + length (core_types_of stack.inner) ≤ 2 ^ 64) where
+  abbrev names_with : List ImportEntry → List (List ℕ)
+  names_with s = import_names (imports_of stack.inner ++ s)
+
+  names_with_more : (s : List ImportEntry) (x : ImportEntry) → names_with (s ++ x ∷ []) ≡ names_with s ++ x.name ∷ []
+  names_with_more s x = ap import_names (sym (append_assoc (imports_of stack.inner) s (x ∷ []))) ∙ import_names_more (imports_of stack.inner ++ s) x
+
+  abbrev totals_at : List ImportEntry → RefTotals
+  totals_at s = totals_of (with_imports stack s)
+
+  -- an import that can be said behind others
+  record Sayable (s : List ImportEntry) (x : ImportEntry) : Type 0 where
+    planned : IsPlanImport x
+    formed : FormedImport (scope_of stack.inner) x
+    kebab : Kebab x.name
+    new : is_among (names_with s) x.name ≡ false
+    room : IsAllowed config (scope_of stack.inner) (totals_at s) true false x.to
+
+  import_read : (s : List ImportEntry) (x : ImportEntry) (rest : List ℕ) → Sayable s x → ReadsImport config stack s (script_import config stack s x ++ rest) x rest (s ++ x ∷ [])
+  import_read s x rest h =
+      let a : List ℕ = script_ref config (scope_of stack.inner) (totals_at s) true false x.to in
+      let n : List ℕ = script_name 100 x.name in
+      let whole : (a ++ (n ++ 0 ∷ [])) ++ rest ≡ a ++ (n ++ (0 ∷ rest)) = append_assoc a (n ++ 0 ∷ []) rest ∙ ap (λ z. a ++ z) (append_assoc n (0 ∷ []) rest) in
+      let so_far : List NamedExtern = plain_names (names_with s) in
+      let same : names so_far ≡ names_with s = plain_names_are (names_with s) in
+      subst (λ z. ReadsImport config stack s z x rest (s ++ x ∷ [])) (sym whole) (record {
+        mid = n ++ (0 ∷ rest);
+        so_far = so_far;
+        url = None;
+        of = ref_read config (scope_of stack.inner) (totals_at s) true false few x.to (n ++ (0 ∷ rest)) h.formed.0 h.room;
+        names_are = same;
+        named = record {
+          mid = 0 ∷ rest;
+          name = new_read 100 (names so_far) x.name (0 ∷ rest) (omega arith) h.kebab h.planned (subst (λ z. is_among z x.name ≡ false) (sym same) h.new);
+          url = no_url (flips_zero rest);
+        };
+        next_is = refl;
+      })
+
+  -- imports add to what is counted
+  room_before : (s xs : List ImportEntry) → Room config (totals_at (s ++ xs)) → Room config (totals_at s)
+  room_before s [] r = subst (λ z. Room config (totals_at z)) (append-nil s) r
+  room_before s (x ∷ xs) r =
+      let next : Room config (totals_at (s ++ x ∷ [])) = room_before (s ++ x ∷ []) xs (subst (λ z. Room config (totals_at z)) (sym (append_assoc s (x ∷ []) xs)) r) in
+      record {
+        modules = omega (arith, next.modules, modules_more stack s x);
+        funcs = omega (arith, next.funcs, funcs_more stack s x);
+        components = omega (arith, next.components, components_more stack s x);
+        instances = omega (arith, next.instances, instances_more stack s x);
+      }
+
+  below : (n m : ℕ) → n < m → nat_lt n m ≡ true
+  below n m h = grind (arith, nat_tests)
+
+  one_allowed : (s : List ImportEntry) (x : ImportEntry) (r : ComponentTypeRef) → x.to ≡ r → is_type_eq r ≡ false → Room config (totals_at (s ++ x ∷ [])) → IsAllowed config (scope_of stack.inner) (totals_at s) true false r
+  one_allowed s x (to.Module i) e f r = below _ _ (omega (arith, r.modules, modules_more stack s x, ap (λ z. length (module_of z)) e))
+  one_allowed s x (to.TypeEq i) e f r = absurd (cc)
+  one_allowed s x (to.Func i) e f r = below _ _ (omega (arith, r.funcs, funcs_more stack s x, ap (λ z. length (function_of z)) e))
+  one_allowed s x (to.Component i) e f r = below _ _ (omega (arith, r.components, components_more stack s x, ap (λ z. length (component_of z)) e))
+  one_allowed s x (to.Instance i) e f r = below _ _ (omega (arith, r.instances, instances_more stack s x, ap (λ z. length (instance_of z)) e))
+
+  all_sayable : (s xs : List ImportEntry) → AllByRecursion IsPlanImport xs → AllByRecursion (FormedImport (scope_of stack.inner)) xs → AllByRecursion Kebab (import_names xs) → AreNew (names_with s) (import_names xs)
+      → Room config (totals_at (s ++ xs)) → Along Sayable (λ t x. t ++ x ∷ []) s xs
+  all_sayable s [] p f k n h = tt
+  all_sayable s (x ∷ xs) p f k n h =
+      let next : List ImportEntry = s ++ x ∷ [] in
+      let all : Room config (totals_at (next ++ xs)) = subst (λ z. Room config (totals_at z)) (sym (append_assoc s (x ∷ []) xs)) h in (
+        record { planned = p.0; formed = f.0; kebab = k.0; new = n.0; room = one_allowed s x x.to refl f.0.1 (room_before next xs all) },
+        all_sayable next xs p.1 f.1 k.1 (subst (λ z. AreNew z (import_names xs)) (sym (names_with_more s x)) n.1) all,
+      )
+
+  all_of_them : (s xs : List ImportEntry) → after_all (λ t x. t ++ x ∷ []) s xs ≡ s ++ xs
+  all_of_them s [] = sym (append-nil s)
+  all_of_them s (x ∷ xs) = all_of_them (s ++ x ∷ []) xs ∙ append_assoc s (x ∷ []) xs
+
+  -- The script of the imports of a plan is read as them.
+  pub imports_read : (is : List ImportEntry) (rest : List ℕ) → AllByRecursion IsPlanImport is → AllByRecursion (FormedImport (scope_of stack.inner)) is → Named (import_names (imports_of stack.inner ++ is)) → Room config (totals_at is)
+      → length is ≤ config.max_imports - length (imports_of stack.inner) → ReadsImports config 0 stack (script_imports config stack is ++ rest) is rest
+  imports_read is rest planned formed named room fits =
+      let parts : import_names (imports_of stack.inner ++ is) ≡ import_names (imports_of stack.inner) ++ import_names is = map-append (λ i. i.name) (imports_of stack.inner) is in
+      let both : Named (import_names (imports_of stack.inner) ++ import_names is) = subst Named parts named in
+      let kebab : AllByRecursion Kebab (import_names is) = all_behind Kebab (import_names (imports_of stack.inner)) (import_names is) both.0 in
+      let new : AreNew (import_names (imports_of stack.inner)) (import_names is) = new_back [] (import_names (imports_of stack.inner)) (import_names is) (distinct_new [] _ (none_before _) both.1) in
+      let first : AreNew (names_with []) (import_names is) = subst (λ z. AreNew (import_names z) (import_names is)) (sym (append-nil (imports_of stack.inner))) new in
+      let all = all_sayable [] is planned formed kebab first room in
+      let B : List ℕ = script_imports config stack is ++ rest in
+      let L : List ImportEntry → Type 0 = λ t. Loop (NoImport config stack) (ReadsImport config stack) 0 (config.max_imports - length (imports_of stack.inner)) 0 [] B is rest t in
+      subst L (all_of_them [] is) (loop_read (script_import config stack) (λ t x. t ++ x ∷ []) Sayable import_read is 0 [] rest all (omega arith) (omega (arith, fits)))

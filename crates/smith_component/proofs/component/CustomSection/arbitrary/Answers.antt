@@ -1,0 +1,10 @@
+use Rattle.std.proofs.Common.{List, ℕ, subst, string_bytes}
+use Rattle.smith_component.specs.Turn.{ReadsCustom}
+use Rattle.smith_component.proofs.Decided.{custom_same}
+use Rattle.smith_component.proofs.PartsRead.{custom_read}
+use Rattle.smith_component.proofs.component.CustomSection.arbitrary.Goals as goal
+
+pub returns-clause-script : goal.returns-clause-script
+returns-clause-script c name bytes rest utf8 short begins =
+    let P : List ℕ → Type 0 = λ z. ReadsCustom z (string_bytes c.in_ok-name.name) c.in_ok-bytes.bytes.items c.arbitrary_bytes.new.u in
+    custom_same (subst P begins (c.limited_string.new.u, c.in_ok-name.ensures.read, c.in_ok-bytes.ensures.read)) (custom_read name bytes rest utf8 short)

@@ -1,0 +1,168 @@
+-- The bytes decide the module that stands for a generated one, up to the room of its lists: they decide its bytes, and what is left.
+use Rattle.std.proofs.Common.{◌≡◌, ℕ, suc, ◌+◌, ◌-◌, Bool, true, false, ◌&&◌, List, [], ◌∷◌, ◌++◌, map, length, take, drop, refl, sym, ap, ◌∙◌, subst, arith, append_assoc, length-append, nat_lt}
+use Rattle.std.proofs.lemmas.List.{drop_at}
+use Rattle.std.specs.List.{AllByRecursion, slice_range}
+use Rattle.std.specs.Prelude.{if◌then◌else◌}
+use Rattle.smith_input.specs.Loops.{Loop, Never}
+use Rattle.smith_input.proofs.Loops.{loop_all, loop_same, loop_map}
+use Rattle.smith_format.specs.CoreReading.{ReadsFunction}
+use Rattle.smith_format.specs.CoreTypes.{Function, core_function, shown_func}
+use Rattle.smith_format.specs.Entities.{memory_type}
+use Rattle.smith_format.specs.Limits.{configured, max_results}
+use Rattle.smith_format.specs.Piece.{Piece, ◌⊕◌, bytes, u, each, many, sized}
+use Rattle.smith_format.specs.declared.config.Config.{Config}
+use Rattle.smith_format.specs.declared.types.MemoryType.{MemoryType}
+use Rattle.smith_format.proofs.CoreReading.{function_unique, memory_unique}
+use Rattle.smith_core.specs.Module.{binary_order, core_preamble, contents, has_any, is_there, is_written, last, module_text, section, section_id}
+use Rattle.smith_core.specs.StandIn.{groups_from, HasTypesAndMemories, IsFunction, ReadsMemoryType, ReadsStandIn, ReadsSubType}
+use Rattle.smith_core.specs.SubTypes.{composite, rec_type, sub_prefix, sub_type}
+use Rattle.smith_core.specs.declared.module.parts.ModuleParts.{ModuleParts}
+use Rattle.smith_core.specs.declared.module.sections.SectionKind.{SectionKind}
+use Rattle.smith_core.specs.declared.module.sections.SectionKind.TheVariants as kind
+use Rattle.smith_core.specs.declared.module.types.CompositeType.{CompositeType}
+use Rattle.smith_core.specs.declared.module.types.CompositeType.TheVariants.{Func, Array, Struct}
+use Rattle.smith_core.specs.declared.module.types.SubType.{SubType}
+
+-- the function type that a composite type is
+abbrev as_function : CompositeType → Function
+as_function (Func t) = shown_func t
+as_function (Array t) = ([], [])
+as_function (Struct ts) = ([], [])
+
+abbrev function_at : SubType → Function
+function_at t = as_function t.composite_type
+
+as_function_is : (c : CompositeType) (f : Function) → IsFunction c f → as_function c ≡ f
+as_function_is (Func t) f e = e
+as_function_is (Array t) f e = absurd e
+as_function_is (Struct ts) f e = absurd e
+
+-- the bytes of a final function type with no supertype
+abbrev plain : Function → Piece
+plain f = bytes [] ⊕ core_function f
+
+composite_is : (c : CompositeType) (f : Function) → IsFunction c f → composite c ≡ core_function (as_function c)
+composite_is (Func t) f e = refl
+composite_is (Array t) f e = absurd e
+composite_is (Struct ts) f e = absurd e
+
+abbrev IsPlain : SubType → Type 0
+IsPlain t = sub_type t ≡ plain (function_at t)
+
+module _ (config : Config) where
+  is_plain : (s : Unit {0}) (b : List ℕ) (t : SubType) (r : List ℕ) (z : Unit {0}) → ReadsSubType config s b t r z → IsPlain t
+  is_plain s b t r z i =
+      let c = composite_is t.composite_type i.function i.composite in
+      λ k. sub_prefix (i.is_final k) (i.supertype k) ⊕ c k
+
+  -- a function type of the loop, as it is shown
+  abbrev ReadsShown : Unit {0} → List ℕ → Function → List ℕ → Unit {0} → Type 0
+  ReadsShown s b f r z = ReadsFunction (configured config) (max_results config) b f r
+
+  shown_read : (s : Unit {0}) (b : List ℕ) (t : SubType) (r : List ℕ) (z : Unit {0}) → ReadsSubType config s b t r z → ReadsShown s b (function_at t) r z
+  shown_read s b t r z i = subst (λ f. ReadsFunction (configured config) (max_results config) b f r) (sym (as_function_is t.composite_type i.function i.composite)) i.reads
+
+-- the types behind others, each in a group by itself
+one_group : (front ts : List SubType) (t : SubType) (at : ℕ) → length front ≡ at → rec_type (slice_range (front ++ t ∷ ts) at (at + 1)) ≡ sub_type t
+one_group front ts t at e =
+    let one : (at + 1) - at ≡ 1 = omega arith in
+    let there : drop at (front ++ t ∷ ts) ≡ t ∷ ts = drop_at front (t ∷ ts) at e in
+    ap (λ n. rec_type (take n (drop at (front ++ t ∷ ts)))) one ∙ ap (λ xs. rec_type (take 1 xs)) there
+
+groups_plain : (front ts all : List SubType) (at : ℕ) → front ++ ts ≡ all → length front ≡ at → AllByRecursion IsPlain ts
+    → each (λ g. rec_type (slice_range all g.0 g.1)) (groups_from at ts) ≡ each plain (map function_at ts)
+groups_plain front [] all at e n h = refl
+groups_plain front (t ∷ ts) all at e n h =
+    let first : rec_type (slice_range all at (at + 1)) ≡ plain (function_at t) = ap (λ xs. rec_type (slice_range xs at (at + 1))) (sym e) ∙ (one_group front ts t at n ∙ h.0) in
+    let more = groups_plain (front ++ t ∷ []) ts all (at + 1) (append_assoc front (t ∷ []) ts ∙ e) (omega (arith, n, length-append front (t ∷ []))) h.1 in
+    λ i. first i ⊕ more i
+
+groups_count : (at : ℕ) (ts : List SubType) → length (groups_from at ts) ≡ length (map function_at ts)
+groups_count at [] = refl
+groups_count at (t ∷ ts) = ap suc (groups_count (at + 1) ts)
+
+any_map : {A B : Type 0} (f : A → B) (xs : List A) → has_any xs ≡ has_any (map f xs)
+any_map f [] = refl
+any_map f (x ∷ xs) = refl
+
+last_all : {A : Type 0} (xs : List A) → last (length xs) xs ≡ xs
+last_all xs = let none : length xs - length xs ≡ 0 = omega arith in ap (λ n. drop n xs) none
+
+and_false : (b : Bool) → b && false ≡ false
+and_false true = refl
+and_false false = refl
+
+-- what is written of these types and memories
+abbrev types_section : List Function → Piece
+types_section fs = if has_any fs then sized 1 (many plain fs) else bytes []
+
+abbrev memories_section : List MemoryType → Piece
+memories_section ms = if nat_lt 0 (length ms) then sized 5 (many memory_type ms) else bytes []
+
+abbrev written : List Function → List MemoryType → SectionKind → Piece
+written fs ms kind.Types = types_section fs
+written fs ms kind.Imports = bytes []
+written fs ms kind.Functions = bytes []
+written fs ms kind.Tables = bytes []
+written fs ms kind.Memories = memories_section ms
+written fs ms kind.Tags = bytes []
+written fs ms kind.Globals = bytes []
+written fs ms kind.Exports = bytes []
+written fs ms kind.Start = bytes []
+written fs ms kind.Elements = bytes []
+written fs ms kind.DataCount = bytes []
+written fs ms kind.Code = bytes []
+written fs ms kind.Data = bytes []
+
+abbrev stand_in_text : List Function → List MemoryType → Piece
+stand_in_text fs ms = bytes core_preamble ⊕ each (written fs ms) binary_order
+
+module _ (m : ModuleParts) (h : HasTypesAndMemories m) (all : AllByRecursion IsPlain m.types.items) where
+  -- a section that is not written
+  not_written : (k : SectionKind) → is_written m k ≡ false → section m k ≡ bytes []
+  not_written k e = ap (λ b. if b then sized (section_id k) (contents m k) else bytes []) e
+
+  section_is : (k : SectionKind) → section m k ≡ written (map function_at m.types.items) m.memories.items k
+  section_is kind.Types =
+      let ts : List SubType = m.types.items in
+      let fs : List Function = map function_at ts in
+      let is : m.should_encode_types ≡ has_any fs = h.encoded ∙ any_map function_at ts in
+      let said : contents m kind.Types ≡ many plain fs =
+      ap (λ gs. many (λ g. rec_type (slice_range ts g.0 g.1)) gs) h.groups ∙ (λ i. u (groups_count 0 ts i) ⊕ groups_plain [] ts ts 0 refl refl all i) in
+      λ i. if is i then sized 1 (said i) else bytes []
+  section_is kind.Imports = not_written kind.Imports h.no_imports.0
+  section_is kind.Functions = not_written kind.Functions (ap (λ n. nat_lt 0 n) h.no_functions.1)
+  section_is kind.Tables = not_written kind.Tables (ap has_any h.no_tables.1)
+  section_is kind.Memories =
+      let ms : List MemoryType = m.memories.items in
+      let said : contents m kind.Memories ≡ many memory_type ms = ap (λ n. many memory_type (last n ms)) h.memories ∙ ap (many memory_type) (last_all ms) in
+      λ i. if nat_lt 0 (h.memories i) then sized 5 (said i) else bytes []
+  section_is kind.Tags = not_written kind.Tags (ap (λ n. nat_lt 0 n) h.no_tags.1)
+  section_is kind.Globals = not_written kind.Globals (ap has_any h.no_globals.0)
+  section_is kind.Exports = not_written kind.Exports (ap has_any h.no_exports)
+  section_is kind.Start = not_written kind.Start (ap is_there h.no_start)
+  section_is kind.Elements = not_written kind.Elements (ap has_any h.no_elements)
+  section_is kind.DataCount = not_written kind.DataCount (ap (λ xs. m.bulk_memory_enabled && has_any xs) h.no_data ∙ and_false m.bulk_memory_enabled)
+  section_is kind.Code = not_written kind.Code (ap has_any h.no_code)
+  section_is kind.Data = not_written kind.Data (ap has_any h.no_data)
+
+  each_is : (ks : List SectionKind) → each (section m) ks ≡ each (written (map function_at m.types.items) m.memories.items) ks
+  each_is [] = refl
+  each_is (k ∷ ks) = λ i. section_is k i ⊕ each_is ks i
+
+  text_is : module_text m ≡ stand_in_text (map function_at m.types.items) m.memories.items
+  text_is = ap (λ p. bytes core_preamble ⊕ p) (each_is binary_order)
+
+-- The bytes decide those of the module, and what is left.
+pub stand_in_same : {config : Config} {b : List ℕ} {m n : ModuleParts} {r q : List ℕ} → ReadsStandIn config b m r → ReadsStandIn config b n q → (module_text m ≡ module_text n) × (r ≡ q)
+stand_in_same {config} {b} {m} {n} {r} {q} x y =
+    let F = ReadsShown config in
+    let fs = loop_map function_at (shown_read config) 0 tt b m.types.items x.mid tt x.types in
+    let gs = loop_map function_at (shown_read config) 0 tt b n.types.items y.mid tt y.types in
+    let types = loop_same {Item = F} (λ s c v p t w e f. absurd e) (λ s c k v p t w e i. e) (λ s c f g v p t w i j. let d = function_unique i j in (d.0, d.1, refl)) 0 tt b (map function_at m.types.items) (map function_at n.types.items) x.mid y.mid tt tt fs gs in
+    let M : List ℕ → Type 0 = λ z. Loop Never ReadsMemoryType config.min_memories config.max_memories 0 tt z m.memories.items r tt in
+    let memories = loop_same {Item = ReadsMemoryType} (λ s c v p t w e f. absurd e) (λ s c k v p t w e i. e) (λ s c f g v p t w i j. let d = memory_unique i j in (d.0, d.1, refl)) 0 tt y.mid m.memories.items n.memories.items r q tt tt (subst M types.1 x.memories) y.memories in
+    let plain_m = loop_all IsPlain (is_plain config) 0 tt b m.types.items x.mid tt x.types in
+    let plain_n = loop_all IsPlain (is_plain config) 0 tt b n.types.items y.mid tt y.types in
+    let same : stand_in_text (map function_at m.types.items) m.memories.items ≡ stand_in_text (map function_at n.types.items) n.memories.items = λ i. stand_in_text (types.0 i) (memories.0 i) in
+    (text_is m x.parts plain_m ∙ (same ∙ sym (text_is n y.parts plain_n)), memories.1)

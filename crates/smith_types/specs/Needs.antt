@@ -1,0 +1,63 @@
+-- How much fuel a type needs to be read at all, and where types may be declared in it.
+use Rattle.std.specs.Prelude.{ℕ, suc, zero, ◌+◌, ◌<◌, List, [], ◌∷◌, max}
+use Rattle.smith_format.specs.declared.config.Config.{Config}
+use Rattle.smith_syntax.specs.Entries.{Entry, defined, function, component_type, instance_type, CoreEntry, core_func, core_module}
+use Rattle.smith_syntax.specs.Entries.{Decl, Decls, core_type_decl, type_decl, type_alias, core_type_alias, import_decl, export_decl, no_decls, then_decls}
+use Rattle.smith_syntax.specs.WellFormed.{size, defined_size, core_size}
+use Rattle.smith_types.specs.Script.{decl_cost}
+
+-- Turns of a loop: none needs fuel where there is none, and else one is left behind the last.
+abbrev pub used : ℕ → ℕ
+used zero = 0
+used (suc n) = suc n + 1
+
+-- A type of values without members needs none: where the fuel does not last a type is one of values.
+abbrev pub need_of : ℕ → ℕ
+need_of zero = 0
+need_of (suc n) = suc n + 2
+
+-- Nor does the empty module type.
+abbrev pub core_need : CoreEntry → ℕ
+core_need (core_func f) = 2
+core_need (core_module []) = 0
+core_need (core_module (d ∷ ds)) = core_size (core_module (d ∷ ds)) + 2
+
+abbrev mutual
+  pub need : Entry → ℕ
+  need (defined t) = need_of (defined_size t)
+  need (function s) = size (function s) + 2
+  need (component_type ds) = max 2 (decls_need ds + 1)
+  need (instance_type ds) = max 2 (decls_need ds + 1)
+
+  pub decl_need : Decl → ℕ
+  decl_need (core_type_decl t k) = core_need t
+  decl_need (type_decl e) = need e
+  decl_need (type_alias count i k) = 0
+  decl_need (core_type_alias count i k) = 0
+  decl_need (import_decl name n r) = 0
+  decl_need (export_decl name n r) = 0
+
+  -- A turn needs two, what it declares one less than there is, and the later ones what that leaves.
+  pub decls_need : Decls → ℕ
+  decls_need no_decls = 0
+  decls_need (then_decls d ds) = max 2 (max (decl_need d + 1) (decls_need ds + decl_cost d + 1))
+
+-- Where so many scopes are on the stack, a type is declared in a type only where one more may nest.
+abbrev mutual
+  pub Nests : Entry → Config → ℕ → Type 0
+  Nests (defined t) config scopes = Unit {0}
+  Nests (function s) config scopes = Unit {0}
+  Nests (component_type ds) config scopes = DeclsNest ds config (suc scopes)
+  Nests (instance_type ds) config scopes = DeclsNest ds config (suc scopes)
+
+  pub DeclNests : Decl → Config → ℕ → Type 0
+  DeclNests (core_type_decl t k) config scopes = Unit {0}
+  DeclNests (type_decl e) config scopes = (scopes < config.max_nesting_depth) × Nests e config scopes
+  DeclNests (type_alias count i k) config scopes = Unit {0}
+  DeclNests (core_type_alias count i k) config scopes = Unit {0}
+  DeclNests (import_decl name n r) config scopes = Unit {0}
+  DeclNests (export_decl name n r) config scopes = Unit {0}
+
+  pub DeclsNest : Decls → Config → ℕ → Type 0
+  DeclsNest no_decls config scopes = Unit {0}
+  DeclsNest (then_decls d ds) config scopes = DeclNests d config scopes × DeclsNest ds config scopes
