@@ -7,10 +7,10 @@ use Rattle.smith_input.specs.Reading.{IsTail}
 use Rattle.smith_input.proofs.Loops.{loop_tail, loop_gives, loop_all, loop_same, loop_read}
 use Rattle.smith_format.specs.declared.config.Config.{Config}
 use Rattle.smith_syntax.specs.CoreLimits.{CoreLimits}
-use Rattle.smith_syntax.specs.Entries.{CoreEntry, core_func, core_module}
+use Rattle.smith_syntax.specs.Entries.{CoreEntry}
 use Rattle.smith_syntax.specs.Scope.{Scope, with_core_type, with_core_types, own_of}
 use Rattle.smith_syntax.specs.WellFormed.{FormedCores}
-use Rattle.smith_core_types.proofs.MadeCore.{made_core_tail, made_core_formed, made_core_limits, made_core_size, made_core_same, core_type_read}
+use Rattle.smith_core_types.proofs.MadeCore.{made_core_tail, made_core_formed, made_core_limits, made_core_size, made_core_same}
 use Rattle.smith_scopes.proofs.Stack.{with_core_none}
 use Rattle.smith_component.specs.Limits.{SmallCoreTypes}
 use Rattle.smith_component.specs.Script.{script_core_types}

@@ -1,19 +1,17 @@
 -- Types that are made needed no more fuel than there was, and left no more than the rest.
-use Rattle.std.proofs.Common.{◌≡◌, ℕ, zero, suc, ◌+◌, ◌-◌, ◌<◌, ◌≤◌, Bool, true, false, List, [], ◌∷◌, ◌++◌, length, refl, sym, ap, ◌∙◌, subst, arith}
+use Rattle.std.proofs.Common.{◌≡◌, ℕ, zero, suc, ◌+◌, ◌-◌, ◌<◌, ◌≤◌, Bool, true, false, List, [], ◌∷◌, length, refl, sym, ap, subst, arith}
 use Rattle.std.specs.Option.{option_to_list}
-use Rattle.std.specs.Prelude.{Option, Some, None, max}
-use Rattle.smith_input.specs.Reading.{More}
+use Rattle.std.specs.Prelude.{max}
 use Rattle.smith_input.proofs.Loops.{loop_gives}
 use Rattle.smith_format.specs.declared.config.Config.{Config}
-use Rattle.smith_format.specs.CoreTypes.{Function}
 use Rattle.smith_syntax.specs.Entries.{record_type, variant_type, tuple_type, flags_type, enum_type, Entry, Decl, Decls, type_alias, core_type_alias, import_decl, export_decl, no_decls, then_decls, DefValType, Signature, CoreEntry, core_func, core_module, ModuleDecl, FullEntry, FullDecl, FullDecls, defined, function, component_type, instance_type, plain, plain_decl, plain_decls, type_decl, core_type_decl}
 use Rattle.smith_syntax.specs.Scope.{Scope}
 use Rattle.smith_syntax.specs.WellFormed.{size, defined_size, core_size}
-use Rattle.smith_core_types.specs.MadeCore.{Declared, MadeCore, spent_core, of_function, of_module, MadeModule, ModuleEnds, ReadsDecl}
+use Rattle.smith_core_types.specs.MadeCore.{MadeCore, spent_core, of_function, of_module, MadeModule, ModuleEnds, ReadsDecl}
 use Rattle.smith_core_types.proofs.MadeCore.{module_after, module_size}
 use Rattle.smith_core_types.proofs.ModuleFronts.{front_is}
 use Rattle.smith_types.specs.Declarations.{SoFar, nothing_so_far, after_one}
-use Rattle.smith_types.specs.Made.{ReadsMembers, IsSpent, ReadsMember, MadeMembers, MadeAs, MadeDefined, MadeFunction, or_bool, Made, spent_type, made_defined, made_function, made_component, made_instance}
+use Rattle.smith_types.specs.Made.{ReadsMembers, MadeMembers, MadeAs, MadeFunction, or_bool, Made, spent_type, made_defined, made_function, made_component, made_instance}
 use Rattle.smith_types.specs.Made.{MadeDeclaration, made_import, made_export, made_alias, made_core_type, made_type, MadeDeclarations, no_more_decls, spent_decls, one_decl}
 use Rattle.smith_types.specs.Needs.{used, need_of, core_need, need, decl_need, decls_need, Nests, DeclNests, DeclsNest}
 use Rattle.smith_types.specs.Script.{cost, core_cost, decl_cost, decls_cost}

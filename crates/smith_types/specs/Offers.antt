@@ -11,7 +11,6 @@ use Rattle.smith_syntax.specs.declared.deftype.ComponentTypeRef.{ComponentTypeRe
 use Rattle.smith_syntax.specs.declared.deftype.ComponentTypeRef.TheVariants as to
 use Rattle.smith_syntax.specs.declared.types.PrimitiveValType.{PrimitiveValType}
 use Rattle.smith_syntax.specs.declared.types.PrimitiveValType.TheVariants as prim
-use Rattle.smith_core_types.specs.MadeCore.{indexes}
 use Rattle.smith_types.specs.declared.make.TypeKind.{TypeKind}
 use Rattle.smith_types.specs.declared.make.TypeKind.TheVariants.{Defined, Function, Component, Instance}
 use Rattle.smith_types.specs.declared.make.declarations.DeclarationItem.{DeclarationItem}
@@ -51,7 +50,7 @@ lifted (Ref r) = []
 -- the indexes of the entries of a kind, ascending
 abbrev pub ref_places : Scope → RefKind → List ℕ
 ref_places own ref.Module = places is_core_module 0 own.core_types
-ref_places own ref.TypeEq = indexes own.types
+ref_places own ref.TypeEq = places (λ x. true) 0 own.types
 ref_places own ref.Func = places is_func 0 own.types
 ref_places own ref.Component = places is_component 0 own.types
 ref_places own ref.Instance = places is_instance 0 own.types

@@ -1,4 +1,5 @@
 //! Worked examples, as tests. Their expected values were written by hand from the binary format and the reading rules.
+//! Some inputs are scripts that are proved to be those that the definitions give.
 #![tactic(auto)]
 
 #[cfg(test)]
@@ -16,6 +17,8 @@ mod declarations;
 #[cfg(test)]
 mod deep;
 #[cfg(test)]
+mod equal_inputs;
+#[cfg(test)]
 mod functions;
 #[cfg(test)]
 mod hashes;
@@ -32,6 +35,10 @@ mod names;
 #[cfg(test)]
 mod nested_types;
 #[cfg(test)]
+mod parts;
+#[cfg(test)]
+mod plan_types;
+#[cfg(test)]
 mod plans;
 #[cfg(test)]
 mod reader;
@@ -39,6 +46,9 @@ mod reader;
 mod references;
 #[cfg(test)]
 mod scoped_types;
+#[cfg(test)]
+mod script_rows;
+pub mod scripts;
 #[cfg(test)]
 mod types;
 #[cfg(test)]
