@@ -1,21 +1,20 @@
 -- Which refusals follow from which.
-use Rattle.std.proofs.Common.{◌≡◌, ℕ, List, refl, sym, subst, ◌∙◌}
+use Rattle.std.proofs.Common.{◌≡◌, ℕ, List, refl, sym, subst}
 use Rattle.smith_input.specs.Choices.{ReadsAmong}
 use Rattle.smith_input.specs.declared.error.Error.{Error}
 use Rattle.smith_input.specs.declared.error.Error.TheVariants.{InconsistentLimits, MinimumNotMet, ModuleRefused, TooLong, OutOfMemory, PartsDisagree}
 use Rattle.smith_format.specs.Limits.{IsConsistent}
 use Rattle.smith_format.specs.declared.config.Config.{Config}
 use Rattle.smith_core.specs.StandIn.{IsStandInRefusal}
+use Rattle.smith_component.specs.Filling.{CanFill}
 use Rattle.smith_component.specs.Open.{Open, items}
 use Rattle.smith_component.specs.Refusals.{IsNewRefusal, IsFillRefusal, IsStepRefusal, LacksOn, RefusesModuleOn, IsRefusal, IsGenerateRefusal}
-use Rattle.smith_component.specs.Turn.{Lacks, LacksAt, RefusesModuleAt}
+use Rattle.smith_component.specs.Turn.{LacksAt, RefusesModuleAt}
 use Rattle.smith_component.specs.declared.item.Item.TheVariants.{Finish, Module}
+use Rattle.smith_component.specs.Tables.{IsGrounded}
+use Rattle.smith_component.proofs.Filling.{filled_surely}
 
 module _ (config : Config) (stack : Open) (left : List ℕ) where
-  -- Where nothing lacks, it is no minimum that refuses.
-  pub fill_refused : (Lacks config stack left → ⊥) → (e : Error) → IsFillRefusal config stack left e → ¬ (e ≡ MinimumNotMet)
-  fill_refused never e h m = never (subst (IsFillRefusal config stack left) m h)
-
   -- A component that lacks something is one whose finish was chosen.
   pub finish_refused : (after : List ℕ) → ReadsAmong (items config stack left) left Finish after → (e : Error) → IsFillRefusal config stack after e → IsStepRefusal config stack left e
   finish_refused after choice InconsistentLimits h = absurd h
@@ -47,12 +46,11 @@ module _ (config : Config) (stack : Open) (left : List ℕ) where
   step_refused input consistent lacks refuses OutOfMemory h = consistent
   step_refused input consistent lacks refuses PartsDisagree h = absurd h
 
--- Want of memory is no minimum, and no refusal of a core module is one.
-pub memory_no_minimum : (e : Error) → e ≡ OutOfMemory → ¬ (e ≡ MinimumNotMet)
-memory_no_minimum e h m = let z : OutOfMemory ≡ MinimumNotMet = sym h ∙ m in cc
-
-pub module_no_minimum : (config : Config) (e : Error) → IsStandInRefusal config e → ¬ (e ≡ MinimumNotMet)
-module_no_minimum config e h m = subst (IsStandInRefusal config) m h
+-- Where what lacks can be filled, it is no minimum that refuses a step.
+pub never_minimum : (config : Config) (stack : Open) (left : List ℕ) → IsConsistent config → IsGrounded stack.inner → CanFill config stack.inner → (e : Error) → IsStepRefusal config stack left e → ¬ (e ≡ MinimumNotMet)
+never_minimum config stack left consistent grounded can e h m =
+    let lacks : LacksAt config stack left = subst (IsStepRefusal config stack left) m h in
+    filled_surely config stack lacks.0 consistent grounded can lacks.2
 
 module _ (config : Config) where
   -- What refuses a builder refuses the run.

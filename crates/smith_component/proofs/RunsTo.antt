@@ -3,12 +3,14 @@ use Rattle.std.proofs.Common.{◌≡◌, ℕ, zero, suc, ◌+◌, ◌≤◌, Lis
 use Rattle.smith_input.specs.declared.error.Error.{Error}
 use Rattle.smith_format.specs.Limits.{IsConsistent}
 use Rattle.smith_format.specs.declared.config.Config.{Config}
-use Rattle.smith_component.specs.Tree.{Tree}
+use Rattle.smith_component.specs.Tree.{Tree, no_depth}
 use Rattle.smith_component.specs.Turn.{Run, RunsTo, Next, building, answered, Turn, Turns, LacksAt, RefusesModuleAt, todo}
 use Rattle.smith_component.specs.Limits.{max_depth}
 use Rattle.smith_component.specs.Open.{Open, root}
+use Rattle.smith_component.specs.Sound.{Sound}
 use Rattle.smith_component.specs.Refusals.{IsStepRefusal, Comes, IsRefusal}
 use Rattle.smith_component.proofs.Refusals.{step_refused}
+use Rattle.smith_component.proofs.Tree.{depth-outer}
 use Rattle.smith_component.proofs.Turn.{turn_falls, turn_shallow}
 
 pub todo_start : (config : Config) (input : List ℕ) → todo config input root ≤ length input + max_depth config
@@ -33,6 +35,10 @@ pub runs_to : (config : Config) (input : List ℕ) (c : Tree) (r : List ℕ) (k 
 runs_to config input c r k t =
     let few : k ≤ todo config input root = turns_few k config root input c r (omega arith) t in
     record { turns = k; few = omega (arith, few, todo_start config input); run = t }
+
+-- No more components are open than may be nested.
+pub open_few : (config : Config) (stack : Open) → Sound config stack → length stack.outer + 1 ≤ max_depth config
+open_few config stack s = omega (arith, depth-outer no_depth stack.outer stack.inner, s.maxima.depth)
 
 -- From the start these open components and bytes left were reached: what goes on from there goes on from the start.
 pub record Reached (config : Config) (input : List ℕ) (stack : Open) (left : List ℕ) : Type 0 where

@@ -1,11 +1,14 @@
 -- What a step leads to.
-use Rattle.std.specs.Prelude.{◌≡◌, ◌⊎◌, List, [], ◌∷◌, ◌++◌}
+use Rattle.std.specs.Prelude.{◌≡◌, ◌⊎◌, List, [], ◌∷◌, ◌++◌, Option, Some, None}
 use Rattle.smith_format.specs.declared.config.Config.{Config}
 use Rattle.smith_component.specs.Turn.{Next, building, answered}
 use Rattle.smith_component.specs.WellFormed.{WellFormed}
 use Rattle.smith_component.specs.Limits.{Limits, Sized}
 use Rattle.smith_component.specs.Building.{Building, open_of}
+use Rattle.smith_component.specs.BuilderView.{building_of, IsSound}
 use Rattle.smith_component.specs.Shown.{shown_sections}
+use Rattle.smith_component.specs.Tree.{Tree}
+use Rattle.smith_component.specs.declared.builder.Progress.{Progress}
 use Rattle.smith_component.specs.declared.component.Section.{Section}
 use Rattle.smith_component.specs.declared.component.Section.TheVariants.{Component}
 use Rattle.smith_component.specs.declared.builder.Step.{Step}
@@ -47,3 +50,13 @@ KeepsSections old (Finished c) = ClosesSections old (Finished c)
 abbrev pub StaysSound : Config → Step → Type 0
 StaysSound config (StillBuilding b) = b.config ≡ config
 StaysSound config (Finished c) = Limits config c × WellFormed c × Sized config c
+
+-- what a turn leads to: the component, if it is finished
+abbrev pub step_of : Progress → Option Tree → Step
+step_of b None = StillBuilding (building_of b)
+step_of b (Some c) = Finished c
+
+-- Unless it is finished, it is sound.
+abbrev pub SoundUnlessDone : Progress → Option Tree → Type 0
+SoundUnlessDone b None = IsSound b
+SoundUnlessDone b (Some c) = Unit {0}

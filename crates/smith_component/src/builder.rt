@@ -4,11 +4,12 @@ ghost use Rattle.std.specs.Prelude.{◌≡◌, ℕ, List, ◌+◌, ◌≤◌, le
 ghost use Rattle.smith_input.specs.Reading.{IsTail};
 ghost use Rattle.smith_format.specs.Limits.{IsConsistent};
 ghost use Rattle.smith_component.specs.Building.{open_of};
+ghost use Rattle.smith_component.specs.BuilderView.{building_of, stack_of, IsSound};
 ghost use Rattle.smith_component.specs.Filling.{CanFill};
 ghost use Rattle.smith_component.specs.Limits.{max_depth};
 ghost use Rattle.smith_component.specs.Refusals.{IsNewRefusal, IsStepRefusal};
 ghost use Rattle.smith_component.specs.Shown.{shown_sections};
-ghost use Rattle.smith_component.specs.Steps.{next_of, KeepsSections, StaysSound};
+ghost use Rattle.smith_component.specs.Steps.{next_of, step_of, KeepsSections, SoundUnlessDone, StaysSound};
 ghost use Rattle.smith_component.specs.Tree.{ends};
 ghost use Rattle.smith_component.specs.Turn.{Next, Turn, Falls};
 ghost use Rattle.smith_component.specs.Open.{root};
@@ -39,6 +40,12 @@ use totals::TreeTotals;
 /// its sections so far. At every moment what is built so far is well formed and within the limits.
 #[derive(Drop)]
 pub struct Builder {
+    progress: Progress,
+}
+
+/// What a builder holds, changed in place. Where a turn is refused, nothing is known of it, and it is dropped.
+#[derive(Drop)]
+pub(crate) struct Progress {
     alloc: Global,
     config: Config,
     valtypes: Vec<ValType>,
@@ -59,9 +66,9 @@ impl Model for Builder {
 
     ghost use Rattle.smith_component.specs.BuilderView.{building_of, IsSound};
 
-    ghost view = { building_of };
+    ghost view = { λ b. building_of b.progress };
 
-    ghost invariant = { IsSound };
+    ghost invariant = { λ b. IsSound b.progress };
 }
 
 /// What a turn leads to.
@@ -71,17 +78,16 @@ pub enum Step {
     Finished(Component),
 }
 
-impl Builder {
-    /// A builder with one open component, empty. Limits that do not fit together are refused with
-    /// `InconsistentLimits`, and nothing else but for want of memory.
-    pub fn new(alloc: Global, config: Config) -> Result<Builder, Error>
-        ensures made { IfOk result (λ b. (b.config ≡ config) × (open_of b ≡ root)) }
-        ensures accepted { IfOk result (λ _. IsConsistent config) }
+impl Progress {
+    // One open component, empty.
+    pub(crate) fn new(alloc: Global, config: Config) -> Result<Progress, Error>
+        ensures made { IfOk result (λ b. (b.config ≡ config) × (stack_of b ≡ root)) }
+        ensures sound { IfOk result IsSound }
         ensures refuses { IfErr result (IsNewRefusal config) }
     {
         config.check()?;
         let valtypes = configured_valtypes(alloc, &config)?;
-        Ok(Builder {
+        Ok(Progress {
             alloc,
             config,
             valtypes,
@@ -96,27 +102,60 @@ impl Builder {
         })
     }
 
-    // What the choice names is done.
-    fn take_turn(self, u: &mut Unstructured) -> Result<Step, Error>
-        ensures turn { IfOk result (λ s. Turn self.config (open_of self) u.old (next_of s) u.new) }
-        ensures keeps { IfOk result (StaysSound self.config) }
-        ensures sections { IfOk result (KeepsSections self) }
-        ensures depth { length (open_of self).outer + 1 ≤ max_depth self.config }
-        ensures accepted { IsConsistent self.config }
-        ensures refuses { IfErr result (IsStepRefusal self.config (open_of self) u.old) }
-        ensures fills { CanFill self.config (open_of self).inner → IfErr result (λ e. ¬ (e ≡ Error.MinimumNotMet)) }
+    // One turn. It answers the component, if that is finished.
+    pub(crate) fn turn(&mut self, u: &mut Unstructured) -> Result<Option<Component>, Error>
+        requires sound { IsSound self.old }
+        ensures turn { IfOk result (λ c. Turn self.old.config (stack_of self.old) u.old (next_of (step_of self.new c)) u.new) }
+        ensures sound { IfOk result (λ c. SoundUnlessDone self.new c) }
+        ensures keeps { IfOk result (λ c. StaysSound self.old.config (step_of self.new c)) }
+        ensures sections { IfOk result (λ c. KeepsSections (building_of self.old) (step_of self.new c)) }
+        ensures refuses { IfErr result (IsStepRefusal self.old.config (stack_of self.old) u.old) }
         ensures tail { IsTail u.new u.old }
     {
         match self.choose_item(u) {
             Item::Finish => self.finish(u),
-            Item::Custom => self.add_custom(u),
-            Item::CoreTypes => self.add_core_types(u),
-            Item::Types => self.section_turn(Counted::Types, u),
-            Item::Imports => self.section_turn(Counted::Imports, u),
-            Item::Canonical => self.section_turn(Counted::Functions, u),
-            Item::Module => self.add_module(u),
-            Item::Component => self.open_component(),
+            Item::Custom => {
+                self.add_custom(u)?;
+                Ok(None)
+            }
+            Item::CoreTypes => {
+                self.add_core_types(u)?;
+                Ok(None)
+            }
+            Item::Types => {
+                self.section_turn(Counted::Types, u)?;
+                Ok(None)
+            }
+            Item::Imports => {
+                self.section_turn(Counted::Imports, u)?;
+                Ok(None)
+            }
+            Item::Canonical => {
+                self.section_turn(Counted::Functions, u)?;
+                Ok(None)
+            }
+            Item::Module => {
+                self.add_module(u)?;
+                Ok(None)
+            }
+            Item::Component => {
+                self.open_component()?;
+                Ok(None)
+            }
         }
+    }
+}
+
+impl Builder {
+    /// A builder with one open component, empty. Limits that do not fit together are refused with
+    /// `InconsistentLimits`, and nothing else but for want of memory.
+    pub fn new(alloc: Global, config: Config) -> Result<Builder, Error>
+        ensures made { IfOk result (λ b. (b.config ≡ config) × (open_of b ≡ root)) }
+        ensures accepted { IfOk result (λ _. IsConsistent config) }
+        ensures refuses { IfErr result (IsNewRefusal config) }
+    {
+        let progress = Progress::new(alloc, config)?;
+        Ok(Builder { progress })
     }
 
     /// One turn: a choice among what may be done, and that. Where the choice is to finish a component, what it lacks of
@@ -133,7 +172,11 @@ impl Builder {
         ensures fills { CanFill self.config (open_of self).inner → IfErr result (λ e. ¬ (e ≡ Error.MinimumNotMet)) }
         ensures tail { IsTail u.new u.old }
     {
-        let next = self.take_turn(u)?;
-        Ok(next)
+        let mut progress = self.progress;
+        let done = progress.turn(u)?;
+        match done {
+            None => Ok(Step::StillBuilding(Builder { progress })),
+            Some(component) => Ok(Step::Finished(component)),
+        }
     }
 }

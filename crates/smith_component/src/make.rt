@@ -12,7 +12,7 @@ ghost use Rattle.smith_component.specs.Tree.{Tree};
 ghost use Rattle.smith_component.specs.WellFormed.{WellFormed};
 ghost use Rattle.smith_format.specs.declared.config.Config.{Config};
 
-use crate::builder::{Builder, Step};
+use crate::builder::Progress;
 use crate::component::Component;
 use smith_format::Config;
 use smith_input::{Error, Unstructured};
@@ -43,11 +43,12 @@ impl Component {
         ensures unread { ¬ IsConsistent config → u.new ≡ u.old }
         ensures tail { IsTail u.new u.old }
     {
-        let mut builder = Builder::new(alloc, config)?;
+        let mut progress = Progress::new(alloc, config)?;
         loop {
-            match builder.step(u)? {
-                Step::StillBuilding(next) => builder = next,
-                Step::Finished(component) => return Ok(component),
+            let done = progress.turn(u)?;
+            match done {
+                None => {}
+                Some(component) => return Ok(component),
             }
         }
     }

@@ -2,34 +2,27 @@
 
 ghost use Rattle.std.specs.Prelude.{◌≡◌, ℕ, List, ◌+◌, ◌≤◌, length};
 ghost use Rattle.smith_input.specs.Reading.{IsTail};
-ghost use Rattle.smith_format.specs.Limits.{IsConsistent};
-ghost use Rattle.smith_component.specs.Building.{open_of};
-ghost use Rattle.smith_component.specs.Filling.{CanFill};
-ghost use Rattle.smith_component.specs.Limits.{max_depth, OwnLimits};
+ghost use Rattle.smith_component.specs.BuilderView.{stack_of, IsSound};
 ghost use Rattle.smith_component.specs.Open.{is_module_offered, is_component_offered, items};
-ghost use Rattle.smith_component.specs.Turn.{Lacks};
 ghost use Rattle.smith_input.specs.Choices.{ReadsAmong};
 
-use crate::builder::Builder;
+use crate::builder::Progress;
 use crate::item::Item;
 use smith_input::{Unstructured, choose_offered};
 
-impl Builder {
+impl Progress {
     // May a core module be embedded?
     fn offers_module(&self) -> bool
-        ensures { result ≡ is_module_offered self.now.config (open_of self.now) }
+        requires { IsSound self.now }
+        ensures { result ≡ is_module_offered self.now.config (stack_of self.now) }
     {
         self.totals.modules < self.config.max_modules
     }
 
     // May a component be opened?
     fn offers_component(&self) -> bool
-        ensures offered { result ≡ is_component_offered self.now.config (open_of self.now) }
-        ensures depth { length (open_of self.now).outer + 1 ≤ max_depth self.now.config }
-        ensures accepted { IsConsistent self.now.config }
-        ensures limits { OwnLimits self.now.config (open_of self.now).inner }
-        ensures fills { (left : List ℕ) → CanFill self.now.config (open_of self.now).inner
-            → ¬ Lacks self.now.config (open_of self.now) left }
+        requires { IsSound self.now }
+        ensures { result ≡ is_component_offered self.now.config (stack_of self.now) }
     {
         self.outer.len() + 1 < self.config.max_nesting_depth
             && self.totals.components < self.config.max_components
@@ -37,12 +30,8 @@ impl Builder {
 
     // The choice that begins a turn: where no input is left, the inner component is finished.
     pub(crate) fn choose_item(&self, u: &mut Unstructured) -> Item
-        ensures depth { length (open_of self.now).outer + 1 ≤ max_depth self.now.config }
-        ensures accepted { IsConsistent self.now.config }
-        ensures limits { OwnLimits self.now.config (open_of self.now).inner }
-        ensures fills { (left : List ℕ) → CanFill self.now.config (open_of self.now).inner
-            → ¬ Lacks self.now.config (open_of self.now) left }
-        ensures chooses { ReadsAmong (items self.now.config (open_of self.now) u.old) u.old result u.new }
+        requires sound { IsSound self.now }
+        ensures chooses { ReadsAmong (items self.now.config (stack_of self.now) u.old) u.old result u.new }
         ensures tail { IsTail u.new u.old }
     {
         let with_module = self.offers_module();

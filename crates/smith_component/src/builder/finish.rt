@@ -1,26 +1,26 @@
 //! Components are finished, when they have what they must have.
 
-ghost use Rattle.std.specs.Prelude.{◌≡◌, ℕ, List, IfOk, IfErr};
+ghost use Rattle.std.specs.Prelude.{◌≡◌, ℕ, List, IfOk, IfErr, OnOk};
 ghost use Rattle.smith_input.specs.Reading.{IsTail};
-ghost use Rattle.smith_format.specs.Limits.{IsConsistent};
-ghost use Rattle.smith_component.specs.Building.{open_of};
+ghost use Rattle.smith_component.specs.BuilderView.{building_of, stack_of, IsSound};
 ghost use Rattle.smith_component.specs.Counted.{count_of, minimum_of};
 ghost use Rattle.smith_component.specs.Limits.{Minima};
 ghost use Rattle.smith_component.specs.Refusals.{IsFillRefusal, IsMinimum};
-ghost use Rattle.smith_component.specs.Steps.{next_of, AddsSections, ClosesSections, KeepsSections, StaysSound};
+ghost use Rattle.smith_component.specs.Steps.{next_of, step_of, AddsSections, ClosesSections, KeepsSections, SoundUnlessDone, StaysSound};
 ghost use Rattle.smith_component.specs.Turn.{Next, Closes, Does, Fills, FillsAll};
 ghost use Rattle.smith_component.specs.declared.item.Item.TheVariants.{Finish};
 
-use crate::builder::{Builder, Step};
+use crate::builder::Progress;
 use crate::component::{Component, Section};
 use crate::item::Counted;
 use smith_input::{Error, Unstructured};
 use std::mem;
 
-impl Builder {
+impl Progress {
     // How many the inner component has.
     fn count(&self, what: Counted) -> usize
-        ensures { result ≡ count_of what (open_of self.now).inner }
+        requires { IsSound self.now }
+        ensures { result ≡ count_of what (stack_of self.now).inner }
     {
         match what {
             Counted::Types => self.scopes.own_len(),
@@ -31,8 +31,7 @@ impl Builder {
 
     // How many it must have. The limits fit together.
     fn minimum(&self, what: Counted) -> usize
-        ensures least { result ≡ minimum_of what self.now.config }
-        ensures accepted { IsConsistent self.now.config }
+        ensures { result ≡ minimum_of what self.now.config }
     {
         match what {
             Counted::Types => self.config.min_types,
@@ -42,25 +41,27 @@ impl Builder {
     }
 
     // Adds what lacks of a minimum, as far as it can be added.
-    fn fill_one(self, what: Counted, u: &mut Unstructured) -> Result<Builder, Error>
-        ensures filled { IfOk result (λ b. Fills what self.config (open_of self) u.old (open_of b).inner u.new) }
-        ensures accepted { IsConsistent self.config }
-        ensures keeps { IfOk result (λ b. b.config ≡ self.config) }
-        ensures sections { IfOk result (AddsSections self) }
+    fn fill_one(&mut self, what: Counted, u: &mut Unstructured) -> Result<(), Error>
+        requires sound { IsSound self.old }
+        ensures filled { OnOk result (Fills what self.old.config (stack_of self.old) u.old (stack_of self.new).inner u.new) }
+        ensures sound { OnOk result (IsSound self.new) }
+        ensures keeps { OnOk result (self.new.config ≡ self.old.config) }
+        ensures sections { OnOk result (AddsSections (building_of self.old) (building_of self.new)) }
         ensures memory { IfErr result (λ e. e ≡ Error.OutOfMemory) }
         ensures tail { IsTail u.new u.old }
     {
         let count = self.count(what);
         let minimum = self.minimum(what);
         if minimum <= count {
-            return Ok(self);
+            return Ok(());
         }
         self.add(what, minimum - count, u)
     }
 
     // Is that minimum met?
     fn check_minimum(&self, what: Counted) -> Result<(), Error>
-        ensures { IsMinimum result (minimum_of what self.now.config) (count_of what (open_of self.now).inner) }
+        requires { IsSound self.now }
+        ensures { IsMinimum result (minimum_of what self.now.config) (count_of what (stack_of self.now).inner) }
     {
         if self.count(what) < self.minimum(what) {
             return Err(Error::MinimumNotMet);
@@ -69,55 +70,60 @@ impl Builder {
     }
 
     // Adds what lacks of the minima: types, then imports, then functions.
-    fn fill(self, u: &mut Unstructured) -> Result<Builder, Error>
-        ensures filled { IfOk result (λ b. FillsAll self.config (open_of self) u.old (open_of b).inner u.new) }
-        ensures minima { IfOk result (λ b. Minima self.config (open_of b).inner) }
-        ensures keeps { IfOk result (λ b. b.config ≡ self.config) }
-        ensures sections { IfOk result (AddsSections self) }
-        ensures refuses { IfErr result (IsFillRefusal self.config (open_of self) u.old) }
+    fn fill(&mut self, u: &mut Unstructured) -> Result<(), Error>
+        requires sound { IsSound self.old }
+        ensures filled { OnOk result (FillsAll self.old.config (stack_of self.old) u.old (stack_of self.new).inner u.new) }
+        ensures minima { OnOk result (Minima self.old.config (stack_of self.new).inner) }
+        ensures sound { OnOk result (IsSound self.new) }
+        ensures keeps { OnOk result (self.new.config ≡ self.old.config) }
+        ensures sections { OnOk result (AddsSections (building_of self.old) (building_of self.new)) }
+        ensures refuses { IfErr result (IsFillRefusal self.old.config (stack_of self.old) u.old) }
         ensures tail { IsTail u.new u.old }
     {
-        let typed = self.fill_one(Counted::Types, u)?;
-        let imported = typed.fill_one(Counted::Imports, u)?;
-        imported.check_minimum(Counted::Imports)?;
-        let full = imported.fill_one(Counted::Functions, u)?;
-        full.check_minimum(Counted::Functions)?;
-        Ok(full)
+        self.fill_one(Counted::Types, u)?;
+        self.fill_one(Counted::Imports, u)?;
+        self.check_minimum(Counted::Imports)?;
+        self.fill_one(Counted::Functions, u)?;
+        self.check_minimum(Counted::Functions)?;
+        Ok(())
     }
 
     // The inner component becomes a section of the one around it, and the root is the answer.
-    fn close(self) -> Result<Step, Error>
-        requires minima { Minima self.config (open_of self).inner }
-        ensures closes { IfOk result (λ s. Closes (open_of self) (next_of s)) }
-        ensures keeps { IfOk result (StaysSound self.config) }
-        ensures sections { IfOk result (ClosesSections self) }
+    fn close(&mut self) -> Result<Option<Component>, Error>
+        requires sound { IsSound self.old }
+        requires minima { Minima self.old.config (stack_of self.old).inner }
+        ensures closes { IfOk result (λ c. Closes (stack_of self.old) (next_of (step_of self.new c))) }
+        ensures sound { IfOk result (λ c. SoundUnlessDone self.new c) }
+        ensures keeps { IfOk result (λ c. StaysSound self.old.config (step_of self.new c)) }
+        ensures sections { IfOk result (λ c. ClosesSections (building_of self.old) (step_of self.new c)) }
         ensures memory { IfErr result (λ e. e ≡ Error.OutOfMemory) }
     {
-        let mut builder = self;
-        match builder.outer.pop() {
+        match self.outer.pop() {
             None => {
-                let root = builder.inner;
-                Ok(Step::Finished(Component::of(root.sections)))
+                let root = mem::replace(&mut self.inner.sections, Vec::new(self.alloc));
+                Ok(Some(Component::of(root)))
             }
             Some(parent) => {
-                let finished = mem::replace(&mut builder.inner, parent);
+                let finished = mem::replace(&mut self.inner, parent);
                 let component = Component::of(finished.sections);
-                builder.inner.push(Section::Component(component))?;
-                builder.scopes.close_scope();
-                Ok(Step::StillBuilding(builder))
+                self.inner.push(Section::Component(component))?;
+                self.scopes.close_scope();
+                Ok(None)
             }
         }
     }
 
     // What lacks is added, and then the inner component is finished.
-    pub(crate) fn finish(self, u: &mut Unstructured) -> Result<Step, Error>
-        ensures done { IfOk result (λ s. Does self.config Finish (open_of self) u.old (next_of s) u.new) }
-        ensures keeps { IfOk result (StaysSound self.config) }
-        ensures sections { IfOk result (KeepsSections self) }
-        ensures refuses { IfErr result (IsFillRefusal self.config (open_of self) u.old) }
+    pub(crate) fn finish(&mut self, u: &mut Unstructured) -> Result<Option<Component>, Error>
+        requires sound { IsSound self.old }
+        ensures done { IfOk result (λ c. Does self.old.config Finish (stack_of self.old) u.old (next_of (step_of self.new c)) u.new) }
+        ensures sound { IfOk result (λ c. SoundUnlessDone self.new c) }
+        ensures keeps { IfOk result (λ c. StaysSound self.old.config (step_of self.new c)) }
+        ensures sections { IfOk result (λ c. KeepsSections (building_of self.old) (step_of self.new c)) }
+        ensures refuses { IfErr result (IsFillRefusal self.old.config (stack_of self.old) u.old) }
         ensures tail { IsTail u.new u.old }
     {
-        let full = self.fill(u)?;
-        full.close()
+        self.fill(u)?;
+        self.close()
     }
 }

@@ -1,31 +1,32 @@
 //! Components are opened.
 
-ghost use Rattle.std.specs.Prelude.{◌≡◌, IfOk, IfErr, IsTrue};
-ghost use Rattle.smith_component.specs.Building.{open_of};
-ghost use Rattle.smith_component.specs.Steps.{next_of, KeepsSections, StaysSound};
-ghost use Rattle.smith_component.specs.Turn.{with_open};
+ghost use Rattle.std.specs.Prelude.{◌≡◌, IfErr, OnOk, IsTrue};
+ghost use Rattle.smith_component.specs.BuilderView.{building_of, stack_of, IsSound};
+ghost use Rattle.smith_component.specs.Steps.{OpensComponent};
+ghost use Rattle.smith_component.specs.Turn.{building, with_open};
 ghost use Rattle.smith_component.specs.Open.{is_component_offered};
 
+use crate::builder::Progress;
 use crate::builder::open::OpenComponent;
-use crate::builder::{Builder, Step};
 use smith_input::Error;
 use std::mem;
 
-impl Builder {
+impl Progress {
     // An empty component is opened.
-    pub(crate) fn open_component(self) -> Result<Step, Error>
-        requires { IsTrue (is_component_offered self.config (open_of self)) }
-        ensures opened { IfOk result (λ s. next_of s ≡ with_open (open_of self)) }
-        ensures keeps { IfOk result (StaysSound self.config) }
-        ensures sections { IfOk result (KeepsSections self) }
+    pub(crate) fn open_component(&mut self) -> Result<(), Error>
+        requires sound { IsSound self.old }
+        requires offered { IsTrue (is_component_offered self.old.config (stack_of self.old)) }
+        ensures opened { OnOk result (building (stack_of self.new) ≡ with_open (stack_of self.old)) }
+        ensures sound { OnOk result (IsSound self.new) }
+        ensures keeps { OnOk result (self.new.config ≡ self.old.config) }
+        ensures sections { OnOk result (OpensComponent (building_of self.old) (building_of self.new)) }
         ensures memory { IfErr result (λ e. e ≡ Error.OutOfMemory) }
     {
-        let mut builder = self;
-        let opened = OpenComponent::new(builder.alloc);
-        let around = mem::replace(&mut builder.inner, opened);
-        builder.scopes.open_scope()?;
-        builder.outer.push(around)?;
-        builder.totals.components += 1;
-        Ok(Step::StillBuilding(builder))
+        let opened = OpenComponent::new(self.alloc);
+        let around = mem::replace(&mut self.inner, opened);
+        self.scopes.open_scope()?;
+        self.outer.push(around)?;
+        self.totals.components += 1;
+        Ok(())
     }
 }

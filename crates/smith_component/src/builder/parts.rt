@@ -1,50 +1,53 @@
 //! Parts that are added to the inner component.
 
-ghost use Rattle.std.specs.Prelude.{◌≡◌, ℕ, ◌+◌, ◌≤◌, List, length, IfOk, IfErr, IsTrue};
+ghost use Rattle.std.specs.Prelude.{◌≡◌, ℕ, ◌+◌, ◌≤◌, List, length, IfErr, OnOk, IsTrue};
 ghost use Rattle.smith_input.specs.Reading.{IsTail};
 ghost use Rattle.smith_core.specs.StandIn.{IsStandInRefusal};
 ghost use Rattle.smith_component.specs.Sound.{IsAddable, IsQuiet};
-ghost use Rattle.smith_component.specs.Building.{open_of};
+ghost use Rattle.smith_component.specs.BuilderView.{building_of, stack_of, IsSound};
 ghost use Rattle.smith_component.specs.Shown.{shown_section};
-ghost use Rattle.smith_component.specs.Steps.{next_of, AddsSections, KeepsSections, StaysSound};
+ghost use Rattle.smith_component.specs.Steps.{AddsSections};
 ghost use Rattle.smith_component.specs.Tree.{types_of, imports_of, function_count};
-ghost use Rattle.smith_component.specs.Turn.{Next, Does, AddsCanons, AddsImports, AddsTypes, with_part};
+ghost use Rattle.smith_component.specs.Turn.{building, Does, AddsCanons, AddsImports, AddsTypes, with_part};
 ghost use Rattle.smith_component.specs.Open.{is_module_offered};
 ghost use Rattle.smith_component.specs.declared.item.Item.TheVariants.{Custom, CoreTypes};
 ghost use Rattle.smith_component.specs.declared.item.Item.TheVariants as item;
 
+use crate::builder::Progress;
 use crate::builder::canonicals::read_canonicals;
 use crate::builder::entries::read_entries;
 use crate::builder::imports::read_imports;
-use crate::builder::{Builder, Step};
 use crate::component::{CoreTypeSection, CustomSection, ImportSection, Section, TypeSection};
 use smith_core::Module;
 use smith_input::{Error, Unstructured};
 use smith_types::{CoreType, DefType};
 use std::rc::Rc;
 
-impl Builder {
+impl Progress {
     // A section without types, functions and imports is added to the inner component.
-    fn add_section(self, section: Section) -> Result<Step, Error>
+    fn add_section(&mut self, section: Section) -> Result<(), Error>
+        requires sound { IsSound self.old }
         requires quiet { IsQuiet (shown_section section) }
-        requires addable { IsAddable self.config (open_of self) (shown_section section) }
-        ensures added { IfOk result (λ s. next_of s ≡ with_part (open_of self) (shown_section section)) }
-        ensures keeps { IfOk result (StaysSound self.config) }
-        ensures sections { IfOk result (KeepsSections self) }
+        requires addable { IsAddable self.old.config (stack_of self.old) (shown_section section) }
+        ensures added { OnOk result (building (stack_of self.new) ≡ with_part (stack_of self.old) (shown_section section)) }
+        ensures sound { OnOk result (IsSound self.new) }
+        ensures keeps { OnOk result (self.new.config ≡ self.old.config) }
+        ensures sections { OnOk result (AddsSections (building_of self.old) (building_of self.new)) }
         ensures memory { IfErr result (λ e. e ≡ Error.OutOfMemory) }
     {
-        let mut builder = self;
         let modules = section.module_count();
-        builder.inner.push(section)?;
-        builder.totals.modules += modules;
-        Ok(Step::StillBuilding(builder))
+        self.inner.push(section)?;
+        self.totals.modules += modules;
+        Ok(())
     }
 
     // A custom section that is read.
-    pub(crate) fn add_custom(self, u: &mut Unstructured) -> Result<Step, Error>
-        ensures added { IfOk result (λ s. Does self.config Custom (open_of self) u.old (next_of s) u.new) }
-        ensures keeps { IfOk result (StaysSound self.config) }
-        ensures sections { IfOk result (KeepsSections self) }
+    pub(crate) fn add_custom(&mut self, u: &mut Unstructured) -> Result<(), Error>
+        requires sound { IsSound self.old }
+        ensures added { OnOk result (Does self.old.config Custom (stack_of self.old) u.old (building (stack_of self.new)) u.new) }
+        ensures sound { OnOk result (IsSound self.new) }
+        ensures keeps { OnOk result (self.new.config ≡ self.old.config) }
+        ensures sections { OnOk result (AddsSections (building_of self.old) (building_of self.new)) }
         ensures memory { IfErr result (λ e. e ≡ Error.OutOfMemory) }
         ensures tail { IsTail u.new u.old }
     {
@@ -53,12 +56,14 @@ impl Builder {
     }
 
     // A core module that stands for a generated one.
-    pub(crate) fn add_module(self, u: &mut Unstructured) -> Result<Step, Error>
-        requires { IsTrue (is_module_offered self.config (open_of self)) }
-        ensures added { IfOk result (λ s. Does self.config item.Module (open_of self) u.old (next_of s) u.new) }
-        ensures keeps { IfOk result (StaysSound self.config) }
-        ensures sections { IfOk result (KeepsSections self) }
-        ensures refuses { IfErr result (IsStandInRefusal self.config) }
+    pub(crate) fn add_module(&mut self, u: &mut Unstructured) -> Result<(), Error>
+        requires sound { IsSound self.old }
+        requires offered { IsTrue (is_module_offered self.old.config (stack_of self.old)) }
+        ensures added { OnOk result (Does self.old.config item.Module (stack_of self.old) u.old (building (stack_of self.new)) u.new) }
+        ensures sound { OnOk result (IsSound self.new) }
+        ensures keeps { OnOk result (self.new.config ≡ self.old.config) }
+        ensures sections { OnOk result (AddsSections (building_of self.old) (building_of self.new)) }
+        ensures refuses { IfErr result (IsStandInRefusal self.old.config) }
         ensures tail { IsTail u.new u.old }
     {
         let module = Module::new_internal(self.alloc, self.config, u)?;
@@ -66,103 +71,105 @@ impl Builder {
     }
 
     // A core type section, with as many core types as the component may still have.
-    pub(crate) fn add_core_types(self, u: &mut Unstructured) -> Result<Step, Error>
-        ensures added { IfOk result (λ s. Does self.config CoreTypes (open_of self) u.old (next_of s) u.new) }
-        ensures keeps { IfOk result (StaysSound self.config) }
-        ensures sections { IfOk result (KeepsSections self) }
+    pub(crate) fn add_core_types(&mut self, u: &mut Unstructured) -> Result<(), Error>
+        requires sound { IsSound self.old }
+        ensures added { OnOk result (Does self.old.config CoreTypes (stack_of self.old) u.old (building (stack_of self.new)) u.new) }
+        ensures sound { OnOk result (IsSound self.new) }
+        ensures keeps { OnOk result (self.new.config ≡ self.old.config) }
+        ensures sections { OnOk result (AddsSections (building_of self.old) (building_of self.new)) }
         ensures memory { IfErr result (λ e. e ≡ Error.OutOfMemory) }
         ensures tail { IsTail u.new u.old }
     {
-        let mut builder = self;
-        let room = builder.config.max_types - builder.scopes.len_core(0);
+        let room = self.config.max_types - self.scopes.len_core(0);
         let types = read_entries::<Rc<CoreType>>(
-            builder.alloc,
-            &builder.config,
-            &builder.valtypes,
+            self.alloc,
+            &self.config,
+            &self.valtypes,
             0,
             room,
-            &mut builder.scopes,
+            &mut self.scopes,
             u,
         )?;
-        builder
-            .inner
+        self.inner
             .push(Section::CoreTypes(CoreTypeSection { types }))?;
-        Ok(Step::StillBuilding(builder))
+        Ok(())
     }
 
     // A type section of at least so many types, and of at most as many as the component may still have.
-    pub(super) fn add_types(self, min: usize, u: &mut Unstructured) -> Result<Builder, Error>
-        requires room { length (types_of (open_of self).inner) + min ≤ self.config.max_types }
-        ensures added { IfOk result (λ b. AddsTypes self.config min (open_of self) u.old (open_of b).inner u.new) }
-        ensures keeps { IfOk result (λ b. b.config ≡ self.config) }
-        ensures sections { IfOk result (AddsSections self) }
+    pub(super) fn add_types(&mut self, min: usize, u: &mut Unstructured) -> Result<(), Error>
+        requires sound { IsSound self.old }
+        requires room { length (types_of (stack_of self.old).inner) + min ≤ self.old.config.max_types }
+        ensures added { OnOk result (AddsTypes self.old.config min (stack_of self.old) u.old (stack_of self.new).inner u.new) }
+        ensures sound { OnOk result (IsSound self.new) }
+        ensures keeps { OnOk result (self.new.config ≡ self.old.config) }
+        ensures sections { OnOk result (AddsSections (building_of self.old) (building_of self.new)) }
         ensures memory { IfErr result (λ e. e ≡ Error.OutOfMemory) }
         ensures tail { IsTail u.new u.old }
     {
-        let mut builder = self;
-        let room = builder.config.max_types - builder.scopes.own_len();
+        let room = self.config.max_types - self.scopes.own_len();
         let types = read_entries::<Rc<DefType>>(
-            builder.alloc,
-            &builder.config,
-            &builder.valtypes,
+            self.alloc,
+            &self.config,
+            &self.valtypes,
             min,
             room,
-            &mut builder.scopes,
+            &mut self.scopes,
             u,
         )?;
-        builder.inner.push(Section::Types(TypeSection { types }))?;
-        Ok(builder)
+        self.inner.push(Section::Types(TypeSection { types }))?;
+        Ok(())
     }
 
     // An import section of at least so many imports, unless nothing can be imported, and of at most as many as the
     // component may still have.
-    pub(super) fn add_imports(self, min: usize, u: &mut Unstructured) -> Result<Builder, Error>
-        requires room { length (imports_of (open_of self).inner) + min ≤ self.config.max_imports }
-        ensures added { IfOk result (λ b. AddsImports self.config min (open_of self) u.old (open_of b).inner u.new) }
-        ensures keeps { IfOk result (λ b. b.config ≡ self.config) }
-        ensures sections { IfOk result (AddsSections self) }
+    pub(super) fn add_imports(&mut self, min: usize, u: &mut Unstructured) -> Result<(), Error>
+        requires sound { IsSound self.old }
+        requires room { length (imports_of (stack_of self.old).inner) + min ≤ self.old.config.max_imports }
+        ensures added { OnOk result (AddsImports self.old.config min (stack_of self.old) u.old (stack_of self.new).inner u.new) }
+        ensures sound { OnOk result (IsSound self.new) }
+        ensures keeps { OnOk result (self.new.config ≡ self.old.config) }
+        ensures sections { OnOk result (AddsSections (building_of self.old) (building_of self.new)) }
         ensures memory { IfErr result (λ e. e ≡ Error.OutOfMemory) }
         ensures tail { IsTail u.new u.old }
     {
-        let mut builder = self;
-        let room = builder.config.max_imports - builder.inner.tables.imports.len();
+        let room = self.config.max_imports - self.inner.tables.imports.len();
         let imports = read_imports(
-            builder.alloc,
-            &builder.config,
-            &builder.scopes,
-            &mut builder.totals,
-            &mut builder.inner.tables,
+            self.alloc,
+            &self.config,
+            &self.scopes,
+            &mut self.totals,
+            &mut self.inner.tables,
             min,
             room,
             u,
         )?;
-        builder
-            .inner
+        self.inner
             .push(Section::Imports(ImportSection { imports }))?;
-        Ok(builder)
+        Ok(())
     }
 
     // Canonical sections of at least so many turns, unless no function can be lowered or lifted, and of at most as many
     // as the component may still have functions.
-    pub(super) fn add_canonicals(self, min: usize, u: &mut Unstructured) -> Result<Builder, Error>
-        requires room { function_count (open_of self).inner + min ≤ self.config.max_funcs }
-        ensures added { IfOk result (λ b. AddsCanons self.config min (open_of self) u.old (open_of b).inner u.new) }
-        ensures keeps { IfOk result (λ b. b.config ≡ self.config) }
-        ensures sections { IfOk result (AddsSections self) }
+    pub(super) fn add_canonicals(&mut self, min: usize, u: &mut Unstructured) -> Result<(), Error>
+        requires sound { IsSound self.old }
+        requires room { function_count (stack_of self.old).inner + min ≤ self.old.config.max_funcs }
+        ensures added { OnOk result (AddsCanons self.old.config min (stack_of self.old) u.old (stack_of self.new).inner u.new) }
+        ensures sound { OnOk result (IsSound self.new) }
+        ensures keeps { OnOk result (self.new.config ≡ self.old.config) }
+        ensures sections { OnOk result (AddsSections (building_of self.old) (building_of self.new)) }
         ensures memory { IfErr result (λ e. e ≡ Error.OutOfMemory) }
         ensures tail { IsTail u.new u.old }
     {
-        let mut builder = self;
-        let room = builder.config.max_funcs - builder.inner.tables.function_count();
+        let room = self.config.max_funcs - self.inner.tables.function_count();
         read_canonicals(
-            builder.alloc,
-            &builder.config,
-            &mut builder.scopes,
-            &mut builder.inner,
+            self.alloc,
+            &self.config,
+            &mut self.scopes,
+            &mut self.inner,
             min,
             room,
             u,
         )?;
-        Ok(builder)
+        Ok(())
     }
 }

@@ -1,30 +1,30 @@
 //! Sections of what has a minimum.
 
-ghost use Rattle.std.specs.Prelude.{◌≡◌, ℕ, List, ◌+◌, ◌≤◌, IfOk, IfErr};
+ghost use Rattle.std.specs.Prelude.{◌≡◌, ℕ, List, ◌+◌, ◌≤◌, IfErr, OnOk};
 ghost use Rattle.smith_input.specs.Reading.{IsTail};
-ghost use Rattle.smith_format.specs.Limits.{IsConsistent};
-ghost use Rattle.smith_component.specs.Building.{open_of};
+ghost use Rattle.smith_component.specs.BuilderView.{building_of, stack_of, IsSound};
 ghost use Rattle.smith_component.specs.Counted.{count_of, item_for, maximum_of};
-ghost use Rattle.smith_component.specs.Limits.{OwnLimits};
-ghost use Rattle.smith_component.specs.Steps.{next_of, AddsSections, KeepsSections, StaysSound};
-ghost use Rattle.smith_component.specs.Turn.{Next, Adds, AddsAny};
+ghost use Rattle.smith_component.specs.Steps.{AddsSections};
+ghost use Rattle.smith_component.specs.Turn.{building, Adds, AddsAny};
 
-use crate::builder::{Builder, Step};
+use crate::builder::Progress;
 use crate::item::Counted;
 use smith_input::{Error, Unstructured};
 
-impl Builder {
+impl Progress {
     // Adds at least so many, as far as they can be added.
     pub(super) fn add(
-        self,
+        &mut self,
         what: Counted,
         min: usize,
         u: &mut Unstructured,
-    ) -> Result<Builder, Error>
-        requires room { count_of what (open_of self).inner + min ≤ maximum_of what self.config }
-        ensures added { IfOk result (λ b. Adds what self.config min (open_of self) u.old (open_of b).inner u.new) }
-        ensures keeps { IfOk result (λ b. b.config ≡ self.config) }
-        ensures sections { IfOk result (AddsSections self) }
+    ) -> Result<(), Error>
+        requires sound { IsSound self.old }
+        requires room { count_of what (stack_of self.old).inner + min ≤ maximum_of what self.old.config }
+        ensures added { OnOk result (Adds what self.old.config min (stack_of self.old) u.old (stack_of self.new).inner u.new) }
+        ensures sound { OnOk result (IsSound self.new) }
+        ensures keeps { OnOk result (self.new.config ≡ self.old.config) }
+        ensures sections { OnOk result (AddsSections (building_of self.old) (building_of self.new)) }
         ensures memory { IfErr result (λ e. e ≡ Error.OutOfMemory) }
         ensures tail { IsTail u.new u.old }
     {
@@ -36,16 +36,16 @@ impl Builder {
     }
 
     // A turn that adds any number.
-    pub(crate) fn section_turn(self, what: Counted, u: &mut Unstructured) -> Result<Step, Error>
-        requires consistent { IsConsistent self.config }
-        requires limits { OwnLimits self.config (open_of self).inner }
-        ensures added { IfOk result (λ s. AddsAny what self.config (open_of self) u.old (next_of s) u.new) }
-        ensures keeps { IfOk result (StaysSound self.config) }
-        ensures sections { IfOk result (KeepsSections self) }
+    pub(crate) fn section_turn(&mut self, what: Counted, u: &mut Unstructured) -> Result<(), Error>
+        requires sound { IsSound self.old }
+        ensures added { OnOk result (AddsAny what self.old.config (stack_of self.old) u.old (building (stack_of self.new)) u.new) }
+        ensures sound { OnOk result (IsSound self.new) }
+        ensures keeps { OnOk result (self.new.config ≡ self.old.config) }
+        ensures sections { OnOk result (AddsSections (building_of self.old) (building_of self.new)) }
         ensures memory { IfErr result (λ e. e ≡ Error.OutOfMemory) }
         ensures tail { IsTail u.new u.old }
     {
-        let builder = self.add(what, 0, u)?;
-        Ok(Step::StillBuilding(builder))
+        self.add(what, 0, u)?;
+        Ok(())
     }
 }

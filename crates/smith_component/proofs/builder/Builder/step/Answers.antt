@@ -1,5 +1,39 @@
+use Rattle.std.proofs.Common.{◌≡◌, sym, subst}
+use Rattle.smith_input.specs.declared.error.Error.TheVariants.{MinimumNotMet}
+use Rattle.smith_component.specs.Building.{Building, open_of}
+use Rattle.smith_component.specs.BuilderView.{stack_of}
+use Rattle.smith_component.specs.Filling.{CanFill}
+use Rattle.smith_component.specs.Refusals.{IsStepRefusal}
+use Rattle.smith_component.specs.Steps.{next_of, step_of, StaysSound}
+use Rattle.smith_component.specs.Turn.{Turn}
+use Rattle.smith_component.specs.declared.builder.Step.TheVariants.{Finished}
+use Rattle.smith_component.proofs.Finishing.{refused}
+use Rattle.smith_component.proofs.Refusals.{never_minimum}
+use Rattle.smith_component.proofs.RunsTo.{open_few}
 use Rattle.smith_component.proofs.Turn.{falls}
 use Rattle.smith_component.proofs.builder.Builder.step.Goals as goal
 
-pub returns-clause-falls : goal.returns-clause-falls
-returns-clause-falls c = falls _ _ _ _ _ c.take_turn.ensures.depth c.in_ok-next.ensures.turn
+pub returns-in_err-done-clause-refuses : goal.returns-in_err-done-clause-refuses
+returns-in_err-done-clause-refuses c =
+    let b = c.self.inside.progress in
+    rw (← c.self.view_is) (refused _ _ (IsStepRefusal b.config (stack_of b) c.args.u.now) c.from_residual.ensures.1 c.in_err-done.ensures.refuses)
+
+pub returns-in_err-done-clause-fills : goal.returns-in_err-done-clause-fills
+returns-in_err-done-clause-fills c can =
+    let b = c.self.inside.progress in
+    let i = c.self.invariant in
+    let C : Building → Type 0 = λ v. CanFill v.config (open_of v).inner in
+    refused _ _ (λ e. e ≡ MinimumNotMet → ⊥) c.from_residual.ensures.1
+    (never_minimum b.config (stack_of b) c.args.u.now i.0.sound.consistent i.1.0.grounded (subst C (sym c.self.view_is) can) _ c.in_err-done.ensures.refuses)
+
+pub returns-in-None-clause-falls : goal.returns-in-None-clause-falls
+returns-in-None-clause-falls c =
+    let b = c.self.inside.progress in
+    let turn = subst (λ d. Turn b.config (stack_of b) c.args.u.now (next_of (step_of c.turn.new.self d)) c.turn.new.u) c.in-None.is c.in_ok-done.ensures.turn in
+    rw (← c.self.view_is) (falls _ _ _ _ _ (open_few b.config (stack_of b) c.self.invariant.0.sound) turn)
+
+pub returns-in-Some-clause-keeps : goal.returns-in-Some-clause-keeps
+returns-in-Some-clause-keeps c =
+    let b = c.self.inside.progress in
+    let kept = subst (λ d. StaysSound b.config (step_of c.turn.new.self d)) c.in-Some.is c.in_ok-done.ensures.keeps in
+    subst (λ (v : Building). StaysSound v.config (Finished c.in-Some.component)) c.self.view_is kept

@@ -1,11 +1,10 @@
-use Rattle.std.proofs.Common.{◌≡◌, true, sym, ap, subst, refl, ◌∙◌, ◌++◌, ◌∷◌, [], List, map, inl, inr, arith}
+use Rattle.std.proofs.Common.{sym, ap, subst, refl, ◌∙◌, ◌++◌, ◌∷◌, [], List, map, arith}
 use Rattle.std.proofs.lemmas.List.{map-append}
 use Rattle.std.specs.List.{AllByRecursion}
 use Rattle.smith_syntax.specs.Scope.{empty_scope}
 use Rattle.smith_scopes.proofs.Stack.{opened_scope}
-use Rattle.smith_component.specs.Building.{Building, open_of}
-use Rattle.smith_component.specs.BuilderView.{building_of, IsTabled}
-use Rattle.smith_component.specs.Open.{scopes_in, is_component_offered}
+use Rattle.smith_component.specs.BuilderView.{IsTabled, stack_of}
+use Rattle.smith_component.specs.Open.{scopes_in}
 use Rattle.smith_component.specs.Shown.{shown_sections}
 use Rattle.smith_component.specs.Sound.{Sound}
 use Rattle.smith_component.specs.Tables.{Tabled}
@@ -15,23 +14,21 @@ use Rattle.smith_component.specs.declared.component.Section.{Section}
 use Rattle.smith_component.proofs.Shown.{outer_popped, trees_of}
 use Rattle.smith_component.proofs.Sound.{sound_open, totalled_open, component_offered_is, scopes_from-snoc}
 use Rattle.smith_scopes.proofs.Plain.{all_both}
-use Rattle.smith_component.proofs.builder.Builder.open_component.Goals as goal
+use Rattle.smith_component.proofs.builder.Progress.open_component.Goals as goal
 
-pub overflow_add-builder : goal.overflow_add-builder
-overflow_add-builder c =
-    let b = c.builder.inside in
-    let stack = open_of (building_of b) in
-    let P : Building → Type 0 = λ v. is_component_offered v.config (open_of v) ≡ true in
-    let o = component_offered_is b.config stack (subst P (sym c.builder.view_is) c.requires) in
-    omega (arith, o.1, c.builder.invariant.0.totalled.components, c.builder.invariant.0.sound.consistent.components)
+pub overflow_add-self : goal.overflow_add-self
+overflow_add-self c =
+    let b = c.args.self.now in
+    let stack = stack_of b in
+    let o = component_offered_is b.config stack c.requires.offered in
+    omega (arith, o.1, c.requires.sound.0.totalled.components, c.requires.sound.0.sound.consistent.components)
 
-pub invariant_of-builder : goal.invariant_of-builder
-invariant_of-builder c =
-    let b = c.builder.inside in
-    let i = c.builder.invariant in
-    let stack = open_of (building_of b) in
-    let P : Building → Type 0 = λ v. is_component_offered v.config (open_of v) ≡ true in
-    let o = component_offered_is b.config stack (subst P (sym c.builder.view_is) c.requires) in
+pub returns-clause-sound : goal.returns-clause-sound
+returns-clause-sound c =
+    let b = c.args.self.now in
+    let i = c.requires.sound in
+    let stack = stack_of b in
+    let o = component_offered_is b.config stack c.requires.offered in
     let outer = outer_popped _ _ _ c.in_ok-push.ensures.items ∙ ap (λ x. trees_of b.outer.items ++ shown_sections x.sections.items ∷ []) c.replace-around.ensures.value in
     let new : OpenComponent = c.new-opened.result in
     let fresh = c.replace-around.ensures.after in
@@ -55,8 +52,8 @@ invariant_of-builder c =
 pub returns-clause-sections : goal.returns-clause-sections
 returns-clause-sections c =
     let sections : OpenComponent → List Section = λ o. o.sections.items in
-    let around = ap (map sections) c.in_ok-push.ensures.items ∙ map-append sections c.builder.inside.outer.items (_ ∷ []) in
-    rw (← c.builder.view_is) (inr (inl (record {
-      outer = around ∙ ap (λ x. map sections c.builder.inside.outer.items ++ sections x ∷ []) c.replace-around.ensures.value;
+    let around = ap (map sections) c.in_ok-push.ensures.items ∙ map-append sections c.args.self.now.outer.items (_ ∷ []) in
+    record {
+      outer = around ∙ ap (λ x. map sections c.args.self.now.outer.items ++ sections x ∷ []) c.replace-around.ensures.value;
       inner = ap sections c.replace-around.ensures.after ∙ c.new-opened.ensures.items;
-    })))
+    }

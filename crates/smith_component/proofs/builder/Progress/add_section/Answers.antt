@@ -1,35 +1,32 @@
 use Rattle.std.proofs.Common.{◌∷◌, sym, subst, ap, ◌∙◌, arith, length}
-use Rattle.smith_component.specs.Building.{Building, open_of}
-use Rattle.smith_component.specs.BuilderView.{building_of}
+use Rattle.smith_component.specs.BuilderView.{stack_of}
 use Rattle.smith_component.specs.Open.{scopes_in, with_inner}
 use Rattle.smith_component.specs.Shown.{shown_section, shown_sections}
-use Rattle.smith_component.specs.Sound.{IsAddable, Sound}
+use Rattle.smith_component.specs.Sound.{Sound}
 use Rattle.smith_component.specs.Tables.{Tabled}
 use Rattle.smith_component.specs.WellFormed.{scope_of}
 use Rattle.smith_component.proofs.Sound.{part_sound, scope_bare, totalled_part}
 use Rattle.smith_component.proofs.Standing.{tabled_added, none_imported}
-use Rattle.smith_component.proofs.builder.Builder.add_section.Goals as goal
+use Rattle.smith_component.proofs.builder.Progress.add_section.Goals as goal
 
-pub overflow_add-builder : goal.overflow_add-builder
-overflow_add-builder c =
-    let b = c.builder.inside in
-    let stack = open_of (building_of b) in
+pub overflow_add-self : goal.overflow_add-self
+overflow_add-self c =
+    let b = c.args.self.now in
+    let stack = stack_of b in
     let p = shown_section c.args.section in
-    let R : Building → Type 0 = λ v. IsAddable v.config (open_of v) p in
-    let a = subst R (sym c.builder.view_is) c.requires.addable in
-    let i = c.builder.invariant.0 in
+    let a = c.requires.addable in
+    let i = c.requires.sound.0 in
     let few = a.modules i.sound.maxima.modules in
     omega (arith, few, i.totalled.modules, c.module_count-modules.ensures, i.sound.consistent.modules)
 
-pub invariant_of-builder : goal.invariant_of-builder
-invariant_of-builder c =
-    let b = c.builder.inside in
-    let stack = open_of (building_of b) in
+pub returns-clause-sound : goal.returns-clause-sound
+returns-clause-sound c =
+    let b = c.args.self.now in
+    let stack = stack_of b in
     let p = shown_section c.args.section in
-    let R : Building → Type 0 = λ v. IsAddable v.config (open_of v) p in
-    let a = subst R (sym c.builder.view_is) c.requires.addable in
+    let a = c.requires.addable in
     let q = c.requires.quiet in
-    let i = c.builder.invariant in
+    let i = c.requires.sound in
     let new = c.in_ok-push.ensures.ok in
     let none = none_imported p q.imports in (
       record {

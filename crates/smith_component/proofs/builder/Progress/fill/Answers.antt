@@ -1,6 +1,7 @@
 use Rattle.std.proofs.Common.{◌≡◌, ◌≤◌, ◌<◌, List, ℕ, sym, subst, ◌∙◌, length}
 use Rattle.smith_input.proofs.ReadingLemmas.{tail_trans}
 use Rattle.smith_format.specs.declared.config.Config.{Config}
+use Rattle.smith_component.specs.BuilderView.{building_of, stack_of}
 use Rattle.smith_component.specs.Building.{Building, open_of}
 use Rattle.smith_component.specs.Open.{with_inner}
 use Rattle.smith_component.specs.Refusals.{IsFillRefusal}
@@ -9,7 +10,7 @@ use Rattle.smith_component.specs.Turn.{Fills, FillsAll, of_imports, of_functions
 use Rattle.smith_component.specs.declared.item.Counted.{Counted}
 use Rattle.smith_component.specs.declared.item.Counted.TheVariants as counted
 use Rattle.smith_component.proofs.Finishing.{refused, adds_trans, moved, filled_minima}
-use Rattle.smith_component.proofs.builder.Builder.fill.Goals as goal
+use Rattle.smith_component.proofs.builder.Progress.fill.Goals as goal
 
 -- What is filled, in the terms of the builder that all began with.
 from_first : (what : Counted) (a b : Building) {mid low : List ℕ} {t : Tree} → b.config ≡ a.config → b.outer ≡ a.outer → Fills what b.config (open_of b) mid t low → Fills what a.config (with_inner (open_of a) (open_of b).inner) mid t low
@@ -17,31 +18,31 @@ from_first what a b {mid} {low} {t} c o f = moved (λ k s. Fills what k s mid t 
 
 pub returns-in_err-check_minimum-clause-refuses : goal.returns-in_err-check_minimum-clause-refuses
 returns-in_err-check_minimum-clause-refuses c =
-    let v = c.args.self in
-    let typed = c.in_ok-typed.typed in
-    let imported = c.in_ok-imported.imported in
-    let t = c.in_ok-typed.ensures in
-    let i = c.in_ok-imported.ensures in
+    let v = building_of c.args.self.now in
+    let typed = building_of c.fill_one.new.self in
+    let imported = building_of c.fill_one-2.new.self in
+    let t = c.in_ok-fill_one.ensures in
+    let i = c.in_ok-fill_one-2.ensures in
     let e = c.in_err-check_minimum.ensures in
     let filled = from_first counted.Imports v typed t.keeps t.sections.outer i.filled in
     let few = subst (λ (k : Config). length (imports_of (open_of imported).inner) < k.min_imports) (i.keeps ∙ t.keeps) e.1 in
     refused _ _ (IsFillRefusal v.config (open_of v) c.args.u.now) c.from_residual-in_err-check_minimum.ensures.1 (subst (IsFillRefusal v.config (open_of v) c.args.u.now) (sym e.0) (of_imports t.filled filled few))
 
 pub returns-in_err-check_minimum-clause-tail : goal.returns-in_err-check_minimum-clause-tail
-returns-in_err-check_minimum-clause-tail c = tail_trans c.in_ok-imported.ensures.tail c.in_ok-typed.ensures.tail
+returns-in_err-check_minimum-clause-tail c = tail_trans c.in_ok-fill_one-2.ensures.tail c.in_ok-fill_one.ensures.tail
 
-pub returns-in_err-full-clause-tail : goal.returns-in_err-full-clause-tail
-returns-in_err-full-clause-tail c = tail_trans c.in_err-full.ensures.tail (tail_trans c.in_ok-imported.ensures.tail c.in_ok-typed.ensures.tail)
+pub returns-in_err-fill_one-3-clause-tail : goal.returns-in_err-fill_one-3-clause-tail
+returns-in_err-fill_one-3-clause-tail c = tail_trans c.in_err-fill_one-3.ensures.tail (tail_trans c.in_ok-fill_one-2.ensures.tail c.in_ok-fill_one.ensures.tail)
 
 pub returns-in_err-check_minimum-2-clause-refuses : goal.returns-in_err-check_minimum-2-clause-refuses
 returns-in_err-check_minimum-2-clause-refuses c =
-    let v = c.args.self in
-    let typed = c.in_ok-typed.typed in
-    let imported = c.in_ok-imported.imported in
-    let full = c.in_ok-full.full in
-    let t = c.in_ok-typed.ensures in
-    let i = c.in_ok-imported.ensures in
-    let f = c.in_ok-full.ensures in
+    let v = building_of c.args.self.now in
+    let typed = building_of c.fill_one.new.self in
+    let imported = building_of c.fill_one-2.new.self in
+    let full = building_of c.fill_one-3.new.self in
+    let t = c.in_ok-fill_one.ensures in
+    let i = c.in_ok-fill_one-2.ensures in
+    let f = c.in_ok-fill_one-3.ensures in
     let e = c.in_err-check_minimum-2.ensures in
     let is = from_first counted.Imports v typed t.keeps t.sections.outer i.filled in
     let fs = from_first counted.Functions v imported (i.keeps ∙ t.keeps) (i.sections.outer ∙ t.sections.outer) f.filled in
@@ -50,18 +51,18 @@ returns-in_err-check_minimum-2-clause-refuses c =
     (subst (IsFillRefusal v.config (open_of v) c.args.u.now) (sym e.0) (of_functions t.filled is fs few))
 
 pub returns-in_err-check_minimum-2-clause-tail : goal.returns-in_err-check_minimum-2-clause-tail
-returns-in_err-check_minimum-2-clause-tail c = tail_trans c.in_ok-full.ensures.tail (tail_trans c.in_ok-imported.ensures.tail c.in_ok-typed.ensures.tail)
+returns-in_err-check_minimum-2-clause-tail c = tail_trans c.in_ok-fill_one-3.ensures.tail (tail_trans c.in_ok-fill_one-2.ensures.tail c.in_ok-fill_one.ensures.tail)
 
 -- all that is filled, at the end
-all_filled : (c : goal.In_ok-check_minimum-2) → FillsAll c.args.self.config (open_of c.args.self) c.args.u.now (open_of c.in_ok-full.full).inner c.fill_one-3.new.u
+all_filled : (c : goal.In_ok-check_minimum-2) → FillsAll c.args.self.now.config (stack_of c.args.self.now) c.args.u.now (stack_of c.fill_one-3.new.self).inner c.fill_one-3.new.u
 all_filled c =
-    let v = c.args.self in
-    let typed = c.in_ok-typed.typed in
-    let imported = c.in_ok-imported.imported in
-    let full = c.in_ok-full.full in
-    let t = c.in_ok-typed.ensures in
-    let i = c.in_ok-imported.ensures in
-    let f = c.in_ok-full.ensures in
+    let v = building_of c.args.self.now in
+    let typed = building_of c.fill_one.new.self in
+    let imported = building_of c.fill_one-2.new.self in
+    let full = building_of c.fill_one-3.new.self in
+    let t = c.in_ok-fill_one.ensures in
+    let i = c.in_ok-fill_one-2.ensures in
+    let f = c.in_ok-fill_one-3.ensures in
     let is = from_first counted.Imports v typed t.keeps t.sections.outer i.filled in
     let fs = from_first counted.Functions v imported (i.keeps ∙ t.keeps) (i.sections.outer ∙ t.sections.outer) f.filled in
     record {
@@ -81,10 +82,10 @@ returns-clause-filled c = all_filled c
 
 pub returns-clause-minima : goal.returns-clause-minima
 unfolding all_filled
-returns-clause-minima c = filled_minima _ _ _ _ _ c.in_ok-typed.ensures.accepted (all_filled c)
+returns-clause-minima c = filled_minima _ _ _ _ _ c.requires.sound.0.sound.consistent (all_filled c)
 
 pub returns-clause-sections : goal.returns-clause-sections
-returns-clause-sections c = adds_trans c.in_ok-typed.ensures.sections (adds_trans c.in_ok-imported.ensures.sections c.in_ok-full.ensures.sections)
+returns-clause-sections c = adds_trans c.in_ok-fill_one.ensures.sections (adds_trans c.in_ok-fill_one-2.ensures.sections c.in_ok-fill_one-3.ensures.sections)
 
 pub returns-clause-tail : goal.returns-clause-tail
-returns-clause-tail c = tail_trans c.in_ok-full.ensures.tail (tail_trans c.in_ok-imported.ensures.tail c.in_ok-typed.ensures.tail)
+returns-clause-tail c = tail_trans c.in_ok-fill_one-3.ensures.tail (tail_trans c.in_ok-fill_one-2.ensures.tail c.in_ok-fill_one.ensures.tail)

@@ -1,18 +1,16 @@
-use Rattle.std.proofs.Common.{◌≡◌, ◌++◌, ◌∷◌, [], List, map, sym, subst, ap, ◌∙◌, refl, arith, length, length-append, append-nil}
+use Rattle.std.proofs.Common.{◌≡◌, ◌++◌, ◌∷◌, [], List, map, sym, subst, ap, ◌∙◌, refl, arith, length, length-append, append-nil, inl}
 use Rattle.std.proofs.lemmas.List.{map-append}
 use Rattle.std.specs.List.{AllByRecursion}
-use Rattle.smith_format.specs.declared.config.Config.{Config}
 use Rattle.smith_scopes.specs.Scopes.{last_of}
 use Rattle.smith_scopes.proofs.Stack.{length-inward, closed_scope}
-use Rattle.smith_component.specs.Building.{Building, open_of}
 use Rattle.smith_component.specs.BuilderView.{IsTabled}
-use Rattle.smith_component.specs.Limits.{Limits, Minima, Sized}
 use Rattle.smith_component.specs.Open.{scopes_in}
 use Rattle.smith_component.specs.Shown.{shown_sections}
 use Rattle.smith_component.specs.Sound.{Sound}
 use Rattle.smith_component.specs.Tables.{Tabled}
+use Rattle.smith_component.specs.Turn.{answered}
 use Rattle.smith_component.specs.Tree.{Tree, add, component}
-use Rattle.smith_component.specs.WellFormed.{WellFormed, scope_of}
+use Rattle.smith_component.specs.WellFormed.{scope_of}
 use Rattle.smith_component.specs.declared.builder.open.OpenComponent.{OpenComponent}
 use Rattle.smith_component.specs.declared.component.Section.{Section}
 use Rattle.smith_component.specs.declared.component.Section.TheVariants.{Component as inner_section}
@@ -20,7 +18,7 @@ use Rattle.smith_component.proofs.Shown.{none_open, outer_popped, trees_of}
 use Rattle.smith_component.proofs.Sound.{root_kept, sound_close, totalled_close, closes, scope_bare, scopes_from-snoc, length-scopes_from, same_tail}
 use Rattle.smith_component.proofs.Standing.{tabled_added}
 use Rattle.smith_scopes.proofs.Plain.{all_back, all_front}
-use Rattle.smith_component.proofs.builder.Builder.close.Goals as goal
+use Rattle.smith_component.proofs.builder.Progress.close.Goals as goal
 
 -- no component is open where none was taken
 none_around : (xs : List OpenComponent) → length xs ≡ 0 → map (λ (c : OpenComponent). c.sections.items) xs ≡ []
@@ -33,22 +31,22 @@ around_grown pushed parent finished t e h = h ∙ ap (λ (o : OpenComponent). ad
 
 pub close_scope-requires : goal.close_scope-requires
 close_scope-requires c =
-    let b = c.builder.inside in
+    let b = c.args.self.now in
     let outer : List Tree = trees_of b.outer.items in
     let some = outer_popped _ _ _ c.in-Some.ensures.items in
     omega (
       arith,
       length-inward b.scopes,
-      ap length c.builder.invariant.0.scopes_are,
+      ap length c.requires.sound.0.scopes_are,
       length-scopes_from outer [],
       ap length some,
       length-append (trees_of c.pop.new.self.items) (shown_sections c.in-Some.parent.sections.items ∷ []),
     )
 
-pub invariant_of-builder : goal.invariant_of-builder
-invariant_of-builder c =
-    let b = c.builder.inside in
-    let i = c.builder.invariant in
+pub returns-in_ok-push-in-Some-clause-sound : goal.returns-in_ok-push-in-Some-clause-sound
+returns-in_ok-push-in-Some-clause-sound c =
+    let b = c.args.self.now in
+    let i = c.requires.sound in
     let outers : List Tree = trees_of c.pop.new.self.items in
     let parent : Tree = shown_sections c.in-Some.parent.sections.items in
     let inner : Tree = shown_sections b.inner.sections.items in
@@ -57,8 +55,7 @@ invariant_of-builder c =
     let new = around_grown _ _ _ _ c.replace-finished.ensures.after c.in_ok-push-in-Some.ensures.ok ∙ ap (λ t. add parent (component t)) finished in
     let before = closed_scope b.scopes c.close_scope.new.self (last_of b.scopes) c.close_scope.ensures in
     let rest = same_tail _ _ _ _ (sym before ∙ (i.0.scopes_are ∙ ap (λ us. scope_of inner ∷ scopes_in us) around)) in
-    let M : Building → Type 0 = λ v. Minima v.config (open_of v).inner in
-    let enough = subst M (sym c.builder.view_is) c.requires.minima in
+    let enough = c.requires.minima in
     let all = subst (AllByRecursion IsTabled) c.in-Some.ensures.items i.1.1 in
     let last = all_back IsTabled c.pop.new.self.items (c.in-Some.parent ∷ []) all in
     let tables = c.push.ensures.tables ∙ ap (λ (o : OpenComponent). o.tables) c.replace-finished.ensures.after in (
@@ -79,28 +76,31 @@ returns-in_ok-push-in-Some-clause-closes c =
     let parent : Tree = shown_sections c.in-Some.parent.sections.items in
     let finished = c.of-component.ensures ∙ ap (λ (o : OpenComponent). shown_sections o.sections.items) c.replace-finished.ensures.value in
     let new = around_grown _ _ _ _ c.replace-finished.ensures.after c.in_ok-push-in-Some.ensures.ok ∙ ap (λ t. add parent (component t)) finished in
-    rw (← c.builder.view_is) (closes _ _ _ _ _ (outer_popped _ _ _ c.in-Some.ensures.items) new)
+    (closes _ _ _ _ _ (outer_popped _ _ _ c.in-Some.ensures.items) new)
 
 pub returns-in-None-clause-keeps : goal.returns-in-None-clause-keeps
 returns-in-None-clause-keeps c =
-    let t : Tree = c.of.result in
-    let P : Config → Type 0 = λ config. Limits config t × WellFormed t × Sized config t in
-    let M : Building → Type 0 = λ v. Minima v.config (open_of v).inner in
-    let enough = subst M (sym c.builder.view_is) c.requires.minima in
-    subst P (ap (λ (v : Building). v.config) c.builder.view_is)
-    (root_kept _ _ _ t (none_open _ (omega (arith, c.builder.inside.outer.ok.0, c.in-None.ensures.cases.0))) (sym c.of.ensures) enough c.builder.invariant.0.sound)
+    let b = c.args.self.now in
+    let is = c.of.ensures ∙ ap (λ v. shown_sections v.items) c.replace-root.ensures.value in
+    root_kept _ _ _ c.of.result (none_open _ (omega (arith, b.outer.ok.0, c.in-None.ensures.cases.0))) (sym is) c.requires.minima c.requires.sound.0.sound
+
+pub returns-in-None-clause-closes : goal.returns-in-None-clause-closes
+returns-in-None-clause-closes c =
+    let b = c.args.self.now in
+    let is = c.of.ensures ∙ ap (λ v. shown_sections v.items) c.replace-root.ensures.value in
+    inl (none_open _ (omega (arith, b.outer.ok.0, c.in-None.ensures.cases.0)), ap answered is)
 
 pub returns-in-None-clause-sections : goal.returns-in-None-clause-sections
 returns-in-None-clause-sections c =
-    let b = c.builder.inside in
-    let none = none_around b.outer.items (omega (arith, b.outer.ok.0, c.in-None.ensures.cases.0)) in
-    rw (← c.builder.view_is) (none, [], c.of.ensures ∙ ap shown_sections (sym (append-nil b.inner.sections.items)))
+    let b = c.args.self.now in
+    let is = c.of.ensures ∙ ap (λ v. shown_sections v.items) c.replace-root.ensures.value in
+    (none_around b.outer.items (omega (arith, b.outer.ok.0, c.in-None.ensures.cases.0)), [], is ∙ ap shown_sections (sym (append-nil b.inner.sections.items)))
 
 pub returns-in_ok-push-in-Some-clause-sections : goal.returns-in_ok-push-in-Some-clause-sections
 returns-in_ok-push-in-Some-clause-sections c =
-    let b = c.builder.inside in
+    let b = c.args.self.now in
     let sections : OpenComponent → List Section = λ o. o.sections.items in
     let around = ap (map sections) c.in-Some.ensures.items ∙ map-append sections c.pop.new.self.items (c.in-Some.parent ∷ []) in
     let finished = c.of-component.ensures ∙ (ap (λ (o : OpenComponent). shown_sections o.sections.items) c.replace-finished.ensures.value ∙ ap shown_sections (sym (append-nil b.inner.sections.items))) in
     let grown = c.in_ok-push-in-Some.ensures.items ∙ ap (λ (o : OpenComponent). o.sections.items ++ inner_section c.of-component.result ∷ []) c.replace-finished.ensures.after in
-    rw (← c.builder.view_is) (record { parent = sections c.in-Some.parent; more = []; outer = around; inner = grown ∙ ap (λ t. sections c.in-Some.parent ++ inner_section t ∷ []) finished })
+    (record { parent = sections c.in-Some.parent; more = []; outer = around; inner = grown ∙ ap (λ t. sections c.in-Some.parent ++ inner_section t ∷ []) finished })
