@@ -60,7 +60,7 @@ module _ {config : Config} {stack : Open} {b : List ℕ} where
   -- What can be filled lacks nothing.
   pub fills_lack : {full : Tree} {r : List ℕ} → FillsAll config stack b full r → Lacks config stack b → ⊥
   fills_lack f (of_imports t i less) = let e = filled_imports t i f.types f.imports in omega (arith, less, f.enough_imports, ap (λ z. length (imports_of z)) e.0)
-  fills_lack {full} {r} f (of_functions {imported = imported} {full = other} {low = low} {rest = rest} t i g less) =
+  fills_lack {full} {r} f (of_functions {imported = imported} {full = other} {low = low} {rest = rest} t i enough g less) =
       let e = fill_then counted.Functions config stack imported f.imported low f.low other full rest r (filled_imports t i f.types f.imports) g f.functions in
       omega (arith, less, f.enough_functions, ap (λ z. function_count z) e.0)
 

@@ -1,12 +1,15 @@
 -- Which refusal comes.
-use Rattle.std.specs.Prelude.{◌≡◌, ℕ, ◌<◌, ◌≤◌, List, None, Result, MatchResult}
+use Rattle.std.specs.Prelude.{◌≡◌, ℕ, ◌<◌, ◌≤◌, List, [], None, Result, IfErr, MatchResult}
+use Rattle.smith_input.specs.Choices.{ReadsAmong}
 use Rattle.smith_format.specs.Limits.{IsConsistent}
 use Rattle.smith_format.specs.declared.config.Config.{Config}
 use Rattle.smith_input.specs.declared.error.Error.{Error}
 use Rattle.smith_input.specs.declared.error.Error.TheVariants.{InconsistentLimits, MinimumNotMet, ModuleRefused, TooLong, OutOfMemory, PartsDisagree}
 use Rattle.smith_component.specs.Grammar.{component_text}
 use Rattle.smith_component.specs.Tree.{Tree}
-use Rattle.smith_component.specs.Open.{Open, root}
+use Rattle.smith_component.specs.declared.item.Item.{Item}
+use Rattle.smith_component.specs.Limits.{Minima}
+use Rattle.smith_component.specs.Open.{Open, items, root}
 use Rattle.smith_component.specs.Turn.{Lacks, LacksAt, RefusesModuleAt, RunsTo, Turns, building}
 
 -- A builder is refused where limits do not fit together, and else only for want of memory.
@@ -75,3 +78,17 @@ IsGenerateRefusal config input ModuleRefused = IsConsistent config × RefusesMod
 IsGenerateRefusal config input TooLong = IsConsistent config × (tree : Tree) × (left : List ℕ) × RunsTo config input tree left × (component_text tree ≡ None)
 IsGenerateRefusal config input OutOfMemory = IsConsistent config
 IsGenerateRefusal config input PartsDisagree = ⊥
+
+-- This item is chosen, and these bytes are left.
+abbrev pub IsChosen : Config → Open → List ℕ → Item → List ℕ → Type 0
+IsChosen config stack left chosen after = ReadsAmong (items config stack left) left chosen after
+
+-- No input is left, and the root alone is open and lacks nothing.
+pub record IsReady (config : Config) (stack : Open) (left : List ℕ) : Type 0 where
+  pub empty : left ≡ []
+  pub alone : stack.outer ≡ []
+  pub enough : Minima config stack.inner
+
+-- There is no refusal.
+abbrev pub IsAnswered : {T : Type 0} → Result T Error → Type 0
+IsAnswered result = IfErr result (λ e. ⊥)

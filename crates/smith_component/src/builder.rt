@@ -7,12 +7,13 @@ ghost use Rattle.smith_component.specs.Building.{open_of};
 ghost use Rattle.smith_component.specs.BuilderView.{building_of, stack_of, IsSound};
 ghost use Rattle.smith_component.specs.Filling.{CanFill};
 ghost use Rattle.smith_component.specs.Limits.{max_depth};
-ghost use Rattle.smith_component.specs.Refusals.{IsNewRefusal, IsStepRefusal};
+ghost use Rattle.smith_component.specs.Refusals.{IsAnswered, IsChosen, IsNewRefusal, IsReady, IsStepRefusal};
 ghost use Rattle.smith_component.specs.Shown.{shown_sections};
 ghost use Rattle.smith_component.specs.Steps.{next_of, step_of, KeepsSections, SoundUnlessDone, StaysSound};
 ghost use Rattle.smith_component.specs.Tree.{ends};
 ghost use Rattle.smith_component.specs.Turn.{Next, Turn, Falls};
 ghost use Rattle.smith_component.specs.Open.{root};
+ghost use Rattle.smith_component.specs.declared.item.Item.TheVariants.{Module};
 
 mod canonicals;
 mod choose;
@@ -110,6 +111,8 @@ impl Progress {
         ensures keeps { IfOk result (λ c. StaysSound self.old.config (step_of self.new c)) }
         ensures sections { IfOk result (λ c. KeepsSections (building_of self.old) (step_of self.new c)) }
         ensures refuses { IfErr result (IsStepRefusal self.old.config (stack_of self.old) u.old) }
+        ensures unread { IfErr result (λ e. e ≡ Error.ModuleRefused → IsChosen self.old.config (stack_of self.old) u.old Module u.new) }
+        ensures alone { IsReady self.old.config (stack_of self.old) u.old → IsAnswered result }
         ensures tail { IsTail u.new u.old }
     {
         match self.choose_item(u) {
@@ -169,6 +172,10 @@ impl Builder {
         ensures falls { IfOk result (λ s. Falls self.config u.old (open_of self) u.new (next_of s)) }
         ensures accepted { IsConsistent self.config }
         ensures refuses { IfErr result (IsStepRefusal self.config (open_of self) u.old) }
+        // Where a core module is refused, what stands behind its choice is left.
+        ensures unread { IfErr result (λ e. e ≡ Error.ModuleRefused → IsChosen self.config (open_of self) u.old Module u.new) }
+        // The root is finished without memory where no input is left and it lacks nothing.
+        ensures alone { IsReady self.config (open_of self) u.old → IsAnswered result }
         ensures fills { CanFill self.config (open_of self).inner → IfErr result (λ e. ¬ (e ≡ Error.MinimumNotMet)) }
         ensures tail { IsTail u.new u.old }
     {

@@ -1,11 +1,11 @@
 //! Components are finished, when they have what they must have.
 
-ghost use Rattle.std.specs.Prelude.{◌≡◌, ℕ, List, IfOk, IfErr, OnOk};
+ghost use Rattle.std.specs.Prelude.{◌≡◌, ◌≤◌, ℕ, List, [], IfOk, IfErr, OnOk};
 ghost use Rattle.smith_input.specs.Reading.{IsTail};
 ghost use Rattle.smith_component.specs.BuilderView.{building_of, stack_of, IsSound};
 ghost use Rattle.smith_component.specs.Counted.{count_of, minimum_of};
 ghost use Rattle.smith_component.specs.Limits.{Minima};
-ghost use Rattle.smith_component.specs.Refusals.{IsFillRefusal, IsMinimum};
+ghost use Rattle.smith_component.specs.Refusals.{IsAnswered, IsFillRefusal, IsMinimum};
 ghost use Rattle.smith_component.specs.Steps.{next_of, step_of, AddsSections, ClosesSections, KeepsSections, SoundUnlessDone, StaysSound};
 ghost use Rattle.smith_component.specs.Turn.{Next, Closes, Does, Fills, FillsAll};
 ghost use Rattle.smith_component.specs.declared.item.Item.TheVariants.{Finish};
@@ -48,6 +48,7 @@ impl Progress {
         ensures keeps { OnOk result (self.new.config ≡ self.old.config) }
         ensures sections { OnOk result (AddsSections (building_of self.old) (building_of self.new)) }
         ensures memory { IfErr result (λ e. e ≡ Error.OutOfMemory) }
+        ensures nothing { minimum_of what self.old.config ≤ count_of what (stack_of self.old).inner → IsAnswered result }
         ensures tail { IsTail u.new u.old }
     {
         let count = self.count(what);
@@ -78,6 +79,7 @@ impl Progress {
         ensures keeps { OnOk result (self.new.config ≡ self.old.config) }
         ensures sections { OnOk result (AddsSections (building_of self.old) (building_of self.new)) }
         ensures refuses { IfErr result (IsFillRefusal self.old.config (stack_of self.old) u.old) }
+        ensures nothing { Minima self.old.config (stack_of self.old).inner → IsAnswered result }
         ensures tail { IsTail u.new u.old }
     {
         self.fill_one(Counted::Types, u)?;
@@ -97,6 +99,7 @@ impl Progress {
         ensures keeps { IfOk result (λ c. StaysSound self.old.config (step_of self.new c)) }
         ensures sections { IfOk result (λ c. ClosesSections (building_of self.old) (step_of self.new c)) }
         ensures memory { IfErr result (λ e. e ≡ Error.OutOfMemory) }
+        ensures alone { (stack_of self.old).outer ≡ [] → IsAnswered result }
     {
         match self.outer.pop() {
             None => {
@@ -121,6 +124,7 @@ impl Progress {
         ensures keeps { IfOk result (λ c. StaysSound self.old.config (step_of self.new c)) }
         ensures sections { IfOk result (λ c. KeepsSections (building_of self.old) (step_of self.new c)) }
         ensures refuses { IfErr result (IsFillRefusal self.old.config (stack_of self.old) u.old) }
+        ensures alone { (stack_of self.old).outer ≡ [] → Minima self.old.config (stack_of self.old).inner → IsAnswered result }
         ensures tail { IsTail u.new u.old }
     {
         self.fill(u)?;

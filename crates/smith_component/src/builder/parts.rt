@@ -64,6 +64,7 @@ impl Progress {
         ensures keeps { OnOk result (self.new.config ≡ self.old.config) }
         ensures sections { OnOk result (AddsSections (building_of self.old) (building_of self.new)) }
         ensures refuses { IfErr result (IsStandInRefusal self.old.config) }
+        ensures unread { IfErr result (λ e. e ≡ Error.ModuleRefused → u.new ≡ u.old) }
         ensures tail { IsTail u.new u.old }
     {
         let module = Module::new_internal(self.alloc, self.config, u)?;

@@ -46,9 +46,10 @@ returns-in_err-check_minimum-2-clause-refuses c =
     let e = c.in_err-check_minimum-2.ensures in
     let is = from_first counted.Imports v typed t.keeps t.sections.outer i.filled in
     let fs = from_first counted.Functions v imported (i.keeps ∙ t.keeps) (i.sections.outer ∙ t.sections.outer) f.filled in
+    let enough = subst (λ (k : Config). k.min_imports ≤ length (imports_of (open_of imported).inner)) (i.keeps ∙ t.keeps) c.in_ok-check_minimum.ensures in
     let few = subst (λ (k : Config). function_count (open_of full).inner < k.min_funcs) (f.keeps ∙ (i.keeps ∙ t.keeps)) e.1 in
     refused _ _ (IsFillRefusal v.config (open_of v) c.args.u.now) c.from_residual-in_err-check_minimum-2.ensures.1
-    (subst (IsFillRefusal v.config (open_of v) c.args.u.now) (sym e.0) (of_functions t.filled is fs few))
+    (subst (IsFillRefusal v.config (open_of v) c.args.u.now) (sym e.0) (of_functions t.filled is enough fs few))
 
 pub returns-in_err-check_minimum-2-clause-tail : goal.returns-in_err-check_minimum-2-clause-tail
 returns-in_err-check_minimum-2-clause-tail c = tail_trans c.in_ok-fill_one-3.ensures.tail (tail_trans c.in_ok-fill_one-2.ensures.tail c.in_ok-fill_one.ensures.tail)
