@@ -1,13 +1,21 @@
 -- Components that have no encoding.
-use Rattle.std.proofs.Common.{◌≡◌, ◌↔◌, [], ◌∷◌, None}
+use Rattle.std.proofs.Common.{◌≡◌, ◌↔◌, ◌⊎◌, inl, inr, sym, subst, ◌∙◌, [], ◌∷◌, None}
 use Rattle.smith_format.specs.Piece.{◌⊕◌, byte, raw, text, many, u}
 use Rattle.smith_format.proofs.Sizes.{u_none_where}
 use Rattle.smith_format.proofs.TooLong.{join_none, after_bytes, before_bytes, bytes_none, name_none, raw_none, many_none_where, sized_none_by}
+use Rattle.smith_format.specs.TooLong.{ContentsTooLong}
+use Rattle.smith_core.specs.Module.{module_text}
+use Rattle.smith_core.specs.Parts.{Agree}
+use Rattle.smith_core.specs.TooLong.{ModuleTooLong}
+use Rattle.smith_core.specs.declared.module.parts.ModuleParts.{ModuleParts}
+use Rattle.smith_core.proofs.TooLong.{module_none}
 use Rattle.smith_syntax.specs.Grammar.{entry, core_entry, import_entry}
 use Rattle.smith_syntax.proofs.TooLong.{entry_none, core_entry_none, import_entry_none}
 use Rattle.smith_component.specs.Grammar.{embedded, canon, preamble, part, parts, component_text}
+use Rattle.smith_component.specs.Shown.{shown_module}
 use Rattle.smith_component.specs.TooLong.{CanonTooLong, TreeTooLong, PartTooLong}
 use Rattle.smith_component.specs.Tree.{Canon, lift, lower, Part, Tree, ends, first, custom, core_module, core_types, component, types, canons, imports}
+use Rattle.smith_component.proofs.Grammar.{embedded_text}
 
 canon_none : (f : Canon) → (canon f ≡ None) ↔ CanonTooLong f
 canon_none (lift c t) =
@@ -32,3 +40,12 @@ mutual
 
 pub component_none : (t : Tree) → (component_text t ≡ None) ↔ TreeTooLong t
 component_none t = after_bytes preamble (parts t) (tree_none t)
+
+-- What embeds a core module is too long where the module is, or its bytes are too many.
+pub embedded_none : (m : ModuleParts) → Agree m → PartTooLong (core_module (shown_module m)) ↔ (ModuleTooLong m ⊎ ContentsTooLong (module_text m))
+embedded_none m agree =
+    let is = embedded_text m in
+    let none = module_none m agree in (
+      λ h. elim h [ inl n ↦ inl (none.0 (sym is ∙ n)) | inr l ↦ inr (subst ContentsTooLong is l) ],
+      λ h. elim h [ inl t ↦ inl (is ∙ none.1 t) | inr l ↦ inr (subst ContentsTooLong (sym is) l) ],
+    )

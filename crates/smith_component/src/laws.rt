@@ -1,7 +1,12 @@
 //! Laws of components. Each function does nothing: its contract is the law.
 
-ghost use Rattle.std.specs.Prelude.{◌≡◌, ◌↔◌, ◌++◌, ℕ, List, None, true};
+ghost use Rattle.std.specs.Prelude.{◌≡◌, ◌↔◌, ◌⊎◌, ◌++◌, ℕ, List, None, true};
+ghost use Rattle.smith_core.specs.Module.{module_text};
+ghost use Rattle.smith_core.specs.Parts.{Agree};
+ghost use Rattle.smith_core.specs.TooLong.{ModuleTooLong};
+ghost use Rattle.smith_core.specs.declared.module.parts.ModuleParts.{ModuleParts};
 ghost use Rattle.smith_format.specs.Limits.{IsConsistent};
+ghost use Rattle.smith_format.specs.TooLong.{ContentsTooLong};
 ghost use Rattle.smith_format.specs.declared.config.Config.{Config};
 ghost use Rattle.smith_input.specs.Reading.{IsDecided, IsReadAs};
 ghost use Rattle.smith_input.specs.declared.error.Error.{Error};
@@ -11,8 +16,9 @@ ghost use Rattle.smith_component.specs.Refusals.{IsGenerateRefusal};
 ghost use Rattle.smith_component.specs.Limits.{Minima};
 ghost use Rattle.smith_component.specs.Open.{Open, is_component_offered};
 ghost use Rattle.smith_component.specs.Script.{Continues, Within, item_of, script, script_item, script_part};
-ghost use Rattle.smith_component.specs.TooLong.{TreeTooLong};
-ghost use Rattle.smith_component.specs.Tree.{Part, Tree};
+ghost use Rattle.smith_component.specs.Shown.{shown_module};
+ghost use Rattle.smith_component.specs.TooLong.{PartTooLong, TreeTooLong};
+ghost use Rattle.smith_component.specs.Tree.{Part, Tree, core_module};
 ghost use Rattle.smith_component.specs.Turn.{Closes, Next, RunsTo, Turn, with_open, with_part};
 ghost use Rattle.smith_component.specs.declared.item.Item.TheVariants.{Component as ItemComponent, Finish};
 
@@ -26,6 +32,13 @@ pub fn one_reading()
 /// are.
 pub fn long_components_have_no_encoding()
     ensures { (t : Tree) → (component_text t ≡ None) ↔ TreeTooLong t }
+{}
+
+/// A section with a core module whose parts agree has no bytes exactly where the module has none, or has more than
+/// 4,294,967,295.
+pub fn long_modules_make_long_sections()
+    ensures { (m : ModuleParts) → Agree m
+        → PartTooLong (core_module (shown_module m)) ↔ (ModuleTooLong m ⊎ ContentsTooLong (module_text m)) }
 {}
 
 /// The limits and the input alone decide which component a run leads to, and what is left.
