@@ -373,21 +373,29 @@ made_core_formed {config} {around} (of_module f c m i) =
 -- within the limits
 
 module _ (config : Config) (s : Declared) where
+  -- tags may stand only where there are exceptions
+  abbrev MayStand : ExportKind → Type 0
+  MayStand kind.Global = Unit {0}
+  MayStand kind.Table = Unit {0}
+  MayStand kind.Memory = Unit {0}
+  MayStand kind.Tag = config.exceptions_enabled ≡ true
+  MayStand kind.Func = Unit {0}
+
   abbrev HasRoom : ExportKind → Type 0
-  HasRoom k = count_of k s.decls < limit_of config k
+  HasRoom k = (count_of k s.decls < limit_of config k) × MayStand k
 
   kind_offered : (i : ℕ) (k : ExportKind) → slice_get (entity_kinds config s) i ≡ Some k → HasRoom k
   kind_offered i k e =
       offer_holds HasRoom (kind_offers config s) (
-        ltb-true (count_of kind.Global s.decls) config.max_globals,
+        λ t. (ltb-true (count_of kind.Global s.decls) config.max_globals t, tt),
         (
-          ltb-true (count_of kind.Table s.decls) config.max_tables,
+          λ t. (ltb-true (count_of kind.Table s.decls) config.max_tables t, tt),
           (
-            ltb-true (count_of kind.Memory s.decls) config.max_memories,
+            λ t. (ltb-true (count_of kind.Memory s.decls) config.max_memories t, tt),
             (
-              λ t. ltb-true (count_of kind.Tag s.decls) config.max_tags (both_true _ _ (both_true _ _ t).0).0,
+              λ t. let both = both_true _ _ (both_true _ _ t).0 in (ltb-true (count_of kind.Tag s.decls) config.max_tags both.0, both.1),
               (
-                λ t. ltb-true (count_of kind.Func s.decls) config.max_funcs (both_true _ _ t).1,
+                λ t. (ltb-true (count_of kind.Func s.decls) config.max_funcs (both_true _ _ t).1, tt),
                 tt,
               ),
             ),
@@ -396,11 +404,11 @@ module _ (config : Config) (s : Declared) where
       ) i k e
 
   entity_of_fits : (k : ExportKind) (b : List ℕ) (e : EntityType) (rest : List ℕ) → HasRoom k → ReadsEntityOf config s k b e rest → EntityFits config s.decls e
-  entity_of_fits kind.Global b e rest room (g, mid, r, f, i) = subst (EntityFits config s.decls) (sym i) (among_contains r, room)
-  entity_of_fits kind.Table b e rest room (t, r, i) = subst (EntityFits config s.decls) (sym i) (tt, room)
-  entity_of_fits kind.Memory b e rest room (m, r, i) = subst (EntityFits config s.decls) (sym i) (tt, room)
-  entity_of_fits kind.Tag b e rest room (t, r, i) = subst (EntityFits config s.decls) (sym i) (tt, room)
-  entity_of_fits kind.Func b e rest room (n, r, i) = subst (EntityFits config s.decls) (sym i) (tt, room)
+  entity_of_fits kind.Global b e rest room (g, mid, r, f, i) = subst (EntityFits config s.decls) (sym i) (among_contains r, room.0)
+  entity_of_fits kind.Table b e rest room (t, r, i) = subst (EntityFits config s.decls) (sym i) (elim (element_formed r.element) [ inl f ↦ inl f | inr f ↦ inr f.0 ], room.0)
+  entity_of_fits kind.Memory b e rest room (m, r, i) = subst (EntityFits config s.decls) (sym i) (tt, room.0)
+  entity_of_fits kind.Tag b e rest room (t, r, i) = subst (EntityFits config s.decls) (sym i) (room.1, room.0)
+  entity_of_fits kind.Func b e rest room (n, r, i) = subst (EntityFits config s.decls) (sym i) (tt, room.0)
 
   entity_fits : {b : List ℕ} {e : EntityType} {rest : List ℕ} → ReadsEntity config s b e rest → EntityFits config s.decls e
   entity_fits {e = e} {rest = rest} r = entity_of_fits r.kind r.mid e rest (kind_offered r.choice.place r.kind r.choice.named) r.is
@@ -449,7 +457,7 @@ module _ (config : Config) (around : Scope) where
   within_limits : (own : List Function) (ds : List ModuleDecl) → Within config own ds → core_size (core_module ds) ≤ 100 → ModuleLimits config ds
   within_limits own ds w most = record {
     functions = w.functions;
-    values = w.values;
+    entities = w.values;
     types = omega (arith, w.types, w.few);
     globals = w.counts kind.Global;
     tables = w.counts kind.Table;

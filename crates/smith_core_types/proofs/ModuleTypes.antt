@@ -21,7 +21,7 @@ use Rattle.smith_format.specs.declared.types.ExportKind.TheVariants as kind
 use Rattle.smith_format.specs.declared.types.MemoryType.{MemoryType}
 use Rattle.smith_format.specs.declared.types.ValType.TheVariants.{I32}
 use Rattle.smith_format.specs.contracts.types.ExportKindPartialEq.TheImpl.{ghosts as kinds}
-use Rattle.smith_syntax.specs.CoreLimits.{GlobalLimits}
+use Rattle.smith_syntax.specs.CoreLimits.{EntityLimits}
 use Rattle.smith_syntax.specs.Entries.{CoreEntry, ModuleDecl, imports, declares, aliases, exports}
 use Rattle.smith_core_types.specs.MadeCore.{Declared}
 use Rattle.smith_core_types.specs.MakingCore.{own_after}
@@ -134,7 +134,7 @@ entities_in d = map (λ i. i.2) (import_of d) ++ map (λ x. x.1) (export_of d)
 
 -- there is room for one more of its kind, and a global is of the configured value types
 abbrev pub EntityFits : Config → List ModuleDecl → EntityType → Type 0
-EntityFits config ds e = GlobalLimits config e × (count_of (kind_of e) ds < limit_of config (kind_of e))
+EntityFits config ds e = EntityLimits config e × (count_of (kind_of e) ds < limit_of config (kind_of e))
 
 -- a declaration after these, of which these are the own types
 abbrev pub DeclFits : Config → List CoreEntry → List Function → List ModuleDecl → ModuleDecl → Type 0
@@ -146,7 +146,7 @@ DeclFits config around own ds (exports n e) = EntityFits config ds e
 module _ (config : Config) where
   pub record Within (own : List Function) (ds : List ModuleDecl) : Type 0 where
     pub functions : AllByRecursion (FormedFunction (configured config) (max_results config)) (declared_in ds)
-    pub values : AllByRecursion (GlobalLimits config) (entities_of ds)
+    pub values : AllByRecursion (EntityLimits config) (entities_of ds)
     pub types : type_count ds ≡ length own
     pub few : length own ≤ config.max_types
     pub counts : (k : ExportKind) → count_of k ds ≤ limit_of config k
@@ -154,7 +154,7 @@ module _ (config : Config) where
   -- what one declaration adds
   record Adds (around : List CoreEntry) (own : List Function) (ds : List ModuleDecl) (d : ModuleDecl) : Type 0 where
     functions : AllByRecursion (FormedFunction (configured config) (max_results config)) (func_of d)
-    values : AllByRecursion (GlobalLimits config) (entities_in d)
+    values : AllByRecursion (EntityLimits config) (entities_in d)
     types : length (adds around own d) ≡ length (func_of d) + length (alias_of d)
     few : length own + length (adds around own d) ≤ config.max_types
     counts : (k : ExportKind) → count_of k ds + length (filter (is_of_kind k) (entities_in d)) ≤ limit_of config k
@@ -167,7 +167,7 @@ module _ (config : Config) where
     entity_adds : (d : ModuleDecl) (e : EntityType) → func_of d ≡ [] → adds around own d ≡ [] → alias_of d ≡ [] → entities_in d ≡ e ∷ [] → EntityFits config ds e → Adds around own ds d
     entity_adds d e no_func no_adds no_alias one fits = record {
       functions = subst (AllByRecursion (FormedFunction (configured config) (max_results config))) (sym no_func) tt;
-      values = subst (AllByRecursion (GlobalLimits config)) (sym one) (fits.0, tt);
+      values = subst (AllByRecursion (EntityLimits config)) (sym one) (fits.0, tt);
       types = omega (arith, ap length no_func, ap length no_adds, ap length no_alias);
       few = omega (arith, w.few, ap length no_adds);
       counts = λ k. subst (λ es. count_of k ds + length (filter (is_of_kind k) es) ≤ limit_of config k) (sym one) (count_cases e ds k fits.1 (w.counts k) (kinds.eq (kind_of e) k) refl);
@@ -187,7 +187,7 @@ module _ (config : Config) where
         let long = length-append own (adds around own d) in
         record {
           functions = subst (AllByRecursion (FormedFunction (configured config) (max_results config))) (sym (snoc_flat func_of ds d)) (all_append _ (declared_in ds) (func_of d) w.functions a.functions);
-          values = subst (AllByRecursion (GlobalLimits config)) (sym entities) (all_append (GlobalLimits config) (entities_of ds) (entities_in d) w.values a.values);
+          values = subst (AllByRecursion (EntityLimits config)) (sym entities) (all_append (EntityLimits config) (entities_of ds) (entities_in d) w.values a.values);
           types = let t = ap length (snoc_flat func_of ds d) ∙ length-append (flat_map func_of ds) (func_of d) in
               let u = ap length (snoc_flat alias_of ds d) ∙ length-append (flat_map alias_of ds) (alias_of d) in
               let v = w.types in omega (arith, t, u, v, a.types, long);

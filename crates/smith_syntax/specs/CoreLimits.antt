@@ -1,5 +1,5 @@
 -- The limits of a config within a core type.
-use Rattle.std.specs.Prelude.{ℕ, ◌≤◌, List}
+use Rattle.std.specs.Prelude.{◌≡◌, ◌⊎◌, ℕ, ◌≤◌, true, List}
 use Rattle.std.specs.List.{AllByRecursion, Contains}
 use Rattle.smith_format.specs.Limits.{configured, max_results}
 use Rattle.smith_format.specs.CoreFormed.{FormedFunction}
@@ -7,22 +7,24 @@ use Rattle.smith_format.specs.declared.config.Config.{Config}
 use Rattle.smith_format.specs.declared.types.EntityType.{EntityType}
 use Rattle.smith_format.specs.declared.types.EntityType.TheVariants.{Func, Table, Memory, Global, Tag}
 use Rattle.smith_format.specs.declared.types.ExportKind.TheVariants as kind
+use Rattle.smith_format.specs.declared.types.RefType.TheVariants.{FuncRef}
 use Rattle.smith_syntax.specs.Entries.{CoreEntry, ModuleDecl, core_func, core_module}
 use Rattle.smith_syntax.specs.ModuleTypes.{declared_in, entities_of, type_count, count_of}
 use Rattle.smith_syntax.specs.WellFormed.{core_size}
 
--- globals are of the configured value types
-abbrev pub GlobalLimits : Config → EntityType → Type 0
-GlobalLimits config (Func i) = Unit {0}
-GlobalLimits config (Table t) = Unit {0}
-GlobalLimits config (Memory m) = Unit {0}
-GlobalLimits config (Global g) = Contains (configured config) g.val_type
-GlobalLimits config (Tag t) = Unit {0}
+-- Tables hold functions, or anything where there are reference types; globals are of the configured value types; and tags stand only
+-- where there are exceptions.
+abbrev pub EntityLimits : Config → EntityType → Type 0
+EntityLimits config (Func i) = Unit {0}
+EntityLimits config (Table t) = (t.element_type ≡ FuncRef) ⊎ (config.reference_types_enabled ≡ true)
+EntityLimits config (Memory m) = Unit {0}
+EntityLimits config (Global g) = Contains (configured config) g.val_type
+EntityLimits config (Tag t) = config.exceptions_enabled ≡ true
 
 -- a module type of these declarations
 pub record ModuleLimits (config : Config) (ds : List ModuleDecl) : Type 0 where
   pub functions : AllByRecursion (FormedFunction (configured config) (max_results config)) (declared_in ds)
-  pub values : AllByRecursion (GlobalLimits config) (entities_of ds)
+  pub entities : AllByRecursion (EntityLimits config) (entities_of ds)
   pub types : type_count ds ≤ config.max_types
   pub globals : count_of kind.Global ds ≤ config.max_globals
   pub tables : count_of kind.Table ds ≤ config.max_tables
