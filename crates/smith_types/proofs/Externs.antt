@@ -1,12 +1,17 @@
 -- Names of imports and exports, with their URLs.
-use Rattle.std.proofs.Common.{◌≡◌, ℕ, true, List, [], ◌∷◌, ◌++◌, length, sym, ap, ◌∙◌, append-nil}
+use Rattle.std.proofs.Common.{◌≡◌, ℕ, ◌+◌, ◌||◌, Bool, true, false, cond, if◌then◌else◌, List, [], ◌∷◌, ◌++◌, length, refl, sym, ap, ◌∙◌, subst, arith, append-nil, bytes_eq, string_bytes}
 use Rattle.std.proofs.lemmas.List.{map-append}
 use Rattle.std.proofs.lemmas.List.Concat.{flat_map-append}
-use Rattle.std.specs.BTreeSet.{BTreeSet, btree_set_len}
+use Rattle.std.proofs.lemmas.Map.Text.{btree_set_updates_text}
+use Rattle.std.proofs.lemmas.Slice.Eq.{bytes_eq-Decides}
+use Rattle.std.specs.BTreeSet.{BTreeSet, btree_set_len, contains_text, UpdatesBy}
+use Rattle.std.specs.Cmp.Lexicographic.{slice_cmp}
+use Rattle.std.specs.Ordering.{nat_cmp}
+use Rattle.std.specs.String.{string_cmp}
 use Rattle.std.specs.Fmt.{decimal}
 use Rattle.std.specs.Prelude.{Some}
 use Rattle.std.specs.declared.string.String.{String}
-use Rattle.smith_input.specs.Names.{appended, is_among, Holds, IsMadeUnique, IsUniqueIn, ReadsUrl}
+use Rattle.smith_input.specs.Names.{appended, is_among, Holds, IsMadeUnique, IsUniqueIn, GainsName, ReadsUrl}
 use Rattle.smith_input.specs.Reading.{Flips}
 use Rattle.smith_syntax.specs.WellFormed.{names}
 use Rattle.smith_types.specs.Declarations.{NamedExtern, ReadsMaybeUrl, a_url, url_name, url_names}
@@ -32,3 +37,30 @@ module _ {A : Type 0} where
   -- A URL was read, whose name is new.
   pub url_read : {old new : BTreeSet (String A)} {used : List (List ℕ)} {bytes mid url rest : List ℕ} → Holds old used → Flips bytes true mid → ReadsUrl 100 old new mid url rest → ReadsMaybeUrl used bytes (Some url) rest
   url_read h f (text, name, is, reads, unique, kebab, gained) = a_url f (record { text = text; reads = reads; unique = new_among h unique }) (ap Some is)
+
+-- a set that loses a name that it gained
+
+without : (b had : Bool) → (b ≡ true → had ≡ false) → cond b false (b || had) ≡ had
+without true had new = sym (new refl)
+without false had new = refl
+
+module _ {A : Type 0} where
+  -- The set has what it had before it gained the name.
+  pub holds_again : {old more new : BTreeSet (String A)} {name taken : List ℕ} {held : List (List ℕ)} {there : Bool} → Holds old held → contains_text old name ≡ false → GainsName old more name → taken ≡ name
+      → UpdatesBy string_cmp (λ k. slice_cmp nat_cmp taken (string_bytes k)) more new false → there ≡ contains_text more taken → btree_set_len new + (if there then 1 else 0) ≡ btree_set_len more → Holds new held
+  holds_again {old = old} {more = more} {new = new} {name = name} {taken = taken} {there = there} h absent gained same updates t len =
+      let itself : bytes_eq name name ≡ true = (bytes_eq-Decides name name).1 refl in
+      let was_there : there ≡ true = t ∙ (ap (contains_text more) same ∙ (gained.has name ∙ ap (λ b. b || contains_text old name) itself)) in
+      let less : btree_set_len new + 1 ≡ btree_set_len more = sym (ap (λ b. btree_set_len new + (if b then 1 else 0)) was_there) ∙ len in
+      record {
+        has = λ q.
+            btree_set_updates_text taken more new false updates q
+            ∙ (ap (λ bs. cond (bytes_eq bs q) false (contains_text more q)) same
+            ∙ (ap (cond (bytes_eq name q) false) (gained.has q)
+            ∙ (without (bytes_eq name q) (contains_text old q) (λ e. ap (contains_text old) (sym ((bytes_eq-Decides name q).0 e)) ∙ absent) ∙ h.has q)));
+        size = omega (arith, less, gained.size, h.size);
+      }
+
+  -- A set with the same keys has the same names.
+  pub holds_same : {old new : BTreeSet (String A)} {held : List (List ℕ)} → Holds old held → new.keys ≡ old.keys → Holds new held
+  holds_same {held = held} h e = subst (λ ks. Holds (record { keys = ks }) held) (sym e) h

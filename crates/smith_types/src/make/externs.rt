@@ -1,6 +1,6 @@
 //! Names of imports and exports, from the input.
 
-ghost use Rattle.std.specs.Prelude.{◌≡◌, List, [], ◌∷◌, ◌++◌, length, string_bytes, IfOk, IfErr};
+ghost use Rattle.std.specs.Prelude.{◌≡◌, List, [], ◌∷◌, ◌++◌, length, string_bytes, IfOk, IfErr, OnErr};
 ghost use Rattle.smith_input.specs.Reading.{IsTail};
 ghost use Rattle.smith_syntax.specs.Shown.{shown_url};
 ghost use Rattle.smith_types.specs.Declarations.{NamedExtern, ReadsMaybeUrl, ReadsNamedExtern, url_name, url_names};
@@ -48,6 +48,7 @@ fn maybe_url(
         → IfOk result (λ url. ReadsMaybeUrl used u.old (shown_url url) u.new) }
     ensures names { (used : List _) → Holds urls.old used
         → IfOk result (λ url. Holds urls.new (used ++ url_name (shown_url url))) }
+    ensures refused { OnErr result (urls.new.keys ≡ urls.old.keys) }
     ensures memory { IfErr result (λ e. e ≡ Error.OutOfMemory) }
     ensures tail { IsTail u.new u.old }
 {
@@ -59,7 +60,8 @@ fn maybe_url(
 }
 
 /// A name in kebab case that is new among those so far, a boolean, and where it is true a URL, which has a name that no
-/// URL has so far. Both are among the names so far then. It refuses for want of memory alone.
+/// URL has so far. Both are among the names so far then. It refuses for want of memory alone, and the names so far,
+/// and those in URLs, are then as before.
 pub fn named_extern(
     alloc: Global,
     u: &mut Unstructured,
@@ -69,10 +71,18 @@ pub fn named_extern(
         → IfOk result (λ n. ReadsNamedExtern so_far u.old (string_bytes n.0, shown_url n.1) u.new) }
     ensures names { (so_far : List NamedExtern) → HoldsExterns externs.old so_far
         → IfOk result (λ n. HoldsExterns externs.new (so_far ++ (string_bytes n.0, shown_url n.1) ∷ [])) }
+    ensures refused { (so_far : List NamedExtern) → HoldsExterns externs.old so_far
+        → OnErr result (HoldsExterns externs.new so_far) }
     ensures memory { IfErr result (λ e. e ≡ Error.OutOfMemory) }
     ensures tail { IsTail u.new u.old }
 {
     let name = unique_kebab_string(alloc, 100, &mut externs.names, u)?;
-    let url = maybe_url(alloc, u, &mut externs.urls)?;
-    Ok((name, url))
+    match maybe_url(alloc, u, &mut externs.urls) {
+        Ok(url) => Ok((name, url)),
+        Err(refused) => {
+            // The name was gained before the URL was refused.
+            externs.names.remove(name.as_str());
+            Err(refused)
+        }
+    }
 }
