@@ -106,12 +106,14 @@ impl Progress {
     // One turn. It answers the component, if that is finished.
     pub(crate) fn turn(&mut self, u: &mut Unstructured) -> Result<Option<Component>, Error>
         requires sound { IsSound self.old }
-        ensures turn { IfOk result (λ c. Turn self.old.config (stack_of self.old) u.old (next_of (step_of self.new c)) u.new) }
+        ensures turn { IfOk result
+            (λ c. Turn self.old.config (stack_of self.old) u.old (next_of (step_of self.new c)) u.new) }
         ensures sound { IfOk result (λ c. SoundUnlessDone self.new c) }
         ensures keeps { IfOk result (λ c. StaysSound self.old.config (step_of self.new c)) }
         ensures sections { IfOk result (λ c. KeepsSections (building_of self.old) (step_of self.new c)) }
         ensures refuses { IfErr result (IsStepRefusal self.old.config (stack_of self.old) u.old) }
-        ensures unread { IfErr result (λ e. e ≡ Error.ModuleRefused → IsChosen self.old.config (stack_of self.old) u.old Module u.new) }
+        ensures unread { IfErr result (λ e. e ≡ Error.ModuleRefused
+            → IsChosen self.old.config (stack_of self.old) u.old Module u.new) }
         ensures alone { IsReady self.old.config (stack_of self.old) u.old → IsAnswered result }
         ensures tail { IsTail u.new u.old }
     {
@@ -173,7 +175,8 @@ impl Builder {
         ensures accepted { IsConsistent self.config }
         ensures refuses { IfErr result (IsStepRefusal self.config (open_of self) u.old) }
         // Where a core module is refused, what stands behind its choice is left.
-        ensures unread { IfErr result (λ e. e ≡ Error.ModuleRefused → IsChosen self.config (open_of self) u.old Module u.new) }
+        ensures unread { IfErr result (λ e. e ≡ Error.ModuleRefused
+            → IsChosen self.config (open_of self) u.old Module u.new) }
         // The root is finished without memory where no input is left and it lacks nothing.
         ensures alone { IsReady self.config (open_of self) u.old → IsAnswered result }
         ensures fills { CanFill self.config (open_of self).inner → IfErr result (λ e. ¬ (e ≡ Error.MinimumNotMet)) }

@@ -46,7 +46,8 @@ pub fn function_imports_choose_no_kind()
 /// A type that is read, on any input, needs no more fuel than there was, and declares types only where one more scope
 /// may nest.
 pub fn answers_need_no_more()
-    ensures { (config : Config) (own : Scope) (outer : List Scope) (bytes : List ℕ) (fuel : ℕ) (made : FullEntry) (rest : List ℕ) (left : ℕ)
+    ensures { (config : Config) (own : Scope) (outer : List Scope) (bytes : List ℕ) (fuel : ℕ) (made : FullEntry)
+        (rest : List ℕ) (left : ℕ)
         → Made config own outer bytes fuel made rest left
         → (need (plain made) ≤ fuel) × Nests (plain made) config (length (own ∷ outer)) }
 {}

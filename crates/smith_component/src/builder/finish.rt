@@ -43,12 +43,14 @@ impl Progress {
     // Adds what lacks of a minimum, as far as it can be added.
     fn fill_one(&mut self, what: Counted, u: &mut Unstructured) -> Result<(), Error>
         requires sound { IsSound self.old }
-        ensures filled { OnOk result (Fills what self.old.config (stack_of self.old) u.old (stack_of self.new).inner u.new) }
+        ensures filled { OnOk result
+            (Fills what self.old.config (stack_of self.old) u.old (stack_of self.new).inner u.new) }
         ensures sound { OnOk result (IsSound self.new) }
         ensures keeps { OnOk result (self.new.config ≡ self.old.config) }
         ensures sections { OnOk result (AddsSections (building_of self.old) (building_of self.new)) }
         ensures memory { IfErr result (λ e. e ≡ Error.OutOfMemory) }
-        ensures nothing { minimum_of what self.old.config ≤ count_of what (stack_of self.old).inner → IsAnswered result }
+        ensures nothing { minimum_of what self.old.config ≤ count_of what (stack_of self.old).inner
+            → IsAnswered result }
         ensures tail { IsTail u.new u.old }
     {
         let count = self.count(what);
@@ -73,7 +75,8 @@ impl Progress {
     // Adds what lacks of the minima: types, then imports, then functions.
     fn fill(&mut self, u: &mut Unstructured) -> Result<(), Error>
         requires sound { IsSound self.old }
-        ensures filled { OnOk result (FillsAll self.old.config (stack_of self.old) u.old (stack_of self.new).inner u.new) }
+        ensures filled { OnOk result
+            (FillsAll self.old.config (stack_of self.old) u.old (stack_of self.new).inner u.new) }
         ensures minima { OnOk result (Minima self.old.config (stack_of self.new).inner) }
         ensures sound { OnOk result (IsSound self.new) }
         ensures keeps { OnOk result (self.new.config ≡ self.old.config) }
@@ -119,12 +122,14 @@ impl Progress {
     // What lacks is added, and then the inner component is finished.
     pub(crate) fn finish(&mut self, u: &mut Unstructured) -> Result<Option<Component>, Error>
         requires sound { IsSound self.old }
-        ensures done { IfOk result (λ c. Does self.old.config Finish (stack_of self.old) u.old (next_of (step_of self.new c)) u.new) }
+        ensures done { IfOk result
+            (λ c. Does self.old.config Finish (stack_of self.old) u.old (next_of (step_of self.new c)) u.new) }
         ensures sound { IfOk result (λ c. SoundUnlessDone self.new c) }
         ensures keeps { IfOk result (λ c. StaysSound self.old.config (step_of self.new c)) }
         ensures sections { IfOk result (λ c. KeepsSections (building_of self.old) (step_of self.new c)) }
         ensures refuses { IfErr result (IsFillRefusal self.old.config (stack_of self.old) u.old) }
-        ensures alone { (stack_of self.old).outer ≡ [] → Minima self.old.config (stack_of self.old).inner → IsAnswered result }
+        ensures alone { (stack_of self.old).outer ≡ [] → Minima self.old.config (stack_of self.old).inner
+            → IsAnswered result }
         ensures tail { IsTail u.new u.old }
     {
         self.fill(u)?;

@@ -28,7 +28,8 @@ fn read_import(
     u: &mut Unstructured,
 ) -> Result<Option<Import>, Error>
     requires consistent { IsConsistent config.now }
-    ensures imports { (stack : Open) (is : List ImportEntry) → Importing stack is (own_scope scopes.now) totals.old tables.old
+    ensures imports { (stack : Open) (is : List ImportEntry)
+        → Importing stack is (own_scope scopes.now) totals.old tables.old
         → IfOk result (λ i. ImportsOne config.now stack is (own_scope scopes.now) totals.new tables.new u.old i u.new) }
     ensures memory { IfErr result (λ e. e ≡ Error.OutOfMemory) }
     ensures tail { IsTail u.new u.old }

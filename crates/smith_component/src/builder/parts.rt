@@ -29,7 +29,8 @@ impl Progress {
         requires sound { IsSound self.old }
         requires quiet { IsQuiet (shown_section section) }
         requires addable { IsAddable self.old.config (stack_of self.old) (shown_section section) }
-        ensures added { OnOk result (building (stack_of self.new) ≡ with_part (stack_of self.old) (shown_section section)) }
+        ensures added { OnOk result
+            (building (stack_of self.new) ≡ with_part (stack_of self.old) (shown_section section)) }
         ensures sound { OnOk result (IsSound self.new) }
         ensures keeps { OnOk result (self.new.config ≡ self.old.config) }
         ensures sections { OnOk result (AddsSections (building_of self.old) (building_of self.new)) }
@@ -44,7 +45,8 @@ impl Progress {
     // A custom section that is read.
     pub(crate) fn add_custom(&mut self, u: &mut Unstructured) -> Result<(), Error>
         requires sound { IsSound self.old }
-        ensures added { OnOk result (Does self.old.config Custom (stack_of self.old) u.old (building (stack_of self.new)) u.new) }
+        ensures added { OnOk result
+            (Does self.old.config Custom (stack_of self.old) u.old (building (stack_of self.new)) u.new) }
         ensures sound { OnOk result (IsSound self.new) }
         ensures keeps { OnOk result (self.new.config ≡ self.old.config) }
         ensures sections { OnOk result (AddsSections (building_of self.old) (building_of self.new)) }
@@ -59,7 +61,8 @@ impl Progress {
     pub(crate) fn add_module(&mut self, u: &mut Unstructured) -> Result<(), Error>
         requires sound { IsSound self.old }
         requires offered { IsTrue (is_module_offered self.old.config (stack_of self.old)) }
-        ensures added { OnOk result (Does self.old.config item.Module (stack_of self.old) u.old (building (stack_of self.new)) u.new) }
+        ensures added { OnOk result
+            (Does self.old.config item.Module (stack_of self.old) u.old (building (stack_of self.new)) u.new) }
         ensures sound { OnOk result (IsSound self.new) }
         ensures keeps { OnOk result (self.new.config ≡ self.old.config) }
         ensures sections { OnOk result (AddsSections (building_of self.old) (building_of self.new)) }
@@ -74,7 +77,8 @@ impl Progress {
     // A core type section, with as many core types as the component may still have.
     pub(crate) fn add_core_types(&mut self, u: &mut Unstructured) -> Result<(), Error>
         requires sound { IsSound self.old }
-        ensures added { OnOk result (Does self.old.config CoreTypes (stack_of self.old) u.old (building (stack_of self.new)) u.new) }
+        ensures added { OnOk result
+            (Does self.old.config CoreTypes (stack_of self.old) u.old (building (stack_of self.new)) u.new) }
         ensures sound { OnOk result (IsSound self.new) }
         ensures keeps { OnOk result (self.new.config ≡ self.old.config) }
         ensures sections { OnOk result (AddsSections (building_of self.old) (building_of self.new)) }
@@ -100,7 +104,8 @@ impl Progress {
     pub(super) fn add_types(&mut self, min: usize, u: &mut Unstructured) -> Result<(), Error>
         requires sound { IsSound self.old }
         requires room { length (types_of (stack_of self.old).inner) + min ≤ self.old.config.max_types }
-        ensures added { OnOk result (AddsTypes self.old.config min (stack_of self.old) u.old (stack_of self.new).inner u.new) }
+        ensures added { OnOk result
+            (AddsTypes self.old.config min (stack_of self.old) u.old (stack_of self.new).inner u.new) }
         ensures sound { OnOk result (IsSound self.new) }
         ensures keeps { OnOk result (self.new.config ≡ self.old.config) }
         ensures sections { OnOk result (AddsSections (building_of self.old) (building_of self.new)) }
@@ -126,7 +131,8 @@ impl Progress {
     pub(super) fn add_imports(&mut self, min: usize, u: &mut Unstructured) -> Result<(), Error>
         requires sound { IsSound self.old }
         requires room { length (imports_of (stack_of self.old).inner) + min ≤ self.old.config.max_imports }
-        ensures added { OnOk result (AddsImports self.old.config min (stack_of self.old) u.old (stack_of self.new).inner u.new) }
+        ensures added { OnOk result
+            (AddsImports self.old.config min (stack_of self.old) u.old (stack_of self.new).inner u.new) }
         ensures sound { OnOk result (IsSound self.new) }
         ensures keeps { OnOk result (self.new.config ≡ self.old.config) }
         ensures sections { OnOk result (AddsSections (building_of self.old) (building_of self.new)) }
@@ -154,7 +160,8 @@ impl Progress {
     pub(super) fn add_canonicals(&mut self, min: usize, u: &mut Unstructured) -> Result<(), Error>
         requires sound { IsSound self.old }
         requires room { function_count (stack_of self.old).inner + min ≤ self.old.config.max_funcs }
-        ensures added { OnOk result (AddsCanons self.old.config min (stack_of self.old) u.old (stack_of self.new).inner u.new) }
+        ensures added { OnOk result
+            (AddsCanons self.old.config min (stack_of self.old) u.old (stack_of self.new).inner u.new) }
         ensures sound { OnOk result (IsSound self.new) }
         ensures keeps { OnOk result (self.new.config ≡ self.old.config) }
         ensures sections { OnOk result (AddsSections (building_of self.old) (building_of self.new)) }

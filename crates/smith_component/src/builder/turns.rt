@@ -21,7 +21,8 @@ impl Progress {
     ) -> Result<(), Error>
         requires sound { IsSound self.old }
         requires room { count_of what (stack_of self.old).inner + min ≤ maximum_of what self.old.config }
-        ensures added { OnOk result (Adds what self.old.config min (stack_of self.old) u.old (stack_of self.new).inner u.new) }
+        ensures added { OnOk result
+            (Adds what self.old.config min (stack_of self.old) u.old (stack_of self.new).inner u.new) }
         ensures sound { OnOk result (IsSound self.new) }
         ensures keeps { OnOk result (self.new.config ≡ self.old.config) }
         ensures sections { OnOk result (AddsSections (building_of self.old) (building_of self.new)) }
@@ -38,7 +39,8 @@ impl Progress {
     // A turn that adds any number.
     pub(crate) fn section_turn(&mut self, what: Counted, u: &mut Unstructured) -> Result<(), Error>
         requires sound { IsSound self.old }
-        ensures added { OnOk result (AddsAny what self.old.config (stack_of self.old) u.old (building (stack_of self.new)) u.new) }
+        ensures added { OnOk result
+            (AddsAny what self.old.config (stack_of self.old) u.old (building (stack_of self.new)) u.new) }
         ensures sound { OnOk result (IsSound self.new) }
         ensures keeps { OnOk result (self.new.config ≡ self.old.config) }
         ensures sections { OnOk result (AddsSections (building_of self.old) (building_of self.new)) }
