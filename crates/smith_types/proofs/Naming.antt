@@ -23,7 +23,7 @@ use Rattle.smith_syntax.specs.declared.deftype.ComponentTypeRef.TheVariants as t
 use Rattle.smith_scopes.proofs.Places.{get_left, get_right, place_found}
 use Rattle.smith_scopes.proofs.Stack.{length-places}
 use Rattle.smith_types.specs.Declarations.{NamedExtern, ReadsNamedExtern, no_url, ReadsAlias, NoImport, in_instance, nothing_there, not_asked}
-use Rattle.smith_types.specs.Offers.{has_reference, is_occupied, occupied, numbered, aliases_of, declaration_offers, declaration_items, ref_offers, ref_kinds, ref_places, has_place, allows_one, allows_equal}
+use Rattle.smith_types.specs.Offers.{IsAllowed, has_reference, is_occupied, occupied, numbered, aliases_of, declaration_offers, declaration_items, ref_offers, ref_kinds, ref_places, has_place, allows_one, allows_equal}
 use Rattle.smith_types.specs.References.{ref_to, ReadsRef}
 use Rattle.smith_types.specs.Script.{kind_in, index_in, script_ref, script_label, script_extern, script_entry, script_alias, script_no_import, script_item, Fit}
 use Rattle.smith_types.specs.contracts.make.declarations.DeclarationItem.{the_type as item_type}
@@ -60,14 +60,6 @@ some_there xs k x h = below (length xs) (omega (arith, slice_get_within xs k x h
     below n h = grind (arith, nat_tests)
 
 -- references
-
--- how many more may be had of what a reference is of
-abbrev pub IsAllowed : Config → Scope → RefTotals → Bool → Bool → ComponentTypeRef → Type 0
-IsAllowed config own totals for_import for_type_def (to.Module i) = allows_one for_import for_type_def totals.modules config.max_modules ≡ true
-IsAllowed config own totals for_import for_type_def (to.TypeEq i) = allows_equal config own for_import for_type_def ≡ true
-IsAllowed config own totals for_import for_type_def (to.Func i) = allows_one for_import for_type_def totals.funcs config.max_funcs ≡ true
-IsAllowed config own totals for_import for_type_def (to.Component i) = allows_one for_import for_type_def totals.components config.max_components ≡ true
-IsAllowed config own totals for_import for_type_def (to.Instance i) = allows_one for_import for_type_def totals.instances config.max_instances ≡ true
 
 module _ (own : Scope) where
   ref_index : (r : ComponentTypeRef) → FormedRef own r → (k : ℕ) × (slice_get (ref_places own (kind_in r)) k ≡ Some (index_in r))
