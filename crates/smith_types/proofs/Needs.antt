@@ -13,7 +13,7 @@ use Rattle.smith_core_types.proofs.ModuleFronts.{front_is}
 use Rattle.smith_types.specs.Declarations.{SoFar, nothing_so_far, after_one}
 use Rattle.smith_types.specs.Made.{ReadsMembers, MadeMembers, MadeAs, MadeFunction, or_bool, Made, spent_type, made_defined, made_function, made_component, made_instance}
 use Rattle.smith_types.specs.Made.{MadeDeclaration, made_import, made_export, made_alias, made_core_type, made_type, MadeDeclarations, no_more_decls, spent_decls, one_decl}
-use Rattle.smith_types.specs.Needs.{used, need_of, core_need, need, decl_need, decls_need, Nests, DeclNests, DeclsNest}
+use Rattle.smith_types.specs.Needs.{need_of, core_need, need, decl_need, decls_need, Nests, DeclNests, DeclsNest}
 use Rattle.smith_types.specs.Script.{cost, core_cost, decl_cost, decls_cost}
 use Rattle.smith_types.specs.declared.make.declarations.DeclarationItem.TheVariants as item
 use Rattle.smith_types.specs.declared.make.defined.DefinedKind.{DefinedKind}
@@ -21,6 +21,11 @@ use Rattle.smith_types.specs.declared.make.defined.DefinedKind.TheVariants as ki
 use Rattle.smith_types.proofs.DeclarationsRead.{alias_holds, item_offered}
 use Rattle.smith_types.proofs.Made.{defined_within, function_within}
 use Rattle.smith_types.proofs.Members.{members_size}
+
+-- Turns of a loop: none needs fuel where there is none, and else one is left behind the last.
+abbrev used : ℕ → ℕ
+used zero = 0
+used (suc n) = suc n + 1
 
 -- loops
 

@@ -6,11 +6,6 @@ use Rattle.smith_syntax.specs.Entries.{Decl, Decls, core_type_decl, type_decl, t
 use Rattle.smith_syntax.specs.WellFormed.{size, defined_size, core_size}
 use Rattle.smith_types.specs.Script.{decl_cost}
 
--- Turns of a loop: none needs fuel where there is none, and else one is left behind the last.
-abbrev pub used : ℕ → ℕ
-used zero = 0
-used (suc n) = suc n + 1
-
 -- A type of values without members needs none: where the fuel does not last a type is one of values.
 abbrev pub need_of : ℕ → ℕ
 need_of zero = 0
