@@ -1,7 +1,8 @@
 -- A canonical section as the program makes it.
-use Rattle.std.proofs.Common.{◌≡◌, ◌⊎◌, inl, inr, ℕ, ◌+◌, ◌-◌, ◌<◌, ◌≤◌, Bool, true, false, List, [], ◌∷◌, ◌++◌, map, length, get_or, sym, ap, ◌∙◌, subst, arith, append-nil, append_assoc, length-append, Some}
+use Rattle.std.proofs.Common.{◌≡◌, ◌⊎◌, inl, inr, ℕ, ◌+◌, ◌-◌, ◌<◌, ◌≤◌, Bool, true, false, List, [], ◌∷◌, ◌++◌, map, length, get_or, refl, sym, ap, ◌∙◌, subst, arith, append-nil, append_assoc, length-append, Some}
 use Rattle.std.proofs.lemmas.Bool.{false≢true}
 use Rattle.std.proofs.lemmas.List.{map-append, nil_from_length}
+use Rattle.std.proofs.lemmas.List.Concat.{flat_map-append}
 use Rattle.std.proofs.lemmas.Option.{get_or_from_slice_get, slice_get-get_or, slice_get_within}
 use Rattle.std.specs.Prelude.{slice_get}
 use Rattle.std.specs.declared.alloc.Global.{Global}
@@ -24,11 +25,13 @@ use Rattle.smith_syntax.specs.declared.func.FuncType.{FuncType}
 use Rattle.smith_syntax.specs.declared.types.DefinedType.{DefinedType}
 use Rattle.smith_syntax.proofs.Shown.{full_defined, full_func, full_component, full_instance}
 use Rattle.smith_types.specs.Lifting.{ReadsLifted}
+use Rattle.smith_types.specs.MakingTypes.{HoldsExterns}
 use Rattle.smith_scopes.specs.Scopes.{AddsType, Contents, last_of, own_scope}
 use Rattle.smith_types.proofs.Declaring.{equal_shown}
 use Rattle.smith_scopes.proofs.Stack.{grown as scopes_grown, length-last}
 use Rattle.smith_component.specs.Canonicals.{CanonTurn, Growing, NoCanon, ReadsCanons, empty_section, equal_types, grown, spaces_at, with_canon, with_defined, LiftsTo, to_equal, to_defined, given_up, ReadsLift, ReadsLower}
 use Rattle.smith_component.specs.Draft.{IsDraft, IsDrafted, IsLowered, KeepsFront, LiftsAs, growing}
+use Rattle.smith_component.specs.SectionValues.{externs_in, externs_of}
 use Rattle.smith_component.specs.Shown.{shown_canon, shown_sections}
 use Rattle.smith_component.specs.Tables.{AddsCoreFunction, AddsFunction, IsLowerable, Tabled}
 use Rattle.smith_component.specs.Tree.{Tree, Canon, add, canons, types, lift, lower, core_functions_of, function_count}
@@ -59,20 +62,18 @@ tabled_lower : {old new : Tables} (s : Growing) (f : ℕ) → IsScalarFunction (
 tabled_lower s f scalar tabled adds =
     let e = spaces_canon s.before s.funcs (lower f) in
     tabled_core_function (grown s) (grown (with_canon s (lower f))) scalar tabled adds (ap (λ z. z.types) e) (ap (λ z. z.functions) e ∙ append-nil (spaces_at s).functions) (ap (λ z. z.core_functions) e)
-    (imports_canons s.before (s.funcs ++ lower f ∷ []) ∙ sym (imports_canons s.before s.funcs))
 
 tabled_lift : {own : Scope} {old new : Tables} (s : Growing) (c t : ℕ) → own ≡ scope_of (grown s) → t < length own.types → Tabled old (grown s) → AddsFunction own old t new → Tabled new (grown (with_canon s (lift c t)))
 tabled_lift {own} s c t is known tabled adds =
     let e = spaces_canon s.before s.funcs (lift c t) in
     tabled_function (grown s) (grown (with_canon s (lift c t))) is (omega (arith, known, ap (λ z. length z.types) is)) tabled adds
     (ap (λ z. z.types) e) (ap (λ z. z.functions) e) (ap (λ z. z.core_functions) e ∙ append-nil (spaces_at s).core_functions)
-    (imports_canons s.before (s.funcs ++ lift c t ∷ []) ∙ sym (imports_canons s.before s.funcs))
 
 tabled_signature : {tables : Tables} (s : Growing) (signature : Signature) → Tabled tables (grown s) → Tabled tables (grown (with_signature s signature))
 tabled_signature s signature tabled =
     let es : List Entry = function signature ∷ [] in
     let e = spaces_signature s signature in
-    tabled_types (grown s) (grown (with_signature s signature)) es tabled (ap (λ z. z.types) e) (ap (λ z. z.functions) e) (ap (λ z. z.core_functions) e) (imports_canons (add (grown s) (types es)) [] ∙ imports_types (grown s) es)
+    tabled_types (grown s) (grown (with_signature s signature)) es tabled (ap (λ z. z.types) e) (ap (λ z. z.functions) e) (ap (λ z. z.core_functions) e)
 
 scope_canon : (s : Growing) (c : Canon) → scope_of (grown (with_canon s c)) ≡ scope_of (grown s)
 scope_canon s c = scope_canons s.before (s.funcs ++ c ∷ []) ∙ sym (scope_canons s.before s.funcs)
@@ -284,7 +285,7 @@ first_draft scopes component funcs none is tabled =
     record {
       scope_is = is ∙ sym (ap (λ z. scope_of (grown z)) same ∙ scope_canons t []);
       tabled = subst (λ z. Tabled component.tables (grown z)) (sym same)
-          (tabled_quiet t (add t (canons [])) tabled (ap (λ z. z.types) e) (ap (λ z. z.functions) e) (ap (λ z. z.core_functions) e) (imports_canons t []));
+          (tabled_quiet t (add t (canons [])) tabled (ap (λ z. z.types) e) (ap (λ z. z.functions) e) (ap (λ z. z.core_functions) e));
     }
 
 pub first_count : (component : OpenComponent) (funcs : List Func) → funcs ≡ [] → function_count (grown (growing component funcs)) ≡ function_count (shown_sections component.sections.items)
@@ -303,17 +304,27 @@ all_read config least most t first next b rest e m (turns, l) last is =
 
 -- What stood in front stays in front.
 
-pub front_same : (old new : OpenComponent) → new.sections.items ≡ old.sections.items → KeepsFront old new
-front_same old new e = record { more = []; sections = e ∙ sym (append-nil old.sections.items) }
+pub front_same : (old new : OpenComponent) → new.sections.items ≡ old.sections.items → new.tables.imports ≡ old.tables.imports → KeepsFront old new
+front_same old new e names = record { more = []; sections = e ∙ sym (append-nil old.sections.items); no_imports = refl; names = names }
 
 pub front_then : (old mid new : OpenComponent) → KeepsFront old mid → KeepsFront mid new → KeepsFront old new
 front_then old mid new f g = record {
   more = f.more ++ g.more;
   sections = g.sections ∙ (ap (λ xs. xs ++ g.more) f.sections ∙ append_assoc old.sections.items f.more g.more);
+  no_imports = flat_map-append externs_in f.more g.more ∙ (ap (λ xs. xs ++ externs_of g.more) f.no_imports ∙ g.no_imports);
+  names = g.names ∙ f.names;
 }
 
-pub front_push : (old mid new : OpenComponent) (section : Section) → KeepsFront old mid → new.sections.items ≡ mid.sections.items ++ section ∷ [] → KeepsFront old new
-front_push old mid new section f e = front_then old mid new f (record { more = section ∷ []; sections = e })
+pub front_push : (old mid new : OpenComponent) (section : Section) → KeepsFront old mid → new.sections.items ≡ mid.sections.items ++ section ∷ [] → externs_in section ≡ [] → new.tables.imports ≡ mid.tables.imports → KeepsFront old new
+front_push old mid new section f e none names =
+    front_then old mid new f (record { more = section ∷ []; sections = e; no_imports = ap (λ xs. xs ++ []) none; names = names })
+
+-- A draft's names are those of its imports then.
+pub front_externs : (old new : OpenComponent) → KeepsFront old new → HoldsExterns old.tables.imports (externs_of old.sections.items) → HoldsExterns new.tables.imports (externs_of new.sections.items)
+front_externs old new f h =
+    let same : externs_of new.sections.items ≡ externs_of old.sections.items =
+    ap externs_of f.sections ∙ (flat_map-append externs_in old.sections.items f.more ∙ (ap (λ xs. externs_of old.sections.items ++ xs) f.no_imports ∙ append-nil (externs_of old.sections.items))) in
+    subst (λ names. HoldsExterns names (externs_of new.sections.items)) (sym f.names) (subst (HoldsExterns old.tables.imports) (sym same) h)
 
 -- What a turn of the program is.
 

@@ -22,6 +22,7 @@ pub mod Refusals
 pub mod Reproducible
 pub mod RunsTo
 pub mod Script
+pub mod SectionValues
 pub mod Shown
 pub mod Sound
 pub mod Spaces

@@ -8,7 +8,7 @@ use Rattle.smith_input.proofs.Loops.{loop_tail, loop_gives, loop_all, loop_same,
 use Rattle.smith_format.specs.declared.config.Config.{Config}
 use Rattle.smith_syntax.specs.CoreLimits.{CoreLimits}
 use Rattle.smith_syntax.specs.Entries.{CoreEntry}
-use Rattle.smith_syntax.specs.Scope.{Scope, with_core_type, with_core_types, own_of}
+use Rattle.smith_syntax.specs.Scope.{Scope, with_core_type, with_core_types}
 use Rattle.smith_syntax.specs.WellFormed.{FormedCores}
 use Rattle.smith_core_types.proofs.MadeCore.{made_core_tail, made_core_formed, made_core_limits, made_core_size, made_core_same}
 use Rattle.smith_scopes.proofs.Stack.{with_core_none}
@@ -68,10 +68,3 @@ module _ (config : Config) where
   pub core_types_read : (xs : List CoreEntry) (max : ℕ) (own : Scope) (rest : List ℕ) → AllByRecursion (CoreLimits config) xs → AllByRecursion (LastsCore config.max_type_size) xs → length xs ≤ max
       → ReadsCoreTypes config max own (script_core_types config max own xs ++ rest) xs rest (after_all with_core_type own xs)
   core_types_read xs max own rest f l few = loop_read (λ s x. script_core config x) with_core_type Said one_read xs 0 own rest (all_said xs own f l) (omega arith) (omega arith)
-
--- The same where the scopes and the room are known by equations.
-pub core_types_read_where : (config : Config) (scopes outer : List Scope) (own : Scope) (max room : ℕ) {next : Scope} {b rest : List ℕ} {xs : List CoreEntry} → scopes ≡ own ∷ outer → max ≡ room → ReadsCoreTypes config max (own_of scopes) b xs rest next → ReadsCoreTypes config room own b xs rest next
-core_types_read_where config scopes outer own max room {next} {b} {rest} {xs} e m r =
-    let P : ℕ → Type 0 = λ n. ReadsCoreTypes config n own b xs rest next in
-    let Q : List Scope → Type 0 = λ ss. ReadsCoreTypes config max (own_of ss) b xs rest next in
-    subst P m (subst Q e r)

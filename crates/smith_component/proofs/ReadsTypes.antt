@@ -7,7 +7,7 @@ use Rattle.smith_input.specs.Reading.{IsTail}
 use Rattle.smith_input.proofs.Loops.{loop_tail, loop_gives, loop_all, loop_enough, loop_same, loop_read}
 use Rattle.smith_format.specs.declared.config.Config.{Config}
 use Rattle.smith_syntax.specs.Entries.{Entry}
-use Rattle.smith_syntax.specs.Scope.{Scope, with_type, with_types, own_of, outer_of}
+use Rattle.smith_syntax.specs.Scope.{Scope, with_type, with_types}
 use Rattle.smith_types.specs.Script.{script_type, Fit, Lasts}
 use Rattle.smith_syntax.specs.TypeLimits.{EntryLimits, nesting}
 use Rattle.smith_syntax.specs.WellFormed.{FormedEntry, FormedTypes}
@@ -99,10 +99,3 @@ module _ (config : Config) (outer : List Scope) where
       one s x rest (formed, limits, lasts, small) =
           let fit : Fit (s ∷ outer) = record { many = omega (arith, shallow); each = (small, around) } in
           (type_read config deep s outer config.max_type_size x rest (record { formed = formed; limits = limits; lasts = lasts; fit = fit; shallow = shallow }), refl)
-
--- The same where the scopes and the room are known by equations.
-pub types_read_where : (config : Config) (scopes outer : List Scope) (own : Scope) (max room : ℕ) {min : ℕ} {next : Scope} {b rest : List ℕ} {xs : List Entry} → scopes ≡ own ∷ outer → max ≡ room → ReadsTypes config (outer_of scopes) min max (own_of scopes) b xs rest next → ReadsTypes config outer min room own b xs rest next
-types_read_where config scopes outer own max room {min} {next} {b} {rest} {xs} e m r =
-    let P : ℕ → Type 0 = λ n. ReadsTypes config outer min n own b xs rest next in
-    let Q : List Scope → Type 0 = λ ss. ReadsTypes config (outer_of ss) min max (own_of ss) b xs rest next in
-    subst P m (subst Q e r)

@@ -1,14 +1,13 @@
 -- What is kept of a component where a part is added to it.
 use Rattle.std.proofs.Common.{◌≡◌, ℕ, List, [], ◌∷◌, length, arith, ap, sym, subst, ◌∙◌, refl}
 use Rattle.std.specs.List.{flat_map}
-use Rattle.std.proofs.lemmas.List.{length-map}
 use Rattle.smith_input.proofs.Loops.{loop_gives}
 use Rattle.smith_format.specs.declared.config.Config.{Config}
 use Rattle.smith_syntax.specs.Entries.{Signature, function}
 use Rattle.smith_component.specs.Canonicals.{CanonTurn, Growing, LiftsTo, ReadsCanons, empty_section, given_up, grown, to_defined, to_equal}
 use Rattle.smith_component.specs.Importing.{Totalled}
 use Rattle.smith_component.specs.Tree.{Tree, Part, custom, core_module, core_types, component, types, canons, imports, add, module_of, component_of, instance_of}
-use Rattle.smith_component.specs.Tree.{types_of, functions_of, core_functions_of, imports_of, types_in, functions_in, core_functions_in, imports_in, imported_modules_in, imported_components_in, imported_instances_in}
+use Rattle.smith_component.specs.Tree.{types_of, functions_of, core_functions_of, types_in, functions_in, core_functions_in, imports_in, imported_modules_in, imported_components_in, imported_instances_in}
 use Rattle.smith_component.specs.Tables.{Tabled}
 use Rattle.smith_component.specs.declared.builder.tables.Tables.{Tables}
 use Rattle.smith_component.specs.declared.builder.totals.TreeTotals.{TreeTotals}
@@ -18,10 +17,10 @@ use Rattle.smith_component.proofs.Sound.{totalled_part}
 use Rattle.smith_component.proofs.Tables.{own_bare, tabled_types}
 use Rattle.smith_component.proofs.Tree.{own-add}
 
--- A part without functions and imports leaves the tables as they are.
-pub tabled_added : {tables : Tables} (t new : Tree) (p : Part) → new ≡ add t p → functions_in p ≡ [] → core_functions_in p ≡ [] → imports_in p ≡ [] → Tabled tables t → Tabled tables new
-tabled_added t new p e fs cs is tabled =
-    tabled_types t new (types_in p) tabled (ap types_of e ∙ own-add types_in t p) (ap functions_of e ∙ own_bare functions_in t p fs) (ap core_functions_of e ∙ own_bare core_functions_in t p cs) (ap imports_of e ∙ own_bare imports_in t p is)
+-- A part without functions leaves the tables as they are.
+pub tabled_added : {tables : Tables} (t new : Tree) (p : Part) → new ≡ add t p → functions_in p ≡ [] → core_functions_in p ≡ [] → Tabled tables t → Tabled tables new
+tabled_added t new p e fs cs tabled =
+    tabled_types t new (types_in p) tabled (ap types_of e ∙ own-add types_in t p) (ap functions_of e ∙ own_bare functions_in t p fs) (ap core_functions_of e ∙ own_bare core_functions_in t p cs)
 
 -- A part without imports imports nothing of any kind.
 pub none_imported : (p : Part) → imports_in p ≡ [] → (imported_modules_in p ≡ []) × (imported_components_in p ≡ []) × (imported_instances_in p ≡ [])
@@ -32,10 +31,6 @@ none_imported (component t) e = (refl, refl, refl)
 none_imported (types ts) e = (refl, refl, refl)
 none_imported (canons fs) e = (refl, refl, refl)
 none_imported (imports is) e = (ap (flat_map (λ i. module_of i.to)) e, ap (flat_map (λ i. component_of i.to)) e, ap (flat_map (λ i. instance_of i.to)) e)
-
--- The names of the imports are as many as the imports.
-pub import_count : {tables : Tables} {t : Tree} (tabled : Tabled tables t) → length tabled.externs ≡ length (imports_of t)
-import_count {t = t} tabled = sym (length-map tabled.externs (λ x. x.0)) ∙ (ap length tabled.names_are ∙ length-map (imports_of t) (λ i. i.name))
 
 -- A canonical section leaves the totals as they are.
 with_section : (config : Config) (totals : TreeTotals) (outer : List Tree) (s : Growing) → Totalled totals (record { outer = outer; inner = s.before }) → Totalled totals (record { outer = outer; inner = grown s })

@@ -9,15 +9,11 @@ use Rattle.std.proofs.lemmas.Option.{slice_get_within}
 use Rattle.smith_syntax.specs.Entries.{Entry, defined, function, component_type, instance_type, ImportEntry, Signature}
 use Rattle.smith_syntax.specs.Flat.{is_scalar}
 use Rattle.smith_syntax.specs.Scope.{Scope, places}
-use Rattle.smith_syntax.specs.WellFormed.{names}
-use Rattle.smith_types.specs.Declarations.{NamedExtern}
-use Rattle.smith_types.specs.MakingTypes.{HoldsExterns}
-use Rattle.smith_types.proofs.Externs.{names_more}
 use Rattle.smith_scopes.proofs.Places.{get_left, place_stands}
 use Rattle.smith_scopes.proofs.Stack.{places-append}
 use Rattle.smith_component.specs.Offers.{is_scalar_entry, is_scalar_type, scalar_functions}
 use Rattle.smith_component.specs.Tables.{AddsCoreFunction, AddsFunction, IsGrounded, IsLowerable, Tabled}
-use Rattle.smith_component.specs.Tree.{Tree, Part, add, own, types_of, functions_of, core_functions_of, imports_of}
+use Rattle.smith_component.specs.Tree.{Tree, Part, add, own, types_of, functions_of, core_functions_of}
 use Rattle.smith_component.specs.WellFormed.{import_names, scope_of, spaces_of}
 use Rattle.smith_component.specs.declared.builder.tables.Tables.{Tables}
 use Rattle.smith_component.proofs.Tree.{own-add}
@@ -88,17 +84,14 @@ module _ (old new : Tables) (t u : Tree) (es : List Entry) (fs cs : List ℕ) (t
       ap (places test 0) functions ∙ (places-append test 0 (functions_of t) fs ∙ ap (λ z. z ++ places test (0 + length (functions_of t)) fs) agree)
 
   pub tabled_more : AllByRecursion (λ ty. ty < length (types_of u)) fs → AllByRecursion (IsLowerable u) cs → new.functions.items ≡ old.functions.items ++ fs → new.core_functions.items ≡ old.core_functions.items ++ cs
-      → new.scalars.items ≡ old.scalars.items ++ places (is_scalar_type (types_of u)) (length old.functions.items) fs → (externs : List NamedExtern) → names externs ≡ import_names (imports_of u) → HoldsExterns new.imports externs → Tabled new u
-  tabled_more known lowered fnew cnew snew externs named holds =
+      → new.scalars.items ≡ old.scalars.items ++ places (is_scalar_type (types_of u)) (length old.functions.items) fs → Tabled new u
+  tabled_more known lowered fnew cnew snew =
       let test : ℕ → Bool = is_scalar_type (types_of u) in
       let at : length old.functions.items ≡ 0 + length (functions_of t) = omega (arith, ap length tabled.functions) in
       record {
         functions = fnew ∙ (ap (λ z. z ++ fs) tabled.functions ∙ sym functions);
         core_functions = cnew ∙ (ap (λ z. z ++ cs) tabled.core_functions ∙ sym core_functions);
         scalars = snew ∙ (ap (λ n. old.scalars.items ++ places test n fs) at ∙ (ap (λ z. z ++ places test (0 + length (functions_of t)) fs) tabled.scalars ∙ sym scalars_more));
-        externs = externs;
-        names_are = named;
-        holds = holds;
         grounded = grounded_more known lowered;
       }
 
@@ -106,58 +99,36 @@ module _ (old new : Tables) (t u : Tree) (es : List Entry) (fs cs : List ℕ) (t
 same_more : {A : Type 0} (xs ys : List A) → ys ≡ xs → ys ≡ xs ++ []
 same_more xs ys e = e ∙ sym (append-nil xs)
 
-same_names : (t u : Tree) (externs : List NamedExtern) → imports_of u ≡ imports_of t → names externs ≡ import_names (imports_of t) → names externs ≡ import_names (imports_of u)
-same_names t u externs e h = h ∙ ap import_names (sym e)
-
-same_holds : (old new : Tables) (externs : List NamedExtern) → new.imports ≡ old.imports → HoldsExterns old.imports externs → HoldsExterns new.imports externs
-same_holds old new externs e h = subst (λ z. HoldsExterns z externs) (sym e) h
-
 -- A component function more, of a type that is there.
 pub tabled_function : {own : Scope} {old new : Tables} {ty : ℕ} (t u : Tree) → own ≡ scope_of t → ty < length (types_of t) → Tabled old t → AddsFunction own old ty new
-    → types_of u ≡ types_of t → functions_of u ≡ functions_of t ++ ty ∷ [] → core_functions_of u ≡ core_functions_of t → imports_of u ≡ imports_of t → Tabled new u
-tabled_function {own} {old} {new} {ty} t u scope known tabled adds types functions core_functions imports =
+    → types_of u ≡ types_of t → functions_of u ≡ functions_of t ++ ty ∷ [] → core_functions_of u ≡ core_functions_of t → Tabled new u
+tabled_function {own} {old} {new} {ty} t u scope known tabled adds types functions core_functions =
     let same : own.types ≡ types_of u = ap (λ s. s.types) scope ∙ sym types in
     tabled_more old new t u [] (ty ∷ []) [] tabled (same_more _ _ types) functions (same_more _ _ core_functions) (omega (arith, known, ap length types), tt) tt
     adds.functions (same_more _ _ adds.core_functions)
     (adds.scalars ∙ ap (λ ts. old.scalars.items ++ (if is_scalar_type ts ty then length old.functions.items ∷ [] else [])) same)
-    tabled.externs (same_names t u tabled.externs imports tabled.names_are) (same_holds old new tabled.externs adds.imports tabled.holds)
 
 -- A core function more, which lowers one that can be lowered.
 pub tabled_core_function : {old new : Tables} {f : ℕ} (t u : Tree) → IsLowerable t f → Tabled old t → AddsCoreFunction old f new
-    → types_of u ≡ types_of t → functions_of u ≡ functions_of t → core_functions_of u ≡ core_functions_of t ++ f ∷ [] → imports_of u ≡ imports_of t → Tabled new u
-tabled_core_function {old} {new} {f} t u lowerable tabled adds types functions core_functions imports =
+    → types_of u ≡ types_of t → functions_of u ≡ functions_of t → core_functions_of u ≡ core_functions_of t ++ f ∷ [] → Tabled new u
+tabled_core_function {old} {new} {f} t u lowerable tabled adds types functions core_functions =
     tabled_more old new t u [] [] (f ∷ []) tabled (same_more _ _ types) (same_more _ _ functions) core_functions tt
     (lowerable_more t u [] [] (same_more _ _ types) (same_more _ _ functions) f lowerable, tt)
     (same_more _ _ adds.functions) adds.core_functions (same_more _ _ adds.scalars)
-    tabled.externs (same_names t u tabled.externs imports tabled.names_are) (same_holds old new tabled.externs adds.imports tabled.holds)
 
 -- Types more leave the tables as they are.
-pub tabled_types : {tables : Tables} (t u : Tree) (es : List Entry) → Tabled tables t → types_of u ≡ types_of t ++ es → functions_of u ≡ functions_of t → core_functions_of u ≡ core_functions_of t → imports_of u ≡ imports_of t → Tabled tables u
-tabled_types {tables} t u es tabled types functions core_functions imports =
+pub tabled_types : {tables : Tables} (t u : Tree) (es : List Entry) → Tabled tables t → types_of u ≡ types_of t ++ es → functions_of u ≡ functions_of t → core_functions_of u ≡ core_functions_of t → Tabled tables u
+tabled_types {tables} t u es tabled types functions core_functions =
     tabled_more tables tables t u es [] [] tabled types (same_more _ _ functions) (same_more _ _ core_functions) tt tt
-    (same_more _ _ refl) (same_more _ _ refl) (same_more _ _ refl) tabled.externs (same_names t u tabled.externs imports tabled.names_are) tabled.holds
+    (same_more _ _ refl) (same_more _ _ refl) (same_more _ _ refl)
 
 -- So does what adds none of all these.
-pub tabled_quiet : {tables : Tables} (t u : Tree) → Tabled tables t → types_of u ≡ types_of t → functions_of u ≡ functions_of t → core_functions_of u ≡ core_functions_of t → imports_of u ≡ imports_of t → Tabled tables u
-tabled_quiet t u tabled types functions core_functions imports = tabled_types t u [] tabled (same_more _ _ types) functions core_functions imports
+pub tabled_quiet : {tables : Tables} (t u : Tree) → Tabled tables t → types_of u ≡ types_of t → functions_of u ≡ functions_of t → core_functions_of u ≡ core_functions_of t → Tabled tables u
+tabled_quiet t u tabled types functions core_functions = tabled_types t u [] tabled (same_more _ _ types) functions core_functions
 
 -- the names of imports with one more
 pub import_names_more : (is : List ImportEntry) (x : ImportEntry) → import_names (is ++ x ∷ []) ≡ import_names is ++ x.name ∷ []
 import_names_more is x = map-append (λ (i : ImportEntry). i.name) is (x ∷ [])
-
-pub names_grown : (t u : Tree) (x : ImportEntry) (named : NamedExtern) (externs : List NamedExtern) → names externs ≡ import_names (imports_of t) → imports_of u ≡ imports_of t ++ x ∷ [] → named.0 ≡ x.name
-    → names (externs ++ named ∷ []) ≡ import_names (imports_of u)
-names_grown t u x named externs are imports name =
-    names_more externs named
-    ∙ (ap (λ z. z ++ named.0 ∷ []) are ∙ (ap (λ n. import_names (imports_of t) ++ n ∷ []) name ∙ (sym (import_names_more (imports_of t) x) ∙ ap import_names (sym imports))))
-
--- An import more, by its name.
-pub tabled_import : {old new : Tables} (t u : Tree) (x : ImportEntry) (named : NamedExtern) (tabled : Tabled old t)
-    → types_of u ≡ types_of t → functions_of u ≡ functions_of t → core_functions_of u ≡ core_functions_of t → imports_of u ≡ imports_of t ++ x ∷ [] → named.0 ≡ x.name
-    → new.functions.items ≡ old.functions.items → new.core_functions.items ≡ old.core_functions.items → new.scalars.items ≡ old.scalars.items → HoldsExterns new.imports (tabled.externs ++ named ∷ []) → Tabled new u
-tabled_import {old} {new} t u x named tabled types functions core_functions imports name fnew cnew snew holds =
-    tabled_more old new t u [] [] [] tabled (same_more _ _ types) (same_more _ _ functions) (same_more _ _ core_functions) tt tt
-    (same_more _ _ fnew) (same_more _ _ cnew) (same_more _ _ snew) (tabled.externs ++ named ∷ []) (names_grown t u x named tabled.externs tabled.names_are imports name) holds
 
 scalar_entry_is : (e : Entry) → is_scalar_entry e ≡ true → (signature : Signature) × (e ≡ function signature) × (is_scalar signature ≡ true)
 scalar_entry_is (defined t) h = absurd (false≢true h)

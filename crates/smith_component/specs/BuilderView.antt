@@ -3,12 +3,10 @@ use Rattle.std.specs.Prelude.{◌∷◌, map}
 use Rattle.std.specs.List.{AllByRecursion}
 use Rattle.smith_scopes.specs.Scopes.{inward}
 use Rattle.smith_component.specs.Building.{Building, open_of}
-use Rattle.smith_component.specs.Shown.{shown_sections}
 use Rattle.smith_component.specs.Sound.{Standing}
-use Rattle.smith_component.specs.Tables.{Tabled}
+use Rattle.smith_component.specs.Tables.{IsTabled}
 use Rattle.smith_component.specs.declared.builder.Progress.{Progress}
 use Rattle.smith_component.specs.Open.{Open}
-use Rattle.smith_component.specs.declared.builder.open.OpenComponent.{OpenComponent}
 
 abbrev pub building_of : Progress → Building
 building_of b = record { config = b.config; outer = map (λ c. c.sections.items) b.outer.items; inner = b.inner.sections.items }
@@ -16,10 +14,6 @@ building_of b = record { config = b.config; outer = map (λ c. c.sections.items)
 -- the open components as plain trees
 abbrev pub stack_of : Progress → Open
 stack_of b = open_of (building_of b)
-
--- An open component's tables are those of its sections.
-abbrev pub IsTabled : OpenComponent → Type 0
-IsTabled c = Tabled c.tables (shown_sections c.sections.items)
 
 abbrev pub IsSound : Progress → Type 0
 IsSound b = Standing b.config b.valtypes.items (inward b.scopes) b.totals (open_of (building_of b)) × AllByRecursion IsTabled (b.inner ∷ b.outer.items)

@@ -9,6 +9,7 @@ use Rattle.smith_syntax.specs.Scope.{Scope}
 use Rattle.smith_types.specs.Lifting.{ReadsLifted}
 use Rattle.smith_scopes.specs.Scopes.{Contents, own_scope}
 use Rattle.smith_component.specs.Canonicals.{CanonTurn, Growing, NoCanon, grown}
+use Rattle.smith_component.specs.SectionValues.{externs_of}
 use Rattle.smith_component.specs.Shown.{shown_canon, shown_sections}
 use Rattle.smith_component.specs.Tables.{Tabled}
 use Rattle.smith_component.specs.WellFormed.{scope_of}
@@ -28,10 +29,12 @@ pub record IsDraft (scopes : List Contents) (component : OpenComponent) (funcs :
   pub scope_is : own_scope scopes ≡ scope_of (grown (growing component funcs))
   pub tabled : Tabled component.tables (grown (growing component funcs))
 
--- The sections that stood before stay in front.
+-- The sections that stood before stay in front, and nothing is imported.
 pub record KeepsFront (old new : OpenComponent) : Type 0 where
   pub more : List Section
   pub sections : new.sections.items ≡ old.sections.items ++ more
+  pub no_imports : externs_of more ≡ []
+  pub names : new.tables.imports ≡ old.tables.imports
 
 -- what a turn is among, by the tables
 abbrev pub canon_items_of : Tables → List CanonItem

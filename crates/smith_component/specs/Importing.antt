@@ -1,13 +1,14 @@
 -- An import section as the program makes it.
-use Rattle.std.specs.Prelude.{◌≡◌, ℕ, List, ◌∷◌, [], ◌++◌, Option, Some, None}
+use Rattle.std.specs.Prelude.{◌≡◌, ℕ, List, ◌∷◌, [], ◌++◌, map, Option, Some, None}
 use Rattle.smith_format.specs.declared.config.Config.{Config}
-use Rattle.smith_syntax.specs.Entries.{ImportEntry}
 use Rattle.smith_syntax.specs.Scope.{Scope}
 use Rattle.smith_syntax.specs.Shown.{import_shown}
 use Rattle.smith_syntax.specs.declared.deftype.Import.{Import}
-use Rattle.smith_component.specs.Imports.{NoImport, ReadsImport}
+use Rattle.smith_types.specs.Declarations.{NamedExtern}
+use Rattle.smith_types.specs.MakingTypes.{HoldsExterns}
 use Rattle.smith_component.specs.Offers.{with_imports}
 use Rattle.smith_component.specs.Open.{Open, tree_so_far}
+use Rattle.smith_component.specs.SectionValues.{NoImportValue, ReadsImportValue, extern_of}
 use Rattle.smith_component.specs.Tables.{Tabled}
 use Rattle.smith_component.specs.Tree.{module_count, component_count, instance_count}
 use Rattle.smith_component.specs.WellFormed.{scope_of}
@@ -20,14 +21,16 @@ pub record Totalled (totals : TreeTotals) (stack : Open) : Type 0 where
   pub components : totals.components ≡ component_count (tree_so_far stack.outer stack.inner)
   pub instances : totals.instances ≡ instance_count (tree_so_far stack.outer stack.inner)
 
--- The scope, the totals and the tables are those of the open components, where a section has these imports.
-pub record Importing (stack : Open) (is : List ImportEntry) (own : Scope) (totals : TreeTotals) (tables : Tables) : Type 0 where
+-- The scope, the totals and the tables are those of the open components, where a section has these imports. The sets of names are those
+-- of the imports before it and of these, and of their URLs.
+pub record Importing (stack : Open) (before : List NamedExtern) (is : List Import) (own : Scope) (totals : TreeTotals) (tables : Tables) : Type 0 where
   pub scope_is : own ≡ scope_of stack.inner
-  pub totalled : Totalled totals (with_imports stack is)
-  pub tabled : Tabled tables (with_imports stack is).inner
+  pub totalled : Totalled totals (with_imports stack (map import_shown is))
+  pub tabled : Tabled tables (with_imports stack (map import_shown is)).inner
+  pub externs : HoldsExterns tables.imports (before ++ map extern_of is)
 
 -- an import that is read and counted, or none
-abbrev pub ImportsOne : Config → Open → List ImportEntry → Scope → TreeTotals → Tables → List ℕ → Option Import → List ℕ → Type 0
-ImportsOne config stack is own totals tables b None rest = NoImport config stack is b rest is × Importing stack is own totals tables
-ImportsOne config stack is own totals tables b (Some i) rest =
-    ReadsImport config stack is b (import_shown i) rest (is ++ import_shown i ∷ []) × Importing stack (is ++ import_shown i ∷ []) own totals tables
+abbrev pub ImportsOne : Config → Open → List NamedExtern → List Import → Scope → TreeTotals → Tables → List ℕ → Option Import → List ℕ → Type 0
+ImportsOne config stack before is own totals tables b None rest = NoImportValue config stack is b rest is × Importing stack before is own totals tables
+ImportsOne config stack before is own totals tables b (Some i) rest =
+    ReadsImportValue config stack before is b i rest (is ++ i ∷ []) × Importing stack before (is ++ i ∷ []) own totals tables

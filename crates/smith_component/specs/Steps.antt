@@ -1,6 +1,9 @@
 -- What a step leads to.
-use Rattle.std.specs.Prelude.{◌≡◌, ◌⊎◌, List, [], ◌∷◌, ◌++◌, Option, Some, None}
+use Rattle.std.specs.Prelude.{◌≡◌, ℕ, ◌⊎◌, List, [], ◌∷◌, ◌++◌, Option, Some, None}
+use Rattle.smith_input.specs.Choices.{ReadsAmong}
 use Rattle.smith_format.specs.declared.config.Config.{Config}
+use Rattle.smith_component.specs.Open.{items}
+use Rattle.smith_component.specs.SectionValues.{AddsCoreTypeSection, AddsImportSection, AddsModule, AddsTypeSection}
 use Rattle.smith_component.specs.Turn.{Next, building, answered}
 use Rattle.smith_component.specs.WellFormed.{WellFormed}
 use Rattle.smith_component.specs.Limits.{Limits, Sized}
@@ -13,6 +16,8 @@ use Rattle.smith_component.specs.declared.component.Section.{Section}
 use Rattle.smith_component.specs.declared.component.Section.TheVariants.{Component}
 use Rattle.smith_component.specs.declared.builder.Step.{Step}
 use Rattle.smith_component.specs.declared.builder.Step.TheVariants.{StillBuilding, Finished}
+use Rattle.smith_component.specs.declared.item.Item.{Item}
+use Rattle.smith_component.specs.declared.item.Item.TheVariants as item
 
 abbrev pub next_of : Step → Next
 next_of (StillBuilding b) = building (open_of b)
@@ -45,6 +50,25 @@ ClosesSections old (Finished c) = (old.outer ≡ []) × (more : List Section) ×
 abbrev pub KeepsSections : Building → Step → Type 0
 KeepsSections old (StillBuilding new) = AddsSections old new ⊎ OpensComponent old new ⊎ ClosesComponent old new
 KeepsSections old (Finished c) = ClosesSections old (Finished c)
+
+-- What an item adds on the bytes b, where a plain tree leaves something of it out.
+abbrev pub AddsValues : Config → Item → Building → List ℕ → Step → List ℕ → Type 0
+AddsValues config item.Finish old b step rest = Unit {0}
+AddsValues config item.Custom old b step rest = Unit {0}
+AddsValues config item.CoreTypes old b step rest = (new : Building) × (step ≡ StillBuilding new) × AddsCoreTypeSection config old b new rest
+AddsValues config item.Types old b step rest = (new : Building) × (step ≡ StillBuilding new) × AddsTypeSection config 0 old b new rest
+AddsValues config item.Imports old b step rest = (new : Building) × (step ≡ StillBuilding new) × AddsImportSection config 0 old b new rest
+AddsValues config item.Canonical old b step rest = Unit {0}
+AddsValues config item.Module old b step rest = (new : Building) × (step ≡ StillBuilding new) × AddsModule config old b new rest
+AddsValues config item.Component old b step rest = Unit {0}
+
+-- One turn by the sections that it adds: a choice names an item, and what that adds is what the bytes behind the choice give, URLs, what
+-- outer aliases keep, and the parts of a core module included.
+pub record TurnAdds (config : Config) (old : Building) (left : List ℕ) (step : Step) (left2 : List ℕ) : Type 0 where
+  pub item : Item
+  pub after : List ℕ
+  pub chooses : ReadsAmong (items config (open_of old) left) left item after
+  pub adds : AddsValues config item old after step left2
 
 -- A builder that goes on has the same config, and an answer is well formed and within the limits, and its types within their fuel.
 abbrev pub StaysSound : Config → Step → Type 0

@@ -4,12 +4,13 @@ use Rattle.std.specs.List.{AllByRecursion}
 use Rattle.smith_syntax.specs.Entries.{Signature}
 use Rattle.smith_syntax.specs.Flat.{is_scalar}
 use Rattle.smith_syntax.specs.Scope.{Scope}
-use Rattle.smith_syntax.specs.WellFormed.{names}
-use Rattle.smith_types.specs.Declarations.{NamedExtern}
 use Rattle.smith_types.specs.MakingTypes.{HoldsExterns}
 use Rattle.smith_component.specs.Offers.{is_scalar_type, scalar_functions}
-use Rattle.smith_component.specs.Tree.{Tree, types_of, functions_of, core_functions_of, imports_of}
-use Rattle.smith_component.specs.WellFormed.{HasSignature, import_names, spaces_of}
+use Rattle.smith_component.specs.SectionValues.{externs_of}
+use Rattle.smith_component.specs.Shown.{shown_sections}
+use Rattle.smith_component.specs.Tree.{Tree, types_of, functions_of, core_functions_of}
+use Rattle.smith_component.specs.WellFormed.{HasSignature, spaces_of}
+use Rattle.smith_component.specs.declared.builder.open.OpenComponent.{OpenComponent}
 use Rattle.smith_component.specs.declared.builder.tables.Tables.{Tables}
 
 -- a component function whose type flattens
@@ -21,15 +22,17 @@ pub record IsGrounded (t : Tree) : Type 0 where
   pub known : AllByRecursion (λ ty. ty < length (types_of t)) (functions_of t)
   pub lowered : AllByRecursion (IsLowerable t) (core_functions_of t)
 
--- The tables are those of the component.
+-- The tables are those of the component, but for the names of its imports.
 pub record Tabled (tables : Tables) (t : Tree) : Type 0 where
   pub functions : tables.functions.items ≡ functions_of t
   pub core_functions : tables.core_functions.items ≡ core_functions_of t
   pub scalars : tables.scalars.items ≡ scalar_functions (spaces_of t)
-  pub externs : List NamedExtern
-  pub names_are : names externs ≡ import_names (imports_of t)
-  pub holds : HoldsExterns tables.imports externs
   pub grounded : IsGrounded t
+
+-- An open component's tables are those of its sections, and its sets of names those of its imports and of their URLs.
+pub record IsTabled (c : OpenComponent) : Type 0 where
+  pub tabled : Tabled c.tables (shown_sections c.sections.items)
+  pub externs : HoldsExterns c.tables.imports (externs_of c.sections.items)
 
 -- new is old with a component function of the type with that index
 pub record AddsFunction (own : Scope) (old : Tables) (ty : ℕ) (new : Tables) : Type 0 where

@@ -9,7 +9,7 @@ ghost use Rattle.smith_component.specs.Filling.{CanFill};
 ghost use Rattle.smith_component.specs.Limits.{max_depth};
 ghost use Rattle.smith_component.specs.Refusals.{IsAnswered, IsChosen, IsNewRefusal, IsReady, IsStepRefusal};
 ghost use Rattle.smith_component.specs.Shown.{shown_sections};
-ghost use Rattle.smith_component.specs.Steps.{next_of, step_of, KeepsSections, SoundUnlessDone, StaysSound};
+ghost use Rattle.smith_component.specs.Steps.{next_of, step_of, KeepsSections, SoundUnlessDone, StaysSound, TurnAdds};
 ghost use Rattle.smith_component.specs.Tree.{ends};
 ghost use Rattle.smith_component.specs.Turn.{Next, Turn, Falls};
 ghost use Rattle.smith_component.specs.Open.{root};
@@ -111,6 +111,8 @@ impl Progress {
         ensures sound { IfOk result (λ c. SoundUnlessDone self.new c) }
         ensures keeps { IfOk result (λ c. StaysSound self.old.config (step_of self.new c)) }
         ensures sections { IfOk result (λ c. KeepsSections (building_of self.old) (step_of self.new c)) }
+        ensures values { IfOk result
+            (λ c. TurnAdds self.old.config (building_of self.old) u.old (step_of self.new c) u.new) }
         ensures refuses { IfErr result (IsStepRefusal self.old.config (stack_of self.old) u.old) }
         ensures unread { IfErr result (λ e. e ≡ Error.ModuleRefused
             → IsChosen self.old.config (stack_of self.old) u.old Module u.new) }
@@ -171,6 +173,8 @@ impl Builder {
         ensures turn { IfOk result (λ s. Turn self.config (open_of self) u.old (next_of s) u.new) }
         ensures keeps { IfOk result (StaysSound self.config) }
         ensures sections { IfOk result (KeepsSections self) }
+        // URLs, what outer aliases keep, and the parts of a core module are those that the input gives.
+        ensures values { IfOk result (λ s. TurnAdds self.config self u.old s u.new) }
         ensures falls { IfOk result (λ s. Falls self.config u.old (open_of self) u.new (next_of s)) }
         ensures accepted { IsConsistent self.config }
         ensures refuses { IfErr result (IsStepRefusal self.config (open_of self) u.old) }

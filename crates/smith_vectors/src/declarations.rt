@@ -1,7 +1,7 @@
 //! What types of components and instances hold in memory, besides what is written of them.
 
 use crate::common::small_limits;
-use smith_component::Unstructured;
+use smith_component::{Section, Unstructured, generate};
 use smith_core::configured_valtypes;
 use smith_types::{
     Alias, ComponentType, ComponentTypeDef, ComponentTypeRef, CoreType, DefType, DefinedType,
@@ -115,6 +115,38 @@ fn urls_of_imports_and_exports(rt: HostRuntime) -> Result<(), Fail> {
     is_import(&rt, &defs[2], "b", Some("https://example.com/a1"));
     is_export(&rt, &defs[3], "a", Some("https://example.com/a"));
     is_export(&rt, &defs[4], "b", None);
+    Ok(())
+}
+
+// Types (3): more, function (1), no parameter, no result. More, component (2): more, alias (0 of alias, core type); more,
+// 0 in 0..3, `a`, a URL, `a`; more, 1 in 0..3, export (0 of export, alias, core type), function (1 of type equal,
+// function), `a`, a URL, `a`; no more. No more; finish.
+const URLS_IN_A_COMPONENT: &[u8] = b"\x03\x01\x01\x00\x00\
+    \x01\x02\x01\x00\
+    \x01\x00\x01\x00\x01\x01\x00\
+    \x01\x01\x00\x01\x01\x00\x01\x01\x00\
+    \x00\x00\x00";
+
+#[test]
+fn urls_in_the_types_of_a_component(rt: HostRuntime) -> Result<(), Fail> {
+    let mut u = Unstructured::new(URLS_IN_A_COMPONENT);
+    let generated = generate(rt.alloc(), small_limits(), &mut u)?;
+    assert!(rt; u.is_empty());
+    let sections = generated.component.sections();
+    assert!(rt; sections.len() == 1);
+    let Some(Section::Types(section)) = sections.get(0) else {
+        assert!(&rt; false, "no type section");
+        return Ok(());
+    };
+    assert!(rt; section.types.len() == 2);
+    let DefType::Component(component) = &*section.types[1] else {
+        assert!(&rt; false, "no component type");
+        return Ok(());
+    };
+    let ComponentType { defs } = &**component;
+    assert!(rt; defs.len() == 3);
+    is_import(&rt, &defs[1], "a", Some("https://example.com/a"));
+    is_export(&rt, &defs[2], "a", Some("https://example.com/a"));
     Ok(())
 }
 

@@ -50,6 +50,7 @@ fn lower(
         (growing component.new funcs.new.items)) }
     ensures tabled { OnOk result (Tabled component.new.tables (grown (growing component.new funcs.new.items))) }
     ensures sections { component.new.sections ≡ component.old.sections }
+    ensures imports { OnOk result (component.new.tables.imports ≡ component.old.tables.imports) }
     ensures memory { IfErr result (λ e. e ≡ Error.OutOfMemory) }
     ensures tail { IsTail u.new u.old }
 {

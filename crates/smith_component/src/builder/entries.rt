@@ -1,15 +1,13 @@
 //! The entries of a section of types or of core types.
 
-ghost use Rattle.std.specs.Prelude.{◌≡◌, ℕ, ◌+◌, ◌<◌, ◌≤◌, List, map, length, IfOk, IfErr};
+ghost use Rattle.std.specs.Prelude.{◌≡◌, ℕ, ◌+◌, ◌<◌, ◌≤◌, List, length, IfOk, IfErr};
 ghost use Rattle.smith_input.specs.Loops.{Loop, Never};
 ghost use Rattle.smith_input.specs.Reading.{IsTail};
 ghost use Rattle.smith_format.specs.Limits.{configured, IsConsistent};
 ghost use Rattle.smith_format.specs.declared.config.Config.{Config};
 ghost use Rattle.smith_scopes.specs.Scopes.{own_scope, outer_scopes};
-ghost use Rattle.smith_syntax.specs.Entries.{Entry, CoreEntry};
 ghost use Rattle.smith_syntax.specs.Scope.{Scope};
-ghost use Rattle.smith_syntax.specs.Shown.{shown_shared, shown_shared_core};
-ghost use Rattle.smith_component.specs.Turn.{ReadsType, ReadsCoreType};
+ghost use Rattle.smith_component.specs.SectionValues.{ReadsTypeValue, ReadsCoreTypeValue};
 
 use smith_format::{Config, ValType};
 use smith_input::{Error, Unstructured};
@@ -19,13 +17,9 @@ use std::rc::Rc;
 
 // What a section holds. An entry is read with fresh fuel, and is the next of its sort in the last scope.
 pub(super) trait SectionEntry: Drop {
-    ghost Shown: { Type 0 };
-
-    ghost shown: { Self → Shown };
-
     ghost count: { Scope → ℕ };
 
-    ghost reads: { Config → List Scope → Scope → List ℕ → Shown → List ℕ → Scope → Type 0 };
+    ghost reads: { Config → List Scope → Scope → List ℕ → Self → List ℕ → Scope → Type 0 };
 
     fn read(
         alloc: Global,
@@ -39,7 +33,7 @@ pub(super) trait SectionEntry: Drop {
         requires consistent { IsConsistent config.now }
         requires shallow { length scopes.old ≤ 1001 }
         ensures read { IfOk result (λ e. reads config.now (outer_scopes scopes.old) (own_scope scopes.old)
-            u.old (shown e) u.new (own_scope scopes.new)) }
+            u.old e u.new (own_scope scopes.new)) }
         ensures count { IfOk result (λ _. count (own_scope scopes.new) ≡ count (own_scope scopes.old) + 1) }
         ensures outer { IfOk result (λ _. outer_scopes scopes.new ≡ outer_scopes scopes.old) }
         ensures depth { IfOk result (λ _. length scopes.new ≡ length scopes.old) }
@@ -63,7 +57,7 @@ pub(super) fn read_entries<E: SectionEntry>(
     requires consistent { IsConsistent config.now }
     requires shallow { length scopes.old ≤ 1001 }
     ensures entries { IfOk result (λ v. Loop Never (E.reads config.now (outer_scopes scopes.old)) min max 0
-        (own_scope scopes.old) u.old (map E.shown v.items) u.new (own_scope scopes.new)) }
+        (own_scope scopes.old) u.old v.items u.new (own_scope scopes.new)) }
     ensures outer { IfOk result (λ _. outer_scopes scopes.new ≡ outer_scopes scopes.old) }
     ensures depth { IfOk result (λ _. length scopes.new ≡ length scopes.old) }
     ensures bound { IfOk result (λ v. length v.items ≤ max) }
@@ -82,13 +76,9 @@ pub(super) fn read_entries<E: SectionEntry>(
 }
 
 impl SectionEntry for Rc<DefType> {
-    ghost Shown = { Entry };
-
-    ghost shown = { shown_shared };
-
     ghost count = { λ s. length s.types };
 
-    ghost reads = { ReadsType };
+    ghost reads = { ReadsTypeValue };
 
     fn read(
         alloc: Global,
@@ -105,13 +95,9 @@ impl SectionEntry for Rc<DefType> {
 }
 
 impl SectionEntry for Rc<CoreType> {
-    ghost Shown = { CoreEntry };
-
-    ghost shown = { shown_shared_core };
-
     ghost count = { λ s. length s.core_types };
 
-    ghost reads = { λ config outer. ReadsCoreType config };
+    ghost reads = { λ config outer. ReadsCoreTypeValue config };
 
     fn read(
         alloc: Global,

@@ -1,14 +1,13 @@
 //! The imports of a section.
 
-ghost use Rattle.std.specs.Prelude.{◌≡◌, ◌≤◌, [], List, map, IfOk, IfErr};
+ghost use Rattle.std.specs.Prelude.{◌≡◌, ◌≤◌, [], List, IfOk, IfErr};
 ghost use Rattle.smith_input.specs.Reading.{IsTail};
 ghost use Rattle.smith_input.specs.Loops.{Loop};
 ghost use Rattle.smith_format.specs.Limits.{IsConsistent};
-ghost use Rattle.smith_syntax.specs.Entries.{ImportEntry};
-ghost use Rattle.smith_syntax.specs.Shown.{import_shown};
+ghost use Rattle.smith_types.specs.Declarations.{NamedExtern};
 ghost use Rattle.smith_scopes.specs.Scopes.{own_scope};
 ghost use Rattle.smith_component.specs.Importing.{Importing, ImportsOne};
-ghost use Rattle.smith_component.specs.Imports.{NoImport, ReadsImport};
+ghost use Rattle.smith_component.specs.SectionValues.{NoImportValue, ReadsImportValue};
 ghost use Rattle.smith_component.specs.Open.{Open};
 
 use crate::builder::tables::Tables;
@@ -28,9 +27,10 @@ fn read_import(
     u: &mut Unstructured,
 ) -> Result<Option<Import>, Error>
     requires consistent { IsConsistent config.now }
-    ensures imports { (stack : Open) (is : List ImportEntry)
-        → Importing stack is (own_scope scopes.now) totals.old tables.old
-        → IfOk result (λ i. ImportsOne config.now stack is (own_scope scopes.now) totals.new tables.new u.old i u.new) }
+    ensures imports { (stack : Open) (before : List NamedExtern) (is : List _)
+        → Importing stack before is (own_scope scopes.now) totals.old tables.old
+        → IfOk result (λ i.
+            ImportsOne config.now stack before is (own_scope scopes.now) totals.new tables.new u.old i u.new) }
     ensures memory { IfErr result (λ e. e ≡ Error.OutOfMemory) }
     ensures tail { IsTail u.new u.old }
 {
@@ -59,11 +59,13 @@ pub(super) fn read_imports(
 ) -> Result<Vec<Import>, Error>
     requires consistent { IsConsistent config.now }
     requires ordered { min ≤ max }
-    ensures reads { (stack : Open) → Importing stack [] (own_scope scopes.now) totals.old tables.old
-        → IfOk result (λ v. Loop (NoImport config.now stack) (ReadsImport config.now stack) min max 0
-        [] u.old (map import_shown v.items) u.new (map import_shown v.items)) }
-    ensures counts { (stack : Open) → Importing stack [] (own_scope scopes.now) totals.old tables.old
-        → IfOk result (λ v. Importing stack (map import_shown v.items) (own_scope scopes.now) totals.new tables.new) }
+    ensures reads { (stack : Open) (before : List NamedExtern)
+        → Importing stack before [] (own_scope scopes.now) totals.old tables.old
+        → IfOk result (λ v. Loop (NoImportValue config.now stack) (ReadsImportValue config.now stack before)
+            min max 0 [] u.old v.items u.new v.items) }
+    ensures counts { (stack : Open) (before : List NamedExtern)
+        → Importing stack before [] (own_scope scopes.now) totals.old tables.old
+        → IfOk result (λ v. Importing stack before v.items (own_scope scopes.now) totals.new tables.new) }
     ensures memory { IfErr result (λ e. e ≡ Error.OutOfMemory) }
     ensures tail { IsTail u.new u.old }
 {

@@ -2,8 +2,8 @@
 
 ghost use Rattle.std.specs.Prelude.{◌≡◌, ◌∷◌, ◌++◌, [], OnOk, IfErr};
 ghost use Rattle.smith_component.specs.Shown.{shown_section, shown_sections};
-ghost use Rattle.smith_component.specs.Tables.{Tabled};
-ghost use Rattle.smith_component.specs.Tree.{add, ends};
+ghost use Rattle.smith_component.specs.Tables.{IsTabled};
+ghost use Rattle.smith_component.specs.Tree.{add};
 
 use crate::builder::tables::Tables;
 use crate::component::Section;
@@ -20,7 +20,7 @@ pub(crate) struct OpenComponent {
 impl OpenComponent {
     pub(crate) fn new(alloc: Global) -> OpenComponent
         ensures items { result.sections.items ≡ [] }
-        ensures tabled { Tabled result.tables ends }
+        ensures tabled { IsTabled result }
     {
         OpenComponent {
             sections: Vec::new(alloc),

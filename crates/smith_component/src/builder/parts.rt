@@ -1,6 +1,6 @@
 //! Parts that are added to the inner component.
 
-ghost use Rattle.std.specs.Prelude.{◌≡◌, ℕ, ◌+◌, ◌≤◌, List, length, IfErr, OnOk, IsTrue};
+ghost use Rattle.std.specs.Prelude.{◌≡◌, ℕ, ◌+◌, ◌≤◌, List, [], ◌∷◌, ◌++◌, length, IfErr, OnOk, IsTrue};
 ghost use Rattle.smith_input.specs.Reading.{IsTail};
 ghost use Rattle.smith_core.specs.StandIn.{IsStandInRefusal};
 ghost use Rattle.smith_component.specs.Sound.{IsAddable, IsQuiet};
@@ -8,7 +8,8 @@ ghost use Rattle.smith_component.specs.BuilderView.{building_of, stack_of, IsSou
 ghost use Rattle.smith_component.specs.Shown.{shown_section};
 ghost use Rattle.smith_component.specs.Steps.{AddsSections};
 ghost use Rattle.smith_component.specs.Tree.{types_of, imports_of, function_count};
-ghost use Rattle.smith_component.specs.Turn.{building, Does, AddsCanons, AddsImports, AddsTypes, with_part};
+ghost use Rattle.smith_component.specs.SectionValues.{AddsCoreTypeSection, AddsImportSection, AddsModule, AddsTypeSection};
+ghost use Rattle.smith_component.specs.Turn.{building, Does, AddsCanons, with_part};
 ghost use Rattle.smith_component.specs.Open.{is_module_offered};
 ghost use Rattle.smith_component.specs.declared.item.Item.TheVariants.{Custom, CoreTypes};
 ghost use Rattle.smith_component.specs.declared.item.Item.TheVariants as item;
@@ -34,6 +35,8 @@ impl Progress {
         ensures sound { OnOk result (IsSound self.new) }
         ensures keeps { OnOk result (self.new.config ≡ self.old.config) }
         ensures sections { OnOk result (AddsSections (building_of self.old) (building_of self.new)) }
+        ensures last { OnOk result
+            ((building_of self.new).inner ≡ (building_of self.old).inner ++ section ∷ []) }
         ensures memory { IfErr result (λ e. e ≡ Error.OutOfMemory) }
     {
         let modules = section.module_count();
@@ -63,6 +66,8 @@ impl Progress {
         requires offered { IsTrue (is_module_offered self.old.config (stack_of self.old)) }
         ensures added { OnOk result
             (Does self.old.config item.Module (stack_of self.old) u.old (building (stack_of self.new)) u.new) }
+        ensures values { OnOk result
+            (AddsModule self.old.config (building_of self.old) u.old (building_of self.new) u.new) }
         ensures sound { OnOk result (IsSound self.new) }
         ensures keeps { OnOk result (self.new.config ≡ self.old.config) }
         ensures sections { OnOk result (AddsSections (building_of self.old) (building_of self.new)) }
@@ -79,6 +84,8 @@ impl Progress {
         requires sound { IsSound self.old }
         ensures added { OnOk result
             (Does self.old.config CoreTypes (stack_of self.old) u.old (building (stack_of self.new)) u.new) }
+        ensures values { OnOk result
+            (AddsCoreTypeSection self.old.config (building_of self.old) u.old (building_of self.new) u.new) }
         ensures sound { OnOk result (IsSound self.new) }
         ensures keeps { OnOk result (self.new.config ≡ self.old.config) }
         ensures sections { OnOk result (AddsSections (building_of self.old) (building_of self.new)) }
@@ -105,7 +112,7 @@ impl Progress {
         requires sound { IsSound self.old }
         requires room { length (types_of (stack_of self.old).inner) + min ≤ self.old.config.max_types }
         ensures added { OnOk result
-            (AddsTypes self.old.config min (stack_of self.old) u.old (stack_of self.new).inner u.new) }
+            (AddsTypeSection self.old.config min (building_of self.old) u.old (building_of self.new) u.new) }
         ensures sound { OnOk result (IsSound self.new) }
         ensures keeps { OnOk result (self.new.config ≡ self.old.config) }
         ensures sections { OnOk result (AddsSections (building_of self.old) (building_of self.new)) }
@@ -132,7 +139,7 @@ impl Progress {
         requires sound { IsSound self.old }
         requires room { length (imports_of (stack_of self.old).inner) + min ≤ self.old.config.max_imports }
         ensures added { OnOk result
-            (AddsImports self.old.config min (stack_of self.old) u.old (stack_of self.new).inner u.new) }
+            (AddsImportSection self.old.config min (building_of self.old) u.old (building_of self.new) u.new) }
         ensures sound { OnOk result (IsSound self.new) }
         ensures keeps { OnOk result (self.new.config ≡ self.old.config) }
         ensures sections { OnOk result (AddsSections (building_of self.old) (building_of self.new)) }

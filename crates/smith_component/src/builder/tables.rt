@@ -1,6 +1,7 @@
 //! What is kept of a component beside its sections, so that no turn searches them.
 
-ghost use Rattle.std.specs.Prelude.{◌≡◌, ◌+◌, ◌<◌, length, OnOk, IfErr};
+ghost use Rattle.std.specs.Prelude.{◌≡◌, ◌+◌, ◌<◌, [], length, OnOk, IfErr};
+ghost use Rattle.smith_types.specs.MakingTypes.{HoldsExterns};
 ghost use Rattle.smith_scopes.specs.Scopes.{own_scope};
 ghost use Rattle.smith_component.specs.Offers.{is_scalar_type};
 ghost use Rattle.smith_component.specs.Tables.{Tabled, AddsFunction, AddsCoreFunction};
@@ -33,7 +34,8 @@ fn is_scalar_type(scopes: &Scopes, ty: u32) -> bool
 
 impl Tables {
     pub(super) fn new(alloc: Global) -> Tables
-        ensures { Tabled result ends }
+        ensures tabled { Tabled result ends }
+        ensures imports { HoldsExterns result.imports [] }
     {
         Tables {
             functions: Vec::new(alloc),

@@ -5,7 +5,8 @@ ghost use Rattle.smith_input.specs.Reading.{IsTail};
 ghost use Rattle.smith_component.specs.BuilderView.{building_of, stack_of, IsSound};
 ghost use Rattle.smith_component.specs.Counted.{count_of, item_for, maximum_of};
 ghost use Rattle.smith_component.specs.Steps.{AddsSections};
-ghost use Rattle.smith_component.specs.Turn.{building, Adds, AddsAny};
+ghost use Rattle.smith_component.specs.SectionValues.{AddsSection};
+ghost use Rattle.smith_component.specs.Turn.{building, AddsAny};
 
 use crate::builder::Progress;
 use crate::item::Counted;
@@ -22,7 +23,7 @@ impl Progress {
         requires sound { IsSound self.old }
         requires room { count_of what (stack_of self.old).inner + min ≤ maximum_of what self.old.config }
         ensures added { OnOk result
-            (Adds what self.old.config min (stack_of self.old) u.old (stack_of self.new).inner u.new) }
+            (AddsSection what self.old.config min (building_of self.old) u.old (building_of self.new) u.new) }
         ensures sound { OnOk result (IsSound self.new) }
         ensures keeps { OnOk result (self.new.config ≡ self.old.config) }
         ensures sections { OnOk result (AddsSections (building_of self.old) (building_of self.new)) }
@@ -41,6 +42,8 @@ impl Progress {
         requires sound { IsSound self.old }
         ensures added { OnOk result
             (AddsAny what self.old.config (stack_of self.old) u.old (building (stack_of self.new)) u.new) }
+        ensures values { OnOk result
+            (AddsSection what self.old.config 0 (building_of self.old) u.old (building_of self.new) u.new) }
         ensures sound { OnOk result (IsSound self.new) }
         ensures keeps { OnOk result (self.new.config ≡ self.old.config) }
         ensures sections { OnOk result (AddsSections (building_of self.old) (building_of self.new)) }

@@ -15,3 +15,7 @@ add_section-requires c =
 pub returns-clause-added : goal.returns-clause-added
 returns-clause-added c =
     IfOk-weaker c.add_section.result _ _ (λ s h. (c.in_ok-module.module, c.in_ok-module.ensures.reads, h)) c.add_section.ensures.added
+
+pub returns-clause-values : goal.returns-clause-values
+returns-clause-values c =
+    IfOk-weaker c.add_section.result _ _ (λ s h. record { parts = c.in_ok-module.module; added = h; reads = c.in_ok-module.ensures.reads }) c.add_section.ensures.last

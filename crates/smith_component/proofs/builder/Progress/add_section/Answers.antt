@@ -1,12 +1,12 @@
 use Rattle.std.proofs.Common.{◌∷◌, sym, subst, ap, ◌∙◌, arith, length}
 use Rattle.smith_component.specs.BuilderView.{stack_of}
 use Rattle.smith_component.specs.Open.{scopes_in, with_inner}
-use Rattle.smith_component.specs.Shown.{shown_section, shown_sections}
+use Rattle.smith_component.specs.Shown.{shown_section}
 use Rattle.smith_component.specs.Sound.{Sound}
-use Rattle.smith_component.specs.Tables.{Tabled}
 use Rattle.smith_component.specs.WellFormed.{scope_of}
 use Rattle.smith_component.proofs.Sound.{part_sound, scope_bare, totalled_part}
-use Rattle.smith_component.proofs.Standing.{tabled_added, none_imported}
+use Rattle.smith_component.proofs.SectionValues.{is_tabled_added}
+use Rattle.smith_component.proofs.Standing.{none_imported}
 use Rattle.smith_component.proofs.builder.Progress.add_section.Goals as goal
 
 pub overflow_add-self : goal.overflow_add-self
@@ -37,5 +37,5 @@ returns-clause-sound c =
             totalled_part b.config stack.outer stack.inner _ b.totals _ p a.no_component new (omega (arith, c.module_count-modules.ensures, ap length none.0)) (omega (arith, ap length none.1)) (omega (arith, ap length none.2))
             i.0.totalled;
       },
-      (subst (λ tb. Tabled tb (shown_sections c.push.new.self.sections.items)) (sym c.push.ensures.tables) (tabled_added stack.inner _ p new q.functions q.core_functions q.imports i.1.0), i.1.1),
+      (is_tabled_added b.inner c.push.new.self c.args.section c.in_ok-push.ensures.items c.push.ensures.tables q.functions q.core_functions q.imports i.1.0, i.1.1),
     )

@@ -3,11 +3,10 @@ use Rattle.std.proofs.lemmas.List.{map-append}
 use Rattle.std.specs.List.{AllByRecursion}
 use Rattle.smith_scopes.specs.Scopes.{last_of}
 use Rattle.smith_scopes.proofs.Stack.{length-inward, closed_scope}
-use Rattle.smith_component.specs.BuilderView.{IsTabled}
+use Rattle.smith_component.specs.Tables.{IsTabled}
 use Rattle.smith_component.specs.Open.{scopes_in}
 use Rattle.smith_component.specs.Shown.{shown_sections}
 use Rattle.smith_component.specs.Sound.{Sound}
-use Rattle.smith_component.specs.Tables.{Tabled}
 use Rattle.smith_component.specs.Turn.{answered}
 use Rattle.smith_component.specs.Tree.{Tree, add, component}
 use Rattle.smith_component.specs.WellFormed.{scope_of}
@@ -16,7 +15,7 @@ use Rattle.smith_component.specs.declared.component.Section.{Section}
 use Rattle.smith_component.specs.declared.component.Section.TheVariants.{Component as inner_section}
 use Rattle.smith_component.proofs.Shown.{none_open, outer_popped, trees_of}
 use Rattle.smith_component.proofs.Sound.{root_kept, sound_close, totalled_close, closes, scope_bare, scopes_from-snoc, length-scopes_from, same_tail}
-use Rattle.smith_component.proofs.Standing.{tabled_added}
+use Rattle.smith_component.proofs.SectionValues.{is_tabled_added}
 use Rattle.smith_scopes.proofs.Plain.{all_back, all_front}
 use Rattle.smith_component.proofs.builder.Progress.close.Goals as goal
 
@@ -58,7 +57,8 @@ returns-in_ok-push-in-Some-clause-sound c =
     let enough = c.requires.minima in
     let all = subst (AllByRecursion IsTabled) c.in-Some.ensures.items i.1.1 in
     let last = all_back IsTabled c.pop.new.self.items (c.in-Some.parent ∷ []) all in
-    let tables = c.push.ensures.tables ∙ ap (λ (o : OpenComponent). o.tables) c.replace-finished.ensures.after in (
+    let tables = c.push.ensures.tables ∙ ap (λ (o : OpenComponent). o.tables) c.replace-finished.ensures.after in
+    let items = c.in_ok-push-in-Some.ensures.items ∙ ap (λ (o : OpenComponent). o.sections.items ++ inner_section c.of-component.result ∷ []) c.replace-finished.ensures.after in (
       record {
         sound = subst (λ t. Sound b.config (record { outer = outers; inner = t })) (sym new) (sound_close b.config outers parent inner enough (subst (λ us. Sound b.config (record { outer = us; inner = inner })) around i.0.sound));
         valtypes_are = i.0.valtypes_are;
@@ -66,7 +66,7 @@ returns-in_ok-push-in-Some-clause-sound c =
         totalled = totalled_close outers _ parent inner _ b.totals around new i.0.totalled;
       },
       (
-        subst (λ tb. Tabled tb (shown_sections c.push.new.self.sections.items)) (sym tables) (tabled_added parent _ (component inner) new refl refl refl last.0),
+        is_tabled_added c.in-Some.parent c.push.new.self _ items tables refl refl refl last.0,
         all_front IsTabled c.pop.new.self.items (c.in-Some.parent ∷ []) all,
       ),
     )

@@ -3,11 +3,11 @@ use Rattle.std.proofs.lemmas.List.{map-append}
 use Rattle.std.specs.List.{AllByRecursion}
 use Rattle.smith_syntax.specs.Scope.{empty_scope}
 use Rattle.smith_scopes.proofs.Stack.{opened_scope}
-use Rattle.smith_component.specs.BuilderView.{IsTabled, stack_of}
+use Rattle.smith_component.specs.BuilderView.{stack_of}
 use Rattle.smith_component.specs.Open.{scopes_in}
 use Rattle.smith_component.specs.Shown.{shown_sections}
 use Rattle.smith_component.specs.Sound.{Sound}
-use Rattle.smith_component.specs.Tables.{Tabled}
+use Rattle.smith_component.specs.Tables.{IsTabled}
 use Rattle.smith_component.specs.WellFormed.{scope_of}
 use Rattle.smith_component.specs.declared.builder.open.OpenComponent.{OpenComponent}
 use Rattle.smith_component.specs.declared.component.Section.{Section}
@@ -34,7 +34,7 @@ returns-clause-sound c =
     let fresh = c.replace-around.ensures.after in
     let inner = ap (λ x. shown_sections x.sections.items) fresh ∙ ap shown_sections c.new-opened.ensures.items in
     let around = c.in_ok-push.ensures.items ∙ ap (λ x. b.outer.items ++ x ∷ []) c.replace-around.ensures.value in
-    let tables : IsTabled new = subst (λ t. Tabled new.tables t) (sym (ap shown_sections c.new-opened.ensures.items)) c.new-opened.ensures.tabled in (
+    let tables : IsTabled new = c.new-opened.ensures.tabled in (
       record {
         sound = subst (λ us. Sound b.config (record { outer = us; inner = shown_sections c.replace-around.new.dest.sections.items })) (sym outer) (subst (λ t. Sound b.config (record { outer = stack.outer ++ stack.inner ∷ []; inner = t })) (sym inner) (sound_open b.config stack.outer stack.inner o.0 o.1 i.0.sound));
         valtypes_are = i.0.valtypes_are;

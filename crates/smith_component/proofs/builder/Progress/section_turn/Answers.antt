@@ -7,6 +7,7 @@ use Rattle.smith_component.specs.Tree.{Tree}
 use Rattle.smith_component.specs.declared.item.Counted.{Counted}
 use Rattle.smith_component.specs.declared.item.Counted.TheVariants.{Types, Imports, Functions}
 use Rattle.smith_component.proofs.Sound.{own_limits_of}
+use Rattle.smith_component.proofs.SectionValues.{section_shown}
 use Rattle.smith_component.proofs.Turn.{still_building}
 use Rattle.smith_component.proofs.builder.Progress.section_turn.Goals as goal
 
@@ -24,4 +25,4 @@ add-requires c =
 pub returns-clause-added : goal.returns-clause-added
 returns-clause-added c =
     let a = c.in_ok-add.ensures in
-    ((stack_of c.add.new.self).inner, a.added, still_building (building_of c.args.self.now) (building_of c.add.new.self) a.sections)
+    ((stack_of c.add.new.self).inner, section_shown c.args.what c.args.self.now.config 0 (building_of c.args.self.now) (building_of c.add.new.self) c.args.u.now c.add.new.u a.added, still_building (building_of c.args.self.now) (building_of c.add.new.self) a.sections)

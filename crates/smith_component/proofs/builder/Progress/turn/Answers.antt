@@ -1,7 +1,8 @@
 use Rattle.std.proofs.Common.{refl}
 use Rattle.std.proofs.lemmas.Result.{IfErr-weaker}
 use Rattle.smith_input.proofs.ReadingLemmas.{tail_trans}
-use Rattle.smith_component.specs.BuilderView.{stack_of}
+use Rattle.smith_component.specs.BuilderView.{building_of, stack_of}
+use Rattle.smith_component.specs.declared.item.Item.TheVariants as item
 use Rattle.smith_component.proofs.Refusals.{finish_refused}
 use Rattle.smith_component.proofs.Turn.{chosen}
 use Rattle.smith_component.proofs.builder.Progress.turn.Goals as goal
@@ -29,3 +30,19 @@ returns-in_ok-section_turn-in-Canonical-clause-tail c = tail_trans c.section_tur
 
 pub returns-in_ok-add_module-in-Module-clause-tail : goal.returns-in_ok-add_module-in-Module-clause-tail
 returns-in_ok-add_module-in-Module-clause-tail c = tail_trans c.add_module.ensures.tail c.in-Module.ensures.tail
+
+pub returns-in_ok-add_core_types-in-CoreTypes-clause-values : goal.returns-in_ok-add_core_types-in-CoreTypes-clause-values
+returns-in_ok-add_core_types-in-CoreTypes-clause-values c =
+    record { item = item.CoreTypes; after = c.choose_item.new.u; chooses = c.in-CoreTypes.ensures.chooses; adds = (building_of c.add_core_types.new.self, refl, c.in_ok-add_core_types-in-CoreTypes.ensures.values) }
+
+pub returns-in_ok-section_turn-in-Types-clause-values : goal.returns-in_ok-section_turn-in-Types-clause-values
+returns-in_ok-section_turn-in-Types-clause-values c =
+    record { item = item.Types; after = c.choose_item.new.u; chooses = c.in-Types.ensures.chooses; adds = (building_of c.section_turn.new.self, refl, c.in_ok-section_turn-in-Types.ensures.values) }
+
+pub returns-in_ok-section_turn-in-Imports-clause-values : goal.returns-in_ok-section_turn-in-Imports-clause-values
+returns-in_ok-section_turn-in-Imports-clause-values c =
+    record { item = item.Imports; after = c.choose_item.new.u; chooses = c.in-Imports.ensures.chooses; adds = (building_of c.section_turn-in-Imports.new.self, refl, c.in_ok-section_turn-in-Imports.ensures.values) }
+
+pub returns-in_ok-add_module-in-Module-clause-values : goal.returns-in_ok-add_module-in-Module-clause-values
+returns-in_ok-add_module-in-Module-clause-values c =
+    record { item = item.Module; after = c.choose_item.new.u; chooses = c.in-Module.ensures.chooses; adds = (building_of c.add_module.new.self, refl, c.in_ok-add_module-in-Module.ensures.values) }

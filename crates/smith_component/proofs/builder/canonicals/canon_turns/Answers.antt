@@ -10,7 +10,7 @@ pub loop-done-init : goal.loop-done-init
 loop-done-init c = record {
   tail = tail_same c.args.u.now;
   draft = c.requires.draft;
-  front = front_same c.args.component.now c.args.component.now refl;
+  front = front_same c.args.component.now c.args.component.now refl refl;
   outer = refl;
   depth = refl;
   few = omega arith;

@@ -1,4 +1,4 @@
-use Rattle.std.proofs.Common.{sym, subst, ap, ◌∙◌, arith}
+use Rattle.std.proofs.Common.{refl, sym, subst, ap, ◌∙◌, arith}
 use Rattle.std.proofs.lemmas.Result.{on_ok_weaker}
 use Rattle.smith_component.specs.Canonicals.{Growing, grown}
 use Rattle.smith_component.specs.Draft.{growing}
@@ -38,4 +38,5 @@ returns-clause-tabled c =
     on_ok_weaker c.push.result (λ e. subst Q (sym e) (subst P (sym c.push.ensures.tables) c.in_ok-canon_turns.ensures.draft.tabled)) c.push.ensures.ok
 
 pub returns-clause-front : goal.returns-clause-front
-returns-clause-front c = on_ok_weaker c.push.result (λ e. front_push c.args.component.now c.canon_turns.new.component c.push.new.self _ c.in_ok-canon_turns.ensures.front e) c.push.ensures.items
+returns-clause-front c =
+    on_ok_weaker c.push.result (λ e. front_push c.args.component.now c.canon_turns.new.component c.push.new.self _ c.in_ok-canon_turns.ensures.front e refl (ap (λ (t : Tables). t.imports) c.push.ensures.tables)) c.push.ensures.items

@@ -1,5 +1,4 @@
-use Rattle.std.proofs.Common.{◌≡◌, ◌++◌, List, ◌∷◌, [], map, length, length-append, subst, ap, ◌∙◌, refl, arith}
-use Rattle.std.proofs.lemmas.List.{map-append}
+use Rattle.std.proofs.Common.{List, ◌∷◌, [], length, length-append, subst, ap, ◌∙◌, refl, arith}
 use Rattle.smith_input.proofs.Loops.{begins, stops, ends_full, goes_on}
 use Rattle.smith_input.proofs.ReadingLemmas.{tail_same, tail_trans, more_tail}
 use Rattle.smith_syntax.specs.Scope.{Scope}
@@ -15,7 +14,7 @@ loop-done-init g c =
       count = omega arith;
       outer = refl;
       depth = refl;
-      onward = begins _ _ _ _ _ _ _ (ap (map g.E.SectionEntry.shown) none);
+      onward = begins _ _ _ _ _ _ _ none;
     }
 
 pub returns-then-not-more-clause-entries : goal.returns-then-not-more-clause-entries
@@ -38,13 +37,12 @@ loop-done-preserved g c =
     let entry = c.in_ok-entry.entry in
     let i = c.loop-done.invariant in
     let e = c.in_ok-entry.ensures in
-    let all : map E.shown c.push.new.self.items ≡ map E.shown c.loop-done.entries.items ++ E.shown entry ∷ [] = ap (map E.shown) c.in_ok-push.ensures.items ∙ map-append E.shown c.loop-done.entries.items (entry ∷ []) in
-    let R : List Scope → Type 0 = λ o. E.reads c.args.config.now o (own_scope c.loop-done.scopes) c.more.new.self (E.shown entry) c.read.new.u (own_scope c.read.new.scopes) in
+    let R : List Scope → Type 0 = λ o. E.reads c.args.config.now o (own_scope c.loop-done.scopes) c.more.new.self entry c.read.new.u (own_scope c.read.new.scopes) in
     record {
       tail = tail_trans c.read.ensures.tail (tail_trans (more_tail c.more.ensures) i.tail);
       few = omega (arith, ap length c.in_ok-push.ensures.items, length-append c.loop-done.entries.items (entry ∷ []), i.few);
       count = omega (arith, e.count, i.count);
       outer = e.outer ∙ i.outer;
       depth = e.depth ∙ i.depth;
-      onward = goes_on _ _ _ _ _ _ _ _ _ _ _ _ _ _ _ _ c.if-not-more.false c.more.ensures (subst R i.outer e.read) all i.onward;
+      onward = goes_on _ _ _ _ _ _ _ _ _ _ _ _ _ _ _ _ c.if-not-more.false c.more.ensures (subst R i.outer e.read) c.in_ok-push.ensures.items i.onward;
     }

@@ -1,4 +1,5 @@
-use Rattle.std.proofs.Common.{◌≡◌, ℕ, ◌+◌, ◌<◌, ◌≤◌, max, List, [], ◌∷◌, ◌++◌, length, arith, ap, sym, subst, ◌∙◌, refl, true, false, append-nil, string_bytes}
+use Rattle.std.proofs.Common.{◌≡◌, ℕ, ◌+◌, ◌<◌, ◌≤◌, max, List, [], ◌∷◌, ◌++◌, length, arith, ap, sym, subst, ◌∙◌, refl, true, false, append-nil, append_assoc, map}
+use Rattle.std.proofs.lemmas.List.{map-append}
 use Rattle.std.specs.List.{AllByRecursion}
 use Rattle.std.specs.Prelude.{if◌then◌else◌}
 use Rattle.std.proofs.lemmas.Option.{slice_get_within}
@@ -6,10 +7,11 @@ use Rattle.smith_input.proofs.ReadingLemmas.{tail_trans}
 use Rattle.smith_format.specs.declared.config.Config.{Config}
 use Rattle.smith_syntax.specs.Entries.{ImportEntry}
 use Rattle.smith_syntax.specs.Scope.{Scope, places}
-use Rattle.smith_syntax.specs.Shown.{shown_url}
+use Rattle.smith_syntax.specs.Shown.{import_shown}
 use Rattle.smith_syntax.specs.WellFormed.{FormedRef}
 use Rattle.smith_syntax.specs.declared.deftype.ComponentTypeRef.{ComponentTypeRef}
 use Rattle.smith_syntax.specs.declared.deftype.ComponentTypeRef.TheVariants as to
+use Rattle.smith_syntax.specs.declared.deftype.Import.{Import}
 use Rattle.smith_types.specs.Declarations.{NamedExtern, ReadsNamedExtern}
 use Rattle.smith_types.specs.MakingTypes.{HoldsExterns}
 use Rattle.smith_types.specs.References.{ReadsRef}
@@ -18,17 +20,16 @@ use Rattle.smith_types.specs.declared.make.externs.ExternNames.{ExternNames}
 use Rattle.smith_types.specs.declared.make.references.RefTotals.{RefTotals}
 use Rattle.smith_types.proofs.References.{ref_formed}
 use Rattle.smith_component.specs.Offers.{is_scalar_type, totals_of, with_imports}
-use Rattle.smith_component.specs.Importing.{Importing}
-use Rattle.smith_component.specs.Imports.{ReadsImport}
+use Rattle.smith_component.specs.Importing.{Importing, Totalled}
 use Rattle.smith_component.specs.Open.{Open}
+use Rattle.smith_component.specs.SectionValues.{ReadsImportValue, extern_of}
 use Rattle.smith_component.specs.Tables.{AddsFunction, Tabled}
-use Rattle.smith_component.specs.Tree.{Tree, add, component_of, core_functions_in, function_of, functions_in, imports, imports_in, imports_of, instance_of, module_of, types_in, types_of}
-use Rattle.smith_component.specs.WellFormed.{import_names, scope_of}
+use Rattle.smith_component.specs.Tree.{Tree, add, component_of, core_functions_in, function_of, functions_in, imports, instance_of, module_of, types_in, types_of}
+use Rattle.smith_component.specs.WellFormed.{scope_of}
 use Rattle.smith_component.specs.declared.builder.tables.Tables.{Tables}
 use Rattle.smith_component.specs.declared.builder.totals.TreeTotals.{TreeTotals}
 use Rattle.smith_component.proofs.Importing.{components_more, import_room, instances_more, modules_more}
-use Rattle.smith_component.proofs.Tables.{flat_map_more, names_grown, own_bare, own_grown, tabled_more}
-use Rattle.smith_component.proofs.Tree.{own-add}
+use Rattle.smith_component.proofs.Tables.{flat_map_more, own_bare, own_grown, tabled_more}
 use Rattle.smith_component.proofs.builder.imports.read_import.Goals as goal
 use Rattle.smith_component.proofs.builder.imports.read_import.Goals.{in-Func+in_ok-add_function, in_default-ty}
 
@@ -77,67 +78,69 @@ function_within own (to.TypeEq i) f = tt
 function_within own (to.Component i) f = tt
 function_within own (to.Instance i) f = tt
 
-module _ (config : Config) (stack : Open) (is : List ImportEntry) (own : Scope) (totals : TreeTotals) (tables : Tables) (importing : Importing stack is own totals tables) where
+module _ (config : Config) (stack : Open) (before : List NamedExtern) (is : List Import) (own : Scope) (totals : TreeTotals) (tables : Tables) (importing : Importing stack before is own totals tables) where
+  abbrev entries : List ImportEntry
+  entries = map import_shown is
+
   counts_are : (counts : RefTotals) → counts.modules ≡ totals.modules → counts.funcs ≡ length tables.functions.items + length tables.core_functions.items → counts.components ≡ totals.components → counts.instances ≡ totals.instances
-      → counts ≡ totals_of (with_imports stack is)
+      → counts ≡ totals_of (with_imports stack entries)
   counts_are counts ms fs cs ns =
       let m = ms ∙ importing.totalled.modules in
-      let f : counts.funcs ≡ (totals_of (with_imports stack is)).funcs = omega (arith, fs, ap length importing.tabled.functions, ap length importing.tabled.core_functions) in
+      let f : counts.funcs ≡ (totals_of (with_imports stack entries)).funcs = omega (arith, fs, ap length importing.tabled.functions, ap length importing.tabled.core_functions) in
       let c = cs ∙ importing.totalled.components in
       let n = ns ∙ importing.totalled.instances in
       λ i. record { modules = m i; funcs = f i; components = c i; instances = n i }
 
-  module _ (b mid rest : List ℕ) (r : ComponentTypeRef) (x : NamedExtern) where
+  module _ (b mid rest : List ℕ) (x : Import) where
     abbrev entry : ImportEntry
-    entry = record { name = x.0; to = r }
+    entry = import_shown x
 
-    import_is_read : (counts : RefTotals) → counts ≡ totals_of (with_imports stack is) → ReadsRef config own counts true false b r mid → ((so_far : List NamedExtern) → HoldsExterns tables.imports so_far → ReadsNamedExtern so_far mid x rest)
-        → ReadsImport config stack is b entry rest (is ++ entry ∷ [])
+    import_is_read : (counts : RefTotals) → counts ≡ totals_of (with_imports stack entries) → ReadsRef config own counts true false b x.ty mid → ((so_far : List NamedExtern) → HoldsExterns tables.imports so_far → ReadsNamedExtern so_far mid (extern_of x) rest)
+        → ReadsImportValue config stack before is b x rest (is ++ x ∷ [])
     import_is_read counts e of named = record {
       mid = mid;
-      so_far = importing.tabled.externs;
-      url = x.1;
-      of = subst (λ z. ReadsRef config (scope_of stack.inner) z true false b r mid) e (subst (λ z. ReadsRef config z counts true false b r mid) importing.scope_is of);
-      names_are = importing.tabled.names_are ∙ ap import_names (own-add imports_in stack.inner (imports is));
-      named = named importing.tabled.externs importing.tabled.holds;
+      of = subst (λ z. ReadsRef config (scope_of stack.inner) z true false b x.ty mid) e (subst (λ z. ReadsRef config z counts true false b x.ty mid) importing.scope_is of);
+      named = named (before ++ map extern_of is) importing.externs;
       next_is = refl;
     }
 
     abbrev old_tree : Tree
-    old_tree = add stack.inner (imports is)
+    old_tree = add stack.inner (imports entries)
 
     abbrev new_tree : Tree
-    new_tree = add stack.inner (imports (is ++ entry ∷ []))
+    new_tree = add stack.inner (imports (entries ++ entry ∷ []))
 
-    import_is_kept : (externs : ExternNames) (new : Tables) → FormedRef own r → Takes own tables r externs new → ((so_far : List NamedExtern) → HoldsExterns tables.imports so_far → HoldsExterns externs (so_far ++ x ∷ [])) → Tabled new new_tree
-    import_is_kept externs new formed takes holds =
+    import_is_kept : (externs : ExternNames) (new : Tables) → FormedRef own x.ty → Takes own tables x.ty externs new → Tabled new new_tree
+    import_is_kept externs new formed takes =
         let tabled : Tabled tables old_tree = importing.tabled in
-        let same : own.types ≡ types_of new_tree = ap (λ s. s.types) importing.scope_is ∙ sym (own_bare types_in stack.inner (imports (is ++ entry ∷ [])) refl) in
-        let grown : imports_of new_tree ≡ imports_of old_tree ++ entry ∷ [] = own_grown imports_in stack.inner (imports is) (imports (is ++ entry ∷ [])) (entry ∷ []) refl in
-        tabled_more tables new old_tree new_tree [] (function_of r) [] tabled
-        (own_grown types_in stack.inner (imports is) (imports (is ++ entry ∷ [])) [] refl)
-        (own_grown functions_in stack.inner (imports is) (imports (is ++ entry ∷ [])) (function_of r) (flat_map_more (λ (i : ImportEntry). function_of i.to) is entry))
-        (own_grown core_functions_in stack.inner (imports is) (imports (is ++ entry ∷ [])) [] refl)
-        (subst (λ ts. AllByRecursion (λ ty. ty < length ts) (function_of r)) same (function_within own r formed))
+        let same : own.types ≡ types_of new_tree = ap (λ s. s.types) importing.scope_is ∙ sym (own_bare types_in stack.inner (imports (entries ++ entry ∷ [])) refl) in
+        tabled_more tables new old_tree new_tree [] (function_of x.ty) [] tabled
+        (own_grown types_in stack.inner (imports entries) (imports (entries ++ entry ∷ [])) [] refl)
+        (own_grown functions_in stack.inner (imports entries) (imports (entries ++ entry ∷ [])) (function_of x.ty) (flat_map_more (λ (i : ImportEntry). function_of i.to) entries entry))
+        (own_grown core_functions_in stack.inner (imports entries) (imports (entries ++ entry ∷ [])) [] refl)
+        (subst (λ ts. AllByRecursion (λ ty. ty < length ts) (function_of x.ty)) same (function_within own x.ty formed))
         tt
         takes.functions
         (takes.core_functions ∙ sym (append-nil tables.core_functions.items))
-        (takes.scalars ∙ ap (λ ts. tables.scalars.items ++ places (is_scalar_type ts) (length tables.functions.items) (function_of r)) same)
-        (tabled.externs ++ x ∷ [])
-        (names_grown old_tree new_tree entry x tabled.externs tabled.names_are grown refl)
-        (subst (λ z. HoldsExterns z (tabled.externs ++ x ∷ [])) (sym takes.imports) (holds tabled.externs tabled.holds))
+        (takes.scalars ∙ ap (λ ts. tables.scalars.items ++ places (is_scalar_type ts) (length tables.functions.items) (function_of x.ty)) same)
 
-    import_goes_on : (totals2 : TreeTotals) (new : Tables) → totals2.modules ≡ totals.modules + length (module_of r) → totals2.components ≡ totals.components + length (component_of r) → totals2.instances ≡ totals.instances + length (instance_of r) → Tabled new new_tree
-        → Importing stack (is ++ entry ∷ []) own totals2 new
-    import_goes_on totals2 new ms cs ns tabled = record {
-      scope_is = importing.scope_is;
-      totalled = record {
-        modules = omega (arith, ms, importing.totalled.modules, modules_more stack is entry);
-        components = omega (arith, cs, importing.totalled.components, components_more stack is entry);
-        instances = omega (arith, ns, importing.totalled.instances, instances_more stack is entry);
-      };
-      tabled = tabled;
-    }
+    import_goes_on : (totals2 : TreeTotals) (new : Tables) → totals2.modules ≡ totals.modules + length (module_of x.ty) → totals2.components ≡ totals.components + length (component_of x.ty) → totals2.instances ≡ totals.instances + length (instance_of x.ty)
+        → Tabled new new_tree → HoldsExterns new.imports ((before ++ map extern_of is) ++ extern_of x ∷ []) → Importing stack before (is ++ x ∷ []) own totals2 new
+    import_goes_on totals2 new ms cs ns tabled holds =
+        let all : map import_shown (is ++ x ∷ []) ≡ entries ++ entry ∷ [] = map-append import_shown is (x ∷ []) in
+        let named : (before ++ map extern_of is) ++ extern_of x ∷ [] ≡ before ++ map extern_of (is ++ x ∷ []) =
+        append_assoc before (map extern_of is) (extern_of x ∷ []) ∙ ap (λ xs. before ++ xs) (sym (map-append extern_of is (x ∷ []))) in
+        let totalled : Totalled totals2 (with_imports stack (entries ++ entry ∷ [])) = record {
+          modules = omega (arith, ms, importing.totalled.modules, modules_more stack entries entry);
+          components = omega (arith, cs, importing.totalled.components, components_more stack entries entry);
+          instances = omega (arith, ns, importing.totalled.instances, instances_more stack entries entry);
+        } in
+        record {
+          scope_is = importing.scope_is;
+          totalled = subst (λ es. Totalled totals2 (with_imports stack es)) (sym all) totalled;
+          tabled = subst (λ es. Tabled new (add stack.inner (imports es))) (sym all) tabled;
+          externs = subst (HoldsExterns new.imports) named holds;
+        }
 
 -- what is counted finds room
 counts_fit : (old more count most : ℕ) → count ≡ old → count + more ≤ max count most → most ≤ 4294967295 → 0 < more → old + 1 < 18446744073709551616
@@ -177,22 +180,25 @@ add_function-requires-clause-room c =
     omega (arith, room.funcs, ap (λ r. length (function_of r)) c.in-Func.is, counts.ensures.funcs, c.function_count.ensures, c.requires.consistent.funcs)
 
 -- The import is read and counted, whatever it is of.
-imported : (c : goal.Joined-ty) (new : Tables) (ty : ComponentTypeRef) → ty ≡ c.in-Some.ty → Takes (own_scope c.args.scopes.now) c.args.tables.now c.in-Some.ty c.named_extern.new.externs new → (stack : Open) (is : List ImportEntry)
-    → Importing stack is (own_scope c.args.scopes.now) c.args.totals.now c.args.tables.now
-    → ReadsImport c.args.config.now stack is c.args.u.now (record { name = string_bytes c.in_ok-name.name; to = ty }) c.named_extern.new.u (is ++ (record { name = string_bytes c.in_ok-name.name; to = ty }) ∷ [])
-    × Importing stack (is ++ (record { name = string_bytes c.in_ok-name.name; to = ty }) ∷ []) (own_scope c.args.scopes.now) c.count.new.self new
-imported c new ty same takes stack is importing =
+imported : (c : goal.Joined-ty) (new : Tables) (ty : ComponentTypeRef) → ty ≡ c.in-Some.ty → Takes (own_scope c.args.scopes.now) c.args.tables.now c.in-Some.ty c.named_extern.new.externs new
+    → (stack : Open) (before : List NamedExtern) (is : List Import) → Importing stack before is (own_scope c.args.scopes.now) c.args.totals.now c.args.tables.now
+    → ReadsImportValue c.args.config.now stack before is c.args.u.now (record { name = c.in_ok-name.name; url = c.in_ok-name.url; ty = ty }) c.named_extern.new.u (is ++ (record { name = c.in_ok-name.name; url = c.in_ok-name.url; ty = ty }) ∷ [])
+    × Importing stack before (is ++ (record { name = c.in_ok-name.name; url = c.in_ok-name.url; ty = ty }) ∷ []) (own_scope c.args.scopes.now) c.count.new.self new
+imported c new ty same takes stack before is importing =
     let config = c.args.config.now in
     let own = own_scope c.args.scopes.now in
     let r : ComponentTypeRef = c.in-Some.ty in
-    let x : NamedExtern = (string_bytes c.in_ok-name.name, shown_url c.in_ok-name.url) in
+    let i : Import = record { name = c.in_ok-name.name; url = c.in_ok-name.url; ty = r } in
     let counts = c.with_functions-counts in
-    let e = counts_are config stack is own c.args.totals.now c.args.tables.now importing counts.result counts.ensures.modules (counts.ensures.funcs ∙ c.function_count.ensures) counts.ensures.components counts.ensures.instances in
-    let reads = import_is_read config stack is own c.args.totals.now c.args.tables.now importing c.args.u.now c.arbitrary_type_ref.new.u c.named_extern.new.u r x counts.result e c.in-Some.ensures.reads c.in_ok-name.ensures.reads in
+    let e = counts_are config stack before is own c.args.totals.now c.args.tables.now importing counts.result counts.ensures.modules (counts.ensures.funcs ∙ c.function_count.ensures) counts.ensures.components counts.ensures.instances in
+    let reads = import_is_read config stack before is own c.args.totals.now c.args.tables.now importing c.args.u.now c.arbitrary_type_ref.new.u c.named_extern.new.u i counts.result e c.in-Some.ensures.reads c.in_ok-name.ensures.reads in
     let formed = ref_formed config own counts.result true false c.args.u.now r c.arbitrary_type_ref.new.u c.in-Some.ensures.reads in
-    let kept = import_is_kept config stack is own c.args.totals.now c.args.tables.now importing c.args.u.now c.arbitrary_type_ref.new.u c.named_extern.new.u r x c.named_extern.new.externs new formed takes c.in_ok-name.ensures.names in
-    let goes_on = import_goes_on config stack is own c.args.totals.now c.args.tables.now importing c.args.u.now c.arbitrary_type_ref.new.u c.named_extern.new.u r x c.count.new.self new c.count.ensures.modules c.count.ensures.components c.count.ensures.instances kept in
-    let P : ComponentTypeRef → Type 0 = λ t. ReadsImport config stack is c.args.u.now (record { name = x.0; to = t }) c.named_extern.new.u (is ++ (record { name = x.0; to = t }) ∷ []) × Importing stack (is ++ (record { name = x.0; to = t }) ∷ []) own c.count.new.self new in
+    let kept = import_is_kept config stack before is own c.args.totals.now c.args.tables.now importing c.args.u.now c.arbitrary_type_ref.new.u c.named_extern.new.u i c.named_extern.new.externs new formed takes in
+    let so_far : List NamedExtern = before ++ map extern_of is in
+    let holds = subst (λ z. HoldsExterns z (so_far ++ extern_of i ∷ [])) (sym takes.imports) (c.in_ok-name.ensures.names so_far importing.externs) in
+    let goes_on = import_goes_on config stack before is own c.args.totals.now c.args.tables.now importing c.args.u.now c.arbitrary_type_ref.new.u c.named_extern.new.u i c.count.new.self new c.count.ensures.modules c.count.ensures.components c.count.ensures.instances kept holds in
+    let Made : ComponentTypeRef → Import = λ t. record { name = c.in_ok-name.name; url = c.in_ok-name.url; ty = t } in
+    let P : ComponentTypeRef → Type 0 = λ t. ReadsImportValue config stack before is c.args.u.now (Made t) c.named_extern.new.u (is ++ Made t ∷ []) × Importing stack before (is ++ Made t ∷ []) own c.count.new.self new in
     subst P (sym same) (reads, goes_on)
 
 pub returns-clause-imports : goal.returns-clause-imports

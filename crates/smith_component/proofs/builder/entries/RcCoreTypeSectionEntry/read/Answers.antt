@@ -20,7 +20,7 @@ grows c =
     }
 
 pub returns-clause-read : goal.returns-clause-read
-returns-clause-read c = (c.arbitrary_core_type.new.fuel, c.in_ok-made.ensures.made, (grows c).own)
+returns-clause-read c = ((c.arbitrary_core_type.new.fuel, c.in_ok-made.ensures.made, (grows c).own), c.in_ok-made.ensures.kept)
 
 pub returns-clause-count : goal.returns-clause-count
 returns-clause-count c =

@@ -1,7 +1,7 @@
-use Rattle.std.proofs.Common.{◌∷◌, [], length, length-append, sym, ap, ◌∙◌, refl, arith}
+use Rattle.std.proofs.Common.{◌∷◌, [], length, length-append, sym, ap, ◌∙◌, arith}
 use Rattle.smith_scopes.specs.Scopes.{inward, own_scope}
 use Rattle.smith_syntax.specs.Scope.{own_of, outer_of, with_type}
-use Rattle.smith_syntax.specs.Shown.{full_type, shown_type, shown_shared}
+use Rattle.smith_syntax.specs.Shown.{shown_type, shown_shared}
 use Rattle.smith_scopes.proofs.Stack.{length-last, length-inward, Grown, grown}
 use Rattle.smith_component.proofs.builder.entries.RcDefTypeSectionEntry.read.Goals as goal
 
@@ -21,15 +21,7 @@ grows c =
     }
 
 pub returns-clause-read : goal.returns-clause-read
-returns-clause-read c = (
-  record {
-    full = full_type c.in_ok-made.made.value;
-    left = c.arbitrary_type.new.fuel;
-    made = c.in_ok-made.ensures.made;
-    shown = refl;
-  },
-  (grows c).own,
-)
+returns-clause-read c = (c.arbitrary_type.new.fuel, c.in_ok-made.ensures.made, (grows c).own)
 
 pub returns-clause-count : goal.returns-clause-count
 returns-clause-count c = omega (arith, ap (λ s. length s.types) (grows c).own, length-append (own_scope c.args.scopes.now).types (shown_shared c.in_ok-made.made ∷ []))

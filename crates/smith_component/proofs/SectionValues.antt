@@ -1,0 +1,155 @@
+-- What the sections that a turn adds hold, and what they show.
+use Rattle.std.proofs.Common.{◌≡◌, ℕ, ◌+◌, ◌-◌, List, [], ◌∷◌, ◌++◌, map, length, refl, sym, ap, ◌∙◌, subst, append-nil}
+use Rattle.std.proofs.lemmas.List.{length-map, map-append}
+use Rattle.std.specs.declared.alloc.Global.{Global}
+use Rattle.std.specs.declared.rc.Rc.{Rc}
+use Rattle.smith_input.specs.Loops.{Loop, Never, no_more, by_itself, an_item}
+use Rattle.smith_input.proofs.Loops.{loop_map}
+use Rattle.smith_format.specs.declared.config.Config.{Config}
+use Rattle.smith_syntax.specs.Entries.{ImportEntry}
+use Rattle.smith_syntax.specs.Scope.{Scope, own_of, outer_of}
+use Rattle.smith_syntax.specs.Shown.{full_type, import_shown, shown_shared, shown_shared_core}
+use Rattle.smith_syntax.specs.WellFormed.{names}
+use Rattle.smith_syntax.specs.declared.core_types.CoreType.{CoreType}
+use Rattle.smith_syntax.specs.declared.deftype.DefType.{DefType}
+use Rattle.smith_syntax.specs.declared.deftype.Import.{Import}
+use Rattle.smith_types.specs.Declarations.{NamedExtern}
+use Rattle.smith_types.specs.MakingTypes.{HoldsExterns}
+use Rattle.smith_component.specs.Building.{Building, open_of}
+use Rattle.smith_component.specs.Imports.{NoImport, ReadsImport, ReadsImports}
+use Rattle.smith_component.specs.Open.{Open}
+use Rattle.smith_component.specs.SectionValues.{AddsImportSection, AddsSection, AddsTypeSection, NoImportValue, ReadsCoreTypeValue, ReadsImportValue, ReadsTypeValue, extern_of, externs_in, externs_of}
+use Rattle.smith_component.specs.Shown.{shown_section, shown_sections}
+use Rattle.smith_component.specs.Tables.{IsTabled, Tabled}
+use Rattle.smith_component.specs.Tree.{core_functions_in, functions_in, imports_in, imports_of}
+use Rattle.smith_component.specs.Turn.{Adds, ReadsCoreTypes, ReadsTypes}
+use Rattle.smith_component.specs.WellFormed.{import_names}
+use Rattle.smith_component.specs.declared.builder.open.OpenComponent.{OpenComponent}
+use Rattle.smith_component.specs.declared.builder.tables.Tables.{Tables}
+use Rattle.smith_component.specs.declared.component.Section.{Section}
+use Rattle.smith_component.specs.declared.component.Section.TheVariants.{Custom, CoreModule, CoreTypes, Types, Canonical, Imports, Component}
+use Rattle.smith_component.specs.declared.item.Counted.{Counted}
+use Rattle.smith_component.specs.declared.item.Counted.TheVariants as counted
+use Rattle.smith_component.proofs.Shown.{shown_push}
+use Rattle.smith_component.proofs.Standing.{tabled_added}
+use Rattle.smith_component.proofs.Tables.{flat_map_more}
+
+-- What is read of types and core types is read of what they show.
+
+pub types_shown : (config : Config) (outer : List Scope) {min max : ℕ} {own next : Scope} {b rest : List ℕ} {ts : List (Rc DefType Global)}
+    → Loop Never (ReadsTypeValue config outer) min max 0 own b ts rest next → ReadsTypes config outer min max own b (map shown_shared ts) rest next
+types_shown config outer {own = own} {next = next} {b = b} {rest = rest} {ts = ts} r =
+    loop_map shown_shared (λ s c t q u (left, made, e). (record { full = full_type t.value; left = left; made = made; shown = refl }, e)) 0 own b ts rest next r
+
+pub core_types_shown : (config : Config) {max : ℕ} {own next : Scope} {b rest : List ℕ} {ts : List (Rc CoreType Global)}
+    → Loop Never (ReadsCoreTypeValue config) 0 max 0 own b ts rest next → ReadsCoreTypes config max own b (map shown_shared_core ts) rest next
+core_types_shown config {own = own} {next = next} {b = b} {rest = rest} {ts = ts} r = loop_map shown_shared_core (λ s c t q u (reads, kept). reads) 0 own b ts rest next r
+
+-- the same entries where the scopes and the room are known by equations
+pub entries_where : {A : Type 0} (R : List Scope → Scope → List ℕ → A → List ℕ → Scope → Type 0) (scopes outer : List Scope) (own : Scope) (max room : ℕ) {min : ℕ} {next : Scope} {b rest : List ℕ} {xs : List A}
+    → scopes ≡ own ∷ outer → max ≡ room → Loop Never (R (outer_of scopes)) min max 0 (own_of scopes) b xs rest next → Loop Never (R outer) min room 0 own b xs rest next
+entries_where R scopes outer own max room {min} {next} {b} {rest} {xs} e m r =
+    let P : ℕ → Type 0 = λ n. Loop Never (R outer) min n 0 own b xs rest next in
+    let Q : List Scope → Type 0 = λ ss. Loop Never (R (outer_of ss)) min max 0 (own_of ss) b xs rest next in
+    subst P m (subst Q e r)
+
+-- The names of a component's imports.
+
+names_shown : (is : List Import) → names (map extern_of is) ≡ import_names (map import_shown is)
+names_shown [] = refl
+names_shown (i ∷ is) = ap (λ ns. (extern_of i).0 ∷ ns) (names_shown is)
+
+names_in_section : (s : Section) → names (externs_in s) ≡ import_names (imports_in (shown_section s))
+names_in_section (Custom s) = refl
+names_in_section (CoreModule m) = refl
+names_in_section (CoreTypes s) = refl
+names_in_section (Component t) = refl
+names_in_section (Types s) = refl
+names_in_section (Canonical s) = refl
+names_in_section (Imports s) = names_shown s.imports.items
+
+names_both : (xs ys : List NamedExtern) → names (xs ++ ys) ≡ names xs ++ names ys
+names_both xs ys = map-append (λ (x : NamedExtern). x.0) xs ys
+
+import_names_both : (is js : List ImportEntry) → import_names (is ++ js) ≡ import_names is ++ import_names js
+import_names_both is js = map-append (λ (i : ImportEntry). i.name) is js
+
+pub externs_named : (ss : List Section) → names (externs_of ss) ≡ import_names (imports_of (shown_sections ss))
+externs_named [] = refl
+externs_named (s ∷ ss) =
+    names_both (externs_in s) (externs_of ss)
+    ∙ (ap (λ ns. ns ++ names (externs_of ss)) (names_in_section s)
+    ∙ (ap (λ ns. import_names (imports_in (shown_section s)) ++ ns) (externs_named ss)
+    ∙ sym (import_names_both (imports_in (shown_section s)) (imports_of (shown_sections ss)))))
+
+-- There are as many as imports.
+pub import_count : (ss : List Section) → length (externs_of ss) ≡ length (imports_of (shown_sections ss))
+import_count ss =
+    sym (length-map (externs_of ss) (λ (x : NamedExtern). x.0)) ∙ (ap length (externs_named ss) ∙ length-map (imports_of (shown_sections ss)) (λ (i : ImportEntry). i.name))
+
+-- An import section that is read is read of what it shows.
+module _ (config : Config) (stack : Open) (before : List NamedExtern) (are : names before ≡ import_names (imports_of stack.inner)) {min max : ℕ} where
+  names_behind : (is : List Import) → names (before ++ map extern_of is) ≡ import_names (imports_of stack.inner ++ map import_shown is)
+  names_behind is =
+      names_both before (map extern_of is)
+      ∙ (ap (λ ns. ns ++ names (map extern_of is)) are
+      ∙ (ap (λ ns. import_names (imports_of stack.inner) ++ ns) (names_shown is)
+      ∙ sym (import_names_both (imports_of stack.inner) (map import_shown is))))
+
+  import_is_shown : (s : List Import) (b : List ℕ) (x : Import) (rest : List ℕ) (t : List Import) → ReadsImportValue config stack before s b x rest t → ReadsImport config stack (map import_shown s) b (import_shown x) rest (map import_shown t)
+  import_is_shown s b x rest t i = record {
+    mid = i.mid;
+    so_far = before ++ map extern_of s;
+    url = (extern_of x).1;
+    of = i.of;
+    names_are = names_behind s;
+    named = i.named;
+    next_is = ap (map import_shown) i.next_is ∙ map-append import_shown s (x ∷ []);
+  }
+
+  pub imports_shown : (done : ℕ) (s : List Import) (b : List ℕ) (xs : List Import) (rest : List ℕ) (t : List Import) → Loop (NoImportValue config stack) (ReadsImportValue config stack before) min max done s b xs rest t
+      → Loop (NoImport config stack) (ReadsImport config stack) min max done (map import_shown s) b (map import_shown xs) rest (map import_shown t)
+  imports_shown done s b xs rest t (no_more m e) = no_more m (ap (map import_shown) e)
+  imports_shown done s b xs rest t (by_itself m e) = by_itself m (e.0, e.1, ap (map import_shown) e.2)
+  imports_shown done s b xs rest u (an_item {t = t} {mid = mid} {after = after} {x = x} {xs = ys} m i l) = an_item m (import_is_shown s mid x after t i) (imports_shown (done + 1) t after ys rest u l)
+
+-- What a section with a minimum adds, as a plain tree.
+pub section_shown : (what : Counted) (config : Config) (min : ℕ) (old new : Building) (b rest : List ℕ) → AddsSection what config min old b new rest → Adds what config min (open_of old) b (open_of new).inner rest
+section_shown counted.Types config min old new b rest a =
+    (map shown_shared a.section.types.items, a.scope, types_shown config _ a.reads, ap shown_sections a.added ∙ shown_push old.inner (Types a.section))
+section_shown counted.Imports config min old new b rest a =
+    let is : List Import = a.section.imports.items in
+    let reads : ReadsImports config min (open_of old) b (map import_shown is) rest = imports_shown config (open_of old) (externs_of old.inner) (externs_named old.inner) 0 [] b is rest is a.reads in
+    (map import_shown is, reads, ap shown_sections a.added ∙ shown_push old.inner (Imports a.section))
+section_shown counted.Functions config min old new b rest a = a
+
+-- What is kept of a component to which a section without functions and imports is added.
+
+no_extern : (is : List Import) → map import_shown is ≡ [] → map extern_of is ≡ []
+no_extern [] e = refl
+no_extern (i ∷ is) e = absurd cc
+
+no_externs : (s : Section) → imports_in (shown_section s) ≡ [] → externs_in s ≡ []
+no_externs (Custom s) e = refl
+no_externs (CoreModule m) e = refl
+no_externs (CoreTypes s) e = refl
+no_externs (Component t) e = refl
+no_externs (Types s) e = refl
+no_externs (Canonical s) e = refl
+no_externs (Imports s) e = no_extern s.imports.items e
+
+-- with those that another section imports
+pub externs_push : (ss : List Section) (s : Section) → externs_of (ss ++ s ∷ []) ≡ externs_of ss ++ externs_in s
+externs_push ss s = flat_map_more externs_in ss s
+
+pub is_tabled_added : (old new : OpenComponent) (s : Section) → new.sections.items ≡ old.sections.items ++ s ∷ [] → new.tables ≡ old.tables
+    → functions_in (shown_section s) ≡ [] → core_functions_in (shown_section s) ≡ [] → imports_in (shown_section s) ≡ [] → IsTabled old → IsTabled new
+is_tabled_added old new s e tables fs cs is i =
+    let shown = ap shown_sections e ∙ shown_push old.sections.items s in
+    let same : externs_of new.sections.items ≡ externs_of old.sections.items =
+    ap externs_of e ∙ (externs_push old.sections.items s ∙ (ap (λ z. externs_of old.sections.items ++ z) (no_externs s is) ∙ append-nil (externs_of old.sections.items))) in
+    let P : Tables → Type 0 = λ z. HoldsExterns z.imports (externs_of new.sections.items) in
+    record {
+      tabled = tabled_added (shown_sections old.sections.items) (shown_sections new.sections.items) (shown_section s) shown fs cs (subst (λ z. Tabled z (shown_sections old.sections.items)) (sym tables) i.tabled);
+      externs = subst P (sym tables) (subst (HoldsExterns old.tables.imports) (sym same) i.externs);
+    }

@@ -1,0 +1,105 @@
+-- Sections as values that a turn adds, with what a plain tree leaves out: URLs, what outer aliases keep, and the parts of a core
+-- module that leave no byte.
+use Rattle.std.specs.Prelude.{◌≡◌, ℕ, ◌-◌, true, false, List, [], ◌∷◌, ◌++◌, map, length, string_bytes}
+use Rattle.std.specs.List.{flat_map}
+use Rattle.std.specs.declared.alloc.Global.{Global}
+use Rattle.std.specs.declared.rc.Rc.{Rc}
+use Rattle.smith_input.specs.Loops.{Loop, Never}
+use Rattle.smith_format.specs.declared.config.Config.{Config}
+use Rattle.smith_core.specs.StandIn.{ReadsStandIn}
+use Rattle.smith_core.specs.declared.module.parts.ModuleParts.{ModuleParts}
+use Rattle.smith_syntax.specs.Scope.{Scope, with_type}
+use Rattle.smith_syntax.specs.Shown.{full_type, import_shown, shown_shared, shown_shared_core, shown_url}
+use Rattle.smith_syntax.specs.declared.core_types.CoreType.{CoreType}
+use Rattle.smith_syntax.specs.declared.deftype.DefType.{DefType}
+use Rattle.smith_syntax.specs.declared.deftype.Import.{Import}
+use Rattle.smith_core_types.specs.MakingCore.{KeepsAliased}
+use Rattle.smith_types.specs.Declarations.{NamedExtern, ReadsNamedExtern}
+use Rattle.smith_types.specs.Made.{Made}
+use Rattle.smith_types.specs.References.{ReadsRef}
+use Rattle.smith_component.specs.Building.{Building, open_of}
+use Rattle.smith_component.specs.Offers.{import_kinds, totals_of, with_imports}
+use Rattle.smith_component.specs.Open.{Open, scopes_in}
+use Rattle.smith_component.specs.Tree.{core_types_of, imports_of, types_of}
+use Rattle.smith_component.specs.Turn.{AddsCanons, ReadsCoreType}
+use Rattle.smith_component.specs.WellFormed.{scope_of}
+use Rattle.smith_component.specs.declared.component.CoreTypeSection.{CoreTypeSection}
+use Rattle.smith_component.specs.declared.component.ImportSection.{ImportSection}
+use Rattle.smith_component.specs.declared.component.Section.{Section}
+use Rattle.smith_component.specs.declared.component.Section.TheVariants.{Custom, CoreModule, CoreTypes, Types, Canonical, Imports, Component}
+use Rattle.smith_component.specs.declared.component.TypeSection.{TypeSection}
+use Rattle.smith_component.specs.declared.item.Counted.{Counted}
+use Rattle.smith_component.specs.declared.item.Counted.TheVariants as counted
+
+-- A type of a type section as `ReadsType` says, URLs and what outer aliases keep included.
+abbrev pub ReadsTypeValue : Config → List Scope → Scope → List ℕ → Rc DefType Global → List ℕ → Scope → Type 0
+ReadsTypeValue config outer own b t rest next =
+    (left : ℕ) × Made config own outer b config.max_type_size (full_type t.value) rest left × (next ≡ with_type own (shown_shared t))
+
+-- A core type of a core type section. Each of its outer aliases keeps the function type that it names.
+abbrev pub ReadsCoreTypeValue : Config → Scope → List ℕ → Rc CoreType Global → List ℕ → Scope → Type 0
+ReadsCoreTypeValue config own b t rest next = ReadsCoreType config own b (shown_shared_core t) rest next × KeepsAliased own.core_types t.value
+
+-- the name of an import, and its URL or none
+abbrev pub extern_of : Import → NamedExtern
+extern_of i = (string_bytes i.name, shown_url i.url)
+
+-- those of the imports in a section
+abbrev pub externs_in : Section → List NamedExtern
+externs_in (Custom s) = []
+externs_in (CoreModule m) = []
+externs_in (CoreTypes s) = []
+externs_in (Component t) = []
+externs_in (Types s) = []
+externs_in (Canonical s) = []
+externs_in (Imports s) = map extern_of s.imports.items
+
+-- those of the imports of a component
+abbrev pub externs_of : List Section → List NamedExtern
+externs_of sections = flat_map externs_in sections
+
+-- An import behind these of its section, in a component with those before: what it is of, a name that is new among the component's
+-- imports, and a URL or none, which has a name that is new among those in their URLs.
+pub record ReadsImportValue (config : Config) (stack : Open) (before : List NamedExtern) (is : List Import) (bytes : List ℕ) (x : Import) (rest : List ℕ) (next : List Import) : Type 0 where
+  pub mid : List ℕ
+  pub of : ReadsRef config (scope_of stack.inner) (totals_of (with_imports stack (map import_shown is))) true false bytes x.ty mid
+  pub named : ReadsNamedExtern (before ++ map extern_of is) mid (extern_of x) rest
+  pub next_is : next ≡ is ++ x ∷ []
+
+-- The section ends where nothing can be imported.
+abbrev pub NoImportValue : Config → Open → List Import → List ℕ → List ℕ → List Import → Type 0
+NoImportValue config stack is bytes rest next = (import_kinds config stack (map import_shown is) ≡ []) × (rest ≡ bytes) × (next ≡ is)
+
+-- What a turn that begins with the bytes b adds to the inner component, and what it leaves of them.
+
+-- a type section of at least so many types
+pub record AddsTypeSection (config : Config) (min : ℕ) (old : Building) (b : List ℕ) (new : Building) (rest : List ℕ) : Type 0 where
+  pub section : TypeSection
+  pub scope : Scope
+  pub added : new.inner ≡ old.inner ++ Types section ∷ []
+  pub reads : Loop Never (ReadsTypeValue config (scopes_in (open_of old).outer)) min (config.max_types - length (types_of (open_of old).inner)) 0 (scope_of (open_of old).inner) b section.types.items rest scope
+
+-- a core type section
+pub record AddsCoreTypeSection (config : Config) (old : Building) (b : List ℕ) (new : Building) (rest : List ℕ) : Type 0 where
+  pub section : CoreTypeSection
+  pub scope : Scope
+  pub added : new.inner ≡ old.inner ++ CoreTypes section ∷ []
+  pub reads : Loop Never (ReadsCoreTypeValue config) 0 (config.max_types - length (core_types_of (open_of old).inner)) 0 (scope_of (open_of old).inner) b section.types.items rest scope
+
+-- an import section of at least so many imports, unless nothing can be imported
+pub record AddsImportSection (config : Config) (min : ℕ) (old : Building) (b : List ℕ) (new : Building) (rest : List ℕ) : Type 0 where
+  pub section : ImportSection
+  pub added : new.inner ≡ old.inner ++ Imports section ∷ []
+  pub reads : Loop (NoImportValue config (open_of old)) (ReadsImportValue config (open_of old) (externs_of old.inner)) min (config.max_imports - length (imports_of (open_of old).inner)) 0 [] b section.imports.items rest section.imports.items
+
+-- a core module that stands for a generated one, by its parts
+pub record AddsModule (config : Config) (old : Building) (b : List ℕ) (new : Building) (rest : List ℕ) : Type 0 where
+  pub parts : ModuleParts
+  pub added : new.inner ≡ old.inner ++ CoreModule parts ∷ []
+  pub reads : ReadsStandIn config b parts rest
+
+-- a section of what has a minimum; a canonical function and the type that a lift defines have nothing that a tree leaves out
+abbrev pub AddsSection : Counted → Config → ℕ → Building → List ℕ → Building → List ℕ → Type 0
+AddsSection counted.Types config min old b new rest = AddsTypeSection config min old b new rest
+AddsSection counted.Imports config min old b new rest = AddsImportSection config min old b new rest
+AddsSection counted.Functions config min old b new rest = AddsCanons config min (open_of old) b (open_of new).inner rest
