@@ -5,7 +5,9 @@ pub mod Decided
 pub mod Draft
 pub mod Filling
 pub mod Finishing
+pub mod Fits
 pub mod Grammar
+pub mod Growth
 pub mod Importing
 pub mod ImportsRead
 pub mod ImportsSame

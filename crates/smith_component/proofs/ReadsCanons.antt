@@ -27,15 +27,20 @@ use Rattle.smith_component.specs.Offers.{scalar_functions}
 use Rattle.smith_component.specs.Open.{Open, scopes_in, tree_so_far, with_inner}
 use Rattle.smith_component.specs.Sound.{Sound}
 use Rattle.smith_component.specs.Tables.{IsGrounded}
-use Rattle.smith_component.specs.Tree.{Canon, lift, lower, Tree, Part, ends, first, custom, core_module, core_types, component, types, canons, imports, add, types_in, functions_in, core_functions_in, types_of, core_types_of, imports_of, function_count}
-use Rattle.smith_component.specs.WellFormed.{Spaces, spaces_of, scope_of, HasSignature, FormedCanon, FormedCanons, Formed, FormedPart}
+use Rattle.smith_component.specs.Spaces.{Spaces, after_part, core_types_of, function_count, spaces_of, types_of}
+use Rattle.smith_component.specs.Tree.{Canon, lift, lower, Tree, Part, ends, first, component, types, canons, add, join, imports_of}
+use Rattle.smith_component.specs.WellFormed.{scope_of, HasSignature, FormedCanon, FormedCanons, Formed, FormedPart}
 use Rattle.smith_component.specs.declared.item.CanonItem.{CanonItem}
 use Rattle.smith_component.specs.declared.item.CanonItem.TheVariants.{Lower, Lift}
-use Rattle.smith_component.proofs.Sound.{addable_types, own_limits-add, own_limits_of, own_sizes_of, part_sound}
-use Rattle.smith_component.proofs.Spaces.{all_at, get_last, spaces_canons, spaces_canon, spaces_types, imports_canons, imports_types, with_entries, functions_at, functions_after, extends_entries, has_signature_stays, Grounded, grounded_spaces, grounded_tree, grounded_entries, grounded_canon, formed_names, scalars_entries, scalars_grow, equal_at, formed_canons-snoc}
+use Rattle.smith_component.proofs.Fits.{fits_functions, fits_of, own_limits-add, own_sizes-add, sizes_keep}
+use Rattle.smith_component.proofs.Growth.{KeepsTypes, canon_keeps, canons_keep, extends_part, functions_after, functions_at, spaces-add, spaces_canon}
+use Rattle.smith_component.proofs.Growth.{types_past}
+use Rattle.smith_component.proofs.Sound.{addable_types, own_limits_of, own_sizes_of, part_sound}
+use Rattle.smith_component.proofs.Spaces.{all_at, get_last, imports_canons, imports_types, with_entries, has_signature_stays}
+use Rattle.smith_component.proofs.Spaces.{Grounded, grounded_spaces, grounded_tree, grounded_entries, grounded_canon, formed_names}
+use Rattle.smith_component.proofs.Spaces.{scalars_entries, scalars_grow, equal_at, formed_canons-snoc}
 use Rattle.smith_component.proofs.Tables.{scalar_at}
-use Rattle.smith_component.proofs.Tree.{length-own-add}
-use Rattle.smith_scopes.proofs.Plain.{all_both}
+use Rattle.smith_component.proofs.Tree.{join-add, join-ends}
 use Rattle.smith_component.proofs.WellFormed.{formed_front}
 
 -- What turns keep, a loop keeps. Where it can't end by itself, it makes as many turns as it must.
@@ -80,21 +85,19 @@ types_few : (es : List Entry) (own : Scope) (outer : List Scope) → FormedTypes
 types_few [] own outer f = tt
 types_few (e ∷ es) own outer f = (entry_few e own outer f.0, types_few es _ outer f.1)
 
-part_few : (p : Part) (outer : List Scope) (before : Tree) → FormedPart p outer before → AllByRecursion FewParams (types_in p)
-part_few (custom name contents) outer before f = tt
-part_few (core_module text) outer before f = tt
-part_few (core_types ts) outer before f = tt
-part_few (component t) outer before f = tt
-part_few (types ts) outer before f = types_few ts (scope_of before) outer f
-part_few (canons fs) outer before f = tt
-part_few (imports is) outer before f = tt
+part_few : (p : Part) (outer : List Scope) (before : Tree) → FormedPart p outer before → AllByRecursion FewParams (types_of before)
+    → AllByRecursion FewParams (types_of (add before p))
+part_few p outer before f few =
+    types_past FewParams before p few (λ ts e. types_few ts (scope_of before) outer (subst (λ q. FormedPart q outer before) e f))
 
-tree_few : (t : Tree) (outer : List Scope) (before : Tree) → Formed t outer before → AllByRecursion FewParams (types_of t)
-tree_few ends outer before f = tt
-tree_few (first p t) outer before f = all_both FewParams (types_in p) (types_of t) (part_few p outer before f.0) (tree_few t outer (add before p) f.1)
+tree_few : (t : Tree) (outer : List Scope) (before : Tree) → Formed t outer before → AllByRecursion FewParams (types_of before)
+    → AllByRecursion FewParams (types_of (join before t))
+tree_few ends outer before f few = subst (λ u. AllByRecursion FewParams (types_of u)) (sym (join-ends before)) few
+tree_few (first p t) outer before f few =
+    subst (λ u. AllByRecursion FewParams (types_of u)) (join-add before p t) (tree_few t outer (add before p) f.1 (part_few p outer before f.0 few))
 
 inner_few : (stack : List Tree) (outer : List Scope) (t : Tree) → Formed (tree_so_far stack t) outer ends → AllByRecursion FewParams (types_of t)
-inner_few [] outer t f = tree_few t outer ends f
+inner_few [] outer t f = tree_few t outer ends f tt
 inner_few (u ∷ stack) outer t f = inner_few stack (scope_of u ∷ outer) t (formed_front u (component (tree_so_far stack t)) outer ends f).1
 
 -- What a lift that defines its type is of.
@@ -147,7 +150,9 @@ abbrev pub with_signature : Growing → Signature → Growing
 with_signature s signature = empty_section (add (grown s) (types (function signature ∷ [])))
 
 pub spaces_signature : (s : Growing) (signature : Signature) → spaces_at (with_signature s signature) ≡ with_entries (spaces_at s) (function signature ∷ [])
-spaces_signature s signature = spaces_canons (add (grown s) (types (function signature ∷ []))) [] ∙ spaces_types (grown s) (function signature ∷ [])
+spaces_signature s signature =
+    let es : List Entry = function signature ∷ [] in
+    spaces-add (add (grown s) (types es)) (canons []) ∙ spaces-add (grown s) (types es)
 
 canon_count : (s : Growing) (c : Canon) → function_count (grown (with_canon s c)) ≡ function_count (grown s) + 1
 canon_count s c = ap functions_at (spaces_canon s.before s.funcs c) ∙ functions_after (spaces_at s) c
@@ -159,15 +164,15 @@ signature_types : (s : Growing) (signature : Signature) (n : ℕ) → n ≤ leng
 signature_types s signature n h = omega (arith, h, ap (λ z. length z.types) (spaces_signature s signature), length-append (types_of (grown s)) (function signature ∷ []))
 
 empty_count : (t : Tree) → function_count (grown (empty_section t)) ≡ function_count t
-empty_count t = ap functions_at (spaces_canons t [])
+empty_count t = ap functions_at (spaces-add t (canons []))
 
 -- The lift to the type that is defined is formed behind it.
 defined_canon : {config : Config} {s : Growing} {c : ℕ} {signature : Signature} → Defines config s c signature → FormedCanon (spaces_at (with_signature s signature)) (lift c (length (spaces_at s).types))
 defined_canon {s = s} {c = c} {signature = signature} d =
     let es : List Entry = function signature ∷ [] in
     let P : Spaces → Type 0 = λ u. FormedCanon u (lift c (length (spaces_at s).types)) in
-    subst P (sym (spaces_signature s signature))
-    (signature, d.lowered, d.f, get_last (spaces_at s).types (function signature), d.lowers, has_signature_stays (extends_entries (spaces_at s) es) d.of, d.flat)
+    let of = has_signature_stays (extends_part (spaces_at s) (types es)) d.of in
+    subst P (sym (spaces_signature s signature)) (signature, d.lowered, d.f, get_last (spaces_at s).types (function signature), d.lowers, of, d.flat)
 
 -- What a turn keeps, by what a canonical function and a type keep.
 turn_keeps : (P : ℕ → Growing → Type 0) (config : Config) (n : ℕ) (s next : Growing)
@@ -194,7 +199,7 @@ signature_grounds : (s : Growing) (signature : Signature) → Grounded (spaces_a
 signature_grounds s signature g = subst Grounded (sym (spaces_signature s signature)) (grounded_entries (spaces_at s) (function signature ∷ []) g)
 
 empty_grounds : (t : Tree) → IsGrounded t → Grounded (spaces_at (empty_section t))
-empty_grounds t g = subst Grounded (sym (spaces_canons t [])) (grounded_spaces t g)
+empty_grounds t g = subst Grounded (sym (spaces-add t (canons []))) (grounded_spaces t g)
 
 module _ (config : Config) (least : ℕ) (t : Tree) {b : List ℕ} {turns : List CanonItem} {rest : List ℕ} {next : Growing} (r : ReadsCanons config least t b turns rest next) where
   turn_tail : (s : Growing) (b : List ℕ) (item : CanonItem) (rest : List ℕ) (next : Growing) → CanonTurn config s b item rest next → IsTail rest b
@@ -235,8 +240,8 @@ module _ (config : Config) (least : ℕ) (t : Tree) {b : List ℕ} {turns : List
       (λ n s b x q u lt p i. turn_keeps P config n s u
       (λ v c h p. (
         imports_canons v.before (v.funcs ++ c ∷ []) ∙ (sym (imports_canons v.before v.funcs) ∙ p.0),
-        ap (λ z. z.core_types) (spaces_canon v.before v.funcs c) ∙ p.1,
-        omega (arith, p.2, ap (λ z. length z.types) (spaces_canon v.before v.funcs c)),
+        ap (λ z. z.core_types) (spaces_canon v.before v.funcs c) ∙ ((canon_keeps (spaces_at v) c).core_types ∙ p.1),
+        omega (arith, p.2, ap (λ z. length z.types) (spaces_canon v.before v.funcs c), ap length (canon_keeps (spaces_at v) c).types),
       ))
       (λ c signature d p. (
         imports_canons (add (grown s) (types (function signature ∷ []))) [] ∙ (imports_types (grown s) (function signature ∷ []) ∙ p.0),
@@ -245,7 +250,7 @@ module _ (config : Config) (least : ℕ) (t : Tree) {b : List ℕ} {turns : List
       ))
       (λ full p. p) p (turned config s b x q u i))
       0 (empty_section t) b turns rest next (omega arith)
-      (imports_canons t [], ap (λ z. z.core_types) (spaces_canons t []), omega (arith, ap (λ z. length z.types) (spaces_canons t []))) r in
+      (imports_canons t [], ap (λ z. z.core_types) (spaces-add t (canons [])), omega (arith, ap (λ z. length z.types) (spaces-add t (canons [])))) r in
       all.2
 
 -- What is true of the builder, so many turns after the section was begun.
@@ -257,13 +262,15 @@ record Going (config : Config) (stack : Open) (n : ℕ) (s : Growing) : Type 0 w
 module _ (config : Config) (stack : Open) (fits : function_count stack.inner ≤ config.max_funcs) where
   section_sound : (n : ℕ) (s : Growing) → n ≤ config.max_funcs - function_count stack.inner → Going config stack n s → Sound config (with_inner stack (grown s))
   section_sound n s h g =
+      let spaces : Spaces = after_part (spaces_of s.before) (canons s.funcs) in
+      let same : KeepsTypes (spaces_of s.before) spaces = canons_keep (spaces_of s.before) s.funcs in
+      let room : functions_at spaces ≤ config.max_funcs = omega (arith, g.few, h, fits, ap functions_at (spaces-add s.before (canons s.funcs))) in
       part_sound config (with_inner stack s.before) (canons s.funcs) (record {
         formed = g.formed;
         own = λ o.
-            own_limits-add config s.before (canons s.funcs) o (omega (arith, o.types)) (omega (arith, o.core_types)) (omega (arith, o.imports))
-            (omega (arith, g.few, h, fits, length-own-add functions_in s.before (canons s.funcs), length-own-add core_functions_in s.before (canons s.funcs)))
-            tt tt tt;
-        sizes = (tt, tt);
+            own_limits-add config s.before (canons s.funcs) o (fits_functions config (spaces_of s.before) spaces same room (fits_of config s.before o))
+            (omega (arith, o.imports)) tt;
+        sizes = λ o. own_sizes-add config s.before (canons s.funcs) (sizes_keep config (spaces_of s.before) spaces same o);
         modules = λ h. omega (arith, h);
         components = λ h. omega (arith, h);
         instances = λ h. omega (arith, h);
@@ -275,7 +282,7 @@ module _ (config : Config) (stack : Open) (fits : function_count stack.inner ≤
   going_canon : (n : ℕ) (s : Growing) (c : Canon) → FormedCanon (spaces_at s) c → Going config stack n s → Going config stack (n + 1) (with_canon s c)
   going_canon n s c h g = record {
     sound = g.sound;
-    formed = formed_canons-snoc (spaces_of s.before) s.funcs c g.formed (subst (λ u. FormedCanon u c) (spaces_canons s.before s.funcs) h);
+    formed = formed_canons-snoc (spaces_of s.before) s.funcs c g.formed (subst (λ u. FormedCanon u c) (spaces-add s.before (canons s.funcs)) h);
     few = omega (arith, g.few, canon_count s c);
   }
 
@@ -333,7 +340,7 @@ module _ (config : Config) (least : ℕ) (t : Tree) where
       record {
         grounded = canon_grounds s c h f.grounded;
         some = omega (arith, f.some, scalars_grow (spaces_at s) c, ap (λ z. length (scalar_functions z)) e);
-        room = omega (arith, room, ap (λ z. length z.types) e);
+        room = omega (arith, room, ap (λ z. length z.types) e, ap length (canon_keeps (spaces_at s) c).types);
         enough = omega (arith, f.enough, canon_count s c);
       }
 
@@ -364,7 +371,7 @@ module _ (config : Config) (least : ℕ) (t : Tree) where
   pub canons_enough : {b : List ℕ} {turns : List CanonItem} {rest : List ℕ} {next : Growing} → ReadsCanons config least t b turns rest next → IsGrounded t → least ≤ config.max_funcs - function_count t → 0 < length (scalar_functions (spaces_of t))
       → length (types_of t) + least ≤ config.max_types → function_count t + least ≤ function_count (grown next)
   canons_enough {b} {turns} {rest} {next} r g few some room =
-      let e = spaces_canons t [] in
+      let e = spaces-add t (canons []) in
       let start : Filling config least t 0 (empty_section t) = record {
         grounded = empty_grounds t g;
         some = omega (arith, some, ap (λ z. length (scalar_functions z)) e);

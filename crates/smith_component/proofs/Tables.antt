@@ -17,8 +17,9 @@ use Rattle.smith_scopes.proofs.Places.{get_left, place_stands}
 use Rattle.smith_scopes.proofs.Stack.{places-append}
 use Rattle.smith_component.specs.Offers.{is_scalar_entry, is_scalar_type, scalar_functions}
 use Rattle.smith_component.specs.Tables.{AddsCoreFunction, AddsFunction, IsGrounded, IsLowerable, Tabled}
-use Rattle.smith_component.specs.Tree.{Tree, Part, add, own, types_of, functions_of, core_functions_of, imports_of}
-use Rattle.smith_component.specs.WellFormed.{import_names, scope_of, spaces_of}
+use Rattle.smith_component.specs.Spaces.{core_functions_of, functions_of, spaces_of, types_of}
+use Rattle.smith_component.specs.Tree.{Tree, Part, add, own, imports_of}
+use Rattle.smith_component.specs.WellFormed.{import_names, scope_of}
 use Rattle.smith_component.specs.declared.builder.tables.Tables.{Tables}
 use Rattle.smith_component.proofs.Tree.{own-add}
 use Rattle.smith_scopes.proofs.Plain.{all_both}
@@ -48,7 +49,7 @@ places_agree p q i (x ∷ xs) all =
     ap (λ b. if b then i ∷ places p (i + 1) xs else places p (i + 1) xs) all.0 ∙ ap (λ ks. if q x then i ∷ ks else ks) rest
 
 -- what stands in a list stands in a longer one
-get_longer : {A : Type 0} (xs more ys : List A) (k : ℕ) (x : A) → ys ≡ xs ++ more → slice_get xs k ≡ Some x → slice_get ys k ≡ Some x
+pub get_longer : {A : Type 0} (xs more ys : List A) (k : ℕ) (x : A) → ys ≡ xs ++ more → slice_get xs k ≡ Some x → slice_get ys k ≡ Some x
 get_longer xs more ys k x e h = ap (λ z. slice_get z k) e ∙ (get_left xs more k (slice_get_within xs k x h) ∙ h)
 
 same_type : (ts more us : List Entry) → us ≡ ts ++ more → (ty : ℕ) → ty < length ts → is_scalar_type us ty ≡ is_scalar_type ts ty
@@ -103,7 +104,7 @@ module _ (old new : Tables) (t u : Tree) (es : List Entry) (fs cs : List ℕ) (t
       }
 
 -- the same list with nothing more
-same_more : {A : Type 0} (xs ys : List A) → ys ≡ xs → ys ≡ xs ++ []
+pub same_more : {A : Type 0} (xs ys : List A) → ys ≡ xs → ys ≡ xs ++ []
 same_more xs ys e = e ∙ sym (append-nil xs)
 
 same_names : (t u : Tree) (externs : List NamedExtern) → imports_of u ≡ imports_of t → names externs ≡ import_names (imports_of t) → names externs ≡ import_names (imports_of u)
@@ -150,14 +151,6 @@ pub names_grown : (t u : Tree) (x : ImportEntry) (named : NamedExtern) (externs 
 names_grown t u x named externs are imports name =
     names_more externs named
     ∙ (ap (λ z. z ++ named.0 ∷ []) are ∙ (ap (λ n. import_names (imports_of t) ++ n ∷ []) name ∙ (sym (import_names_more (imports_of t) x) ∙ ap import_names (sym imports))))
-
--- An import more, by its name.
-pub tabled_import : {old new : Tables} (t u : Tree) (x : ImportEntry) (named : NamedExtern) (tabled : Tabled old t)
-    → types_of u ≡ types_of t → functions_of u ≡ functions_of t → core_functions_of u ≡ core_functions_of t → imports_of u ≡ imports_of t ++ x ∷ [] → named.0 ≡ x.name
-    → new.functions.items ≡ old.functions.items → new.core_functions.items ≡ old.core_functions.items → new.scalars.items ≡ old.scalars.items → HoldsExterns new.imports (tabled.externs ++ named ∷ []) → Tabled new u
-tabled_import {old} {new} t u x named tabled types functions core_functions imports name fnew cnew snew holds =
-    tabled_more old new t u [] [] [] tabled (same_more _ _ types) (same_more _ _ functions) (same_more _ _ core_functions) tt tt
-    (same_more _ _ fnew) (same_more _ _ cnew) (same_more _ _ snew) (tabled.externs ++ named ∷ []) (names_grown t u x named tabled.externs tabled.names_are imports name) holds
 
 scalar_entry_is : (e : Entry) → is_scalar_entry e ≡ true → (signature : Signature) × (e ≡ function signature) × (is_scalar signature ≡ true)
 scalar_entry_is (defined t) h = absurd (false≢true h)

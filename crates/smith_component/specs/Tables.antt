@@ -8,8 +8,9 @@ use Rattle.smith_syntax.specs.WellFormed.{names}
 use Rattle.smith_types.specs.Declarations.{NamedExtern}
 use Rattle.smith_types.specs.MakingTypes.{HoldsExterns}
 use Rattle.smith_component.specs.Offers.{is_scalar_type, scalar_functions}
-use Rattle.smith_component.specs.Tree.{Tree, types_of, functions_of, core_functions_of, imports_of}
-use Rattle.smith_component.specs.WellFormed.{HasSignature, import_names, spaces_of}
+use Rattle.smith_component.specs.Spaces.{core_functions_of, functions_of, spaces_of, types_of}
+use Rattle.smith_component.specs.Tree.{Tree, imports_of}
+use Rattle.smith_component.specs.WellFormed.{HasSignature, import_names}
 use Rattle.smith_component.specs.declared.builder.tables.Tables.{Tables}
 
 -- a component function whose type flattens

@@ -22,12 +22,14 @@ use Rattle.smith_component.specs.Importing.{Importing}
 use Rattle.smith_component.specs.Imports.{ReadsImport}
 use Rattle.smith_component.specs.Open.{Open}
 use Rattle.smith_component.specs.Tables.{AddsFunction, Tabled}
-use Rattle.smith_component.specs.Tree.{Tree, add, component_of, core_functions_in, function_of, functions_in, imports, imports_in, imports_of, instance_of, module_of, types_in, types_of}
+use Rattle.smith_component.specs.Spaces.{spaces_of, types_of}
+use Rattle.smith_component.specs.Tree.{Tree, add, component_of, function_of, imports, imports_in, imports_of, instance_of, module_of}
 use Rattle.smith_component.specs.WellFormed.{import_names, scope_of}
 use Rattle.smith_component.specs.declared.builder.tables.Tables.{Tables}
 use Rattle.smith_component.specs.declared.builder.totals.TreeTotals.{TreeTotals}
+use Rattle.smith_component.proofs.Growth.{imports_keep, scope_bare, spaces_import}
 use Rattle.smith_component.proofs.Importing.{components_more, import_room, instances_more, modules_more}
-use Rattle.smith_component.proofs.Tables.{flat_map_more, names_grown, own_bare, own_grown, tabled_more}
+use Rattle.smith_component.proofs.Tables.{names_grown, own_grown, same_more, tabled_more}
 use Rattle.smith_component.proofs.Tree.{own-add}
 use Rattle.smith_component.proofs.builder.imports.read_import.Goals as goal
 use Rattle.smith_component.proofs.builder.imports.read_import.Goals.{in-Func+in_ok-add_function, in_default-ty}
@@ -112,12 +114,14 @@ module _ (config : Config) (stack : Open) (is : List ImportEntry) (own : Scope) 
     import_is_kept : (externs : ExternNames) (new : Tables) → FormedRef own r → Takes own tables r externs new → ((so_far : List NamedExtern) → HoldsExterns tables.imports so_far → HoldsExterns externs (so_far ++ x ∷ [])) → Tabled new new_tree
     import_is_kept externs new formed takes holds =
         let tabled : Tabled tables old_tree = importing.tabled in
-        let same : own.types ≡ types_of new_tree = ap (λ s. s.types) importing.scope_is ∙ sym (own_bare types_in stack.inner (imports (is ++ entry ∷ [])) refl) in
+        let behind = spaces_import stack.inner is entry in
+        let scope = scope_bare stack.inner (imports (is ++ entry ∷ [])) (imports_keep (spaces_of stack.inner) (is ++ entry ∷ [])) in
+        let same : own.types ≡ types_of new_tree = ap (λ s. s.types) importing.scope_is ∙ sym (ap (λ s. s.types) scope) in
         let grown : imports_of new_tree ≡ imports_of old_tree ++ entry ∷ [] = own_grown imports_in stack.inner (imports is) (imports (is ++ entry ∷ [])) (entry ∷ []) refl in
         tabled_more tables new old_tree new_tree [] (function_of r) [] tabled
-        (own_grown types_in stack.inner (imports is) (imports (is ++ entry ∷ [])) [] refl)
-        (own_grown functions_in stack.inner (imports is) (imports (is ++ entry ∷ [])) (function_of r) (flat_map_more (λ (i : ImportEntry). function_of i.to) is entry))
-        (own_grown core_functions_in stack.inner (imports is) (imports (is ++ entry ∷ [])) [] refl)
+        (same_more _ _ (ap (λ s. s.types) behind))
+        (ap (λ s. s.functions) behind)
+        (same_more _ _ (ap (λ s. s.core_functions) behind))
         (subst (λ ts. AllByRecursion (λ ty. ty < length ts) (function_of r)) same (function_within own r formed))
         tt
         takes.functions
