@@ -15,7 +15,7 @@ use Rattle.smith_component.specs.Tree.{Tree, types, imports, add, imports_of, im
 use Rattle.smith_component.specs.Turn.{Fills, Lacks, of_imports, of_functions}
 use Rattle.smith_component.specs.declared.item.Counted.{Counted}
 use Rattle.smith_component.specs.declared.item.Counted.TheVariants as counted
-use Rattle.smith_component.proofs.ReadsCanons.{canons_enough}
+use Rattle.smith_component.proofs.CanonsEnough.{canons_enough}
 use Rattle.smith_component.proofs.ReadsImports.{imports_enough}
 use Rattle.smith_component.proofs.Growth.{extends-add, functions_at, functions_grow, spaces-add}
 use Rattle.smith_component.proofs.Tree.{length-own-add}

@@ -1,5 +1,5 @@
 -- A component keeps the limits and the sizes that bind it alone where it grows by a part that fits.
-use Rattle.std.proofs.Common.{◌≡◌, ℕ, ◌+◌, ◌≤◌, List, length, arith, ap, sym, subst}
+use Rattle.std.proofs.Common.{ℕ, ◌+◌, ◌≤◌, List, length, arith, ap, sym, subst}
 use Rattle.std.specs.List.{AllByRecursion}
 use Rattle.smith_format.specs.declared.config.Config.{Config}
 use Rattle.smith_syntax.specs.CoreLimits.{CoreLimits}

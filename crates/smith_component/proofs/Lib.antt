@@ -1,3 +1,4 @@
+pub mod CanonsEnough
 pub mod CanonsRead
 pub mod CanonsSame
 pub mod Clear

@@ -31,7 +31,7 @@ use Rattle.smith_component.proofs.Fits.{Fits, Short, fits_behind, own_limits-fro
 use Rattle.smith_component.proofs.Growth.{functions_after, functions_at, spaces-add, types_past}
 use Rattle.smith_component.proofs.Sound.{length-scopes_from}
 use Rattle.smith_component.proofs.Tree.{all_of, anywhere-add, depth-outer, own-add, length-own-add}
-use Rattle.smith_scopes.proofs.Plain.{all_back, all_both}
+use Rattle.smith_scopes.proofs.Plain.{all_back}
 
 -- nothing is filled where nothing lacks
 pub fills_nothing : (config : Config) (stack : Open) (b : List ℕ) → Minima config stack.inner → FillsAll config stack b stack.inner b

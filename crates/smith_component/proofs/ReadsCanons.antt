@@ -1,17 +1,14 @@
--- What canonical sections read: they keep what is true of the builder, and make as many turns as they must.
-use Rattle.std.proofs.Common.{◌≡◌, ℕ, ◌+◌, ◌-◌, ◌<◌, ◌≤◌, Bool, true, false, List, [], ◌∷◌, ◌++◌, map, length, length-append, refl, sym, ap, ◌∙◌, subst, arith, Some, Option, ⊎_elim, nat_lt}
-use Rattle.std.proofs.lemmas.Bool.{cases_lt, false≢true}
-use Rattle.std.proofs.lemmas.Bool.Decides.{nat_tests}
+-- What canonical sections read: they keep what is true of the builder.
+use Rattle.std.proofs.Common.{◌≡◌, ℕ, ◌+◌, ◌-◌, ◌<◌, ◌≤◌, List, [], ◌∷◌, ◌++◌, map, length, length-append, refl, sym, ap, ◌∙◌, subst, arith, Some, Option}
 use Rattle.std.proofs.lemmas.List.{length-map}
 use Rattle.std.specs.List.{AllByRecursion}
 use Rattle.std.specs.Option.{option_to_list}
 use Rattle.std.specs.Prelude.{slice_get}
 use Rattle.smith_input.specs.Loops.{Loop, no_more, by_itself, an_item}
-use Rattle.smith_input.specs.Reading.{IsTail, More}
-use Rattle.smith_input.specs.Script.{offers_of}
+use Rattle.smith_input.specs.Reading.{IsTail}
 use Rattle.smith_input.proofs.Choices.{among_tail}
 use Rattle.smith_input.proofs.Loops.{loop_tail}
-use Rattle.smith_input.proofs.ReadingLemmas.{tail_is, tail_trans, reads_tail, more_within, more_past}
+use Rattle.smith_input.proofs.ReadingLemmas.{tail_is, tail_trans, reads_tail, more_within}
 use Rattle.smith_format.specs.CoreTypes.{Function}
 use Rattle.smith_format.specs.declared.config.Config.{Config}
 use Rattle.smith_format.specs.declared.types.ValType.{ValType}
@@ -22,11 +19,9 @@ use Rattle.smith_syntax.specs.WellFormed.{FormedEntry, FormedTypes, size}
 use Rattle.smith_syntax.specs.declared.types.ComponentValType.{ComponentValType}
 use Rattle.smith_syntax.proofs.Flat.{flattens_params}
 use Rattle.smith_types.proofs.Lifting.{lifted_tail, lifted_flattens, lifted_formed}
-use Rattle.smith_component.specs.Canonicals.{Growing, grown, spaces_at, with_canon, with_defined, LiftsTo, to_equal, to_defined, given_up, ReadsLift, CanonTurn, NoCanon, empty_section, ReadsCanons}
-use Rattle.smith_component.specs.Offers.{scalar_functions}
+use Rattle.smith_component.specs.Canonicals.{Growing, grown, spaces_at, with_canon, with_defined, LiftsTo, to_equal, to_defined, given_up, ReadsLift, CanonTurn, empty_section, ReadsCanons}
 use Rattle.smith_component.specs.Open.{Open, scopes_in, tree_so_far, with_inner}
 use Rattle.smith_component.specs.Sound.{Sound}
-use Rattle.smith_component.specs.Tables.{IsGrounded}
 use Rattle.smith_component.specs.Spaces.{Spaces, after_part, core_types_of, function_count, spaces_of, types_of}
 use Rattle.smith_component.specs.Tree.{Canon, lift, lower, Tree, Part, ends, first, component, types, canons, add, join, imports_of}
 use Rattle.smith_component.specs.WellFormed.{scope_of, HasSignature, FormedCanon, FormedCanons, Formed, FormedPart}
@@ -37,17 +32,12 @@ use Rattle.smith_component.proofs.Growth.{KeepsTypes, canon_keeps, canons_keep, 
 use Rattle.smith_component.proofs.Growth.{types_past}
 use Rattle.smith_component.proofs.Sound.{addable_types, own_limits_of, own_sizes_of, part_sound}
 use Rattle.smith_component.proofs.Spaces.{all_at, get_last, imports_canons, imports_types, with_entries, has_signature_stays}
-use Rattle.smith_component.proofs.Spaces.{Grounded, grounded_spaces, grounded_tree, grounded_entries, grounded_canon, formed_names}
-use Rattle.smith_component.proofs.Spaces.{scalars_entries, scalars_grow, equal_at, formed_canons-snoc}
+use Rattle.smith_component.proofs.Spaces.{equal_at, formed_canons-snoc}
 use Rattle.smith_component.proofs.Tables.{scalar_at}
 use Rattle.smith_component.proofs.Tree.{join-add, join-ends}
 use Rattle.smith_component.proofs.WellFormed.{formed_front}
 
--- What turns keep, a loop keeps. Where it can't end by itself, it makes as many turns as it must.
-
-more_done : {done least most : ℕ} {b rest : List ℕ} → least ≤ most → done ≤ most → More done least most b false rest → least ≤ done
-more_done {done} {least} {most} h few m = ⊎_elim (λ lt. more_past lt m) (λ le. omega arith) (cases_lt done most)
-
+-- What turns keep, a loop keeps.
 module _ {S A : Type 0} {Ends : S → List ℕ → List ℕ → S → Type 0} {Item : S → List ℕ → A → List ℕ → S → Type 0} {least most : ℕ} (P : ℕ → S → Type 0) where
   pub loop_keeps : ((n : ℕ) (s : S) (b r : List ℕ) (t : S) → P n s → Ends s b r t → P n t)
       → ((n : ℕ) (s : S) (b : List ℕ) (x : A) (r : List ℕ) (t : S) → n < most → P n s → Item s b x r t → P (n + 1) t)
@@ -57,15 +47,6 @@ module _ {S A : Type 0} {Ends : S → List ℕ → List ℕ → S → Type 0} {I
   loop_keeps over items done s b xs rest u h p (an_item {t = t} {mid = mid} {after = after} {x = x} {xs = ys} m i l) =
       let lt : done < most = more_within m in
       loop_keeps over items (done + 1) t after ys rest u (omega (arith, lt)) (items done s mid x after t lt p i) l
-
-  pub loop_reaches : ((n : ℕ) (s : S) (b r : List ℕ) (t : S) → P n s → Ends s b r t → ⊥)
-      → ((n : ℕ) (s : S) (b : List ℕ) (x : A) (r : List ℕ) (t : S) → n < most → P n s → Item s b x r t → P (n + 1) t) → least ≤ most
-      → (done : ℕ) (s : S) (b : List ℕ) (xs : List A) (rest : List ℕ) (t : S) → done ≤ most → P done s → Loop Ends Item least most done s b xs rest t → (n : ℕ) × (least ≤ n) × P n t
-  loop_reaches never items o done s b xs rest t h p (no_more m e) = (done, more_done o h m, subst (P done) (sym e) p)
-  loop_reaches never items o done s b xs rest t h p (by_itself {mid = mid} m e) = absurd (never done s mid rest t p e)
-  loop_reaches never items o done s b xs rest u h p (an_item {t = t} {mid = mid} {after = after} {x = x} {xs = ys} m i l) =
-      let lt : done < most = more_within m in
-      loop_reaches never items o (done + 1) t after ys rest u (omega (arith, lt)) (items done s mid x after t lt p i) l
 
 -- Function types of a well formed component have at most 16 parameters.
 
@@ -154,20 +135,20 @@ spaces_signature s signature =
     let es : List Entry = function signature ∷ [] in
     spaces-add (add (grown s) (types es)) (canons []) ∙ spaces-add (grown s) (types es)
 
-canon_count : (s : Growing) (c : Canon) → function_count (grown (with_canon s c)) ≡ function_count (grown s) + 1
+pub canon_count : (s : Growing) (c : Canon) → function_count (grown (with_canon s c)) ≡ function_count (grown s) + 1
 canon_count s c = ap functions_at (spaces_canon s.before s.funcs c) ∙ functions_after (spaces_at s) c
 
-signature_count : (s : Growing) (signature : Signature) → function_count (grown (with_signature s signature)) ≡ function_count (grown s)
+pub signature_count : (s : Growing) (signature : Signature) → function_count (grown (with_signature s signature)) ≡ function_count (grown s)
 signature_count s signature = ap functions_at (spaces_signature s signature)
 
 signature_types : (s : Growing) (signature : Signature) (n : ℕ) → n ≤ length (types_of (grown s)) → n ≤ length (types_of (grown (with_signature s signature)))
 signature_types s signature n h = omega (arith, h, ap (λ z. length z.types) (spaces_signature s signature), length-append (types_of (grown s)) (function signature ∷ []))
 
-empty_count : (t : Tree) → function_count (grown (empty_section t)) ≡ function_count t
+pub empty_count : (t : Tree) → function_count (grown (empty_section t)) ≡ function_count t
 empty_count t = ap functions_at (spaces-add t (canons []))
 
 -- The lift to the type that is defined is formed behind it.
-defined_canon : {config : Config} {s : Growing} {c : ℕ} {signature : Signature} → Defines config s c signature → FormedCanon (spaces_at (with_signature s signature)) (lift c (length (spaces_at s).types))
+pub defined_canon : {config : Config} {s : Growing} {c : ℕ} {signature : Signature} → Defines config s c signature → FormedCanon (spaces_at (with_signature s signature)) (lift c (length (spaces_at s).types))
 defined_canon {s = s} {c = c} {signature = signature} d =
     let es : List Entry = function signature ∷ [] in
     let P : Spaces → Type 0 = λ u. FormedCanon u (lift c (length (spaces_at s).types)) in
@@ -190,17 +171,6 @@ turn_count config s b item rest next i =
     let P : ℕ → Growing → Type 0 = λ n u. function_count (grown u) ≤ function_count (grown s) + n in
     turn_keeps P config 0 s next (λ v c h p. omega (arith, p, canon_count v c)) (λ c signature d p. omega (arith, p, signature_count s signature)) (λ full p. omega (arith, p)) (omega arith) (turned config s b item rest next i)
 
--- All stays grounded.
-
-canon_grounds : (s : Growing) (c : Canon) → FormedCanon (spaces_at s) c → Grounded (spaces_at s) → Grounded (spaces_at (with_canon s c))
-canon_grounds s c h g = subst Grounded (sym (spaces_canon s.before s.funcs c)) (grounded_canon (spaces_at s) c (formed_names (spaces_at s) c h) g)
-
-signature_grounds : (s : Growing) (signature : Signature) → Grounded (spaces_at s) → Grounded (spaces_at (with_signature s signature))
-signature_grounds s signature g = subst Grounded (sym (spaces_signature s signature)) (grounded_entries (spaces_at s) (function signature ∷ []) g)
-
-empty_grounds : (t : Tree) → IsGrounded t → Grounded (spaces_at (empty_section t))
-empty_grounds t g = subst Grounded (sym (spaces-add t (canons []))) (grounded_spaces t g)
-
 module _ (config : Config) (least : ℕ) (t : Tree) {b : List ℕ} {turns : List CanonItem} {rest : List ℕ} {next : Growing} (r : ReadsCanons config least t b turns rest next) where
   turn_tail : (s : Growing) (b : List ℕ) (item : CanonItem) (rest : List ℕ) (next : Growing) → CanonTurn config s b item rest next → IsTail rest b
   turn_tail s b Lower rest next (mid, chosen, (f, among, e)) = tail_trans (among_tail among) (among_tail chosen)
@@ -213,24 +183,6 @@ module _ (config : Config) (least : ℕ) (t : Tree) {b : List ℕ} {turns : List
 
   pub canons_tail : IsTail rest b
   canons_tail = loop_tail (λ s b r t e. tail_is e.1) turn_tail 0 (empty_section t) b turns rest next r
-
-  pub canons_grounded : IsGrounded t → IsGrounded (grown next)
-  canons_grounded g =
-      let P : ℕ → Growing → Type 0 = λ n s. Grounded (spaces_at s) in
-      let all = loop_keeps P (λ n s b r t p e. subst (P n) (sym e.2) p)
-      (λ n s b x q u lt p i. turn_keeps P config n s u (λ v c h p. canon_grounds v c h p) (λ c signature d p. signature_grounds s signature p) (λ full p. p) p (turned config s b x q u i))
-      0 (empty_section t) b turns rest next (omega arith) (empty_grounds t g) r in
-      grounded_tree (grown next) all.2
-
-  -- They add at most as many functions as there may be.
-  pub canons_few : function_count (grown next) ≤ function_count t + (config.max_funcs - function_count t)
-  canons_few =
-      let P : ℕ → Growing → Type 0 = λ n s. function_count (grown s) ≤ function_count t + n in
-      let all = loop_keeps P (λ n s b r t p e. subst (P n) (sym e.2) p)
-      (λ n s b x q u lt p i.
-      turn_keeps P config n s u (λ v c h p. omega (arith, p, canon_count v c)) (λ c signature d p. omega (arith, p, signature_count s signature)) (λ full p. omega (arith, p)) p (turned config s b x q u i))
-      0 (empty_section t) b turns rest next (omega arith) (omega (arith, empty_count t)) r in
-      omega (arith, all.1, all.2)
 
   -- They add no import and no core type, and take no type away.
   pub canons_grow : (imports_of (grown next) ≡ imports_of t) × (core_types_of (grown next) ≡ core_types_of t) × (length (types_of t) ≤ length (types_of (grown next)))
@@ -315,68 +267,3 @@ canons_sound config least stack {b} {turns} {rest} {next} r sound =
     (λ full p. record { sound = p.sound; formed = p.formed; few = omega (arith, p.few) }) p (turned config s b x q u i))
     0 (empty_section stack.inner) b turns rest next (omega arith) start r in
     section_sound config stack fits all.0 next all.1 all.2
-
--- What holds where functions are filled: while fewer turns are made than must be, each adds a function, and there is room for a type.
-record Filling (config : Config) (least : ℕ) (t : Tree) (n : ℕ) (s : Growing) : Type 0 where
-  pub grounded : Grounded (spaces_at s)
-  pub some : 0 < length (scalar_functions (spaces_at s))
-  pub room : length (spaces_at s).types + (least - n) ≤ config.max_types
-  pub enough : function_count t + n ≤ function_count (grown s) + (n - least)
-
-some_items : (z : Bool) (m : ℕ) → z ≡ true → offers_of ((z, Lower) ∷ (nat_lt 0 m, Lift) ∷ []) ≡ [] → ⊥
-some_items true m e h = absurd (cc)
-some_items false m e h = absurd (false≢true e)
-
-module _ (config : Config) (least : ℕ) (t : Tree) where
-  filling_ends : (n : ℕ) (s : Growing) (b r : List ℕ) (u : Growing) → Filling config least t n s → NoCanon s b r u → ⊥
-  filling_ends n s b r u f (none, left, e) =
-      let h : 0 < length (scalar_functions (spaces_at s)) = f.some in
-      let z : nat_lt 0 (length (scalar_functions (spaces_at s))) ≡ true = grind (arith, nat_tests) in
-      some_items (nat_lt 0 (length (scalar_functions (spaces_at s)))) (length (spaces_at s).core_functions) z none
-
-  filling_canon : (n : ℕ) (s : Growing) (c : Canon) → FormedCanon (spaces_at s) c → length (spaces_at s).types + (least - (n + 1)) ≤ config.max_types → Filling config least t n s → Filling config least t (n + 1) (with_canon s c)
-  filling_canon n s c h room f =
-      let e = spaces_canon s.before s.funcs c in
-      record {
-        grounded = canon_grounds s c h f.grounded;
-        some = omega (arith, f.some, scalars_grow (spaces_at s) c, ap (λ z. length (scalar_functions z)) e);
-        room = omega (arith, room, ap (λ z. length z.types) e, ap length (canon_keeps (spaces_at s) c).types);
-        enough = omega (arith, f.enough, canon_count s c);
-      }
-
-  filling_signature : (n : ℕ) (s : Growing) (c : ℕ) (signature : Signature) → Defines config s c signature → Filling config least t n s → Filling config least t (n + 1) (with_defined s c signature)
-  filling_signature n s c signature d f =
-      let es : List Entry = function signature ∷ [] in
-      let u : Growing = with_signature s signature in
-      let k : Canon = lift c (length (spaces_at s).types) in
-      let e = spaces_signature s signature in
-      let a = spaces_canon u.before u.funcs k in
-      let grounded = signature_grounds s signature f.grounded in
-      let scalars : length (scalar_functions (spaces_at u)) ≡ length (scalar_functions (spaces_at s)) = ap (λ z. length (scalar_functions z)) e ∙ ap length (scalars_entries (spaces_at s) es f.grounded) in
-      let count : length (spaces_at u).types ≡ length (spaces_at s).types + 1 = omega (arith, ap (λ z. length z.types) e, length-append (spaces_at s).types es) in
-      record {
-        grounded = canon_grounds u k (defined_canon d) grounded;
-        some = omega (arith, f.some, scalars, scalars_grow (spaces_at u) k, ap (λ z. length (scalar_functions z)) a);
-        room = omega (arith, f.room, d.room, count, ap (λ z. length z.types) a);
-        enough = omega (arith, f.enough, signature_count s signature, canon_count u k);
-      }
-
-  filling_turn : (n : ℕ) (s next : Growing) → Filling config least t n s → Turned config s next → Filling config least t (n + 1) next
-  filling_turn n s next f (adds c h e) = subst (Filling config least t (n + 1)) (sym e) (filling_canon n s c h (omega (arith, f.room)) f)
-  filling_turn n s next f (defines c signature d e) = subst (Filling config least t (n + 1)) (sym e) (filling_signature n s c signature d f)
-  filling_turn n s next f (gives_up full e) =
-      subst (Filling config least t (n + 1)) (sym e) (record { grounded = f.grounded; some = f.some; room = omega (arith, f.room); enough = omega (arith, f.enough, f.room, full) })
-
-  -- As many functions are added as must be, where one can be lowered and there is room for the types that lifts define.
-  pub canons_enough : {b : List ℕ} {turns : List CanonItem} {rest : List ℕ} {next : Growing} → ReadsCanons config least t b turns rest next → IsGrounded t → least ≤ config.max_funcs - function_count t → 0 < length (scalar_functions (spaces_of t))
-      → length (types_of t) + least ≤ config.max_types → function_count t + least ≤ function_count (grown next)
-  canons_enough {b} {turns} {rest} {next} r g few some room =
-      let e = spaces-add t (canons []) in
-      let start : Filling config least t 0 (empty_section t) = record {
-        grounded = empty_grounds t g;
-        some = omega (arith, some, ap (λ z. length (scalar_functions z)) e);
-        room = omega (arith, room, ap (λ z. length z.types) e);
-        enough = omega (arith, empty_count t);
-      } in
-      let all = loop_reaches (Filling config least t) filling_ends (λ n s b x q u lt p i. filling_turn n s u p (turned config s b x q u i)) few 0 (empty_section t) b turns rest next (omega arith) start r in
-      omega (arith, all.1, all.2.enough)

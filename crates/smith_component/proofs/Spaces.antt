@@ -71,9 +71,6 @@ pub record Grounded (s : Spaces) : Type 0 where
 pub grounded_spaces : (t : Tree) → IsGrounded t → Grounded (spaces_of t)
 grounded_spaces t g = record { known = g.known; lowered = g.lowered }
 
-pub grounded_tree : (t : Tree) → Grounded (spaces_of t) → IsGrounded t
-grounded_tree t g = record { known = g.known; lowered = g.lowered }
-
 pub grounded_entries : (s : Spaces) (es : List Entry) → Grounded s → Grounded (with_entries s es)
 grounded_entries s es g = record {
   known = all_weaker (λ ty. ty < length s.types) (λ ty. ty < length (s.types ++ es)) (λ ty h. omega (arith, h, length-append s.types es)) s.functions g.known;

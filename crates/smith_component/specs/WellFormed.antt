@@ -1,7 +1,7 @@
 -- Which components are well formed: each part is judged by what stands before it (Explainer.md, index spaces).
 use Rattle.std.specs.Prelude.{◌≡◌, ℕ, false, List, [], ◌∷◌, ◌++◌, map, Some, slice_get, true}
 use Rattle.std.specs.List.{AllByRecursion}
-use Rattle.smith_syntax.specs.Entries.{Entry, function, CoreEntry, ImportEntry, Signature}
+use Rattle.smith_syntax.specs.Entries.{function, ImportEntry, Signature}
 use Rattle.smith_syntax.specs.Flat.{Flat, is_scalar}
 use Rattle.smith_syntax.specs.Scope.{Scope}
 use Rattle.smith_syntax.specs.WellFormed.{FormedCores, FormedRef, FormedTypes, Named, is_type_eq}
