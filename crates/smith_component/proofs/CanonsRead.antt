@@ -23,7 +23,8 @@ use Rattle.smith_component.specs.CanonScript.{canon_item_of, script_canon, scrip
 use Rattle.smith_component.specs.Canonicals.{CanonTurn, Growing, NoCanon, ReadsCanon, spaces_at, to_equal, with_canon}
 use Rattle.smith_component.specs.Offers.{canon_items, canon_offers, is_scalar_entry, is_scalar_type, scalar_functions}
 use Rattle.smith_component.specs.Tree.{Canon, lift, lower}
-use Rattle.smith_component.specs.WellFormed.{after_canon, FormedCanon, FormedCanons, Spaces}
+use Rattle.smith_component.specs.Spaces.{Spaces, after_canon}
+use Rattle.smith_component.specs.WellFormed.{FormedCanon, FormedCanons}
 use Rattle.smith_component.specs.contracts.item.CanonItem.{the_type as canon_item_type}
 use Rattle.smith_component.specs.contracts.item.CanonItemPartialEq.TheImpl.{ghosts as equal}
 use Rattle.smith_component.specs.declared.item.CanonItem.{CanonItem}
@@ -31,7 +32,8 @@ use Rattle.smith_component.specs.declared.item.CanonItem.TheVariants.{Lower, Lif
 use Rattle.smith_input.proofs.Offered.{offers_few, offers_found}
 use Rattle.smith_scopes.proofs.Places.{place_found}
 use Rattle.smith_types.proofs.LiftedRead.{lifted_read}
-use Rattle.smith_component.proofs.Spaces.{all_at, functions_at, functions_after, spaces_canon}
+use Rattle.smith_component.proofs.Growth.{functions_at, functions_after, spaces_canon}
+use Rattle.smith_component.proofs.Spaces.{all_at}
 
 item_Decides : (a b : CanonItem) → Decides (equal.eq a b) (a ≡ b)
 item_Decides a b = (same_true canon_item_type tt a b, true_same canon_item_type a b)

@@ -13,7 +13,8 @@ use Rattle.smith_types.proofs.LiftedSame.{lifted_same}
 use Rattle.smith_types.specs.Lifting.{ReadsLifted}
 use Rattle.smith_component.specs.Canonicals.{Growing, spaces_at, with_canon, LiftsTo, to_equal, to_defined, given_up, ReadsLift, ReadsCanon, CanonTurn, NoCanon, empty_section, ReadsCanons}
 use Rattle.smith_component.specs.Tree.{lift, lower, Tree}
-use Rattle.smith_component.specs.WellFormed.{Spaces, HasSignature}
+use Rattle.smith_component.specs.Spaces.{Spaces}
+use Rattle.smith_component.specs.WellFormed.{HasSignature}
 use Rattle.smith_component.specs.declared.item.CanonItem.{CanonItem}
 use Rattle.smith_component.specs.declared.item.CanonItem.TheVariants.{Lower, Lift}
 

@@ -2,7 +2,7 @@
 use Rattle.std.proofs.Common.{◌≡◌, ℕ, List, [], ◌∷◌, refl, ap, sym, ◌∙◌, arith, Some, None, Bool, true, false, cond, nat_eq}
 use Rattle.std.specs.List.{starts_with}
 use Rattle.smith_format.specs.Clear.{Agree, IsClear, IsExact}
-use Rattle.smith_core.specs.Module.{core_preamble}
+use Rattle.smith_core.specs.Preamble.{core_preamble}
 use Rattle.smith_format.specs.Piece.{Piece, ◌⊕◌, byte, bytes, raw, text, many, u}
 use Rattle.smith_format.proofs.Clear.{tail, then_head, then_tail, then_agree, clash, exact, exact_both, exact_raw, clear_u, clear_text, clear_many, same_section, section_head}
 use Rattle.smith_format.proofs.Piece.{raw_whole}

@@ -9,7 +9,8 @@ use Rattle.smith_component.specs.Canonicals.{grown}
 use Rattle.smith_component.specs.Open.{Open, items, root, scopes_in, with_inner}
 use Rattle.smith_component.specs.Refusals.{Comes, LacksOn, RefusesModuleOn}
 use Rattle.smith_component.specs.Shown.{bytes_of}
-use Rattle.smith_component.specs.Tree.{Tree, custom, core_module, core_types, types, imports, add, imports_of, function_count}
+use Rattle.smith_component.specs.Spaces.{function_count}
+use Rattle.smith_component.specs.Tree.{Tree, custom, core_module, core_types, types, imports, add, imports_of}
 use Rattle.smith_component.specs.Turn.{Next, building, answered, Closes, ReadsCustom, Adds, Fills, FillsAll, Lacks, of_imports, of_functions, Does, Turn, Turns, LacksAt, RefusesModuleAt, RunsTo, with_part}
 use Rattle.smith_component.specs.declared.item.Counted.{Counted}
 use Rattle.smith_component.specs.declared.item.Counted.TheVariants as counted

@@ -1,5 +1,5 @@
 -- A canonical section as the program makes it.
-use Rattle.std.proofs.Common.{◌≡◌, ◌⊎◌, inl, inr, ℕ, ◌+◌, ◌-◌, ◌<◌, ◌≤◌, Bool, true, false, List, [], ◌∷◌, ◌++◌, map, length, get_or, refl, sym, ap, ◌∙◌, subst, arith, append-nil, append_assoc, length-append, Some}
+use Rattle.std.proofs.Common.{◌≡◌, ◌⊎◌, inl, inr, ℕ, ◌-◌, ◌<◌, ◌≤◌, Bool, true, false, List, [], ◌∷◌, ◌++◌, map, length, get_or, refl, sym, ap, ◌∙◌, subst, arith, append-nil, append_assoc, length-append, Some}
 use Rattle.std.proofs.lemmas.Bool.{false≢true}
 use Rattle.std.proofs.lemmas.List.{map-append, nil_from_length}
 use Rattle.std.proofs.lemmas.List.Concat.{flat_map-append}
@@ -34,7 +34,8 @@ use Rattle.smith_component.specs.Draft.{IsDraft, IsDrafted, IsLowered, KeepsFron
 use Rattle.smith_component.specs.SectionValues.{externs_in, externs_of}
 use Rattle.smith_component.specs.Shown.{shown_canon, shown_sections}
 use Rattle.smith_component.specs.Tables.{AddsCoreFunction, AddsFunction, IsLowerable, Tabled}
-use Rattle.smith_component.specs.Tree.{Tree, Canon, add, canons, types, lift, lower, core_functions_of, function_count}
+use Rattle.smith_component.specs.Spaces.{core_functions_of, function_count}
+use Rattle.smith_component.specs.Tree.{Tree, Canon, add, canons, types, lift, lower}
 use Rattle.smith_component.specs.WellFormed.{scope_of}
 use Rattle.smith_component.specs.declared.builder.open.OpenComponent.{OpenComponent}
 use Rattle.smith_component.specs.declared.builder.tables.Tables.{Tables}
@@ -43,7 +44,8 @@ use Rattle.smith_component.specs.declared.component.Func.TheVariants.{CanonLift,
 use Rattle.smith_component.specs.declared.component.Section.{Section}
 use Rattle.smith_component.specs.declared.item.CanonItem.{CanonItem}
 use Rattle.smith_component.proofs.ReadsCanons.{with_signature, spaces_signature}
-use Rattle.smith_component.proofs.Spaces.{IsScalarFunction, all_at, equal_at, equal_own, imports_canons, imports_types, scope_canons, spaces_canon, spaces_canons}
+use Rattle.smith_component.proofs.Growth.{functions_at, scope_at, spaces-add, spaces_canon}
+use Rattle.smith_component.proofs.Spaces.{IsScalarFunction, all_at, equal_at, equal_own, imports_canons, imports_types, scope_canons}
 use Rattle.smith_component.proofs.Tables.{scalar_at, tabled_core_function, tabled_function, tabled_quiet, tabled_types}
 
 -- one function more in the section
@@ -61,13 +63,14 @@ growing_more old new fs gs f e more =
 tabled_lower : {old new : Tables} (s : Growing) (f : ℕ) → IsScalarFunction (spaces_at s) f → Tabled old (grown s) → AddsCoreFunction old f new → Tabled new (grown (with_canon s (lower f)))
 tabled_lower s f scalar tabled adds =
     let e = spaces_canon s.before s.funcs (lower f) in
-    tabled_core_function (grown s) (grown (with_canon s (lower f))) scalar tabled adds (ap (λ z. z.types) e) (ap (λ z. z.functions) e ∙ append-nil (spaces_at s).functions) (ap (λ z. z.core_functions) e)
+    tabled_core_function (grown s) (grown (with_canon s (lower f))) scalar tabled adds
+    (ap (λ z. z.types) e) (ap (λ z. z.functions) e) (ap (λ z. z.core_functions) e)
 
 tabled_lift : {own : Scope} {old new : Tables} (s : Growing) (c t : ℕ) → own ≡ scope_of (grown s) → t < length own.types → Tabled old (grown s) → AddsFunction own old t new → Tabled new (grown (with_canon s (lift c t)))
 tabled_lift {own} s c t is known tabled adds =
     let e = spaces_canon s.before s.funcs (lift c t) in
     tabled_function (grown s) (grown (with_canon s (lift c t))) is (omega (arith, known, ap (λ z. length z.types) is)) tabled adds
-    (ap (λ z. z.types) e) (ap (λ z. z.functions) e) (ap (λ z. z.core_functions) e ∙ append-nil (spaces_at s).core_functions)
+    (ap (λ z. z.types) e) (ap (λ z. z.functions) e) (ap (λ z. z.core_functions) e)
 
 tabled_signature : {tables : Tables} (s : Growing) (signature : Signature) → Tabled tables (grown s) → Tabled tables (grown (with_signature s signature))
 tabled_signature s signature tabled =
@@ -79,7 +82,7 @@ scope_canon : (s : Growing) (c : Canon) → scope_of (grown (with_canon s c)) �
 scope_canon s c = scope_canons s.before (s.funcs ++ c ∷ []) ∙ sym (scope_canons s.before s.funcs)
 
 scope_signature : (s : Growing) (signature : Signature) → scope_of (grown (with_signature s signature)) ≡ with_type (scope_of (grown s)) (function signature)
-scope_signature s signature = ap (λ z. record { types = z.types; core_types = z.core_types }) (spaces_signature s signature)
+scope_signature s signature = ap scope_at (spaces_signature s signature)
 
 -- A function is lowered.
 module _ (old new : OpenComponent) (fs gs : List Func) (items b rest : List ℕ) (f : ℕ) (tabled : Tabled old.tables (grown (growing old fs))) (are : items ≡ old.tables.scalars.items) (chosen : (k : ℕ) × Reads (length items) b k rest × (slice_get items k ≡ Some f)) (same : new.sections.items ≡ old.sections.items) (more : gs ≡ fs ++ CanonLower f ∷ []) where
@@ -280,7 +283,7 @@ first_growing component funcs none = let e = ap (map shown_canon) none in λ i. 
 pub first_draft : (scopes : List Contents) (component : OpenComponent) (funcs : List Func) → funcs ≡ [] → own_scope scopes ≡ scope_of (shown_sections component.sections.items) → Tabled component.tables (shown_sections component.sections.items) → IsDraft scopes component funcs
 first_draft scopes component funcs none is tabled =
     let t : Tree = shown_sections component.sections.items in
-    let e = spaces_canons t [] in
+    let e = spaces-add t (canons []) in
     let same = first_growing component funcs none in
     record {
       scope_is = is ∙ sym (ap (λ z. scope_of (grown z)) same ∙ scope_canons t []);
@@ -291,7 +294,7 @@ first_draft scopes component funcs none is tabled =
 pub first_count : (component : OpenComponent) (funcs : List Func) → funcs ≡ [] → function_count (grown (growing component funcs)) ≡ function_count (shown_sections component.sections.items)
 first_count component funcs none =
     let t : Tree = shown_sections component.sections.items in
-    ap (λ z. function_count (grown z)) (first_growing component funcs none) ∙ ap (λ z. length z.functions + length z.core_functions) (spaces_canons t [])
+    ap (λ z. function_count (grown z)) (first_growing component funcs none) ∙ ap functions_at (spaces-add t (canons []))
 
 -- All turns together.
 pub all_read : (config : Config) (least most : ℕ) (t : Tree) (first next : Growing) (b rest : List ℕ) → first ≡ empty_section t → most ≡ config.max_funcs - function_count t

@@ -10,14 +10,15 @@ use Rattle.smith_component.specs.Counted.{count_of, minimum_of}
 use Rattle.smith_component.specs.Filling.{CanFill}
 use Rattle.smith_component.specs.Open.{Open, with_inner}
 use Rattle.smith_component.specs.Tables.{IsGrounded}
-use Rattle.smith_component.specs.Tree.{Tree, types, imports, add, types_of, types_in, imports_of, imports_in, functions_in, core_functions_in, function_count}
+use Rattle.smith_component.specs.Spaces.{function_count, spaces_of, types_of}
+use Rattle.smith_component.specs.Tree.{Tree, types, imports, add, imports_of, imports_in}
 use Rattle.smith_component.specs.Turn.{Fills, Lacks, of_imports, of_functions}
-use Rattle.smith_component.specs.WellFormed.{spaces_of}
 use Rattle.smith_component.specs.declared.item.Counted.{Counted}
 use Rattle.smith_component.specs.declared.item.Counted.TheVariants as counted
-use Rattle.smith_component.proofs.ReadsCanons.{canons_enough}
+use Rattle.smith_component.proofs.CanonsEnough.{canons_enough}
 use Rattle.smith_component.proofs.ReadsImports.{imports_enough}
-use Rattle.smith_component.proofs.Tree.{own-add, length-own-add}
+use Rattle.smith_component.proofs.Growth.{extends-add, functions_at, functions_grow, spaces-add}
+use Rattle.smith_component.proofs.Tree.{length-own-add}
 
 -- where there are enough, nothing is filled
 fill_none : (what : Counted) (config : Config) (stack : Open) (b : List ℕ) (t : Tree) (rest : List ℕ) → minimum_of what config ≤ count_of what stack.inner → Fills what config stack b t rest → (t ≡ stack.inner) × (rest ≡ b)
@@ -51,18 +52,18 @@ record IsImported (old new : Tree) : Type 0 where
 
 with_types : (old new : Tree) (xs : List Entry) → new ≡ add old (types xs) → IsTyped old new
 with_types old new xs e =
-    let split = ap (λ es. length (places is_func 0 es)) (own-add types_in old (types xs)) ∙ ap length (places-append is_func 0 (types_of old) xs) in
+    let split = ap (λ s. length (places is_func 0 s.types)) (spaces-add old (types xs)) ∙ ap length (places-append is_func 0 (types_of old) xs) in
     let both = length-append (places is_func 0 (types_of old)) (places is_func (0 + length (types_of old)) xs) in
     record {
       imports = omega (arith, ap (λ t. length (imports_of t)) e, length-own-add imports_in old (types xs));
-      functions = omega (arith, ap (λ t. function_count t) e, length-own-add functions_in old (types xs), length-own-add core_functions_in old (types xs));
+      functions = ap (λ t. function_count t) e ∙ ap functions_at (spaces-add old (types xs));
       types = omega (arith, ap (λ t. func_types t) e, split, both);
     }
 
 with_imports : (old new : Tree) (is : List ImportEntry) → new ≡ add old (imports is) → IsImported old new
 with_imports old new is e = record {
   imports = omega (arith, ap (λ t. length (imports_of t)) e, length-own-add imports_in old (imports is));
-  functions = omega (arith, ap (λ t. function_count t) e, length-own-add functions_in old (imports is), length-own-add core_functions_in old (imports is));
+  functions = omega (arith, ap (λ t. function_count t) e, functions_grow (spaces_of old) (spaces_of (add old (imports is))) (extends-add old (imports is)));
 }
 
 module _ (config : Config) where

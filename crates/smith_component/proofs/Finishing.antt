@@ -1,5 +1,6 @@
 -- What filling gives, and builders that follow one another.
-use Rattle.std.proofs.Common.{◌≡◌, ℕ, ◌-◌, ◌≤◌, List, [], ◌∷◌, ◌++◌, length, map, arith, ap, sym, subst, ◌∙◌, refl, inl, inr, append_assoc, Result, IfErr}
+use Rattle.std.proofs.Common.{◌≡◌, ℕ, ◌-◌, ◌≤◌, List, [], ◌∷◌, ◌++◌, length, map, arith, ap, sym, subst, ◌∙◌, inl, inr, append_assoc, length-append, Result}
+use Rattle.std.proofs.Common.{IfErr}
 use Rattle.std.proofs.lemmas.Result.{err_from_is_err_and}
 use Rattle.std.specs.Result.{IsErrAnd}
 use Rattle.smith_input.specs.declared.error.Error.{Error}
@@ -11,7 +12,8 @@ use Rattle.smith_component.specs.Limits.{Minima}
 use Rattle.smith_component.specs.Open.{Open, scopes_in, with_inner}
 use Rattle.smith_component.specs.Shown.{shown_sections}
 use Rattle.smith_component.specs.Steps.{AddsSections, ClosesSections, KeepsSections}
-use Rattle.smith_component.specs.Tree.{Tree, types, imports, types_in, types_of, imports_of}
+use Rattle.smith_component.specs.Spaces.{spaces_of, types_of}
+use Rattle.smith_component.specs.Tree.{Tree, types, imports, imports_of}
 use Rattle.smith_component.specs.Refusals.{IsFillRefusal}
 use Rattle.smith_component.specs.Turn.{Closes, Fills, FillsAll, Next}
 use Rattle.smith_component.specs.declared.builder.Step.{Step}
@@ -21,8 +23,7 @@ use Rattle.smith_component.specs.declared.component.Section.TheVariants.{Compone
 use Rattle.smith_component.specs.declared.item.Counted.TheVariants as counted
 use Rattle.smith_component.proofs.ReadsCanons.{canons_grow}
 use Rattle.smith_component.proofs.ReadsTypes.{types_enough}
-use Rattle.smith_component.proofs.Tables.{own_bare}
-use Rattle.smith_component.proofs.Tree.{length-own-add}
+use Rattle.smith_component.proofs.Growth.{imports_keep, spaces-add}
 
 -- the exit of a refusal
 pub refused : {T : Type 0} (r : Result T Error) (e : Error) (P : Error → Type 0) → IsErrAnd r (λ y. y ≡ e) → P e → IfErr r P
@@ -49,11 +50,13 @@ filled_types : (config : Config) (stack : Open) (b rest : List ℕ) (t : Tree) �
 filled_types config stack b rest t consistent (inl (enough, same, left)) = omega (arith, enough, ap (λ u. length (types_of u)) same)
 filled_types config stack b rest t consistent (inr (lacks, (xs, scope, reads, e))) =
     let room : config.min_types - length (types_of stack.inner) ≤ config.max_types - length (types_of stack.inner) = omega (arith, consistent.types_cross) in
-    omega (arith, lacks, types_enough config (scopes_in stack.outer) room reads, ap (λ u. length (types_of u)) e, length-own-add types_in stack.inner (types xs))
+    let grown = ap (λ u. length (types_of u)) e ∙ ap (λ s. length s.types) (spaces-add stack.inner (types xs)) in
+    omega (arith, lacks, types_enough config (scopes_in stack.outer) room reads, grown, length-append (types_of stack.inner) xs)
 
 imports_types : (config : Config) (stack : Open) (b rest : List ℕ) (t : Tree) → Fills counted.Imports config stack b t rest → types_of t ≡ types_of stack.inner
 imports_types config stack b rest t (inl (enough, same, left)) = ap types_of same
-imports_types config stack b rest t (inr (lacks, (is, reads, e))) = ap types_of e ∙ own_bare types_in stack.inner (imports is) refl
+imports_types config stack b rest t (inr (lacks, (is, reads, e))) =
+    ap types_of e ∙ (ap (λ s. s.types) (spaces-add stack.inner (imports is)) ∙ (imports_keep (spaces_of stack.inner) is).types)
 
 functions_keep : (config : Config) (stack : Open) (b rest : List ℕ) (t : Tree) → Fills counted.Functions config stack b t rest → (imports_of t ≡ imports_of stack.inner) × (length (types_of stack.inner) ≤ length (types_of t))
 functions_keep config stack b rest t (inl (enough, same, left)) = (ap imports_of same, omega (arith, ap (λ u. length (types_of u)) same))

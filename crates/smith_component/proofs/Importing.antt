@@ -15,10 +15,11 @@ use Rattle.smith_types.specs.declared.make.references.RefTotals.{RefTotals}
 use Rattle.smith_scopes.proofs.Plain.{both_true}
 use Rattle.smith_component.specs.Offers.{totals_of, with_imports}
 use Rattle.smith_component.specs.Open.{Open}
-use Rattle.smith_component.specs.Tree.{imports, functions_in, core_functions_in, function_of, module_of, component_of, instance_of}
+use Rattle.smith_component.specs.Spaces.{functions_of}
+use Rattle.smith_component.specs.Tree.{imports, add, function_of, module_of, component_of, instance_of}
+use Rattle.smith_component.proofs.Growth.{functions_at, spaces_import}
 use Rattle.smith_component.proofs.Sound.{component_count-so_far, instance_count-so_far, module_count-so_far}
 use Rattle.smith_component.proofs.Tables.{flat_map_more}
-use Rattle.smith_component.proofs.Tree.{length-own-add}
 
 -- Room for what is imported: where one more is counted, it finds room.
 pub record RefRoom (config : Config) (totals : RefTotals) (r : ComponentTypeRef) : Type 0 where
@@ -112,10 +113,6 @@ module _ (stack : Open) (s : List ImportEntry) (x : ImportEntry) where
   pub funcs_more : (totals_of (with_imports stack more)).funcs ≡ (totals_of (with_imports stack s)).funcs + length (function_of x.to)
   funcs_more = omega (
     arith,
-    length-own-add functions_in stack.inner (imports s),
-    length-own-add functions_in stack.inner (imports more),
-    length-own-add core_functions_in stack.inner (imports s),
-    length-own-add core_functions_in stack.inner (imports more),
-    ap length (flat_map_more (λ (i : ImportEntry). function_of i.to) s x),
-    length-append (flat_map (λ (i : ImportEntry). function_of i.to) s) (function_of x.to),
+    ap functions_at (spaces_import stack.inner s x),
+    length-append (functions_of (add stack.inner (imports s))) (function_of x.to),
   )

@@ -25,7 +25,8 @@ use Rattle.smith_component.specs.Imports.{NoImport, ReadsImport, ReadsImports}
 use Rattle.smith_component.specs.Offers.{totals_of, with_imports}
 use Rattle.smith_component.specs.Open.{Open}
 use Rattle.smith_component.specs.Script.{script_import, script_imports, IsPlanImport}
-use Rattle.smith_component.specs.Tree.{module_of, function_of, component_of, instance_of, imports_of, types_of, core_types_of}
+use Rattle.smith_component.specs.Spaces.{core_types_of, types_of}
+use Rattle.smith_component.specs.Tree.{module_of, function_of, component_of, instance_of, imports_of}
 use Rattle.smith_component.specs.WellFormed.{FormedImport, import_names, scope_of}
 use Rattle.smith_component.proofs.Importing.{modules_more, funcs_more, components_more, instances_more}
 use Rattle.smith_component.proofs.Tables.{import_names_more}

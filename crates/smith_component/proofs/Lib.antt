@@ -1,3 +1,4 @@
+pub mod CanonsEnough
 pub mod CanonsRead
 pub mod CanonsSame
 pub mod Clear
@@ -5,7 +6,9 @@ pub mod Decided
 pub mod Draft
 pub mod Filling
 pub mod Finishing
+pub mod Fits
 pub mod Grammar
+pub mod Growth
 pub mod Importing
 pub mod ImportsRead
 pub mod ImportsSame

@@ -1,5 +1,6 @@
 -- The script of a part of a plan is read as that part, and a component that lacks nothing is finished as it is.
-use Rattle.std.proofs.Common.{◌≡◌, ℕ, suc, ◌+◌, ◌-◌, ◌≤◌, ◌^◌, List, [], ◌∷◌, ◌++◌, map, length, arith, refl, sym, ap, subst, inl, append_assoc}
+use Rattle.std.proofs.Common.{◌≡◌, ℕ, suc, ◌+◌, ◌-◌, ◌≤◌, ◌^◌, List, [], ◌∷◌, ◌++◌, fold, map, length, arith, refl, sym, ap, subst, inl, append_assoc}
+use Rattle.std.proofs.Common.{length-append}
 use Rattle.std.specs.List.{AllByRecursion}
 use Rattle.std.specs.Str.{IsUtf8}
 use Rattle.smith_input.specs.Script.{script_text, script_bytes}
@@ -17,17 +18,20 @@ use Rattle.smith_syntax.specs.TypeLimits.{EntryLimits}
 use Rattle.smith_types.specs.Script.{Lasts}
 use Rattle.smith_component.specs.Open.{Open, scopes_from, scopes_in, tree_so_far}
 use Rattle.smith_component.specs.Script.{item_of, script_part, IsPlanPart}
-use Rattle.smith_component.specs.Tree.{Canon, Tree, Part, custom, core_module, core_types, component, types, canons, imports, add, own, inside, components_in, no_depth, names_in, types_in, types_of, core_types_of, core_types_in, imports_of, imports_in, function_count}
+use Rattle.smith_component.specs.Spaces.{Spaces, after_canon, after_part, core_types_of, function_count, spaces_of, types_of}
+use Rattle.smith_component.specs.Tree.{Canon, Tree, Part, custom, core_types, component, types, canons, imports, add, own, inside, components_in, no_depth}
+use Rattle.smith_component.specs.Tree.{names_in, imports_of, imports_in}
 use Rattle.smith_component.specs.Turn.{Does, FillsAll, ReadsCustom, with_part}
-use Rattle.smith_component.specs.WellFormed.{FormedPart, Spaces, after_canon, scope_of, spaces_of}
+use Rattle.smith_component.specs.WellFormed.{FormedPart, scope_of}
 use Rattle.smith_component.proofs.CanonsRead.{Spoken, canons_from, types_spoken}
 use Rattle.smith_component.proofs.ImportsRead.{imports_read, Room}
 use Rattle.smith_component.proofs.ReadsCoreTypes.{core_types_read}
 use Rattle.smith_component.proofs.ReadsTypes.{types_read}
-use Rattle.smith_component.proofs.Sound.{Short, length-scopes_from}
-use Rattle.smith_component.proofs.Spaces.{after_canons, functions_after, functions_at, spaces_canons}
+use Rattle.smith_component.proofs.Fits.{Fits, Short, fits_behind, own_limits-front}
+use Rattle.smith_component.proofs.Growth.{functions_after, functions_at, spaces-add, types_past}
+use Rattle.smith_component.proofs.Sound.{length-scopes_from}
 use Rattle.smith_component.proofs.Tree.{all_of, anywhere-add, depth-outer, own-add, length-own-add}
-use Rattle.smith_scopes.proofs.Plain.{all_back, all_both}
+use Rattle.smith_scopes.proofs.Plain.{all_back}
 
 -- nothing is filled where nothing lacks
 pub fills_nothing : (config : Config) (stack : Open) (b : List ℕ) → Minima config stack.inner → FillsAll config stack b stack.inner b
@@ -48,7 +52,7 @@ custom_read name contents rest utf8 short =
     subst (λ z. ReadsCustom z name contents rest) (sym (append_assoc (script_text 1000 name) (script_bytes contents) rest))
     (script_bytes contents ++ rest, text_read 1000 name (script_bytes contents ++ rest) (omega arith) utf8 short, bytes_read contents rest)
 
-functions_behind : (s : Spaces) (cs : List Canon) → functions_at (after_canons s cs) ≡ functions_at s + length cs
+functions_behind : (s : Spaces) (cs : List Canon) → functions_at (fold after_canon s cs) ≡ functions_at s + length cs
 functions_behind s [] = omega arith
 functions_behind s (c ∷ cs) = omega (arith, functions_behind (after_canon s c) cs, functions_after s c)
 
@@ -62,8 +66,8 @@ few_around : (config : Config) → IsConsistent config → (outer : List Tree) (
 few_around config consistent [] t scopes few each = few
 few_around config consistent (u ∷ us) t scopes few each =
     let x : Tree = tree_so_far us t in
-    let own : OwnLimits config (add u (component x)) = each.0 in
-    let small : length (types_of u) + length (core_types_of u) ≤ 2 ^ 64 = omega (arith, own.types, own.core_types, length-own-add types_in u (component x), length-own-add core_types_in u (component x), consistent.types) in
+    let own : OwnLimits config u = own_limits-front config u (component x) each.0 in
+    let small : length (types_of u) + length (core_types_of u) ≤ 2 ^ 64 = omega (arith, own.types, own.core_types, consistent.types) in
     few_around config consistent us t (scope_of u ∷ scopes) (small, few) (all_back (OwnLimits config) (inside u) (x ∷ inside x) (subst (AllByRecursion (OwnLimits config)) (anywhere-add components_in u (component x)) each.1))
 
 around : (config : Config) → IsConsistent config → (outer : List Tree) (t : Tree) → Maxima config (tree_so_far outer t) → Around outer
@@ -84,16 +88,19 @@ module _ (config : Config) (stack : Open) (rest : List ℕ) where
 
   pub core_types_part : (ts : List CoreEntry) → IsRead (core_types ts)
   core_types_part ts plan formed limits =
-      let few : length (core_types_of stack.inner) + length ts ≤ config.max_types = omega (arith, limits.core_types, length-own-add core_types_in stack.inner (core_types ts)) in
-      let limited : AllByRecursion (CoreLimits config) ts = all_back _ (own core_types_in stack.inner) ts (subst (AllByRecursion (CoreLimits config)) (own-add core_types_in stack.inner (core_types ts)) limits.within_core_types) in
+      let fits : Fits config (after_part (spaces_of stack.inner) (core_types ts)) = fits_behind config stack.inner (core_types ts) limits in
+      let few : length (core_types_of stack.inner) + length ts ≤ config.max_types =
+      omega (arith, fits.core_types, length-append (core_types_of stack.inner) ts) in
+      let limited : AllByRecursion (CoreLimits config) ts = all_back _ (core_types_of stack.inner) ts fits.within_core_types in
       (ts, _, core_types_read config ts (config.max_types - length (core_types_of stack.inner)) (scope_of stack.inner) rest limited plan (omega (arith, few)), refl)
 
   pub types_part : IsConsistent config → (ts : List Entry) → Maxima config (tree_so_far stack.outer (add stack.inner (types ts))) → IsRead (types ts)
   types_part consistent ts maxima plan formed limits =
       let here = around config consistent stack.outer (add stack.inner (types ts)) maxima in
-      let few : length (types_of stack.inner) + length ts ≤ config.max_types = omega (arith, limits.types, length-own-add types_in stack.inner (types ts)) in
-      let cores : length (core_types_of stack.inner) ≤ config.max_types = omega (arith, limits.core_types, length-own-add core_types_in stack.inner (types ts)) in
-      let limited : AllByRecursion (EntryLimits config) ts = all_back _ (own types_in stack.inner) ts (subst (AllByRecursion (EntryLimits config)) (own-add types_in stack.inner (types ts)) limits.within_types) in
+      let fits : Fits config (after_part (spaces_of stack.inner) (types ts)) = fits_behind config stack.inner (types ts) limits in
+      let few : length (types_of stack.inner) + length ts ≤ config.max_types = omega (arith, fits.types, length-append (types_of stack.inner) ts) in
+      let cores : length (core_types_of stack.inner) ≤ config.max_types = fits.core_types in
+      let limited : AllByRecursion (EntryLimits config) ts = all_back _ (types_of stack.inner) ts fits.within_types in
       let count : length (scopes_in stack.outer) ≡ length stack.outer = omega (arith, length-scopes_from stack.outer []) in
       let lasts : AllByRecursion (λ e. Lasts e config (suc (length (scopes_in stack.outer))) config.max_type_size) ts = subst (λ n. AllByRecursion (λ e. Lasts e config (suc n) config.max_type_size) ts) (sym count) plan in
       let read = types_read config (scopes_in stack.outer) here.few (omega (arith, here.shallow, count)) consistent.nesting ts (config.max_types - length (types_of stack.inner)) (scope_of stack.inner) rest formed limited lasts (omega (arith, few)) (omega (arith, few, cores, consistent.types)) in
@@ -101,8 +108,9 @@ module _ (config : Config) (stack : Open) (rest : List ℕ) where
 
   pub imports_part : IsConsistent config → (is : List ImportEntry) → Maxima config (tree_so_far stack.outer (add stack.inner (imports is))) → IsRead (imports is)
   imports_part consistent is maxima plan formed limits =
+      let before : OwnLimits config stack.inner = own_limits-front config stack.inner (imports is) limits in
       let few : length (types_of stack.inner) + length (core_types_of stack.inner) ≤ 2 ^ 64 =
-      omega (arith, consistent.types, limits.types, limits.core_types, length-own-add types_in stack.inner (imports is), length-own-add core_types_in stack.inner (imports is)) in
+      omega (arith, consistent.types, before.types, before.core_types) in
       let room : Room config (totals_of (with_imports stack is)) = record { modules = maxima.modules; funcs = limits.functions; components = maxima.components; instances = maxima.instances } in
       let fits : length (imports_of stack.inner) + length is ≤ config.max_imports = omega (arith, limits.imports, length-own-add imports_in stack.inner (imports is)) in
       (add stack.inner (imports is), (is, imports_read config stack few is rest plan formed.0 formed.1 room (omega (arith, fits)), refl), refl)
@@ -110,20 +118,19 @@ module _ (config : Config) (stack : Open) (rest : List ℕ) where
   pub canons_part : IsConsistent config → AllByRecursion Spoken (types_of stack.inner) → (fs : List Canon) → IsRead (canons fs)
   canons_part consistent spoken fs plan formed limits =
       let inner : Tree = stack.inner in
-      let count : function_count inner + length fs ≤ config.max_funcs = omega (arith, limits.functions, ap functions_at (spaces_canons inner fs), functions_behind (spaces_of inner) fs) in
-      let many : length (types_of inner) ≤ 4294967295 = omega (arith, limits.types, length-own-add types_in inner (canons fs), consistent.types) in
-      let read = canons_from fs config (config.max_funcs - function_count inner) 0 (empty_section inner) (spaces_of inner) rest (spaces_canons inner []) formed spoken (omega (arith, many)) (omega (arith, count, consistent.funcs)) (omega (arith, count)) in
+      let count : function_count inner + length fs ≤ config.max_funcs =
+      omega (arith, limits.functions, ap functions_at (spaces-add inner (canons fs)), functions_behind (spaces_of inner) fs) in
+      let many : length (types_of inner) ≤ 4294967295 = omega (arith, (own_limits-front config inner (canons fs) limits).types, consistent.types) in
+      let read =
+      canons_from fs config (config.max_funcs - function_count inner) 0 (empty_section inner) (spaces_of inner) rest (spaces-add inner (canons [])) formed
+      spoken (omega (arith, many)) (omega (arith, count, consistent.funcs)) (omega (arith, count)) in
       (add inner (canons fs), (map canon_item_of fs, record { before = inner; funcs = fs }, read, refl), refl)
 
 -- The types of a plan can be said behind one part more.
-part_spoken : (config : Config) (p : Part) (outer : List Scope) (before : Tree) (scopes : ℕ) → IsPlanPart config scopes p → FormedPart p outer before → AllByRecursion Spoken (types_in p)
-part_spoken config (custom name contents) outer before scopes plan formed = tt
-part_spoken config (core_module text) outer before scopes plan formed = tt
-part_spoken config (core_types ts) outer before scopes plan formed = tt
-part_spoken config (component t) outer before scopes plan formed = tt
-part_spoken config (types es) outer before scopes plan formed = types_spoken es (scope_of before) outer config scopes config.max_type_size formed plan
-part_spoken config (canons fs) outer before scopes plan formed = tt
-part_spoken config (imports is) outer before scopes plan formed = tt
-
-pub spoken_past : (config : Config) (p : Part) (outer : List Scope) (before : Tree) (scopes : ℕ) → IsPlanPart config scopes p → FormedPart p outer before → AllByRecursion Spoken (types_of before) → AllByRecursion Spoken (types_of (add before p))
-spoken_past config p outer before scopes plan formed h = subst (AllByRecursion Spoken) (sym (own-add types_in before p)) (all_both Spoken (types_of before) (types_in p) h (part_spoken config p outer before scopes plan formed))
+pub spoken_past : (config : Config) (p : Part) (outer : List Scope) (before : Tree) (scopes : ℕ) → IsPlanPart config scopes p → FormedPart p outer before
+    → AllByRecursion Spoken (types_of before) → AllByRecursion Spoken (types_of (add before p))
+spoken_past config p outer before scopes plan formed h =
+    types_past Spoken before p h (λ ts e. said ts (subst (λ q. FormedPart q outer before) e formed) (subst (IsPlanPart config scopes) e plan))
+  where
+    said : (ts : List Entry) → FormedPart (types ts) outer before → IsPlanPart config scopes (types ts) → AllByRecursion Spoken ts
+    said ts f l = types_spoken ts (scope_of before) outer config scopes config.max_type_size f l

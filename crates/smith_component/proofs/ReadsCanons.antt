@@ -1,17 +1,14 @@
--- What canonical sections read: they keep what is true of the builder, and make as many turns as they must.
-use Rattle.std.proofs.Common.{◌≡◌, ℕ, ◌+◌, ◌-◌, ◌<◌, ◌≤◌, Bool, true, false, List, [], ◌∷◌, ◌++◌, map, length, length-append, refl, sym, ap, ◌∙◌, subst, arith, Some, Option, ⊎_elim, nat_lt}
-use Rattle.std.proofs.lemmas.Bool.{cases_lt, false≢true}
-use Rattle.std.proofs.lemmas.Bool.Decides.{nat_tests}
+-- What canonical sections read: they keep what is true of the builder.
+use Rattle.std.proofs.Common.{◌≡◌, ℕ, ◌+◌, ◌-◌, ◌<◌, ◌≤◌, List, [], ◌∷◌, ◌++◌, map, length, length-append, refl, sym, ap, ◌∙◌, subst, arith, Some, Option}
 use Rattle.std.proofs.lemmas.List.{length-map}
 use Rattle.std.specs.List.{AllByRecursion}
 use Rattle.std.specs.Option.{option_to_list}
 use Rattle.std.specs.Prelude.{slice_get}
 use Rattle.smith_input.specs.Loops.{Loop, no_more, by_itself, an_item}
-use Rattle.smith_input.specs.Reading.{IsTail, More}
-use Rattle.smith_input.specs.Script.{offers_of}
+use Rattle.smith_input.specs.Reading.{IsTail}
 use Rattle.smith_input.proofs.Choices.{among_tail}
 use Rattle.smith_input.proofs.Loops.{loop_tail}
-use Rattle.smith_input.proofs.ReadingLemmas.{tail_is, tail_trans, reads_tail, more_within, more_past}
+use Rattle.smith_input.proofs.ReadingLemmas.{tail_is, tail_trans, reads_tail, more_within}
 use Rattle.smith_format.specs.CoreTypes.{Function}
 use Rattle.smith_format.specs.declared.config.Config.{Config}
 use Rattle.smith_format.specs.declared.types.ValType.{ValType}
@@ -22,27 +19,25 @@ use Rattle.smith_syntax.specs.WellFormed.{FormedEntry, FormedTypes, size}
 use Rattle.smith_syntax.specs.declared.types.ComponentValType.{ComponentValType}
 use Rattle.smith_syntax.proofs.Flat.{flattens_params}
 use Rattle.smith_types.proofs.Lifting.{lifted_tail, lifted_flattens, lifted_formed}
-use Rattle.smith_component.specs.Canonicals.{Growing, grown, spaces_at, with_canon, with_defined, LiftsTo, to_equal, to_defined, given_up, ReadsLift, CanonTurn, NoCanon, empty_section, ReadsCanons}
-use Rattle.smith_component.specs.Offers.{scalar_functions}
+use Rattle.smith_component.specs.Canonicals.{Growing, grown, spaces_at, with_canon, with_defined, LiftsTo, to_equal, to_defined, given_up, ReadsLift, CanonTurn, empty_section, ReadsCanons}
 use Rattle.smith_component.specs.Open.{Open, scopes_in, tree_so_far, with_inner}
 use Rattle.smith_component.specs.Sound.{Sound}
-use Rattle.smith_component.specs.Tables.{IsGrounded}
-use Rattle.smith_component.specs.Tree.{Canon, lift, lower, Tree, Part, ends, first, custom, core_module, core_types, component, types, canons, imports, add, types_in, functions_in, core_functions_in, types_of, core_types_of, imports_of, function_count}
-use Rattle.smith_component.specs.WellFormed.{Spaces, spaces_of, scope_of, HasSignature, FormedCanon, FormedCanons, Formed, FormedPart}
+use Rattle.smith_component.specs.Spaces.{Spaces, after_part, core_types_of, function_count, spaces_of, types_of}
+use Rattle.smith_component.specs.Tree.{Canon, lift, lower, Tree, Part, ends, first, component, types, canons, add, join, imports_of}
+use Rattle.smith_component.specs.WellFormed.{scope_of, HasSignature, FormedCanon, FormedCanons, Formed, FormedPart}
 use Rattle.smith_component.specs.declared.item.CanonItem.{CanonItem}
 use Rattle.smith_component.specs.declared.item.CanonItem.TheVariants.{Lower, Lift}
-use Rattle.smith_component.proofs.Sound.{addable_types, own_limits-add, own_limits_of, own_sizes_of, part_sound}
-use Rattle.smith_component.proofs.Spaces.{all_at, get_last, spaces_canons, spaces_canon, spaces_types, imports_canons, imports_types, with_entries, functions_at, functions_after, extends_entries, has_signature_stays, Grounded, grounded_spaces, grounded_tree, grounded_entries, grounded_canon, formed_names, scalars_entries, scalars_grow, equal_at, formed_canons-snoc}
+use Rattle.smith_component.proofs.Fits.{fits_functions, fits_of, own_limits-add, own_sizes-add, sizes_keep}
+use Rattle.smith_component.proofs.Growth.{KeepsTypes, canon_keeps, canons_keep, extends_part, functions_after, functions_at, spaces-add, spaces_canon}
+use Rattle.smith_component.proofs.Growth.{types_past}
+use Rattle.smith_component.proofs.Sound.{addable_types, own_limits_of, own_sizes_of, part_sound}
+use Rattle.smith_component.proofs.Spaces.{all_at, get_last, imports_canons, imports_types, with_entries, has_signature_stays}
+use Rattle.smith_component.proofs.Spaces.{equal_at, formed_canons-snoc}
 use Rattle.smith_component.proofs.Tables.{scalar_at}
-use Rattle.smith_component.proofs.Tree.{length-own-add}
-use Rattle.smith_scopes.proofs.Plain.{all_both}
+use Rattle.smith_component.proofs.Tree.{join-add, join-ends}
 use Rattle.smith_component.proofs.WellFormed.{formed_front}
 
--- What turns keep, a loop keeps. Where it can't end by itself, it makes as many turns as it must.
-
-more_done : {done least most : ℕ} {b rest : List ℕ} → least ≤ most → done ≤ most → More done least most b false rest → least ≤ done
-more_done {done} {least} {most} h few m = ⊎_elim (λ lt. more_past lt m) (λ le. omega arith) (cases_lt done most)
-
+-- What turns keep, a loop keeps.
 module _ {S A : Type 0} {Ends : S → List ℕ → List ℕ → S → Type 0} {Item : S → List ℕ → A → List ℕ → S → Type 0} {least most : ℕ} (P : ℕ → S → Type 0) where
   pub loop_keeps : ((n : ℕ) (s : S) (b r : List ℕ) (t : S) → P n s → Ends s b r t → P n t)
       → ((n : ℕ) (s : S) (b : List ℕ) (x : A) (r : List ℕ) (t : S) → n < most → P n s → Item s b x r t → P (n + 1) t)
@@ -52,15 +47,6 @@ module _ {S A : Type 0} {Ends : S → List ℕ → List ℕ → S → Type 0} {I
   loop_keeps over items done s b xs rest u h p (an_item {t = t} {mid = mid} {after = after} {x = x} {xs = ys} m i l) =
       let lt : done < most = more_within m in
       loop_keeps over items (done + 1) t after ys rest u (omega (arith, lt)) (items done s mid x after t lt p i) l
-
-  pub loop_reaches : ((n : ℕ) (s : S) (b r : List ℕ) (t : S) → P n s → Ends s b r t → ⊥)
-      → ((n : ℕ) (s : S) (b : List ℕ) (x : A) (r : List ℕ) (t : S) → n < most → P n s → Item s b x r t → P (n + 1) t) → least ≤ most
-      → (done : ℕ) (s : S) (b : List ℕ) (xs : List A) (rest : List ℕ) (t : S) → done ≤ most → P done s → Loop Ends Item least most done s b xs rest t → (n : ℕ) × (least ≤ n) × P n t
-  loop_reaches never items o done s b xs rest t h p (no_more m e) = (done, more_done o h m, subst (P done) (sym e) p)
-  loop_reaches never items o done s b xs rest t h p (by_itself {mid = mid} m e) = absurd (never done s mid rest t p e)
-  loop_reaches never items o done s b xs rest u h p (an_item {t = t} {mid = mid} {after = after} {x = x} {xs = ys} m i l) =
-      let lt : done < most = more_within m in
-      loop_reaches never items o (done + 1) t after ys rest u (omega (arith, lt)) (items done s mid x after t lt p i) l
 
 -- Function types of a well formed component have at most 16 parameters.
 
@@ -80,21 +66,19 @@ types_few : (es : List Entry) (own : Scope) (outer : List Scope) → FormedTypes
 types_few [] own outer f = tt
 types_few (e ∷ es) own outer f = (entry_few e own outer f.0, types_few es _ outer f.1)
 
-part_few : (p : Part) (outer : List Scope) (before : Tree) → FormedPart p outer before → AllByRecursion FewParams (types_in p)
-part_few (custom name contents) outer before f = tt
-part_few (core_module text) outer before f = tt
-part_few (core_types ts) outer before f = tt
-part_few (component t) outer before f = tt
-part_few (types ts) outer before f = types_few ts (scope_of before) outer f
-part_few (canons fs) outer before f = tt
-part_few (imports is) outer before f = tt
+part_few : (p : Part) (outer : List Scope) (before : Tree) → FormedPart p outer before → AllByRecursion FewParams (types_of before)
+    → AllByRecursion FewParams (types_of (add before p))
+part_few p outer before f few =
+    types_past FewParams before p few (λ ts e. types_few ts (scope_of before) outer (subst (λ q. FormedPart q outer before) e f))
 
-tree_few : (t : Tree) (outer : List Scope) (before : Tree) → Formed t outer before → AllByRecursion FewParams (types_of t)
-tree_few ends outer before f = tt
-tree_few (first p t) outer before f = all_both FewParams (types_in p) (types_of t) (part_few p outer before f.0) (tree_few t outer (add before p) f.1)
+tree_few : (t : Tree) (outer : List Scope) (before : Tree) → Formed t outer before → AllByRecursion FewParams (types_of before)
+    → AllByRecursion FewParams (types_of (join before t))
+tree_few ends outer before f few = subst (λ u. AllByRecursion FewParams (types_of u)) (sym (join-ends before)) few
+tree_few (first p t) outer before f few =
+    subst (λ u. AllByRecursion FewParams (types_of u)) (join-add before p t) (tree_few t outer (add before p) f.1 (part_few p outer before f.0 few))
 
 inner_few : (stack : List Tree) (outer : List Scope) (t : Tree) → Formed (tree_so_far stack t) outer ends → AllByRecursion FewParams (types_of t)
-inner_few [] outer t f = tree_few t outer ends f
+inner_few [] outer t f = tree_few t outer ends f tt
 inner_few (u ∷ stack) outer t f = inner_few stack (scope_of u ∷ outer) t (formed_front u (component (tree_so_far stack t)) outer ends f).1
 
 -- What a lift that defines its type is of.
@@ -147,27 +131,29 @@ abbrev pub with_signature : Growing → Signature → Growing
 with_signature s signature = empty_section (add (grown s) (types (function signature ∷ [])))
 
 pub spaces_signature : (s : Growing) (signature : Signature) → spaces_at (with_signature s signature) ≡ with_entries (spaces_at s) (function signature ∷ [])
-spaces_signature s signature = spaces_canons (add (grown s) (types (function signature ∷ []))) [] ∙ spaces_types (grown s) (function signature ∷ [])
+spaces_signature s signature =
+    let es : List Entry = function signature ∷ [] in
+    spaces-add (add (grown s) (types es)) (canons []) ∙ spaces-add (grown s) (types es)
 
-canon_count : (s : Growing) (c : Canon) → function_count (grown (with_canon s c)) ≡ function_count (grown s) + 1
+pub canon_count : (s : Growing) (c : Canon) → function_count (grown (with_canon s c)) ≡ function_count (grown s) + 1
 canon_count s c = ap functions_at (spaces_canon s.before s.funcs c) ∙ functions_after (spaces_at s) c
 
-signature_count : (s : Growing) (signature : Signature) → function_count (grown (with_signature s signature)) ≡ function_count (grown s)
+pub signature_count : (s : Growing) (signature : Signature) → function_count (grown (with_signature s signature)) ≡ function_count (grown s)
 signature_count s signature = ap functions_at (spaces_signature s signature)
 
 signature_types : (s : Growing) (signature : Signature) (n : ℕ) → n ≤ length (types_of (grown s)) → n ≤ length (types_of (grown (with_signature s signature)))
 signature_types s signature n h = omega (arith, h, ap (λ z. length z.types) (spaces_signature s signature), length-append (types_of (grown s)) (function signature ∷ []))
 
-empty_count : (t : Tree) → function_count (grown (empty_section t)) ≡ function_count t
-empty_count t = ap functions_at (spaces_canons t [])
+pub empty_count : (t : Tree) → function_count (grown (empty_section t)) ≡ function_count t
+empty_count t = ap functions_at (spaces-add t (canons []))
 
 -- The lift to the type that is defined is formed behind it.
-defined_canon : {config : Config} {s : Growing} {c : ℕ} {signature : Signature} → Defines config s c signature → FormedCanon (spaces_at (with_signature s signature)) (lift c (length (spaces_at s).types))
+pub defined_canon : {config : Config} {s : Growing} {c : ℕ} {signature : Signature} → Defines config s c signature → FormedCanon (spaces_at (with_signature s signature)) (lift c (length (spaces_at s).types))
 defined_canon {s = s} {c = c} {signature = signature} d =
     let es : List Entry = function signature ∷ [] in
     let P : Spaces → Type 0 = λ u. FormedCanon u (lift c (length (spaces_at s).types)) in
-    subst P (sym (spaces_signature s signature))
-    (signature, d.lowered, d.f, get_last (spaces_at s).types (function signature), d.lowers, has_signature_stays (extends_entries (spaces_at s) es) d.of, d.flat)
+    let of = has_signature_stays (extends_part (spaces_at s) (types es)) d.of in
+    subst P (sym (spaces_signature s signature)) (signature, d.lowered, d.f, get_last (spaces_at s).types (function signature), d.lowers, of, d.flat)
 
 -- What a turn keeps, by what a canonical function and a type keep.
 turn_keeps : (P : ℕ → Growing → Type 0) (config : Config) (n : ℕ) (s next : Growing)
@@ -185,17 +171,6 @@ turn_count config s b item rest next i =
     let P : ℕ → Growing → Type 0 = λ n u. function_count (grown u) ≤ function_count (grown s) + n in
     turn_keeps P config 0 s next (λ v c h p. omega (arith, p, canon_count v c)) (λ c signature d p. omega (arith, p, signature_count s signature)) (λ full p. omega (arith, p)) (omega arith) (turned config s b item rest next i)
 
--- All stays grounded.
-
-canon_grounds : (s : Growing) (c : Canon) → FormedCanon (spaces_at s) c → Grounded (spaces_at s) → Grounded (spaces_at (with_canon s c))
-canon_grounds s c h g = subst Grounded (sym (spaces_canon s.before s.funcs c)) (grounded_canon (spaces_at s) c (formed_names (spaces_at s) c h) g)
-
-signature_grounds : (s : Growing) (signature : Signature) → Grounded (spaces_at s) → Grounded (spaces_at (with_signature s signature))
-signature_grounds s signature g = subst Grounded (sym (spaces_signature s signature)) (grounded_entries (spaces_at s) (function signature ∷ []) g)
-
-empty_grounds : (t : Tree) → IsGrounded t → Grounded (spaces_at (empty_section t))
-empty_grounds t g = subst Grounded (sym (spaces_canons t [])) (grounded_spaces t g)
-
 module _ (config : Config) (least : ℕ) (t : Tree) {b : List ℕ} {turns : List CanonItem} {rest : List ℕ} {next : Growing} (r : ReadsCanons config least t b turns rest next) where
   turn_tail : (s : Growing) (b : List ℕ) (item : CanonItem) (rest : List ℕ) (next : Growing) → CanonTurn config s b item rest next → IsTail rest b
   turn_tail s b Lower rest next (mid, chosen, (f, among, e)) = tail_trans (among_tail among) (among_tail chosen)
@@ -209,24 +184,6 @@ module _ (config : Config) (least : ℕ) (t : Tree) {b : List ℕ} {turns : List
   pub canons_tail : IsTail rest b
   canons_tail = loop_tail (λ s b r t e. tail_is e.1) turn_tail 0 (empty_section t) b turns rest next r
 
-  pub canons_grounded : IsGrounded t → IsGrounded (grown next)
-  canons_grounded g =
-      let P : ℕ → Growing → Type 0 = λ n s. Grounded (spaces_at s) in
-      let all = loop_keeps P (λ n s b r t p e. subst (P n) (sym e.2) p)
-      (λ n s b x q u lt p i. turn_keeps P config n s u (λ v c h p. canon_grounds v c h p) (λ c signature d p. signature_grounds s signature p) (λ full p. p) p (turned config s b x q u i))
-      0 (empty_section t) b turns rest next (omega arith) (empty_grounds t g) r in
-      grounded_tree (grown next) all.2
-
-  -- They add at most as many functions as there may be.
-  pub canons_few : function_count (grown next) ≤ function_count t + (config.max_funcs - function_count t)
-  canons_few =
-      let P : ℕ → Growing → Type 0 = λ n s. function_count (grown s) ≤ function_count t + n in
-      let all = loop_keeps P (λ n s b r t p e. subst (P n) (sym e.2) p)
-      (λ n s b x q u lt p i.
-      turn_keeps P config n s u (λ v c h p. omega (arith, p, canon_count v c)) (λ c signature d p. omega (arith, p, signature_count s signature)) (λ full p. omega (arith, p)) p (turned config s b x q u i))
-      0 (empty_section t) b turns rest next (omega arith) (omega (arith, empty_count t)) r in
-      omega (arith, all.1, all.2)
-
   -- They add no import and no core type, and take no type away.
   pub canons_grow : (imports_of (grown next) ≡ imports_of t) × (core_types_of (grown next) ≡ core_types_of t) × (length (types_of t) ≤ length (types_of (grown next)))
   canons_grow =
@@ -235,8 +192,8 @@ module _ (config : Config) (least : ℕ) (t : Tree) {b : List ℕ} {turns : List
       (λ n s b x q u lt p i. turn_keeps P config n s u
       (λ v c h p. (
         imports_canons v.before (v.funcs ++ c ∷ []) ∙ (sym (imports_canons v.before v.funcs) ∙ p.0),
-        ap (λ z. z.core_types) (spaces_canon v.before v.funcs c) ∙ p.1,
-        omega (arith, p.2, ap (λ z. length z.types) (spaces_canon v.before v.funcs c)),
+        ap (λ z. z.core_types) (spaces_canon v.before v.funcs c) ∙ ((canon_keeps (spaces_at v) c).core_types ∙ p.1),
+        omega (arith, p.2, ap (λ z. length z.types) (spaces_canon v.before v.funcs c), ap length (canon_keeps (spaces_at v) c).types),
       ))
       (λ c signature d p. (
         imports_canons (add (grown s) (types (function signature ∷ []))) [] ∙ (imports_types (grown s) (function signature ∷ []) ∙ p.0),
@@ -245,7 +202,7 @@ module _ (config : Config) (least : ℕ) (t : Tree) {b : List ℕ} {turns : List
       ))
       (λ full p. p) p (turned config s b x q u i))
       0 (empty_section t) b turns rest next (omega arith)
-      (imports_canons t [], ap (λ z. z.core_types) (spaces_canons t []), omega (arith, ap (λ z. length z.types) (spaces_canons t []))) r in
+      (imports_canons t [], ap (λ z. z.core_types) (spaces-add t (canons [])), omega (arith, ap (λ z. length z.types) (spaces-add t (canons [])))) r in
       all.2
 
 -- What is true of the builder, so many turns after the section was begun.
@@ -257,13 +214,15 @@ record Going (config : Config) (stack : Open) (n : ℕ) (s : Growing) : Type 0 w
 module _ (config : Config) (stack : Open) (fits : function_count stack.inner ≤ config.max_funcs) where
   section_sound : (n : ℕ) (s : Growing) → n ≤ config.max_funcs - function_count stack.inner → Going config stack n s → Sound config (with_inner stack (grown s))
   section_sound n s h g =
+      let spaces : Spaces = after_part (spaces_of s.before) (canons s.funcs) in
+      let same : KeepsTypes (spaces_of s.before) spaces = canons_keep (spaces_of s.before) s.funcs in
+      let room : functions_at spaces ≤ config.max_funcs = omega (arith, g.few, h, fits, ap functions_at (spaces-add s.before (canons s.funcs))) in
       part_sound config (with_inner stack s.before) (canons s.funcs) (record {
         formed = g.formed;
         own = λ o.
-            own_limits-add config s.before (canons s.funcs) o (omega (arith, o.types)) (omega (arith, o.core_types)) (omega (arith, o.imports))
-            (omega (arith, g.few, h, fits, length-own-add functions_in s.before (canons s.funcs), length-own-add core_functions_in s.before (canons s.funcs)))
-            tt tt tt;
-        sizes = (tt, tt);
+            own_limits-add config s.before (canons s.funcs) o (fits_functions config (spaces_of s.before) spaces same room (fits_of config s.before o))
+            (omega (arith, o.imports)) tt;
+        sizes = λ o. own_sizes-add config s.before (canons s.funcs) (sizes_keep config (spaces_of s.before) spaces same o);
         modules = λ h. omega (arith, h);
         components = λ h. omega (arith, h);
         instances = λ h. omega (arith, h);
@@ -275,7 +234,7 @@ module _ (config : Config) (stack : Open) (fits : function_count stack.inner ≤
   going_canon : (n : ℕ) (s : Growing) (c : Canon) → FormedCanon (spaces_at s) c → Going config stack n s → Going config stack (n + 1) (with_canon s c)
   going_canon n s c h g = record {
     sound = g.sound;
-    formed = formed_canons-snoc (spaces_of s.before) s.funcs c g.formed (subst (λ u. FormedCanon u c) (spaces_canons s.before s.funcs) h);
+    formed = formed_canons-snoc (spaces_of s.before) s.funcs c g.formed (subst (λ u. FormedCanon u c) (spaces-add s.before (canons s.funcs)) h);
     few = omega (arith, g.few, canon_count s c);
   }
 
@@ -308,68 +267,3 @@ canons_sound config least stack {b} {turns} {rest} {next} r sound =
     (λ full p. record { sound = p.sound; formed = p.formed; few = omega (arith, p.few) }) p (turned config s b x q u i))
     0 (empty_section stack.inner) b turns rest next (omega arith) start r in
     section_sound config stack fits all.0 next all.1 all.2
-
--- What holds where functions are filled: while fewer turns are made than must be, each adds a function, and there is room for a type.
-record Filling (config : Config) (least : ℕ) (t : Tree) (n : ℕ) (s : Growing) : Type 0 where
-  pub grounded : Grounded (spaces_at s)
-  pub some : 0 < length (scalar_functions (spaces_at s))
-  pub room : length (spaces_at s).types + (least - n) ≤ config.max_types
-  pub enough : function_count t + n ≤ function_count (grown s) + (n - least)
-
-some_items : (z : Bool) (m : ℕ) → z ≡ true → offers_of ((z, Lower) ∷ (nat_lt 0 m, Lift) ∷ []) ≡ [] → ⊥
-some_items true m e h = absurd (cc)
-some_items false m e h = absurd (false≢true e)
-
-module _ (config : Config) (least : ℕ) (t : Tree) where
-  filling_ends : (n : ℕ) (s : Growing) (b r : List ℕ) (u : Growing) → Filling config least t n s → NoCanon s b r u → ⊥
-  filling_ends n s b r u f (none, left, e) =
-      let h : 0 < length (scalar_functions (spaces_at s)) = f.some in
-      let z : nat_lt 0 (length (scalar_functions (spaces_at s))) ≡ true = grind (arith, nat_tests) in
-      some_items (nat_lt 0 (length (scalar_functions (spaces_at s)))) (length (spaces_at s).core_functions) z none
-
-  filling_canon : (n : ℕ) (s : Growing) (c : Canon) → FormedCanon (spaces_at s) c → length (spaces_at s).types + (least - (n + 1)) ≤ config.max_types → Filling config least t n s → Filling config least t (n + 1) (with_canon s c)
-  filling_canon n s c h room f =
-      let e = spaces_canon s.before s.funcs c in
-      record {
-        grounded = canon_grounds s c h f.grounded;
-        some = omega (arith, f.some, scalars_grow (spaces_at s) c, ap (λ z. length (scalar_functions z)) e);
-        room = omega (arith, room, ap (λ z. length z.types) e);
-        enough = omega (arith, f.enough, canon_count s c);
-      }
-
-  filling_signature : (n : ℕ) (s : Growing) (c : ℕ) (signature : Signature) → Defines config s c signature → Filling config least t n s → Filling config least t (n + 1) (with_defined s c signature)
-  filling_signature n s c signature d f =
-      let es : List Entry = function signature ∷ [] in
-      let u : Growing = with_signature s signature in
-      let k : Canon = lift c (length (spaces_at s).types) in
-      let e = spaces_signature s signature in
-      let a = spaces_canon u.before u.funcs k in
-      let grounded = signature_grounds s signature f.grounded in
-      let scalars : length (scalar_functions (spaces_at u)) ≡ length (scalar_functions (spaces_at s)) = ap (λ z. length (scalar_functions z)) e ∙ ap length (scalars_entries (spaces_at s) es f.grounded) in
-      let count : length (spaces_at u).types ≡ length (spaces_at s).types + 1 = omega (arith, ap (λ z. length z.types) e, length-append (spaces_at s).types es) in
-      record {
-        grounded = canon_grounds u k (defined_canon d) grounded;
-        some = omega (arith, f.some, scalars, scalars_grow (spaces_at u) k, ap (λ z. length (scalar_functions z)) a);
-        room = omega (arith, f.room, d.room, count, ap (λ z. length z.types) a);
-        enough = omega (arith, f.enough, signature_count s signature, canon_count u k);
-      }
-
-  filling_turn : (n : ℕ) (s next : Growing) → Filling config least t n s → Turned config s next → Filling config least t (n + 1) next
-  filling_turn n s next f (adds c h e) = subst (Filling config least t (n + 1)) (sym e) (filling_canon n s c h (omega (arith, f.room)) f)
-  filling_turn n s next f (defines c signature d e) = subst (Filling config least t (n + 1)) (sym e) (filling_signature n s c signature d f)
-  filling_turn n s next f (gives_up full e) =
-      subst (Filling config least t (n + 1)) (sym e) (record { grounded = f.grounded; some = f.some; room = omega (arith, f.room); enough = omega (arith, f.enough, f.room, full) })
-
-  -- As many functions are added as must be, where one can be lowered and there is room for the types that lifts define.
-  pub canons_enough : {b : List ℕ} {turns : List CanonItem} {rest : List ℕ} {next : Growing} → ReadsCanons config least t b turns rest next → IsGrounded t → least ≤ config.max_funcs - function_count t → 0 < length (scalar_functions (spaces_of t))
-      → length (types_of t) + least ≤ config.max_types → function_count t + least ≤ function_count (grown next)
-  canons_enough {b} {turns} {rest} {next} r g few some room =
-      let e = spaces_canons t [] in
-      let start : Filling config least t 0 (empty_section t) = record {
-        grounded = empty_grounds t g;
-        some = omega (arith, some, ap (λ z. length (scalar_functions z)) e);
-        room = omega (arith, room, ap (λ z. length z.types) e);
-        enough = omega (arith, empty_count t);
-      } in
-      let all = loop_reaches (Filling config least t) filling_ends (λ n s b x q u lt p i. filling_turn n s u p (turned config s b x q u i)) few 0 (empty_section t) b turns rest next (omega arith) start r in
-      omega (arith, all.1, all.2.enough)

@@ -28,12 +28,16 @@ use Rattle.smith_component.specs.Offers.{import_kinds, totals_of, with_imports}
 use Rattle.smith_component.specs.Limits.{OwnLimits}
 use Rattle.smith_component.specs.Open.{Open, tree_so_far}
 use Rattle.smith_component.specs.Sound.{IsAddable, Sound}
-use Rattle.smith_component.specs.Tree.{Tree, Part, ends, first, custom, core_module, core_types, component, types, canons, imports, add, join, types_of, imports_of, function_count, module_count, component_count, instance_count, functions_in, core_functions_in, imports_in, function_of}
+use Rattle.smith_component.specs.Spaces.{Spaces, after_part, function_count, spaces_of, types_of}
+use Rattle.smith_component.specs.Tree.{Tree, Part, ends, first, custom, core_module, core_types, component, types, canons, imports, add, join}
+use Rattle.smith_component.specs.Tree.{imports_of, module_count, component_count, instance_count, imports_in, function_of}
 use Rattle.smith_component.specs.WellFormed.{Formed, FormedImport, FormedPart, import_names, scope_of}
+use Rattle.smith_component.proofs.Fits.{fits_functions, fits_of, own_limits-add, own_sizes-add, sizes_keep}
+use Rattle.smith_component.proofs.Growth.{KeepsTypes, functions_at, imports_keep, spaces-add}
 use Rattle.smith_component.proofs.Importing.{RefRoom, components_more, funcs_more, import_room, instances_more, modules_more}
-use Rattle.smith_component.proofs.Sound.{component_count-so_far, instance_count-so_far, module_count-so_far, own_limits-add, own_limits_of}
+use Rattle.smith_component.proofs.Sound.{component_count-so_far, instance_count-so_far, module_count-so_far, own_limits_of}
 use Rattle.smith_component.proofs.Tables.{import_names_more, own_bare}
-use Rattle.smith_component.proofs.Tree.{join-add, join-ends, length-own-add, own-add}
+use Rattle.smith_component.proofs.Tree.{join-add, join-ends, own-add}
 use Rattle.smith_scopes.proofs.Plain.{all_both}
 use Rattle.smith_component.proofs.WellFormed.{formed_front}
 
@@ -176,8 +180,8 @@ module _ (config : Config) (stack : Open) where
         instances = λ h. omega (arith, h, room.instances, instances_more stack s x);
       })
 
-  pub imports_keep : {min : ℕ} {b rest : List ℕ} {is : List ImportEntry} → ReadsImports config min stack b is rest → KeepsTotals [] is
-  imports_keep {b = b} {rest = rest} {is = is} r =
+  pub totals_keep : {min : ℕ} {b rest : List ℕ} {is : List ImportEntry} → ReadsImports config min stack b is rest → KeepsTotals [] is
+  totals_keep {b = b} {rest = rest} {is = is} r =
       loop_gives (λ s xs t. KeepsTotals s t) keeps_same (λ s c q t e. subst (KeepsTotals s) (sym e.2) (keeps_same s)) (λ s t u c x q xs i k. keeps_then s t u (keeps_one s c x q t i) k) 0 [] b is rest is r
 
   -- What an import section reads may be added.
@@ -185,17 +189,19 @@ module _ (config : Config) (stack : Open) where
   imports_addable {is = is} sound r =
       let limits : OwnLimits config stack.inner = own_limits_of config stack sound in
       let few : length (imports_of stack.inner) + length is ≤ config.max_imports = imports_few limits.imports r in
-      let keep : KeepsTotals [] is = imports_keep r in
+      let keep : KeepsTotals [] is = totals_keep r in
+      let spaces : Spaces = after_part (spaces_of stack.inner) (imports is) in
+      let same : KeepsTypes (spaces_of stack.inner) spaces = imports_keep (spaces_of stack.inner) is in
       let outer : List Tree = stack.outer in
       let inner : Tree = stack.inner in
       record {
         formed = (imports_formed r, imports_named (omega (arith, few, sound.consistent.imports)) (sound_named config stack sound) r);
         own = λ o.
-            let start : function_count (add inner (imports [])) ≤ config.max_funcs = omega (arith, o.functions, length-own-add functions_in inner (imports []), length-own-add core_functions_in inner (imports [])) in
-            let fits : function_count inner + (length (functions_in (imports is)) + length (core_functions_in (imports is))) ≤ config.max_funcs =
-            omega (arith, keep.funcs start, length-own-add functions_in inner (imports is), length-own-add core_functions_in inner (imports is)) in
-            own_limits-add config inner (imports is) o (omega (arith, o.types)) (omega (arith, o.core_types)) few fits tt tt tt;
-        sizes = (tt, tt);
+            let start : function_count (add inner (imports [])) ≤ config.max_funcs =
+            omega (arith, o.functions, ap functions_at (spaces-add inner (imports []))) in
+            let fits : functions_at spaces ≤ config.max_funcs = omega (arith, keep.funcs start, ap functions_at (spaces-add inner (imports is))) in
+            own_limits-add config inner (imports is) o (fits_functions config (spaces_of inner) spaces same fits (fits_of config inner o)) few tt;
+        sizes = λ o. own_sizes-add config inner (imports is) (sizes_keep config (spaces_of inner) spaces same o);
         modules = λ h.
             let start : module_count (tree_so_far outer (add inner (imports []))) ≤ config.max_modules = omega (arith, h, module_count-so_far outer inner (imports [])) in
             omega (arith, keep.modules start, module_count-so_far outer inner (imports is));
@@ -247,6 +253,7 @@ module _ (config : Config) (stack : Open) where
   pub imports_enough : {min : ℕ} {b rest : List ℕ} {is : List ImportEntry} → 0 < length (places is_func 0 (types_of stack.inner)) → function_count stack.inner + min ≤ config.max_funcs → min ≤ config.max_imports - length (imports_of stack.inner)
       → ReadsImports config min stack b is rest → min ≤ length is
   imports_enough {min = min} {b = b} {rest = rest} {is = is} has fits ordered r =
-      let start : (totals_of (with_imports stack [])).funcs ≤ function_count stack.inner + 0 = omega (arith, length-own-add functions_in stack.inner (imports []), length-own-add core_functions_in stack.inner (imports [])) in
+      let start : (totals_of (with_imports stack [])).funcs ≤ function_count stack.inner + 0 =
+      omega (arith, ap functions_at (spaces-add stack.inner (imports []))) in
       let enough : min ≤ 0 + length is = enough_from min room ordered has fits 0 [] b is rest is start r in
       omega (arith, enough)

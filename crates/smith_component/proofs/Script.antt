@@ -13,7 +13,9 @@ use Rattle.smith_input.proofs.Picks.{pick-byte}
 use Rattle.smith_format.specs.Limits.{IsConsistent}
 use Rattle.smith_format.specs.declared.config.Config.{Config}
 use Rattle.smith_syntax.specs.Scope.{Scope}
-use Rattle.smith_component.specs.Tree.{Tree, ends, first, Part, custom, core_module, core_types, component, types, canons, imports, add, join, types_of, inside, component_count, no_depth, most_nested}
+use Rattle.smith_component.specs.Spaces.{types_of}
+use Rattle.smith_component.specs.Tree.{Tree, ends, first, Part, custom, core_module, core_types, component, types, canons, imports, add, join, inside}
+use Rattle.smith_component.specs.Tree.{component_count, no_depth, most_nested}
 use Rattle.smith_component.specs.WellFormed.{Formed, FormedPart}
 use Rattle.smith_component.specs.Limits.{OwnLimits, Maxima, Minima}
 use Rattle.smith_component.specs.Open.{Open, root, more_items, items, items_with_input, is_module_offered, is_component_offered, tree_so_far, scopes_in}
@@ -27,7 +29,8 @@ use Rattle.smith_component.proofs.Tree.{all_before, all_inner, depth-outer, dept
 use Rattle.smith_scopes.proofs.Plain.{all_front, all_back}
 use Rattle.smith_component.proofs.CanonsRead.{Spoken}
 use Rattle.smith_component.proofs.PartsRead.{fills_nothing, spoken_past, custom_part, core_types_part, types_part, imports_part, canons_part}
-use Rattle.smith_component.proofs.Sound.{own_limits-front, own_limits_swap, module_count-so_far, component_count-so_far, instance_count-so_far, scopes_from-snoc}
+use Rattle.smith_component.proofs.Fits.{own_limits-front, own_limits_swap}
+use Rattle.smith_component.proofs.Sound.{module_count-so_far, component_count-so_far, instance_count-so_far, scopes_from-snoc}
 use Rattle.smith_component.proofs.Turn.{items_some, not_empty, last_same}
 use Rattle.smith_component.proofs.WellFormed.{formed_front}
 

@@ -21,7 +21,8 @@ use Rattle.smith_component.specs.Open.{Open}
 use Rattle.smith_component.specs.SectionValues.{AddsImportSection, AddsSection, AddsTypeSection, NoImportValue, ReadsCoreTypeValue, ReadsImportValue, ReadsTypeValue, extern_of, externs_in, externs_of}
 use Rattle.smith_component.specs.Shown.{shown_section, shown_sections}
 use Rattle.smith_component.specs.Tables.{IsTabled, Tabled}
-use Rattle.smith_component.specs.Tree.{core_functions_in, functions_in, imports_in, imports_of}
+use Rattle.smith_component.specs.Spaces.{after_part, core_functions_of, functions_of, spaces_of}
+use Rattle.smith_component.specs.Tree.{imports_in, imports_of}
 use Rattle.smith_component.specs.Turn.{Adds, ReadsCoreTypes, ReadsTypes}
 use Rattle.smith_component.specs.WellFormed.{import_names}
 use Rattle.smith_component.specs.declared.builder.open.OpenComponent.{OpenComponent}
@@ -143,7 +144,9 @@ pub externs_push : (ss : List Section) (s : Section) → externs_of (ss ++ s ∷
 externs_push ss s = flat_map_more externs_in ss s
 
 pub is_tabled_added : (old new : OpenComponent) (s : Section) → new.sections.items ≡ old.sections.items ++ s ∷ [] → new.tables ≡ old.tables
-    → functions_in (shown_section s) ≡ [] → core_functions_in (shown_section s) ≡ [] → imports_in (shown_section s) ≡ [] → IsTabled old → IsTabled new
+    → (after_part (spaces_of (shown_sections old.sections.items)) (shown_section s)).functions ≡ functions_of (shown_sections old.sections.items)
+    → (after_part (spaces_of (shown_sections old.sections.items)) (shown_section s)).core_functions ≡ core_functions_of (shown_sections old.sections.items)
+    → imports_in (shown_section s) ≡ [] → IsTabled old → IsTabled new
 is_tabled_added old new s e tables fs cs is i =
     let shown = ap shown_sections e ∙ shown_push old.sections.items s in
     let same : externs_of new.sections.items ≡ externs_of old.sections.items =

@@ -6,10 +6,13 @@ use Rattle.std.proofs.lemmas.List.Concat.{flat_map-append}
 use Rattle.smith_format.specs.declared.config.Config.{Config}
 use Rattle.smith_syntax.specs.CoreLimits.{CoreLimits}
 use Rattle.smith_syntax.specs.Entries.{Entry, CoreEntry}
-use Rattle.smith_syntax.specs.Scope.{Scope, with_types, with_core_types}
+use Rattle.smith_syntax.specs.Scope.{Scope}
 use Rattle.smith_syntax.specs.TypeLimits.{EntryLimits}
-use Rattle.smith_component.specs.Tree.{Tree, ends, Part, custom, core_module, core_types, component, types, canons, imports, add, own, inside, names_in, types_in, core_types_in, imports_in, functions_in, core_functions_in, components_in, modules_in, imported_modules_in, imported_components_in, imported_instances_in, anywhere_in, depth_in, no_depth, most_nested, scope_depth_in}
-use Rattle.smith_component.specs.Tree.{function_count, module_count, component_count, instance_count, types_of, core_types_of, imports_of}
+use Rattle.smith_component.specs.Spaces.{core_types_of, spaces_of, types_of}
+use Rattle.smith_component.specs.Tree.{Tree, ends, Part, custom, core_module, core_types, component, types, canons, imports, add, inside, names_in}
+use Rattle.smith_component.specs.Tree.{components_in}
+use Rattle.smith_component.specs.Tree.{modules_in, imported_modules_in, imported_components_in, imported_instances_in, anywhere_in, depth_in, no_depth}
+use Rattle.smith_component.specs.Tree.{most_nested, scope_depth_in, module_count, component_count, instance_count}
 use Rattle.smith_component.specs.Importing.{Totalled}
 use Rattle.smith_component.specs.Open.{Open, tree_so_far, is_module_offered, is_component_offered, scopes_in, scopes_from, with_inner}
 use Rattle.smith_component.specs.Turn.{building, Closes}
@@ -17,49 +20,10 @@ use Rattle.smith_component.specs.WellFormed.{FormedPart, WellFormed, scope_of}
 use Rattle.smith_component.specs.Limits.{SmallTypes, SmallCoreTypes, OwnSizes, Sized, OwnLimits, Maxima, Minima, Limits}
 use Rattle.smith_component.specs.Sound.{IsAddable, IsQuiet, Sound, finished_in}
 use Rattle.smith_component.specs.declared.builder.totals.TreeTotals.{TreeTotals}
+use Rattle.smith_component.proofs.Fits.{Fits, IsSized, Short, fits_of, own_limits-add, own_limits-component, own_limits_swap, own_sizes-add, own_sizes_swap}
 use Rattle.smith_component.proofs.WellFormed.{formed_so_far}
-use Rattle.smith_component.proofs.Tree.{tree_so_far-close, depth-so_far, length-anywhere-so_far, anywhere-add, depth-outer, own-add, length-own-add, all_so_far, all_inner, Swaps}
+use Rattle.smith_component.proofs.Tree.{tree_so_far-close, depth-so_far, length-anywhere-so_far, anywhere-add, depth-outer, all_so_far, all_inner}
 use Rattle.smith_scopes.proofs.Plain.{all_both, all_front, all_back}
-
--- names that are short enough
-abbrev pub Short : List (List ℕ) → Type 0
-Short names = AllByRecursion (λ name. length name ≤ 1000) names
-
--- A component keeps its own limits where it grows by a part that fits.
-pub own_limits-add : (config : Config) (t : Tree) (p : Part) → OwnLimits config t
-    → length (types_of t) + length (types_in p) ≤ config.max_types
-    → length (core_types_of t) + length (core_types_in p) ≤ config.max_types
-    → length (imports_of t) + length (imports_in p) ≤ config.max_imports
-    → function_count t + (length (functions_in p) + length (core_functions_in p)) ≤ config.max_funcs
-    → AllByRecursion (EntryLimits config) (types_in p) → AllByRecursion (CoreLimits config) (core_types_in p) → Short (names_in p) → OwnLimits config (add t p)
-own_limits-add config t p o ts cs is fs es ls ns = record {
-  types = omega (arith, ts, length-own-add types_in t p);
-  core_types = omega (arith, cs, length-own-add core_types_in t p);
-  imports = omega (arith, is, length-own-add imports_in t p);
-  functions = omega (arith, fs, length-own-add functions_in t p, length-own-add core_functions_in t p);
-  within_types = subst (AllByRecursion (EntryLimits config)) (sym (own-add types_in t p)) (all_both _ (own types_in t) (types_in p) o.within_types es);
-  within_core_types = subst (AllByRecursion (CoreLimits config)) (sym (own-add core_types_in t p)) (all_both _ (own core_types_in t) (core_types_in p) o.within_core_types ls);
-  names = subst Short (sym (own-add names_in t p)) (all_both _ (own names_in t) (names_in p) o.names ns);
-}
-
--- It kept them before it grew.
-pub own_limits-front : (config : Config) (t : Tree) (p : Part) → OwnLimits config (add t p) → OwnLimits config t
-own_limits-front config t p o = record {
-  types = omega (arith, o.types, length-own-add types_in t p);
-  core_types = omega (arith, o.core_types, length-own-add core_types_in t p);
-  imports = omega (arith, o.imports, length-own-add imports_in t p);
-  functions = omega (arith, o.functions, length-own-add functions_in t p, length-own-add core_functions_in t p);
-  within_types = all_front _ (own types_in t) (types_in p) (subst (AllByRecursion (EntryLimits config)) (own-add types_in t p) o.within_types);
-  within_core_types = all_front _ (own core_types_in t) (core_types_in p) (subst (AllByRecursion (CoreLimits config)) (own-add core_types_in t p) o.within_core_types);
-  names = all_front _ (own names_in t) (names_in p) (subst Short (own-add names_in t p) o.names);
-}
-
-pub own_limits-component : (config : Config) (t u : Tree) → OwnLimits config t → OwnLimits config (add t (component u))
-own_limits-component config t u o =
-    own_limits-add config t (component u) o (omega (arith, o.types)) (omega (arith, o.core_types)) (omega (arith, o.imports)) (omega (arith, o.functions)) tt tt tt
-
-pub own_limits_swap : (config : Config) → Swaps (OwnLimits config)
-own_limits_swap config u a b o = own_limits-component config u b (own_limits-front config u (component a) o)
 
 -- How many modules, components and instances there are where the inner component grows.
 
@@ -90,19 +54,6 @@ in_own f (component t) e = absurd (let z : (t ∷ inside t) ≡ [] = e in cc)
 in_own f (types ts) e = refl
 in_own f (canons fs) e = refl
 in_own f (imports is) e = refl
-
--- Sizes, where a component grows.
-own_sizes-add : (config : Config) (t : Tree) (p : Part) → OwnSizes config t → SmallTypes config (types_in p) × SmallCoreTypes config (core_types_in p) → OwnSizes config (add t p)
-own_sizes-add config t p o small = (
-  subst (SmallTypes config) (sym (own-add types_in t p)) (all_both _ (own types_in t) (types_in p) o.0 small.0),
-  subst (SmallCoreTypes config) (sym (own-add core_types_in t p)) (all_both _ (own core_types_in t) (core_types_in p) o.1 small.1),
-)
-
-own_sizes_swap : (config : Config) → Swaps (OwnSizes config)
-own_sizes_swap config u a b o =
-    own_sizes-add config u (component b)
-    (all_front _ (own types_in u) [] (subst (SmallTypes config) (own-add types_in u (component a)) o.0), all_front _ (own core_types_in u) [] (subst (SmallCoreTypes config) (own-add core_types_in u (component a)) o.1))
-    (tt, tt)
 
 pub own_sizes_of : (config : Config) (stack : Open) → Sound config stack → OwnSizes config stack.inner
 own_sizes_of config stack s = all_inner (OwnSizes config) stack.outer stack.inner s.sized
@@ -135,7 +86,9 @@ part_sound config stack p a s =
         scopes = omega (arith, depth-so_far most_nested outer inner p, s.maxima.scopes, a.scopes (omega (arith, deep, s.maxima.depth)));
       };
       minima = subst (λ x. AllByRecursion (Minima config) (flat_map inside outer ++ x)) (sym same) s.minima;
-      sized = all_so_far (OwnSizes config) (own_sizes_swap config) outer inner p (own_sizes-add config inner p (own_sizes_of config stack s) a.sizes) (subst (AllByRecursion (OwnSizes config)) (sym a.no_component) tt) s.sized;
+      sized =
+          all_so_far (OwnSizes config) (own_sizes_swap config) outer inner p (a.sizes (own_sizes_of config stack s))
+          (subst (AllByRecursion (OwnSizes config)) (sym a.no_component) tt) s.sized;
     }
 
 -- The components that are finished, where the inner one is closed.
@@ -192,7 +145,8 @@ sound_open config outer inner deep few s =
       minima = finished_open config outer inner s.minima;
       sized =
           subst (Sized config) (sym e)
-          (all_so_far (OwnSizes config) (own_sizes_swap config) outer inner (component ends) (own_sizes-add config inner (component ends) (own_sizes_of config stack s) (tt, tt)) ((tt, tt), tt) s.sized);
+          (all_so_far (OwnSizes config) (own_sizes_swap config) outer inner (component ends)
+          (own_sizes-add config inner (component ends) (own_sizes_of config stack s)) ((tt, tt), tt) s.sized);
     }
 
 -- A part that adds nothing but names and modules.
@@ -201,11 +155,9 @@ pub addable_bare : (config : Config) (stack : Open) (p : Part) → FormedPart p 
     → imported_components_in p ≡ [] → imported_instances_in p ≡ [] → anywhere_in components_in p ≡ [] → depth_in p ≡ 1 → scope_depth_in p ≡ 1 → IsAddable config stack p
 addable_bare config stack p f q ns ms cs is none flat low = record {
   formed = f;
-  own = λ o.
-      own_limits-add config stack.inner p o (omega (arith, o.types, ap length q.types)) (omega (arith, o.core_types, ap length q.core_types)) (omega (arith, o.imports, ap length q.imports))
-      (omega (arith, o.functions, ap length q.functions, ap length q.core_functions))
-      (subst (AllByRecursion (EntryLimits config)) (sym q.types) tt) (subst (AllByRecursion (CoreLimits config)) (sym q.core_types) tt) ns;
-  sizes = (subst (SmallTypes config) (sym q.types) tt, subst (SmallCoreTypes config) (sym q.core_types) tt);
+  own = λ o. own_limits-add config stack.inner p o (subst (Fits config) (sym (q.spaces (spaces_of stack.inner))) (fits_of config stack.inner o))
+      (omega (arith, o.imports, ap length q.imports)) ns;
+  sizes = λ o. own_sizes-add config stack.inner p (subst (IsSized config) (sym (q.spaces (spaces_of stack.inner))) o);
   modules = ms;
   components = λ h. omega (arith, h, ap length cs);
   instances = λ h. omega (arith, h, ap length is);
@@ -216,19 +168,27 @@ addable_bare config stack p f q ns ms cs is none flat low = record {
 
 pub addable_custom : (config : Config) (stack : Open) (name contents : List ℕ) → length name ≤ 1000 → IsAddable config stack (custom name contents)
 addable_custom config stack name contents short =
-    addable_bare config stack (custom name contents) tt (record { types = refl; core_types = refl; functions = refl; core_functions = refl; imports = refl }) (short, tt) (λ h. omega (arith, h)) refl refl refl refl refl
+    addable_bare config stack (custom name contents) tt (record { spaces = λ s. refl; imports = refl }) (short, tt) (λ h. omega (arith, h))
+    refl refl refl refl refl
 
 pub addable_module : (config : Config) (stack : Open) (text : List ℕ) → module_count (tree_so_far stack.outer stack.inner) < config.max_modules → IsAddable config stack (core_module text)
 addable_module config stack text few =
-    addable_bare config stack (core_module text) tt (record { types = refl; core_types = refl; functions = refl; core_functions = refl; imports = refl }) tt (λ h. omega (arith, few)) refl refl refl refl refl
+    addable_bare config stack (core_module text) tt (record { spaces = λ s. refl; imports = refl }) tt (λ h. omega (arith, few)) refl refl refl refl refl
 
 -- Types that find room.
 pub addable_types : (config : Config) (stack : Open) (es : List Entry) → FormedPart (types es) (scopes_in stack.outer) stack.inner → length (types_of stack.inner) + length es ≤ config.max_types
     → AllByRecursion (EntryLimits config) es → length stack.outer + 1 + most_nested es ≤ max (length stack.outer + 2) config.max_nesting_depth → SmallTypes config es → IsAddable config stack (types es)
 addable_types config stack es f room limited nested small = record {
   formed = f;
-  own = λ o. own_limits-add config stack.inner (types es) o room (omega (arith, o.core_types)) (omega (arith, o.imports)) (omega (arith, o.functions)) limited tt tt;
-  sizes = (small, tt);
+  own = λ o.
+      own_limits-add config stack.inner (types es) o (record {
+        types = omega (arith, room, length-append (types_of stack.inner) es);
+        core_types = o.core_types;
+        functions = o.functions;
+        within_types = all_both _ (types_of stack.inner) es o.within_types limited;
+        within_core_types = o.within_core_types;
+      }) (omega (arith, o.imports)) tt;
+  sizes = λ o. own_sizes-add config stack.inner (types es) (all_both _ (types_of stack.inner) es o.0 small, o.1);
   modules = λ h. omega (arith, h);
   components = λ h. omega (arith, h);
   instances = λ h. omega (arith, h);
@@ -242,8 +202,15 @@ pub addable_core_types : (config : Config) (stack : Open) (es : List CoreEntry) 
     → AllByRecursion (CoreLimits config) es → SmallCoreTypes config es → IsAddable config stack (core_types es)
 addable_core_types config stack es f room limited small = record {
   formed = f;
-  own = λ o. own_limits-add config stack.inner (core_types es) o (omega (arith, o.types)) room (omega (arith, o.imports)) (omega (arith, o.functions)) tt limited tt;
-  sizes = (tt, small);
+  own = λ o.
+      own_limits-add config stack.inner (core_types es) o (record {
+        types = o.types;
+        core_types = omega (arith, room, length-append (core_types_of stack.inner) es);
+        functions = o.functions;
+        within_types = o.within_types;
+        within_core_types = all_both _ (core_types_of stack.inner) es o.within_core_types limited;
+      }) (omega (arith, o.imports)) tt;
+  sizes = λ o. own_sizes-add config stack.inner (core_types es) (o.0, all_both _ (core_types_of stack.inner) es o.1 small);
   modules = λ h. omega (arith, h);
   components = λ h. omega (arith, h);
   instances = λ h. omega (arith, h);
@@ -275,25 +242,7 @@ module_offered_is config stack h = grind (arith, nat_tests)
 pub closes : (around outer : List Tree) (parent inner new : Tree) → around ≡ outer ++ parent ∷ [] → new ≡ add parent (component inner) → Closes (record { outer = around; inner = inner }) (building (record { outer = outer; inner = new }))
 closes around outer parent inner new a e = inr (outer, parent, a, ap (λ t. building (record { outer = outer; inner = t })) e)
 
--- Scopes, where a component grows.
-
-pub scope_bare : (t : Tree) (p : Part) → types_in p ≡ [] → core_types_in p ≡ [] → scope_of (add t p) ≡ scope_of t
-scope_bare t p ts cs =
-    let a : own types_in (add t p) ≡ own types_in t = own-add types_in t p ∙ (ap (λ x. own types_in t ++ x) ts ∙ append-nil (own types_in t)) in
-    let b : own core_types_in (add t p) ≡ own core_types_in t = own-add core_types_in t p ∙ (ap (λ x. own core_types_in t ++ x) cs ∙ append-nil (own core_types_in t)) in
-    λ i. record { types = a i; core_types = b i }
-
-pub scope_types : (t : Tree) (es : List Entry) → scope_of (add t (types es)) ≡ with_types (scope_of t) es
-scope_types t es =
-    let a : own types_in (add t (types es)) ≡ own types_in t ++ es = own-add types_in t (types es) in
-    let b : own core_types_in (add t (types es)) ≡ own core_types_in t = own-add core_types_in t (types es) ∙ append-nil (own core_types_in t) in
-    λ i. record { types = a i; core_types = b i }
-
-pub scope_core_types : (t : Tree) (es : List CoreEntry) → scope_of (add t (core_types es)) ≡ with_core_types (scope_of t) es
-scope_core_types t es =
-    let a : own types_in (add t (core_types es)) ≡ own types_in t = own-add types_in t (core_types es) ∙ append-nil (own types_in t) in
-    let b : own core_types_in (add t (core_types es)) ≡ own core_types_in t ++ es = own-add core_types_in t (core_types es) in
-    λ i. record { types = a i; core_types = b i }
+-- Scopes of components that are open.
 
 pub scopes_from-snoc : (us : List Tree) (u : Tree) (outer : List Scope) → scopes_from (us ++ u ∷ []) outer ≡ scope_of u ∷ scopes_from us outer
 scopes_from-snoc [] u outer = refl

@@ -1,8 +1,9 @@
--- How index spaces grow, and what stands in them then.
-use Rattle.std.proofs.Common.{◌≡◌, ℕ, zero, suc, ◌+◌, ◌<◌, ◌≤◌, Bool, true, false, cond, List, [], ◌∷◌, ◌++◌, map, length, refl, sym, ap, ◌∙◌, subst, arith, append-nil, append_assoc, length-append, Some, None}
+-- What stands in index spaces, and stays where they grow.
+use Rattle.std.proofs.Common.{◌≡◌, ℕ, zero, suc, ◌+◌, ◌<◌, ◌≤◌, Bool, true, false, cond, List, [], ◌∷◌, ◌++◌, fold, map, length, refl, sym, ap, ◌∙◌, subst}
+use Rattle.std.proofs.Common.{arith, append-nil, length-append, Some, None}
 use Rattle.std.proofs.lemmas.Bool.{false≢true}
 use Rattle.std.proofs.lemmas.Option.{slice_get_within}
-use Rattle.std.specs.List.{AllByRecursion, flat_map}
+use Rattle.std.specs.List.{AllByRecursion}
 use Rattle.std.specs.Prelude.{slice_get}
 use Rattle.smith_syntax.specs.Entries.{EntryOf, Entry, Signature, defined, function, component_type, instance_type, plain}
 use Rattle.smith_syntax.specs.Flat.{is_scalar}
@@ -15,17 +16,13 @@ use Rattle.smith_scopes.proofs.Places.{get_left, place_stands}
 use Rattle.smith_scopes.proofs.Stack.{own_last, places-append}
 use Rattle.smith_component.specs.Offers.{is_scalar_entry, is_scalar_type, scalar_functions}
 use Rattle.smith_component.specs.Tables.{IsGrounded}
-use Rattle.smith_component.specs.Tree.{Tree, Canon, lift, lower, lifted_by, lowered_by, types, canons, add, types_in, core_types_in, functions_in, core_functions_in, imports_in, types_of, core_types_of, functions_of, core_functions_of, imports_of}
-use Rattle.smith_component.specs.WellFormed.{Spaces, spaces_of, scope_of, after_canon, HasSignature, FormedCanon, FormedCanons}
-use Rattle.smith_component.proofs.Tables.{all_weaker, places_agree}
+use Rattle.smith_component.specs.Spaces.{Spaces, after_canon, spaces_of}
+use Rattle.smith_component.specs.Tree.{Tree, Canon, lift, lower, types, canons, add, imports_in, imports_of}
+use Rattle.smith_component.specs.WellFormed.{scope_of, HasSignature, FormedCanon, FormedCanons}
+use Rattle.smith_component.proofs.Growth.{Extends, canons_keep, extends_canon, extends_part, scope_bare}
+use Rattle.smith_component.proofs.Tables.{all_weaker, get_longer, places_agree}
 use Rattle.smith_component.proofs.Tree.{own-add}
 use Rattle.smith_scopes.proofs.Plain.{all_both}
-
--- lists that grow at the end
-
--- what stands in a list stands in one that begins with it
-stays_at : {A : Type 0} (xs more ys : List A) (k : ℕ) (x : A) → ys ≡ xs ++ more → slice_get xs k ≡ Some x → slice_get ys k ≡ Some x
-stays_at xs more ys k x e h = ap (λ z. slice_get z k) e ∙ (get_left xs more k (slice_get_within xs k x h) ∙ h)
 
 pub get_last : {A : Type 0} (xs : List A) (x : A) → slice_get (xs ++ x ∷ []) (length xs) ≡ Some x
 get_last [] x = refl
@@ -36,46 +33,10 @@ all_at P [] k x all e = absurd (let z : None ≡ Some x = e in cc)
 all_at P (y ∷ ys) zero x all e = let z : y ≡ x = cc in subst P z all.0
 all_at P (y ∷ ys) (suc k) x all e = all_at P ys k x all.1 e
 
--- the spaces behind canonical functions in a row
-abbrev pub after_canons : Spaces → List Canon → Spaces
-after_canons s [] = s
-after_canons s (c ∷ cs) = after_canons (after_canon s c) cs
-
-after_canons_are : (s : Spaces) (cs : List Canon)
-    → after_canons s cs ≡ record { types = s.types; core_types = s.core_types; functions = s.functions ++ flat_map lifted_by cs; core_functions = s.core_functions ++ flat_map lowered_by cs }
-after_canons_are s [] =
-    let a : s.functions ≡ s.functions ++ [] = sym (append-nil s.functions) in
-    let b : s.core_functions ≡ s.core_functions ++ [] = sym (append-nil s.core_functions) in
-    λ i. record { types = s.types; core_types = s.core_types; functions = a i; core_functions = b i }
-after_canons_are s (c ∷ cs) =
-    let a : (s.functions ++ lifted_by c) ++ flat_map lifted_by cs ≡ s.functions ++ (lifted_by c ++ flat_map lifted_by cs) = append_assoc s.functions (lifted_by c) (flat_map lifted_by cs) in
-    let b : (s.core_functions ++ lowered_by c) ++ flat_map lowered_by cs ≡ s.core_functions ++ (lowered_by c ++ flat_map lowered_by cs) = append_assoc s.core_functions (lowered_by c) (flat_map lowered_by cs) in
-    after_canons_are (after_canon s c) cs ∙ (λ i. record { types = s.types; core_types = s.core_types; functions = a i; core_functions = b i })
-
-after_canons-snoc : (s : Spaces) (cs : List Canon) (c : Canon) → after_canons s (cs ++ c ∷ []) ≡ after_canon (after_canons s cs) c
-after_canons-snoc s [] c = refl
-after_canons-snoc s (d ∷ cs) c = after_canons-snoc (after_canon s d) cs c
-
--- The spaces behind a canonical section.
-pub spaces_canons : (t : Tree) (cs : List Canon) → spaces_of (add t (canons cs)) ≡ after_canons (spaces_of t) cs
-spaces_canons t cs =
-    let a : types_of (add t (canons cs)) ≡ types_of t = own-add types_in t (canons cs) ∙ append-nil (types_of t) in
-    let b : core_types_of (add t (canons cs)) ≡ core_types_of t = own-add core_types_in t (canons cs) ∙ append-nil (core_types_of t) in
-    let f : functions_of (add t (canons cs)) ≡ functions_of t ++ flat_map lifted_by cs = own-add functions_in t (canons cs) in
-    let g : core_functions_of (add t (canons cs)) ≡ core_functions_of t ++ flat_map lowered_by cs = own-add core_functions_in t (canons cs) in
-    (λ i. record { types = a i; core_types = b i; functions = f i; core_functions = g i }) ∙ sym (after_canons_are (spaces_of t) cs)
-
--- One canonical function more in its section.
-pub spaces_canon : (t : Tree) (cs : List Canon) (c : Canon) → spaces_of (add t (canons (cs ++ c ∷ []))) ≡ after_canon (spaces_of (add t (canons cs))) c
-spaces_canon t cs c = spaces_canons t (cs ++ c ∷ []) ∙ (after_canons-snoc (spaces_of t) cs c ∙ ap (λ s. after_canon s c) (sym (spaces_canons t cs)))
-
 -- A canonical section leaves the scope and the imports as they are.
 
 pub scope_canons : (t : Tree) (cs : List Canon) → scope_of (add t (canons cs)) ≡ scope_of t
-scope_canons t cs =
-    let a : types_of (add t (canons cs)) ≡ types_of t = own-add types_in t (canons cs) ∙ append-nil (types_of t) in
-    let b : core_types_of (add t (canons cs)) ≡ core_types_of t = own-add core_types_in t (canons cs) ∙ append-nil (core_types_of t) in
-    λ i. record { types = a i; core_types = b i }
+scope_canons t cs = scope_bare t (canons cs) (canons_keep (spaces_of t) cs)
 
 pub imports_canons : (t : Tree) (cs : List Canon) → imports_of (add t (canons cs)) ≡ imports_of t
 imports_canons t cs = own-add imports_in t (canons cs) ∙ append-nil (imports_of t)
@@ -84,38 +45,8 @@ imports_canons t cs = own-add imports_in t (canons cs) ∙ append-nil (imports_o
 abbrev pub with_entries : Spaces → List Entry → Spaces
 with_entries s es = record { types = s.types ++ es; core_types = s.core_types; functions = s.functions; core_functions = s.core_functions }
 
-pub spaces_types : (t : Tree) (es : List Entry) → spaces_of (add t (types es)) ≡ with_entries (spaces_of t) es
-spaces_types t es =
-    let a : types_of (add t (types es)) ≡ types_of t ++ es = own-add types_in t (types es) in
-    let b : core_types_of (add t (types es)) ≡ core_types_of t = own-add core_types_in t (types es) ∙ append-nil (core_types_of t) in
-    let f : functions_of (add t (types es)) ≡ functions_of t = own-add functions_in t (types es) ∙ append-nil (functions_of t) in
-    let g : core_functions_of (add t (types es)) ≡ core_functions_of t = own-add core_functions_in t (types es) ∙ append-nil (core_functions_of t) in
-    λ i. record { types = a i; core_types = b i; functions = f i; core_functions = g i }
-
 pub imports_types : (t : Tree) (es : List Entry) → imports_of (add t (types es)) ≡ imports_of t
 imports_types t es = own-add imports_in t (types es) ∙ append-nil (imports_of t)
-
--- how many functions there are
-
-abbrev pub functions_at : Spaces → ℕ
-functions_at s = length s.functions + length s.core_functions
-
-pub functions_after : (s : Spaces) (c : Canon) → functions_at (after_canon s c) ≡ functions_at s + 1
-functions_after s (lift c t) = omega (arith, length-append s.functions (t ∷ []), length-append s.core_functions [])
-functions_after s (lower f) = omega (arith, length-append s.functions [], length-append s.core_functions (f ∷ []))
-
--- Types and functions stay where they are where more come behind them.
-pub record Extends (s u : Spaces) : Type 0 where
-  pub more_types : List Entry
-  pub more_functions : List ℕ
-  pub types_are : u.types ≡ s.types ++ more_types
-  pub functions_are : u.functions ≡ s.functions ++ more_functions
-
-pub extends_canon : (s : Spaces) (c : Canon) → Extends s (after_canon s c)
-extends_canon s c = record { more_types = []; more_functions = lifted_by c; types_are = sym (append-nil s.types); functions_are = refl }
-
-pub extends_entries : (s : Spaces) (es : List Entry) → Extends s (with_entries s es)
-extends_entries s es = record { more_types = es; more_functions = []; types_are = refl; functions_are = sym (append-nil s.functions) }
 
 -- a component function whose type flattens
 abbrev pub IsScalarFunction : Spaces → ℕ → Type 0
@@ -125,15 +56,12 @@ module _ {s u : Spaces} (e : Extends s u) where
   pub has_signature_stays : {f : ℕ} {signature : Signature} → HasSignature s f signature → HasSignature u f signature
   has_signature_stays {f} {signature} h = record {
     ty = h.ty;
-    stands = stays_at s.functions e.more_functions u.functions f h.ty e.functions_are h.stands;
-    is = stays_at s.types e.more_types u.types h.ty (function signature) e.types_are h.is;
+    stands = get_longer s.functions e.functions.0 u.functions f h.ty e.functions.1 h.stands;
+    is = get_longer s.types e.types.0 u.types h.ty (function signature) e.types.1 h.is;
   }
 
   pub scalar_stays : (f : ℕ) → IsScalarFunction s f → IsScalarFunction u f
   scalar_stays f (signature, h, is) = (signature, has_signature_stays h, is)
-
-  pub types_grow : length s.types ≤ length u.types
-  types_grow = omega (arith, ap length e.types_are, length-append s.types e.more_types)
 
 -- The types of all component functions are there, and all core functions lower one whose type flattens.
 pub record Grounded (s : Spaces) : Type 0 where
@@ -143,13 +71,10 @@ pub record Grounded (s : Spaces) : Type 0 where
 pub grounded_spaces : (t : Tree) → IsGrounded t → Grounded (spaces_of t)
 grounded_spaces t g = record { known = g.known; lowered = g.lowered }
 
-pub grounded_tree : (t : Tree) → Grounded (spaces_of t) → IsGrounded t
-grounded_tree t g = record { known = g.known; lowered = g.lowered }
-
 pub grounded_entries : (s : Spaces) (es : List Entry) → Grounded s → Grounded (with_entries s es)
 grounded_entries s es g = record {
   known = all_weaker (λ ty. ty < length s.types) (λ ty. ty < length (s.types ++ es)) (λ ty h. omega (arith, h, length-append s.types es)) s.functions g.known;
-  lowered = all_weaker (IsScalarFunction s) (IsScalarFunction (with_entries s es)) (scalar_stays (extends_entries s es)) s.core_functions g.lowered;
+  lowered = all_weaker (IsScalarFunction s) (IsScalarFunction (with_entries s es)) (scalar_stays (extends_part s (types es))) s.core_functions g.lowered;
 }
 
 -- A canonical function names what stands there.
@@ -161,21 +86,20 @@ pub formed_names : (s : Spaces) (c : Canon) → FormedCanon s c → Names s c
 formed_names s (lift c t) (signature, lowered, f, e, low, of, flat) = slice_get_within s.types t (function signature) e
 formed_names s (lower f) h = h
 
-names_known : (s : Spaces) (c : Canon) → Names s c → AllByRecursion (λ ty. ty < length s.types) (lifted_by c)
-names_known s (lift c t) h = (h, tt)
-names_known s (lower f) h = tt
-
-names_lowered : (s : Spaces) (c : Canon) → Names s c → AllByRecursion (IsScalarFunction s) (lowered_by c)
-names_lowered s (lift c t) h = tt
-names_lowered s (lower f) h = (h, tt)
-
 pub grounded_canon : (s : Spaces) (c : Canon) → Names s c → Grounded s → Grounded (after_canon s c)
-grounded_canon s c h g =
-    let u : Spaces = after_canon s c in
-    let more = all_weaker (IsScalarFunction s) (IsScalarFunction u) (scalar_stays (extends_canon s c)) in
+grounded_canon s (lift c t) h g = record {
+  known = all_both (λ ty. ty < length s.types) s.functions (t ∷ []) g.known (h, tt);
+  lowered =
+      all_weaker (IsScalarFunction s) (IsScalarFunction (after_canon s (lift c t))) (scalar_stays (extends_canon s (lift c t))) s.core_functions g.lowered;
+}
+grounded_canon s (lower f) h g =
+    let stays = scalar_stays (extends_canon s (lower f)) in
+    let u : Spaces = after_canon s (lower f) in
     record {
-      known = all_both (λ ty. ty < length s.types) s.functions (lifted_by c) g.known (names_known s c h);
-      lowered = all_both (IsScalarFunction u) s.core_functions (lowered_by c) (more s.core_functions g.lowered) (more (lowered_by c) (names_lowered s c h));
+      known = g.known;
+      lowered =
+          all_both (IsScalarFunction u) s.core_functions (f ∷ []) (all_weaker (IsScalarFunction s) (IsScalarFunction u) stays s.core_functions g.lowered)
+          (stays f h, tt);
     }
 
 -- More types leave the functions that can be lowered as they are.
@@ -191,12 +115,9 @@ scalars_lift s c t =
     places-append (is_scalar_type s.types) 0 s.functions (t ∷ [])
     ∙ ap (λ n. scalar_functions s ++ cond (is_scalar_type s.types t) (n ∷ []) []) (let z : 0 + length s.functions ≡ length s.functions = omega arith in z)
 
-pub scalars_lower : (s : Spaces) (f : ℕ) → scalar_functions (after_canon s (lower f)) ≡ scalar_functions s
-scalars_lower s f = ap (places (is_scalar_type s.types) 0) (append-nil s.functions)
-
 pub scalars_grow : (s : Spaces) (c : Canon) → length (scalar_functions s) ≤ length (scalar_functions (after_canon s c))
 scalars_grow s (lift c t) = omega (arith, ap length (scalars_lift s c t), length-append (scalar_functions s) (cond (is_scalar_type s.types t) (length s.functions ∷ []) []))
-scalars_grow s (lower f) = omega (arith, ap length (scalars_lower s f))
+scalars_grow s (lower f) = omega arith
 
 -- Types by their signatures.
 
@@ -230,6 +151,6 @@ pub equal_own : (scopes : List Contents) (signature : Signature) → places (has
 equal_own scopes signature = equal_places signature 0 (last_of scopes).types ∙ ap (λ s. places (is_of_signature signature) 0 s.types) (sym (own_last scopes))
 
 -- Canonical functions in a row, where one more is formed behind them.
-pub formed_canons-snoc : (s : Spaces) (cs : List Canon) (c : Canon) → FormedCanons cs s → FormedCanon (after_canons s cs) c → FormedCanons (cs ++ c ∷ []) s
+pub formed_canons-snoc : (s : Spaces) (cs : List Canon) (c : Canon) → FormedCanons cs s → FormedCanon (fold after_canon s cs) c → FormedCanons (cs ++ c ∷ []) s
 formed_canons-snoc s [] c all h = (h, tt)
 formed_canons-snoc s (d ∷ cs) c all h = (all.0, formed_canons-snoc (after_canon s d) cs c all.1 h)

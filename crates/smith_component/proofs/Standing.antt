@@ -6,31 +6,29 @@ use Rattle.smith_format.specs.declared.config.Config.{Config}
 use Rattle.smith_syntax.specs.Entries.{Signature, function}
 use Rattle.smith_component.specs.Canonicals.{CanonTurn, Growing, LiftsTo, ReadsCanons, empty_section, given_up, grown, to_defined, to_equal}
 use Rattle.smith_component.specs.Importing.{Totalled}
-use Rattle.smith_component.specs.Tree.{Tree, Part, custom, core_module, core_types, component, types, canons, imports, add, module_of, component_of, instance_of}
-use Rattle.smith_component.specs.Tree.{types_of, functions_of, core_functions_of, types_in, functions_in, core_functions_in, imports_in, imported_modules_in, imported_components_in, imported_instances_in}
+use Rattle.smith_component.specs.Spaces.{after_part, core_functions_of, functions_of, spaces_of, types_of}
+use Rattle.smith_component.specs.Tree.{Tree, Part, types, canons, add, module_of, component_of, instance_of}
+use Rattle.smith_component.specs.Tree.{imports_in, imported_modules_in, imported_components_in, imported_instances_in}
 use Rattle.smith_component.specs.Tables.{Tabled}
 use Rattle.smith_component.specs.declared.builder.tables.Tables.{Tables}
 use Rattle.smith_component.specs.declared.builder.totals.TreeTotals.{TreeTotals}
 use Rattle.smith_component.specs.declared.item.CanonItem.{CanonItem}
 use Rattle.smith_component.specs.declared.item.CanonItem.TheVariants.{Lower, Lift}
+use Rattle.smith_component.proofs.Growth.{extends-add, spaces-add}
 use Rattle.smith_component.proofs.Sound.{totalled_part}
-use Rattle.smith_component.proofs.Tables.{own_bare, tabled_types}
-use Rattle.smith_component.proofs.Tree.{own-add}
+use Rattle.smith_component.proofs.Tables.{tabled_types}
 
 -- A part without functions leaves the tables as they are.
-pub tabled_added : {tables : Tables} (t new : Tree) (p : Part) → new ≡ add t p → functions_in p ≡ [] → core_functions_in p ≡ [] → Tabled tables t → Tabled tables new
+pub tabled_added : {tables : Tables} (t new : Tree) (p : Part) → new ≡ add t p → (after_part (spaces_of t) p).functions ≡ functions_of t
+    → (after_part (spaces_of t) p).core_functions ≡ core_functions_of t → Tabled tables t → Tabled tables new
 tabled_added t new p e fs cs tabled =
-    tabled_types t new (types_in p) tabled (ap types_of e ∙ own-add types_in t p) (ap functions_of e ∙ own_bare functions_in t p fs) (ap core_functions_of e ∙ own_bare core_functions_in t p cs)
+    let grows = (extends-add t p).types in
+    tabled_types t new grows.0 tabled (ap types_of e ∙ grows.1) (ap functions_of e ∙ (ap (λ s. s.functions) (spaces-add t p) ∙ fs))
+    (ap core_functions_of e ∙ (ap (λ s. s.core_functions) (spaces-add t p) ∙ cs))
 
 -- A part without imports imports nothing of any kind.
 pub none_imported : (p : Part) → imports_in p ≡ [] → (imported_modules_in p ≡ []) × (imported_components_in p ≡ []) × (imported_instances_in p ≡ [])
-none_imported (custom n c) e = (refl, refl, refl)
-none_imported (core_module m) e = (refl, refl, refl)
-none_imported (core_types ts) e = (refl, refl, refl)
-none_imported (component t) e = (refl, refl, refl)
-none_imported (types ts) e = (refl, refl, refl)
-none_imported (canons fs) e = (refl, refl, refl)
-none_imported (imports is) e = (ap (flat_map (λ i. module_of i.to)) e, ap (flat_map (λ i. component_of i.to)) e, ap (flat_map (λ i. instance_of i.to)) e)
+none_imported p e = (ap (flat_map (λ i. module_of i.to)) e, ap (flat_map (λ i. component_of i.to)) e, ap (flat_map (λ i. instance_of i.to)) e)
 
 -- A canonical section leaves the totals as they are.
 with_section : (config : Config) (totals : TreeTotals) (outer : List Tree) (s : Growing) → Totalled totals (record { outer = outer; inner = s.before }) → Totalled totals (record { outer = outer; inner = grown s })

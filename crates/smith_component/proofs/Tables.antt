@@ -13,8 +13,9 @@ use Rattle.smith_scopes.proofs.Places.{get_left, place_stands}
 use Rattle.smith_scopes.proofs.Stack.{places-append}
 use Rattle.smith_component.specs.Offers.{is_scalar_entry, is_scalar_type, scalar_functions}
 use Rattle.smith_component.specs.Tables.{AddsCoreFunction, AddsFunction, IsGrounded, IsLowerable, Tabled}
-use Rattle.smith_component.specs.Tree.{Tree, Part, add, own, types_of, functions_of, core_functions_of}
-use Rattle.smith_component.specs.WellFormed.{import_names, scope_of, spaces_of}
+use Rattle.smith_component.specs.Spaces.{core_functions_of, functions_of, spaces_of, types_of}
+use Rattle.smith_component.specs.Tree.{Tree, Part, add, own}
+use Rattle.smith_component.specs.WellFormed.{import_names, scope_of}
 use Rattle.smith_component.specs.declared.builder.tables.Tables.{Tables}
 use Rattle.smith_component.proofs.Tree.{own-add}
 use Rattle.smith_scopes.proofs.Plain.{all_both}
@@ -44,7 +45,7 @@ places_agree p q i (x ∷ xs) all =
     ap (λ b. if b then i ∷ places p (i + 1) xs else places p (i + 1) xs) all.0 ∙ ap (λ ks. if q x then i ∷ ks else ks) rest
 
 -- what stands in a list stands in a longer one
-get_longer : {A : Type 0} (xs more ys : List A) (k : ℕ) (x : A) → ys ≡ xs ++ more → slice_get xs k ≡ Some x → slice_get ys k ≡ Some x
+pub get_longer : {A : Type 0} (xs more ys : List A) (k : ℕ) (x : A) → ys ≡ xs ++ more → slice_get xs k ≡ Some x → slice_get ys k ≡ Some x
 get_longer xs more ys k x e h = ap (λ z. slice_get z k) e ∙ (get_left xs more k (slice_get_within xs k x h) ∙ h)
 
 same_type : (ts more us : List Entry) → us ≡ ts ++ more → (ty : ℕ) → ty < length ts → is_scalar_type us ty ≡ is_scalar_type ts ty
@@ -96,7 +97,7 @@ module _ (old new : Tables) (t u : Tree) (es : List Entry) (fs cs : List ℕ) (t
       }
 
 -- the same list with nothing more
-same_more : {A : Type 0} (xs ys : List A) → ys ≡ xs → ys ≡ xs ++ []
+pub same_more : {A : Type 0} (xs ys : List A) → ys ≡ xs → ys ≡ xs ++ []
 same_more xs ys e = e ∙ sym (append-nil xs)
 
 -- A component function more, of a type that is there.

@@ -6,7 +6,7 @@ use Rattle.smith_syntax.specs.Scope.{places}
 use Rattle.smith_syntax.specs.Shown.{is_of_signature}
 use Rattle.smith_component.specs.Offers.{canon_items, scalar_functions}
 use Rattle.smith_component.specs.Tree.{Canon, lift, lower}
-use Rattle.smith_component.specs.WellFormed.{Spaces, after_canon}
+use Rattle.smith_component.specs.Spaces.{Spaces, after_canon}
 use Rattle.smith_component.specs.contracts.item.CanonItemPartialEq.TheImpl.{ghosts as equal}
 use Rattle.smith_component.specs.declared.item.CanonItem.{CanonItem}
 use Rattle.smith_component.specs.declared.item.CanonItem.TheVariants.{Lower, Lift}

@@ -2,7 +2,7 @@
 use Rattle.std.specs.Prelude.{◌≡◌, ℕ, List, [], ◌∷◌, Some, None, nat_eq, if◌then◌else◌}
 use Rattle.std.specs.List.{starts_with}
 use Rattle.smith_format.specs.Piece.{Piece, ◌⊕◌, byte, bytes, raw, text, many, sized, u}
-use Rattle.smith_core.specs.Module.{core_preamble}
+use Rattle.smith_core.specs.Preamble.{core_preamble}
 use Rattle.smith_syntax.specs.Grammar.{entry, core_entry, import_entry}
 use Rattle.smith_component.specs.Tree.{Canon, lift, lower, Part, Tree, ends, first, custom, core_module, core_types, component, types, canons, imports}
 

@@ -6,7 +6,8 @@ use Rattle.smith_syntax.specs.CoreLimits.{CoreLimits}
 use Rattle.smith_syntax.specs.Entries.{Entry, CoreEntry}
 use Rattle.smith_syntax.specs.TypeLimits.{EntryLimits}
 use Rattle.smith_syntax.specs.WellFormed.{core_size, size}
-use Rattle.smith_component.specs.Tree.{Tree, own, inside, module_count, component_count, instance_count, function_count, depth, scope_depth, types_of, core_types_of, imports_of, names_in}
+use Rattle.smith_component.specs.Spaces.{core_types_of, function_count, types_of}
+use Rattle.smith_component.specs.Tree.{Tree, own, inside, module_count, component_count, instance_count, depth, scope_depth, imports_of, names_in}
 
 -- how deep components may stand, the root at 1
 abbrev pub max_depth : Config → ℕ

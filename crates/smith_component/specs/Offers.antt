@@ -9,8 +9,9 @@ use Rattle.smith_types.specs.Offers.{ref_kinds}
 use Rattle.smith_types.specs.declared.make.references.RefKind.{RefKind}
 use Rattle.smith_types.specs.declared.make.references.RefTotals.{RefTotals}
 use Rattle.smith_component.specs.Open.{Open, tree_so_far, with_inner}
-use Rattle.smith_component.specs.Tree.{imports, add, module_count, component_count, instance_count, function_count}
-use Rattle.smith_component.specs.WellFormed.{Spaces, scope_of}
+use Rattle.smith_component.specs.Spaces.{Spaces, function_count}
+use Rattle.smith_component.specs.Tree.{imports, add, module_count, component_count, instance_count}
+use Rattle.smith_component.specs.WellFormed.{scope_of}
 use Rattle.smith_component.specs.declared.item.CanonItem.{CanonItem}
 use Rattle.smith_component.specs.declared.item.CanonItem.TheVariants.{Lower, Lift}
 

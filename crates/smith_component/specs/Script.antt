@@ -7,12 +7,13 @@ use Rattle.smith_format.specs.declared.config.Config.{Config}
 use Rattle.smith_syntax.specs.Entries.{Entry, CoreEntry, ImportEntry}
 use Rattle.smith_syntax.specs.Scope.{Scope, with_type, with_core_type}
 use Rattle.smith_types.specs.Script.{script_type, script_core, script_ref, script_extern, Lasts, LastsCore}
-use Rattle.smith_component.specs.Tree.{Tree, ends, first, Part, custom, core_module, core_types, component, types, canons, imports, add, types_of, core_types_of, imports_of, function_count}
+use Rattle.smith_component.specs.Spaces.{core_types_of, function_count, spaces_of, types_of}
+use Rattle.smith_component.specs.Tree.{Tree, ends, first, Part, custom, core_module, core_types, component, types, canons, imports, add, imports_of}
 use Rattle.smith_component.specs.CanonScript.{script_canons}
 use Rattle.smith_component.specs.Grammar.{Spells}
 use Rattle.smith_component.specs.Offers.{totals_of, with_imports}
 use Rattle.smith_component.specs.Open.{Open, items_with_input, scopes_in, tree_so_far}
-use Rattle.smith_component.specs.WellFormed.{Formed, WellFormed, scope_of, spaces_of}
+use Rattle.smith_component.specs.WellFormed.{Formed, WellFormed, scope_of}
 use Rattle.smith_component.specs.Limits.{Limits, Maxima}
 use Rattle.smith_component.specs.contracts.item.ItemPartialEq.TheImpl.{ghosts as equal}
 use Rattle.smith_component.specs.declared.item.Item.{Item}

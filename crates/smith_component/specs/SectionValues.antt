@@ -20,7 +20,8 @@ use Rattle.smith_types.specs.References.{ReadsRef}
 use Rattle.smith_component.specs.Building.{Building, open_of}
 use Rattle.smith_component.specs.Offers.{import_kinds, totals_of, with_imports}
 use Rattle.smith_component.specs.Open.{Open, scopes_in}
-use Rattle.smith_component.specs.Tree.{core_types_of, imports_of, types_of}
+use Rattle.smith_component.specs.Spaces.{core_types_of, types_of}
+use Rattle.smith_component.specs.Tree.{imports_of}
 use Rattle.smith_component.specs.Turn.{AddsCanons, ReadsCoreType}
 use Rattle.smith_component.specs.WellFormed.{scope_of}
 use Rattle.smith_component.specs.declared.component.CoreTypeSection.{CoreTypeSection}

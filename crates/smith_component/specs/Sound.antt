@@ -6,9 +6,11 @@ use Rattle.smith_format.specs.declared.config.Config.{Config}
 use Rattle.smith_format.specs.declared.types.ValType.{ValType}
 use Rattle.smith_syntax.specs.Scope.{Scope}
 use Rattle.smith_component.specs.Importing.{Totalled}
-use Rattle.smith_component.specs.Limits.{max_depth, OwnLimits, Maxima, Minima, SmallTypes, SmallCoreTypes, Sized}
+use Rattle.smith_component.specs.Limits.{max_depth, OwnLimits, OwnSizes, Maxima, Minima, Sized}
 use Rattle.smith_component.specs.Open.{Open, tree_so_far, scopes_in}
-use Rattle.smith_component.specs.Tree.{Tree, Part, add, inside, module_count, component_count, instance_count, types_in, core_types_in, functions_in, core_functions_in, imports_in, modules_in, imported_modules_in, imported_components_in, imported_instances_in, anywhere_in, components_in, depth_in, scope_depth_in}
+use Rattle.smith_component.specs.Spaces.{Spaces, after_part}
+use Rattle.smith_component.specs.Tree.{Tree, Part, add, inside, module_count, component_count, instance_count, imports_in, modules_in, imported_modules_in}
+use Rattle.smith_component.specs.Tree.{imported_components_in, imported_instances_in, anywhere_in, components_in, depth_in, scope_depth_in}
 use Rattle.smith_component.specs.WellFormed.{WellFormed, FormedPart, scope_of}
 use Rattle.smith_component.specs.declared.builder.totals.TreeTotals.{TreeTotals}
 
@@ -38,7 +40,7 @@ pub record Standing (config : Config) (valtypes : List ValType) (scopes : List S
 pub record IsAddable (config : Config) (stack : Open) (p : Part) : Type 0 where
   pub formed : FormedPart p (scopes_in stack.outer) stack.inner
   pub own : OwnLimits config stack.inner → OwnLimits config (add stack.inner p)
-  pub sizes : SmallTypes config (types_in p) × SmallCoreTypes config (core_types_in p)
+  pub sizes : OwnSizes config stack.inner → OwnSizes config (add stack.inner p)
   pub modules :
       module_count (tree_so_far stack.outer stack.inner) ≤ config.max_modules
       → module_count (tree_so_far stack.outer stack.inner) + (length (modules_in p) + length (imported_modules_in p)) ≤ config.max_modules
@@ -52,10 +54,7 @@ pub record IsAddable (config : Config) (stack : Open) (p : Part) : Type 0 where
   pub flat : depth_in p ≡ 1
   pub scopes : length stack.outer + 1 ≤ max_depth config → length stack.outer + scope_depth_in p ≤ max_depth config + 1
 
--- A part that adds no type, core type, function or import.
+-- A part that leaves the index spaces as they are, and adds no import.
 pub record IsQuiet (p : Part) : Type 0 where
-  pub types : types_in p ≡ []
-  pub core_types : core_types_in p ≡ []
-  pub functions : functions_in p ≡ []
-  pub core_functions : core_functions_in p ≡ []
+  pub spaces : (s : Spaces) → after_part s p ≡ s
   pub imports : imports_in p ≡ []

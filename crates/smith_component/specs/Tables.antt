@@ -8,8 +8,9 @@ use Rattle.smith_types.specs.MakingTypes.{HoldsExterns}
 use Rattle.smith_component.specs.Offers.{is_scalar_type, scalar_functions}
 use Rattle.smith_component.specs.SectionValues.{externs_of}
 use Rattle.smith_component.specs.Shown.{shown_sections}
-use Rattle.smith_component.specs.Tree.{Tree, types_of, functions_of, core_functions_of}
-use Rattle.smith_component.specs.WellFormed.{HasSignature, spaces_of}
+use Rattle.smith_component.specs.Spaces.{core_functions_of, functions_of, spaces_of, types_of}
+use Rattle.smith_component.specs.Tree.{Tree}
+use Rattle.smith_component.specs.WellFormed.{HasSignature}
 use Rattle.smith_component.specs.declared.builder.open.OpenComponent.{OpenComponent}
 use Rattle.smith_component.specs.declared.builder.tables.Tables.{Tables}
 

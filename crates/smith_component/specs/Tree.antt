@@ -46,19 +46,6 @@ abbrev pub parts_of : Tree → List Part
 parts_of ends = []
 parts_of (first p t) = p ∷ parts_of t
 
--- What stands in the index spaces of functions (Explainer.md, index spaces): a component function by the index of its type, and a
--- core function by the index of the component function that it lowers.
-
--- the component function that a canonical function adds
-abbrev pub lifted_by : Canon → List ℕ
-lifted_by (lift c t) = t ∷ []
-lifted_by (lower f) = []
-
--- the core function that it adds
-abbrev pub lowered_by : Canon → List ℕ
-lowered_by (lift c t) = []
-lowered_by (lower f) = f ∷ []
-
 -- the function, module, component or instance that an import is of, by the index of its type
 
 abbrev pub function_of : ComponentTypeRef → List ℕ
@@ -89,106 +76,62 @@ instance_of (to.TypeEq i) = []
 instance_of (to.Component i) = []
 instance_of (to.Instance i) = i ∷ []
 
--- what one part adds to the lists of its component
-pub record Added : Type 0 where
-  pub names : List (List ℕ)
-  pub modules : List (List ℕ)
-  pub core_types : List CoreEntry
-  pub components : List Tree
-  pub types : List Entry
-  pub imports : List ImportEntry
-  pub functions : List ℕ
-  pub core_functions : List ℕ
-  pub imported_modules : List ℕ
-  pub imported_components : List ℕ
-  pub imported_instances : List ℕ
+-- what a part has of each sort
 
-abbrev pub nothing : Added
-nothing = record {
-  names = [];
-  modules = [];
-  core_types = [];
-  components = [];
-  types = [];
-  imports = [];
-  functions = [];
-  core_functions = [];
-  imported_modules = [];
-  imported_components = [];
-  imported_instances = [];
-}
-
-abbrev pub added : Part → Added
-added (custom name contents) = record nothing { names = name ∷ [] }
-added (core_module text) = record nothing { modules = text ∷ [] }
-added (core_types ts) = record nothing { core_types = ts }
-added (component t) = record nothing { components = t ∷ [] }
-added (types ts) = record nothing { types = ts }
-added (canons fs) = record nothing { functions = flat_map lifted_by fs; core_functions = flat_map lowered_by fs }
-added (imports is) = record nothing {
-  imports = is;
-  functions = flat_map (λ i. function_of i.to) is;
-  imported_modules = flat_map (λ i. module_of i.to) is;
-  imported_components = flat_map (λ i. component_of i.to) is;
-  imported_instances = flat_map (λ i. instance_of i.to) is;
-}
-
+-- the names of custom sections
 abbrev pub names_in : Part → List (List ℕ)
-names_in p = (added p).names
+names_in (custom name contents) = name ∷ []
+names_in (core_module text) = []
+names_in (core_types ts) = []
+names_in (component t) = []
+names_in (types ts) = []
+names_in (canons fs) = []
+names_in (imports is) = []
 
+-- the core modules that are embedded
 abbrev pub modules_in : Part → List (List ℕ)
-modules_in p = (added p).modules
-
-abbrev pub core_types_in : Part → List CoreEntry
-core_types_in p = (added p).core_types
+modules_in (custom name contents) = []
+modules_in (core_module text) = text ∷ []
+modules_in (core_types ts) = []
+modules_in (component t) = []
+modules_in (types ts) = []
+modules_in (canons fs) = []
+modules_in (imports is) = []
 
 abbrev pub components_in : Part → List Tree
-components_in p = (added p).components
-
-abbrev pub types_in : Part → List Entry
-types_in p = (added p).types
+components_in (custom name contents) = []
+components_in (core_module text) = []
+components_in (core_types ts) = []
+components_in (component t) = t ∷ []
+components_in (types ts) = []
+components_in (canons fs) = []
+components_in (imports is) = []
 
 abbrev pub imports_in : Part → List ImportEntry
-imports_in p = (added p).imports
-
-abbrev pub functions_in : Part → List ℕ
-functions_in p = (added p).functions
-
-abbrev pub core_functions_in : Part → List ℕ
-core_functions_in p = (added p).core_functions
+imports_in (custom name contents) = []
+imports_in (core_module text) = []
+imports_in (core_types ts) = []
+imports_in (component t) = []
+imports_in (types ts) = []
+imports_in (canons fs) = []
+imports_in (imports is) = is
 
 abbrev pub imported_modules_in : Part → List ℕ
-imported_modules_in p = (added p).imported_modules
+imported_modules_in p = flat_map (λ i. module_of i.to) (imports_in p)
 
 abbrev pub imported_components_in : Part → List ℕ
-imported_components_in p = (added p).imported_components
+imported_components_in p = flat_map (λ i. component_of i.to) (imports_in p)
 
 abbrev pub imported_instances_in : Part → List ℕ
-imported_instances_in p = (added p).imported_instances
+imported_instances_in p = flat_map (λ i. instance_of i.to) (imports_in p)
 
 -- the lists of a component by itself, without the components in it
 
 abbrev pub own : {A : Type 0} → (Part → List A) → Tree → List A
 own f t = flat_map f (parts_of t)
 
-abbrev pub types_of : Tree → List Entry
-types_of t = own types_in t
-
-abbrev pub core_types_of : Tree → List CoreEntry
-core_types_of t = own core_types_in t
-
 abbrev pub imports_of : Tree → List ImportEntry
 imports_of t = own imports_in t
-
-abbrev pub functions_of : Tree → List ℕ
-functions_of t = own functions_in t
-
-abbrev pub core_functions_of : Tree → List ℕ
-core_functions_of t = own core_functions_in t
-
--- how many functions a component imports, lifts and lowers
-abbrev pub function_count : Tree → ℕ
-function_count t = length (functions_of t) + length (core_functions_of t)
 
 -- what stands anywhere in a tree, in the components at every depth
 

@@ -10,7 +10,8 @@ use Rattle.smith_syntax.specs.Entries.{Entry, CoreEntry, ImportEntry}
 use Rattle.smith_types.specs.Made.{MadeWith}
 use Rattle.smith_core_types.specs.MadeCore.{MadeCore}
 use Rattle.smith_syntax.specs.Scope.{Scope, with_type, with_core_type}
-use Rattle.smith_component.specs.Tree.{Tree, Part, ends, custom, core_module, core_types, component, types, imports, add, types_of, core_types_of, imports_of, function_count}
+use Rattle.smith_component.specs.Spaces.{core_types_of, function_count, types_of}
+use Rattle.smith_component.specs.Tree.{Tree, Part, ends, custom, core_module, core_types, component, types, imports, add, imports_of}
 use Rattle.smith_component.specs.Canonicals.{Growing, ReadsCanons, grown}
 use Rattle.smith_component.specs.Counted.{count_of, minimum_of}
 use Rattle.smith_component.specs.Imports.{ReadsImports}

@@ -1,32 +1,17 @@
 -- Which components are well formed: each part is judged by what stands before it (Explainer.md, index spaces).
 use Rattle.std.specs.Prelude.{◌≡◌, ℕ, false, List, [], ◌∷◌, ◌++◌, map, Some, slice_get, true}
 use Rattle.std.specs.List.{AllByRecursion}
-use Rattle.smith_syntax.specs.Entries.{Entry, function, CoreEntry, ImportEntry, Signature}
+use Rattle.smith_syntax.specs.Entries.{function, ImportEntry, Signature}
 use Rattle.smith_syntax.specs.Flat.{Flat, is_scalar}
 use Rattle.smith_syntax.specs.Scope.{Scope}
 use Rattle.smith_syntax.specs.WellFormed.{FormedCores, FormedRef, FormedTypes, Named, is_type_eq}
-use Rattle.smith_component.specs.Tree.{Canon, lift, lower, lifted_by, lowered_by, Tree, Part, ends, first, custom, core_module, core_types, component, types, canons, imports, add}
-use Rattle.smith_component.specs.Tree.{types_of, core_types_of, imports_of, functions_of, core_functions_of}
+use Rattle.smith_component.specs.Spaces.{Spaces, after_canon, core_types_of, spaces_of, types_of}
+use Rattle.smith_component.specs.Tree.{Canon, lift, lower, Tree, Part, ends, first, custom, core_module, core_types, component, types, canons, imports, add}
+use Rattle.smith_component.specs.Tree.{imports_of}
 
 -- the types and core types of a component that has these parts
 abbrev pub scope_of : Tree → Scope
 scope_of before = record { types = types_of before; core_types = core_types_of before }
-
--- What stands before a place in a component (Explainer.md, index spaces): the types and the core types, the component functions, each by
--- the index of its type, and the core functions, each by the component function that it lowers.
-pub record Spaces : Type 0 where
-  pub types : List Entry
-  pub core_types : List CoreEntry
-  pub functions : List ℕ
-  pub core_functions : List ℕ
-
--- those of a component that has these parts
-abbrev pub spaces_of : Tree → Spaces
-spaces_of before = record { types = types_of before; core_types = core_types_of before; functions = functions_of before; core_functions = core_functions_of before }
-
--- the spaces behind a canonical function
-abbrev pub after_canon : Spaces → Canon → Spaces
-after_canon s c = record { types = s.types; core_types = s.core_types; functions = s.functions ++ lifted_by c; core_functions = s.core_functions ++ lowered_by c }
 
 -- A component function is there, and its type is of that signature.
 pub record HasSignature (s : Spaces) (f : ℕ) (signature : Signature) : Type 0 where

@@ -14,7 +14,8 @@ use Rattle.smith_format.specs.declared.types.RefType.{RefType}
 use Rattle.smith_format.specs.declared.types.TableType.{TableType}
 use Rattle.smith_format.specs.declared.types.ValType.{ValType}
 use Rattle.smith_format.proofs.Piece.{parts_are}
-use Rattle.smith_core.specs.Module.{core_preamble, binary_order, section_id, is_written, last, start, contents, section, module_text}
+use Rattle.smith_core.specs.Module.{binary_order, section_id, is_written, last, start, contents, section, module_text}
+use Rattle.smith_core.specs.Preamble.{core_preamble}
 use Rattle.smith_core.specs.Segments.{expression, table, named_type, kind_byte, export, offset, functions_front, expressions_front, element_of, element, local, instructions, code_text, data_form, data_segment}
 use Rattle.smith_core.specs.SubTypes.{storage, field, composite, sub_prefix, sub_type, rec_type}
 use Rattle.smith_core.specs.declared.module.parts.ModuleParts.{ModuleParts}

@@ -4,7 +4,8 @@ use Rattle.std.specs.List.{filter}
 use Rattle.smith_format.specs.Piece.{Piece, ◌⊕◌, bytes, each, sized}
 use Rattle.smith_format.proofs.Clear.{clash, same_section, section_head, tail}
 use Rattle.smith_format.proofs.Piece.{left_nil}
-use Rattle.smith_core.specs.Module.{core_preamble, binary_order, section_id, is_written, contents, section, module_text}
+use Rattle.smith_core.specs.Module.{binary_order, section_id, is_written, contents, section, module_text}
+use Rattle.smith_core.specs.Preamble.{core_preamble}
 use Rattle.smith_core.specs.Split.{CoreSection, core_section, Splits, sections_of, shown_section}
 use Rattle.smith_core.specs.declared.module.parts.ModuleParts.{ModuleParts}
 use Rattle.smith_core.specs.declared.module.sections.SectionKind.{SectionKind}

@@ -13,7 +13,8 @@ use Rattle.smith_format.specs.Piece.{Piece, ◌⊕◌, bytes, u, each, many, siz
 use Rattle.smith_format.specs.declared.config.Config.{Config}
 use Rattle.smith_format.specs.declared.types.MemoryType.{MemoryType}
 use Rattle.smith_format.proofs.CoreReading.{function_unique, memory_unique}
-use Rattle.smith_core.specs.Module.{binary_order, core_preamble, contents, has_any, is_there, is_written, last, module_text, section, section_id}
+use Rattle.smith_core.specs.Module.{binary_order, contents, has_any, is_there, is_written, last, module_text, section, section_id}
+use Rattle.smith_core.specs.Preamble.{core_preamble}
 use Rattle.smith_core.specs.StandIn.{groups_from, HasTypesAndMemories, IsFunction, ReadsMemoryType, ReadsStandIn, ReadsSubType}
 use Rattle.smith_core.specs.SubTypes.{composite, rec_type, sub_prefix, sub_type}
 use Rattle.smith_core.specs.declared.module.parts.ModuleParts.{ModuleParts}

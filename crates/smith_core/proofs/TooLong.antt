@@ -19,7 +19,8 @@ use Rattle.smith_format.specs.declared.types.TableType.{TableType}
 use Rattle.smith_format.specs.declared.types.ValType.{ValType}
 use Rattle.smith_format.proofs.Sizes.{u_none_where}
 use Rattle.smith_format.proofs.TooLong.{join_none, after_bytes, before_bytes, bytes_none, each_none_where, many_none_where, many_none_among, name_none, raw_none, framed_none_where, sized_none_by, ref_none_where, val_none_where, function_none_where, table_none, memory_none, global_none, tag_none, entity_none_where}
-use Rattle.smith_core.specs.Module.{core_preamble, binary_order, section_id, is_written, last, start, contents, section, module_text}
+use Rattle.smith_core.specs.Module.{binary_order, section_id, is_written, last, start, contents, section, module_text}
+use Rattle.smith_core.specs.Preamble.{core_preamble}
 use Rattle.smith_core.specs.Parts.{Agree, NamesTable}
 use Rattle.smith_core.specs.Segments.{expression, table, named_type, kind_byte, export, offset, functions_front, expressions_front, element, element_of, local, instructions, code_text, data_form, data_segment}
 use Rattle.smith_core.specs.SubTypes.{storage, field, composite, sub_prefix, sub_type, rec_type}

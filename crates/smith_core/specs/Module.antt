@@ -3,15 +3,12 @@ use Rattle.std.specs.Prelude.{ℕ, ◌-◌, Bool, true, false, ◌&&◌, nat_lt,
 use Rattle.std.specs.List.{slice_get, slice_range, zip}
 use Rattle.smith_format.specs.Entities.{memory_type, tag_type, core_import, shown_import}
 use Rattle.smith_format.specs.Piece.{Piece, ◌⊕◌, bytes, u, each, many, sized}
+use Rattle.smith_core.specs.Preamble.{core_preamble}
 use Rattle.smith_core.specs.Segments.{expression, table, named_type, export, element, code_text, data_segment}
 use Rattle.smith_core.specs.SubTypes.{rec_type}
 use Rattle.smith_core.specs.declared.module.parts.ModuleParts.{ModuleParts}
 use Rattle.smith_core.specs.declared.module.sections.SectionKind.{SectionKind}
 use Rattle.smith_core.specs.declared.module.sections.SectionKind.TheVariants.{Types, Imports, Functions, Tables, Memories, Tags, Globals, Exports, Start, Elements, DataCount, Code, Data}
-
--- the magic word and the version that a core module begins with
-abbrev pub core_preamble : List ℕ
-core_preamble = 0x00 ∷ 0x61 ∷ 0x73 ∷ 0x6d ∷ 0x01 ∷ 0x00 ∷ 0x00 ∷ 0x00 ∷ []
 
 -- the sections in the order in which a module has them
 abbrev pub binary_order : List SectionKind

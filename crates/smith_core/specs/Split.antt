@@ -2,7 +2,8 @@
 use Rattle.std.specs.Prelude.{◌≡◌, ℕ, List, map, Some}
 use Rattle.std.specs.List.{filter}
 use Rattle.smith_format.specs.Piece.{Piece, ◌⊕◌, bytes, each, sized}
-use Rattle.smith_core.specs.Module.{core_preamble, binary_order, section_id, is_written, contents}
+use Rattle.smith_core.specs.Module.{binary_order, section_id, is_written, contents}
+use Rattle.smith_core.specs.Preamble.{core_preamble}
 use Rattle.smith_core.specs.declared.module.parts.ModuleParts.{ModuleParts}
 
 -- a section of any module: its id and its contents

@@ -4,7 +4,8 @@
 ghost use Rattle.std.specs.Prelude.{◌≡◌, ◌↔◌, ◌++◌, ℕ, ◌<◌, List, map, Some, None};
 ghost use Rattle.smith_format.specs.declared.config.Config.{Config};
 ghost use Rattle.std.specs.List.{AllByRecursion};
-ghost use Rattle.smith_core.specs.Module.{core_preamble, module_text};
+ghost use Rattle.smith_core.specs.Module.{module_text};
+ghost use Rattle.smith_core.specs.Preamble.{core_preamble};
 ghost use Rattle.smith_core.specs.Parts.{Agree};
 ghost use Rattle.smith_core.specs.StandIn.{ReadsStandIn};
 ghost use Rattle.smith_core.specs.Split.{CoreSection, Splits, sections_of, shown_section};

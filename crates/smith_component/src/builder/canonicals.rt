@@ -10,7 +10,7 @@ ghost use Rattle.smith_component.specs.Canonicals.{CanonTurn, Growing, NoCanon, 
 ghost use Rattle.smith_component.specs.Draft.{IsDraft, IsDrafted, IsLowered, LiftsAs, KeepsFront, canon_items_of, growing};
 ghost use Rattle.smith_component.specs.Shown.{shown_sections};
 ghost use Rattle.smith_component.specs.Tables.{Tabled};
-ghost use Rattle.smith_component.specs.Tree.{function_count};
+ghost use Rattle.smith_component.specs.Spaces.{function_count};
 ghost use Rattle.smith_component.specs.WellFormed.{scope_of};
 ghost use Rattle.smith_component.specs.declared.item.CanonItem.{CanonItem};
 

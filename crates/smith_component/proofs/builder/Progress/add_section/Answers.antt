@@ -3,8 +3,10 @@ use Rattle.smith_component.specs.BuilderView.{stack_of}
 use Rattle.smith_component.specs.Open.{scopes_in, with_inner}
 use Rattle.smith_component.specs.Shown.{shown_section}
 use Rattle.smith_component.specs.Sound.{Sound}
+use Rattle.smith_component.specs.Spaces.{spaces_of}
 use Rattle.smith_component.specs.WellFormed.{scope_of}
-use Rattle.smith_component.proofs.Sound.{part_sound, scope_bare, totalled_part}
+use Rattle.smith_component.proofs.Growth.{scope-add, scope_at}
+use Rattle.smith_component.proofs.Sound.{part_sound, totalled_part}
 use Rattle.smith_component.proofs.SectionValues.{is_tabled_added}
 use Rattle.smith_component.proofs.Standing.{none_imported}
 use Rattle.smith_component.proofs.builder.Progress.add_section.Goals as goal
@@ -28,14 +30,15 @@ returns-clause-sound c =
     let q = c.requires.quiet in
     let i = c.requires.sound in
     let new = c.in_ok-push.ensures.ok in
+    let same = q.spaces (spaces_of stack.inner) in
     let none = none_imported p q.imports in (
       record {
         sound = subst (λ t. Sound b.config (with_inner stack t)) (sym new) (part_sound b.config stack p a i.0.sound);
         valtypes_are = i.0.valtypes_are;
-        scopes_are = i.0.scopes_are ∙ ap (λ s. s ∷ scopes_in stack.outer) (sym (ap scope_of new ∙ scope_bare stack.inner p q.types q.core_types));
+        scopes_are = i.0.scopes_are ∙ ap (λ s. s ∷ scopes_in stack.outer) (sym (ap scope_of new ∙ (scope-add stack.inner p ∙ ap scope_at same)));
         totalled =
             totalled_part b.config stack.outer stack.inner _ b.totals _ p a.no_component new (omega (arith, c.module_count-modules.ensures, ap length none.0)) (omega (arith, ap length none.1)) (omega (arith, ap length none.2))
             i.0.totalled;
       },
-      (is_tabled_added b.inner c.push.new.self c.args.section c.in_ok-push.ensures.items c.push.ensures.tables q.functions q.core_functions q.imports i.1.0, i.1.1),
+      (is_tabled_added b.inner c.push.new.self c.args.section c.in_ok-push.ensures.items c.push.ensures.tables (ap (λ s. s.functions) same) (ap (λ s. s.core_functions) same) q.imports i.1.0, i.1.1),
     )

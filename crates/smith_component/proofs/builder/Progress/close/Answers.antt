@@ -14,7 +14,8 @@ use Rattle.smith_component.specs.declared.builder.open.OpenComponent.{OpenCompon
 use Rattle.smith_component.specs.declared.component.Section.{Section}
 use Rattle.smith_component.specs.declared.component.Section.TheVariants.{Component as inner_section}
 use Rattle.smith_component.proofs.Shown.{none_open, outer_popped, trees_of}
-use Rattle.smith_component.proofs.Sound.{root_kept, sound_close, totalled_close, closes, scope_bare, scopes_from-snoc, length-scopes_from, same_tail}
+use Rattle.smith_component.proofs.Growth.{scope-add}
+use Rattle.smith_component.proofs.Sound.{root_kept, sound_close, totalled_close, closes, scopes_from-snoc, length-scopes_from, same_tail}
 use Rattle.smith_component.proofs.SectionValues.{is_tabled_added}
 use Rattle.smith_scopes.proofs.Plain.{all_back, all_front}
 use Rattle.smith_component.proofs.builder.Progress.close.Goals as goal
@@ -62,7 +63,7 @@ returns-in_ok-push-in-Some-clause-sound c =
       record {
         sound = subst (λ t. Sound b.config (record { outer = outers; inner = t })) (sym new) (sound_close b.config outers parent inner enough (subst (λ us. Sound b.config (record { outer = us; inner = inner })) around i.0.sound));
         valtypes_are = i.0.valtypes_are;
-        scopes_are = rest ∙ (scopes_from-snoc outers parent [] ∙ ap (λ s. s ∷ scopes_in outers) (sym (ap scope_of new ∙ scope_bare parent (component inner) refl refl)));
+        scopes_are = rest ∙ (scopes_from-snoc outers parent [] ∙ ap (λ s. s ∷ scopes_in outers) (sym (ap scope_of new ∙ scope-add parent (component inner))));
         totalled = totalled_close outers _ parent inner _ b.totals around new i.0.totalled;
       },
       (

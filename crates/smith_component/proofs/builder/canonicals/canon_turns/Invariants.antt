@@ -4,7 +4,7 @@ use Rattle.smith_input.proofs.Loops.{Onward}
 use Rattle.smith_scopes.specs.Scopes.{outer_scopes}
 use Rattle.smith_component.specs.Canonicals.{CanonTurn, NoCanon, grown}
 use Rattle.smith_component.specs.Draft.{IsDraft, KeepsFront, growing}
-use Rattle.smith_component.specs.Tree.{function_count}
+use Rattle.smith_component.specs.Spaces.{function_count}
 use Rattle.smith_component.specs.declared.item.CanonItem.{CanonItem}
 use Rattle.smith_component.proofs.builder.canonicals.canon_turns.Given as goal
 

@@ -24,12 +24,14 @@ use Rattle.smith_component.specs.Importing.{Importing, Totalled}
 use Rattle.smith_component.specs.Open.{Open}
 use Rattle.smith_component.specs.SectionValues.{ReadsImportValue, extern_of}
 use Rattle.smith_component.specs.Tables.{AddsFunction, Tabled}
-use Rattle.smith_component.specs.Tree.{Tree, add, component_of, core_functions_in, function_of, functions_in, imports, instance_of, module_of, types_in, types_of}
+use Rattle.smith_component.specs.Spaces.{spaces_of, types_of}
+use Rattle.smith_component.specs.Tree.{Tree, add, component_of, function_of, imports, instance_of, module_of}
 use Rattle.smith_component.specs.WellFormed.{scope_of}
 use Rattle.smith_component.specs.declared.builder.tables.Tables.{Tables}
 use Rattle.smith_component.specs.declared.builder.totals.TreeTotals.{TreeTotals}
+use Rattle.smith_component.proofs.Growth.{imports_keep, scope_bare, spaces_import}
 use Rattle.smith_component.proofs.Importing.{components_more, import_room, instances_more, modules_more}
-use Rattle.smith_component.proofs.Tables.{flat_map_more, own_bare, own_grown, tabled_more}
+use Rattle.smith_component.proofs.Tables.{same_more, tabled_more}
 use Rattle.smith_component.proofs.builder.imports.read_import.Goals as goal
 use Rattle.smith_component.proofs.builder.imports.read_import.Goals.{in-Func+in_ok-add_function, in_default-ty}
 
@@ -113,11 +115,13 @@ module _ (config : Config) (stack : Open) (before : List NamedExtern) (is : List
     import_is_kept : (externs : ExternNames) (new : Tables) → FormedRef own x.ty → Takes own tables x.ty externs new → Tabled new new_tree
     import_is_kept externs new formed takes =
         let tabled : Tabled tables old_tree = importing.tabled in
-        let same : own.types ≡ types_of new_tree = ap (λ s. s.types) importing.scope_is ∙ sym (own_bare types_in stack.inner (imports (entries ++ entry ∷ [])) refl) in
+        let behind = spaces_import stack.inner entries entry in
+        let scope = scope_bare stack.inner (imports (entries ++ entry ∷ [])) (imports_keep (spaces_of stack.inner) (entries ++ entry ∷ [])) in
+        let same : own.types ≡ types_of new_tree = ap (λ s. s.types) importing.scope_is ∙ sym (ap (λ s. s.types) scope) in
         tabled_more tables new old_tree new_tree [] (function_of x.ty) [] tabled
-        (own_grown types_in stack.inner (imports entries) (imports (entries ++ entry ∷ [])) [] refl)
-        (own_grown functions_in stack.inner (imports entries) (imports (entries ++ entry ∷ [])) (function_of x.ty) (flat_map_more (λ (i : ImportEntry). function_of i.to) entries entry))
-        (own_grown core_functions_in stack.inner (imports entries) (imports (entries ++ entry ∷ [])) [] refl)
+        (same_more _ _ (ap (λ s. s.types) behind))
+        (ap (λ s. s.functions) behind)
+        (same_more _ _ (ap (λ s. s.core_functions) behind))
         (subst (λ ts. AllByRecursion (λ ty. ty < length ts) (function_of x.ty)) same (function_within own x.ty formed))
         tt
         takes.functions

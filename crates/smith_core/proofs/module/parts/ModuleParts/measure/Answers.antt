@@ -3,7 +3,8 @@ use Rattle.smith_format.specs.Piece.{bytes, ◌⊕◌}
 use Rattle.smith_format.specs.Writing.{Takes}
 use Rattle.smith_format.proofs.Piece.{right_none}
 use Rattle.smith_format.proofs.Sizes.{takes_then, takes_bytes, sum_none, sum_next, sum_all, each_none, measures_none}
-use Rattle.smith_core.specs.Module.{binary_order, core_preamble, module_text, section}
+use Rattle.smith_core.specs.Module.{binary_order, module_text, section}
+use Rattle.smith_core.specs.Preamble.{core_preamble}
 use Rattle.smith_core.proofs.Sections.{item_at}
 use Rattle.smith_core.specs.declared.module.sections.SectionKind.TheVariants.{Types}
 use Rattle.smith_core.proofs.module.parts.ModuleParts.measure.Goals as goal
