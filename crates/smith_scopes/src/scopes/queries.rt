@@ -1,0 +1,108 @@
+//! What stands in scopes: how much, and at which index.
+
+ghost use Rattle.std.specs.Prelude.{◌≡◌, ◌<◌, ◌≤◌, length, Some, slice_get};
+ghost use Rattle.smith_syntax.specs.Scope.{places};
+ghost use Rattle.smith_syntax.specs.Shown.{has_signature};
+ghost use Rattle.smith_scopes.specs.Scopes.{own_scope, kind_places, last_of, scope_at};
+
+use crate::scopes::{Kind, Scope, Scopes};
+use smith_syntax::{CoreType, DefType, FuncType};
+use std::rc::Rc;
+
+impl Scopes {
+    /// How many scopes there are.
+    pub fn depth(&self) -> usize
+        ensures count { result ≡ length self.now }
+        ensures some { 1 ≤ result }
+    {
+        self.outer.len() + 1
+    }
+
+    // The scope of that count, where 0 is the last.
+    fn scope(&self, count: u32) -> &Scope
+        requires { count < length self.now }
+        ensures { result.now ≡ scope_at self.now count }
+    {
+        if count == 0 {
+            &self.inner
+        } else {
+            &self.outer[self.outer.len() - count as usize]
+        }
+    }
+
+    /// How many types the scope of that count has, where 0 is the last.
+    pub fn len(&self, count: u32) -> usize
+        requires { count < length self.now }
+        ensures count { result ≡ length (scope_at self.now count).types }
+        ensures few { result ≤ 4294967295 }
+    {
+        self.scope(count).types.len()
+    }
+
+    /// How many core types the scope of that count has, where 0 is the last.
+    pub fn len_core(&self, count: u32) -> usize
+        requires { count < length self.now }
+        ensures count { result ≡ length (scope_at self.now count).core_types }
+        ensures few { result ≤ 4294967295 }
+    {
+        self.scope(count).core_types.len()
+    }
+
+    /// The type with the index `i` in the scope of that count, where 0 is the last.
+    pub fn get(&self, count: u32, i: u32) -> &Rc<DefType>
+        requires scope { count < length self.now }
+        requires entry { i < length (scope_at self.now count).types }
+        ensures { slice_get (scope_at self.now count).types i ≡ Some result.now.value }
+    {
+        &self.scope(count).types[i as usize]
+    }
+
+    /// The core type with the index `i` in the scope of that count, where 0 is the last.
+    pub fn get_core(&self, count: u32, i: u32) -> &Rc<CoreType>
+        requires scope { count < length self.now }
+        requires entry { i < length (scope_at self.now count).core_types }
+        ensures { slice_get (scope_at self.now count).core_types i ≡ Some result.now.value }
+    {
+        &self.scope(count).core_types[i as usize]
+    }
+
+    /// How many types the last scope has.
+    pub fn own_len(&self) -> usize
+        ensures count { result ≡ length (own_scope self.now).types }
+        ensures few { result ≤ 4294967295 }
+    {
+        self.inner.types.len()
+    }
+
+    /// How many entries of the last scope are of that kind.
+    pub fn kind_len(&self, kind: Kind) -> usize
+        ensures count { result ≡ length (kind_places kind (own_scope self.now)) }
+        ensures few { result ≤ 4294967295 }
+        ensures small { result < 9223372036854775808 }
+    {
+        self.inner.places(kind).len()
+    }
+
+    /// The index of the entry of the last scope that has `k` earlier ones of its kind.
+    pub fn kind_at(&self, kind: Kind, k: usize) -> u32
+        requires { k < length (kind_places kind (own_scope self.now)) }
+        ensures { slice_get (kind_places kind (own_scope self.now)) k ≡ Some result }
+    {
+        self.inner.places(kind)[k]
+    }
+
+    /// How many types of the last scope are function types equal to that one.
+    pub fn equal_len(&self, func: &FuncType) -> usize
+        ensures { result ≡ length (places (has_signature func.now) 0 (last_of self.now).types) }
+    {
+        self.inner.equals(func).len()
+    }
+
+    /// The index of the function type of the last scope that equals that one and has `k` earlier such ones.
+    pub fn equal_at(&self, func: &FuncType, k: usize) -> u32
+        requires { k < length (places (has_signature func.now) 0 (last_of self.now).types) }
+        ensures { slice_get (places (has_signature func.now) 0 (last_of self.now).types) k ≡ Some result }
+    {
+        self.inner.equals(func)[k]
+    }
+}
