@@ -1,9 +1,9 @@
 //! Scopes: what types stand where (Explainer.md, index spaces).
 
-ghost use Rattle.std.specs.Prelude.{◌≡◌, ℕ, ◌+◌, ◌<◌, ◌≤◌, [], ◌∷◌, ◌++◌, length, Some, slice_get};
+ghost use Rattle.std.specs.Prelude.{◌≡◌, ◌+◌, ◌<◌, ◌≤◌, [], ◌∷◌, ◌++◌, length, Some};
 ghost use Rattle.std.specs.Prelude.{OnOk, IfOk, OnErr, IfErr};
 ghost use Rattle.smith_syntax.specs.Scope.{empty_scope, with_type, with_core_type, places};
-ghost use Rattle.smith_scopes.specs.Scopes.{own_scope, shown_scope, kind_places, last_of, scope_at};
+ghost use Rattle.smith_scopes.specs.Scopes.{shown_scope, kind_places, last_of};
 ghost use Rattle.smith_syntax.specs.Shown.{has_signature};
 ghost use Rattle.smith_scopes.specs.Scopes.{AddsType, AddsCoreType, Notes, SameRows};
 
