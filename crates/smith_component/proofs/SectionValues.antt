@@ -89,7 +89,7 @@ import_count ss =
     sym (length-map (externs_of ss) (λ (x : NamedExtern). x.0)) ∙ (ap length (externs_named ss) ∙ length-map (imports_of (shown_sections ss)) (λ (i : ImportEntry). i.name))
 
 -- An import section that is read is read of what it shows.
-module _ (config : Config) (stack : Open) (before : List NamedExtern) (are : names before ≡ import_names (imports_of stack.inner)) {min max : ℕ} where
+module _ (config : Config) (stack : Open) (before : List NamedExtern) (are : names before ≡ import_names (imports_of stack.inner)) where
   names_behind : (is : List Import) → names (before ++ map extern_of is) ≡ import_names (imports_of stack.inner ++ map import_shown is)
   names_behind is =
       names_both before (map extern_of is)
@@ -108,7 +108,7 @@ module _ (config : Config) (stack : Open) (before : List NamedExtern) (are : nam
     next_is = ap (map import_shown) i.next_is ∙ map-append import_shown s (x ∷ []);
   }
 
-  pub imports_shown : (done : ℕ) (s : List Import) (b : List ℕ) (xs : List Import) (rest : List ℕ) (t : List Import) → Loop (NoImportValue config stack) (ReadsImportValue config stack before) min max done s b xs rest t
+  pub imports_shown : {min max : ℕ} (done : ℕ) (s : List Import) (b : List ℕ) (xs : List Import) (rest : List ℕ) (t : List Import) → Loop (NoImportValue config stack) (ReadsImportValue config stack before) min max done s b xs rest t
       → Loop (NoImport config stack) (ReadsImport config stack) min max done (map import_shown s) b (map import_shown xs) rest (map import_shown t)
   imports_shown done s b xs rest t (no_more m e) = no_more m (ap (map import_shown) e)
   imports_shown done s b xs rest t (by_itself m e) = by_itself m (e.0, e.1, ap (map import_shown) e.2)

@@ -30,7 +30,7 @@ fn read_import(
     ensures imports { (stack : Open) (before : List NamedExtern) (is : List _)
         → Importing stack before is (own_scope scopes.now) totals.old tables.old
         → IfOk result (λ i.
-            ImportsOne config.now stack before is (own_scope scopes.now) totals.new tables.new u.old i u.new) }
+        ImportsOne config.now stack before is (own_scope scopes.now) totals.new tables.new u.old i u.new) }
     ensures memory { IfErr result (λ e. e ≡ Error.OutOfMemory) }
     ensures tail { IsTail u.new u.old }
 {
@@ -62,7 +62,7 @@ pub(super) fn read_imports(
     ensures reads { (stack : Open) (before : List NamedExtern)
         → Importing stack before [] (own_scope scopes.now) totals.old tables.old
         → IfOk result (λ v. Loop (NoImportValue config.now stack) (ReadsImportValue config.now stack before)
-            min max 0 [] u.old v.items u.new v.items) }
+        min max 0 [] u.old v.items u.new v.items) }
     ensures counts { (stack : Open) (before : List NamedExtern)
         → Importing stack before [] (own_scope scopes.now) totals.old tables.old
         → IfOk result (λ v. Importing stack before v.items (own_scope scopes.now) totals.new tables.new) }

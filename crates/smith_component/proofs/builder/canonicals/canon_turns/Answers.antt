@@ -48,6 +48,10 @@ returns-then-not-branch-clause-reads c =
     let none = drafted_ends c.args.config.now s next c.more.new.self c.canon_turn.new.u c.in_ok-canon_turn.field-0 c.if-not-branch.true c.in_ok-canon_turn.ensures.reads in
     (o.0, ends_early _ _ _ _ _ _ o.0 _ s next _ _ _ _ c.if-not-more.false c.more.ensures none o.1)
 
+pub returns-then-not-branch-clause-front : goal.returns-then-not-branch-clause-front
+returns-then-not-branch-clause-front c =
+    front_then c.args.component.now c.loop-done.component c.canon_turn.new.component c.loop-done.invariant.front c.in_ok-canon_turn.ensures.front
+
 pub returns-then-not-branch-clause-tail : goal.returns-then-not-branch-clause-tail
 returns-then-not-branch-clause-tail c = tail_trans c.canon_turn.ensures.tail (tail_trans (more_tail c.more.ensures) c.loop-done.invariant.tail)
 
