@@ -32,7 +32,7 @@ use Rattle.smith_component.specs.declared.item.CanonItem.TheVariants.{Lower, Lif
 use Rattle.smith_input.proofs.Offered.{offers_few, offers_found}
 use Rattle.smith_scopes.proofs.Places.{place_found}
 use Rattle.smith_types.proofs.LiftedRead.{lifted_read}
-use Rattle.smith_component.proofs.Growth.{functions_at, functions_after, spaces_canon}
+use Rattle.smith_component.proofs.Growth.{canon_keeps, functions_at, functions_after, spaces_canon}
 use Rattle.smith_component.proofs.Spaces.{all_at}
 
 item_Decides : (a b : CanonItem) → Decides (equal.eq a b) (a ≡ b)
@@ -132,7 +132,10 @@ canons_from (c ∷ cs) config max done s sp rest e formed spoken many few fits =
     let C : Spaces → Type 0 = λ z. CanonTurn config s (script_canon z c ++ (later ++ rest)) (canon_item_of c) (later ++ rest) next in
     let one = subst C e (canon_read config s c (later ++ rest) (subst F (sym e) formed.0) (subst T (sym e) spoken) (omega (arith, few, ap functions_at e)) (omega (arith, many, ap (λ (z : Spaces). length z.types) e))) in
     let then : spaces_at next ≡ after_canon sp c = spaces_canon s.before s.funcs c ∙ ap (λ z. after_canon z c) e in
-    let more = canons_from cs config max (done + 1) next (after_canon sp c) rest then formed.1 spoken many (omega (arith, few, functions_after sp c)) (omega (arith, fits)) in
+    let keep = canon_keeps sp c in
+    let more =
+    canons_from cs config max (done + 1) next (after_canon sp c) rest then formed.1 (subst (AllByRecursion Spoken) (sym keep.types) spoken)
+    (omega (arith, many, ap length keep.types)) (omega (arith, few, functions_after sp c)) (omega (arith, fits)) in
     let whole : ((says ++ said) ++ later) ++ rest ≡ says ++ (said ++ (later ++ rest)) = append_assoc (says ++ said) later rest ∙ append_assoc says said (later ++ rest) in
     let G : List Canon → Type 0 = λ z. Loop NoCanon (CanonTurn config) 0 max done s (((says ++ said) ++ later) ++ rest) (map canon_item_of (c ∷ cs)) rest (record { before = s.before; funcs = z }) in
     let B : List ℕ → Type 0 = λ z. Loop NoCanon (CanonTurn config) 0 max done s z (map canon_item_of (c ∷ cs)) rest (record { before = s.before; funcs = (s.funcs ++ c ∷ []) ++ cs }) in

@@ -84,7 +84,7 @@ scope_bare t p keep =
 -- A fact of all types stays where those of a type section have it.
 pub types_past : (P : Entry → Type 0) (t : Tree) (p : Part) → AllByRecursion P (types_of t)
     → ((ts : List Entry) → p ≡ types ts → AllByRecursion P ts) → AllByRecursion P (types_of (add t p))
-types_past P t p h new = subst (λ s. AllByRecursion P s.types) (sym (spaces-add t p)) (by_part p new)
+types_past P t p h new = subst (λ (s : Spaces). AllByRecursion P s.types) (sym (spaces-add t p)) (by_part p new)
   where
     by_part : (q : Part) → ((ts : List Entry) → q ≡ types ts → AllByRecursion P ts) → AllByRecursion P (after_part (spaces_of t) q).types
     by_part (custom n c) more = h
