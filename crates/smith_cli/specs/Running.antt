@@ -8,7 +8,7 @@ use Rattle.smith_component.specs.Tree.{Tree}
 use Rattle.smith_component.specs.Generates.{Generates}
 use Rattle.smith_component.specs.Grammar.{Spells}
 use Rattle.smith_component.specs.Script.{Within, script}
-use Rattle.smith_component.specs.Turn.{RunsTo}
+use Rattle.smith_component.specs.Runs.{RunsTo}
 use Rattle.smith_component.specs.Refusals.{IsGenerateRefusal}
 use Rattle.smith_cli.specs.declared.run.RunError.{RunError}
 use Rattle.smith_cli.specs.declared.run.RunError.TheVariants.{Refused, ReadFault, InputTooLong, WriteFault}

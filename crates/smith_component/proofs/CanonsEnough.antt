@@ -30,7 +30,8 @@ more_done {done} {least} {most} h few m = ⊎_elim (λ lt. more_past lt m) (λ l
 module _ {S A : Type 0} {Ends : S → List ℕ → List ℕ → S → Type 0} {Item : S → List ℕ → A → List ℕ → S → Type 0} {least most : ℕ} (P : ℕ → S → Type 0) where
   pub loop_reaches : ((n : ℕ) (s : S) (b r : List ℕ) (t : S) → P n s → Ends s b r t → ⊥)
       → ((n : ℕ) (s : S) (b : List ℕ) (x : A) (r : List ℕ) (t : S) → n < most → P n s → Item s b x r t → P (n + 1) t) → least ≤ most
-      → (done : ℕ) (s : S) (b : List ℕ) (xs : List A) (rest : List ℕ) (t : S) → done ≤ most → P done s → Loop Ends Item least most done s b xs rest t → (n : ℕ) × (least ≤ n) × P n t
+      → (done : ℕ) (s : S) (b : List ℕ) (xs : List A) (rest : List ℕ) (t : S) → done ≤ most → P done s → Loop Ends Item least most done s b xs rest t
+      → (n : ℕ) × (least ≤ n) × P n t
   loop_reaches never items o done s b xs rest t h p (no_more m e) = (done, more_done o h m, subst (P done) (sym e) p)
   loop_reaches never items o done s b xs rest t h p (by_itself {mid = mid} m e) = absurd (never done s mid rest t p e)
   loop_reaches never items o done s b xs rest u h p (an_item {t = t} {mid = mid} {after = after} {x = x} {xs = ys} m i l) =
@@ -66,7 +67,8 @@ module _ (config : Config) (least : ℕ) (t : Tree) where
       let z : nat_lt 0 (length (scalar_functions (spaces_at s))) ≡ true = grind (arith, nat_tests) in
       some_items (nat_lt 0 (length (scalar_functions (spaces_at s)))) (length (spaces_at s).core_functions) z none
 
-  filling_canon : (n : ℕ) (s : Growing) (c : Canon) → FormedCanon (spaces_at s) c → length (spaces_at s).types + (least - (n + 1)) ≤ config.max_types → Filling config least t n s → Filling config least t (n + 1) (with_canon s c)
+  filling_canon : (n : ℕ) (s : Growing) (c : Canon) → FormedCanon (spaces_at s) c → length (spaces_at s).types + (least - (n + 1)) ≤ config.max_types
+      → Filling config least t n s → Filling config least t (n + 1) (with_canon s c)
   filling_canon n s c h room f =
       let e = spaces_canon s.before s.funcs c in
       record {
@@ -76,7 +78,8 @@ module _ (config : Config) (least : ℕ) (t : Tree) where
         enough = omega (arith, f.enough, canon_count s c);
       }
 
-  filling_signature : (n : ℕ) (s : Growing) (c : ℕ) (signature : Signature) → Defines config s c signature → Filling config least t n s → Filling config least t (n + 1) (with_defined s c signature)
+  filling_signature : (n : ℕ) (s : Growing) (c : ℕ) (signature : Signature) → Defines config s c signature → Filling config least t n s
+      → Filling config least t (n + 1) (with_defined s c signature)
   filling_signature n s c signature d f =
       let es : List Entry = function signature ∷ [] in
       let u : Growing = with_signature s signature in
@@ -84,8 +87,10 @@ module _ (config : Config) (least : ℕ) (t : Tree) where
       let e = spaces_signature s signature in
       let a = spaces_canon u.before u.funcs k in
       let grounded = signature_grounds s signature f.grounded in
-      let scalars : length (scalar_functions (spaces_at u)) ≡ length (scalar_functions (spaces_at s)) = ap (λ z. length (scalar_functions z)) e ∙ ap length (scalars_entries (spaces_at s) es f.grounded) in
-      let count : length (spaces_at u).types ≡ length (spaces_at s).types + 1 = omega (arith, ap (λ z. length z.types) e, length-append (spaces_at s).types es) in
+      let scalars : length (scalar_functions (spaces_at u)) ≡ length (scalar_functions (spaces_at s)) = ap (λ z. length (scalar_functions z)) e
+      ∙ ap length (scalars_entries (spaces_at s) es f.grounded) in
+      let count : length (spaces_at u).types ≡ length (spaces_at s).types + 1 =
+      omega (arith, ap (λ z. length z.types) e, length-append (spaces_at s).types es) in
       record {
         grounded = canon_grounds u k (defined_canon d) grounded;
         some = omega (arith, f.some, scalars, scalars_grow (spaces_at u) k, ap (λ z. length (scalar_functions z)) a);
@@ -97,10 +102,12 @@ module _ (config : Config) (least : ℕ) (t : Tree) where
   filling_turn n s next f (adds c h e) = subst (Filling config least t (n + 1)) (sym e) (filling_canon n s c h (omega (arith, f.room)) f)
   filling_turn n s next f (defines c signature d e) = subst (Filling config least t (n + 1)) (sym e) (filling_signature n s c signature d f)
   filling_turn n s next f (gives_up full e) =
-      subst (Filling config least t (n + 1)) (sym e) (record { grounded = f.grounded; some = f.some; room = omega (arith, f.room); enough = omega (arith, f.enough, f.room, full) })
+      subst (Filling config least t (n + 1)) (sym e) (record
+      { grounded = f.grounded; some = f.some; room = omega (arith, f.room); enough = omega (arith, f.enough, f.room, full) })
 
   -- As many functions are added as must be, where one can be lowered and there is room for the types that lifts define.
-  pub canons_enough : {b : List ℕ} {turns : List CanonItem} {rest : List ℕ} {next : Growing} → ReadsCanons config least t b turns rest next → IsGrounded t → least ≤ config.max_funcs - function_count t → 0 < length (scalar_functions (spaces_of t))
+  pub canons_enough : {b : List ℕ} {turns : List CanonItem} {rest : List ℕ} {next : Growing} → ReadsCanons config least t b turns rest next → IsGrounded t
+      → least ≤ config.max_funcs - function_count t → 0 < length (scalar_functions (spaces_of t))
       → length (types_of t) + least ≤ config.max_types → function_count t + least ≤ function_count (grown next)
   canons_enough {b} {turns} {rest} {next} r g few some room =
       let e = spaces-add t (canons []) in
@@ -110,5 +117,6 @@ module _ (config : Config) (least : ℕ) (t : Tree) where
         room = omega (arith, room, ap (λ z. length z.types) e);
         enough = omega (arith, empty_count t);
       } in
-      let all = loop_reaches (Filling config least t) filling_ends (λ n s b x q u lt p i. filling_turn n s u p (turned config s b x q u i)) few 0 (empty_section t) b turns rest next (omega arith) start r in
+      let all = loop_reaches (Filling config least t) filling_ends (λ n s b x q u lt p i. filling_turn n s u p (turned config s b x q u i)) few 0
+      (empty_section t) b turns rest next (omega arith) start r in
       omega (arith, all.1, all.2.enough)

@@ -1,5 +1,6 @@
 -- The script of canonical functions is read as them.
-use Rattle.std.proofs.Common.{◌≡◌, ℕ, ◌+◌, ◌<◌, ◌≤◌, ◌^◌, Bool, true, false, List, [], ◌∷◌, ◌++◌, map, length, arith, refl, sym, ap, ◌∙◌, subst, append_assoc, append-nil, nat_eq, nat_lt, Option, None, Some, Decides}
+use Rattle.std.proofs.Common.{◌≡◌, ℕ, ◌+◌, ◌<◌, ◌≤◌, ◌^◌, Bool, true, false, List, [], ◌∷◌, ◌++◌, map, length, arith, refl, sym, ap, ◌∙◌, subst, append_assoc}
+use Rattle.std.proofs.Common.{append-nil, nat_eq, nat_lt, Option, None, Some, Decides}
 use Rattle.std.proofs.lemmas.Bool.Decides.{nat_tests, Decides-eqb}
 use Rattle.std.proofs.lemmas.Option.{slice_get_within}
 use Rattle.std.specs.List.{AllByRecursion}
@@ -46,15 +47,20 @@ Spoken (component_type ds) = Unit {0}
 Spoken (instance_type ds) = Unit {0}
 
 -- Those of a plan can.
-pub types_spoken : (es : List Entry) (own : Scope) (outer : List Scope) (config : Config) (scopes fuel : ℕ) → FormedTypes es own outer → AllByRecursion (λ e. Lasts e config scopes fuel) es → AllByRecursion Spoken es
+pub types_spoken : (es : List Entry) (own : Scope) (outer : List Scope) (config : Config) (scopes fuel : ℕ) → FormedTypes es own outer
+    → AllByRecursion (λ e. Lasts e config scopes fuel) es → AllByRecursion Spoken es
 types_spoken [] own outer config scopes fuel f l = tt
 types_spoken (defined t ∷ es) own outer config scopes fuel f l = (tt, types_spoken es (with_type own (defined t)) outer config scopes fuel f.1 l.1)
-types_spoken (function s ∷ es) own outer config scopes fuel f l = ((f.0.0, l.0.0), types_spoken es (with_type own (function s)) outer config scopes fuel f.1 l.1)
-types_spoken (component_type ds ∷ es) own outer config scopes fuel f l = (tt, types_spoken es (with_type own (component_type ds)) outer config scopes fuel f.1 l.1)
-types_spoken (instance_type ds ∷ es) own outer config scopes fuel f l = (tt, types_spoken es (with_type own (instance_type ds)) outer config scopes fuel f.1 l.1)
+types_spoken (function s ∷ es) own outer config scopes fuel f l =
+    ((f.0.0, l.0.0), types_spoken es (with_type own (function s)) outer config scopes fuel f.1 l.1)
+types_spoken (component_type ds ∷ es) own outer config scopes fuel f l =
+    (tt, types_spoken es (with_type own (component_type ds)) outer config scopes fuel f.1 l.1)
+types_spoken (instance_type ds ∷ es) own outer config scopes fuel f l =
+    (tt, types_spoken es (with_type own (instance_type ds)) outer config scopes fuel f.1 l.1)
 
 -- the choice of an item that is offered
-item_read : (s : Spaces) (k : ℕ) (b : Bool) (item : CanonItem) (rest : List ℕ) → slice_get (canon_offers s) k ≡ Some (b, item) → b ≡ true → ReadsAmong (canon_items s) (script_among equal.eq (canon_items s) item ++ rest) item rest
+item_read : (s : Spaces) (k : ℕ) (b : Bool) (item : CanonItem) (rest : List ℕ) → slice_get (canon_offers s) k ≡ Some (b, item) → b ≡ true
+    → ReadsAmong (canon_items s) (script_among equal.eq (canon_items s) item ++ rest) item rest
 item_read s k b item rest e t =
     let found = offers_found (canon_offers s) k b item e t in
     let few : length (canon_items s) ≤ 2 = offers_few (canon_offers s) in
@@ -65,12 +71,16 @@ above_zero n h = grind (arith, nat_tests)
 
 module _ (config : Config) (s : Growing) where
   -- a turn of an item that was chosen by its script
-  turn_read : (item : CanonItem) (said rest : List ℕ) (next : Growing) → ReadsAmong (canon_items (spaces_at s)) (script_among equal.eq (canon_items (spaces_at s)) item ++ (said ++ rest)) item (said ++ rest)
-      → ReadsCanon config s item (said ++ rest) rest next → CanonTurn config s ((script_among equal.eq (canon_items (spaces_at s)) item ++ said) ++ rest) item rest next
+  turn_read : (item : CanonItem) (said rest : List ℕ) (next : Growing)
+      → ReadsAmong (canon_items (spaces_at s)) (script_among equal.eq (canon_items (spaces_at s)) item ++ (said ++ rest)) item (said ++ rest)
+      → ReadsCanon config s item (said ++ rest) rest next → CanonTurn config s ((script_among equal.eq (canon_items (spaces_at s)) item ++ said) ++ rest) item
+      rest next
   turn_read item said rest next choice does =
-      subst (λ z. CanonTurn config s z item rest next) (sym (append_assoc (script_among equal.eq (canon_items (spaces_at s)) item) said rest)) (said ++ rest, choice, does)
+      subst (λ z. CanonTurn config s z item rest next) (sym (append_assoc (script_among equal.eq (canon_items (spaces_at s)) item) said rest))
+      (said ++ rest, choice, does)
 
-  lower_read : (f : ℕ) (rest : List ℕ) → FormedCanon (spaces_at s) (lower f) → length (spaces_at s).functions ≤ 2 ^ 64 → CanonTurn config s (script_canon (spaces_at s) (lower f) ++ rest) Lower rest (with_canon s (lower f))
+  lower_read : (f : ℕ) (rest : List ℕ) → FormedCanon (spaces_at s) (lower f) → length (spaces_at s).functions ≤ 2 ^ 64
+      → CanonTurn config s (script_canon (spaces_at s) (lower f) ++ rest) Lower rest (with_canon s (lower f))
   lower_read f rest (signature, has, scalar) few =
       let sp : Spaces = spaces_at s in
       let fs : List ℕ = scalar_functions sp in
@@ -81,7 +91,8 @@ module _ (config : Config) (s : Growing) where
       turn_read Lower said rest (with_canon s (lower f)) (item_read sp 0 _ Lower (said ++ rest) refl (above_zero (length fs) (omega (arith, some))))
       (f, among_read nat_eq Decides-eqb fs f found.0 rest (omega (arith, few, length-places (is_scalar_type sp.types) 0 sp.functions)) found.1, refl)
 
-  lift_read : (c t : ℕ) (rest : List ℕ) → FormedCanon (spaces_at s) (lift c t) → AllByRecursion Spoken (spaces_at s).types → length (spaces_at s).core_functions ≤ 2 ^ 64 → length (spaces_at s).types ≤ 2 ^ 64
+  lift_read : (c t : ℕ) (rest : List ℕ) → FormedCanon (spaces_at s) (lift c t) → AllByRecursion Spoken (spaces_at s).types
+      → length (spaces_at s).core_functions ≤ 2 ^ 64 → length (spaces_at s).types ≤ 2 ^ 64
       → CanonTurn config s (script_canon (spaces_at s) (lift c t) ++ rest) Lift rest (with_canon s (lift c t))
   lift_read c t rest (signature, lowered, f, is, lowers, has, (core, flat, other)) spoken few many =
       let sp : Spaces = spaces_at s in
@@ -107,21 +118,27 @@ module _ (config : Config) (s : Growing) where
         of = has;
         flattens = other;
         reads = lifted_read core signature (d ++ rest) flat said.0 said.1;
-        lifts = to_equal (among_read nat_eq Decides-eqb ts t found.0 rest (omega (arith, many, length-places (is_of_signature signature) 0 sp.types)) found.1) refl;
+        lifts = to_equal (among_read nat_eq Decides-eqb ts t found.0 rest (omega (arith, many, length-places (is_of_signature signature) 0 sp.types)) found.1)
+            refl;
       } in
       let all : ReadsCanon config s Lift (script_canon_rest sp (lift c t) ++ rest) rest (with_canon s (lift c t)) =
       subst (λ z. ReadsCanon config s Lift z rest (with_canon s (lift c t))) (sym (ap (λ z. z ++ rest) which ∙ whole)) does in
-      turn_read Lift (script_canon_rest sp (lift c t)) rest (with_canon s (lift c t)) (item_read sp 1 _ Lift _ refl (above_zero (length sp.core_functions) (omega (arith, below)))) all
+      turn_read Lift (script_canon_rest sp (lift c t)) rest (with_canon s (lift c t))
+      (item_read sp 1 _ Lift _ refl (above_zero (length sp.core_functions) (omega (arith, below)))) all
 
-  canon_read : (c : Canon) (rest : List ℕ) → FormedCanon (spaces_at s) c → AllByRecursion Spoken (spaces_at s).types → functions_at (spaces_at s) ≤ 2 ^ 64 → length (spaces_at s).types ≤ 2 ^ 64
+  canon_read : (c : Canon) (rest : List ℕ) → FormedCanon (spaces_at s) c → AllByRecursion Spoken (spaces_at s).types → functions_at (spaces_at s) ≤ 2 ^ 64
+      → length (spaces_at s).types ≤ 2 ^ 64
       → CanonTurn config s (script_canon (spaces_at s) c ++ rest) (canon_item_of c) rest (with_canon s c)
   canon_read (lift c t) rest h spoken few many = lift_read c t rest h spoken (omega (arith, few)) many
   canon_read (lower f) rest h spoken few many = lower_read f rest h (omega (arith, few))
 
 -- canonical functions in a row
-pub canons_from : (cs : List Canon) (config : Config) (max done : ℕ) (s : Growing) (sp : Spaces) (rest : List ℕ) → spaces_at s ≡ sp → FormedCanons cs sp → AllByRecursion Spoken sp.types → length sp.types ≤ 2 ^ 64 → functions_at sp + length cs ≤ 2 ^ 64 → done + length cs ≤ max
-    → Loop NoCanon (CanonTurn config) 0 max done s (script_loop script_canon after_canon 0 max done sp cs ++ rest) (map canon_item_of cs) rest (record { before = s.before; funcs = s.funcs ++ cs })
-canons_from [] config max done s sp rest e formed spoken many few fits = no_more (end_read 0 max done rest (omega arith) (omega (arith, fits))) (λ i. record { before = s.before; funcs = append-nil s.funcs i })
+pub canons_from : (cs : List Canon) (config : Config) (max done : ℕ) (s : Growing) (sp : Spaces) (rest : List ℕ) → spaces_at s ≡ sp → FormedCanons cs sp
+    → AllByRecursion Spoken sp.types → length sp.types ≤ 2 ^ 64 → functions_at sp + length cs ≤ 2 ^ 64 → done + length cs ≤ max
+    → Loop NoCanon (CanonTurn config) 0 max done s (script_loop script_canon after_canon 0 max done sp cs ++ rest) (map canon_item_of cs) rest
+    (record { before = s.before; funcs = s.funcs ++ cs })
+canons_from [] config max done s sp rest e formed spoken many few fits =
+    no_more (end_read 0 max done rest (omega arith) (omega (arith, fits))) (λ i. record { before = s.before; funcs = append-nil s.funcs i })
 canons_from (c ∷ cs) config max done s sp rest e formed spoken many few fits =
     let next : Growing = with_canon s c in
     let later : List ℕ = script_loop script_canon after_canon 0 max (done + 1) (after_canon sp c) cs in
@@ -130,13 +147,17 @@ canons_from (c ∷ cs) config max done s sp rest e formed spoken many few fits =
     let F : Spaces → Type 0 = λ z. FormedCanon z c in
     let T : Spaces → Type 0 = λ z. AllByRecursion Spoken z.types in
     let C : Spaces → Type 0 = λ z. CanonTurn config s (script_canon z c ++ (later ++ rest)) (canon_item_of c) (later ++ rest) next in
-    let one = subst C e (canon_read config s c (later ++ rest) (subst F (sym e) formed.0) (subst T (sym e) spoken) (omega (arith, few, ap functions_at e)) (omega (arith, many, ap (λ (z : Spaces). length z.types) e))) in
+    let one = subst C e (canon_read config s c (later ++ rest) (subst F (sym e) formed.0) (subst T (sym e) spoken) (omega (arith, few, ap functions_at e))
+    (omega (arith, many, ap (λ (z : Spaces). length z.types) e))) in
     let then : spaces_at next ≡ after_canon sp c = spaces_canon s.before s.funcs c ∙ ap (λ z. after_canon z c) e in
     let keep = canon_keeps sp c in
     let more =
     canons_from cs config max (done + 1) next (after_canon sp c) rest then formed.1 (subst (AllByRecursion Spoken) (sym keep.types) spoken)
     (omega (arith, many, ap length keep.types)) (omega (arith, few, functions_after sp c)) (omega (arith, fits)) in
-    let whole : ((says ++ said) ++ later) ++ rest ≡ says ++ (said ++ (later ++ rest)) = append_assoc (says ++ said) later rest ∙ append_assoc says said (later ++ rest) in
-    let G : List Canon → Type 0 = λ z. Loop NoCanon (CanonTurn config) 0 max done s (((says ++ said) ++ later) ++ rest) (map canon_item_of (c ∷ cs)) rest (record { before = s.before; funcs = z }) in
-    let B : List ℕ → Type 0 = λ z. Loop NoCanon (CanonTurn config) 0 max done s z (map canon_item_of (c ∷ cs)) rest (record { before = s.before; funcs = (s.funcs ++ c ∷ []) ++ cs }) in
+    let whole : ((says ++ said) ++ later) ++ rest ≡ says ++ (said ++ (later ++ rest)) = append_assoc (says ++ said) later rest
+    ∙ append_assoc says said (later ++ rest) in
+    let G : List Canon → Type 0 = λ z. Loop NoCanon (CanonTurn config) 0 max done s (((says ++ said) ++ later) ++ rest) (map canon_item_of (c ∷ cs)) rest
+    (record { before = s.before; funcs = z }) in
+    let B : List ℕ → Type 0 = λ z. Loop NoCanon (CanonTurn config) 0 max done s z (map canon_item_of (c ∷ cs)) rest
+    (record { before = s.before; funcs = (s.funcs ++ c ∷ []) ++ cs }) in
     subst G (append_assoc s.funcs (c ∷ []) cs) (subst B (sym whole) (an_item (more_read 0 max done (said ++ (later ++ rest)) (omega (arith, fits))) one more))

@@ -11,7 +11,8 @@ use Rattle.smith_syntax.specs.Flat.{Flattens}
 use Rattle.smith_syntax.proofs.Flat.{flattens_same}
 use Rattle.smith_types.proofs.LiftedSame.{lifted_same}
 use Rattle.smith_types.specs.Lifting.{ReadsLifted}
-use Rattle.smith_component.specs.Canonicals.{Growing, spaces_at, with_canon, LiftsTo, to_equal, to_defined, given_up, ReadsLift, ReadsCanon, CanonTurn, NoCanon, empty_section, ReadsCanons}
+use Rattle.smith_component.specs.Canonicals.{Growing, spaces_at, with_canon, LiftsTo, to_equal, to_defined, given_up, ReadsLift, ReadsCanon, CanonTurn, NoCanon}
+use Rattle.smith_component.specs.Canonicals.{empty_section, ReadsCanons}
 use Rattle.smith_component.specs.Tree.{lift, lower, Tree}
 use Rattle.smith_component.specs.Spaces.{Spaces}
 use Rattle.smith_component.specs.WellFormed.{HasSignature}
@@ -25,7 +26,8 @@ signature_same {s} {f} {a} {b} x y =
     let g : Some (function a) ≡ Some (function b) = sym x.is ∙ (ap (slice_get s.types) t ∙ y.is) in
     cc
 
-lifts_same : {config : Config} {s : Growing} {c : ℕ} {signature : Signature} {b r q : List ℕ} {t u : Growing} → LiftsTo config s c signature b r t → LiftsTo config s c signature b q u → (r ≡ q) × (t ≡ u)
+lifts_same : {config : Config} {s : Growing} {c : ℕ} {signature : Signature} {b r q : List ℕ} {t u : Growing} → LiftsTo config s c signature b r t
+    → LiftsTo config s c signature b q u → (r ≡ q) × (t ≡ u)
 lifts_same {s = s} {c = c} (to_equal a e) (to_equal d f) = let n = among_same a d in (n.1, e ∙ (ap (λ z. with_canon s (lift c z)) n.0 ∙ sym f))
 lifts_same (to_equal a e) (to_defined none room l f) = absurd (among_none none a)
 lifts_same (to_equal a e) (given_up none full l f) = absurd (among_none none a)
@@ -52,11 +54,13 @@ module _ (config : Config) where
       let L : List ℕ → Type 0 = λ z. LiftsTo config s y.c y.signature z r t in
       lifts_same (subst L g.1 (subst S g.0 (subst C c.0 x.lifts))) y.lifts
 
-  canon_same : (s : Growing) (item : CanonItem) (b r q : List ℕ) (t u : Growing) → ReadsCanon config s item b r t → ReadsCanon config s item b q u → (r ≡ q) × (t ≡ u)
+  canon_same : (s : Growing) (item : CanonItem) (b r q : List ℕ) (t u : Growing) → ReadsCanon config s item b r t → ReadsCanon config s item b q u
+      → (r ≡ q) × (t ≡ u)
   canon_same s Lower b r q t u (f, a, e) (g, c, d) = let n = among_same a c in (n.1, e ∙ (ap (λ z. with_canon s (lower z)) n.0 ∙ sym d))
   canon_same s Lift b r q t u x y = lift_same x y
 
-  turn_same : (s : Growing) (b : List ℕ) (x y : CanonItem) (r q : List ℕ) (t u : Growing) → CanonTurn config s b x r t → CanonTurn config s b y q u → (x ≡ y) × (r ≡ q) × (t ≡ u)
+  turn_same : (s : Growing) (b : List ℕ) (x y : CanonItem) (r q : List ℕ) (t u : Growing) → CanonTurn config s b x r t → CanonTurn config s b y q u
+      → (x ≡ y) × (r ≡ q) × (t ≡ u)
   turn_same s b x y r q t u (mid, c, does) (low, d, other) =
       let n = among_same c d in
       let P : CanonItem → Type 0 = λ z. ReadsCanon config s z mid r t in
@@ -67,6 +71,7 @@ module _ (config : Config) where
   none_apart : (s : Growing) (b : List ℕ) (x : CanonItem) (r q : List ℕ) (t u : Growing) → NoCanon s b r t → CanonTurn config s b x q u → ⊥
   none_apart s b x r q t u (none, left, e) (mid, c, does) = among_none none c
 
-  pub canons_same : {min : ℕ} {before : Tree} {b r q : List ℕ} {xs ys : List CanonItem} {t u : Growing} → ReadsCanons config min before b xs r t → ReadsCanons config min before b ys q u → (r ≡ q) × (t ≡ u)
+  pub canons_same : {min : ℕ} {before : Tree} {b r q : List ℕ} {xs ys : List CanonItem} {t u : Growing} → ReadsCanons config min before b xs r t
+      → ReadsCanons config min before b ys q u → (r ≡ q) × (t ≡ u)
   canons_same {before = before} {b = b} {r = r} {q = q} {xs = xs} {ys = ys} {t = t} {u = u} x y =
       let d = loop_same (λ s c v p t w e f. (e.1 ∙ sym f.1, e.2 ∙ sym f.2)) none_apart turn_same 0 (empty_section before) b xs ys r q t u x y in (d.1, d.2)

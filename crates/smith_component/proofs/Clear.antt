@@ -4,7 +4,8 @@ use Rattle.std.specs.List.{starts_with}
 use Rattle.smith_format.specs.Clear.{Agree, IsClear, IsExact}
 use Rattle.smith_core.specs.Preamble.{core_preamble}
 use Rattle.smith_format.specs.Piece.{Piece, ◌⊕◌, byte, bytes, raw, text, many, u}
-use Rattle.smith_format.proofs.Clear.{tail, then_head, then_tail, then_agree, clash, exact, exact_both, exact_raw, clear_u, clear_text, clear_many, same_section, section_head}
+use Rattle.smith_format.proofs.Clear.{tail, then_head, then_tail, then_agree, clash, exact, exact_both, exact_raw, clear_u, clear_text, clear_many}
+use Rattle.smith_format.proofs.Clear.{same_section, section_head}
 use Rattle.smith_format.proofs.Piece.{raw_whole}
 use Rattle.smith_syntax.specs.Grammar.{entry, core_entry, import_entry}
 use Rattle.smith_syntax.proofs.Clear.{clear_core_entry}
@@ -80,7 +81,10 @@ mutual
       record { same = ap core_module (embedded_whole m t.contents t.first ∙ sym (embedded_whole n t.contents t.second)); rests = t.rests }
   part_law (core_types ts) (core_types us) p q b e h =
       let t = same_section 3 (many core_entry ts) (many core_entry us) p q b e h in
-      record { same = ap core_types ((exact (many core_entry) (clear_many core_entry clear_core_entry)).law ts us t.contents t.first t.second); rests = t.rests }
+      record {
+        same = ap core_types ((exact (many core_entry) (clear_many core_entry clear_core_entry)).law ts us t.contents t.first t.second);
+        rests = t.rests;
+      }
   part_law (component t) (component r) p q b e h =
       let x = same_section 4 (bytes preamble ⊕ parts t) (bytes preamble ⊕ parts r) p q b e h in
       let y = tail preamble (parts t) (parts r) x.contents x.first x.second in
@@ -93,7 +97,10 @@ mutual
       record { same = ap canons ((exact (many canon) (clear_many canon clear_canon)).law fs gs t.contents t.first t.second); rests = t.rests }
   part_law (imports is) (imports js) p q b e h =
       let t = same_section 10 (many import_entry is) (many import_entry js) p q b e h in
-      record { same = ap imports ((exact (many import_entry) (clear_many import_entry clear_import_entry)).law is js t.contents t.first t.second); rests = t.rests }
+      record {
+        same = ap imports ((exact (many import_entry) (clear_many import_entry clear_import_entry)).law is js t.contents t.first t.second);
+        rests = t.rests;
+      }
   part_law x y p q b e h = let c = same_part_tag x y p q b e h in absurd (omega arith)
 
   parts_law : (t r : Tree) (b : List ℕ) → parts t ≡ Some b → parts r ≡ Some b → t ≡ r

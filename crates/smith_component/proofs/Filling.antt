@@ -12,7 +12,7 @@ use Rattle.smith_component.specs.Open.{Open, with_inner}
 use Rattle.smith_component.specs.Tables.{IsGrounded}
 use Rattle.smith_component.specs.Spaces.{function_count, spaces_of, types_of}
 use Rattle.smith_component.specs.Tree.{Tree, types, imports, add, imports_of, imports_in}
-use Rattle.smith_component.specs.Turn.{Fills, Lacks, of_imports, of_functions}
+use Rattle.smith_component.specs.Fills.{Fills, Lacks, of_imports, of_functions}
 use Rattle.smith_component.specs.declared.item.Counted.{Counted}
 use Rattle.smith_component.specs.declared.item.Counted.TheVariants as counted
 use Rattle.smith_component.proofs.CanonsEnough.{canons_enough}
@@ -21,14 +21,17 @@ use Rattle.smith_component.proofs.Growth.{extends-add, functions_at, functions_g
 use Rattle.smith_component.proofs.Tree.{length-own-add}
 
 -- where there are enough, nothing is filled
-fill_none : (what : Counted) (config : Config) (stack : Open) (b : List ℕ) (t : Tree) (rest : List ℕ) → minimum_of what config ≤ count_of what stack.inner → Fills what config stack b t rest → (t ≡ stack.inner) × (rest ≡ b)
+fill_none : (what : Counted) (config : Config) (stack : Open) (b : List ℕ) (t : Tree) (rest : List ℕ) → minimum_of what config ≤ count_of what stack.inner
+    → Fills what config stack b t rest → (t ≡ stack.inner) × (rest ≡ b)
 fill_none what config stack b t rest few (inl (h, e, l)) = (e, l)
 fill_none what config stack b t rest few (inr (lacks, a)) = absurd (omega (arith, few, lacks))
 
 module _ (config : Config) where
   -- types and imports, where neither lack
-  neither : (stack : Open) (b : List ℕ) (typed : Tree) (mid : List ℕ) (imported : Tree) (low : List ℕ) → config.min_types ≤ length (types_of stack.inner) → config.min_imports ≤ length (imports_of stack.inner)
-      → Fills counted.Types config stack b typed mid → Fills counted.Imports config (with_inner stack typed) mid imported low → (imported ≡ stack.inner) × (low ≡ b)
+  neither : (stack : Open) (b : List ℕ) (typed : Tree) (mid : List ℕ) (imported : Tree) (low : List ℕ) → config.min_types ≤ length (types_of stack.inner)
+      → config.min_imports ≤ length (imports_of stack.inner)
+      → Fills counted.Types config stack b typed mid → Fills counted.Imports config (with_inner stack typed) mid imported low
+      → (imported ≡ stack.inner) × (low ≡ b)
   neither stack b typed mid imported low few_types few_imports ts is =
       let t = fill_none counted.Types config stack b typed mid few_types ts in
       let few : config.min_imports ≤ length (imports_of typed) = subst (λ x. config.min_imports ≤ length (imports_of x)) (sym t.0) few_imports in
@@ -75,21 +78,27 @@ module _ (config : Config) where
   }
   typed_is stack b typed mid (inr (lacks, (xs, scope, reads, e))) = with_types stack.inner typed xs e
 
-  imported_is : (stack : Open) (b : List ℕ) (imported : Tree) (low : List ℕ) → Fills counted.Imports config stack b imported low → IsImported stack.inner imported
-  imported_is stack b imported low (inl (few, e, l)) = record { imports = omega (arith, ap (λ t. length (imports_of t)) e); functions = omega (arith, ap (λ t. function_count t) e) }
+  imported_is : (stack : Open) (b : List ℕ) (imported : Tree) (low : List ℕ) → Fills counted.Imports config stack b imported low
+      → IsImported stack.inner imported
+  imported_is stack b imported low (inl (few, e, l)) = record
+      { imports = omega (arith, ap (λ t. length (imports_of t)) e); functions = omega (arith, ap (λ t. function_count t) e) }
   imported_is stack b imported low (inr (lacks, (is, reads, e))) = with_imports stack.inner imported is e
 
   -- Imports that are enough lack nowhere.
-  enough_imports : (stack : Open) (b : List ℕ) (typed : Tree) (mid : List ℕ) (imported : Tree) (low : List ℕ) → config.min_imports ≤ length (imports_of stack.inner)
-      → Fills counted.Types config stack b typed mid → Fills counted.Imports config (with_inner stack typed) mid imported low → length (imports_of imported) < config.min_imports → ⊥
+  enough_imports : (stack : Open) (b : List ℕ) (typed : Tree) (mid : List ℕ) (imported : Tree) (low : List ℕ)
+      → config.min_imports ≤ length (imports_of stack.inner)
+      → Fills counted.Types config stack b typed mid → Fills counted.Imports config (with_inner stack typed) mid imported low
+      → length (imports_of imported) < config.min_imports → ⊥
   enough_imports stack b typed mid imported low few ts is less =
       let t = typed_is stack b typed mid ts in
       let i = imported_is (with_inner stack typed) mid imported low is in
       omega (arith, few, less, t.imports, i.imports)
 
   -- Nor do functions.
-  enough_functions : (stack : Open) (b : List ℕ) (typed : Tree) (mid : List ℕ) (imported : Tree) (low : List ℕ) (full : Tree) (rest : List ℕ) → config.min_funcs ≤ function_count stack.inner
-      → Fills counted.Types config stack b typed mid → Fills counted.Imports config (with_inner stack typed) mid imported low → Fills counted.Functions config (with_inner stack imported) low full rest → function_count full < config.min_funcs → ⊥
+  enough_functions : (stack : Open) (b : List ℕ) (typed : Tree) (mid : List ℕ) (imported : Tree) (low : List ℕ) (full : Tree) (rest : List ℕ)
+      → config.min_funcs ≤ function_count stack.inner
+      → Fills counted.Types config stack b typed mid → Fills counted.Imports config (with_inner stack typed) mid imported low
+      → Fills counted.Functions config (with_inner stack imported) low full rest → function_count full < config.min_funcs → ⊥
   enough_functions stack b typed mid imported low full rest few ts is fs less =
       let t = typed_is stack b typed mid ts in
       let i = imported_is (with_inner stack typed) mid imported low is in
@@ -98,30 +107,38 @@ module _ (config : Config) where
       omega (arith, enough, less, ap (λ t. function_count t) same.0)
 
 filled_imports : (config : Config) (stack : Open) (b : List ℕ) (imported : Tree) (low : List ℕ) → IsConsistent config → 0 < func_types stack.inner
-    → function_count stack.inner + (config.min_imports - length (imports_of stack.inner)) ≤ config.max_funcs → Fills counted.Imports config stack b imported low → length (imports_of imported) < config.min_imports → ⊥
+    → function_count stack.inner + (config.min_imports - length (imports_of stack.inner)) ≤ config.max_funcs → Fills counted.Imports config stack b imported low
+    → length (imports_of imported) < config.min_imports → ⊥
 filled_imports config stack b imported low consistent some room (inl (few, e, l)) less = omega (arith, few, less, ap (λ t. length (imports_of t)) e)
 filled_imports config stack b imported low consistent some room (inr (lacks, (is, reads, e))) less =
     let enough = imports_enough config stack some room (omega (arith, consistent.imports_cross)) reads in
     omega (arith, enough, less, ap (λ t. length (imports_of t)) e, length-own-add imports_in stack.inner (imports is))
 
-filled_functions : (config : Config) (stack : Open) (b : List ℕ) (full : Tree) (rest : List ℕ) → IsConsistent config → IsGrounded stack.inner → 0 < length (scalar_functions (spaces_of stack.inner))
-    → length (types_of stack.inner) + (config.min_funcs - function_count stack.inner) ≤ config.max_types → Fills counted.Functions config stack b full rest → function_count full < config.min_funcs → ⊥
+filled_functions : (config : Config) (stack : Open) (b : List ℕ) (full : Tree) (rest : List ℕ) → IsConsistent config → IsGrounded stack.inner
+    → 0 < length (scalar_functions (spaces_of stack.inner))
+    → length (types_of stack.inner) + (config.min_funcs - function_count stack.inner) ≤ config.max_types → Fills counted.Functions config stack b full rest
+    → function_count full < config.min_funcs → ⊥
 filled_functions config stack b full rest consistent grounded some room (inl (few, e, l)) less = omega (arith, few, less, ap (λ t. function_count t) e)
 filled_functions config stack b full rest consistent grounded some room (inr (lacks, (turns, next, reads, e))) less =
-    let enough = canons_enough config (config.min_funcs - function_count stack.inner) stack.inner reads grounded (omega (arith, consistent.funcs_cross)) some room in
+    let enough = canons_enough config (config.min_funcs - function_count stack.inner) stack.inner reads grounded (omega (arith, consistent.funcs_cross)) some
+    room in
     omega (arith, enough, less, ap (λ t. function_count t) e)
 
 -- Nothing lacks where it can be filled.
-pub filled_surely : (config : Config) (stack : Open) (b : List ℕ) → IsConsistent config → IsGrounded stack.inner → CanFill config stack.inner → Lacks config stack b → ⊥
-filled_surely config stack b consistent grounded (inl enough) (of_imports {typed} {imported} {mid} {low} ts is less) = enough_imports config stack b typed mid imported low enough.imports ts is less
+pub filled_surely : (config : Config) (stack : Open) (b : List ℕ) → IsConsistent config → IsGrounded stack.inner → CanFill config stack.inner
+    → Lacks config stack b → ⊥
+filled_surely config stack b consistent grounded (inl enough) (of_imports {typed} {imported} {mid} {low} ts is less) =
+    enough_imports config stack b typed mid imported low enough.imports ts is less
 filled_surely config stack b consistent grounded (inl enough) (of_functions {typed} {imported} {full} {mid} {low} {rest} ts is some fs less) =
     enough_functions config stack b typed mid imported low full rest enough.functions ts is fs less
 filled_surely config stack b consistent grounded (inr (inl can)) (of_imports {typed} {imported} {mid} {low} ts is less) =
     let t = typed_is config stack b typed mid ts in
-    filled_imports config (with_inner stack typed) mid imported low consistent (omega (arith, can.has_type, t.types)) (omega (arith, can.room, t.functions, t.imports)) is less
+    filled_imports config (with_inner stack typed) mid imported low consistent (omega (arith, can.has_type, t.types))
+    (omega (arith, can.room, t.functions, t.imports)) is less
 filled_surely config stack b consistent grounded (inr (inl can)) (of_functions {typed} {imported} {full} {mid} {low} {rest} ts is some fs less) =
     enough_functions config stack b typed mid imported low full rest can.functions ts is fs less
-filled_surely config stack b consistent grounded (inr (inr can)) (of_imports {typed} {imported} {mid} {low} ts is less) = enough_imports config stack b typed mid imported low can.imports ts is less
+filled_surely config stack b consistent grounded (inr (inr can)) (of_imports {typed} {imported} {mid} {low} ts is less) =
+    enough_imports config stack b typed mid imported low can.imports ts is less
 filled_surely config stack b consistent grounded (inr (inr can)) (of_functions {typed} {imported} {full} {mid} {low} {rest} ts is some fs less) =
     let e = neither config stack b typed mid imported low can.types can.imports ts is in
     let P : Tree → Type 0 = λ u. Fills counted.Functions config (with_inner stack u) low full rest in

@@ -15,7 +15,8 @@ use Rattle.smith_component.specs.Steps.{AddsSections, ClosesSections, KeepsSecti
 use Rattle.smith_component.specs.Spaces.{spaces_of, types_of}
 use Rattle.smith_component.specs.Tree.{Tree, types, imports, imports_of}
 use Rattle.smith_component.specs.Refusals.{IsFillRefusal}
-use Rattle.smith_component.specs.Turn.{Closes, Fills, FillsAll, Next}
+use Rattle.smith_component.specs.Turn.{Closes, Next}
+use Rattle.smith_component.specs.Fills.{Fills, FillsAll}
 use Rattle.smith_component.specs.declared.builder.Step.{Step}
 use Rattle.smith_component.specs.declared.builder.Step.TheVariants.{StillBuilding, Finished}
 use Rattle.smith_component.specs.declared.component.Section.{Section}
@@ -40,13 +41,15 @@ adds_trans {a} {b} {c} f g = record {
 }
 
 -- A fact of a builder with the same components around its inner one.
-pub moved : (F : Config → Open → Type 0) (a b : Building) → b.config ≡ a.config → b.outer ≡ a.outer → F b.config (open_of b) → F a.config (with_inner (open_of a) (open_of b).inner)
+pub moved : (F : Config → Open → Type 0) (a b : Building) → b.config ≡ a.config → b.outer ≡ a.outer → F b.config (open_of b)
+    → F a.config (with_inner (open_of a) (open_of b).inner)
 moved F a b c o f =
     let G : List (List Section) → Type 0 = λ us. F b.config (record { outer = map shown_sections us; inner = shown_sections b.inner }) in
     subst (λ k. F k (with_inner (open_of a) (open_of b).inner)) c (subst G o f)
 
 -- Types that are filled are as many as they must be.
-filled_types : (config : Config) (stack : Open) (b rest : List ℕ) (t : Tree) → IsConsistent config → Fills counted.Types config stack b t rest → config.min_types ≤ length (types_of t)
+filled_types : (config : Config) (stack : Open) (b rest : List ℕ) (t : Tree) → IsConsistent config → Fills counted.Types config stack b t rest
+    → config.min_types ≤ length (types_of t)
 filled_types config stack b rest t consistent (inl (enough, same, left)) = omega (arith, enough, ap (λ u. length (types_of u)) same)
 filled_types config stack b rest t consistent (inr (lacks, (xs, scope, reads, e))) =
     let room : config.min_types - length (types_of stack.inner) ≤ config.max_types - length (types_of stack.inner) = omega (arith, consistent.types_cross) in
@@ -58,14 +61,16 @@ imports_types config stack b rest t (inl (enough, same, left)) = ap types_of sam
 imports_types config stack b rest t (inr (lacks, (is, reads, e))) =
     ap types_of e ∙ (ap (λ s. s.types) (spaces-add stack.inner (imports is)) ∙ (imports_keep (spaces_of stack.inner) is).types)
 
-functions_keep : (config : Config) (stack : Open) (b rest : List ℕ) (t : Tree) → Fills counted.Functions config stack b t rest → (imports_of t ≡ imports_of stack.inner) × (length (types_of stack.inner) ≤ length (types_of t))
+functions_keep : (config : Config) (stack : Open) (b rest : List ℕ) (t : Tree) → Fills counted.Functions config stack b t rest
+    → (imports_of t ≡ imports_of stack.inner) × (length (types_of stack.inner) ≤ length (types_of t))
 functions_keep config stack b rest t (inl (enough, same, left)) = (ap imports_of same, omega (arith, ap (λ u. length (types_of u)) same))
 functions_keep config stack b rest t (inr (lacks, (turns, next, reads, e))) =
     let g = canons_grow config _ stack.inner reads in
     (ap imports_of e ∙ g.0, omega (arith, g.2, ap (λ u. length (types_of u)) e))
 
 -- What is filled has what it must have.
-pub filled_minima : (config : Config) (stack : Open) (b rest : List ℕ) (full : Tree) → IsConsistent config → FillsAll config stack b full rest → Minima config full
+pub filled_minima : (config : Config) (stack : Open) (b rest : List ℕ) (full : Tree) → IsConsistent config → FillsAll config stack b full rest
+    → Minima config full
 filled_minima config stack b rest full consistent f =
     let h = filled_types config stack _ _ f.typed consistent f.types in
     let i = imports_types config (with_inner stack f.typed) _ _ f.imported f.imports in

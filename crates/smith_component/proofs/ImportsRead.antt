@@ -1,5 +1,6 @@
 -- The script of imports is read as them.
-use Rattle.std.proofs.Common.{◌≡◌, ℕ, ◌+◌, ◌-◌, ◌<◌, ◌≤◌, ◌^◌, true, false, List, [], ◌∷◌, ◌++◌, map, length, arith, refl, sym, ap, ◌∙◌, subst, append_assoc, append-nil, nat_lt, None}
+use Rattle.std.proofs.Common.{◌≡◌, ℕ, ◌+◌, ◌-◌, ◌<◌, ◌≤◌, ◌^◌, true, false, List, [], ◌∷◌, ◌++◌, map, length, arith, refl, sym, ap, ◌∙◌, subst, append_assoc}
+use Rattle.std.proofs.Common.{append-nil, nat_lt, None}
 use Rattle.std.proofs.lemmas.Bool.Decides.{nat_tests}
 use Rattle.std.proofs.lemmas.List.{map-append}
 use Rattle.std.specs.List.{AllByRecursion}
@@ -28,7 +29,7 @@ use Rattle.smith_component.specs.Script.{script_import, script_imports, IsPlanIm
 use Rattle.smith_component.specs.Spaces.{core_types_of, types_of}
 use Rattle.smith_component.specs.Tree.{module_of, function_of, component_of, instance_of, imports_of}
 use Rattle.smith_component.specs.WellFormed.{FormedImport, import_names, scope_of}
-use Rattle.smith_component.proofs.Importing.{modules_more, funcs_more, components_more, instances_more}
+use Rattle.smith_component.proofs.ImportsState.{modules_more, funcs_more, components_more, instances_more}
 use Rattle.smith_component.proofs.Tables.{import_names_more}
 
 -- names with no URLs
@@ -73,7 +74,8 @@ module _ (config : Config) (stack : Open) (few : length (types_of stack.inner) +
     new : is_among (names_with s) x.name ≡ false
     room : IsAllowed config (scope_of stack.inner) (totals_at s) true false x.to
 
-  import_read : (s : List ImportEntry) (x : ImportEntry) (rest : List ℕ) → Sayable s x → ReadsImport config stack s (script_import config stack s x ++ rest) x rest (s ++ x ∷ [])
+  import_read : (s : List ImportEntry) (x : ImportEntry) (rest : List ℕ) → Sayable s x
+      → ReadsImport config stack s (script_import config stack s x ++ rest) x rest (s ++ x ∷ [])
   import_read s x rest h =
       let a : List ℕ = script_ref config (scope_of stack.inner) (totals_at s) true false x.to in
       let n : List ℕ = script_name 100 x.name in
@@ -98,7 +100,8 @@ module _ (config : Config) (stack : Open) (few : length (types_of stack.inner) +
   room_before : (s xs : List ImportEntry) → Room config (totals_at (s ++ xs)) → Room config (totals_at s)
   room_before s [] r = subst (λ z. Room config (totals_at z)) (append-nil s) r
   room_before s (x ∷ xs) r =
-      let next : Room config (totals_at (s ++ x ∷ [])) = room_before (s ++ x ∷ []) xs (subst (λ z. Room config (totals_at z)) (sym (append_assoc s (x ∷ []) xs)) r) in
+      let next : Room config (totals_at (s ++ x ∷ [])) = room_before (s ++ x ∷ []) xs
+      (subst (λ z. Room config (totals_at z)) (sym (append_assoc s (x ∷ []) xs)) r) in
       record {
         modules = omega (arith, next.modules, modules_more stack s x);
         funcs = omega (arith, next.funcs, funcs_more stack s x);
@@ -109,14 +112,16 @@ module _ (config : Config) (stack : Open) (few : length (types_of stack.inner) +
   below : (n m : ℕ) → n < m → nat_lt n m ≡ true
   below n m h = grind (arith, nat_tests)
 
-  one_allowed : (s : List ImportEntry) (x : ImportEntry) (r : ComponentTypeRef) → x.to ≡ r → is_type_eq r ≡ false → Room config (totals_at (s ++ x ∷ [])) → IsAllowed config (scope_of stack.inner) (totals_at s) true false r
+  one_allowed : (s : List ImportEntry) (x : ImportEntry) (r : ComponentTypeRef) → x.to ≡ r → is_type_eq r ≡ false → Room config (totals_at (s ++ x ∷ []))
+      → IsAllowed config (scope_of stack.inner) (totals_at s) true false r
   one_allowed s x (to.Module i) e f r = below _ _ (omega (arith, r.modules, modules_more stack s x, ap (λ z. length (module_of z)) e))
   one_allowed s x (to.TypeEq i) e f r = absurd (cc)
   one_allowed s x (to.Func i) e f r = below _ _ (omega (arith, r.funcs, funcs_more stack s x, ap (λ z. length (function_of z)) e))
   one_allowed s x (to.Component i) e f r = below _ _ (omega (arith, r.components, components_more stack s x, ap (λ z. length (component_of z)) e))
   one_allowed s x (to.Instance i) e f r = below _ _ (omega (arith, r.instances, instances_more stack s x, ap (λ z. length (instance_of z)) e))
 
-  all_sayable : (s xs : List ImportEntry) → AllByRecursion IsPlanImport xs → AllByRecursion (FormedImport (scope_of stack.inner)) xs → AllByRecursion Kebab (import_names xs) → AreNew (names_with s) (import_names xs)
+  all_sayable : (s xs : List ImportEntry) → AllByRecursion IsPlanImport xs → AllByRecursion (FormedImport (scope_of stack.inner)) xs
+      → AllByRecursion Kebab (import_names xs) → AreNew (names_with s) (import_names xs)
       → Room config (totals_at (s ++ xs)) → Along Sayable (λ t x. t ++ x ∷ []) s xs
   all_sayable s [] p f k n h = tt
   all_sayable s (x ∷ xs) p f k n h =
@@ -131,15 +136,21 @@ module _ (config : Config) (stack : Open) (few : length (types_of stack.inner) +
   all_of_them s (x ∷ xs) = all_of_them (s ++ x ∷ []) xs ∙ append_assoc s (x ∷ []) xs
 
   -- The script of the imports of a plan is read as them.
-  pub imports_read : (is : List ImportEntry) (rest : List ℕ) → AllByRecursion IsPlanImport is → AllByRecursion (FormedImport (scope_of stack.inner)) is → Named (import_names (imports_of stack.inner ++ is)) → Room config (totals_at is)
+  pub imports_read : (is : List ImportEntry) (rest : List ℕ) → AllByRecursion IsPlanImport is → AllByRecursion (FormedImport (scope_of stack.inner)) is
+      → Named (import_names (imports_of stack.inner ++ is)) → Room config (totals_at is)
       → length is ≤ config.max_imports - length (imports_of stack.inner) → ReadsImports config 0 stack (script_imports config stack is ++ rest) is rest
   imports_read is rest planned formed named room fits =
-      let parts : import_names (imports_of stack.inner ++ is) ≡ import_names (imports_of stack.inner) ++ import_names is = map-append (λ i. i.name) (imports_of stack.inner) is in
+      let parts : import_names (imports_of stack.inner ++ is) ≡ import_names (imports_of stack.inner) ++ import_names is =
+      map-append (λ i. i.name) (imports_of stack.inner) is in
       let both : Named (import_names (imports_of stack.inner) ++ import_names is) = subst Named parts named in
       let kebab : AllByRecursion Kebab (import_names is) = all_behind Kebab (import_names (imports_of stack.inner)) (import_names is) both.0 in
-      let new : AreNew (import_names (imports_of stack.inner)) (import_names is) = new_back [] (import_names (imports_of stack.inner)) (import_names is) (distinct_new [] _ (none_before _) both.1) in
-      let first : AreNew (names_with []) (import_names is) = subst (λ z. AreNew (import_names z) (import_names is)) (sym (append-nil (imports_of stack.inner))) new in
+      let new : AreNew (import_names (imports_of stack.inner)) (import_names is) =
+      new_back [] (import_names (imports_of stack.inner)) (import_names is) (distinct_new [] _ (none_before _) both.1) in
+      let first : AreNew (names_with []) (import_names is) =
+      subst (λ z. AreNew (import_names z) (import_names is)) (sym (append-nil (imports_of stack.inner))) new in
       let all = all_sayable [] is planned formed kebab first room in
       let B : List ℕ = script_imports config stack is ++ rest in
-      let L : List ImportEntry → Type 0 = λ t. Loop (NoImport config stack) (ReadsImport config stack) 0 (config.max_imports - length (imports_of stack.inner)) 0 [] B is rest t in
-      subst L (all_of_them [] is) (loop_read (script_import config stack) (λ t x. t ++ x ∷ []) Sayable import_read is 0 [] rest all (omega arith) (omega (arith, fits)))
+      let L : List ImportEntry → Type 0 = λ t. Loop (NoImport config stack) (ReadsImport config stack) 0 (config.max_imports - length (imports_of stack.inner))
+      0 [] B is rest t in
+      subst L (all_of_them [] is) (loop_read (script_import config stack) (λ t x. t ++ x ∷ []) Sayable import_read is 0 [] rest all (omega arith)
+      (omega (arith, fits)))

@@ -27,7 +27,8 @@ url_left {used = used} {r = r} (a_url {name = a} f n e) (a_url g m h) =
     (kebab_unique w.reads m.reads).1
 
 module _ (config : Config) (stack : Open) where
-  import_same : (s : List ImportEntry) (b : List ℕ) (x y : ImportEntry) (r q : List ℕ) (t u : List ImportEntry) → ReadsImport config stack s b x r t → ReadsImport config stack s b y q u → (x ≡ y) × (r ≡ q) × (t ≡ u)
+  import_same : (s : List ImportEntry) (b : List ℕ) (x y : ImportEntry) (r q : List ℕ) (t u : List ImportEntry) → ReadsImport config stack s b x r t
+      → ReadsImport config stack s b y q u → (x ≡ y) × (r ≡ q) × (t ≡ u)
   import_same s b x y r q t u i j =
       let ns : List (List ℕ) = import_names (imports_of stack.inner ++ s) in
       let o = ref_same config (scope_of stack.inner) (totals_of (with_imports stack s)) true false b x.to y.to i.mid j.mid i.of j.of in
@@ -39,9 +40,11 @@ module _ (config : Config) (stack : Open) where
       let left = url_left (subst (λ z. ReadsMaybeUrl (url_names i.so_far) z i.url r) n.1 i.named.url) j.named.url in
       (same, left, i.next_is ∙ (ap (λ z. s ++ z ∷ []) same ∙ sym j.next_is))
 
-  none_apart : (s : List ImportEntry) (b : List ℕ) (x : ImportEntry) (r q : List ℕ) (t u : List ImportEntry) → NoImport config stack s b r t → ReadsImport config stack s b x q u → ⊥
+  none_apart : (s : List ImportEntry) (b : List ℕ) (x : ImportEntry) (r q : List ℕ) (t u : List ImportEntry) → NoImport config stack s b r t
+      → ReadsImport config stack s b x q u → ⊥
   none_apart s b x r q t u (none, left, e) i = among_none none i.of.choice
 
-  pub imports_same : {min : ℕ} {b r q : List ℕ} {is js : List ImportEntry} → ReadsImports config min stack b is r → ReadsImports config min stack b js q → (is ≡ js) × (r ≡ q)
+  pub imports_same : {min : ℕ} {b r q : List ℕ} {is js : List ImportEntry} → ReadsImports config min stack b is r → ReadsImports config min stack b js q
+      → (is ≡ js) × (r ≡ q)
   imports_same {b = b} {r = r} {q = q} {is = is} {js = js} x y =
       let d = loop_same (λ s c v p t w e f. (e.1 ∙ sym f.1, e.2 ∙ sym f.2)) none_apart import_same 0 [] b is js r q is js x y in (d.0, d.1)

@@ -3,13 +3,13 @@ pub mod CanonsRead
 pub mod CanonsSame
 pub mod Clear
 pub mod Decided
-pub mod Draft
+pub mod CanonicalsState
 pub mod Filling
 pub mod Finishing
 pub mod Fits
 pub mod Grammar
 pub mod Growth
-pub mod Importing
+pub mod ImportsState
 pub mod ImportsRead
 pub mod ImportsSame
 pub mod MadeWith

@@ -21,7 +21,9 @@ use Rattle.smith_component.specs.Script.{item_of, script_part, IsPlanPart}
 use Rattle.smith_component.specs.Spaces.{Spaces, after_canon, after_part, core_types_of, function_count, spaces_of, types_of}
 use Rattle.smith_component.specs.Tree.{Canon, Tree, Part, custom, core_types, component, types, canons, imports, add, own, inside, components_in, no_depth}
 use Rattle.smith_component.specs.Tree.{names_in, imports_of, imports_in}
-use Rattle.smith_component.specs.Turn.{Does, FillsAll, ReadsCustom, with_part}
+use Rattle.smith_component.specs.Turn.{Does, with_part}
+use Rattle.smith_component.specs.AddedSections.{ReadsCustom}
+use Rattle.smith_component.specs.Fills.{FillsAll}
 use Rattle.smith_component.specs.WellFormed.{FormedPart, scope_of}
 use Rattle.smith_component.proofs.CanonsRead.{Spoken, canons_from, types_spoken}
 use Rattle.smith_component.proofs.ImportsRead.{imports_read, Room}
@@ -47,7 +49,8 @@ fills_nothing config stack b m = record {
   enough_functions = m.functions;
 }
 
-pub custom_read : (name contents rest : List ℕ) → IsUtf8 name → length name ≤ 1000 → ReadsCustom ((script_text 1000 name ++ script_bytes contents) ++ rest) name contents rest
+pub custom_read : (name contents rest : List ℕ) → IsUtf8 name → length name ≤ 1000
+    → ReadsCustom ((script_text 1000 name ++ script_bytes contents) ++ rest) name contents rest
 custom_read name contents rest utf8 short =
     subst (λ z. ReadsCustom z name contents rest) (sym (append_assoc (script_text 1000 name) (script_bytes contents) rest))
     (script_bytes contents ++ rest, text_read 1000 name (script_bytes contents ++ rest) (omega arith) utf8 short, bytes_read contents rest)
@@ -61,14 +64,16 @@ pub record Around (outer : List Tree) : Type 0 where
   pub few : AllByRecursion (λ (s : Scope). length s.types + length s.core_types ≤ 2 ^ 64) (scopes_in outer)
   pub shallow : suc (length outer) ≤ 1000
 
-few_around : (config : Config) → IsConsistent config → (outer : List Tree) (t : Tree) (scopes : List Scope) → AllByRecursion (λ (s : Scope). length s.types + length s.core_types ≤ 2 ^ 64) scopes → AllByRecursion (OwnLimits config) (all_of (tree_so_far outer t))
+few_around : (config : Config) → IsConsistent config → (outer : List Tree) (t : Tree) (scopes : List Scope)
+    → AllByRecursion (λ (s : Scope). length s.types + length s.core_types ≤ 2 ^ 64) scopes → AllByRecursion (OwnLimits config) (all_of (tree_so_far outer t))
     → AllByRecursion (λ (s : Scope). length s.types + length s.core_types ≤ 2 ^ 64) (scopes_from outer scopes)
 few_around config consistent [] t scopes few each = few
 few_around config consistent (u ∷ us) t scopes few each =
     let x : Tree = tree_so_far us t in
     let own : OwnLimits config u = own_limits-front config u (component x) each.0 in
     let small : length (types_of u) + length (core_types_of u) ≤ 2 ^ 64 = omega (arith, own.types, own.core_types, consistent.types) in
-    few_around config consistent us t (scope_of u ∷ scopes) (small, few) (all_back (OwnLimits config) (inside u) (x ∷ inside x) (subst (AllByRecursion (OwnLimits config)) (anywhere-add components_in u (component x)) each.1))
+    few_around config consistent us t (scope_of u ∷ scopes) (small, few)
+    (all_back (OwnLimits config) (inside u) (x ∷ inside x) (subst (AllByRecursion (OwnLimits config)) (anywhere-add components_in u (component x)) each.1))
 
 around : (config : Config) → IsConsistent config → (outer : List Tree) (t : Tree) → Maxima config (tree_so_far outer t) → Around outer
 around config consistent outer t m =
@@ -83,7 +88,8 @@ module _ (config : Config) (stack : Open) (rest : List ℕ) where
 
   pub custom_part : (name contents : List ℕ) → IsRead (custom name contents)
   custom_part name contents plan formed limits =
-      let short : Short (name ∷ []) = all_back _ (own names_in stack.inner) (name ∷ []) (subst Short (own-add names_in stack.inner (custom name contents)) limits.names) in
+      let short : Short (name ∷ []) = all_back _ (own names_in stack.inner) (name ∷ [])
+      (subst Short (own-add names_in stack.inner (custom name contents)) limits.names) in
       (name, contents, custom_read name contents rest plan short.0, refl)
 
   pub core_types_part : (ts : List CoreEntry) → IsRead (core_types ts)
@@ -91,8 +97,12 @@ module _ (config : Config) (stack : Open) (rest : List ℕ) where
       let fits : Fits config (after_part (spaces_of stack.inner) (core_types ts)) = fits_behind config stack.inner (core_types ts) limits in
       let few : length (core_types_of stack.inner) + length ts ≤ config.max_types =
       omega (arith, fits.core_types, length-append (core_types_of stack.inner) ts) in
-      let limited : AllByRecursion (CoreLimits config) ts = all_back _ (core_types_of stack.inner) ts fits.within_core_types in
-      (ts, _, core_types_read config ts (config.max_types - length (core_types_of stack.inner)) (scope_of stack.inner) rest limited plan (omega (arith, few)), refl)
+      let limited : AllByRecursion (CoreLimits config) ts = all_back _ (core_types_of stack.inner) ts fits.within_core_types in (
+        ts,
+        _,
+        core_types_read config ts (config.max_types - length (core_types_of stack.inner)) (scope_of stack.inner) rest limited plan (omega (arith, few)),
+        refl,
+      )
 
   pub types_part : IsConsistent config → (ts : List Entry) → Maxima config (tree_so_far stack.outer (add stack.inner (types ts))) → IsRead (types ts)
   types_part consistent ts maxima plan formed limits =
@@ -102,17 +112,23 @@ module _ (config : Config) (stack : Open) (rest : List ℕ) where
       let cores : length (core_types_of stack.inner) ≤ config.max_types = fits.core_types in
       let limited : AllByRecursion (EntryLimits config) ts = all_back _ (types_of stack.inner) ts fits.within_types in
       let count : length (scopes_in stack.outer) ≡ length stack.outer = omega (arith, length-scopes_from stack.outer []) in
-      let lasts : AllByRecursion (λ e. Lasts e config (suc (length (scopes_in stack.outer))) config.max_type_size) ts = subst (λ n. AllByRecursion (λ e. Lasts e config (suc n) config.max_type_size) ts) (sym count) plan in
-      let read = types_read config (scopes_in stack.outer) here.few (omega (arith, here.shallow, count)) consistent.nesting ts (config.max_types - length (types_of stack.inner)) (scope_of stack.inner) rest formed limited lasts (omega (arith, few)) (omega (arith, few, cores, consistent.types)) in
+      let lasts : AllByRecursion (λ e. Lasts e config (suc (length (scopes_in stack.outer))) config.max_type_size) ts =
+      subst (λ n. AllByRecursion (λ e. Lasts e config (suc n) config.max_type_size) ts) (sym count) plan in
+      let read = types_read config (scopes_in stack.outer) here.few (omega (arith, here.shallow, count)) consistent.nesting ts
+      (config.max_types - length (types_of stack.inner)) (scope_of stack.inner) rest formed limited lasts (omega (arith, few))
+      (omega (arith, few, cores, consistent.types)) in
       (add stack.inner (types ts), (ts, _, read, refl), refl)
 
-  pub imports_part : IsConsistent config → (is : List ImportEntry) → Maxima config (tree_so_far stack.outer (add stack.inner (imports is))) → IsRead (imports is)
+  pub imports_part : IsConsistent config → (is : List ImportEntry) → Maxima config (tree_so_far stack.outer (add stack.inner (imports is)))
+      → IsRead (imports is)
   imports_part consistent is maxima plan formed limits =
       let before : OwnLimits config stack.inner = own_limits-front config stack.inner (imports is) limits in
       let few : length (types_of stack.inner) + length (core_types_of stack.inner) ≤ 2 ^ 64 =
       omega (arith, consistent.types, before.types, before.core_types) in
-      let room : Room config (totals_of (with_imports stack is)) = record { modules = maxima.modules; funcs = limits.functions; components = maxima.components; instances = maxima.instances } in
-      let fits : length (imports_of stack.inner) + length is ≤ config.max_imports = omega (arith, limits.imports, length-own-add imports_in stack.inner (imports is)) in
+      let room : Room config (totals_of (with_imports stack is)) =
+      record { modules = maxima.modules; funcs = limits.functions; components = maxima.components; instances = maxima.instances } in
+      let fits : length (imports_of stack.inner) + length is ≤ config.max_imports =
+      omega (arith, limits.imports, length-own-add imports_in stack.inner (imports is)) in
       (add stack.inner (imports is), (is, imports_read config stack few is rest plan formed.0 formed.1 room (omega (arith, fits)), refl), refl)
 
   pub canons_part : IsConsistent config → AllByRecursion Spoken (types_of stack.inner) → (fs : List Canon) → IsRead (canons fs)

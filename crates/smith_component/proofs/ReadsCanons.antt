@@ -19,7 +19,8 @@ use Rattle.smith_syntax.specs.WellFormed.{FormedEntry, FormedTypes, size}
 use Rattle.smith_syntax.specs.declared.types.ComponentValType.{ComponentValType}
 use Rattle.smith_syntax.proofs.Flat.{flattens_params}
 use Rattle.smith_types.proofs.Lifting.{lifted_tail, lifted_flattens, lifted_formed}
-use Rattle.smith_component.specs.Canonicals.{Growing, grown, spaces_at, with_canon, with_defined, LiftsTo, to_equal, to_defined, given_up, ReadsLift, CanonTurn, empty_section, ReadsCanons}
+use Rattle.smith_component.specs.Canonicals.{Growing, grown, spaces_at, with_canon, with_defined, LiftsTo, to_equal, to_defined, given_up, ReadsLift, CanonTurn}
+use Rattle.smith_component.specs.Canonicals.{empty_section, ReadsCanons}
 use Rattle.smith_component.specs.Open.{Open, scopes_in, tree_so_far, with_inner}
 use Rattle.smith_component.specs.Sound.{Sound}
 use Rattle.smith_component.specs.Spaces.{Spaces, after_part, core_types_of, function_count, spaces_of, types_of}
@@ -41,7 +42,8 @@ use Rattle.smith_component.proofs.WellFormed.{formed_front}
 module _ {S A : Type 0} {Ends : S → List ℕ → List ℕ → S → Type 0} {Item : S → List ℕ → A → List ℕ → S → Type 0} {least most : ℕ} (P : ℕ → S → Type 0) where
   pub loop_keeps : ((n : ℕ) (s : S) (b r : List ℕ) (t : S) → P n s → Ends s b r t → P n t)
       → ((n : ℕ) (s : S) (b : List ℕ) (x : A) (r : List ℕ) (t : S) → n < most → P n s → Item s b x r t → P (n + 1) t)
-      → (done : ℕ) (s : S) (b : List ℕ) (xs : List A) (rest : List ℕ) (t : S) → done ≤ most → P done s → Loop Ends Item least most done s b xs rest t → (n : ℕ) × (n ≤ most) × P n t
+      → (done : ℕ) (s : S) (b : List ℕ) (xs : List A) (rest : List ℕ) (t : S) → done ≤ most → P done s → Loop Ends Item least most done s b xs rest t
+      → (n : ℕ) × (n ≤ most) × P n t
   loop_keeps over items done s b xs rest t h p (no_more m e) = (done, h, subst (P done) (sym e) p)
   loop_keeps over items done s b xs rest t h p (by_itself {mid = mid} m e) = (done, h, over done s mid rest t p e)
   loop_keeps over items done s b xs rest u h p (an_item {t = t} {mid = mid} {after = after} {x = x} {xs = ys} m i l) =
@@ -106,9 +108,18 @@ same_size : {a b : Signature} {f : Function} → Flattens a f → Flattens b f �
 same_size {a} {b} {f} p q =
     omega (arith, flattens_params p, flattens_params q, one_result a.result f.1 p.result p.one, one_result b.result f.1 q.result q.one)
 
-lift_turned : {config : Config} {s : Growing} {b rest : List ℕ} {next : Growing} (r : ReadsLift config s b rest next) → LiftsTo config s r.c r.signature r.low rest next → Turned config s next
+lift_turned : {config : Config} {s : Growing} {b rest : List ℕ} {next : Growing} (r : ReadsLift config s b rest next)
+    → LiftsTo config s r.c r.signature r.low rest next → Turned config s next
 lift_turned {s = s} r (to_equal {t = t} among e) =
-    adds (lift r.c t) (r.signature, r.lowered, r.f, equal_at (spaces_at s).types r.signature among.place t among.named, r.lowers, r.of, (r.core, lifted_flattens r.reads, r.flattens)) e
+    adds (lift r.c t) (
+      r.signature,
+      r.lowered,
+      r.f,
+      equal_at (spaces_at s).types r.signature among.place t among.named,
+      r.lowers,
+      r.of,
+      (r.core, lifted_flattens r.reads, r.flattens),
+    ) e
 lift_turned r (to_defined none room left e) =
     defines r.c r.signature (record {
       f = r.f;
@@ -122,7 +133,8 @@ lift_turned r (to_defined none room left e) =
     }) e
 lift_turned r (given_up none full left e) = gives_up full e
 
-pub turned : (config : Config) (s : Growing) (b : List ℕ) (item : CanonItem) (rest : List ℕ) (next : Growing) → CanonTurn config s b item rest next → Turned config s next
+pub turned : (config : Config) (s : Growing) (b : List ℕ) (item : CanonItem) (rest : List ℕ) (next : Growing) → CanonTurn config s b item rest next
+    → Turned config s next
 turned config s b Lower rest next (mid, chosen, (f, among, e)) = adds (lower f) (scalar_at (grown s) among.place f among.named) e
 turned config s b Lift rest next (mid, chosen, r) = lift_turned r r.lifts
 
@@ -142,13 +154,19 @@ pub signature_count : (s : Growing) (signature : Signature) → function_count (
 signature_count s signature = ap functions_at (spaces_signature s signature)
 
 signature_types : (s : Growing) (signature : Signature) (n : ℕ) → n ≤ length (types_of (grown s)) → n ≤ length (types_of (grown (with_signature s signature)))
-signature_types s signature n h = omega (arith, h, ap (λ z. length z.types) (spaces_signature s signature), length-append (types_of (grown s)) (function signature ∷ []))
+signature_types s signature n h = omega (
+  arith,
+  h,
+  ap (λ z. length z.types) (spaces_signature s signature),
+  length-append (types_of (grown s)) (function signature ∷ []),
+)
 
 pub empty_count : (t : Tree) → function_count (grown (empty_section t)) ≡ function_count t
 empty_count t = ap functions_at (spaces-add t (canons []))
 
 -- The lift to the type that is defined is formed behind it.
-pub defined_canon : {config : Config} {s : Growing} {c : ℕ} {signature : Signature} → Defines config s c signature → FormedCanon (spaces_at (with_signature s signature)) (lift c (length (spaces_at s).types))
+pub defined_canon : {config : Config} {s : Growing} {c : ℕ} {signature : Signature} → Defines config s c signature
+    → FormedCanon (spaces_at (with_signature s signature)) (lift c (length (spaces_at s).types))
 defined_canon {s = s} {c = c} {signature = signature} d =
     let es : List Entry = function signature ∷ [] in
     let P : Spaces → Type 0 = λ u. FormedCanon u (lift c (length (spaces_at s).types)) in
@@ -166,15 +184,19 @@ turn_keeps P config n s next canon type none p (defines c signature d e) =
 turn_keeps P config n s next canon type none p (gives_up full e) = subst (P (n + 1)) (sym e) (none full p)
 
 -- A turn adds at most one function.
-pub turn_count : (config : Config) (s : Growing) (b : List ℕ) (item : CanonItem) (rest : List ℕ) (next : Growing) → CanonTurn config s b item rest next → function_count (grown next) ≤ function_count (grown s) + 1
+pub turn_count : (config : Config) (s : Growing) (b : List ℕ) (item : CanonItem) (rest : List ℕ) (next : Growing) → CanonTurn config s b item rest next
+    → function_count (grown next) ≤ function_count (grown s) + 1
 turn_count config s b item rest next i =
     let P : ℕ → Growing → Type 0 = λ n u. function_count (grown u) ≤ function_count (grown s) + n in
-    turn_keeps P config 0 s next (λ v c h p. omega (arith, p, canon_count v c)) (λ c signature d p. omega (arith, p, signature_count s signature)) (λ full p. omega (arith, p)) (omega arith) (turned config s b item rest next i)
+    turn_keeps P config 0 s next (λ v c h p. omega (arith, p, canon_count v c)) (λ c signature d p. omega (arith, p, signature_count s signature))
+    (λ full p. omega (arith, p)) (omega arith) (turned config s b item rest next i)
 
-module _ (config : Config) (least : ℕ) (t : Tree) {b : List ℕ} {turns : List CanonItem} {rest : List ℕ} {next : Growing} (r : ReadsCanons config least t b turns rest next) where
+module _ (config : Config) (least : ℕ) (t : Tree) {b : List ℕ} {turns : List CanonItem} {rest : List ℕ} {next : Growing}
+    (r : ReadsCanons config least t b turns rest next) where
   turn_tail : (s : Growing) (b : List ℕ) (item : CanonItem) (rest : List ℕ) (next : Growing) → CanonTurn config s b item rest next → IsTail rest b
   turn_tail s b Lower rest next (mid, chosen, (f, among, e)) = tail_trans (among_tail among) (among_tail chosen)
-  turn_tail s b Lift rest next (mid, chosen, r) = tail_trans (tail_trans (lifts_tail r.lifts) (tail_trans (lifted_tail r.reads) (reads_tail r.chooses))) (among_tail chosen)
+  turn_tail s b Lift rest next (mid, chosen, r) = tail_trans (tail_trans (lifts_tail r.lifts) (tail_trans (lifted_tail r.reads) (reads_tail r.chooses)))
+      (among_tail chosen)
     where
       lifts_tail : {c : ℕ} {signature : Signature} {low : List ℕ} → LiftsTo config s c signature low rest next → IsTail rest low
       lifts_tail (to_equal among e) = among_tail among
@@ -185,9 +207,11 @@ module _ (config : Config) (least : ℕ) (t : Tree) {b : List ℕ} {turns : List
   canons_tail = loop_tail (λ s b r t e. tail_is e.1) turn_tail 0 (empty_section t) b turns rest next r
 
   -- They add no import and no core type, and take no type away.
-  pub canons_grow : (imports_of (grown next) ≡ imports_of t) × (core_types_of (grown next) ≡ core_types_of t) × (length (types_of t) ≤ length (types_of (grown next)))
+  pub canons_grow : (imports_of (grown next) ≡ imports_of t) × (core_types_of (grown next) ≡ core_types_of t)
+      × (length (types_of t) ≤ length (types_of (grown next)))
   canons_grow =
-      let P : ℕ → Growing → Type 0 = λ n s. (imports_of (grown s) ≡ imports_of t) × (core_types_of (grown s) ≡ core_types_of t) × (length (types_of t) ≤ length (types_of (grown s))) in
+      let P : ℕ → Growing → Type 0 = λ n s. (imports_of (grown s) ≡ imports_of t) × (core_types_of (grown s) ≡ core_types_of t)
+      × (length (types_of t) ≤ length (types_of (grown s))) in
       let all = loop_keeps P (λ n s b r t p e. subst (P n) (sym e.2) p)
       (λ n s b x q u lt p i. turn_keeps P config n s u
       (λ v c h p. (
@@ -238,32 +262,38 @@ module _ (config : Config) (stack : Open) (fits : function_count stack.inner ≤
     few = omega (arith, g.few, canon_count s c);
   }
 
-  going_signature : (n : ℕ) (s : Growing) (c : ℕ) (signature : Signature) → n ≤ config.max_funcs - function_count stack.inner → Defines config s c signature → Going config stack n s → Going config stack n (with_signature s signature)
+  going_signature : (n : ℕ) (s : Growing) (c : ℕ) (signature : Signature) → n ≤ config.max_funcs - function_count stack.inner → Defines config s c signature
+      → Going config stack n s → Going config stack n (with_signature s signature)
   going_signature n s c signature h d g =
       let es : List Entry = function signature ∷ [] in
       let u : Open = with_inner stack (grown s) in
       let whole : Sound config u = section_sound n s h g in
-      let few : length d.lowered.params ≤ 16 = all_at FewParams (types_of (grown s)) d.of.ty (function d.lowered) (inner_few stack.outer [] (grown s) whole.formed) d.of.is in
-      let small : size (function d.lowered) ≤ config.max_type_size = all_at (λ e. size e ≤ config.max_type_size) (types_of (grown s)) d.of.ty (function d.lowered) (own_sizes_of config u whole).0 d.of.is in
+      let few : length d.lowered.params ≤ 16 = all_at FewParams (types_of (grown s)) d.of.ty (function d.lowered)
+      (inner_few stack.outer [] (grown s) whole.formed) d.of.is in
+      let small : size (function d.lowered) ≤ config.max_type_size =
+      all_at (λ e. size e ≤ config.max_type_size) (types_of (grown s)) d.of.ty (function d.lowered) (own_sizes_of config u whole).0 d.of.is in
       let formed = d.formed few in
       record {
         sound =
             part_sound config u (types es)
-            (addable_types config u es (formed (scope_of (grown s)) (scopes_in stack.outer), tt) (omega (arith, d.room)) (tt, tt) (omega arith) (omega (arith, small, d.small), tt))
+            (addable_types config u es (formed (scope_of (grown s)) (scopes_in stack.outer), tt) (omega (arith, d.room)) (tt, tt) (omega arith)
+            (omega (arith, small, d.small), tt))
             whole;
         formed = tt;
         few = omega (arith, g.few, signature_count s signature);
       }
 
 -- Canonical sections may be added.
-pub canons_sound : (config : Config) (least : ℕ) (stack : Open) {b : List ℕ} {turns : List CanonItem} {rest : List ℕ} {next : Growing} → ReadsCanons config least stack.inner b turns rest next → Sound config stack → Sound config (with_inner stack (grown next))
+pub canons_sound : (config : Config) (least : ℕ) (stack : Open) {b : List ℕ} {turns : List CanonItem} {rest : List ℕ} {next : Growing}
+    → ReadsCanons config least stack.inner b turns rest next → Sound config stack → Sound config (with_inner stack (grown next))
 canons_sound config least stack {b} {turns} {rest} {next} r sound =
     let fits : function_count stack.inner ≤ config.max_funcs = (own_limits_of config stack sound).functions in
     let P : ℕ → Growing → Type 0 = Going config stack in
     let start : P 0 (empty_section stack.inner) = record { sound = sound; formed = tt; few = omega (arith, empty_count stack.inner) } in
     let all = loop_keeps P (λ n s b r t p e. subst (P n) (sym e.2) p)
     (λ n s b x q u lt p i.
-    turn_keeps P config n s u (λ v c h p. going_canon config stack fits n v c h p) (λ c signature d p. going_signature config stack fits n s c signature (omega (arith, lt)) d p)
+    turn_keeps P config n s u (λ v c h p. going_canon config stack fits n v c h p)
+    (λ c signature d p. going_signature config stack fits n s c signature (omega (arith, lt)) d p)
     (λ full p. record { sound = p.sound; formed = p.formed; few = omega (arith, p.few) }) p (turned config s b x q u i))
     0 (empty_section stack.inner) b turns rest next (omega arith) start r in
     section_sound config stack fits all.0 next all.1 all.2

@@ -16,39 +16,51 @@ use Rattle.smith_component.specs.Limits.{SmallCoreTypes}
 use Rattle.smith_component.specs.Script.{script_core_types}
 use Rattle.smith_types.specs.Script.{script_core, LastsCore}
 use Rattle.smith_types.proofs.ScopedScript.{core_read}
-use Rattle.smith_component.specs.Turn.{ReadsCoreType, ReadsCoreTypes}
+use Rattle.smith_component.specs.AddedSections.{ReadsCoreType, ReadsCoreTypes}
 
 module _ (config : Config) where
-  pub core_types_read_formed : {max : ℕ} {own next : Scope} {b rest : List ℕ} {xs : List CoreEntry} → ReadsCoreTypes config max own b xs rest next → FormedCores xs own
+  pub core_types_read_formed : {max : ℕ} {own next : Scope} {b rest : List ℕ} {xs : List CoreEntry} → ReadsCoreTypes config max own b xs rest next
+      → FormedCores xs own
   core_types_read_formed {own = own} {next = next} {b = b} {rest = rest} {xs = xs} r =
       loop_gives (λ s ys t. FormedCores ys s) (λ s. tt) (λ s c q t e. absurd e) one 0 own b xs rest next r
     where
-      one : (s t u : Scope) (c : List ℕ) (x : CoreEntry) (q : List ℕ) (ys : List CoreEntry) → ReadsCoreType config s c x q t → FormedCores ys t → FormedCores (x ∷ ys) s
+      one : (s t u : Scope) (c : List ℕ) (x : CoreEntry) (q : List ℕ) (ys : List CoreEntry) → ReadsCoreType config s c x q t → FormedCores ys t
+          → FormedCores (x ∷ ys) s
       one s t u c x q ys (left, made, e) f = (made_core_formed made, subst (λ z. FormedCores ys z) e f)
 
-  pub core_types_read_limited : {max : ℕ} {own next : Scope} {b rest : List ℕ} {xs : List CoreEntry} → ReadsCoreTypes config max own b xs rest next → AllByRecursion (CoreLimits config) xs
-  core_types_read_limited {own = own} {next = next} {b = b} {rest = rest} {xs = xs} r = loop_all _ (λ s c x q t (left, made, e). made_core_limits made) 0 own b xs rest next r
+  pub core_types_read_limited : {max : ℕ} {own next : Scope} {b rest : List ℕ} {xs : List CoreEntry} → ReadsCoreTypes config max own b xs rest next
+      → AllByRecursion (CoreLimits config) xs
+  core_types_read_limited {own = own} {next = next} {b = b} {rest = rest} {xs = xs} r =
+      loop_all _ (λ s c x q t (left, made, e). made_core_limits made) 0 own b xs rest next r
 
-  pub core_types_read_small : {max : ℕ} {own next : Scope} {b rest : List ℕ} {xs : List CoreEntry} → ReadsCoreTypes config max own b xs rest next → SmallCoreTypes config xs
-  core_types_read_small {own = own} {next = next} {b = b} {rest = rest} {xs = xs} r = loop_all _ (λ s c x q t (left, made, e). let z = made_core_size made in omega (arith, z)) 0 own b xs rest next r
+  pub core_types_read_small : {max : ℕ} {own next : Scope} {b rest : List ℕ} {xs : List CoreEntry} → ReadsCoreTypes config max own b xs rest next
+      → SmallCoreTypes config xs
+  core_types_read_small {own = own} {next = next} {b = b} {rest = rest} {xs = xs} r =
+      loop_all _ (λ s c x q t (left, made, e). let z = made_core_size made in omega (arith, z)) 0 own b xs rest next r
 
   pub core_types_read_tail : {max : ℕ} {own next : Scope} {b rest : List ℕ} {xs : List CoreEntry} → ReadsCoreTypes config max own b xs rest next → IsTail rest b
-  core_types_read_tail {own = own} {next = next} {b = b} {rest = rest} {xs = xs} r = loop_tail (λ s c q t e. absurd e) (λ s c x q t (left, made, e). made_core_tail made) 0 own b xs rest next r
+  core_types_read_tail {own = own} {next = next} {b = b} {rest = rest} {xs = xs} r =
+      loop_tail (λ s c q t e. absurd e) (λ s c x q t (left, made, e). made_core_tail made) 0 own b xs rest next r
 
   -- The scope has what was read.
-  pub core_types_read_scope : {max : ℕ} {own next : Scope} {b rest : List ℕ} {xs : List CoreEntry} → ReadsCoreTypes config max own b xs rest next → next ≡ with_core_types own xs
+  pub core_types_read_scope : {max : ℕ} {own next : Scope} {b rest : List ℕ} {xs : List CoreEntry} → ReadsCoreTypes config max own b xs rest next
+      → next ≡ with_core_types own xs
   core_types_read_scope {own = own} {next = next} {b = b} {rest = rest} {xs = xs} r =
       loop_gives (λ s ys t. t ≡ with_core_types s ys) (λ s. sym (with_core_none s)) (λ s c q t e. absurd e) one 0 own b xs rest next r
     where
-      one : (s t u : Scope) (c : List ℕ) (x : CoreEntry) (q : List ℕ) (ys : List CoreEntry) → ReadsCoreType config s c x q t → u ≡ with_core_types t ys → u ≡ with_core_types s (x ∷ ys)
-      one s t u c x q ys (left, made, e) f = f ∙ (ap (λ z. with_core_types z ys) e ∙ ap (λ ts. record { types = s.types; core_types = ts }) (append_assoc s.core_types (x ∷ []) ys))
+      one : (s t u : Scope) (c : List ℕ) (x : CoreEntry) (q : List ℕ) (ys : List CoreEntry) → ReadsCoreType config s c x q t → u ≡ with_core_types t ys
+          → u ≡ with_core_types s (x ∷ ys)
+      one s t u c x q ys (left, made, e) f = f ∙ (ap (λ z. with_core_types z ys) e
+          ∙ ap (λ ts. record { types = s.types; core_types = ts }) (append_assoc s.core_types (x ∷ []) ys))
 
   -- They are determined.
-  pub core_types_same : {max : ℕ} {own next other : Scope} {b r s : List ℕ} {xs ys : List CoreEntry} → ReadsCoreTypes config max own b xs r next → ReadsCoreTypes config max own b ys s other → (xs ≡ ys) × (r ≡ s)
+  pub core_types_same : {max : ℕ} {own next other : Scope} {b r s : List ℕ} {xs ys : List CoreEntry} → ReadsCoreTypes config max own b xs r next
+      → ReadsCoreTypes config max own b ys s other → (xs ≡ ys) × (r ≡ s)
   core_types_same {own = own} {next = next} {other = other} {b = b} {r = r} {s = s} {xs = xs} {ys = ys} x y =
       let d = loop_same (λ s c q p t u e f. absurd e) (λ s c x q p t u e i. e) one 0 own b xs ys r s next other x y in (d.0, d.1)
     where
-      one : (s : Scope) (c : List ℕ) (x y : CoreEntry) (q p : List ℕ) (t u : Scope) → ReadsCoreType config s c x q t → ReadsCoreType config s c y p u → (x ≡ y) × (q ≡ p) × (t ≡ u)
+      one : (s : Scope) (c : List ℕ) (x y : CoreEntry) (q p : List ℕ) (t u : Scope) → ReadsCoreType config s c x q t → ReadsCoreType config s c y p u
+          → (x ≡ y) × (q ≡ p) × (t ≡ u)
       one s c x y q p t u (left, made, e) (held, other, f) =
           let m = made_core_same made other in
           (m.value, m.rest, e ∙ (ap (with_core_type s) m.value ∙ sym f))
@@ -57,7 +69,8 @@ module _ (config : Config) where
   abbrev Said : Scope → CoreEntry → Type 0
   Said s x = CoreLimits config x × LastsCore config.max_type_size x
 
-  all_said : (xs : List CoreEntry) (own : Scope) → AllByRecursion (CoreLimits config) xs → AllByRecursion (LastsCore config.max_type_size) xs → Along Said with_core_type own xs
+  all_said : (xs : List CoreEntry) (own : Scope) → AllByRecursion (CoreLimits config) xs → AllByRecursion (LastsCore config.max_type_size) xs
+      → Along Said with_core_type own xs
   all_said [] own f l = tt
   all_said (x ∷ xs) own f l = ((f.0, l.0), all_said xs (with_core_type own x) f.1 l.1)
 
@@ -65,6 +78,8 @@ module _ (config : Config) where
   one_read s x rest (formed, lasts) = (_, core_read config s config.max_type_size x rest formed lasts, refl)
 
   -- Their script is read as them.
-  pub core_types_read : (xs : List CoreEntry) (max : ℕ) (own : Scope) (rest : List ℕ) → AllByRecursion (CoreLimits config) xs → AllByRecursion (LastsCore config.max_type_size) xs → length xs ≤ max
+  pub core_types_read : (xs : List CoreEntry) (max : ℕ) (own : Scope) (rest : List ℕ) → AllByRecursion (CoreLimits config) xs
+      → AllByRecursion (LastsCore config.max_type_size) xs → length xs ≤ max
       → ReadsCoreTypes config max own (script_core_types config max own xs ++ rest) xs rest (after_all with_core_type own xs)
-  core_types_read xs max own rest f l few = loop_read (λ s x. script_core config x) with_core_type Said one_read xs 0 own rest (all_said xs own f l) (omega arith) (omega arith)
+  core_types_read xs max own rest f l few = loop_read (λ s x. script_core config x) with_core_type Said one_read xs 0 own rest (all_said xs own f l)
+      (omega arith) (omega arith)

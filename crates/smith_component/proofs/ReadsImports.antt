@@ -1,5 +1,6 @@
 -- What an import section reads: well formed imports under names that are new, within the limits, and a tail of the bytes.
-use Rattle.std.proofs.Common.{◌≡◌, ℕ, ◌+◌, ◌-◌, ◌<◌, ◌≤◌, ◌^◌, ◌&&◌, Bool, true, false, List, [], ◌∷◌, ◌++◌, length, arith, refl, sym, ap, ◌∙◌, subst, append_assoc, length-append, nat_lt, append-nil}
+use Rattle.std.proofs.Common.{◌≡◌, ℕ, ◌+◌, ◌-◌, ◌<◌, ◌≤◌, ◌^◌, ◌&&◌, Bool, true, false, List, [], ◌∷◌, ◌++◌, length, arith, refl, sym, ap, ◌∙◌, subst}
+use Rattle.std.proofs.Common.{append_assoc, length-append, nat_lt, append-nil}
 use Rattle.std.specs.List.{AllByRecursion, IsDistinct}
 use Rattle.std.specs.Prelude.{if◌then◌else◌}
 use Rattle.std.proofs.lemmas.Bool.{false≢true}
@@ -34,7 +35,7 @@ use Rattle.smith_component.specs.Tree.{imports_of, module_count, component_count
 use Rattle.smith_component.specs.WellFormed.{Formed, FormedImport, FormedPart, import_names, scope_of}
 use Rattle.smith_component.proofs.Fits.{fits_functions, fits_of, own_limits-add, own_sizes-add, sizes_keep}
 use Rattle.smith_component.proofs.Growth.{KeepsTypes, functions_at, imports_keep, spaces-add}
-use Rattle.smith_component.proofs.Importing.{RefRoom, components_more, funcs_more, import_room, instances_more, modules_more}
+use Rattle.smith_component.proofs.ImportsState.{RefRoom, components_more, funcs_more, import_room, instances_more, modules_more}
 use Rattle.smith_component.proofs.Sound.{component_count-so_far, instance_count-so_far, module_count-so_far, own_limits_of}
 use Rattle.smith_component.proofs.Tables.{import_names_more, own_bare}
 use Rattle.smith_component.proofs.Tree.{join-add, join-ends, own-add}
@@ -49,9 +50,11 @@ named_more ns n h kebab new = (
 )
 
 -- The imports of a well formed component are named.
-named_parts : (t : Tree) (outer : List Scope) (before : Tree) → Formed t outer before → Named (import_names (imports_of before)) → Named (import_names (imports_of (join before t)))
+named_parts : (t : Tree) (outer : List Scope) (before : Tree) → Formed t outer before → Named (import_names (imports_of before))
+    → Named (import_names (imports_of (join before t)))
 named_parts ends outer before f h = subst (λ z. Named (import_names (imports_of z))) (sym (join-ends before)) h
-named_parts (first p t) outer before f h = subst (λ z. Named (import_names (imports_of z))) (join-add before p t) (named_parts t outer (add before p) f.1 (by_part p f.0))
+named_parts (first p t) outer before f h = subst (λ z. Named (import_names (imports_of z))) (join-add before p t)
+    (named_parts t outer (add before p) f.1 (by_part p f.0))
   where
     quiet : (q : Part) → imports_in q ≡ [] → Named (import_names (imports_of (add before q)))
     quiet q e = subst (λ z. Named (import_names z)) (sym (own_bare imports_in before q e)) h
@@ -77,7 +80,8 @@ sound_named config stack s =
     named_parts stack.inner f.0 ends f.1 (tt, tt)
 
 -- where nothing is offered, no condition holds
-not_offered : {A : Type 0} (o : Bool × A) (os : List (Bool × A)) → (offers_of os ≡ [] → AllByRecursion (λ q. q.0 ≡ false) os) → (b : Bool) → o.0 ≡ b → (if b then o.1 ∷ offers_of os else offers_of os) ≡ []
+not_offered : {A : Type 0} (o : Bool × A) (os : List (Bool × A)) → (offers_of os ≡ [] → AllByRecursion (λ q. q.0 ≡ false) os) → (b : Bool) → o.0 ≡ b
+    → (if b then o.1 ∷ offers_of os else offers_of os) ≡ []
     → (o.0 ≡ false) × AllByRecursion (λ q. q.0 ≡ false) os
 not_offered o os later true f g = absurd (let z : (o.1 ∷ offers_of os) ≡ [] = g in cc)
 not_offered o os later false f g = (f, later g)
@@ -106,21 +110,28 @@ module _ (config : Config) (stack : Open) where
   no_import_tail s b r t (none, left, same) = tail_is left
 
   import_tail : (s : List ImportEntry) (b : List ℕ) (x : ImportEntry) (r : List ℕ) (t : List ImportEntry) → ReadsImport config stack s b x r t → IsTail r b
-  import_tail s b x r t i = tail_trans (extern_tail i.so_far i.mid (x.name, i.url) r i.named) (ref_tail config (scope_of stack.inner) (totals_of (with_imports stack s)) true false b x.to i.mid i.of)
+  import_tail s b x r t i = tail_trans (extern_tail i.so_far i.mid (x.name, i.url) r i.named)
+      (ref_tail config (scope_of stack.inner) (totals_of (with_imports stack s)) true false b x.to i.mid i.of)
 
   -- An import section leaves a tail of the bytes.
   pub imports_tail : {min : ℕ} {b rest : List ℕ} {is : List ImportEntry} → ReadsImports config min stack b is rest → IsTail rest b
   imports_tail {b = b} {rest = rest} {is = is} r = loop_tail no_import_tail import_tail 0 [] b is rest is r
 
   -- A component has as many imports as it may, at most.
-  pub imports_few : {min : ℕ} {b rest : List ℕ} {is : List ImportEntry} → length (imports_of stack.inner) ≤ config.max_imports → ReadsImports config min stack b is rest → length (imports_of stack.inner) + length is ≤ config.max_imports
+  pub imports_few : {min : ℕ} {b rest : List ℕ} {is : List ImportEntry} → length (imports_of stack.inner) ≤ config.max_imports
+      → ReadsImports config min stack b is rest → length (imports_of stack.inner) + length is ≤ config.max_imports
   imports_few {b = b} {rest = rest} {is = is} h r = let few : 0 + length is ≤ room = loop_few 0 [] b is rest is (omega arith) r in omega (arith, few, h)
 
-  formed_import : (s : List ImportEntry) (b : List ℕ) (x : ImportEntry) (r : List ℕ) (t : List ImportEntry) → ReadsImport config stack s b x r t → FormedImport (scope_of stack.inner) x
-  formed_import s b x r t i = (ref_formed config (scope_of stack.inner) _ true false b x.to i.mid i.of, import_not_equal config (scope_of stack.inner) _ false b x.to i.mid i.of)
+  formed_import : (s : List ImportEntry) (b : List ℕ) (x : ImportEntry) (r : List ℕ) (t : List ImportEntry) → ReadsImport config stack s b x r t
+      → FormedImport (scope_of stack.inner) x
+  formed_import s b x r t i = (
+    ref_formed config (scope_of stack.inner) _ true false b x.to i.mid i.of,
+    import_not_equal config (scope_of stack.inner) _ false b x.to i.mid i.of,
+  )
 
   -- What is read is of what stands in the component.
-  pub imports_formed : {min : ℕ} {b rest : List ℕ} {is : List ImportEntry} → ReadsImports config min stack b is rest → AllByRecursion (FormedImport (scope_of stack.inner)) is
+  pub imports_formed : {min : ℕ} {b rest : List ℕ} {is : List ImportEntry} → ReadsImports config min stack b is rest
+      → AllByRecursion (FormedImport (scope_of stack.inner)) is
   imports_formed {b = b} {rest = rest} {is = is} r = loop_all (FormedImport (scope_of stack.inner)) formed_import 0 [] b is rest is r
 
   -- the names of the component's imports, where the section has these
@@ -131,9 +142,11 @@ module _ (config : Config) (stack : Open) where
   length-names_with s = length-map (imports_of stack.inner ++ s) (λ (i : ImportEntry). i.name) ∙ length-append (imports_of stack.inner) s
 
   names_with_more : (s t : List ImportEntry) (x : ImportEntry) → t ≡ s ++ x ∷ [] → names_with t ≡ names_with s ++ x.name ∷ []
-  names_with_more s t x e = ap names_with e ∙ (ap import_names (sym (append_assoc (imports_of stack.inner) s (x ∷ []))) ∙ import_names_more (imports_of stack.inner ++ s) x)
+  names_with_more s t x e = ap names_with e ∙ (ap import_names (sym (append_assoc (imports_of stack.inner) s (x ∷ [])))
+      ∙ import_names_more (imports_of stack.inner ++ s) x)
 
-  one_named : (s : List ImportEntry) (b : List ℕ) (x : ImportEntry) (r : List ℕ) (t : List ImportEntry) → length (imports_of stack.inner) + length s < 2 ^ 64 → ReadsImport config stack s b x r t → Named (names_with s) → Named (names_with t)
+  one_named : (s : List ImportEntry) (b : List ℕ) (x : ImportEntry) (r : List ℕ) (t : List ImportEntry) → length (imports_of stack.inner) + length s < 2 ^ 64
+      → ReadsImport config stack s b x r t → Named (names_with s) → Named (names_with t)
   one_named s b x r t few i h =
       let read : ReadsNew 100 (names_with s) i.mid x.name i.named.mid = subst (λ ns. ReadsNew 100 ns i.mid x.name i.named.mid) i.names_are i.named.name in
       let kebab : Kebab x.name = new_kebab (omega (arith, few, length-names_with s)) read in
@@ -143,11 +156,13 @@ module _ (config : Config) (stack : Open) where
   abbrev KeepsNames : List ImportEntry → List ImportEntry → List ImportEntry → Type 0
   KeepsNames s xs t = length (imports_of stack.inner) + (length s + length xs) ≤ 4294967295 → Named (names_with s) → Named (names_with t)
 
-  keeps_names : (s t u : List ImportEntry) (b : List ℕ) (x : ImportEntry) (r : List ℕ) (xs : List ImportEntry) → ReadsImport config stack s b x r t → KeepsNames t xs u → KeepsNames s (x ∷ xs) u
+  keeps_names : (s t u : List ImportEntry) (b : List ℕ) (x : ImportEntry) (r : List ℕ) (xs : List ImportEntry) → ReadsImport config stack s b x r t
+      → KeepsNames t xs u → KeepsNames s (x ∷ xs) u
   keeps_names s t u b x r xs i rest few h =
       rest (omega (arith, few, ap length i.next_is, length-append s (x ∷ []))) (one_named s b x r t (omega (arith, few)) i h)
 
-  pub imports_named : {min : ℕ} {b rest : List ℕ} {is : List ImportEntry} → length (imports_of stack.inner) + length is ≤ 4294967295 → Named (import_names (imports_of stack.inner)) → ReadsImports config min stack b is rest → Named (names_with is)
+  pub imports_named : {min : ℕ} {b rest : List ℕ} {is : List ImportEntry} → length (imports_of stack.inner) + length is ≤ 4294967295
+      → Named (import_names (imports_of stack.inner)) → ReadsImports config min stack b is rest → Named (names_with is)
   imports_named {b = b} {rest = rest} {is = is} few h r =
       loop_gives KeepsNames (λ s k n. n) (λ s c q t e k n. subst (λ z. Named (names_with z)) (sym e.2) n) keeps_names 0 [] b is rest is r (omega (arith, few))
       (subst (λ z. Named (import_names z)) (sym (append-nil (imports_of stack.inner))) h)
@@ -156,7 +171,8 @@ module _ (config : Config) (stack : Open) where
   pub record KeepsTotals (s t : List ImportEntry) : Type 0 where
     pub modules : (totals_of (with_imports stack s)).modules ≤ config.max_modules → (totals_of (with_imports stack t)).modules ≤ config.max_modules
     pub funcs : (totals_of (with_imports stack s)).funcs ≤ config.max_funcs → (totals_of (with_imports stack t)).funcs ≤ config.max_funcs
-    pub components : (totals_of (with_imports stack s)).components ≤ config.max_components → (totals_of (with_imports stack t)).components ≤ config.max_components
+    pub components : (totals_of (with_imports stack s)).components ≤ config.max_components
+        → (totals_of (with_imports stack t)).components ≤ config.max_components
     pub instances : (totals_of (with_imports stack s)).instances ≤ config.max_instances → (totals_of (with_imports stack t)).instances ≤ config.max_instances
 
   keeps_same : (s : List ImportEntry) → KeepsTotals s s
@@ -172,7 +188,8 @@ module _ (config : Config) (stack : Open) where
 
   keeps_one : (s : List ImportEntry) (b : List ℕ) (x : ImportEntry) (r : List ℕ) (t : List ImportEntry) → ReadsImport config stack s b x r t → KeepsTotals s t
   keeps_one s b x r t i =
-      let room : RefRoom config (totals_of (with_imports stack s)) x.to = import_room config (scope_of stack.inner) (totals_of (with_imports stack s)) b x.to i.mid i.of in
+      let room : RefRoom config (totals_of (with_imports stack s)) x.to =
+      import_room config (scope_of stack.inner) (totals_of (with_imports stack s)) b x.to i.mid i.of in
       subst (KeepsTotals s) (sym i.next_is) (record {
         modules = λ h. omega (arith, h, room.modules, modules_more stack s x);
         funcs = λ h. omega (arith, h, room.funcs, funcs_more stack s x);
@@ -182,10 +199,12 @@ module _ (config : Config) (stack : Open) where
 
   pub totals_keep : {min : ℕ} {b rest : List ℕ} {is : List ImportEntry} → ReadsImports config min stack b is rest → KeepsTotals [] is
   totals_keep {b = b} {rest = rest} {is = is} r =
-      loop_gives (λ s xs t. KeepsTotals s t) keeps_same (λ s c q t e. subst (KeepsTotals s) (sym e.2) (keeps_same s)) (λ s t u c x q xs i k. keeps_then s t u (keeps_one s c x q t i) k) 0 [] b is rest is r
+      loop_gives (λ s xs t. KeepsTotals s t) keeps_same (λ s c q t e. subst (KeepsTotals s) (sym e.2) (keeps_same s))
+      (λ s t u c x q xs i k. keeps_then s t u (keeps_one s c x q t i) k) 0 [] b is rest is r
 
   -- What an import section reads may be added.
-  pub imports_addable : {min : ℕ} {b rest : List ℕ} {is : List ImportEntry} → Sound config stack → ReadsImports config min stack b is rest → IsAddable config stack (imports is)
+  pub imports_addable : {min : ℕ} {b rest : List ℕ} {is : List ImportEntry} → Sound config stack → ReadsImports config min stack b is rest
+      → IsAddable config stack (imports is)
   imports_addable {is = is} sound r =
       let limits : OwnLimits config stack.inner = own_limits_of config stack sound in
       let few : length (imports_of stack.inner) + length is ≤ config.max_imports = imports_few limits.imports r in
@@ -203,13 +222,16 @@ module _ (config : Config) (stack : Open) where
             own_limits-add config inner (imports is) o (fits_functions config (spaces_of inner) spaces same fits (fits_of config inner o)) few tt;
         sizes = λ o. own_sizes-add config inner (imports is) (sizes_keep config (spaces_of inner) spaces same o);
         modules = λ h.
-            let start : module_count (tree_so_far outer (add inner (imports []))) ≤ config.max_modules = omega (arith, h, module_count-so_far outer inner (imports [])) in
+            let start : module_count (tree_so_far outer (add inner (imports []))) ≤ config.max_modules =
+            omega (arith, h, module_count-so_far outer inner (imports [])) in
             omega (arith, keep.modules start, module_count-so_far outer inner (imports is));
         components = λ h.
-            let start : component_count (tree_so_far outer (add inner (imports []))) ≤ config.max_components = omega (arith, h, component_count-so_far outer inner (imports [])) in
+            let start : component_count (tree_so_far outer (add inner (imports []))) ≤ config.max_components =
+            omega (arith, h, component_count-so_far outer inner (imports [])) in
             omega (arith, keep.components start, component_count-so_far outer inner (imports is));
         instances = λ h.
-            let start : instance_count (tree_so_far outer (add inner (imports []))) ≤ config.max_instances = omega (arith, h, instance_count-so_far outer inner (imports [])) in
+            let start : instance_count (tree_so_far outer (add inner (imports []))) ≤ config.max_instances =
+            omega (arith, h, instance_count-so_far outer inner (imports [])) in
             omega (arith, keep.instances start, instance_count-so_far outer inner (imports is));
         no_component = refl;
         flat = refl;
@@ -217,14 +239,16 @@ module _ (config : Config) (stack : Open) where
       }
 
   -- Where functions can be imported, there is something to import.
-  func_offered : (s : List ImportEntry) → 0 < length (places is_func 0 (types_of stack.inner)) → (totals_of (with_imports stack s)).funcs < config.max_funcs → import_kinds config stack s ≡ [] → ⊥
+  func_offered : (s : List ImportEntry) → 0 < length (places is_func 0 (types_of stack.inner)) → (totals_of (with_imports stack s)).funcs < config.max_funcs
+      → import_kinds config stack s ≡ [] → ⊥
   func_offered s has below none =
       let all = none_offered (ref_offers config (scope_of stack.inner) (totals_of (with_imports stack s)) true false) none in
       let there : nat_lt 0 (length (places is_func 0 (types_of stack.inner))) ≡ true = grind (arith, nat_tests, has) in
       let allowed : nat_lt (totals_of (with_imports stack s)).funcs config.max_funcs ≡ true = grind (arith, nat_tests, below) in
       false≢true (sym all.1.1.0 ∙ both_hold _ _ there allowed)
 
-  module _ (min most : ℕ) (ordered : min ≤ most) (has : 0 < length (places is_func 0 (types_of stack.inner))) (room : function_count stack.inner + min ≤ config.max_funcs) where
+  module _ (min most : ℕ) (ordered : min ≤ most) (has : 0 < length (places is_func 0 (types_of stack.inner)))
+      (room : function_count stack.inner + min ≤ config.max_funcs) where
     all_made : (done : ℕ) (b rest : List ℕ) → More done min most b false rest → min ≤ done
     all_made done b rest m = by_room (nat_lt done most) refl
       where
@@ -232,25 +256,30 @@ module _ (config : Config) (stack : Open) where
         by_room true f = let lt : done < most = grind (arith, nat_tests) in more_past lt m
         by_room false f = let le : most ≤ done = grind (arith, nat_tests) in omega (arith, le, ordered)
 
-    enough_at_end : (done : ℕ) (s : List ImportEntry) → (totals_of (with_imports stack s)).funcs ≤ function_count stack.inner + done → import_kinds config stack s ≡ [] → min ≤ done
+    enough_at_end : (done : ℕ) (s : List ImportEntry) → (totals_of (with_imports stack s)).funcs ≤ function_count stack.inner + done
+        → import_kinds config stack s ≡ [] → min ≤ done
     enough_at_end done s few none = by_min (nat_lt done min) refl
       where
         by_min : (z : Bool) → nat_lt done min ≡ z → min ≤ done
         by_min true f = let lt : done < min = grind (arith, nat_tests) in absurd (func_offered s has (omega (arith, lt, few, room)) none)
         by_min false f = let le : min ≤ done = grind (arith, nat_tests) in le
 
-    counted_on : (done : ℕ) (s t : List ImportEntry) (b : List ℕ) (x : ImportEntry) (r : List ℕ) → (totals_of (with_imports stack s)).funcs ≤ function_count stack.inner + done → ReadsImport config stack s b x r t
+    counted_on : (done : ℕ) (s t : List ImportEntry) (b : List ℕ) (x : ImportEntry) (r : List ℕ)
+        → (totals_of (with_imports stack s)).funcs ≤ function_count stack.inner + done → ReadsImport config stack s b x r t
         → (totals_of (with_imports stack t)).funcs ≤ function_count stack.inner + (done + 1)
     counted_on done s t b x r few i = omega (arith, few, ap (λ z. (totals_of (with_imports stack z)).funcs) i.next_is ∙ funcs_more stack s x, function_one x.to)
 
-    enough_from : (done : ℕ) (s : List ImportEntry) (b : List ℕ) (xs : List ImportEntry) (rest : List ℕ) (t : List ImportEntry) → (totals_of (with_imports stack s)).funcs ≤ function_count stack.inner + done
+    enough_from : (done : ℕ) (s : List ImportEntry) (b : List ℕ) (xs : List ImportEntry) (rest : List ℕ) (t : List ImportEntry)
+        → (totals_of (with_imports stack s)).funcs ≤ function_count stack.inner + done
         → Loop (NoImport config stack) (ReadsImport config stack) min most done s b xs rest t → min ≤ done + length xs
     enough_from done s b xs rest t few (no_more m e) = omega (arith, all_made done b rest m)
     enough_from done s b xs rest t few (by_itself m e) = omega (arith, enough_at_end done s few e.0)
-    enough_from done s b xs rest u few (an_item {t = t} {mid = mid} {after = after} {x = x} {xs = ys} m i l) = omega (arith, enough_from (done + 1) t after ys rest u (counted_on done s t mid x after few i) l)
+    enough_from done s b xs rest u few (an_item {t = t} {mid = mid} {after = after} {x = x} {xs = ys} m i l) =
+        omega (arith, enough_from (done + 1) t after ys rest u (counted_on done s t mid x after few i) l)
 
   -- A section has as many imports as it must, where functions may be imported for all of them.
-  pub imports_enough : {min : ℕ} {b rest : List ℕ} {is : List ImportEntry} → 0 < length (places is_func 0 (types_of stack.inner)) → function_count stack.inner + min ≤ config.max_funcs → min ≤ config.max_imports - length (imports_of stack.inner)
+  pub imports_enough : {min : ℕ} {b rest : List ℕ} {is : List ImportEntry} → 0 < length (places is_func 0 (types_of stack.inner))
+      → function_count stack.inner + min ≤ config.max_funcs → min ≤ config.max_imports - length (imports_of stack.inner)
       → ReadsImports config min stack b is rest → min ≤ length is
   imports_enough {min = min} {b = b} {rest = rest} {is = is} has fits ordered r =
       let start : (totals_of (with_imports stack [])).funcs ≤ function_count stack.inner + 0 =

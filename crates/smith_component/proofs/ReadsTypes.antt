@@ -15,24 +15,29 @@ use Rattle.smith_scopes.proofs.Stack.{with_none}
 use Rattle.smith_component.specs.Limits.{SmallTypes}
 use Rattle.smith_component.specs.Tree.{most_nested}
 use Rattle.smith_component.specs.Script.{script_types}
-use Rattle.smith_component.specs.Turn.{ReadsType, ReadsTypes}
+use Rattle.smith_component.specs.AddedSections.{ReadsType, ReadsTypes}
 use Rattle.smith_types.proofs.ScopedScript.{type_read}
 use Rattle.smith_component.proofs.MadeWith.{made_with_tail, made_with_formed, made_with_limits, made_with_nesting, made_with_size, made_with_same}
 
 module _ (config : Config) (outer : List Scope) where
-  pub types_read_formed : {min max : ℕ} {own next : Scope} {b rest : List ℕ} {xs : List Entry} → ReadsTypes config outer min max own b xs rest next → FormedTypes xs own outer
+  pub types_read_formed : {min max : ℕ} {own next : Scope} {b rest : List ℕ} {xs : List Entry} → ReadsTypes config outer min max own b xs rest next
+      → FormedTypes xs own outer
   types_read_formed {max = max} {own = own} {next = next} {b = b} {rest = rest} {xs = xs} r =
       loop_gives (λ s ys t. FormedTypes ys s outer) (λ s. tt) (λ s c q t e. absurd e) one 0 own b xs rest next r
     where
-      one : (s t u : Scope) (c : List ℕ) (x : Entry) (q : List ℕ) (ys : List Entry) → ReadsType config outer s c x q t → FormedTypes ys t outer → FormedTypes (x ∷ ys) s outer
+      one : (s t u : Scope) (c : List ℕ) (x : Entry) (q : List ℕ) (ys : List Entry) → ReadsType config outer s c x q t → FormedTypes ys t outer
+          → FormedTypes (x ∷ ys) s outer
       one s t u c x q ys (made, e) f = (made_with_formed made, subst (λ z. FormedTypes ys z outer) e f)
 
-  pub types_read_small : {min max : ℕ} {own next : Scope} {b rest : List ℕ} {xs : List Entry} → ReadsTypes config outer min max own b xs rest next → SmallTypes config xs
+  pub types_read_small : {min max : ℕ} {own next : Scope} {b rest : List ℕ} {xs : List Entry} → ReadsTypes config outer min max own b xs rest next
+      → SmallTypes config xs
   types_read_small {own = own} {next = next} {b = b} {rest = rest} {xs = xs} r =
       loop_all _ (λ s c x q t (made, e). made_with_size made) 0 own b xs rest next r
 
-  pub types_read_limited : {min max : ℕ} {own next : Scope} {b rest : List ℕ} {xs : List Entry} → ReadsTypes config outer min max own b xs rest next → AllByRecursion (EntryLimits config) xs
-  types_read_limited {own = own} {next = next} {b = b} {rest = rest} {xs = xs} r = loop_all _ (λ s c x q t (made, e). made_with_limits made) 0 own b xs rest next r
+  pub types_read_limited : {min max : ℕ} {own next : Scope} {b rest : List ℕ} {xs : List Entry} → ReadsTypes config outer min max own b xs rest next
+      → AllByRecursion (EntryLimits config) xs
+  types_read_limited {own = own} {next = next} {b = b} {rest = rest} {xs = xs} r =
+      loop_all _ (λ s c x q t (made, e). made_with_limits made) 0 own b xs rest next r
 
   -- Types that stand no deeper than so, each.
   most_nested_below : (n : ℕ) (xs : List Entry) → AllByRecursion (λ x. nesting x ≤ n) xs → most_nested xs ≤ n
@@ -40,38 +45,46 @@ module _ (config : Config) (outer : List Scope) where
   most_nested_below n (x ∷ xs) h = omega (arith, h.0, most_nested_below n xs h.1)
 
   -- how deep the scopes of these types stand
-  pub types_read_nested : {min room : ℕ} {own next : Scope} {b rest : List ℕ} {xs : List Entry} → ReadsTypes config outer min room own b xs rest next → length outer + 1 + most_nested xs ≤ max (length outer + 2) config.max_nesting_depth
+  pub types_read_nested : {min room : ℕ} {own next : Scope} {b rest : List ℕ} {xs : List Entry} → ReadsTypes config outer min room own b xs rest next
+      → length outer + 1 + most_nested xs ≤ max (length outer + 2) config.max_nesting_depth
   types_read_nested {own = own} {next = next} {b = b} {rest = rest} {xs = xs} r =
       let deepest : ℕ = max (length outer + 2) config.max_nesting_depth - (length outer + 1) in
-      let each : AllByRecursion (λ x. nesting x ≤ deepest) xs = loop_all _ (λ s c x q t (made, e). omega (arith, made_with_nesting made)) 0 own b xs rest next r in
+      let each : AllByRecursion (λ x. nesting x ≤ deepest) xs =
+      loop_all _ (λ s c x q t (made, e). omega (arith, made_with_nesting made)) 0 own b xs rest next r in
       omega (arith, most_nested_below deepest xs each)
 
-  pub types_read_tail : {min max : ℕ} {own next : Scope} {b rest : List ℕ} {xs : List Entry} → ReadsTypes config outer min max own b xs rest next → IsTail rest b
+  pub types_read_tail : {min max : ℕ} {own next : Scope} {b rest : List ℕ} {xs : List Entry} → ReadsTypes config outer min max own b xs rest next
+      → IsTail rest b
   types_read_tail {own = own} {next = next} {b = b} {rest = rest} {xs = xs} r =
       loop_tail (λ s c q t e. absurd e) (λ s c x q t (made, e). made_with_tail made) 0 own b xs rest next r
 
   -- The scope has what was read.
-  pub types_read_scope : {min max : ℕ} {own next : Scope} {b rest : List ℕ} {xs : List Entry} → ReadsTypes config outer min max own b xs rest next → next ≡ with_types own xs
+  pub types_read_scope : {min max : ℕ} {own next : Scope} {b rest : List ℕ} {xs : List Entry} → ReadsTypes config outer min max own b xs rest next
+      → next ≡ with_types own xs
   types_read_scope {own = own} {next = next} {b = b} {rest = rest} {xs = xs} r =
       loop_gives (λ s ys t. t ≡ with_types s ys) (λ s. sym (with_none s)) (λ s c q t e. absurd e) one 0 own b xs rest next r
     where
-      one : (s t u : Scope) (c : List ℕ) (x : Entry) (q : List ℕ) (ys : List Entry) → ReadsType config outer s c x q t → u ≡ with_types t ys → u ≡ with_types s (x ∷ ys)
+      one : (s t u : Scope) (c : List ℕ) (x : Entry) (q : List ℕ) (ys : List Entry) → ReadsType config outer s c x q t → u ≡ with_types t ys
+          → u ≡ with_types s (x ∷ ys)
       one s t u c x q ys (made, e) f = f ∙ (ap (λ z. with_types z ys) e ∙ with_behind s x ys)
         where
           with_behind : (s : Scope) (x : Entry) (ys : List Entry) → with_types (with_type s x) ys ≡ with_types s (x ∷ ys)
           with_behind s x ys = ap (λ ts. record { types = ts; core_types = s.core_types }) (append_assoc s.types (x ∷ []) ys)
 
   -- There are no fewer than there must be.
-  pub types_enough : {min max : ℕ} {own next : Scope} {b rest : List ℕ} {xs : List Entry} → min ≤ max → ReadsTypes config outer min max own b xs rest next → min ≤ length xs
+  pub types_enough : {min max : ℕ} {own next : Scope} {b rest : List ℕ} {xs : List Entry} → min ≤ max → ReadsTypes config outer min max own b xs rest next
+      → min ≤ length xs
   types_enough {own = own} {next = next} {b = b} {rest = rest} {xs = xs} few r =
       let n = loop_enough (λ s c q t e. absurd e) few 0 own b xs rest next r in omega (arith, n)
 
   -- They are determined.
-  pub types_same : {min max : ℕ} {own next other : Scope} {b r s : List ℕ} {xs ys : List Entry} → ReadsTypes config outer min max own b xs r next → ReadsTypes config outer min max own b ys s other → (xs ≡ ys) × (r ≡ s)
+  pub types_same : {min max : ℕ} {own next other : Scope} {b r s : List ℕ} {xs ys : List Entry} → ReadsTypes config outer min max own b xs r next
+      → ReadsTypes config outer min max own b ys s other → (xs ≡ ys) × (r ≡ s)
   types_same {own = own} {next = next} {other = other} {b = b} {r = r} {s = s} {xs = xs} {ys = ys} x y =
       let d = loop_same (λ s c q p t u e f. absurd e) (λ s c x q p t u e i. e) one 0 own b xs ys r s next other x y in (d.0, d.1)
     where
-      one : (s : Scope) (c : List ℕ) (x y : Entry) (q p : List ℕ) (t u : Scope) → ReadsType config outer s c x q t → ReadsType config outer s c y p u → (x ≡ y) × (q ≡ p) × (t ≡ u)
+      one : (s : Scope) (c : List ℕ) (x y : Entry) (q p : List ℕ) (t u : Scope) → ReadsType config outer s c x q t → ReadsType config outer s c y p u
+          → (x ≡ y) × (q ≡ p) × (t ≡ u)
       one s c x y q p t u (made, e) (other, f) =
           let m = made_with_same made other in
           (m.0, m.1, e ∙ (ap (with_type s) m.0 ∙ sym f))
@@ -84,18 +97,29 @@ module _ (config : Config) (outer : List Scope) where
   abbrev Said : Scope → Entry → Type 0
   Said s x = FormedEntry x s outer × EntryLimits config x × Lasts x config (suc (length outer)) config.max_type_size × IsFew s
 
-  all_said : (xs : List Entry) (own : Scope) → FormedTypes xs own outer → AllByRecursion (EntryLimits config) xs → AllByRecursion (λ e. Lasts e config (suc (length outer)) config.max_type_size) xs → length own.types + length own.core_types + length xs ≤ 2 ^ 64 → Along Said with_type own xs
+  all_said : (xs : List Entry) (own : Scope) → FormedTypes xs own outer → AllByRecursion (EntryLimits config) xs
+      → AllByRecursion (λ e. Lasts e config (suc (length outer)) config.max_type_size) xs → length own.types + length own.core_types + length xs ≤ 2 ^ 64
+      → Along Said with_type own xs
   all_said [] own f m l small = tt
-  all_said (x ∷ xs) own f m l small = ((f.0, m.0, l.0, omega arith), all_said xs (with_type own x) f.1 m.1 l.1 (omega (arith, length-append own.types (x ∷ []))))
+  all_said (x ∷ xs) own f m l small = (
+    (f.0, m.0, l.0, omega arith),
+    all_said xs (with_type own x) f.1 m.1 l.1 (omega (arith, length-append own.types (x ∷ []))),
+  )
 
   -- Their script is read as them.
-  pub types_read : AllByRecursion IsFew outer → suc (length outer) ≤ 1000 → config.max_nesting_depth ≤ 1000 → (xs : List Entry) (max : ℕ) (own : Scope) (rest : List ℕ) → FormedTypes xs own outer → AllByRecursion (EntryLimits config) xs
-      → AllByRecursion (λ e. Lasts e config (suc (length outer)) config.max_type_size) xs → length xs ≤ max → length own.types + length own.core_types + length xs ≤ 2 ^ 64
+  pub types_read : AllByRecursion IsFew outer → suc (length outer) ≤ 1000 → config.max_nesting_depth ≤ 1000
+      → (xs : List Entry) (max : ℕ) (own : Scope) (rest : List ℕ) → FormedTypes xs own outer → AllByRecursion (EntryLimits config) xs
+      → AllByRecursion (λ e. Lasts e config (suc (length outer)) config.max_type_size) xs → length xs ≤ max
+      → length own.types + length own.core_types + length xs ≤ 2 ^ 64
       → ReadsTypes config outer 0 max own (script_types config max own outer xs ++ rest) xs rest (after_all with_type own xs)
   types_read around shallow deep xs max own rest f m l few small =
-      loop_read (λ s e. script_type e config config.max_type_size s outer) with_type Said one xs 0 own rest (all_said xs own f m l small) (omega arith) (omega arith)
+      loop_read (λ s e. script_type e config config.max_type_size s outer) with_type Said one xs 0 own rest (all_said xs own f m l small) (omega arith)
+      (omega arith)
     where
-      one : (s : Scope) (x : Entry) (rest : List ℕ) → Said s x → ReadsType config outer s (script_type x config config.max_type_size s outer ++ rest) x rest (with_type s x)
+      one : (s : Scope) (x : Entry) (rest : List ℕ) → Said s x
+          → ReadsType config outer s (script_type x config config.max_type_size s outer ++ rest) x rest (with_type s x)
       one s x rest (formed, limits, lasts, small) =
-          let fit : Fit (s ∷ outer) = record { many = omega (arith, shallow); each = (small, around) } in
-          (type_read config deep s outer config.max_type_size x rest (record { formed = formed; limits = limits; lasts = lasts; fit = fit; shallow = shallow }), refl)
+          let fit : Fit (s ∷ outer) = record { many = omega (arith, shallow); each = (small, around) } in (
+            type_read config deep s outer config.max_type_size x rest (record { formed = formed; limits = limits; lasts = lasts; fit = fit; shallow = shallow }),
+            refl,
+          )

@@ -16,7 +16,8 @@ use Rattle.smith_component.proofs.Filling.{filled_surely}
 
 module _ (config : Config) (stack : Open) (left : List ℕ) where
   -- A component that lacks something is one whose finish was chosen.
-  pub finish_refused : (after : List ℕ) → ReadsAmong (items config stack left) left Finish after → (e : Error) → IsFillRefusal config stack after e → IsStepRefusal config stack left e
+  pub finish_refused : (after : List ℕ) → ReadsAmong (items config stack left) left Finish after → (e : Error) → IsFillRefusal config stack after e
+      → IsStepRefusal config stack left e
   finish_refused after choice InconsistentLimits h = absurd h
   finish_refused after choice MinimumNotMet h = (after, choice, h)
   finish_refused after choice ModuleRefused h = absurd h
@@ -25,7 +26,8 @@ module _ (config : Config) (stack : Open) (left : List ℕ) where
   finish_refused after choice PartsDisagree h = absurd h
 
   -- A core module that is refused is one that was chosen.
-  pub module_refused : (after : List ℕ) → ReadsAmong (items config stack left) left Module after → (e : Error) → IsStandInRefusal config e → IsStepRefusal config stack left e
+  pub module_refused : (after : List ℕ) → ReadsAmong (items config stack left) left Module after → (e : Error) → IsStandInRefusal config e
+      → IsStepRefusal config stack left e
   module_refused after choice InconsistentLimits h = absurd h
   module_refused after choice MinimumNotMet h = absurd h
   module_refused after choice ModuleRefused h = (after, choice, h)
@@ -38,7 +40,8 @@ module _ (config : Config) (stack : Open) (left : List ℕ) where
   memory_refused e h = subst (IsStepRefusal config stack left) (sym h) tt
 
   -- What refuses a step refuses the run that leads to it.
-  pub step_refused : (input : List ℕ) → IsConsistent config → (LacksAt config stack left → LacksOn config input) → (RefusesModuleAt config stack left → RefusesModuleOn config input) → (e : Error) → IsStepRefusal config stack left e → IsRefusal config input e
+  pub step_refused : (input : List ℕ) → IsConsistent config → (LacksAt config stack left → LacksOn config input)
+      → (RefusesModuleAt config stack left → RefusesModuleOn config input) → (e : Error) → IsStepRefusal config stack left e → IsRefusal config input e
   step_refused input consistent lacks refuses InconsistentLimits h = absurd h
   step_refused input consistent lacks refuses MinimumNotMet h = (consistent, lacks h)
   step_refused input consistent lacks refuses ModuleRefused h = (consistent, refuses h)
@@ -47,7 +50,8 @@ module _ (config : Config) (stack : Open) (left : List ℕ) where
   step_refused input consistent lacks refuses PartsDisagree h = absurd h
 
 -- Where what lacks can be filled, it is no minimum that refuses a step.
-pub never_minimum : (config : Config) (stack : Open) (left : List ℕ) → IsConsistent config → IsGrounded stack.inner → CanFill config stack.inner → (e : Error) → IsStepRefusal config stack left e → ¬ (e ≡ MinimumNotMet)
+pub never_minimum : (config : Config) (stack : Open) (left : List ℕ) → IsConsistent config → IsGrounded stack.inner → CanFill config stack.inner → (e : Error)
+    → IsStepRefusal config stack left e → ¬ (e ≡ MinimumNotMet)
 never_minimum config stack left consistent grounded can e h m =
     let lacks : LacksAt config stack left = subst (IsStepRefusal config stack left) m h in
     filled_surely config stack lacks.0 consistent grounded can lacks.2
@@ -71,7 +75,8 @@ module _ (config : Config) where
   new_accepted consistent OutOfMemory h = refl
   new_accepted consistent PartsDisagree h = absurd h
 
-  pub refused_accepted : (input : List ℕ) → IsConsistent config → (LacksOn config input → ⊥) → (RefusesModuleOn config input → ⊥) → (e : Error) → IsRefusal config input e → e ≡ OutOfMemory
+  pub refused_accepted : (input : List ℕ) → IsConsistent config → (LacksOn config input → ⊥) → (RefusesModuleOn config input → ⊥) → (e : Error)
+      → IsRefusal config input e → e ≡ OutOfMemory
   refused_accepted input consistent never left InconsistentLimits h = absurd (h consistent)
   refused_accepted input consistent never left MinimumNotMet h = absurd (never h.1)
   refused_accepted input consistent never left ModuleRefused h = absurd (left h.1)

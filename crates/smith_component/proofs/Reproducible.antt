@@ -9,7 +9,8 @@ use Rattle.smith_component.specs.Grammar.{Spells, component_text}
 use Rattle.smith_component.specs.Open.{Open, root}
 use Rattle.smith_component.specs.Refusals.{IsGenerateRefusal, LacksOn, RefusesModuleOn}
 use Rattle.smith_component.specs.Tree.{Tree}
-use Rattle.smith_component.specs.Turn.{Next, building, answered, LacksAt, RunsTo, Turn, Turns}
+use Rattle.smith_component.specs.Turn.{Next, building, answered, LacksAt, Turn}
+use Rattle.smith_component.specs.Runs.{RunsTo, Turns}
 use Rattle.smith_component.specs.declared.item.Item.TheVariants.{Finish, Module}
 use Rattle.smith_component.proofs.Decided.{lacks_no_turn, moves, refuses_no_turn, runs_lack_none, runs_refuse_no_module, runs_to_same, turn_same}
 
@@ -18,7 +19,8 @@ abbrev IsStuck : Config → Open → List ℕ → Type 0
 IsStuck config stack left = (next : Next) (rest : List ℕ) → Turn config stack left next rest → ⊥
 
 -- Two runs that get stuck get stuck at the same place.
-stuck_same : (j k : ℕ) (config : Config) (now : Next) (left : List ℕ) (s t : Open) (b c : List ℕ) → Turns config now left (building s) b j → Turns config now left (building t) c k → IsStuck config s b → IsStuck config t c → (s ≡ t) × (b ≡ c)
+stuck_same : (j k : ℕ) (config : Config) (now : Next) (left : List ℕ) (s t : Open) (b c : List ℕ) → Turns config now left (building s) b j
+    → Turns config now left (building t) c k → IsStuck config s b → IsStuck config t c → (s ≡ t) × (b ≡ c)
 stuck_same zero zero config now left s t b c (e, l) (f, m) p q = let g : building s ≡ building t = e ∙ sym f in (let z : s ≡ t = cc in z, l ∙ sym m)
 stuck_same zero (suc k) config (answered u) left s t b c x y p q = absurd y
 stuck_same zero (suc k) config (building now) left s t b c (e, l) (mid, left1, one, more) p q =
@@ -39,7 +41,8 @@ stuck_same (suc j) (suc k) config (building now) left s t b c (mid, left1, one, 
 -- No input both lacks something and has a core module refused.
 apart : (config : Config) (input : List ℕ) → LacksOn config input → RefusesModuleOn config input → ⊥
 apart config input l m =
-    let same = stuck_same l.turns m.turns config (building root) input l.stack m.stack l.left m.left l.run m.run (λ n r t. lacks_no_turn l.there t) (λ n r t. refuses_no_turn m.there t) in
+    let same = stuck_same l.turns m.turns config (building root) input l.stack m.stack l.left m.left l.run m.run (λ n r t. lacks_no_turn l.there t)
+    (λ n r t. refuses_no_turn m.there t) in
     let P : Open → Type 0 = λ z. LacksAt config z l.left in
     let Q : List ℕ → Type 0 = λ z. LacksAt config m.stack z in
     let here : LacksAt config m.stack m.left = subst Q same.1 (subst P same.0 l.there) in
@@ -48,7 +51,8 @@ apart config input l m =
 
 module _ (config : Config) (input : List ℕ) where
   -- What is answered is not refused, want of memory aside.
-  pub answer_or_memory : (c : Tree) (left b : List ℕ) → IsConsistent config → RunsTo config input c left → Spells c b → (e : Error) → IsGenerateRefusal config input e → e ≡ OutOfMemory
+  pub answer_or_memory : (c : Tree) (left b : List ℕ) → IsConsistent config → RunsTo config input c left → Spells c b → (e : Error)
+      → IsGenerateRefusal config input e → e ≡ OutOfMemory
   answer_or_memory c left b consistent run spells InconsistentLimits h = absurd (h consistent)
   answer_or_memory c left b consistent run spells MinimumNotMet h = absurd (runs_lack_none config input c left run.turns run.run h.1)
   answer_or_memory c left b consistent run spells ModuleRefused h = absurd (runs_refuse_no_module config input c left run.turns run.run h.1)

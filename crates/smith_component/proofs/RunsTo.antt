@@ -4,7 +4,8 @@ use Rattle.smith_input.specs.declared.error.Error.{Error}
 use Rattle.smith_format.specs.Limits.{IsConsistent}
 use Rattle.smith_format.specs.declared.config.Config.{Config}
 use Rattle.smith_component.specs.Tree.{Tree, no_depth}
-use Rattle.smith_component.specs.Turn.{Run, RunsTo, Next, building, answered, Turn, Turns, LacksAt, RefusesModuleAt, todo}
+use Rattle.smith_component.specs.Turn.{Next, building, answered, Turn, LacksAt, RefusesModuleAt}
+use Rattle.smith_component.specs.Runs.{Run, RunsTo, Turns, todo}
 use Rattle.smith_component.specs.Limits.{max_depth}
 use Rattle.smith_component.specs.Open.{Open, root}
 use Rattle.smith_component.specs.Sound.{Sound}
@@ -22,7 +23,8 @@ todo_some config [] stack = omega arith
 todo_some config (x ∷ xs) stack = omega arith
 
 -- A run has no more turns than there is to do.
-turns_few : (k : ℕ) (config : Config) (stack : Open) (left : List ℕ) (c : Tree) (r : List ℕ) → length stack.outer + 1 ≤ max_depth config → Turns config (building stack) left (answered c) r k → k ≤ todo config left stack
+turns_few : (k : ℕ) (config : Config) (stack : Open) (left : List ℕ) (c : Tree) (r : List ℕ) → length stack.outer + 1 ≤ max_depth config
+    → Turns config (building stack) left (answered c) r k → k ≤ todo config left stack
 turns_few zero config stack left c r m t = omega arith
 turns_few (suc zero) config stack left c r m t = todo_some config left stack
 turns_few (suc (suc k)) config stack left c r m (answered t, left1, one, none) = absurd none
@@ -47,34 +49,41 @@ pub record Reached (config : Config) (input : List ℕ) (stack : Open) (left : L
 pub reached_start : (config : Config) (input : List ℕ) → Reached config input root input
 reached_start config input = record { onward = λ next rest k t. (k, t) }
 
-reached_turn : (config : Config) (input : List ℕ) (stack next : Open) (left left2 : List ℕ) → Reached config input stack left → Turn config stack left (building next) left2 → Reached config input next left2
+reached_turn : (config : Config) (input : List ℕ) (stack next : Open) (left left2 : List ℕ) → Reached config input stack left
+    → Turn config stack left (building next) left2 → Reached config input next left2
 reached_turn config input stack next left left2 r t = record { onward = λ n rest k ts. r.onward n rest (suc k) (building next, left2, t, ts) }
 
-reached_end : (config : Config) (input : List ℕ) (stack : Open) (c : Tree) (left left2 : List ℕ) → Reached config input stack left → Turn config stack left (answered c) left2 → RunsTo config input c left2
+reached_end : (config : Config) (input : List ℕ) (stack : Open) (c : Tree) (left left2 : List ℕ) → Reached config input stack left
+    → Turn config stack left (answered c) left2 → RunsTo config input c left2
 reached_end config input stack c left left2 r t =
     let j = r.onward (answered c) left2 1 (answered c, left2, t, (refl, refl)) in
     runs_to config input c left2 j.0 j.1
 
 -- What is true where the run has come comes to be on the input.
-reached_there : (At : Open → List ℕ → Type 0) (config : Config) (input : List ℕ) (stack : Open) (left : List ℕ) → Reached config input stack left → At stack left → Comes config At input
+reached_there : (At : Open → List ℕ → Type 0) (config : Config) (input : List ℕ) (stack : Open) (left : List ℕ) → Reached config input stack left
+    → At stack left → Comes config At input
 reached_there At config input stack left r there =
     let j = r.onward (building stack) left 0 (refl, refl) in
     record { stack = stack; left = left; turns = j.0; run = j.1; there = there }
 
 -- The same where the config and what comes next are known by equations.
 
-pub reached_step : (config same : Config) (input : List ℕ) (stack next : Open) (now : Next) (left left2 : List ℕ) → same ≡ config → now ≡ building next → Reached config input stack left → Turn same stack left now left2 → Reached config input next left2
+pub reached_step : (config same : Config) (input : List ℕ) (stack next : Open) (now : Next) (left left2 : List ℕ) → same ≡ config → now ≡ building next
+    → Reached config input stack left → Turn same stack left now left2 → Reached config input next left2
 reached_step config same input stack next now left left2 e n r t =
     let P : Config → Type 0 = λ x. Turn x stack left now left2 in
     let Q : Next → Type 0 = λ x. Turn config stack left x left2 in
     reached_turn config input stack next left left2 r (subst Q n (subst P e t))
 
-pub reached_refusal : (config same : Config) (input : List ℕ) (stack : Open) (left : List ℕ) → same ≡ config → Reached config input stack left → IsConsistent config → (e : Error) → IsStepRefusal same stack left e → IsRefusal config input e
+pub reached_refusal : (config same : Config) (input : List ℕ) (stack : Open) (left : List ℕ) → same ≡ config → Reached config input stack left
+    → IsConsistent config → (e : Error) → IsStepRefusal same stack left e → IsRefusal config input e
 reached_refusal config same input stack left e r consistent error h =
     let P : Config → Type 0 = λ x. IsStepRefusal x stack left error in
-    step_refused config stack left input consistent (reached_there (LacksAt config) config input stack left r) (reached_there (RefusesModuleAt config) config input stack left r) error (subst P e h)
+    step_refused config stack left input consistent (reached_there (LacksAt config) config input stack left r)
+    (reached_there (RefusesModuleAt config) config input stack left r) error (subst P e h)
 
-pub reached_answer : (config same : Config) (input : List ℕ) (stack : Open) (c : Tree) (now : Next) (left left2 : List ℕ) → same ≡ config → now ≡ answered c → Reached config input stack left → Turn same stack left now left2 → RunsTo config input c left2
+pub reached_answer : (config same : Config) (input : List ℕ) (stack : Open) (c : Tree) (now : Next) (left left2 : List ℕ) → same ≡ config → now ≡ answered c
+    → Reached config input stack left → Turn same stack left now left2 → RunsTo config input c left2
 reached_answer config same input stack c now left left2 e n r t =
     let P : Config → Type 0 = λ x. Turn x stack left now left2 in
     let Q : Next → Type 0 = λ x. Turn config stack left x left2 in

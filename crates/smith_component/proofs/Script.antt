@@ -1,5 +1,6 @@
 -- The script of a plan is read as that plan.
-use Rattle.std.proofs.Common.{◌≡◌, ℕ, zero, suc, ◌+◌, ◌<◌, List, [], ◌∷◌, ◌++◌, length, arith, ap, sym, subst, ◌∙◌, refl, true, false, Bool, inl, inr, append_assoc, length-append}
+use Rattle.std.proofs.Common.{◌≡◌, ℕ, zero, suc, ◌+◌, ◌<◌, List, [], ◌∷◌, ◌++◌, length, arith, ap, sym, subst, ◌∙◌, refl, true, false, Bool, inl, inr}
+use Rattle.std.proofs.Common.{append_assoc, length-append}
 use Rattle.std.specs.Bool.{Decides}
 use Rattle.std.specs.List.{AllByRecursion}
 use Rattle.std.specs.Prelude.{slice_get, Some}
@@ -19,7 +20,8 @@ use Rattle.smith_component.specs.Tree.{component_count, no_depth, most_nested}
 use Rattle.smith_component.specs.WellFormed.{Formed, FormedPart}
 use Rattle.smith_component.specs.Limits.{OwnLimits, Maxima, Minima}
 use Rattle.smith_component.specs.Open.{Open, root, more_items, items, items_with_input, is_module_offered, is_component_offered, tree_so_far, scopes_in}
-use Rattle.smith_component.specs.Turn.{Next, building, answered, Closes, Does, Turn, Turns, with_open, with_part}
+use Rattle.smith_component.specs.Turn.{Next, building, answered, Closes, Does, Turn, with_open, with_part}
+use Rattle.smith_component.specs.Runs.{Turns}
 use Rattle.smith_component.specs.Script.{Continues, item_of, script_item, script_part, script_from, script, IsPlan, IsPlanPart, Within}
 use Rattle.smith_component.specs.contracts.item.Item.{the_type}
 use Rattle.smith_component.specs.contracts.item.ItemPartialEq.TheImpl.{ghosts as equal}
@@ -40,7 +42,8 @@ item_Decides a b = (same_true the_type tt a b, true_same the_type a b)
 -- The script of an item that is offered is read as that item.
 pub item_read : (config : Config) (outer : List Tree) (inner : Tree) (item : Item) (place : ℕ) (rest : List ℕ)
     → slice_get (items_with_input config (record { outer = outer; inner = inner })) place ≡ Some item
-    → ReadsAmong (items config (record { outer = outer; inner = inner }) (script_item config outer inner item ++ rest)) (script_item config outer inner item ++ rest) item rest
+    → ReadsAmong (items config (record { outer = outer; inner = inner }) (script_item config outer inner item ++ rest))
+    (script_item config outer inner item ++ rest) item rest
 item_read config outer inner item place rest e =
     let stack : Open = record { outer = outer; inner = inner } in
     let xs : List Item = items_with_input config stack in
@@ -54,7 +57,8 @@ item_read config outer inner item place rest e =
 
 -- what stands at each place
 front : (config : Config) (outer : List Tree) (before : Tree) → let xs = items_with_input config (record { outer = outer; inner = before }) in
-    (slice_get xs 0 ≡ Some Finish) × (slice_get xs 1 ≡ Some Custom) × (slice_get xs 2 ≡ Some CoreTypes) × (slice_get xs 3 ≡ Some Types) × (slice_get xs 4 ≡ Some Imports) × (slice_get xs 5 ≡ Some Canonical)
+    (slice_get xs 0 ≡ Some Finish) × (slice_get xs 1 ≡ Some Custom) × (slice_get xs 2 ≡ Some CoreTypes) × (slice_get xs 3 ≡ Some Types)
+    × (slice_get xs 4 ≡ Some Imports) × (slice_get xs 5 ≡ Some Canonical)
 front config outer before = (refl, refl, refl, refl, refl, refl)
 
 last_item : (m c : Bool) → c ≡ true → (place : ℕ) × (slice_get (more_items m c) place ≡ Some Component)
@@ -77,10 +81,13 @@ limits_front (first p t) config outer a l =
     }
 
 -- A component that the limits allow is offered.
-offered_from : (config : Config) (outer : List Tree) (inner u : Tree) → Maxima config (tree_so_far outer (add inner (component u))) → is_component_offered config (record { outer = outer; inner = inner }) ≡ true
+offered_from : (config : Config) (outer : List Tree) (inner u : Tree) → Maxima config (tree_so_far outer (add inner (component u)))
+    → is_component_offered config (record { outer = outer; inner = inner }) ≡ true
 offered_from config outer inner u l =
-    let deep : length outer + 1 < config.max_nesting_depth = omega (arith, l.depth, depth-so_far no_depth outer inner (component u), depth-outer no_depth [] u) in
-    let few : component_count (tree_so_far outer inner) < config.max_components = omega (arith, l.components, component_count-so_far outer inner (component u)) in
+    let deep : length outer + 1 < config.max_nesting_depth =
+    omega (arith, l.depth, depth-so_far no_depth outer inner (component u), depth-outer no_depth [] u) in
+    let few : component_count (tree_so_far outer inner) < config.max_components =
+    omega (arith, l.components, component_count-so_far outer inner (component u)) in
     grind (arith, nat_tests)
 
 split_last : (a : Tree) (rest : List Tree) → (o : List Tree) × (p : Tree) × (a ∷ rest ≡ o ++ p ∷ [])
@@ -103,14 +110,17 @@ module _ (config : Config) (outer : List Tree) (before : Tree) (next : Next) (le
 
   adds : (p : Part) (place : ℕ) (later rest : List ℕ)
       → slice_get (items_with_input config (record { outer = outer; inner = before })) place ≡ Some (item_of p)
-      → Does config (item_of p) (record { outer = outer; inner = before }) (script_part p config outer before ++ (later ++ rest)) (with_part (record { outer = outer; inner = before }) p) (later ++ rest)
-      → Leads (add before p) (later ++ rest) → Leads before (((script_item config outer before (item_of p) ++ script_part p config outer before) ++ later) ++ rest)
+      → Does config (item_of p) (record { outer = outer; inner = before }) (script_part p config outer before ++ (later ++ rest))
+      (with_part (record { outer = outer; inner = before }) p) (later ++ rest)
+      → Leads (add before p) (later ++ rest) → Leads before (((script_item config outer before (item_of p) ++ script_part p config outer before) ++ later)
+      ++ rest)
   adds p place later rest named f m =
       let choice : List ℕ = script_item config outer before (item_of p) in
       let said : List ℕ = script_part p config outer before in
       let now : Next = building (record { outer = outer; inner = before }) in
       let R : List ℕ → Type 0 = λ z. Turns config now z next left (suc m.0) in
-      let whole : ((choice ++ said) ++ later) ++ rest ≡ choice ++ (said ++ (later ++ rest)) = append_assoc (choice ++ said) later rest ∙ append_assoc choice said (later ++ rest) in (
+      let whole : ((choice ++ said) ++ later) ++ rest ≡ choice ++ (said ++ (later ++ rest)) = append_assoc (choice ++ said) later rest
+      ∙ append_assoc choice said (later ++ rest) in (
         suc m.0,
         subst R (sym whole) (
           building (record { outer = outer; inner = add before p }),
@@ -121,22 +131,30 @@ module _ (config : Config) (outer : List Tree) (before : Tree) (next : Next) (le
       )
 
 -- what holds behind one part more
-limits_past : (p : Part) (t : Tree) (config : Config) (outer : List Tree) (before : Tree) → Maxima config (tree_so_far outer (join before (first p t))) → Maxima config (tree_so_far outer (join (add before p) t))
+limits_past : (p : Part) (t : Tree) (config : Config) (outer : List Tree) (before : Tree) → Maxima config (tree_so_far outer (join before (first p t)))
+    → Maxima config (tree_so_far outer (join (add before p) t))
 limits_past p t config outer before l = subst (λ x. Maxima config (tree_so_far outer x)) (sym (join-add before p t)) l
 
 enough_past : (p : Part) (t : Tree) (config : Config) (before : Tree) → Minima config (join before (first p t)) → Minima config (join (add before p) t)
 enough_past p t config before m = subst (Minima config) (sym (join-add before p t)) m
 
 after_past : (p : Part) (t : Tree) (config : Config) (outer : List Tree) (before : Tree) (next : Next) (left : List ℕ) (k : ℕ) (rest : List ℕ)
-    → ((n : Next) → Closes (record { outer = outer; inner = join before (first p t) }) n → Turns config n rest next left k) → (n : Next) → Closes (record { outer = outer; inner = join (add before p) t }) n → Turns config n rest next left k
+    → ((n : Next) → Closes (record { outer = outer; inner = join before (first p t) }) n → Turns config n rest next left k) → (n : Next)
+    → Closes (record { outer = outer; inner = join (add before p) t }) n → Turns config n rest next left k
 after_past p t config outer before next left k rest after n c = after n (subst (λ x. Closes (record { outer = outer; inner = x }) n) (join-add before p t) c)
 
 -- the limits of a component that has one part more
-part_limits : (p : Part) (t : Tree) (config : Config) (outer : List Tree) (before : Tree) → Maxima config (tree_so_far outer (join before (first p t))) → OwnLimits config (add before p)
-part_limits p t config outer before l = all_inner (OwnLimits config) outer (add before p) (limits_front t config outer (add before p) (limits_past p t config outer before l)).each
+part_limits : (p : Part) (t : Tree) (config : Config) (outer : List Tree) (before : Tree) → Maxima config (tree_so_far outer (join before (first p t)))
+    → OwnLimits config (add before p)
+part_limits p t config outer before l = all_inner (OwnLimits config) outer (add before p)
+    (limits_front t config outer (add before p) (limits_past p t config outer before l)).each
 
-reach_from : (t : Tree) (config : Config) (consistent : IsConsistent config) (outer : List Tree) (before : Tree) (spoken : AllByRecursion Spoken (types_of before)) (rest : List ℕ) (next : Next) (left : List ℕ) (k : ℕ) → IsPlan config (suc (length outer)) t → Formed t (scopes_in outer) before → Maxima config (tree_so_far outer (join before t))
-    → AllByRecursion (Minima config) (inside t) → Minima config (join before t) → ((n : Next) → Closes (record { outer = outer; inner = join before t }) n → Turns config n rest next left k) → Leads config outer before next left before (script_from t config outer before ++ rest)
+reach_from : (t : Tree) (config : Config) (consistent : IsConsistent config) (outer : List Tree) (before : Tree)
+    (spoken : AllByRecursion Spoken (types_of before)) (rest : List ℕ) (next : Next) (left : List ℕ) (k : ℕ) → IsPlan config (suc (length outer)) t
+    → Formed t (scopes_in outer) before → Maxima config (tree_so_far outer (join before t))
+    → AllByRecursion (Minima config) (inside t) → Minima config (join before t)
+    → ((n : Next) → Closes (record { outer = outer; inner = join before t }) n → Turns config n rest next left k)
+    → Leads config outer before next left before (script_from t config outer before ++ rest)
 reach_from ends config consistent outer before spoken rest next left k plan formed l each enough after =
     let c = closes_some outer before in
     let P : Tree → Type 0 = λ x. Closes (record { outer = outer; inner = x }) c.0 in (
@@ -144,35 +162,55 @@ reach_from ends config consistent outer before spoken rest next left k plan form
       (
         c.0,
         rest,
-        record { item = Finish; after = rest; chooses = item_read config outer before Finish 0 rest (front config outer before).0; does = (before, fills_nothing config (record { outer = outer; inner = before }) rest (subst (Minima config) (join-ends before) enough), c.1) },
+        record {
+          item = Finish;
+          after = rest;
+          chooses = item_read config outer before Finish 0 rest (front config outer before).0;
+          does = (before, fills_nothing config (record { outer = outer; inner = before }) rest (subst (Minima config) (join-ends before) enough), c.1);
+        },
         after c.0 (subst P (sym (join-ends before)) c.1),
       ),
     )
 reach_from (first (custom name contents) t) config consistent outer before spoken rest next left k plan formed l each enough after =
     let p : Part = custom name contents in
     adds config outer before next left p 1 (script_from t config outer (add before p)) rest (front config outer before).1
-    (custom_part config (record { outer = outer; inner = before }) (script_from t config outer (add before p) ++ rest) name contents plan.0 formed.0 (part_limits p t config outer before l))
-    (reach_from t config consistent outer (add before p) (spoken_past config p (scopes_in outer) before (suc (length outer)) plan.0 formed.0 spoken) rest next left k plan.1 formed.1 (limits_past p t config outer before l) each (enough_past p t config before enough) (after_past p t config outer before next left k rest after))
+    (custom_part config (record { outer = outer; inner = before }) (script_from t config outer (add before p) ++ rest) name contents plan.0 formed.0
+    (part_limits p t config outer before l))
+    (reach_from t config consistent outer (add before p) (spoken_past config p (scopes_in outer) before (suc (length outer)) plan.0 formed.0 spoken) rest next
+    left k plan.1 formed.1 (limits_past p t config outer before l) each (enough_past p t config before enough)
+    (after_past p t config outer before next left k rest after))
 reach_from (first (core_types ts) t) config consistent outer before spoken rest next left k plan formed l each enough after =
     let p : Part = core_types ts in
     adds config outer before next left p 2 (script_from t config outer (add before p)) rest (front config outer before).2
-    (core_types_part config (record { outer = outer; inner = before }) (script_from t config outer (add before p) ++ rest) ts plan.0 formed.0 (part_limits p t config outer before l))
-    (reach_from t config consistent outer (add before p) (spoken_past config p (scopes_in outer) before (suc (length outer)) plan.0 formed.0 spoken) rest next left k plan.1 formed.1 (limits_past p t config outer before l) each (enough_past p t config before enough) (after_past p t config outer before next left k rest after))
+    (core_types_part config (record { outer = outer; inner = before }) (script_from t config outer (add before p) ++ rest) ts plan.0 formed.0
+    (part_limits p t config outer before l))
+    (reach_from t config consistent outer (add before p) (spoken_past config p (scopes_in outer) before (suc (length outer)) plan.0 formed.0 spoken) rest next
+    left k plan.1 formed.1 (limits_past p t config outer before l) each (enough_past p t config before enough)
+    (after_past p t config outer before next left k rest after))
 reach_from (first (types es) t) config consistent outer before spoken rest next left k plan formed l each enough after =
     let p : Part = types es in
     adds config outer before next left p 3 (script_from t config outer (add before p)) rest (front config outer before).3
-    (types_part config (record { outer = outer; inner = before }) (script_from t config outer (add before p) ++ rest) consistent es (limits_front t config outer (add before p) (limits_past p t config outer before l)) plan.0 formed.0 (part_limits p t config outer before l))
-    (reach_from t config consistent outer (add before p) (spoken_past config p (scopes_in outer) before (suc (length outer)) plan.0 formed.0 spoken) rest next left k plan.1 formed.1 (limits_past p t config outer before l) each (enough_past p t config before enough) (after_past p t config outer before next left k rest after))
+    (types_part config (record { outer = outer; inner = before }) (script_from t config outer (add before p) ++ rest) consistent es
+    (limits_front t config outer (add before p) (limits_past p t config outer before l)) plan.0 formed.0 (part_limits p t config outer before l))
+    (reach_from t config consistent outer (add before p) (spoken_past config p (scopes_in outer) before (suc (length outer)) plan.0 formed.0 spoken) rest next
+    left k plan.1 formed.1 (limits_past p t config outer before l) each (enough_past p t config before enough)
+    (after_past p t config outer before next left k rest after))
 reach_from (first (imports is) t) config consistent outer before spoken rest next left k plan formed l each enough after =
     let p : Part = imports is in
     adds config outer before next left p 4 (script_from t config outer (add before p)) rest (front config outer before).4
-    (imports_part config (record { outer = outer; inner = before }) (script_from t config outer (add before p) ++ rest) consistent is (limits_front t config outer (add before p) (limits_past p t config outer before l)) plan.0 formed.0 (part_limits p t config outer before l))
-    (reach_from t config consistent outer (add before p) (spoken_past config p (scopes_in outer) before (suc (length outer)) plan.0 formed.0 spoken) rest next left k plan.1 formed.1 (limits_past p t config outer before l) each (enough_past p t config before enough) (after_past p t config outer before next left k rest after))
+    (imports_part config (record { outer = outer; inner = before }) (script_from t config outer (add before p) ++ rest) consistent is
+    (limits_front t config outer (add before p) (limits_past p t config outer before l)) plan.0 formed.0 (part_limits p t config outer before l))
+    (reach_from t config consistent outer (add before p) (spoken_past config p (scopes_in outer) before (suc (length outer)) plan.0 formed.0 spoken) rest next
+    left k plan.1 formed.1 (limits_past p t config outer before l) each (enough_past p t config before enough)
+    (after_past p t config outer before next left k rest after))
 reach_from (first (canons fs) t) config consistent outer before spoken rest next left k plan formed l each enough after =
     let p : Part = canons fs in
     adds config outer before next left p 5 (script_from t config outer (add before p)) rest (front config outer before).5
-    (canons_part config (record { outer = outer; inner = before }) (script_from t config outer (add before p) ++ rest) consistent spoken fs plan.0 formed.0 (part_limits p t config outer before l))
-    (reach_from t config consistent outer (add before p) (spoken_past config p (scopes_in outer) before (suc (length outer)) plan.0 formed.0 spoken) rest next left k plan.1 formed.1 (limits_past p t config outer before l) each (enough_past p t config before enough) (after_past p t config outer before next left k rest after))
+    (canons_part config (record { outer = outer; inner = before }) (script_from t config outer (add before p) ++ rest) consistent spoken fs plan.0 formed.0
+    (part_limits p t config outer before l))
+    (reach_from t config consistent outer (add before p) (spoken_past config p (scopes_in outer) before (suc (length outer)) plan.0 formed.0 spoken) rest next
+    left k plan.1 formed.1 (limits_past p t config outer before l) each (enough_past p t config before enough)
+    (after_past p t config outer before next left k rest after))
 reach_from (first (core_module text) t) config consistent outer before spoken rest next left k plan formed l each enough after = absurd plan.0
 reach_from (first (component u) t) config consistent outer before spoken rest next left k plan formed l each enough after =
     let p : Part = component u in
@@ -181,7 +219,9 @@ reach_from (first (component u) t) config consistent outer before spoken rest ne
     let st : List ℕ = script_from t config outer (add before p) in
     let su : List ℕ = script_from u config (outer ++ before ∷ []) ends in
     let choice : List ℕ = script_item config outer before Component in
-    let m = reach_from t config consistent outer (add before p) (spoken_past config p (scopes_in outer) before (suc (length outer)) plan.0 formed.0 spoken) rest next left k plan.1 formed.1 (limits_past p t config outer before l) (all_back (Minima config) (u ∷ inside u) (inside t) minima) (enough_past p t config before enough) (after_past p t config outer before next left k rest after) in
+    let m = reach_from t config consistent outer (add before p) (spoken_past config p (scopes_in outer) before (suc (length outer)) plan.0 formed.0 spoken) rest
+    next left k plan.1 formed.1 (limits_past p t config outer before l) (all_back (Minima config) (u ∷ inside u) (inside t) minima)
+    (enough_past p t config before enough) (after_past p t config outer before next left k rest after) in
     let here : Maxima config (tree_so_far outer (add before p)) = limits_front t config outer (add before p) (limits_past p t config outer before l) in
     let there : Maxima config (tree_so_far (outer ++ before ∷ []) u) = subst (Maxima config) (sym (tree_so_far-close outer before u)) here in
     let F : List Scope → Type 0 = λ ss. Formed u ss ends in
@@ -194,10 +234,12 @@ reach_from (first (component u) t) config consistent outer before spoken rest ne
       | inr (o, q, a, b) ↦
           let s = last_same outer o before q a in
           let T : Next → Type 0 = λ z. Turns config z (st ++ rest) next left m.0 in
-          subst T (ap (λ z. building (record { outer = z; inner = add before p })) s.0 ∙ ap (λ z. building (record { outer = o; inner = add z p })) s.1 ∙ sym b) m.1
+          subst T (ap (λ z. building (record { outer = z; inner = add before p })) s.0 ∙ ap (λ z. building (record { outer = o; inner = add z p })) s.1 ∙ sym b)
+          m.1
     ] in
     let i = reach_from u config consistent (outer ++ before ∷ []) ends tt (st ++ rest) next left m.0 deeper inner there in_it.1 in_it.0 back in
-    let last = last_item (is_module_offered config (record { outer = outer; inner = before })) (is_component_offered config (record { outer = outer; inner = before })) (offered_from config outer before u here) in
+    let last = last_item (is_module_offered config (record { outer = outer; inner = before }))
+    (is_component_offered config (record { outer = outer; inner = before })) (offered_from config outer before u here) in
     let now : Next = building (record { outer = outer; inner = before }) in
     let R : List ℕ → Type 0 = λ z. Turns config now z next left (suc i.0) in
     let whole : ((choice ++ su) ++ st) ++ rest ≡ choice ++ (su ++ (st ++ rest)) = append_assoc (choice ++ su) st rest ∙ append_assoc choice su (st ++ rest) in (
@@ -215,7 +257,8 @@ reach_from (first (component u) t) config consistent outer before spoken rest ne
       ),
     )
 
-pub reach : (config : Config) (plan : Tree) (rest : List ℕ) → IsConsistent config → Within config plan → (k : ℕ) × Turns config (building root) (script config plan ++ rest) (answered plan) rest k
+pub reach : (config : Config) (plan : Tree) (rest : List ℕ) → IsConsistent config → Within config plan
+    → (k : ℕ) × Turns config (building root) (script config plan ++ rest) (answered plan) rest k
 reach config plan rest consistent w =
     reach_from plan config consistent [] ends tt rest (answered plan) rest zero w.scripted w.formed w.limits.maxima w.limits.minima.1 w.limits.minima.0
     (λ n c. elim c [ inl (x, y) ↦ (sym y, refl) | inr (o, p, x, y) ↦ absurd (not_empty o p (sym x)) ])
@@ -223,28 +266,35 @@ reach config plan rest consistent w =
 -- Turns of a script by themselves.
 
 -- where something stands that is offered, its script and what follows is a turn
-turn_of : (config : Config) (stack : Open) (item : Item) (place : ℕ) (said rest : List ℕ) (next : Next) → slice_get (items_with_input config stack) place ≡ Some item → Does config item stack (said ++ rest) next rest
+turn_of : (config : Config) (stack : Open) (item : Item) (place : ℕ) (said rest : List ℕ) (next : Next)
+    → slice_get (items_with_input config stack) place ≡ Some item → Does config item stack (said ++ rest) next rest
     → Turn config stack ((script_item config stack.outer stack.inner item ++ said) ++ rest) next rest
 turn_of config stack item place said rest next named does =
     let choice : List ℕ = script_item config stack.outer stack.inner item in
-    subst (λ z. Turn config stack z next rest) (sym (append_assoc choice said rest)) (record { item = item; after = said ++ rest; chooses = item_read config stack.outer stack.inner item place (said ++ rest) named; does = does })
+    subst (λ z. Turn config stack z next rest) (sym (append_assoc choice said rest))
+    (record { item = item; after = said ++ rest; chooses = item_read config stack.outer stack.inner item place (said ++ rest) named; does = does })
 
 plan_front : (t : Tree) (p : Part) (config : Config) (scopes : ℕ) → IsPlan config scopes (add t p) → IsPlan config scopes t × IsPlanPart config scopes p
 plan_front ends p config scopes plan = (tt, plan.0)
 plan_front (first q t) p config scopes plan = let r = plan_front t p config scopes plan.1 in ((plan.0, r.0), r.1)
 
 -- the types of a plan can be said
-spoken_in : (t : Tree) (config : Config) (outer : List Scope) (before : Tree) (scopes : ℕ) → IsPlan config scopes t → Formed t outer before → AllByRecursion Spoken (types_of before) → AllByRecursion Spoken (types_of (join before t))
+spoken_in : (t : Tree) (config : Config) (outer : List Scope) (before : Tree) (scopes : ℕ) → IsPlan config scopes t → Formed t outer before
+    → AllByRecursion Spoken (types_of before) → AllByRecursion Spoken (types_of (join before t))
 spoken_in ends config outer before scopes plan formed spoken = subst (λ x. AllByRecursion Spoken (types_of x)) (sym (join-ends before)) spoken
 spoken_in (first p t) config outer before scopes plan formed spoken =
-    subst (λ x. AllByRecursion Spoken (types_of x)) (join-add before p t) (spoken_in t config outer (add before p) scopes plan.1 formed.1 (spoken_past config p outer before scopes plan.0 formed.0 spoken))
+    subst (λ x. AllByRecursion Spoken (types_of x)) (join-add before p t)
+    (spoken_in t config outer (add before p) scopes plan.1 formed.1 (spoken_past config p outer before scopes plan.0 formed.0 spoken))
 
 module _ (config : Config) (consistent : IsConsistent config) (stack : Open) where
   at : (config : Config) (stack : Open) → let xs = items_with_input config stack in
-      (slice_get xs 1 ≡ Some Custom) × (slice_get xs 2 ≡ Some CoreTypes) × (slice_get xs 3 ≡ Some Types) × (slice_get xs 4 ≡ Some Imports) × (slice_get xs 5 ≡ Some Canonical)
+      (slice_get xs 1 ≡ Some Custom) × (slice_get xs 2 ≡ Some CoreTypes) × (slice_get xs 3 ≡ Some Types) × (slice_get xs 4 ≡ Some Imports)
+      × (slice_get xs 5 ≡ Some Canonical)
   at config stack = (refl, refl, refl, refl, refl)
 
-  pub part_turn : (p : Part) (rest : List ℕ) → ¬ (item_of p ≡ Component) → Continues config stack p → Turn config stack ((script_item config stack.outer stack.inner (item_of p) ++ script_part p config stack.outer stack.inner) ++ rest) (with_part stack p) rest
+  pub part_turn : (p : Part) (rest : List ℕ) → ¬ (item_of p ≡ Component) → Continues config stack p
+      → Turn config stack ((script_item config stack.outer stack.inner (item_of p) ++ script_part p config stack.outer stack.inner) ++ rest) (with_part stack p)
+      rest
   part_turn p rest flat c =
       let plan = plan_front stack.inner p config (suc (length stack.outer)) c.plan in
       let formed = formed_front stack.inner p (scopes_in stack.outer) ends c.formed in
@@ -252,21 +302,35 @@ module _ (config : Config) (consistent : IsConsistent config) (stack : Open) whe
       let spoken = spoken_in stack.inner config (scopes_in stack.outer) ends (suc (length stack.outer)) plan.0 formed.0 tt in
       does p flat c.maxima plan.1 formed.1 own spoken
     where
-      does : (p : Part) → ¬ (item_of p ≡ Component) → Maxima config (tree_so_far stack.outer (add stack.inner p)) → IsPlanPart config (suc (length stack.outer)) p → FormedPart p (scopes_in stack.outer) stack.inner → OwnLimits config (add stack.inner p)
-          → AllByRecursion Spoken (types_of stack.inner) → Turn config stack ((script_item config stack.outer stack.inner (item_of p) ++ script_part p config stack.outer stack.inner) ++ rest) (with_part stack p) rest
-      does (custom name contents) flat m plan formed own spoken = turn_of config stack Custom 1 _ rest _ (at config stack).0 (custom_part config stack rest name contents plan formed own)
+      does : (p : Part) → ¬ (item_of p ≡ Component) → Maxima config (tree_so_far stack.outer (add stack.inner p))
+          → IsPlanPart config (suc (length stack.outer)) p → FormedPart p (scopes_in stack.outer) stack.inner → OwnLimits config (add stack.inner p)
+          → AllByRecursion Spoken (types_of stack.inner) → Turn config stack
+          ((script_item config stack.outer stack.inner (item_of p) ++ script_part p config stack.outer stack.inner) ++ rest) (with_part stack p) rest
+      does (custom name contents) flat m plan formed own spoken =
+          turn_of config stack Custom 1 _ rest _ (at config stack).0 (custom_part config stack rest name contents plan formed own)
       does (core_module text) flat m plan formed own spoken = absurd plan
-      does (core_types ts) flat m plan formed own spoken = turn_of config stack CoreTypes 2 _ rest _ (at config stack).1 (core_types_part config stack rest ts plan formed own)
+      does (core_types ts) flat m plan formed own spoken = turn_of config stack CoreTypes 2 _ rest _ (at config stack).1
+          (core_types_part config stack rest ts plan formed own)
       does (component t) flat m plan formed own spoken = absurd (flat refl)
-      does (types ts) flat m plan formed own spoken = turn_of config stack Types 3 _ rest _ (at config stack).2 (types_part config stack rest consistent ts m plan formed own)
-      does (canons fs) flat m plan formed own spoken = turn_of config stack Canonical 5 _ rest _ (at config stack).4 (canons_part config stack rest consistent spoken fs plan formed own)
-      does (imports is) flat m plan formed own spoken = turn_of config stack Imports 4 _ rest _ (at config stack).3 (imports_part config stack rest consistent is m plan formed own)
+      does (types ts) flat m plan formed own spoken = turn_of config stack Types 3 _ rest _ (at config stack).2
+          (types_part config stack rest consistent ts m plan formed own)
+      does (canons fs) flat m plan formed own spoken = turn_of config stack Canonical 5 _ rest _ (at config stack).4
+          (canons_part config stack rest consistent spoken fs plan formed own)
+      does (imports is) flat m plan formed own spoken = turn_of config stack Imports 4 _ rest _ (at config stack).3
+          (imports_part config stack rest consistent is m plan formed own)
 
-pub opening_turn : (config : Config) (stack : Open) (rest : List ℕ) → is_component_offered config stack ≡ true → Turn config stack (script_item config stack.outer stack.inner Component ++ rest) (with_open stack) rest
+pub opening_turn : (config : Config) (stack : Open) (rest : List ℕ) → is_component_offered config stack ≡ true
+    → Turn config stack (script_item config stack.outer stack.inner Component ++ rest) (with_open stack) rest
 opening_turn config stack rest offered =
     let last = last_item (is_module_offered config stack) (is_component_offered config stack) offered in
     record { item = Component; after = rest; chooses = item_read config stack.outer stack.inner Component last.0 rest last.1; does = (refl, refl) }
 
-pub closing_turn : (config : Config) (stack : Open) (next : Next) (rest : List ℕ) → Minima config stack.inner → Closes stack next → Turn config stack (script_item config stack.outer stack.inner Finish ++ rest) next rest
+pub closing_turn : (config : Config) (stack : Open) (next : Next) (rest : List ℕ) → Minima config stack.inner → Closes stack next
+    → Turn config stack (script_item config stack.outer stack.inner Finish ++ rest) next rest
 closing_turn config stack next rest enough closes =
-    record { item = Finish; after = rest; chooses = item_read config stack.outer stack.inner Finish 0 rest (front config stack.outer stack.inner).0; does = (stack.inner, fills_nothing config stack rest enough, closes) }
+    record {
+      item = Finish;
+      after = rest;
+      chooses = item_read config stack.outer stack.inner Finish 0 rest (front config stack.outer stack.inner).0;
+      does = (stack.inner, fills_nothing config stack rest enough, closes);
+    }

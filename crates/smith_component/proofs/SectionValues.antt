@@ -18,12 +18,13 @@ use Rattle.smith_types.specs.MakingTypes.{HoldsExterns}
 use Rattle.smith_component.specs.Building.{Building, open_of}
 use Rattle.smith_component.specs.Imports.{NoImport, ReadsImport, ReadsImports}
 use Rattle.smith_component.specs.Open.{Open}
-use Rattle.smith_component.specs.SectionValues.{AddsImportSection, AddsSection, AddsTypeSection, NoImportValue, ReadsCoreTypeValue, ReadsImportValue, ReadsTypeValue, extern_of, externs_in, externs_of}
+use Rattle.smith_component.specs.SectionValues.{AddsImportSection, AddsSection, AddsTypeSection, NoImportValue, ReadsCoreTypeValue, ReadsImportValue}
+use Rattle.smith_component.specs.SectionValues.{ReadsTypeValue, extern_of, externs_in, externs_of}
 use Rattle.smith_component.specs.Shown.{shown_section, shown_sections}
 use Rattle.smith_component.specs.Tables.{IsTabled, Tabled}
 use Rattle.smith_component.specs.Spaces.{after_part, core_functions_of, functions_of, spaces_of}
 use Rattle.smith_component.specs.Tree.{imports_in, imports_of}
-use Rattle.smith_component.specs.Turn.{Adds, ReadsCoreTypes, ReadsTypes}
+use Rattle.smith_component.specs.AddedSections.{Adds, ReadsCoreTypes, ReadsTypes}
 use Rattle.smith_component.specs.WellFormed.{import_names}
 use Rattle.smith_component.specs.declared.builder.open.OpenComponent.{OpenComponent}
 use Rattle.smith_component.specs.declared.builder.tables.Tables.{Tables}
@@ -44,11 +45,14 @@ types_shown config outer {own = own} {next = next} {b = b} {rest = rest} {ts = t
 
 pub core_types_shown : (config : Config) {max : ℕ} {own next : Scope} {b rest : List ℕ} {ts : List (Rc CoreType Global)}
     → Loop Never (ReadsCoreTypeValue config) 0 max 0 own b ts rest next → ReadsCoreTypes config max own b (map shown_shared_core ts) rest next
-core_types_shown config {own = own} {next = next} {b = b} {rest = rest} {ts = ts} r = loop_map shown_shared_core (λ s c t q u (reads, kept). reads) 0 own b ts rest next r
+core_types_shown config {own = own} {next = next} {b = b} {rest = rest} {ts = ts} r =
+    loop_map shown_shared_core (λ s c t q u (reads, kept). reads) 0 own b ts rest next r
 
 -- the same entries where the scopes and the room are known by equations
-pub entries_where : {A : Type 0} (R : List Scope → Scope → List ℕ → A → List ℕ → Scope → Type 0) (scopes outer : List Scope) (own : Scope) (max room : ℕ) {min : ℕ} {next : Scope} {b rest : List ℕ} {xs : List A}
-    → scopes ≡ own ∷ outer → max ≡ room → Loop Never (R (outer_of scopes)) min max 0 (own_of scopes) b xs rest next → Loop Never (R outer) min room 0 own b xs rest next
+pub entries_where : {A : Type 0} (R : List Scope → Scope → List ℕ → A → List ℕ → Scope → Type 0) (scopes outer : List Scope) (own : Scope) (max room : ℕ)
+    {min : ℕ} {next : Scope} {b rest : List ℕ} {xs : List A}
+    → scopes ≡ own ∷ outer → max ≡ room → Loop Never (R (outer_of scopes)) min max 0 (own_of scopes) b xs rest next
+    → Loop Never (R outer) min room 0 own b xs rest next
 entries_where R scopes outer own max room {min} {next} {b} {rest} {xs} e m r =
     let P : ℕ → Type 0 = λ n. Loop Never (R outer) min n 0 own b xs rest next in
     let Q : List Scope → Type 0 = λ ss. Loop Never (R (outer_of ss)) min max 0 (own_of ss) b xs rest next in
@@ -86,7 +90,8 @@ externs_named (s ∷ ss) =
 -- There are as many as imports.
 pub import_count : (ss : List Section) → length (externs_of ss) ≡ length (imports_of (shown_sections ss))
 import_count ss =
-    sym (length-map (externs_of ss) (λ (x : NamedExtern). x.0)) ∙ (ap length (externs_named ss) ∙ length-map (imports_of (shown_sections ss)) (λ (i : ImportEntry). i.name))
+    sym (length-map (externs_of ss) (λ (x : NamedExtern). x.0))
+    ∙ (ap length (externs_named ss) ∙ length-map (imports_of (shown_sections ss)) (λ (i : ImportEntry). i.name))
 
 -- An import section that is read is read of what it shows.
 module _ (config : Config) (stack : Open) (before : List NamedExtern) (are : names before ≡ import_names (imports_of stack.inner)) where
@@ -97,7 +102,8 @@ module _ (config : Config) (stack : Open) (before : List NamedExtern) (are : nam
       ∙ (ap (λ ns. import_names (imports_of stack.inner) ++ ns) (names_shown is)
       ∙ sym (import_names_both (imports_of stack.inner) (map import_shown is))))
 
-  import_is_shown : (s : List Import) (b : List ℕ) (x : Import) (rest : List ℕ) (t : List Import) → ReadsImportValue config stack before s b x rest t → ReadsImport config stack (map import_shown s) b (import_shown x) rest (map import_shown t)
+  import_is_shown : (s : List Import) (b : List ℕ) (x : Import) (rest : List ℕ) (t : List Import) → ReadsImportValue config stack before s b x rest t
+      → ReadsImport config stack (map import_shown s) b (import_shown x) rest (map import_shown t)
   import_is_shown s b x rest t i = record {
     mid = i.mid;
     so_far = before ++ map extern_of s;
@@ -108,19 +114,23 @@ module _ (config : Config) (stack : Open) (before : List NamedExtern) (are : nam
     next_is = ap (map import_shown) i.next_is ∙ map-append import_shown s (x ∷ []);
   }
 
-  pub imports_shown : {min max : ℕ} (done : ℕ) (s : List Import) (b : List ℕ) (xs : List Import) (rest : List ℕ) (t : List Import) → Loop (NoImportValue config stack) (ReadsImportValue config stack before) min max done s b xs rest t
+  pub imports_shown : {min max : ℕ} (done : ℕ) (s : List Import) (b : List ℕ) (xs : List Import) (rest : List ℕ) (t : List Import)
+      → Loop (NoImportValue config stack) (ReadsImportValue config stack before) min max done s b xs rest t
       → Loop (NoImport config stack) (ReadsImport config stack) min max done (map import_shown s) b (map import_shown xs) rest (map import_shown t)
   imports_shown done s b xs rest t (no_more m e) = no_more m (ap (map import_shown) e)
   imports_shown done s b xs rest t (by_itself m e) = by_itself m (e.0, e.1, ap (map import_shown) e.2)
-  imports_shown done s b xs rest u (an_item {t = t} {mid = mid} {after = after} {x = x} {xs = ys} m i l) = an_item m (import_is_shown s mid x after t i) (imports_shown (done + 1) t after ys rest u l)
+  imports_shown done s b xs rest u (an_item {t = t} {mid = mid} {after = after} {x = x} {xs = ys} m i l) =
+      an_item m (import_is_shown s mid x after t i) (imports_shown (done + 1) t after ys rest u l)
 
 -- What a section with a minimum adds, as a plain tree.
-pub section_shown : (what : Counted) (config : Config) (min : ℕ) (old new : Building) (b rest : List ℕ) → AddsSection what config min old b new rest → Adds what config min (open_of old) b (open_of new).inner rest
+pub section_shown : (what : Counted) (config : Config) (min : ℕ) (old new : Building) (b rest : List ℕ) → AddsSection what config min old b new rest
+    → Adds what config min (open_of old) b (open_of new).inner rest
 section_shown counted.Types config min old new b rest a =
     (map shown_shared a.section.types.items, a.scope, types_shown config _ a.reads, ap shown_sections a.added ∙ shown_push old.inner (Types a.section))
 section_shown counted.Imports config min old new b rest a =
     let is : List Import = a.section.imports.items in
-    let reads : ReadsImports config min (open_of old) b (map import_shown is) rest = imports_shown config (open_of old) (externs_of old.inner) (externs_named old.inner) 0 [] b is rest is a.reads in
+    let reads : ReadsImports config min (open_of old) b (map import_shown is) rest =
+    imports_shown config (open_of old) (externs_of old.inner) (externs_named old.inner) 0 [] b is rest is a.reads in
     (map import_shown is, reads, ap shown_sections a.added ∙ shown_push old.inner (Imports a.section))
 section_shown counted.Functions config min old new b rest a = a
 
@@ -150,9 +160,11 @@ pub is_tabled_added : (old new : OpenComponent) (s : Section) → new.sections.i
 is_tabled_added old new s e tables fs cs is i =
     let shown = ap shown_sections e ∙ shown_push old.sections.items s in
     let same : externs_of new.sections.items ≡ externs_of old.sections.items =
-    ap externs_of e ∙ (externs_push old.sections.items s ∙ (ap (λ z. externs_of old.sections.items ++ z) (no_externs s is) ∙ append-nil (externs_of old.sections.items))) in
+    ap externs_of e ∙ (externs_push old.sections.items s ∙ (ap (λ z. externs_of old.sections.items ++ z) (no_externs s is)
+    ∙ append-nil (externs_of old.sections.items))) in
     let P : Tables → Type 0 = λ z. HoldsExterns z.imports (externs_of new.sections.items) in
     record {
-      tabled = tabled_added (shown_sections old.sections.items) (shown_sections new.sections.items) (shown_section s) shown fs cs (subst (λ z. Tabled z (shown_sections old.sections.items)) (sym tables) i.tabled);
+      tabled = tabled_added (shown_sections old.sections.items) (shown_sections new.sections.items) (shown_section s) shown fs cs
+          (subst (λ z. Tabled z (shown_sections old.sections.items)) (sym tables) i.tabled);
       externs = subst P (sym tables) (subst (HoldsExterns old.tables.imports) (sym same) i.externs);
     }

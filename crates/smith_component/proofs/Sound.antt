@@ -13,7 +13,7 @@ use Rattle.smith_component.specs.Tree.{Tree, ends, Part, custom, core_module, co
 use Rattle.smith_component.specs.Tree.{components_in}
 use Rattle.smith_component.specs.Tree.{modules_in, imported_modules_in, imported_components_in, imported_instances_in, anywhere_in, depth_in, no_depth}
 use Rattle.smith_component.specs.Tree.{most_nested, scope_depth_in, module_count, component_count, instance_count}
-use Rattle.smith_component.specs.Importing.{Totalled}
+use Rattle.smith_component.specs.ImportsState.{Totalled}
 use Rattle.smith_component.specs.Open.{Open, tree_so_far, is_module_offered, is_component_offered, scopes_in, scopes_from, with_inner}
 use Rattle.smith_component.specs.Turn.{building, Closes}
 use Rattle.smith_component.specs.WellFormed.{FormedPart, WellFormed, scope_of}
@@ -27,22 +27,28 @@ use Rattle.smith_scopes.proofs.Plain.{all_both, all_front, all_back}
 
 -- How many modules, components and instances there are where the inner component grows.
 
-pub length-inside-so_far : (outer : List Tree) (t : Tree) (p : Part) → length (inside (tree_so_far outer (add t p))) ≡ length (inside (tree_so_far outer t)) + length (anywhere_in components_in p)
+pub length-inside-so_far : (outer : List Tree) (t : Tree) (p : Part)
+    → length (inside (tree_so_far outer (add t p))) ≡ length (inside (tree_so_far outer t)) + length (anywhere_in components_in p)
 length-inside-so_far outer t p = length-anywhere-so_far components_in (record { same = λ a b. refl }) outer t p
 
-pub module_count-so_far : (outer : List Tree) (t : Tree) (p : Part) → module_count (tree_so_far outer (add t p)) ≡ module_count (tree_so_far outer t) + (length (anywhere_in modules_in p) + length (anywhere_in imported_modules_in p))
+pub module_count-so_far : (outer : List Tree) (t : Tree) (p : Part)
+    → module_count (tree_so_far outer (add t p)) ≡ module_count (tree_so_far outer t)
+    + (length (anywhere_in modules_in p) + length (anywhere_in imported_modules_in p))
 module_count-so_far outer t p =
     let a = length-anywhere-so_far modules_in (record { same = λ a b. refl }) outer t p in
     let b = length-anywhere-so_far imported_modules_in (record { same = λ a b. refl }) outer t p in
     omega (arith, a, b)
 
-pub component_count-so_far : (outer : List Tree) (t : Tree) (p : Part) → component_count (tree_so_far outer (add t p)) ≡ component_count (tree_so_far outer t) + (length (anywhere_in components_in p) + length (anywhere_in imported_components_in p))
+pub component_count-so_far : (outer : List Tree) (t : Tree) (p : Part)
+    → component_count (tree_so_far outer (add t p)) ≡ component_count (tree_so_far outer t)
+    + (length (anywhere_in components_in p) + length (anywhere_in imported_components_in p))
 component_count-so_far outer t p =
     let a = length-inside-so_far outer t p in
     let b = length-anywhere-so_far imported_components_in (record { same = λ a b. refl }) outer t p in
     omega (arith, a, b)
 
-pub instance_count-so_far : (outer : List Tree) (t : Tree) (p : Part) → instance_count (tree_so_far outer (add t p)) ≡ instance_count (tree_so_far outer t) + length (anywhere_in imported_instances_in p)
+pub instance_count-so_far : (outer : List Tree) (t : Tree) (p : Part)
+    → instance_count (tree_so_far outer (add t p)) ≡ instance_count (tree_so_far outer t) + length (anywhere_in imported_instances_in p)
 instance_count-so_far outer t p = length-anywhere-so_far imported_instances_in (record { same = λ a b. refl }) outer t p
 
 -- What stands in a part that is no component is its own.
@@ -63,22 +69,26 @@ pub own_limits_of : (config : Config) (stack : Open) → Sound config stack → 
 own_limits_of config stack s = all_inner (OwnLimits config) stack.outer stack.inner s.maxima.each
 
 -- A part that may be added keeps all that is true.
-pub part_sound : (config : Config) (stack : Open) (p : Part) → IsAddable config stack p → Sound config stack → Sound config (with_inner stack (add stack.inner p))
+pub part_sound : (config : Config) (stack : Open) (p : Part) → IsAddable config stack p → Sound config stack
+    → Sound config (with_inner stack (add stack.inner p))
 part_sound config stack p a s =
     let outer : List Tree = stack.outer in
     let inner : Tree = stack.inner in
     let none : length (anywhere_in components_in p) ≡ 0 = ap length a.no_component in
     let mods : length (anywhere_in modules_in p) ≡ length (modules_in p) = ap length (in_own modules_in p a.no_component) in
     let imps : length (anywhere_in imported_modules_in p) ≡ length (imported_modules_in p) = ap length (in_own imported_modules_in p a.no_component) in
-    let comps : length (anywhere_in imported_components_in p) ≡ length (imported_components_in p) = ap length (in_own imported_components_in p a.no_component) in
+    let comps : length (anywhere_in imported_components_in p) ≡ length (imported_components_in p) =
+    ap length (in_own imported_components_in p a.no_component) in
     let insts : length (anywhere_in imported_instances_in p) ≡ length (imported_instances_in p) = ap length (in_own imported_instances_in p a.no_component) in
     let deep = depth-outer no_depth outer inner in
-    let same : inside (add inner p) ≡ inside inner = anywhere-add components_in inner p ∙ (ap (λ x. inside inner ++ x) a.no_component ∙ append-nil (inside inner)) in
+    let same : inside (add inner p) ≡ inside inner = anywhere-add components_in inner p
+    ∙ (ap (λ x. inside inner ++ x) a.no_component ∙ append-nil (inside inner)) in
     record {
       consistent = s.consistent;
       formed = formed_so_far outer [] inner p s.formed a.formed;
       maxima = record {
-        each = all_so_far (OwnLimits config) (own_limits_swap config) outer inner p (a.own (own_limits_of config stack s)) (subst (AllByRecursion (OwnLimits config)) (sym a.no_component) tt) s.maxima.each;
+        each = all_so_far (OwnLimits config) (own_limits_swap config) outer inner p (a.own (own_limits_of config stack s))
+            (subst (AllByRecursion (OwnLimits config)) (sym a.no_component) tt) s.maxima.each;
         modules = omega (arith, module_count-so_far outer inner p, a.modules s.maxima.modules, mods, imps);
         components = omega (arith, component_count-so_far outer inner p, a.components s.maxima.components, none, comps);
         instances = omega (arith, instance_count-so_far outer inner p, a.instances s.maxima.instances, insts);
@@ -92,19 +102,24 @@ part_sound config stack p a s =
     }
 
 -- The components that are finished, where the inner one is closed.
-finished_close : (config : Config) (outer : List Tree) (parent inner : Tree) → Minima config inner → AllByRecursion (Minima config) (finished_in (record { outer = outer ++ parent ∷ []; inner = inner }))
+finished_close : (config : Config) (outer : List Tree) (parent inner : Tree) → Minima config inner
+    → AllByRecursion (Minima config) (finished_in (record { outer = outer ++ parent ∷ []; inner = inner }))
     → AllByRecursion (Minima config) (finished_in (record { outer = outer; inner = add parent (component inner) }))
 finished_close config outer parent inner enough all =
     let P : List Tree → Type 0 = AllByRecursion (Minima config) in
     let front : List Tree = flat_map inside (outer ++ parent ∷ []) in
-    let split : front ≡ flat_map inside outer ++ inside parent = flat_map-append inside outer (parent ∷ []) ∙ ap (λ x. flat_map inside outer ++ x) (append-nil (inside parent)) in
+    let split : front ≡ flat_map inside outer ++ inside parent = flat_map-append inside outer (parent ∷ [])
+    ∙ ap (λ x. flat_map inside outer ++ x) (append-nil (inside parent)) in
     let before : P (flat_map inside outer ++ inside parent) = subst P split (all_front (Minima config) front (inside inner) all) in
     let own : P (inside inner) = all_back (Minima config) front (inside inner) all in
-    let new : P (inside parent ++ (inner ∷ inside inner)) = all_both (Minima config) (inside parent) (inner ∷ inside inner) (all_back (Minima config) (flat_map inside outer) (inside parent) before) (enough, own) in
-    all_both (Minima config) (flat_map inside outer) (inside (add parent (component inner))) (all_front (Minima config) (flat_map inside outer) (inside parent) before)
+    let new : P (inside parent ++ (inner ∷ inside inner)) = all_both (Minima config) (inside parent) (inner ∷ inside inner)
+    (all_back (Minima config) (flat_map inside outer) (inside parent) before) (enough, own) in
+    all_both (Minima config) (flat_map inside outer) (inside (add parent (component inner)))
+    (all_front (Minima config) (flat_map inside outer) (inside parent) before)
     (subst P (sym (anywhere-add components_in parent (component inner))) new)
 
-pub sound_close : (config : Config) (outer : List Tree) (parent inner : Tree) → Minima config inner → Sound config (record { outer = outer ++ parent ∷ []; inner = inner }) → Sound config (record { outer = outer; inner = add parent (component inner) })
+pub sound_close : (config : Config) (outer : List Tree) (parent inner : Tree) → Minima config inner
+    → Sound config (record { outer = outer ++ parent ∷ []; inner = inner }) → Sound config (record { outer = outer; inner = add parent (component inner) })
 sound_close config outer parent inner enough s =
     let e : tree_so_far (outer ++ parent ∷ []) inner ≡ tree_so_far outer (add parent (component inner)) = tree_so_far-close outer parent inner in
     record {
@@ -120,18 +135,31 @@ finished_open : (config : Config) (outer : List Tree) (inner : Tree) → AllByRe
 finished_open config outer inner all =
     let P : List Tree → Type 0 = AllByRecursion (Minima config) in
     let whole : flat_map inside (outer ++ inner ∷ []) ++ [] ≡ flat_map inside outer ++ inside inner =
-    append-nil (flat_map inside (outer ++ inner ∷ [])) ∙ (flat_map-append inside outer (inner ∷ []) ∙ ap (λ x. flat_map inside outer ++ x) (append-nil (inside inner))) in
+    append-nil (flat_map inside (outer ++ inner ∷ [])) ∙ (flat_map-append inside outer (inner ∷ [])
+    ∙ ap (λ x. flat_map inside outer ++ x) (append-nil (inside inner))) in
     subst P (sym whole) all
 
-pub sound_open : (config : Config) (outer : List Tree) (inner : Tree) → length outer + 1 < config.max_nesting_depth → component_count (tree_so_far outer inner) < config.max_components → Sound config (record { outer = outer; inner = inner })
+pub sound_open : (config : Config) (outer : List Tree) (inner : Tree) → length outer + 1 < config.max_nesting_depth
+    → component_count (tree_so_far outer inner) < config.max_components → Sound config (record { outer = outer; inner = inner })
     → Sound config (record { outer = outer ++ inner ∷ []; inner = ends })
 sound_open config outer inner deep few s =
     let e : tree_so_far (outer ++ inner ∷ []) ends ≡ tree_so_far outer (add inner (component ends)) = tree_so_far-close outer inner ends in
     let stack : Open = record { outer = outer; inner = inner } in
     let whole : Maxima config (tree_so_far outer (add inner (component ends))) = record {
       each =
-          all_so_far (OwnLimits config) (own_limits_swap config) outer inner (component ends) (own_limits-component config inner ends (own_limits_of config stack s))
-          (record { types = omega arith; core_types = omega arith; imports = omega arith; functions = omega arith; within_types = tt; within_core_types = tt; names = tt }, tt) s.maxima.each;
+          all_so_far (OwnLimits config) (own_limits_swap config) outer inner (component ends)
+          (own_limits-component config inner ends (own_limits_of config stack s)) (
+            record {
+              types = omega arith;
+              core_types = omega arith;
+              imports = omega arith;
+              functions = omega arith;
+              within_types = tt;
+              within_core_types = tt;
+              names = tt;
+            },
+            tt,
+          ) s.maxima.each;
       modules = omega (arith, module_count-so_far outer inner (component ends), s.maxima.modules);
       components = omega (arith, component_count-so_far outer inner (component ends), few);
       instances = omega (arith, instance_count-so_far outer inner (component ends), s.maxima.instances);
@@ -151,8 +179,10 @@ sound_open config outer inner deep few s =
 
 -- A part that adds nothing but names and modules.
 pub addable_bare : (config : Config) (stack : Open) (p : Part) → FormedPart p (scopes_in stack.outer) stack.inner → IsQuiet p → Short (names_in p)
-    → (module_count (tree_so_far stack.outer stack.inner) ≤ config.max_modules → module_count (tree_so_far stack.outer stack.inner) + (length (modules_in p) + length (imported_modules_in p)) ≤ config.max_modules)
-    → imported_components_in p ≡ [] → imported_instances_in p ≡ [] → anywhere_in components_in p ≡ [] → depth_in p ≡ 1 → scope_depth_in p ≡ 1 → IsAddable config stack p
+    → (module_count (tree_so_far stack.outer stack.inner) ≤ config.max_modules
+    → module_count (tree_so_far stack.outer stack.inner) + (length (modules_in p) + length (imported_modules_in p)) ≤ config.max_modules)
+    → imported_components_in p ≡ [] → imported_instances_in p ≡ [] → anywhere_in components_in p ≡ [] → depth_in p ≡ 1 → scope_depth_in p ≡ 1
+    → IsAddable config stack p
 addable_bare config stack p f q ns ms cs is none flat low = record {
   formed = f;
   own = λ o. own_limits-add config stack.inner p o (subst (Fits config) (sym (q.spaces (spaces_of stack.inner))) (fits_of config stack.inner o))
@@ -171,13 +201,16 @@ addable_custom config stack name contents short =
     addable_bare config stack (custom name contents) tt (record { spaces = λ s. refl; imports = refl }) (short, tt) (λ h. omega (arith, h))
     refl refl refl refl refl
 
-pub addable_module : (config : Config) (stack : Open) (text : List ℕ) → module_count (tree_so_far stack.outer stack.inner) < config.max_modules → IsAddable config stack (core_module text)
+pub addable_module : (config : Config) (stack : Open) (text : List ℕ) → module_count (tree_so_far stack.outer stack.inner) < config.max_modules
+    → IsAddable config stack (core_module text)
 addable_module config stack text few =
     addable_bare config stack (core_module text) tt (record { spaces = λ s. refl; imports = refl }) tt (λ h. omega (arith, few)) refl refl refl refl refl
 
 -- Types that find room.
-pub addable_types : (config : Config) (stack : Open) (es : List Entry) → FormedPart (types es) (scopes_in stack.outer) stack.inner → length (types_of stack.inner) + length es ≤ config.max_types
-    → AllByRecursion (EntryLimits config) es → length stack.outer + 1 + most_nested es ≤ max (length stack.outer + 2) config.max_nesting_depth → SmallTypes config es → IsAddable config stack (types es)
+pub addable_types : (config : Config) (stack : Open) (es : List Entry) → FormedPart (types es) (scopes_in stack.outer) stack.inner
+    → length (types_of stack.inner) + length es ≤ config.max_types
+    → AllByRecursion (EntryLimits config) es → length stack.outer + 1 + most_nested es ≤ max (length stack.outer + 2) config.max_nesting_depth
+    → SmallTypes config es → IsAddable config stack (types es)
 addable_types config stack es f room limited nested small = record {
   formed = f;
   own = λ o.
@@ -198,7 +231,8 @@ addable_types config stack es f room limited nested small = record {
 }
 
 -- Core types that find room.
-pub addable_core_types : (config : Config) (stack : Open) (es : List CoreEntry) → FormedPart (core_types es) (scopes_in stack.outer) stack.inner → length (core_types_of stack.inner) + length es ≤ config.max_types
+pub addable_core_types : (config : Config) (stack : Open) (es : List CoreEntry) → FormedPart (core_types es) (scopes_in stack.outer) stack.inner
+    → length (core_types_of stack.inner) + length es ≤ config.max_types
     → AllByRecursion (CoreLimits config) es → SmallCoreTypes config es → IsAddable config stack (core_types es)
 addable_core_types config stack es f room limited small = record {
   formed = f;
@@ -223,8 +257,10 @@ own_length : {A : Type 0} (f : Part → List A) (p : Part) → anywhere_in compo
 own_length f p none = ap length (in_own f p none)
 
 -- Totals, where the inner component grows by a part without components.
-pub totalled_part : (config : Config) (outer : List Tree) (inner new : Tree) (old totals : TreeTotals) (p : Part) → anywhere_in components_in p ≡ [] → new ≡ add inner p
-    → totals.modules ≡ old.modules + (length (modules_in p) + length (imported_modules_in p)) → totals.components ≡ old.components + length (imported_components_in p) → totals.instances ≡ old.instances + length (imported_instances_in p)
+pub totalled_part : (config : Config) (outer : List Tree) (inner new : Tree) (old totals : TreeTotals) (p : Part) → anywhere_in components_in p ≡ []
+    → new ≡ add inner p
+    → totals.modules ≡ old.modules + (length (modules_in p) + length (imported_modules_in p))
+    → totals.components ≡ old.components + length (imported_components_in p) → totals.instances ≡ old.instances + length (imported_instances_in p)
     → Totalled old (record { outer = outer; inner = inner }) → Totalled totals (record { outer = outer; inner = new })
 totalled_part config outer inner new old totals p none e ms cs is t =
     subst (λ x. Totalled totals (record { outer = outer; inner = x })) (sym e) (record {
@@ -233,13 +269,16 @@ totalled_part config outer inner new old totals p none e ms cs is t =
       instances = omega (arith, is, t.instances, instance_count-so_far outer inner p, own_length imported_instances_in p none);
     })
 
-pub component_offered_is : (config : Config) (stack : Open) → is_component_offered config stack ≡ true → (length stack.outer + 1 < config.max_nesting_depth) × (component_count (tree_so_far stack.outer stack.inner) < config.max_components)
+pub component_offered_is : (config : Config) (stack : Open) → is_component_offered config stack ≡ true
+    → (length stack.outer + 1 < config.max_nesting_depth) × (component_count (tree_so_far stack.outer stack.inner) < config.max_components)
 component_offered_is config stack h = grind (arith, nat_tests)
 
-pub module_offered_is : (config : Config) (stack : Open) → is_module_offered config stack ≡ true → module_count (tree_so_far stack.outer stack.inner) < config.max_modules
+pub module_offered_is : (config : Config) (stack : Open) → is_module_offered config stack ≡ true
+    → module_count (tree_so_far stack.outer stack.inner) < config.max_modules
 module_offered_is config stack h = grind (arith, nat_tests)
 
-pub closes : (around outer : List Tree) (parent inner new : Tree) → around ≡ outer ++ parent ∷ [] → new ≡ add parent (component inner) → Closes (record { outer = around; inner = inner }) (building (record { outer = outer; inner = new }))
+pub closes : (around outer : List Tree) (parent inner new : Tree) → around ≡ outer ++ parent ∷ [] → new ≡ add parent (component inner)
+    → Closes (record { outer = around; inner = inner }) (building (record { outer = outer; inner = new }))
 closes around outer parent inner new a e = inr (outer, parent, a, ap (λ t. building (record { outer = outer; inner = t })) e)
 
 -- Scopes of components that are open.
@@ -253,7 +292,8 @@ length-scopes_from [] outer = omega arith
 length-scopes_from (u ∷ us) outer = omega (arith, length-scopes_from us (scope_of u ∷ outer))
 
 -- As many scopes stand as components are open, at most 1000.
-pub scopes_few : (config : Config) (stack : Open) (scopes : List Scope) → Sound config stack → scopes ≡ scope_of stack.inner ∷ scopes_in stack.outer → length scopes ≤ 1000
+pub scopes_few : (config : Config) (stack : Open) (scopes : List Scope) → Sound config stack → scopes ≡ scope_of stack.inner ∷ scopes_in stack.outer
+    → length scopes ≤ 1000
 scopes_few config stack scopes s e =
     omega (arith, ap length e, length-scopes_from stack.outer [], depth-outer no_depth stack.outer stack.inner, s.maxima.depth, s.consistent.nesting)
 
@@ -261,7 +301,8 @@ pub same_tail : (s t : Scope) (ss ts : List Scope) → s ∷ ss ≡ t ∷ ts →
 same_tail s t ss ts e = cc
 
 -- What is true of a root that stands alone, when it has enough.
-pub root_kept : (config : Config) (outer : List Tree) (inner t : Tree) → outer ≡ [] → inner ≡ t → Minima config inner → Sound config (record { outer = outer; inner = inner }) → Limits config t × WellFormed t × Sized config t
+pub root_kept : (config : Config) (outer : List Tree) (inner t : Tree) → outer ≡ [] → inner ≡ t → Minima config inner
+    → Sound config (record { outer = outer; inner = inner }) → Limits config t × WellFormed t × Sized config t
 root_kept config outer inner t none is enough s =
     let alone : Sound config (record { outer = []; inner = inner }) = subst (λ o. Sound config (record { outer = o; inner = inner })) none s in
     let root : Sound config (record { outer = []; inner = t }) = subst (λ i. Sound config (record { outer = []; inner = i })) is alone in
@@ -269,7 +310,8 @@ root_kept config outer inner t none is enough s =
 
 -- Totals, where an empty component is opened in the inner one.
 pub totalled_open : (outer around : List Tree) (inner new : Tree) (old totals : TreeTotals) → around ≡ outer ++ inner ∷ [] → new ≡ ends
-    → totals.modules ≡ old.modules → totals.components ≡ old.components + 1 → totals.instances ≡ old.instances → Totalled old (record { outer = outer; inner = inner }) → Totalled totals (record { outer = around; inner = new })
+    → totals.modules ≡ old.modules → totals.components ≡ old.components + 1 → totals.instances ≡ old.instances
+    → Totalled old (record { outer = outer; inner = inner }) → Totalled totals (record { outer = around; inner = new })
 totalled_open outer around inner new old totals a e ms cs is t =
     let close : tree_so_far (outer ++ inner ∷ []) ends ≡ tree_so_far outer (add inner (component ends)) = tree_so_far-close outer inner ends in
     let whole : Totalled totals (record { outer = outer ++ inner ∷ []; inner = ends }) = record {
@@ -277,14 +319,17 @@ totalled_open outer around inner new old totals a e ms cs is t =
       components = omega (arith, cs, t.components, component_count-so_far outer inner (component ends), ap component_count close);
       instances = omega (arith, is, t.instances, instance_count-so_far outer inner (component ends), ap instance_count close);
     } in
-    subst (λ us. Totalled totals (record { outer = us; inner = new })) (sym a) (subst (λ t. Totalled totals (record { outer = outer ++ inner ∷ []; inner = t })) (sym e) whole)
+    subst (λ us. Totalled totals (record { outer = us; inner = new })) (sym a)
+    (subst (λ t. Totalled totals (record { outer = outer ++ inner ∷ []; inner = t })) (sym e) whole)
 
 -- Totals, where the inner component is closed.
-pub totalled_close : (outer around : List Tree) (parent inner new : Tree) (totals : TreeTotals) → around ≡ outer ++ parent ∷ [] → new ≡ add parent (component inner)
+pub totalled_close : (outer around : List Tree) (parent inner new : Tree) (totals : TreeTotals) → around ≡ outer ++ parent ∷ []
+    → new ≡ add parent (component inner)
     → Totalled totals (record { outer = around; inner = inner }) → Totalled totals (record { outer = outer; inner = new })
 totalled_close outer around parent inner new totals a e t =
     let close : tree_so_far (outer ++ parent ∷ []) inner ≡ tree_so_far outer (add parent (component inner)) = tree_so_far-close outer parent inner in
-    let u : Totalled totals (record { outer = outer ++ parent ∷ []; inner = inner }) = subst (λ us. Totalled totals (record { outer = us; inner = inner })) a t in
+    let u : Totalled totals (record { outer = outer ++ parent ∷ []; inner = inner }) =
+    subst (λ us. Totalled totals (record { outer = us; inner = inner })) a t in
     let whole : Totalled totals (record { outer = outer; inner = add parent (component inner) }) = record {
       modules = u.modules ∙ ap module_count close;
       components = u.components ∙ ap component_count close;

@@ -110,13 +110,18 @@ scalars_entries s es g =
     (λ ty h. ap (λ o. elim o as (λ _. Bool) [ None ↦ false | Some e ↦ is_scalar_entry e ]) (get_left s.types es ty h)) s.functions g.known)
 
 -- A function more stands behind them where its type flattens.
-pub scalars_lift : (s : Spaces) (c t : ℕ) → scalar_functions (after_canon s (lift c t)) ≡ scalar_functions s ++ cond (is_scalar_type s.types t) (length s.functions ∷ []) []
+pub scalars_lift : (s : Spaces) (c t : ℕ) → scalar_functions (after_canon s (lift c t)) ≡ scalar_functions s ++ cond (is_scalar_type s.types t)
+    (length s.functions ∷ []) []
 scalars_lift s c t =
     places-append (is_scalar_type s.types) 0 s.functions (t ∷ [])
     ∙ ap (λ n. scalar_functions s ++ cond (is_scalar_type s.types t) (n ∷ []) []) (let z : 0 + length s.functions ≡ length s.functions = omega arith in z)
 
 pub scalars_grow : (s : Spaces) (c : Canon) → length (scalar_functions s) ≤ length (scalar_functions (after_canon s c))
-scalars_grow s (lift c t) = omega (arith, ap length (scalars_lift s c t), length-append (scalar_functions s) (cond (is_scalar_type s.types t) (length s.functions ∷ []) []))
+scalars_grow s (lift c t) = omega (
+  arith,
+  ap length (scalars_lift s c t),
+  length-append (scalar_functions s) (cond (is_scalar_type s.types t) (length s.functions ∷ []) []),
+)
 scalars_grow s (lower f) = omega arith
 
 -- Types by their signatures.
@@ -128,7 +133,8 @@ of_signature s (component_type ds) h = absurd (false≢true h)
 of_signature s (instance_type ds) h = absurd (false≢true h)
 
 -- One that is equal to a signature, by its place, is of it.
-pub equal_at : (ts : List Entry) (signature : Signature) (k t : ℕ) → slice_get (places (is_of_signature signature) 0 ts) k ≡ Some t → slice_get ts t ≡ Some (function signature)
+pub equal_at : (ts : List Entry) (signature : Signature) (k t : ℕ) → slice_get (places (is_of_signature signature) 0 ts) k ≡ Some t
+    → slice_get ts t ≡ Some (function signature)
 equal_at ts signature k t h =
     let p = place_stands (is_of_signature signature) ts k t h in
     p.1 ∙ ap Some (of_signature signature p.0 p.2)
@@ -139,7 +145,8 @@ same_test s (function f) = refl
 same_test s (component_type ds) = refl
 same_test s (instance_type ds) = refl
 
-equal_places : (signature : Signature) (i : ℕ) (ts : List DefType) → places (has_signature signature) i ts ≡ places (is_of_signature signature) i (map shown_type ts)
+equal_places : (signature : Signature) (i : ℕ) (ts : List DefType)
+    → places (has_signature signature) i ts ≡ places (is_of_signature signature) i (map shown_type ts)
 equal_places signature i [] = refl
 equal_places signature i (t ∷ ts) =
     let a = same_test signature (full_type t) in
@@ -147,7 +154,8 @@ equal_places signature i (t ∷ ts) =
     λ j. cond (a j) (i ∷ r j) (r j)
 
 -- Those of the last scope are those of the component.
-pub equal_own : (scopes : List Contents) (signature : Signature) → places (has_signature signature) 0 (last_of scopes).types ≡ places (is_of_signature signature) 0 (own_scope scopes).types
+pub equal_own : (scopes : List Contents) (signature : Signature)
+    → places (has_signature signature) 0 (last_of scopes).types ≡ places (is_of_signature signature) 0 (own_scope scopes).types
 equal_own scopes signature = equal_places signature 0 (last_of scopes).types ∙ ap (λ s. places (is_of_signature signature) 0 s.types) (sym (own_last scopes))
 
 -- Canonical functions in a row, where one more is formed behind them.

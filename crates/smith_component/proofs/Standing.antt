@@ -5,7 +5,7 @@ use Rattle.smith_input.proofs.Loops.{loop_gives}
 use Rattle.smith_format.specs.declared.config.Config.{Config}
 use Rattle.smith_syntax.specs.Entries.{Signature, function}
 use Rattle.smith_component.specs.Canonicals.{CanonTurn, Growing, LiftsTo, ReadsCanons, empty_section, given_up, grown, to_defined, to_equal}
-use Rattle.smith_component.specs.Importing.{Totalled}
+use Rattle.smith_component.specs.ImportsState.{Totalled}
 use Rattle.smith_component.specs.Spaces.{after_part, core_functions_of, functions_of, spaces_of, types_of}
 use Rattle.smith_component.specs.Tree.{Tree, Part, types, canons, add, module_of, component_of, instance_of}
 use Rattle.smith_component.specs.Tree.{imports_in, imported_modules_in, imported_components_in, imported_instances_in}
@@ -31,14 +31,18 @@ pub none_imported : (p : Part) → imports_in p ≡ [] → (imported_modules_in 
 none_imported p e = (ap (flat_map (λ i. module_of i.to)) e, ap (flat_map (λ i. component_of i.to)) e, ap (flat_map (λ i. instance_of i.to)) e)
 
 -- A canonical section leaves the totals as they are.
-with_section : (config : Config) (totals : TreeTotals) (outer : List Tree) (s : Growing) → Totalled totals (record { outer = outer; inner = s.before }) → Totalled totals (record { outer = outer; inner = grown s })
-with_section config totals outer s h = totalled_part config outer s.before _ totals totals (canons s.funcs) refl refl (omega arith) (omega arith) (omega arith) h
+with_section : (config : Config) (totals : TreeTotals) (outer : List Tree) (s : Growing) → Totalled totals (record { outer = outer; inner = s.before })
+    → Totalled totals (record { outer = outer; inner = grown s })
+with_section config totals outer s h = totalled_part config outer s.before _ totals totals (canons s.funcs) refl refl (omega arith) (omega arith) (omega arith)
+    h
 
 -- So do those that turns lead to.
-pub canons_totalled : (config : Config) (totals : TreeTotals) (outer : List Tree) (min : ℕ) (t : Tree) (b rest : List ℕ) (turns : List CanonItem) (next : Growing) → ReadsCanons config min t b turns rest next
+pub canons_totalled : (config : Config) (totals : TreeTotals) (outer : List Tree) (min : ℕ) (t : Tree) (b rest : List ℕ) (turns : List CanonItem)
+    (next : Growing) → ReadsCanons config min t b turns rest next
     → Totalled totals (record { outer = outer; inner = t }) → Totalled totals (record { outer = outer; inner = grown next })
 canons_totalled config totals outer min t b rest turns next r h =
-    with_section config totals outer next (loop_gives (λ s xs u. T s → T u) (λ s k. k) (λ s c q u e k. subst T (sym e.2) k) (λ s v u c item q xs turn later k. later (turned s item v c q turn k)) 0 (empty_section t) b turns rest next r h)
+    with_section config totals outer next (loop_gives (λ s xs u. T s → T u) (λ s k. k) (λ s c q u e k. subst T (sym e.2) k)
+    (λ s v u c item q xs turn later k. later (turned s item v c q turn k)) 0 (empty_section t) b turns rest next r h)
   where
     T : Growing → Type 0
     T s = Totalled totals (record { outer = outer; inner = s.before })
@@ -47,7 +51,8 @@ canons_totalled config totals outer min t b rest turns next r h =
     lifted s next c signature b rest (to_equal m e) k = subst T (sym e) k
     lifted s next c signature b rest (to_defined n m l e) k =
         let one = with_section config totals outer s k in
-        subst T (sym e) (totalled_part config outer (grown s) _ totals totals (types (function signature ∷ [])) refl refl (omega arith) (omega arith) (omega arith) one)
+        subst T (sym e) (totalled_part config outer (grown s) _ totals totals (types (function signature ∷ [])) refl refl (omega arith) (omega arith)
+        (omega arith) one)
     lifted s next c signature b rest (given_up n m l e) k = subst T (sym e) k
 
     turned : (s : Growing) (item : CanonItem) (next : Growing) (b rest : List ℕ) → CanonTurn config s b item rest next → T s → T next

@@ -1,5 +1,6 @@
 -- How what is kept of a component grows with it.
-use Rattle.std.proofs.Common.{◌≡◌, ℕ, ◌+◌, ◌<◌, Bool, true, false, List, [], ◌∷◌, ◌++◌, length, arith, ap, sym, subst, ◌∙◌, refl, append-nil, append_assoc, length-append}
+use Rattle.std.proofs.Common.{◌≡◌, ℕ, ◌+◌, ◌<◌, Bool, true, false, List, [], ◌∷◌, ◌++◌, length, arith, ap, sym, subst, ◌∙◌, refl, append-nil, append_assoc}
+use Rattle.std.proofs.Common.{length-append}
 use Rattle.std.specs.List.{AllByRecursion, flat_map}
 use Rattle.std.specs.Prelude.{Option, Some, None, slice_get, if◌then◌else◌}
 use Rattle.std.proofs.lemmas.Bool.{false≢true}
@@ -54,7 +55,8 @@ same_type ts more us e ty h =
     ap (λ o. elim o [ None ↦ false | Some x ↦ is_scalar_entry x ]) at
 
 -- A function that can be lowered can be where the component has more.
-pub lowerable_more : (t u : Tree) (es : List Entry) (fs : List ℕ) → types_of u ≡ types_of t ++ es → functions_of u ≡ functions_of t ++ fs → (f : ℕ) → IsLowerable t f → IsLowerable u f
+pub lowerable_more : (t u : Tree) (es : List Entry) (fs : List ℕ) → types_of u ≡ types_of t ++ es → functions_of u ≡ functions_of t ++ fs → (f : ℕ)
+    → IsLowerable t f → IsLowerable u f
 lowerable_more t u es fs e g f (signature, has, scalar) = (
   signature,
   record {
@@ -66,25 +68,33 @@ lowerable_more t u es fs e g f (signature, has, scalar) = (
 )
 
 -- The tables of a component that has more types, functions and core functions, and its imports by name.
-module _ (old new : Tables) (t u : Tree) (es : List Entry) (fs cs : List ℕ) (tabled : Tabled old t) (types : types_of u ≡ types_of t ++ es) (functions : functions_of u ≡ functions_of t ++ fs) (core_functions : core_functions_of u ≡ core_functions_of t ++ cs) where
+module _ (old new : Tables) (t u : Tree) (es : List Entry) (fs cs : List ℕ) (tabled : Tabled old t) (types : types_of u ≡ types_of t ++ es)
+    (functions : functions_of u ≡ functions_of t ++ fs) (core_functions : core_functions_of u ≡ core_functions_of t ++ cs) where
   grounded_more : AllByRecursion (λ ty. ty < length (types_of u)) fs → AllByRecursion (IsLowerable u) cs → IsGrounded u
   grounded_more known lowered =
       let longer : (ty : ℕ) → ty < length (types_of t) → ty < length (types_of u) = λ ty h. omega (arith, h, ap length types, length-append (types_of t) es) in
       record {
         known =
-            subst (AllByRecursion (λ ty. ty < length (types_of u))) (sym functions) (all_both (λ ty. ty < length (types_of u)) (functions_of t) fs (all_weaker (λ ty. ty < length (types_of t)) (λ ty. ty < length (types_of u)) longer (functions_of t) tabled.grounded.known) known);
+            subst (AllByRecursion (λ ty. ty < length (types_of u))) (sym functions)
+            (all_both (λ ty. ty < length (types_of u)) (functions_of t) fs
+            (all_weaker (λ ty. ty < length (types_of t)) (λ ty. ty < length (types_of u)) longer (functions_of t) tabled.grounded.known) known);
         lowered =
-            subst (AllByRecursion (IsLowerable u)) (sym core_functions) (all_both (IsLowerable u) (core_functions_of t) cs (all_weaker (IsLowerable t) (IsLowerable u) (lowerable_more t u es fs types functions) (core_functions_of t) tabled.grounded.lowered) lowered);
+            subst (AllByRecursion (IsLowerable u)) (sym core_functions)
+            (all_both (IsLowerable u) (core_functions_of t) cs
+            (all_weaker (IsLowerable t) (IsLowerable u) (lowerable_more t u es fs types functions) (core_functions_of t) tabled.grounded.lowered) lowered);
       }
 
   scalars_more : scalar_functions (spaces_of u) ≡ scalar_functions (spaces_of t) ++ places (is_scalar_type (types_of u)) (0 + length (functions_of t)) fs
   scalars_more =
       let test : ℕ → Bool = is_scalar_type (types_of u) in
       let agree : places test 0 (functions_of t) ≡ scalar_functions (spaces_of t) =
-      places_agree test (is_scalar_type (types_of t)) 0 (functions_of t) (all_weaker (λ ty. ty < length (types_of t)) (λ ty. test ty ≡ is_scalar_type (types_of t) ty) (same_type (types_of t) es (types_of u) types) (functions_of t) tabled.grounded.known) in
+      places_agree test (is_scalar_type (types_of t)) 0 (functions_of t)
+      (all_weaker (λ ty. ty < length (types_of t)) (λ ty. test ty ≡ is_scalar_type (types_of t) ty) (same_type (types_of t) es (types_of u) types)
+      (functions_of t) tabled.grounded.known) in
       ap (places test 0) functions ∙ (places-append test 0 (functions_of t) fs ∙ ap (λ z. z ++ places test (0 + length (functions_of t)) fs) agree)
 
-  pub tabled_more : AllByRecursion (λ ty. ty < length (types_of u)) fs → AllByRecursion (IsLowerable u) cs → new.functions.items ≡ old.functions.items ++ fs → new.core_functions.items ≡ old.core_functions.items ++ cs
+  pub tabled_more : AllByRecursion (λ ty. ty < length (types_of u)) fs → AllByRecursion (IsLowerable u) cs → new.functions.items ≡ old.functions.items ++ fs
+      → new.core_functions.items ≡ old.core_functions.items ++ cs
       → new.scalars.items ≡ old.scalars.items ++ places (is_scalar_type (types_of u)) (length old.functions.items) fs → Tabled new u
   tabled_more known lowered fnew cnew snew =
       let test : ℕ → Bool = is_scalar_type (types_of u) in
@@ -92,7 +102,8 @@ module _ (old new : Tables) (t u : Tree) (es : List Entry) (fs cs : List ℕ) (t
       record {
         functions = fnew ∙ (ap (λ z. z ++ fs) tabled.functions ∙ sym functions);
         core_functions = cnew ∙ (ap (λ z. z ++ cs) tabled.core_functions ∙ sym core_functions);
-        scalars = snew ∙ (ap (λ n. old.scalars.items ++ places test n fs) at ∙ (ap (λ z. z ++ places test (0 + length (functions_of t)) fs) tabled.scalars ∙ sym scalars_more));
+        scalars = snew ∙ (ap (λ n. old.scalars.items ++ places test n fs) at
+            ∙ (ap (λ z. z ++ places test (0 + length (functions_of t)) fs) tabled.scalars ∙ sym scalars_more));
         grounded = grounded_more known lowered;
       }
 
@@ -101,7 +112,8 @@ pub same_more : {A : Type 0} (xs ys : List A) → ys ≡ xs → ys ≡ xs ++ []
 same_more xs ys e = e ∙ sym (append-nil xs)
 
 -- A component function more, of a type that is there.
-pub tabled_function : {own : Scope} {old new : Tables} {ty : ℕ} (t u : Tree) → own ≡ scope_of t → ty < length (types_of t) → Tabled old t → AddsFunction own old ty new
+pub tabled_function : {own : Scope} {old new : Tables} {ty : ℕ} (t u : Tree) → own ≡ scope_of t → ty < length (types_of t) → Tabled old t
+    → AddsFunction own old ty new
     → types_of u ≡ types_of t → functions_of u ≡ functions_of t ++ ty ∷ [] → core_functions_of u ≡ core_functions_of t → Tabled new u
 tabled_function {own} {old} {new} {ty} t u scope known tabled adds types functions core_functions =
     let same : own.types ≡ types_of u = ap (λ s. s.types) scope ∙ sym types in
@@ -118,13 +130,15 @@ tabled_core_function {old} {new} {f} t u lowerable tabled adds types functions c
     (same_more _ _ adds.functions) adds.core_functions (same_more _ _ adds.scalars)
 
 -- Types more leave the tables as they are.
-pub tabled_types : {tables : Tables} (t u : Tree) (es : List Entry) → Tabled tables t → types_of u ≡ types_of t ++ es → functions_of u ≡ functions_of t → core_functions_of u ≡ core_functions_of t → Tabled tables u
+pub tabled_types : {tables : Tables} (t u : Tree) (es : List Entry) → Tabled tables t → types_of u ≡ types_of t ++ es → functions_of u ≡ functions_of t
+    → core_functions_of u ≡ core_functions_of t → Tabled tables u
 tabled_types {tables} t u es tabled types functions core_functions =
     tabled_more tables tables t u es [] [] tabled types (same_more _ _ functions) (same_more _ _ core_functions) tt tt
     (same_more _ _ refl) (same_more _ _ refl) (same_more _ _ refl)
 
 -- So does what adds none of all these.
-pub tabled_quiet : {tables : Tables} (t u : Tree) → Tabled tables t → types_of u ≡ types_of t → functions_of u ≡ functions_of t → core_functions_of u ≡ core_functions_of t → Tabled tables u
+pub tabled_quiet : {tables : Tables} (t u : Tree) → Tabled tables t → types_of u ≡ types_of t → functions_of u ≡ functions_of t
+    → core_functions_of u ≡ core_functions_of t → Tabled tables u
 tabled_quiet t u tabled types functions core_functions = tabled_types t u [] tabled (same_more _ _ types) functions core_functions
 
 -- the names of imports with one more
@@ -138,10 +152,12 @@ scalar_entry_is (component_type ds) h = absurd (false≢true h)
 scalar_entry_is (instance_type ds) h = absurd (false≢true h)
 
 -- A type that flattens is a function type.
-pub scalar_type_is : (ts : List Entry) (ty : ℕ) → is_scalar_type ts ty ≡ true → (signature : Signature) × (slice_get ts ty ≡ Some (function signature)) × (is_scalar signature ≡ true)
+pub scalar_type_is : (ts : List Entry) (ty : ℕ) → is_scalar_type ts ty ≡ true
+    → (signature : Signature) × (slice_get ts ty ≡ Some (function signature)) × (is_scalar signature ≡ true)
 scalar_type_is ts ty h = found (slice_get ts ty) refl h
   where
-    found : (o : Option Entry) → slice_get ts ty ≡ o → (elim o [ None ↦ false | Some e ↦ is_scalar_entry e ]) ≡ true → (signature : Signature) × (slice_get ts ty ≡ Some (function signature)) × (is_scalar signature ≡ true)
+    found : (o : Option Entry) → slice_get ts ty ≡ o → (elim o [ None ↦ false | Some e ↦ is_scalar_entry e ]) ≡ true
+        → (signature : Signature) × (slice_get ts ty ≡ Some (function signature)) × (is_scalar signature ≡ true)
     found None g i = absurd (false≢true i)
     found (Some e) g i = let s = scalar_entry_is e i in (s.0, g ∙ ap Some s.1, s.2)
 

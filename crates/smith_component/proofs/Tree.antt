@@ -3,7 +3,8 @@ use Rattle.std.proofs.Common.{◌≡◌, ℕ, ◌+◌, ◌≤◌, max, List, [],
 use Rattle.std.specs.List.{AllByRecursion}
 use Rattle.smith_scopes.proofs.Plain.{all_back, all_both, all_front}
 use Rattle.smith_syntax.specs.Entries.{Entry}
-use Rattle.smith_component.specs.Tree.{Tree, ends, first, Part, custom, core_module, core_types, component, types, canons, imports, add, join, own, anywhere, anywhere_in, inside, components_in, depth_by, depth_by_in}
+use Rattle.smith_component.specs.Tree.{Tree, ends, first, Part, custom, core_module, core_types, component, types, canons, imports, add, join, own, anywhere}
+use Rattle.smith_component.specs.Tree.{anywhere_in, inside, components_in, depth_by, depth_by_in}
 use Rattle.smith_component.specs.Open.{tree_so_far}
 
 -- What is open is closed.
@@ -26,9 +27,15 @@ module _ (below : List Entry → ℕ) where
   depth-add ends p = omega (arith, depth_in_some p)
   depth-add (first q t) p = omega (arith, depth-add t p)
 
-  pub depth-so_far : (outer : List Tree) (t : Tree) (p : Part) → depth_by below (tree_so_far outer (add t p)) ≡ max (depth_by below (tree_so_far outer t)) (length outer + depth_by_in below p)
+  pub depth-so_far : (outer : List Tree) (t : Tree) (p : Part)
+      → depth_by below (tree_so_far outer (add t p)) ≡ max (depth_by below (tree_so_far outer t)) (length outer + depth_by_in below p)
   depth-so_far [] t p = omega (arith, depth-add t p)
-  depth-so_far (u ∷ outer) t p = omega (arith, depth-so_far outer t p, depth-add u (component (tree_so_far outer t)), depth-add u (component (tree_so_far outer (add t p))))
+  depth-so_far (u ∷ outer) t p = omega (
+    arith,
+    depth-so_far outer t p,
+    depth-add u (component (tree_so_far outer t)),
+    depth-add u (component (tree_so_far outer (add t p))),
+  )
 
   -- The inner component stands as deep as components are open.
   pub depth-outer : (outer : List Tree) (t : Tree) → length outer + 1 ≤ depth_by below (tree_so_far outer t)
@@ -55,7 +62,8 @@ module _ {A : Type 0} (f : Part → List A) where
   pub record IsSteady : Type 0 where
     pub same : (a b : Tree) → length (f (component a)) ≡ length (f (component b))
 
-  pub length-anywhere-so_far : IsSteady → (outer : List Tree) (t : Tree) (p : Part) → length (anywhere f (tree_so_far outer (add t p))) ≡ length (anywhere f (tree_so_far outer t)) + length (anywhere_in f p)
+  pub length-anywhere-so_far : IsSteady → (outer : List Tree) (t : Tree) (p : Part)
+      → length (anywhere f (tree_so_far outer (add t p))) ≡ length (anywhere f (tree_so_far outer t)) + length (anywhere_in f p)
   length-anywhere-so_far s [] t p = length-anywhere-add t p
   length-anywhere-so_far s (u ∷ outer) t p =
       let x : Tree = tree_so_far outer t in
@@ -79,27 +87,39 @@ abbrev pub Swaps : (Tree → Type 0) → Type 0
 Swaps P = (u a b : Tree) → P (add u (component a)) → P (add u (component b))
 
 -- A fact of each component stays where the inner one grows.
-pub all_so_far : (P : Tree → Type 0) → Swaps P → (outer : List Tree) (t : Tree) (p : Part) → P (add t p) → AllByRecursion P (anywhere_in components_in p) → AllByRecursion P (all_of (tree_so_far outer t)) → AllByRecursion P (all_of (tree_so_far outer (add t p)))
-all_so_far P swap [] t p new ins h = (new, subst (AllByRecursion P) (sym (anywhere-add components_in t p)) (all_both P (inside t) (anywhere_in components_in p) h.1 ins))
+pub all_so_far : (P : Tree → Type 0) → Swaps P → (outer : List Tree) (t : Tree) (p : Part) → P (add t p) → AllByRecursion P (anywhere_in components_in p)
+    → AllByRecursion P (all_of (tree_so_far outer t)) → AllByRecursion P (all_of (tree_so_far outer (add t p)))
+all_so_far P swap [] t p new ins h = (
+  new,
+  subst (AllByRecursion P) (sym (anywhere-add components_in t p))
+      (all_both P (inside t) (anywhere_in components_in p) h.1 ins),
+)
 all_so_far P swap (u ∷ outer) t p new ins h =
     let x : Tree = tree_so_far outer t in
     let y : Tree = tree_so_far outer (add t p) in
     let old : AllByRecursion P (inside u ++ (x ∷ inside x)) = subst (AllByRecursion P) (anywhere-add components_in u (component x)) h.1 in (
       swap u x y h.0,
       subst (AllByRecursion P) (sym (anywhere-add components_in u (component y)))
-          (all_both P (inside u) (y ∷ inside y) (all_front P (inside u) (x ∷ inside x) old) (all_so_far P swap outer t p new ins (all_back P (inside u) (x ∷ inside x) old))),
+          (all_both P (inside u) (y ∷ inside y) (all_front P (inside u) (x ∷ inside x) old)
+          (all_so_far P swap outer t p new ins (all_back P (inside u) (x ∷ inside x) old))),
     )
 
 -- It holds in front of what grew.
-pub all_before : (P : Tree → Type 0) → Swaps P → (outer : List Tree) (t : Tree) (p : Part) → (P (add t p) → P t) → AllByRecursion P (all_of (tree_so_far outer (add t p))) → AllByRecursion P (all_of (tree_so_far outer t))
-all_before P swap [] t p less h = (less h.0, all_front P (inside t) (anywhere_in components_in p) (subst (AllByRecursion P) (anywhere-add components_in t p) h.1))
+pub all_before : (P : Tree → Type 0) → Swaps P → (outer : List Tree) (t : Tree) (p : Part) → (P (add t p) → P t)
+    → AllByRecursion P (all_of (tree_so_far outer (add t p))) → AllByRecursion P (all_of (tree_so_far outer t))
+all_before P swap [] t p less h = (
+  less h.0,
+  all_front P (inside t) (anywhere_in components_in p)
+      (subst (AllByRecursion P) (anywhere-add components_in t p) h.1),
+)
 all_before P swap (u ∷ outer) t p less h =
     let x : Tree = tree_so_far outer t in
     let y : Tree = tree_so_far outer (add t p) in
     let old : AllByRecursion P (inside u ++ (y ∷ inside y)) = subst (AllByRecursion P) (anywhere-add components_in u (component y)) h.1 in (
       swap u y x h.0,
       subst (AllByRecursion P) (sym (anywhere-add components_in u (component x)))
-          (all_both P (inside u) (x ∷ inside x) (all_front P (inside u) (y ∷ inside y) old) (all_before P swap outer t p less (all_back P (inside u) (y ∷ inside y) old))),
+          (all_both P (inside u) (x ∷ inside x) (all_front P (inside u) (y ∷ inside y) old)
+          (all_before P swap outer t p less (all_back P (inside u) (y ∷ inside y) old))),
     )
 
 -- It holds of the inner component.

@@ -1,5 +1,6 @@
 -- What a turn chooses, and that it lowers what is left to do.
-use Rattle.std.proofs.Common.{◌≡◌, ℕ, zero, suc, ◌+◌, ◌^◌, ◌≤◌, List, [], ◌∷◌, ◌++◌, length, drop, arith, ap, sym, subst, ◌∙◌, refl, true, false, Bool, inl, inr, map, length-append, length-drop}
+use Rattle.std.proofs.Common.{◌≡◌, ℕ, zero, suc, ◌+◌, ◌^◌, ◌≤◌, List, [], ◌∷◌, ◌++◌, length, drop, arith, ap, sym, subst, ◌∙◌, refl, true, false, Bool, inl}
+use Rattle.std.proofs.Common.{inr, map, length-append, length-drop}
 use Rattle.std.specs.List.{AllByRecursion}
 use Rattle.std.specs.Prelude.{slice_get, Some}
 use Rattle.smith_input.specs.Choices.{ReadsAmong}
@@ -13,7 +14,10 @@ use Rattle.smith_component.specs.Limits.{max_depth}
 use Rattle.smith_component.specs.Open.{Open, more_items, is_module_offered, is_component_offered, items, offers, with_inner}
 use Rattle.smith_component.specs.Shown.{shown_module, shown_sections}
 use Rattle.smith_component.specs.Steps.{AddsSections}
-use Rattle.smith_component.specs.Turn.{Next, building, answered, Turn, Adds, Fills, FillsAll, Closes, Does, with_part, todo, Falls}
+use Rattle.smith_component.specs.Turn.{Next, building, answered, Turn, Closes, Does, with_part}
+use Rattle.smith_component.specs.AddedSections.{Adds}
+use Rattle.smith_component.specs.Fills.{Fills, FillsAll}
+use Rattle.smith_component.specs.Runs.{todo, Falls}
 use Rattle.smith_component.specs.declared.item.Counted.{Counted}
 use Rattle.smith_component.specs.declared.item.Counted.TheVariants as counted
 use Rattle.smith_component.specs.declared.item.Item.{Item}
@@ -78,7 +82,8 @@ inner_length stack next t e =
 
 -- what the sections with a minimum leave
 
-adds_tail : (what : Counted) (config : Config) (min : ℕ) (stack : Open) (b : List ℕ) (t : Tree) (rest : List ℕ) → Adds what config min stack b t rest → IsTail rest b
+adds_tail : (what : Counted) (config : Config) (min : ℕ) (stack : Open) (b : List ℕ) (t : Tree) (rest : List ℕ) → Adds what config min stack b t rest
+    → IsTail rest b
 adds_tail counted.Types config min stack b t rest (xs, scope, es, e) = types_read_tail config _ es
 adds_tail counted.Imports config min stack b t rest (is, reads, e) = imports_tail config stack reads
 adds_tail counted.Functions config min stack b t rest (turns, next, reads, e) = canons_tail config min stack.inner reads
@@ -95,14 +100,28 @@ fills_tail {config} {stack} {b} {full} {rest} f =
     tail_trans fs (tail_trans is ts)
 
 -- How many components are open after an item, and how many bytes are left.
-does_length : (config : Config) (item : Item) (stack next : Open) (b r : List ℕ) → (item ≡ Component → is_component_offered config stack ≡ true) → length stack.outer + 1 ≤ max_depth config → Does config item stack b (building next) r → (length next.outer + 1 ≤ max_depth config) × (length r ≤ length b)
+does_length : (config : Config) (item : Item) (stack next : Open) (b r : List ℕ) → (item ≡ Component → is_component_offered config stack ≡ true)
+    → length stack.outer + 1 ≤ max_depth config → Does config item stack b (building next) r
+    → (length next.outer + 1 ≤ max_depth config) × (length r ≤ length b)
 does_length config Finish stack next b r e m (full, f, c) = (omega (arith, closes_length (with_inner stack full) next c), tail_length r b (fills_tail f))
-does_length config Custom stack next b r e m (name, contents, read, c) = (omega (arith, part_length config stack next (custom name contents) c), tail_length r b (custom_tail b name contents r read))
-does_length config CoreTypes stack next b r e m (xs, scope, es, c) = (omega (arith, part_length config stack next (core_types xs) c), tail_length r b (core_types_read_tail config es))
-does_length config Types stack next b r e m (t, a, c) = (omega (arith, inner_length stack next t c), tail_length r b (adds_tail counted.Types config 0 stack b t r a))
-does_length config Imports stack next b r e m (t, a, c) = (omega (arith, inner_length stack next t c), tail_length r b (adds_tail counted.Imports config 0 stack b t r a))
-does_length config Canonical stack next b r e m (t, a, c) = (omega (arith, inner_length stack next t c), tail_length r b (adds_tail counted.Functions config 0 stack b t r a))
-does_length config Module stack next b r e m (parts, read, c) = (omega (arith, part_length config stack next (core_module (shown_module parts)) c), tail_length r b (stand_in_tail config b parts r read))
+does_length config Custom stack next b r e m (name, contents, read, c) =
+    (omega (arith, part_length config stack next (custom name contents) c), tail_length r b (custom_tail b name contents r read))
+does_length config CoreTypes stack next b r e m (xs, scope, es, c) =
+    (omega (arith, part_length config stack next (core_types xs) c), tail_length r b (core_types_read_tail config es))
+does_length config Types stack next b r e m (t, a, c) = (
+  omega (arith, inner_length stack next t c),
+  tail_length r b (adds_tail counted.Types config 0 stack b t r a),
+)
+does_length config Imports stack next b r e m (t, a, c) = (
+  omega (arith, inner_length stack next t c),
+  tail_length r b (adds_tail counted.Imports config 0 stack b t r a),
+)
+does_length config Canonical stack next b r e m (t, a, c) = (
+  omega (arith, inner_length stack next t c),
+  tail_length r b (adds_tail counted.Functions config 0 stack b t r a),
+)
+does_length config Module stack next b r e m (parts, read, c) =
+    (omega (arith, part_length config stack next (core_module (shown_module parts)) c), tail_length r b (stand_in_tail config b parts r read))
 does_length config Component stack next b r e m (d, c) =
     let f : next ≡ record { outer = stack.outer ++ stack.inner ∷ []; inner = ends } = cc in
     let o = component_offered_is config stack (e refl) in
@@ -115,18 +134,38 @@ chosen config stack [] after item r = let f = only_finish r.place item r.named i
 chosen config stack (x ∷ xs) after item r =
     let P : Item → Type 0 = λ i. (i ≡ Module → is_module_offered config stack ≡ true) × (i ≡ Component → is_component_offered config stack ≡ true) in
     let other : (i : Item) → (i ≡ Module → ⊥) → (i ≡ Component → ⊥) → P i = λ i m c. (λ e. absurd (m e), λ e. absurd (c e)) in
-    let all : AllByRecursion (λ o. o.0 ≡ true → P o.1) (offers (is_module_offered config stack) (is_component_offered config stack)) =
-    (λ h. other Finish (λ e. cc) (λ e. cc), (λ h. other Custom (λ e. cc) (λ e. cc), (λ h. other CoreTypes (λ e. cc) (λ e. cc), (λ h. other Types (λ e. cc) (λ e. cc), (λ h. other Imports (λ e. cc) (λ e. cc), (λ h. other Canonical (λ e. cc) (λ e. cc), (λ h. (λ e. h, λ e. absurd (cc)), (λ h. (λ e. absurd (cc), λ e. h), tt)))))))) in
+    let all : AllByRecursion (λ o. o.0 ≡ true → P o.1) (offers (is_module_offered config stack) (is_component_offered config stack)) = (
+      λ h. other Finish (λ e. cc) (λ e. cc),
+      (
+        λ h. other Custom (λ e. cc) (λ e. cc),
+        (
+          λ h. other CoreTypes (λ e. cc) (λ e. cc),
+          (
+            λ h. other Types (λ e. cc) (λ e. cc),
+            (
+              λ h. other Imports (λ e. cc) (λ e. cc),
+              (
+                λ h. other Canonical (λ e. cc) (λ e. cc),
+                (λ h. (λ e. h, λ e. absurd (cc)), (λ h. (λ e. absurd (cc), λ e. h), tt)),
+              ),
+            ),
+          ),
+        ),
+      ),
+    ) in
     offer_holds P (offers (is_module_offered config stack) (is_component_offered config stack)) all r.place item r.named
 
-does_finish : (config : Config) (stack : Open) (item : Item) (b r : List ℕ) (next : Next) → item ≡ Finish → Does config item stack b next r → (full : Tree) × FillsAll config stack b full r × Closes (with_inner stack full) next
+does_finish : (config : Config) (stack : Open) (item : Item) (b r : List ℕ) (next : Next) → item ≡ Finish → Does config item stack b next r
+    → (full : Tree) × FillsAll config stack b full r × Closes (with_inner stack full) next
 does_finish config stack item b r next e d = let P : Item → Type 0 = λ i. Does config i stack b next r in subst P e d
 
-todo_bound : (config : Config) (left : List ℕ) (stack : Open) (n : ℕ) → length stack.outer + 1 ≤ max_depth config → length left ≤ n → todo config left stack ≤ n + max_depth config
+todo_bound : (config : Config) (left : List ℕ) (stack : Open) (n : ℕ) → length stack.outer + 1 ≤ max_depth config → length left ≤ n
+    → todo config left stack ≤ n + max_depth config
 todo_bound config [] stack n m h = omega arith
 todo_bound config (x ∷ xs) stack n m h = omega arith
 
-pub turn_falls : (config : Config) (stack next : Open) (left left2 : List ℕ) → length stack.outer + 1 ≤ max_depth config → Turn config stack left (building next) left2 → todo config left2 next + 1 ≤ todo config left stack
+pub turn_falls : (config : Config) (stack next : Open) (left left2 : List ℕ) → length stack.outer + 1 ≤ max_depth config
+    → Turn config stack left (building next) left2 → todo config left2 next + 1 ≤ todo config left stack
 turn_falls config stack next [] left2 m t =
     let f = does_finish config stack t.item t.after left2 (building next) (only_finish t.chooses.place t.item t.chooses.named) t.does in
     let none : t.after ≡ [] = t.chooses.reads.left ∙ drop_none t.chooses.reads.width in
@@ -140,10 +179,13 @@ turn_falls config stack next (x ∷ xs) left2 m t =
     omega (arith, todo_bound config left2 next (length xs) d.0 (omega (arith, d.1, ap length a)))
 
 -- No more components are open after a turn than may be.
-pub turn_shallow : (config : Config) (stack next : Open) (left left2 : List ℕ) → length stack.outer + 1 ≤ max_depth config → Turn config stack left (building next) left2 → length next.outer + 1 ≤ max_depth config
-turn_shallow config stack next left left2 m t = (does_length config t.item stack next t.after left2 (chosen config stack left t.after t.item t.chooses).1 m t.does).0
+pub turn_shallow : (config : Config) (stack next : Open) (left left2 : List ℕ) → length stack.outer + 1 ≤ max_depth config
+    → Turn config stack left (building next) left2 → length next.outer + 1 ≤ max_depth config
+turn_shallow config stack next left left2 m t = (does_length config t.item stack next t.after left2 (chosen config stack left t.after t.item t.chooses).1 m
+    t.does).0
 
-pub falls : (config : Config) (stack : Open) (next : Next) (left left2 : List ℕ) → length stack.outer + 1 ≤ max_depth config → Turn config stack left next left2 → Falls config left stack left2 next
+pub falls : (config : Config) (stack : Open) (next : Next) (left left2 : List ℕ) → length stack.outer + 1 ≤ max_depth config → Turn config stack left next left2
+    → Falls config left stack left2 next
 falls config stack (building next) left left2 m t = turn_falls config stack next left left2 m t
 falls config stack (answered c) left left2 m t = tt
 
@@ -170,4 +212,5 @@ closes_same stack n m (inl (a, b)) (inr (o, p, c, d)) = absurd (not_empty o p (s
 closes_same stack n m (inr (o, p, c, d)) (inl (a, b)) = absurd (not_empty o p (sym c ∙ a))
 closes_same stack n m (inr (o, p, c, d)) (inr (q, r, e, f)) =
     let s = last_same o q p r (sym c ∙ e) in
-    d ∙ ap (λ x. building (record { outer = x; inner = add p (component stack.inner) })) s.0 ∙ ap (λ x. building (record { outer = q; inner = add x (component stack.inner) })) s.1 ∙ sym f
+    d ∙ ap (λ x. building (record { outer = x; inner = add p (component stack.inner) })) s.0
+    ∙ ap (λ x. building (record { outer = q; inner = add x (component stack.inner) })) s.1 ∙ sym f

@@ -49,8 +49,10 @@ with_defined s c signature = record { before = add (grown s) (types (function si
 -- more; else it is given up.
 pub data LiftsTo (config : Config) (s : Growing) (c : ℕ) (signature : Signature) (bytes rest : List ℕ) (next : Growing) : Type 0 where
   to_equal : {t : ℕ} → ReadsAmong (equal_types s signature) bytes t rest → next ≡ with_canon s (lift c t) → LiftsTo config s c signature bytes rest next
-  to_defined : equal_types s signature ≡ [] → length (spaces_at s).types < config.max_types → rest ≡ bytes → next ≡ with_defined s c signature → LiftsTo config s c signature bytes rest next
-  given_up : equal_types s signature ≡ [] → config.max_types ≤ length (spaces_at s).types → rest ≡ bytes → next ≡ s → LiftsTo config s c signature bytes rest next
+  to_defined : equal_types s signature ≡ [] → length (spaces_at s).types < config.max_types → rest ≡ bytes → next ≡ with_defined s c signature
+      → LiftsTo config s c signature bytes rest next
+  given_up : equal_types s signature ≡ [] → config.max_types ≤ length (spaces_at s).types → rest ≡ bytes → next ≡ s
+      → LiftsTo config s c signature bytes rest next
 
 -- A lift: a choice of a core function, and a function type that flattens as the type of the function that it lowers.
 pub record ReadsLift (config : Config) (s : Growing) (bytes rest : List ℕ) (next : Growing) : Type 0 where
@@ -86,4 +88,5 @@ empty_section t = record { before = t; funcs = [] }
 
 -- at least so many turns, and at most as many as the component may still have functions
 abbrev pub ReadsCanons : Config → ℕ → Tree → List ℕ → List CanonItem → List ℕ → Growing → Type 0
-ReadsCanons config min t bytes turns rest next = Loop NoCanon (CanonTurn config) min (config.max_funcs - function_count t) 0 (empty_section t) bytes turns rest next
+ReadsCanons config min t bytes turns rest next = Loop NoCanon (CanonTurn config) min (config.max_funcs - function_count t) 0 (empty_section t) bytes turns rest
+    next

@@ -13,7 +13,8 @@ use Rattle.smith_component.specs.Offers.{with_imports, totals_of, import_kinds}
 
 -- An import behind these of its section: what it is of, a name that is new among the component's imports, and a URL or none, which is
 -- new among some of which a plain tree knows nothing.
-pub record ReadsImport (config : Config) (stack : Open) (is : List ImportEntry) (bytes : List ℕ) (x : ImportEntry) (rest : List ℕ) (next : List ImportEntry) : Type 0 where
+pub record ReadsImport (config : Config) (stack : Open) (is : List ImportEntry) (bytes : List ℕ) (x : ImportEntry) (rest : List ℕ)
+    (next : List ImportEntry) : Type 0 where
   pub mid : List ℕ
   pub so_far : List NamedExtern
   pub url : Option (List ℕ)

@@ -10,7 +10,9 @@ use Rattle.smith_component.specs.Tree.{Tree}
 use Rattle.smith_component.specs.declared.item.Item.{Item}
 use Rattle.smith_component.specs.Limits.{Minima}
 use Rattle.smith_component.specs.Open.{Open, items, root}
-use Rattle.smith_component.specs.Turn.{Lacks, LacksAt, RefusesModuleAt, RunsTo, Turns, building}
+use Rattle.smith_component.specs.Turn.{LacksAt, RefusesModuleAt, building}
+use Rattle.smith_component.specs.Fills.{Lacks}
+use Rattle.smith_component.specs.Runs.{RunsTo, Turns}
 
 -- A builder is refused where limits do not fit together, and else only for want of memory.
 abbrev pub IsNewRefusal : Config → Error → Type 0

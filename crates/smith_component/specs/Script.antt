@@ -53,7 +53,8 @@ script_imports config stack is = script_loop (script_import config stack) (λ s 
 abbrev mutual
   pub script_from : Tree → Config → List Tree → Tree → List ℕ
   script_from ends config outer before = script_item config outer before item.Finish
-  script_from (first p t) config outer before = script_item config outer before (item_of p) ++ script_part p config outer before ++ script_from t config outer (add before p)
+  script_from (first p t) config outer before = script_item config outer before (item_of p) ++ script_part p config outer before ++ script_from t config outer
+      (add before p)
 
   pub script_part : Part → Config → List Tree → Tree → List ℕ
   script_part (custom name contents) config outer before = script_text 1000 name ++ script_bytes contents

@@ -22,7 +22,7 @@ use Rattle.smith_component.specs.Offers.{import_kinds, totals_of, with_imports}
 use Rattle.smith_component.specs.Open.{Open, scopes_in}
 use Rattle.smith_component.specs.Spaces.{core_types_of, types_of}
 use Rattle.smith_component.specs.Tree.{imports_of}
-use Rattle.smith_component.specs.Turn.{AddsCanons, ReadsCoreType}
+use Rattle.smith_component.specs.AddedSections.{AddsCanons, ReadsCoreType}
 use Rattle.smith_component.specs.WellFormed.{scope_of}
 use Rattle.smith_component.specs.declared.component.CoreTypeSection.{CoreTypeSection}
 use Rattle.smith_component.specs.declared.component.ImportSection.{ImportSection}
@@ -61,7 +61,8 @@ externs_of sections = flat_map externs_in sections
 
 -- An import behind these of its section, in a component with those before: what it is of, a name that is new among the component's
 -- imports, and a URL or none, which has a name that is new among those in their URLs.
-pub record ReadsImportValue (config : Config) (stack : Open) (before : List NamedExtern) (is : List Import) (bytes : List ℕ) (x : Import) (rest : List ℕ) (next : List Import) : Type 0 where
+pub record ReadsImportValue (config : Config) (stack : Open) (before : List NamedExtern) (is : List Import) (bytes : List ℕ) (x : Import) (rest : List ℕ)
+    (next : List Import) : Type 0 where
   pub mid : List ℕ
   pub of : ReadsRef config (scope_of stack.inner) (totals_of (with_imports stack (map import_shown is))) true false bytes x.ty mid
   pub named : ReadsNamedExtern (before ++ map extern_of is) mid (extern_of x) rest
@@ -78,20 +79,23 @@ pub record AddsTypeSection (config : Config) (min : ℕ) (old : Building) (b : L
   pub section : TypeSection
   pub scope : Scope
   pub added : new.inner ≡ old.inner ++ Types section ∷ []
-  pub reads : Loop Never (ReadsTypeValue config (scopes_in (open_of old).outer)) min (config.max_types - length (types_of (open_of old).inner)) 0 (scope_of (open_of old).inner) b section.types.items rest scope
+  pub reads : Loop Never (ReadsTypeValue config (scopes_in (open_of old).outer)) min (config.max_types - length (types_of (open_of old).inner)) 0
+      (scope_of (open_of old).inner) b section.types.items rest scope
 
 -- a core type section
 pub record AddsCoreTypeSection (config : Config) (old : Building) (b : List ℕ) (new : Building) (rest : List ℕ) : Type 0 where
   pub section : CoreTypeSection
   pub scope : Scope
   pub added : new.inner ≡ old.inner ++ CoreTypes section ∷ []
-  pub reads : Loop Never (ReadsCoreTypeValue config) 0 (config.max_types - length (core_types_of (open_of old).inner)) 0 (scope_of (open_of old).inner) b section.types.items rest scope
+  pub reads : Loop Never (ReadsCoreTypeValue config) 0 (config.max_types - length (core_types_of (open_of old).inner)) 0 (scope_of (open_of old).inner) b
+      section.types.items rest scope
 
 -- an import section of at least so many imports, unless nothing can be imported
 pub record AddsImportSection (config : Config) (min : ℕ) (old : Building) (b : List ℕ) (new : Building) (rest : List ℕ) : Type 0 where
   pub section : ImportSection
   pub added : new.inner ≡ old.inner ++ Imports section ∷ []
-  pub reads : Loop (NoImportValue config (open_of old)) (ReadsImportValue config (open_of old) (externs_of old.inner)) min (config.max_imports - length (imports_of (open_of old).inner)) 0 [] b section.imports.items rest section.imports.items
+  pub reads : Loop (NoImportValue config (open_of old)) (ReadsImportValue config (open_of old) (externs_of old.inner)) min
+      (config.max_imports - length (imports_of (open_of old).inner)) 0 [] b section.imports.items rest section.imports.items
 
 -- a core module that stands for a generated one, by its parts
 pub record AddsModule (config : Config) (old : Building) (b : List ℕ) (new : Building) (rest : List ℕ) : Type 0 where

@@ -5,7 +5,7 @@ use Rattle.smith_format.specs.Limits.{IsConsistent, configured}
 use Rattle.smith_format.specs.declared.config.Config.{Config}
 use Rattle.smith_format.specs.declared.types.ValType.{ValType}
 use Rattle.smith_syntax.specs.Scope.{Scope}
-use Rattle.smith_component.specs.Importing.{Totalled}
+use Rattle.smith_component.specs.ImportsState.{Totalled}
 use Rattle.smith_component.specs.Limits.{max_depth, OwnLimits, OwnSizes, Maxima, Minima, Sized}
 use Rattle.smith_component.specs.Open.{Open, tree_so_far, scopes_in}
 use Rattle.smith_component.specs.Spaces.{Spaces, after_part}

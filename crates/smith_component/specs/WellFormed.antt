@@ -24,7 +24,8 @@ pub record HasSignature (s : Spaces) (f : ℕ) (signature : Signature) : Type 0 
 abbrev pub FormedCanon : Spaces → Canon → Type 0
 FormedCanon s (lower f) = (signature : Signature) × HasSignature s f signature × (is_scalar signature ≡ true)
 FormedCanon s (lift c t) =
-    (signature lowered : Signature) × (f : ℕ) × (slice_get s.types t ≡ Some (function signature)) × (slice_get s.core_functions c ≡ Some f) × HasSignature s f lowered × Flat signature lowered
+    (signature lowered : Signature) × (f : ℕ) × (slice_get s.types t ≡ Some (function signature)) × (slice_get s.core_functions c ≡ Some f)
+    × HasSignature s f lowered × Flat signature lowered
 
 -- Canonical functions in a row: each is judged where those before it stand.
 abbrev pub FormedCanons : List Canon → Spaces → Type 0

@@ -11,7 +11,8 @@ ghost use Rattle.smith_component.specs.Refusals.{IsAnswered, IsChosen, IsNewRefu
 ghost use Rattle.smith_component.specs.Shown.{shown_sections};
 ghost use Rattle.smith_component.specs.Steps.{next_of, step_of, KeepsSections, SoundUnlessDone, StaysSound, TurnAdds};
 ghost use Rattle.smith_component.specs.Tree.{ends};
-ghost use Rattle.smith_component.specs.Turn.{Next, Turn, Falls};
+ghost use Rattle.smith_component.specs.Turn.{Next, Turn};
+ghost use Rattle.smith_component.specs.Runs.{Falls};
 ghost use Rattle.smith_component.specs.Open.{root};
 ghost use Rattle.smith_component.specs.declared.item.Item.TheVariants.{Module};
 

@@ -4,7 +4,7 @@ ghost use Rattle.std.specs.Prelude.{◌≡◌, ℕ, List, ◌++◌, IfOk, IfErr,
 ghost use Rattle.smith_input.specs.Reading.{IsTail};
 ghost use Rattle.smith_format.specs.Limits.{IsConsistent};
 ghost use Rattle.smith_component.specs.Generates.{Generates};
-ghost use Rattle.smith_component.specs.Turn.{RunsTo};
+ghost use Rattle.smith_component.specs.Runs.{RunsTo};
 ghost use Rattle.smith_component.specs.Refusals.{IsGenerateRefusal};
 ghost use Rattle.smith_component.specs.Grammar.{Spells};
 ghost use Rattle.smith_component.specs.Script.{Within, script};

@@ -19,7 +19,8 @@ ghost use Rattle.smith_component.specs.Script.{Continues, Within, item_of, scrip
 ghost use Rattle.smith_component.specs.Shown.{shown_module};
 ghost use Rattle.smith_component.specs.TooLong.{PartTooLong, TreeTooLong};
 ghost use Rattle.smith_component.specs.Tree.{Part, Tree, core_module};
-ghost use Rattle.smith_component.specs.Turn.{Closes, Next, RunsTo, Turn, with_open, with_part};
+ghost use Rattle.smith_component.specs.Turn.{Closes, Next, Turn, with_open, with_part};
+ghost use Rattle.smith_component.specs.Runs.{RunsTo};
 ghost use Rattle.smith_component.specs.declared.item.Item.TheVariants.{Component as ItemComponent, Finish};
 
 /// No bytes have two readings.

@@ -4,7 +4,7 @@ ghost use Rattle.std.specs.Prelude.{◌≡◌, ℕ, List, ◌+◌, ◌≤◌, �
 ghost use Rattle.smith_input.specs.Reading.{IsTail};
 ghost use Rattle.smith_format.specs.Limits.{IsConsistent};
 ghost use Rattle.smith_format.specs.Limits.{IsDefault};
-ghost use Rattle.smith_component.specs.Turn.{RunsTo};
+ghost use Rattle.smith_component.specs.Runs.{RunsTo};
 ghost use Rattle.smith_component.specs.Limits.{Limits, Sized};
 ghost use Rattle.smith_component.specs.Refusals.{IsRefusal};
 ghost use Rattle.smith_component.specs.Script.{Within, script};

@@ -1,7 +1,9 @@
 //! Core modules (core specification, Modules).
 
-ghost use Rattle.std.specs.Prelude.{◌≡◌, ◌↔◌, ◌⊎◌, IsOk, IfOk, IfErr, IsErrOf, None, Some};
-ghost use Rattle.smith_format.specs.Writing.{Appends, Measures};
+ghost use Rattle.std.specs.Prelude.{◌≡◌, ◌↔◌, ◌⊎◌, ◌+◌, ◌≤◌, IsOk, IfOk, IfErr, IsErrOf, None, Some};
+ghost use Rattle.std.specs.Vec.{vec_len, vec_capacity};
+ghost use Rattle.smith_format.specs.Piece.{piece_length};
+ghost use Rattle.smith_format.specs.Writing.{Appends, Measures, Puts};
 ghost use Rattle.smith_core.specs.Module.{module_text};
 ghost use Rattle.smith_core.specs.Parts.{Agree};
 
@@ -78,6 +80,16 @@ impl Module {
         settled(out, start, given)
     }
 
+    // Puts the module's bytes into a buffer that has room for them, so that no memory is asked for.
+    fn fill(&self, out: &mut Vec<u8>) -> Result<(), Error>
+        requires spelled { ¬ (module_text self.now ≡ None) }
+        requires room { vec_len out.old + piece_length (module_text self.now) ≤ vec_capacity out.old }
+        ensures puts { Puts result out.old out.new (module_text self.now) }
+        ensures done { IfErr result (λ e. ⊥) }
+    {
+        self.parts.put(out)
+    }
+
     /// The module's bytes. Memory is asked for once, after they were measured.
     pub fn to_bytes(&self, alloc: Global) -> Result<Vec<u8>, Error>
         ensures written { IfOk result (λ v. module_text self.now ≡ Some v.items) }
@@ -87,9 +99,7 @@ impl Module {
     {
         let length = self.measure()?;
         let mut out = Vec::with_capacity(alloc, length as usize)?;
-        let filled = self.parts.put(&mut out);
-        prove!(filled.is_ok());
-        filled?;
+        self.fill(&mut out)?;
         Ok(out)
     }
 }

@@ -7,7 +7,7 @@ ghost use Rattle.smith_input.specs.Reading.{IsTail};
 ghost use Rattle.smith_format.specs.Limits.{IsConsistent};
 ghost use Rattle.smith_scopes.specs.Scopes.{own_scope, outer_scopes};
 ghost use Rattle.smith_component.specs.Canonicals.{CanonTurn, Growing, NoCanon, ReadsCanons, ReadsLift, ReadsLower, grown, with_defined};
-ghost use Rattle.smith_component.specs.Draft.{IsDraft, IsDrafted, IsLowered, LiftsAs, KeepsFront, canon_items_of, growing};
+ghost use Rattle.smith_component.specs.CanonicalsState.{CanonicalsState, IsDrafted, IsLowered, LiftsAs, KeepsFront, canon_items_of, growing};
 ghost use Rattle.smith_component.specs.Shown.{shown_sections};
 ghost use Rattle.smith_component.specs.Tables.{Tabled};
 ghost use Rattle.smith_component.specs.Spaces.{function_count};
@@ -91,12 +91,12 @@ fn define(
     core_func_index: u32,
     ty: FuncType,
 ) -> Result<(), Error>
-    requires draft { IsDraft scopes.old component.old funcs.old.items }
+    requires draft { CanonicalsState scopes.old component.old funcs.old.items }
     requires types { length (own_scope scopes.old).types < 4294967295 }
     requires room { function_count (grown (growing component.old funcs.old.items)) < 4294967295 }
     ensures defines { OnOk result (growing component.new funcs.new.items
         ≡ with_defined (growing component.old funcs.old.items) core_func_index ty) }
-    ensures draft { OnOk result (IsDraft scopes.new component.new funcs.new.items) }
+    ensures draft { OnOk result (CanonicalsState scopes.new component.new funcs.new.items) }
     ensures front { OnOk result (KeepsFront component.old component.new) }
     ensures outer { OnOk result (outer_scopes scopes.new ≡ outer_scopes scopes.old) }
     ensures depth { OnOk result (length scopes.new ≡ length scopes.old) }
@@ -128,12 +128,12 @@ fn lift(
     u: &mut Unstructured,
 ) -> Result<(), Error>
     requires consistent { IsConsistent config.now }
-    requires draft { IsDraft scopes.old component.old funcs.old.items }
+    requires draft { CanonicalsState scopes.old component.old funcs.old.items }
     requires some { 0 < length component.old.tables.core_functions.items }
     requires room { function_count (grown (growing component.old funcs.old.items)) < 4294967295 }
     ensures reads { OnOk result (ReadsLift config.now (growing component.old funcs.old.items) u.old u.new
         (growing component.new funcs.new.items)) }
-    ensures draft { OnOk result (IsDraft scopes.new component.new funcs.new.items) }
+    ensures draft { OnOk result (CanonicalsState scopes.new component.new funcs.new.items) }
     ensures front { OnOk result (KeepsFront component.old component.new) }
     ensures outer { OnOk result (outer_scopes scopes.new ≡ outer_scopes scopes.old) }
     ensures depth { OnOk result (length scopes.new ≡ length scopes.old) }
@@ -168,11 +168,11 @@ fn canon_turn(
     u: &mut Unstructured,
 ) -> Result<bool, Error>
     requires consistent { IsConsistent config.now }
-    requires draft { IsDraft scopes.old component.old funcs.old.items }
+    requires draft { CanonicalsState scopes.old component.old funcs.old.items }
     requires room { function_count (grown (growing component.old funcs.old.items)) < 4294967295 }
     ensures reads { IfOk result (λ made. IsDrafted config.now (growing component.old funcs.old.items) u.old made u.new
         (growing component.new funcs.new.items)) }
-    ensures draft { OnOk result (IsDraft scopes.new component.new funcs.new.items) }
+    ensures draft { OnOk result (CanonicalsState scopes.new component.new funcs.new.items) }
     ensures front { OnOk result (KeepsFront component.old component.new) }
     ensures outer { OnOk result (outer_scopes scopes.new ≡ outer_scopes scopes.old) }
     ensures depth { OnOk result (length scopes.new ≡ length scopes.old) }
@@ -202,11 +202,11 @@ fn canon_turns(
 ) -> Result<(), Error>
     requires consistent { IsConsistent config.now }
     requires ordered { min ≤ max }
-    requires draft { IsDraft scopes.old component.old funcs.old.items }
+    requires draft { CanonicalsState scopes.old component.old funcs.old.items }
     requires room { function_count (grown (growing component.old funcs.old.items)) + max ≤ 4294967295 }
     ensures reads { OnOk result ((turns : List CanonItem) × Loop NoCanon (CanonTurn config.now) min max 0
         (growing component.old funcs.old.items) u.old turns u.new (growing component.new funcs.new.items)) }
-    ensures draft { OnOk result (IsDraft scopes.new component.new funcs.new.items) }
+    ensures draft { OnOk result (CanonicalsState scopes.new component.new funcs.new.items) }
     ensures front { OnOk result (KeepsFront component.old component.new) }
     ensures outer { OnOk result (outer_scopes scopes.new ≡ outer_scopes scopes.old) }
     ensures depth { OnOk result (length scopes.new ≡ length scopes.old) }

@@ -6,7 +6,7 @@ ghost use Rattle.smith_input.specs.Loops.{Loop};
 ghost use Rattle.smith_format.specs.Limits.{IsConsistent};
 ghost use Rattle.smith_types.specs.Declarations.{NamedExtern};
 ghost use Rattle.smith_scopes.specs.Scopes.{own_scope};
-ghost use Rattle.smith_component.specs.Importing.{Importing, ImportsOne};
+ghost use Rattle.smith_component.specs.ImportsState.{ImportsState, ImportsOne};
 ghost use Rattle.smith_component.specs.SectionValues.{NoImportValue, ReadsImportValue};
 ghost use Rattle.smith_component.specs.Open.{Open};
 
@@ -28,7 +28,7 @@ fn read_import(
 ) -> Result<Option<Import>, Error>
     requires consistent { IsConsistent config.now }
     ensures imports { (stack : Open) (before : List NamedExtern) (is : List _)
-        → Importing stack before is (own_scope scopes.now) totals.old tables.old
+        → ImportsState stack before is (own_scope scopes.now) totals.old tables.old
         → IfOk result (λ i.
         ImportsOne config.now stack before is (own_scope scopes.now) totals.new tables.new u.old i u.new) }
     ensures memory { IfErr result (λ e. e ≡ Error.OutOfMemory) }
@@ -60,12 +60,12 @@ pub(super) fn read_imports(
     requires consistent { IsConsistent config.now }
     requires ordered { min ≤ max }
     ensures reads { (stack : Open) (before : List NamedExtern)
-        → Importing stack before [] (own_scope scopes.now) totals.old tables.old
+        → ImportsState stack before [] (own_scope scopes.now) totals.old tables.old
         → IfOk result (λ v. Loop (NoImportValue config.now stack) (ReadsImportValue config.now stack before)
         min max 0 [] u.old v.items u.new v.items) }
     ensures counts { (stack : Open) (before : List NamedExtern)
-        → Importing stack before [] (own_scope scopes.now) totals.old tables.old
-        → IfOk result (λ v. Importing stack before v.items (own_scope scopes.now) totals.new tables.new) }
+        → ImportsState stack before [] (own_scope scopes.now) totals.old tables.old
+        → IfOk result (λ v. ImportsState stack before v.items (own_scope scopes.now) totals.new tables.new) }
     ensures memory { IfErr result (λ e. e ≡ Error.OutOfMemory) }
     ensures tail { IsTail u.new u.old }
 {

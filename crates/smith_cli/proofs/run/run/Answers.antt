@@ -2,7 +2,7 @@ use Rattle.std.proofs.Common.{◌≡◌, ◌∙◌, ℕ, List, length, subst}
 use Rattle.std.proofs.lemmas.Result.{on_ok_weaker}
 use Rattle.std.specs.Io.KnownBytes.{Appends}
 use Rattle.smith_input.specs.Reading.{IsTail}
-use Rattle.smith_component.specs.Turn.{RunsTo}
+use Rattle.smith_component.specs.Runs.{RunsTo}
 use Rattle.smith_cli.specs.Page.{page}
 use Rattle.smith_cli.proofs.run.run.Goals as goal
 

@@ -18,4 +18,5 @@ returns-clause-added c =
 
 pub returns-clause-values : goal.returns-clause-values
 returns-clause-values c =
-    IfOk-weaker c.add_section.result _ _ (λ s h. record { parts = c.in_ok-module.module; added = h; reads = c.in_ok-module.ensures.reads }) c.add_section.ensures.last
+    IfOk-weaker c.add_section.result _ _ (λ s h. record { parts = c.in_ok-module.module; added = h; reads = c.in_ok-module.ensures.reads })
+    c.add_section.ensures.last

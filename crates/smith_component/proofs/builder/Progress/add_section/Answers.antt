@@ -37,8 +37,13 @@ returns-clause-sound c =
         valtypes_are = i.0.valtypes_are;
         scopes_are = i.0.scopes_are ∙ ap (λ s. s ∷ scopes_in stack.outer) (sym (ap scope_of new ∙ (scope-add stack.inner p ∙ ap scope_at same)));
         totalled =
-            totalled_part b.config stack.outer stack.inner _ b.totals _ p a.no_component new (omega (arith, c.module_count-modules.ensures, ap length none.0)) (omega (arith, ap length none.1)) (omega (arith, ap length none.2))
+            totalled_part b.config stack.outer stack.inner _ b.totals _ p a.no_component new (omega (arith, c.module_count-modules.ensures, ap length none.0))
+            (omega (arith, ap length none.1)) (omega (arith, ap length none.2))
             i.0.totalled;
       },
-      (is_tabled_added b.inner c.push.new.self c.args.section c.in_ok-push.ensures.items c.push.ensures.tables (ap (λ s. s.functions) same) (ap (λ s. s.core_functions) same) q.imports i.1.0, i.1.1),
+      (
+        is_tabled_added b.inner c.push.new.self c.args.section c.in_ok-push.ensures.items c.push.ensures.tables (ap (λ s. s.functions) same)
+            (ap (λ s. s.core_functions) same) q.imports i.1.0,
+        i.1.1,
+      ),
     )

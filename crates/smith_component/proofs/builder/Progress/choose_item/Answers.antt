@@ -10,7 +10,14 @@ use Rattle.smith_component.proofs.builder.Progress.choose_item.Goals as goal
 finish_alone : (config : Config) (stack : Open) (b : List ℕ) → b ≡ [] → ReadsAmong (items config stack b) b Finish b
 finish_alone config stack [] e = record {
   place = 0;
-  reads = record { width = 0; is_width = record { enough = omega arith; least = λ v h. omega arith }; below = omega arith; turns = 0; spells = refl; left = refl };
+  reads = record {
+    width = 0;
+    is_width = record { enough = omega arith; least = λ v h. omega arith };
+    below = omega arith;
+    turns = 0;
+    spells = refl;
+    left = refl;
+  };
   named = refl;
 }
 finish_alone config stack (x ∷ xs) e = absurd (cc)

@@ -26,7 +26,8 @@ none_around [] h = refl
 none_around (x ∷ xs) h = absurd (omega arith)
 
 -- the component around the inner one, with that as its last part
-around_grown : (pushed parent : OpenComponent) (finished : Tree) (t : Tree) → pushed ≡ parent → t ≡ add (shown_sections pushed.sections.items) (component finished) → t ≡ add (shown_sections parent.sections.items) (component finished)
+around_grown : (pushed parent : OpenComponent) (finished : Tree) (t : Tree) → pushed ≡ parent
+    → t ≡ add (shown_sections pushed.sections.items) (component finished) → t ≡ add (shown_sections parent.sections.items) (component finished)
 around_grown pushed parent finished t e h = h ∙ ap (λ (o : OpenComponent). add (shown_sections o.sections.items) (component finished)) e
 
 pub close_scope-requires : goal.close_scope-requires
@@ -51,7 +52,8 @@ returns-in_ok-push-in-Some-clause-sound c =
     let parent : Tree = shown_sections c.in-Some.parent.sections.items in
     let inner : Tree = shown_sections b.inner.sections.items in
     let around = outer_popped _ _ _ c.in-Some.ensures.items in
-    let finished : c.of-component.result ≡ inner = c.of-component.ensures ∙ ap (λ (o : OpenComponent). shown_sections o.sections.items) c.replace-finished.ensures.value in
+    let finished : c.of-component.result ≡ inner = c.of-component.ensures
+    ∙ ap (λ (o : OpenComponent). shown_sections o.sections.items) c.replace-finished.ensures.value in
     let new = around_grown _ _ _ _ c.replace-finished.ensures.after c.in_ok-push-in-Some.ensures.ok ∙ ap (λ t. add parent (component t)) finished in
     let before = closed_scope b.scopes c.close_scope.new.self (last_of b.scopes) c.close_scope.ensures in
     let rest = same_tail _ _ _ _ (sym before ∙ (i.0.scopes_are ∙ ap (λ us. scope_of inner ∷ scopes_in us) around)) in
@@ -59,9 +61,11 @@ returns-in_ok-push-in-Some-clause-sound c =
     let all = subst (AllByRecursion IsTabled) c.in-Some.ensures.items i.1.1 in
     let last = all_back IsTabled c.pop.new.self.items (c.in-Some.parent ∷ []) all in
     let tables = c.push.ensures.tables ∙ ap (λ (o : OpenComponent). o.tables) c.replace-finished.ensures.after in
-    let items = c.in_ok-push-in-Some.ensures.items ∙ ap (λ (o : OpenComponent). o.sections.items ++ inner_section c.of-component.result ∷ []) c.replace-finished.ensures.after in (
+    let items = c.in_ok-push-in-Some.ensures.items ∙ ap (λ (o : OpenComponent). o.sections.items ++ inner_section c.of-component.result ∷ [])
+    c.replace-finished.ensures.after in (
       record {
-        sound = subst (λ t. Sound b.config (record { outer = outers; inner = t })) (sym new) (sound_close b.config outers parent inner enough (subst (λ us. Sound b.config (record { outer = us; inner = inner })) around i.0.sound));
+        sound = subst (λ t. Sound b.config (record { outer = outers; inner = t })) (sym new)
+            (sound_close b.config outers parent inner enough (subst (λ us. Sound b.config (record { outer = us; inner = inner })) around i.0.sound));
         valtypes_are = i.0.valtypes_are;
         scopes_are = rest ∙ (scopes_from-snoc outers parent [] ∙ ap (λ s. s ∷ scopes_in outers) (sym (ap scope_of new ∙ scope-add parent (component inner))));
         totalled = totalled_close outers _ parent inner _ b.totals around new i.0.totalled;
@@ -102,6 +106,13 @@ returns-in_ok-push-in-Some-clause-sections c =
     let b = c.args.self.now in
     let sections : OpenComponent → List Section = λ o. o.sections.items in
     let around = ap (map sections) c.in-Some.ensures.items ∙ map-append sections c.pop.new.self.items (c.in-Some.parent ∷ []) in
-    let finished = c.of-component.ensures ∙ (ap (λ (o : OpenComponent). shown_sections o.sections.items) c.replace-finished.ensures.value ∙ ap shown_sections (sym (append-nil b.inner.sections.items))) in
-    let grown = c.in_ok-push-in-Some.ensures.items ∙ ap (λ (o : OpenComponent). o.sections.items ++ inner_section c.of-component.result ∷ []) c.replace-finished.ensures.after in
-    (record { parent = sections c.in-Some.parent; more = []; outer = around; inner = grown ∙ ap (λ t. sections c.in-Some.parent ++ inner_section t ∷ []) finished })
+    let finished = c.of-component.ensures ∙ (ap (λ (o : OpenComponent). shown_sections o.sections.items) c.replace-finished.ensures.value
+    ∙ ap shown_sections (sym (append-nil b.inner.sections.items))) in
+    let grown = c.in_ok-push-in-Some.ensures.items ∙ ap (λ (o : OpenComponent). o.sections.items ++ inner_section c.of-component.result ∷ [])
+    c.replace-finished.ensures.after in
+    (record {
+      parent = sections c.in-Some.parent;
+      more = [];
+      outer = around;
+      inner = grown ∙ ap (λ t. sections c.in-Some.parent ++ inner_section t ∷ []) finished;
+    })

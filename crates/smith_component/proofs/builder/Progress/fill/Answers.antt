@@ -7,14 +7,15 @@ use Rattle.smith_component.specs.Open.{with_inner}
 use Rattle.smith_component.specs.Refusals.{IsFillRefusal}
 use Rattle.smith_component.specs.Spaces.{function_count}
 use Rattle.smith_component.specs.Tree.{Tree, imports_of}
-use Rattle.smith_component.specs.Turn.{Fills, FillsAll, of_imports, of_functions}
+use Rattle.smith_component.specs.Fills.{Fills, FillsAll, of_imports, of_functions}
 use Rattle.smith_component.specs.declared.item.Counted.{Counted}
 use Rattle.smith_component.specs.declared.item.Counted.TheVariants as counted
 use Rattle.smith_component.proofs.Finishing.{refused, adds_trans, moved, filled_minima}
 use Rattle.smith_component.proofs.builder.Progress.fill.Goals as goal
 
 -- What is filled, in the terms of the builder that all began with.
-from_first : (what : Counted) (a b : Building) {mid low : List ℕ} {t : Tree} → b.config ≡ a.config → b.outer ≡ a.outer → Fills what b.config (open_of b) mid t low → Fills what a.config (with_inner (open_of a) (open_of b).inner) mid t low
+from_first : (what : Counted) (a b : Building) {mid low : List ℕ} {t : Tree} → b.config ≡ a.config → b.outer ≡ a.outer
+    → Fills what b.config (open_of b) mid t low → Fills what a.config (with_inner (open_of a) (open_of b).inner) mid t low
 from_first what a b {mid} {low} {t} c o f = moved (λ k s. Fills what k s mid t low) a b c o f
 
 pub returns-in_err-check_minimum-clause-refuses : goal.returns-in_err-check_minimum-clause-refuses
@@ -27,7 +28,8 @@ returns-in_err-check_minimum-clause-refuses c =
     let e = c.in_err-check_minimum.ensures in
     let filled = from_first counted.Imports v typed t.keeps t.sections.outer i.filled in
     let few = subst (λ (k : Config). length (imports_of (open_of imported).inner) < k.min_imports) (i.keeps ∙ t.keeps) e.1 in
-    refused _ _ (IsFillRefusal v.config (open_of v) c.args.u.now) c.from_residual-in_err-check_minimum.ensures.1 (subst (IsFillRefusal v.config (open_of v) c.args.u.now) (sym e.0) (of_imports t.filled filled few))
+    refused _ _ (IsFillRefusal v.config (open_of v) c.args.u.now) c.from_residual-in_err-check_minimum.ensures.1
+    (subst (IsFillRefusal v.config (open_of v) c.args.u.now) (sym e.0) (of_imports t.filled filled few))
 
 pub returns-in_err-check_minimum-clause-tail : goal.returns-in_err-check_minimum-clause-tail
 returns-in_err-check_minimum-clause-tail c = tail_trans c.in_ok-fill_one-2.ensures.tail c.in_ok-fill_one.ensures.tail
@@ -53,10 +55,12 @@ returns-in_err-check_minimum-2-clause-refuses c =
     (subst (IsFillRefusal v.config (open_of v) c.args.u.now) (sym e.0) (of_functions t.filled is enough fs few))
 
 pub returns-in_err-check_minimum-2-clause-tail : goal.returns-in_err-check_minimum-2-clause-tail
-returns-in_err-check_minimum-2-clause-tail c = tail_trans c.in_ok-fill_one-3.ensures.tail (tail_trans c.in_ok-fill_one-2.ensures.tail c.in_ok-fill_one.ensures.tail)
+returns-in_err-check_minimum-2-clause-tail c = tail_trans c.in_ok-fill_one-3.ensures.tail
+    (tail_trans c.in_ok-fill_one-2.ensures.tail c.in_ok-fill_one.ensures.tail)
 
 -- all that is filled, at the end
-all_filled : (c : goal.In_ok-check_minimum-2) → FillsAll c.args.self.now.config (stack_of c.args.self.now) c.args.u.now (stack_of c.fill_one-3.new.self).inner c.fill_one-3.new.u
+all_filled : (c : goal.In_ok-check_minimum-2) → FillsAll c.args.self.now.config (stack_of c.args.self.now) c.args.u.now (stack_of c.fill_one-3.new.self).inner
+    c.fill_one-3.new.u
 all_filled c =
     let v = building_of c.args.self.now in
     let typed = building_of c.fill_one.new.self in
@@ -76,7 +80,8 @@ all_filled c =
       imports = is;
       enough_imports = subst (λ (k : Config). k.min_imports ≤ length (imports_of (open_of imported).inner)) (i.keeps ∙ t.keeps) c.in_ok-check_minimum.ensures;
       functions = fs;
-      enough_functions = subst (λ (k : Config). k.min_funcs ≤ function_count (open_of full).inner) (f.keeps ∙ (i.keeps ∙ t.keeps)) c.in_ok-check_minimum-2.ensures;
+      enough_functions = subst (λ (k : Config). k.min_funcs ≤ function_count (open_of full).inner) (f.keeps ∙ (i.keeps ∙ t.keeps))
+          c.in_ok-check_minimum-2.ensures;
     }
 
 pub returns-clause-filled : goal.returns-clause-filled

@@ -14,5 +14,10 @@ returns-clause-filled c =
     let lacks : minimum_of what b.config - count_of what (stack_of b).inner ≡ c.minimum-minimum.result - count =
     ap (λ n. n - count_of what (stack_of b).inner) (sym c.minimum-minimum.ensures) ∙ ap (λ n. c.minimum-minimum.result - n) (sym c.count-count.ensures) in
     let A : ℕ → Type 0 = λ n. AddsSection what b.config n (building_of b) c.args.u.now (building_of c.add.new.self) c.add.new.u in
-    let few : count_of what (stack_of b).inner < minimum_of what b.config = omega (arith, c.if-minimum-count.false, c.minimum-minimum.ensures, c.count-count.ensures) in
-    on_ok_weaker c.add.result (λ a. inr (few, section_shown what b.config _ (building_of b) (building_of c.add.new.self) c.args.u.now c.add.new.u (subst A (sym lacks) a))) c.add.ensures.added
+    let few : count_of what (stack_of b).inner < minimum_of what b.config =
+    omega (arith, c.if-minimum-count.false, c.minimum-minimum.ensures, c.count-count.ensures) in
+    on_ok_weaker c.add.result (λ a. inr (
+      few,
+      section_shown what b.config _ (building_of b) (building_of c.add.new.self) c.args.u.now c.add.new.u
+          (subst A (sym lacks) a),
+    )) c.add.ensures.added

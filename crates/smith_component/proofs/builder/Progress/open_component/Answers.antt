@@ -29,18 +29,22 @@ returns-clause-sound c =
     let i = c.requires.sound in
     let stack = stack_of b in
     let o = component_offered_is b.config stack c.requires.offered in
-    let outer = outer_popped _ _ _ c.in_ok-push.ensures.items ∙ ap (λ x. trees_of b.outer.items ++ shown_sections x.sections.items ∷ []) c.replace-around.ensures.value in
+    let outer = outer_popped _ _ _ c.in_ok-push.ensures.items
+    ∙ ap (λ x. trees_of b.outer.items ++ shown_sections x.sections.items ∷ []) c.replace-around.ensures.value in
     let new : OpenComponent = c.new-opened.result in
     let fresh = c.replace-around.ensures.after in
     let inner = ap (λ x. shown_sections x.sections.items) fresh ∙ ap shown_sections c.new-opened.ensures.items in
     let around = c.in_ok-push.ensures.items ∙ ap (λ x. b.outer.items ++ x ∷ []) c.replace-around.ensures.value in
     let tables : IsTabled new = c.new-opened.ensures.tabled in (
       record {
-        sound = subst (λ us. Sound b.config (record { outer = us; inner = shown_sections c.replace-around.new.dest.sections.items })) (sym outer) (subst (λ t. Sound b.config (record { outer = stack.outer ++ stack.inner ∷ []; inner = t })) (sym inner) (sound_open b.config stack.outer stack.inner o.0 o.1 i.0.sound));
+        sound = subst (λ us. Sound b.config (record { outer = us; inner = shown_sections c.replace-around.new.dest.sections.items })) (sym outer)
+            (subst (λ t. Sound b.config (record { outer = stack.outer ++ stack.inner ∷ []; inner = t })) (sym inner)
+            (sound_open b.config stack.outer stack.inner o.0 o.1 i.0.sound));
         valtypes_are = i.0.valtypes_are;
         scopes_are =
             opened_scope _ _ c.in_ok-open_scope.ensures.ok
-            ∙ (ap (λ ss. empty_scope ∷ ss) (i.0.scopes_are ∙ (sym (scopes_from-snoc stack.outer stack.inner []) ∙ ap scopes_in (sym outer))) ∙ ap (λ s. s ∷ scopes_in (trees_of c.push.new.self.items)) (sym (ap scope_of inner)));
+            ∙ (ap (λ ss. empty_scope ∷ ss) (i.0.scopes_are ∙ (sym (scopes_from-snoc stack.outer stack.inner []) ∙ ap scopes_in (sym outer)))
+            ∙ ap (λ s. s ∷ scopes_in (trees_of c.push.new.self.items)) (sym (ap scope_of inner)));
         totalled = totalled_open stack.outer _ stack.inner _ b.totals _ outer inner refl refl refl i.0.totalled;
       },
       (

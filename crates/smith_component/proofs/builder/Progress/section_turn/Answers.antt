@@ -24,5 +24,9 @@ add-requires c =
 
 pub returns-clause-added : goal.returns-clause-added
 returns-clause-added c =
-    let a = c.in_ok-add.ensures in
-    ((stack_of c.add.new.self).inner, section_shown c.args.what c.args.self.now.config 0 (building_of c.args.self.now) (building_of c.add.new.self) c.args.u.now c.add.new.u a.added, still_building (building_of c.args.self.now) (building_of c.add.new.self) a.sections)
+    let a = c.in_ok-add.ensures in (
+      (stack_of c.add.new.self).inner,
+      section_shown c.args.what c.args.self.now.config 0 (building_of c.args.self.now) (building_of c.add.new.self) c.args.u.now
+          c.add.new.u a.added,
+      still_building (building_of c.args.self.now) (building_of c.add.new.self) a.sections,
+    )

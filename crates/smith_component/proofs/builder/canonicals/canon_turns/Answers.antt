@@ -1,8 +1,8 @@
 use Rattle.std.proofs.Common.{[], ◌∷◌, ◌++◌, refl, ◌∙◌, arith}
 use Rattle.smith_input.proofs.Loops.{begins, ends_early, ends_full, goes_on, stops}
 use Rattle.smith_input.proofs.ReadingLemmas.{more_tail, tail_same, tail_trans}
-use Rattle.smith_component.specs.Draft.{growing}
-use Rattle.smith_component.proofs.Draft.{drafted_ends, drafted_turn, front_same, front_then}
+use Rattle.smith_component.specs.CanonicalsState.{growing}
+use Rattle.smith_component.proofs.CanonicalsState.{drafted_ends, drafted_turn, front_same, front_then}
 use Rattle.smith_component.proofs.ReadsCanons.{turn_count}
 use Rattle.smith_component.proofs.builder.canonicals.canon_turns.Goals as goal
 
@@ -45,7 +45,8 @@ returns-then-not-branch-clause-reads c =
     let o = c.loop-done.invariant.onward in
     let s = growing c.loop-done.component c.loop-done.funcs.items in
     let next = growing c.canon_turn.new.component c.canon_turn.new.funcs.items in
-    let none = drafted_ends c.args.config.now s next c.more.new.self c.canon_turn.new.u c.in_ok-canon_turn.field-0 c.if-not-branch.true c.in_ok-canon_turn.ensures.reads in
+    let none = drafted_ends c.args.config.now s next c.more.new.self c.canon_turn.new.u c.in_ok-canon_turn.field-0 c.if-not-branch.true
+    c.in_ok-canon_turn.ensures.reads in
     (o.0, ends_early _ _ _ _ _ _ o.0 _ s next _ _ _ _ c.if-not-more.false c.more.ensures none o.1)
 
 pub returns-then-not-branch-clause-front : goal.returns-then-not-branch-clause-front

@@ -3,14 +3,14 @@ use Rattle.smith_syntax.specs.Entries.{function}
 use Rattle.smith_syntax.specs.Shown.{shown_type}
 use Rattle.smith_scopes.specs.Scopes.{own_scope}
 use Rattle.smith_scopes.proofs.Stack.{length-last}
-use Rattle.smith_component.specs.Draft.{growing}
+use Rattle.smith_component.specs.CanonicalsState.{growing}
 use Rattle.smith_component.specs.Shown.{shown_canon, shown_sections}
 use Rattle.smith_component.specs.Tables.{AddsFunction}
 use Rattle.smith_component.specs.declared.builder.open.OpenComponent.{OpenComponent}
 use Rattle.smith_component.specs.declared.builder.tables.Tables.{Tables}
 use Rattle.smith_component.specs.declared.component.Func.{Func}
 use Rattle.smith_component.specs.declared.component.Func.TheVariants.{CanonLift}
-use Rattle.smith_component.proofs.Draft.{define_draft, defines, shown_function, type_index}
+use Rattle.smith_component.proofs.CanonicalsState.{define_draft, defines, shown_function, type_index}
 use Rattle.smith_component.proofs.builder.canonicals.define.Goals as goal
 
 pub push_type-requires : goal.push_type-requires
@@ -26,13 +26,17 @@ returns-clause-defines c =
     let made = c.in_ok-push-4.ensures.items ∙ ap (λ xs. xs ++ lift ∷ []) empty in
     let index = type_index c.args.scopes.now c.args.component.now c.args.funcs.now.items c.requires.draft t c.in_ok-func_ty.ensures.index in
     defines (growing c.args.component.now c.args.funcs.now.items) c.args.core_func_index t c.args.ty
-    (shown_sections c.push-2.new.self.sections.items) (shown_sections c.push-3.new.self.sections.items) c.replace-ended.result.items c.push-4.new.self.items c.push.new.self.items c.in_ok-shared.shared
+    (shown_sections c.push-2.new.self.sections.items) (shown_sections c.push-3.new.self.sections.items) c.replace-ended.result.items c.push-4.new.self.items
+    c.push.new.self.items c.in_ok-shared.shared
     c.in_ok-push-2.ensures.ok (ap (λ v. map shown_canon v.items) c.replace-ended.ensures.value) c.in_ok-push-3.ensures.ok entries shows made index
 
 pub returns-clause-draft : goal.returns-clause-draft
 returns-clause-draft c =
     let new : OpenComponent = record { sections = c.push-3.new.self.sections; tables = c.add_function.new.self } in
     let T : Tables → Type 0 = λ z. AddsFunction (own_scope c.push_type.new.self) z c.in_ok-func_ty.func_ty c.add_function.new.self in
-    let shows = ap shown_type (c.in_ok-clone.ensures.cases ∙ c.in_ok-shared.ensures.ok) ∙ (shown_function c.in_ok-new.field-0 ∙ ap function c.in_ok-new.ensures.ok) in
-    define_draft c.args.scopes.now c.args.component.now c.args.funcs.now.items c.requires.draft c.push_type.new.self new c.push-4.new.self.items c.args.core_func_index c.in_ok-func_ty.func_ty c.args.ty c.in_ok-clone.field-0.value
-    shows c.in_ok-func_ty.ensures.ok (returns-clause-defines c) c.in_ok-func_ty.ensures.index (subst T (c.push-3.ensures.tables ∙ c.push-2.ensures.tables) c.in_ok-add_function.ensures.ok)
+    let shows = ap shown_type (c.in_ok-clone.ensures.cases ∙ c.in_ok-shared.ensures.ok)
+    ∙ (shown_function c.in_ok-new.field-0 ∙ ap function c.in_ok-new.ensures.ok) in
+    define_draft c.args.scopes.now c.args.component.now c.args.funcs.now.items c.requires.draft c.push_type.new.self new c.push-4.new.self.items
+    c.args.core_func_index c.in_ok-func_ty.func_ty c.args.ty c.in_ok-clone.field-0.value
+    shows c.in_ok-func_ty.ensures.ok (returns-clause-defines c) c.in_ok-func_ty.ensures.index
+    (subst T (c.push-3.ensures.tables ∙ c.push-2.ensures.tables) c.in_ok-add_function.ensures.ok)

@@ -2,26 +2,30 @@ use Rattle.std.proofs.Common.{refl, arith}
 use Rattle.std.proofs.lemmas.Result.{on_ok_weaker}
 use Rattle.smith_component.specs.declared.builder.open.OpenComponent.{OpenComponent}
 use Rattle.smith_component.specs.declared.component.Func.TheVariants.{CanonLift}
-use Rattle.smith_component.proofs.Draft.{draft_lowered, equal_within, growing_more, lift_defined, lift_draft, lift_equal, lift_given_up}
+use Rattle.smith_component.proofs.CanonicalsState.{draft_lowered, equal_within, growing_more, lift_defined, lift_draft, lift_equal, lift_given_up}
 use Rattle.smith_component.proofs.builder.canonicals.lift.Goals as goal
 
 pub lifted_type-requires : goal.lifted_type-requires
 lifted_type-requires c = record {
-  known = draft_lowered c.args.scopes.now c.args.component.now c.args.funcs.now.items c.requires.draft c.choose_index-core_func_index.result (omega (arith, c.choose_index-core_func_index.ensures.below, c.len.ensures));
+  known = draft_lowered c.args.scopes.now c.args.component.now c.args.funcs.now.items c.requires.draft c.choose_index-core_func_index.result
+      (omega (arith, c.choose_index-core_func_index.ensures.below, c.len.ensures));
 }
 
 pub add_function-requires-clause-known : goal.add_function-requires-clause-known
 add_function-requires-clause-known c =
-    equal_within c.args.scopes.now c.args.component.now c.args.funcs.now.items c.requires.draft c.in_ok-ty.ty c.choose_index.result c.equal_at-func_ty.result c.equal_at-func_ty.ensures
+    equal_within c.args.scopes.now c.args.component.now c.args.funcs.now.items c.requires.draft c.in_ok-ty.ty c.choose_index.result c.equal_at-func_ty.result
+    c.equal_at-func_ty.ensures
 
 pub returns-then-equal-gt0-clause-reads : goal.returns-then-equal-gt0-clause-reads
 returns-then-equal-gt0-clause-reads c =
     let old : OpenComponent = c.args.component.now in
     let new : OpenComponent = record { sections = c.args.component.now.sections; tables = c.add_function.new.self } in
     lift_equal c.args.scopes.now old c.args.funcs.now.items c.requires.draft c.args.config.now c.len.result c.choose_index-core_func_index.result c.in_ok-ty.ty
-    c.args.u.now c.choose_index-core_func_index.new.self c.lifted_type.new.u c.choose_index.new.self _ (omega (arith, c.len.ensures)) c.choose_index-core_func_index.ensures c.in_ok-ty.ensures.reads
+    c.args.u.now c.choose_index-core_func_index.new.self c.lifted_type.new.u c.choose_index.new.self _ (omega (arith, c.len.ensures))
+    c.choose_index-core_func_index.ensures c.in_ok-ty.ensures.reads
     c.equal_len-equal.result c.choose_index.result c.equal_at-func_ty.result c.equal_len-equal.ensures c.choose_index.ensures c.equal_at-func_ty.ensures
-    (growing_more old new c.args.funcs.now.items c.push.new.self.items (CanonLift c.equal_at-func_ty.result c.choose_index-core_func_index.result) refl c.in_ok-push.ensures.items)
+    (growing_more old new c.args.funcs.now.items c.push.new.self.items (CanonLift c.equal_at-func_ty.result c.choose_index-core_func_index.result) refl
+    c.in_ok-push.ensures.items)
 
 pub returns-then-equal-gt0-clause-draft : goal.returns-then-equal-gt0-clause-draft
 returns-then-equal-gt0-clause-draft c =
@@ -36,13 +40,17 @@ returns-then-equal-gt0-clause-draft c =
 pub returns-then-own_len-config-clause-reads : goal.returns-then-own_len-config-clause-reads
 returns-then-own_len-config-clause-reads c =
     on_ok_weaker c.define.result
-    (λ e. lift_defined c.args.scopes.now c.args.component.now c.args.funcs.now.items c.requires.draft c.args.config.now c.len.result c.choose_index-core_func_index.result c.in_ok-ty.ty
-    c.args.u.now c.choose_index-core_func_index.new.self c.lifted_type.new.u c.lifted_type.new.u _ (omega (arith, c.len.ensures)) c.choose_index-core_func_index.ensures c.in_ok-ty.ensures.reads
+    (λ e. lift_defined c.args.scopes.now c.args.component.now c.args.funcs.now.items c.requires.draft c.args.config.now c.len.result
+    c.choose_index-core_func_index.result c.in_ok-ty.ty
+    c.args.u.now c.choose_index-core_func_index.new.self c.lifted_type.new.u c.lifted_type.new.u _ (omega (arith, c.len.ensures))
+    c.choose_index-core_func_index.ensures c.in_ok-ty.ensures.reads
     c.equal_len-equal.result c.equal_len-equal.ensures c.if-equal-gt0.false (omega (arith, c.own_len.ensures.count, c.if-own_len-config.true)) refl e)
     c.define.ensures.defines
 
 pub returns-clause-reads : goal.returns-clause-reads
 returns-clause-reads c =
-    lift_given_up c.args.scopes.now c.args.component.now c.args.funcs.now.items c.requires.draft c.args.config.now c.len.result c.choose_index-core_func_index.result c.in_ok-ty.ty
-    c.args.u.now c.choose_index-core_func_index.new.self c.lifted_type.new.u c.lifted_type.new.u _ (omega (arith, c.len.ensures)) c.choose_index-core_func_index.ensures c.in_ok-ty.ensures.reads
+    lift_given_up c.args.scopes.now c.args.component.now c.args.funcs.now.items c.requires.draft c.args.config.now c.len.result
+    c.choose_index-core_func_index.result c.in_ok-ty.ty
+    c.args.u.now c.choose_index-core_func_index.new.self c.lifted_type.new.u c.lifted_type.new.u _ (omega (arith, c.len.ensures))
+    c.choose_index-core_func_index.ensures c.in_ok-ty.ensures.reads
     c.equal_len-equal.result c.equal_len-equal.ensures c.if-equal-gt0.false (omega (arith, c.own_len.ensures.count, c.if-own_len-config.false)) refl refl

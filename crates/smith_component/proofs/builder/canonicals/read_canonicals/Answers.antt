@@ -1,13 +1,13 @@
 use Rattle.std.proofs.Common.{refl, sym, subst, ap, ◌∙◌, arith}
 use Rattle.std.proofs.lemmas.Result.{on_ok_weaker}
 use Rattle.smith_component.specs.Canonicals.{Growing, grown}
-use Rattle.smith_component.specs.Draft.{growing}
+use Rattle.smith_component.specs.CanonicalsState.{growing}
 use Rattle.smith_component.specs.Shown.{shown_sections}
 use Rattle.smith_component.specs.Tables.{Tabled}
 use Rattle.smith_component.specs.Tree.{Tree}
 use Rattle.smith_component.specs.WellFormed.{scope_of}
 use Rattle.smith_component.specs.declared.builder.tables.Tables.{Tables}
-use Rattle.smith_component.proofs.Draft.{all_read, first_count, first_draft, first_growing, front_push}
+use Rattle.smith_component.proofs.CanonicalsState.{all_read, first_count, first_draft, first_growing, front_push}
 use Rattle.smith_component.proofs.builder.canonicals.read_canonicals.Goals as goal
 
 pub canon_turns-requires : goal.canon_turns-requires
@@ -15,7 +15,13 @@ canon_turns-requires c = record {
   consistent = c.requires.consistent;
   ordered = c.requires.ordered;
   draft = first_draft c.args.scopes.now c.args.component.now c.new-funcs.result.items c.new-funcs.ensures.items c.requires.stands c.requires.tabled;
-  room = omega (arith, first_count c.args.component.now c.new-funcs.result.items c.new-funcs.ensures.items, c.requires.room, c.requires.few, c.requires.consistent.funcs);
+  room = omega (
+    arith,
+    first_count c.args.component.now c.new-funcs.result.items c.new-funcs.ensures.items,
+    c.requires.room,
+    c.requires.few,
+    c.requires.consistent.funcs,
+  );
 }
 
 pub returns-clause-reads : goal.returns-clause-reads
@@ -23,7 +29,8 @@ returns-clause-reads c =
     let old = c.args.component.now in
     let funcs = c.new-funcs.result.items in
     on_ok_weaker c.push.result
-    (λ e. all_read c.args.config.now c.args.min c.args.max (shown_sections old.sections.items) (growing old funcs) (growing c.canon_turns.new.component c.canon_turns.new.funcs.items) c.args.u.now c.canon_turns.new.u
+    (λ e. all_read c.args.config.now c.args.min c.args.max (shown_sections old.sections.items) (growing old funcs)
+    (growing c.canon_turns.new.component c.canon_turns.new.funcs.items) c.args.u.now c.canon_turns.new.u
     (first_growing old funcs c.new-funcs.ensures.items) c.requires.room c.in_ok-canon_turns.ensures.reads (shown_sections c.push.new.self.sections.items) e)
     c.push.ensures.ok
 
@@ -39,4 +46,5 @@ returns-clause-tabled c =
 
 pub returns-clause-front : goal.returns-clause-front
 returns-clause-front c =
-    on_ok_weaker c.push.result (λ e. front_push c.args.component.now c.canon_turns.new.component c.push.new.self _ c.in_ok-canon_turns.ensures.front e refl (ap (λ (t : Tables). t.imports) c.push.ensures.tables)) c.push.ensures.items
+    on_ok_weaker c.push.result (λ e. front_push c.args.component.now c.canon_turns.new.component c.push.new.self _ c.in_ok-canon_turns.ensures.front e refl
+    (ap (λ (t : Tables). t.imports) c.push.ensures.tables)) c.push.ensures.items

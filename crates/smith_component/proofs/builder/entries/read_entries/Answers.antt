@@ -37,7 +37,8 @@ loop-done-preserved g c =
     let entry = c.in_ok-entry.entry in
     let i = c.loop-done.invariant in
     let e = c.in_ok-entry.ensures in
-    let R : List Scope → Type 0 = λ o. E.reads c.args.config.now o (own_scope c.loop-done.scopes) c.more.new.self entry c.read.new.u (own_scope c.read.new.scopes) in
+    let R : List Scope → Type 0 = λ o. E.reads c.args.config.now o (own_scope c.loop-done.scopes) c.more.new.self entry c.read.new.u
+    (own_scope c.read.new.scopes) in
     record {
       tail = tail_trans c.read.ensures.tail (tail_trans (more_tail c.more.ensures) i.tail);
       few = omega (arith, ap length c.in_ok-push.ensures.items, length-append c.loop-done.entries.items (entry ∷ []), i.few);

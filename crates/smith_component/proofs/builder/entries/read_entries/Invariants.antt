@@ -15,5 +15,6 @@ invariant-loop-done g l =
       count : E.count (own_scope l.scopes) ≡ E.count (own_scope l.fn.scopes) + l.done;
       outer : outer_scopes l.scopes ≡ outer_scopes l.fn.scopes;
       depth : length l.scopes ≡ length l.fn.scopes;
-      onward : Onward Never (E.reads l.config (outer_scopes l.fn.scopes)) l.min l.max (own_scope l.fn.scopes) l.fn.u l.entries.items l.done (own_scope l.scopes) l.u;
+      onward : Onward Never (E.reads l.config (outer_scopes l.fn.scopes)) l.min l.max (own_scope l.fn.scopes) l.fn.u l.entries.items l.done (own_scope l.scopes)
+          l.u;
     }

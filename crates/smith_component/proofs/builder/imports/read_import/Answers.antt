@@ -1,4 +1,5 @@
-use Rattle.std.proofs.Common.{◌≡◌, ℕ, ◌+◌, ◌<◌, ◌≤◌, max, List, [], ◌∷◌, ◌++◌, length, arith, ap, sym, subst, ◌∙◌, refl, true, false, append-nil, append_assoc, map}
+use Rattle.std.proofs.Common.{◌≡◌, ℕ, ◌+◌, ◌<◌, ◌≤◌, max, List, [], ◌∷◌, ◌++◌, length, arith, ap, sym, subst, ◌∙◌, refl, true, false, append-nil, append_assoc}
+use Rattle.std.proofs.Common.{map}
 use Rattle.std.proofs.lemmas.List.{map-append}
 use Rattle.std.specs.List.{AllByRecursion}
 use Rattle.std.specs.Prelude.{if◌then◌else◌}
@@ -20,7 +21,7 @@ use Rattle.smith_types.specs.declared.make.externs.ExternNames.{ExternNames}
 use Rattle.smith_types.specs.declared.make.references.RefTotals.{RefTotals}
 use Rattle.smith_types.proofs.References.{ref_formed}
 use Rattle.smith_component.specs.Offers.{is_scalar_type, totals_of, with_imports}
-use Rattle.smith_component.specs.Importing.{Importing, Totalled}
+use Rattle.smith_component.specs.ImportsState.{ImportsState, Totalled}
 use Rattle.smith_component.specs.Open.{Open}
 use Rattle.smith_component.specs.SectionValues.{ReadsImportValue, extern_of}
 use Rattle.smith_component.specs.Tables.{AddsFunction, Tabled}
@@ -30,7 +31,7 @@ use Rattle.smith_component.specs.WellFormed.{scope_of}
 use Rattle.smith_component.specs.declared.builder.tables.Tables.{Tables}
 use Rattle.smith_component.specs.declared.builder.totals.TreeTotals.{TreeTotals}
 use Rattle.smith_component.proofs.Growth.{imports_keep, scope_bare, spaces_import}
-use Rattle.smith_component.proofs.Importing.{components_more, import_room, instances_more, modules_more}
+use Rattle.smith_component.proofs.ImportsState.{components_more, import_room, instances_more, modules_more}
 use Rattle.smith_component.proofs.Tables.{same_more, tabled_more}
 use Rattle.smith_component.proofs.builder.imports.read_import.Goals as goal
 use Rattle.smith_component.proofs.builder.imports.read_import.Goals.{in-Func+in_ok-add_function, in_default-ty}
@@ -43,7 +44,8 @@ record Takes (own : Scope) (old : Tables) (r : ComponentTypeRef) (externs : Exte
   pub imports : new.imports ≡ externs
 
 -- a function
-takes_function : (own : Scope) (old mid new : Tables) (r : ComponentTypeRef) (i : ℕ) → r ≡ to.Func i → mid.functions.items ≡ old.functions.items → mid.scalars.items ≡ old.scalars.items → mid.core_functions.items ≡ old.core_functions.items → AddsFunction own mid i new
+takes_function : (own : Scope) (old mid new : Tables) (r : ComponentTypeRef) (i : ℕ) → r ≡ to.Func i → mid.functions.items ≡ old.functions.items
+    → mid.scalars.items ≡ old.scalars.items → mid.core_functions.items ≡ old.core_functions.items → AddsFunction own mid i new
     → Takes own old r mid.imports new
 takes_function own old mid new r i e fs ss cs adds =
     subst (λ z. Takes own old z mid.imports new) (sym e) (record {
@@ -64,7 +66,8 @@ no_function (to.Component i) h = refl
 no_function (to.Instance i) h = refl
 
 -- none
-takes_none : (own : Scope) (old new : Tables) (r : ComponentTypeRef) (externs : ExternNames) → function_of r ≡ [] → new.functions.items ≡ old.functions.items → new.scalars.items ≡ old.scalars.items → new.core_functions.items ≡ old.core_functions.items → new.imports ≡ externs
+takes_none : (own : Scope) (old new : Tables) (r : ComponentTypeRef) (externs : ExternNames) → function_of r ≡ [] → new.functions.items ≡ old.functions.items
+    → new.scalars.items ≡ old.scalars.items → new.core_functions.items ≡ old.core_functions.items → new.imports ≡ externs
     → Takes own old r externs new
 takes_none own old new r externs e fs ss cs is = record {
   functions = fs ∙ sym (ap (λ z. old.functions.items ++ z) e ∙ append-nil old.functions.items);
@@ -80,15 +83,18 @@ function_within own (to.TypeEq i) f = tt
 function_within own (to.Component i) f = tt
 function_within own (to.Instance i) f = tt
 
-module _ (config : Config) (stack : Open) (before : List NamedExtern) (is : List Import) (own : Scope) (totals : TreeTotals) (tables : Tables) (importing : Importing stack before is own totals tables) where
+module _ (config : Config) (stack : Open) (before : List NamedExtern) (is : List Import) (own : Scope) (totals : TreeTotals) (tables : Tables)
+    (importing : ImportsState stack before is own totals tables) where
   abbrev entries : List ImportEntry
   entries = map import_shown is
 
-  counts_are : (counts : RefTotals) → counts.modules ≡ totals.modules → counts.funcs ≡ length tables.functions.items + length tables.core_functions.items → counts.components ≡ totals.components → counts.instances ≡ totals.instances
+  counts_are : (counts : RefTotals) → counts.modules ≡ totals.modules → counts.funcs ≡ length tables.functions.items + length tables.core_functions.items
+      → counts.components ≡ totals.components → counts.instances ≡ totals.instances
       → counts ≡ totals_of (with_imports stack entries)
   counts_are counts ms fs cs ns =
       let m = ms ∙ importing.totalled.modules in
-      let f : counts.funcs ≡ (totals_of (with_imports stack entries)).funcs = omega (arith, fs, ap length importing.tabled.functions, ap length importing.tabled.core_functions) in
+      let f : counts.funcs ≡ (totals_of (with_imports stack entries)).funcs =
+      omega (arith, fs, ap length importing.tabled.functions, ap length importing.tabled.core_functions) in
       let c = cs ∙ importing.totalled.components in
       let n = ns ∙ importing.totalled.instances in
       λ i. record { modules = m i; funcs = f i; components = c i; instances = n i }
@@ -97,11 +103,13 @@ module _ (config : Config) (stack : Open) (before : List NamedExtern) (is : List
     abbrev entry : ImportEntry
     entry = import_shown x
 
-    import_is_read : (counts : RefTotals) → counts ≡ totals_of (with_imports stack entries) → ReadsRef config own counts true false b x.ty mid → ((so_far : List NamedExtern) → HoldsExterns tables.imports so_far → ReadsNamedExtern so_far mid (extern_of x) rest)
+    import_is_read : (counts : RefTotals) → counts ≡ totals_of (with_imports stack entries) → ReadsRef config own counts true false b x.ty mid
+        → ((so_far : List NamedExtern) → HoldsExterns tables.imports so_far → ReadsNamedExtern so_far mid (extern_of x) rest)
         → ReadsImportValue config stack before is b x rest (is ++ x ∷ [])
     import_is_read counts e of named = record {
       mid = mid;
-      of = subst (λ z. ReadsRef config (scope_of stack.inner) z true false b x.ty mid) e (subst (λ z. ReadsRef config z counts true false b x.ty mid) importing.scope_is of);
+      of = subst (λ z. ReadsRef config (scope_of stack.inner) z true false b x.ty mid) e
+          (subst (λ z. ReadsRef config z counts true false b x.ty mid) importing.scope_is of);
       named = named (before ++ map extern_of is) importing.externs;
       next_is = refl;
     }
@@ -128,8 +136,10 @@ module _ (config : Config) (stack : Open) (before : List NamedExtern) (is : List
         (takes.core_functions ∙ sym (append-nil tables.core_functions.items))
         (takes.scalars ∙ ap (λ ts. tables.scalars.items ++ places (is_scalar_type ts) (length tables.functions.items) (function_of x.ty)) same)
 
-    import_goes_on : (totals2 : TreeTotals) (new : Tables) → totals2.modules ≡ totals.modules + length (module_of x.ty) → totals2.components ≡ totals.components + length (component_of x.ty) → totals2.instances ≡ totals.instances + length (instance_of x.ty)
-        → Tabled new new_tree → HoldsExterns new.imports ((before ++ map extern_of is) ++ extern_of x ∷ []) → Importing stack before (is ++ x ∷ []) own totals2 new
+    import_goes_on : (totals2 : TreeTotals) (new : Tables) → totals2.modules ≡ totals.modules + length (module_of x.ty)
+        → totals2.components ≡ totals.components + length (component_of x.ty) → totals2.instances ≡ totals.instances + length (instance_of x.ty)
+        → Tabled new new_tree → HoldsExterns new.imports ((before ++ map extern_of is) ++ extern_of x ∷ [])
+        → ImportsState stack before (is ++ x ∷ []) own totals2 new
     import_goes_on totals2 new ms cs ns tabled holds =
         let all : map import_shown (is ++ x ∷ []) ≡ entries ++ entry ∷ [] = map-append import_shown is (x ∷ []) in
         let named : (before ++ map extern_of is) ++ extern_of x ∷ [] ≡ before ++ map extern_of (is ++ x ∷ []) =
@@ -153,20 +163,26 @@ counts_fit old more count most e room few some = omega (arith, e, room, few, som
 pub count-requires-clause-modules : goal.count-requires-clause-modules
 count-requires-clause-modules c some =
     let counts = c.with_functions-counts in
-    let room = import_room c.args.config.now (own_scope c.args.scopes.now) counts.result c.args.u.now c.in-Some.ty c.arbitrary_type_ref.new.u c.in-Some.ensures.reads in
-    counts_fit c.args.totals.now.modules (length (module_of c.in-Some.ty)) counts.result.modules c.args.config.now.max_modules counts.ensures.modules room.modules c.requires.consistent.modules some
+    let room = import_room c.args.config.now (own_scope c.args.scopes.now) counts.result c.args.u.now c.in-Some.ty c.arbitrary_type_ref.new.u
+    c.in-Some.ensures.reads in
+    counts_fit c.args.totals.now.modules (length (module_of c.in-Some.ty)) counts.result.modules c.args.config.now.max_modules counts.ensures.modules
+    room.modules c.requires.consistent.modules some
 
 pub count-requires-clause-components : goal.count-requires-clause-components
 count-requires-clause-components c some =
     let counts = c.with_functions-counts in
-    let room = import_room c.args.config.now (own_scope c.args.scopes.now) counts.result c.args.u.now c.in-Some.ty c.arbitrary_type_ref.new.u c.in-Some.ensures.reads in
-    counts_fit c.args.totals.now.components (length (component_of c.in-Some.ty)) counts.result.components c.args.config.now.max_components counts.ensures.components room.components c.requires.consistent.components some
+    let room = import_room c.args.config.now (own_scope c.args.scopes.now) counts.result c.args.u.now c.in-Some.ty c.arbitrary_type_ref.new.u
+    c.in-Some.ensures.reads in
+    counts_fit c.args.totals.now.components (length (component_of c.in-Some.ty)) counts.result.components c.args.config.now.max_components
+    counts.ensures.components room.components c.requires.consistent.components some
 
 pub count-requires-clause-instances : goal.count-requires-clause-instances
 count-requires-clause-instances c some =
     let counts = c.with_functions-counts in
-    let room = import_room c.args.config.now (own_scope c.args.scopes.now) counts.result c.args.u.now c.in-Some.ty c.arbitrary_type_ref.new.u c.in-Some.ensures.reads in
-    counts_fit c.args.totals.now.instances (length (instance_of c.in-Some.ty)) counts.result.instances c.args.config.now.max_instances counts.ensures.instances room.instances c.requires.consistent.instances some
+    let room = import_room c.args.config.now (own_scope c.args.scopes.now) counts.result c.args.u.now c.in-Some.ty c.arbitrary_type_ref.new.u
+    c.in-Some.ensures.reads in
+    counts_fit c.args.totals.now.instances (length (instance_of c.in-Some.ty)) counts.result.instances c.args.config.now.max_instances counts.ensures.instances
+    room.instances c.requires.consistent.instances some
 
 func_within : (own : Scope) (r : ComponentTypeRef) (i : ℕ) → r ≡ to.Func i → FormedRef own r → i < length own.types
 func_within own r i e f = let g : FormedRef own (to.Func i) = subst (FormedRef own) e f in slice_get_within own.types i g.0 g.1
@@ -175,34 +191,45 @@ pub add_function-requires-clause-known : goal.add_function-requires-clause-known
 add_function-requires-clause-known c =
     let own = own_scope c.args.scopes.now in
     let counts = c.with_functions-counts.result in
-    func_within own c.in-Some.ty c.in-Func.i c.in-Func.is (ref_formed c.args.config.now own counts true false c.args.u.now c.in-Some.ty c.arbitrary_type_ref.new.u c.in-Some.ensures.reads)
+    func_within own c.in-Some.ty c.in-Func.i c.in-Func.is (ref_formed c.args.config.now own counts true false c.args.u.now c.in-Some.ty
+    c.arbitrary_type_ref.new.u c.in-Some.ensures.reads)
 
 pub add_function-requires-clause-room : goal.add_function-requires-clause-room
 add_function-requires-clause-room c =
     let counts = c.with_functions-counts in
-    let room = import_room c.args.config.now (own_scope c.args.scopes.now) counts.result c.args.u.now c.in-Some.ty c.arbitrary_type_ref.new.u c.in-Some.ensures.reads in
+    let room = import_room c.args.config.now (own_scope c.args.scopes.now) counts.result c.args.u.now c.in-Some.ty c.arbitrary_type_ref.new.u
+    c.in-Some.ensures.reads in
     omega (arith, room.funcs, ap (λ r. length (function_of r)) c.in-Func.is, counts.ensures.funcs, c.function_count.ensures, c.requires.consistent.funcs)
 
 -- The import is read and counted, whatever it is of.
-imported : (c : goal.Joined-ty) (new : Tables) (ty : ComponentTypeRef) → ty ≡ c.in-Some.ty → Takes (own_scope c.args.scopes.now) c.args.tables.now c.in-Some.ty c.named_extern.new.externs new
-    → (stack : Open) (before : List NamedExtern) (is : List Import) → Importing stack before is (own_scope c.args.scopes.now) c.args.totals.now c.args.tables.now
-    → ReadsImportValue c.args.config.now stack before is c.args.u.now (record { name = c.in_ok-name.name; url = c.in_ok-name.url; ty = ty }) c.named_extern.new.u (is ++ (record { name = c.in_ok-name.name; url = c.in_ok-name.url; ty = ty }) ∷ [])
-    × Importing stack before (is ++ (record { name = c.in_ok-name.name; url = c.in_ok-name.url; ty = ty }) ∷ []) (own_scope c.args.scopes.now) c.count.new.self new
+imported : (c : goal.Joined-ty) (new : Tables) (ty : ComponentTypeRef) → ty ≡ c.in-Some.ty
+    → Takes (own_scope c.args.scopes.now) c.args.tables.now c.in-Some.ty c.named_extern.new.externs new
+    → (stack : Open) (before : List NamedExtern) (is : List Import)
+    → ImportsState stack before is (own_scope c.args.scopes.now) c.args.totals.now c.args.tables.now
+    → ReadsImportValue c.args.config.now stack before is c.args.u.now (record { name = c.in_ok-name.name; url = c.in_ok-name.url; ty = ty })
+    c.named_extern.new.u (is ++ (record { name = c.in_ok-name.name; url = c.in_ok-name.url; ty = ty }) ∷ [])
+    × ImportsState stack before (is ++ (record { name = c.in_ok-name.name; url = c.in_ok-name.url; ty = ty }) ∷ []) (own_scope c.args.scopes.now)
+    c.count.new.self new
 imported c new ty same takes stack before is importing =
     let config = c.args.config.now in
     let own = own_scope c.args.scopes.now in
     let r : ComponentTypeRef = c.in-Some.ty in
     let i : Import = record { name = c.in_ok-name.name; url = c.in_ok-name.url; ty = r } in
     let counts = c.with_functions-counts in
-    let e = counts_are config stack before is own c.args.totals.now c.args.tables.now importing counts.result counts.ensures.modules (counts.ensures.funcs ∙ c.function_count.ensures) counts.ensures.components counts.ensures.instances in
-    let reads = import_is_read config stack before is own c.args.totals.now c.args.tables.now importing c.args.u.now c.arbitrary_type_ref.new.u c.named_extern.new.u i counts.result e c.in-Some.ensures.reads c.in_ok-name.ensures.reads in
+    let e = counts_are config stack before is own c.args.totals.now c.args.tables.now importing counts.result counts.ensures.modules
+    (counts.ensures.funcs ∙ c.function_count.ensures) counts.ensures.components counts.ensures.instances in
+    let reads = import_is_read config stack before is own c.args.totals.now c.args.tables.now importing c.args.u.now c.arbitrary_type_ref.new.u
+    c.named_extern.new.u i counts.result e c.in-Some.ensures.reads c.in_ok-name.ensures.reads in
     let formed = ref_formed config own counts.result true false c.args.u.now r c.arbitrary_type_ref.new.u c.in-Some.ensures.reads in
-    let kept = import_is_kept config stack before is own c.args.totals.now c.args.tables.now importing c.args.u.now c.arbitrary_type_ref.new.u c.named_extern.new.u i c.named_extern.new.externs new formed takes in
+    let kept = import_is_kept config stack before is own c.args.totals.now c.args.tables.now importing c.args.u.now c.arbitrary_type_ref.new.u
+    c.named_extern.new.u i c.named_extern.new.externs new formed takes in
     let so_far : List NamedExtern = before ++ map extern_of is in
     let holds = subst (λ z. HoldsExterns z (so_far ++ extern_of i ∷ [])) (sym takes.imports) (c.in_ok-name.ensures.names so_far importing.externs) in
-    let goes_on = import_goes_on config stack before is own c.args.totals.now c.args.tables.now importing c.args.u.now c.arbitrary_type_ref.new.u c.named_extern.new.u i c.count.new.self new c.count.ensures.modules c.count.ensures.components c.count.ensures.instances kept holds in
+    let goes_on = import_goes_on config stack before is own c.args.totals.now c.args.tables.now importing c.args.u.now c.arbitrary_type_ref.new.u
+    c.named_extern.new.u i c.count.new.self new c.count.ensures.modules c.count.ensures.components c.count.ensures.instances kept holds in
     let Made : ComponentTypeRef → Import = λ t. record { name = c.in_ok-name.name; url = c.in_ok-name.url; ty = t } in
-    let P : ComponentTypeRef → Type 0 = λ t. ReadsImportValue config stack before is c.args.u.now (Made t) c.named_extern.new.u (is ++ Made t ∷ []) × Importing stack before (is ++ Made t ∷ []) own c.count.new.self new in
+    let P : ComponentTypeRef → Type 0 = λ t. ReadsImportValue config stack before is c.args.u.now (Made t) c.named_extern.new.u (is ++ Made t ∷ [])
+    × ImportsState stack before (is ++ Made t ∷ []) own c.count.new.self new in
     subst P (sym same) (reads, goes_on)
 
 pub returns-clause-imports : goal.returns-clause-imports
@@ -213,9 +240,13 @@ returns-clause-imports c =
     let Kept : Tables → Type 0 = λ new. Takes own old c.in-Some.ty c.named_extern.new.externs new in
     elim c.match-ty.branch [
       | in-Func+in_ok-add_function w ↦
-          imported c c.match-ty.tables c.match-ty.ty (w.ty-is ∙ sym w.in-Func.is) (subst Kept (sym w.tables-is) (takes_function own old mid w.add_function.new.self c.in-Some.ty w.in-Func.i w.in-Func.is refl refl refl w.in_ok-add_function.ensures.ok))
+          imported c c.match-ty.tables c.match-ty.ty (w.ty-is ∙ sym w.in-Func.is)
+          (subst Kept (sym w.tables-is) (takes_function own old mid w.add_function.new.self c.in-Some.ty w.in-Func.i w.in-Func.is refl refl refl
+          w.in_ok-add_function.ensures.ok))
       | in_default-ty w ↦
-          imported c c.match-ty.tables c.match-ty.ty w.ty-is (subst Kept (sym w.tables-is) (takes_none own old mid c.in-Some.ty c.named_extern.new.externs (no_function c.in-Some.ty w.in_default-ty.not-Func) refl refl refl refl))
+          imported c c.match-ty.tables c.match-ty.ty w.ty-is
+          (subst Kept (sym w.tables-is) (takes_none own old mid c.in-Some.ty c.named_extern.new.externs (no_function c.in-Some.ty w.in_default-ty.not-Func)
+          refl refl refl refl))
     ]
 
 pub returns-clause-tail : goal.returns-clause-tail

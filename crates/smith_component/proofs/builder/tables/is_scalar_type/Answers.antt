@@ -20,9 +20,11 @@ use Rattle.smith_component.specs.Offers.{is_scalar_entry, is_scalar_type}
 use Rattle.smith_component.proofs.builder.tables.is_scalar_type.Goals as goal
 
 -- what stands in the last scope, as a plain tree
-type_at : (scopes : List Contents) (p : ℕ) (t : DefType) → slice_get (last_of scopes).types p ≡ Some t → is_scalar_type (own_scope scopes).types p ≡ is_scalar_entry (shown_type t)
+type_at : (scopes : List Contents) (p : ℕ) (t : DefType) → slice_get (last_of scopes).types p ≡ Some t
+    → is_scalar_type (own_scope scopes).types p ≡ is_scalar_entry (shown_type t)
 type_at scopes p t h =
-    let at : slice_get (own_scope scopes).types p ≡ Some (shown_type t) = ap (λ s. slice_get s.types p) (own_last scopes) ∙ (slice_get-map shown_type (last_of scopes).types p ∙ ap (option_map shown_type) h) in
+    let at : slice_get (own_scope scopes).types p ≡ Some (shown_type t) = ap (λ s. slice_get s.types p) (own_last scopes)
+    ∙ (slice_get-map shown_type (last_of scopes).types p ∙ ap (option_map shown_type) h) in
     ap (λ o. elim o [ None ↦ false | Some e ↦ is_scalar_entry e ]) at
 
 function_scalar : (t : DefType) (f : Rc FuncType Global) → t ≡ def.Func f → is_scalar_entry (shown_type t) ≡ is_scalar f.value
@@ -34,11 +36,13 @@ get-requires-clause-entry c = omega (arith, c.requires, length-last c.args.scope
 pub returns-in-Func : goal.returns-in-Func
 returns-in-Func c =
     let t : DefType = c.get.result.now.value in
-    c.is_scalar.ensures ∙ (ap is_scalar c.deref-in-Func.ensures ∙ sym (type_at c.args.scopes.now c.args.ty t c.get.ensures ∙ function_scalar t c.in-Func.func (sym c.deref.ensures ∙ c.in-Func.is)))
+    c.is_scalar.ensures ∙ (ap is_scalar c.deref-in-Func.ensures
+    ∙ sym (type_at c.args.scopes.now c.args.ty t c.get.ensures ∙ function_scalar t c.in-Func.func (sym c.deref.ensures ∙ c.in-Func.is)))
 
 -- a defined type, or the type of a component or of an instance
 abbrev IsOther : DefType → Type 0
-IsOther t = ((d : DefinedType) × (t ≡ def.Defined d)) ⊎ (((d : Rc ComponentType Global) × (t ≡ def.Component d)) ⊎ ((d : Rc InstanceType Global) × (t ≡ def.Instance d)))
+IsOther t = ((d : DefinedType) × (t ≡ def.Defined d)) ⊎ (((d : Rc ComponentType Global) × (t ≡ def.Component d))
+    ⊎ ((d : Rc InstanceType Global) × (t ≡ def.Instance d)))
 
 not_scalar : (t : DefType) → IsOther t → is_scalar_entry (shown_type t) ≡ false
 not_scalar t (inl d) = ap (λ x. is_scalar_entry (shown_type x)) d.1 ∙ ap (λ x. is_scalar_entry (plain x)) (full_defined d.0)
@@ -46,7 +50,8 @@ not_scalar t (inr (inl d)) = ap (λ x. is_scalar_entry (shown_type x)) d.1 ∙ a
 not_scalar t (inr (inr d)) = ap (λ x. is_scalar_entry (shown_type x)) d.1 ∙ ap (λ x. is_scalar_entry (plain x)) (full_instance d.0)
 
 -- The type that stands there has no function to flatten.
-other_at : (scopes : List Contents) (p : ℕ) (t v : DefType) → slice_get (last_of scopes).types p ≡ Some t → v ≡ t → IsOther v → false ≡ is_scalar_type (own_scope scopes).types p
+other_at : (scopes : List Contents) (p : ℕ) (t v : DefType) → slice_get (last_of scopes).types p ≡ Some t → v ≡ t → IsOther v
+    → false ≡ is_scalar_type (own_scope scopes).types p
 other_at scopes p t v h e other = sym (type_at scopes p t h ∙ not_scalar t (subst IsOther e other))
 
 pub returns-in-Defined : goal.returns-in-Defined

@@ -7,7 +7,8 @@ use Rattle.smith_component.specs.Limits.{Limits}
 use Rattle.smith_component.specs.Open.{Open}
 use Rattle.smith_component.specs.Refusals.{IsRefusal}
 use Rattle.smith_component.specs.Steps.{next_of, step_of, SoundUnlessDone, StaysSound}
-use Rattle.smith_component.specs.Turn.{Turn, todo}
+use Rattle.smith_component.specs.Turn.{Turn}
+use Rattle.smith_component.specs.Runs.{todo}
 use Rattle.smith_component.proofs.Finishing.{refused}
 use Rattle.smith_component.proofs.Plans.{plan_lacks_none, plan_refuses_no_module, run_is_plan}
 use Rattle.smith_component.proofs.Refusals.{refused_accepted}
@@ -48,23 +49,28 @@ pub loop-progress-smaller : goal.loop-progress-smaller
 loop-progress-smaller c =
     let i = c.loop-progress.invariant in
     let b = c.loop-progress.progress in
-    let turn = subst (λ d. Turn b.config (stack_of b) c.loop-progress.u (next_of (step_of c.turn.new.self d)) c.turn.new.u) c.in-None.is c.in_ok-done.ensures.turn in
-    let fewer : todo b.config c.turn.new.u (stack_of c.turn.new.self) + 1 ≤ todo b.config c.loop-progress.u (stack_of b) = falls _ _ _ _ _ (open_few b.config (stack_of b) i.sound.0.sound) turn in
+    let turn = subst (λ d. Turn b.config (stack_of b) c.loop-progress.u (next_of (step_of c.turn.new.self d)) c.turn.new.u) c.in-None.is
+    c.in_ok-done.ensures.turn in
+    let fewer : todo b.config c.turn.new.u (stack_of c.turn.new.self) + 1 ≤ todo b.config c.loop-progress.u (stack_of b) =
+    falls _ _ _ _ _ (open_few b.config (stack_of b) i.sound.0.sound) turn in
     rw (← i.config) (omega (arith, fewer))
 
 pub returns-in-Some-clause-run : goal.returns-in-Some-clause-run
 returns-in-Some-clause-run c =
-    reached_answer _ _ _ _ _ _ _ _ c.loop-progress.invariant.config (ap (λ d. next_of (step_of c.turn.new.self d)) c.in-Some.is) c.loop-progress.invariant.reached c.in_ok-done.ensures.turn
+    reached_answer _ _ _ _ _ _ _ _ c.loop-progress.invariant.config (ap (λ d. next_of (step_of c.turn.new.self d)) c.in-Some.is)
+    c.loop-progress.invariant.reached c.in_ok-done.ensures.turn
 
 pub returns-in-Some-clause-reach : goal.returns-in-Some-clause-reach
 returns-in-Some-clause-reach c plan rest w e =
     let i = c.loop-progress.invariant in
-    run_is_plan c.args.config c.args.u.now plan rest i.consistent w e _ _ (reached_answer _ _ _ _ _ _ _ _ i.config (ap (λ d. next_of (step_of c.turn.new.self d)) c.in-Some.is) i.reached c.in_ok-done.ensures.turn)
+    run_is_plan c.args.config c.args.u.now plan rest i.consistent w e _ _
+    (reached_answer _ _ _ _ _ _ _ _ i.config (ap (λ d. next_of (step_of c.turn.new.self d)) c.in-Some.is) i.reached c.in_ok-done.ensures.turn)
 
 pub returns-in_err-done-clause-refuses : goal.returns-in_err-done-clause-refuses
 returns-in_err-done-clause-refuses c =
     let i = c.loop-progress.invariant in
-    refused _ _ (IsRefusal c.args.config c.args.u.now) c.from_residual-in_err-done.ensures.1 (reached_refusal _ _ _ _ _ i.config i.reached i.consistent _ c.in_err-done.ensures.refuses)
+    refused _ _ (IsRefusal c.args.config c.args.u.now) c.from_residual-in_err-done.ensures.1
+    (reached_refusal _ _ _ _ _ i.config i.reached i.consistent _ c.in_err-done.ensures.refuses)
 
 pub returns-in-Some-clause-limits : goal.returns-in-Some-clause-limits
 returns-in-Some-clause-limits c =
@@ -79,4 +85,5 @@ returns-in_err-done-clause-answers c plan rest consistent w e =
     let input = c.args.u.now in
     let i = c.loop-progress.invariant in
     let refusal = reached_refusal _ _ _ _ _ i.config i.reached i.consistent _ c.in_err-done.ensures.refuses in
-    refused _ _ P c.from_residual-in_err-done.ensures.1 (refused_accepted c.args.config input consistent (plan_lacks_none c.args.config input plan rest consistent w e) (plan_refuses_no_module c.args.config input plan rest consistent w e) _ refusal)
+    refused _ _ P c.from_residual-in_err-done.ensures.1 (refused_accepted c.args.config input consistent
+    (plan_lacks_none c.args.config input plan rest consistent w e) (plan_refuses_no_module c.args.config input plan rest consistent w e) _ refusal)

@@ -1,5 +1,5 @@
 use Rattle.std.proofs.Common.{List, ℕ, subst, string_bytes}
-use Rattle.smith_component.specs.Turn.{ReadsCustom}
+use Rattle.smith_component.specs.AddedSections.{ReadsCustom}
 use Rattle.smith_component.proofs.Decided.{custom_same}
 use Rattle.smith_component.proofs.PartsRead.{custom_read}
 use Rattle.smith_component.proofs.component.CustomSection.arbitrary.Goals as goal

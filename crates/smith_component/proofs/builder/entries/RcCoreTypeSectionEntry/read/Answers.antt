@@ -24,7 +24,11 @@ returns-clause-read c = ((c.arbitrary_core_type.new.fuel, c.in_ok-made.ensures.m
 
 pub returns-clause-count : goal.returns-clause-count
 returns-clause-count c =
-    omega (arith, ap (λ s. length s.core_types) (grows c).own, length-append (own_scope c.args.scopes.now).core_types (shown_shared_core c.in_ok-made.made ∷ []))
+    omega (
+      arith,
+      ap (λ s. length s.core_types) (grows c).own,
+      length-append (own_scope c.args.scopes.now).core_types (shown_shared_core c.in_ok-made.made ∷ []),
+    )
 
 pub returns-clause-outer : goal.returns-clause-outer
 returns-clause-outer c = (grows c).outer

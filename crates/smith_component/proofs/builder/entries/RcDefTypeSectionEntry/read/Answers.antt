@@ -14,7 +14,8 @@ grows c =
     let kept = c.in_ok-made.ensures.scopes in
     let g = grown c.arbitrary_type.new.scopes c.push_type.new.self c.in_ok-clone.field-0.value c.in_ok-push_type.ensures.ok in
     record {
-      own = g.own ∙ (ap (λ s. with_type (own_scope s) (shown_type c.in_ok-clone.field-0.value)) kept ∙ ap (λ t. with_type (own_scope c.args.scopes.now) (shown_type t)) c.in_ok-clone.ensures.cases);
+      own = g.own ∙ (ap (λ s. with_type (own_scope s) (shown_type c.in_ok-clone.field-0.value)) kept
+          ∙ ap (λ t. with_type (own_scope c.args.scopes.now) (shown_type t)) c.in_ok-clone.ensures.cases);
       outer = g.outer ∙ ap (λ s. outer_of (inward s)) kept;
       whole = g.whole;
       was = ap inward (sym kept) ∙ (g.was ∙ ap (λ s. own_of (inward s) ∷ outer_of (inward s)) kept);
@@ -24,7 +25,11 @@ pub returns-clause-read : goal.returns-clause-read
 returns-clause-read c = (c.arbitrary_type.new.fuel, c.in_ok-made.ensures.made, (grows c).own)
 
 pub returns-clause-count : goal.returns-clause-count
-returns-clause-count c = omega (arith, ap (λ s. length s.types) (grows c).own, length-append (own_scope c.args.scopes.now).types (shown_shared c.in_ok-made.made ∷ []))
+returns-clause-count c = omega (
+  arith,
+  ap (λ s. length s.types) (grows c).own,
+  length-append (own_scope c.args.scopes.now).types (shown_shared c.in_ok-made.made ∷ []),
+)
 
 pub returns-clause-outer : goal.returns-clause-outer
 returns-clause-outer c = (grows c).outer

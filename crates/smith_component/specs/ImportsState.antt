@@ -23,7 +23,7 @@ pub record Totalled (totals : TreeTotals) (stack : Open) : Type 0 where
 
 -- The scope, the totals and the tables are those of the open components, where a section has these imports. The sets of names are those
 -- of the imports before it and of these, and of their URLs.
-pub record Importing (stack : Open) (before : List NamedExtern) (is : List Import) (own : Scope) (totals : TreeTotals) (tables : Tables) : Type 0 where
+pub record ImportsState (stack : Open) (before : List NamedExtern) (is : List Import) (own : Scope) (totals : TreeTotals) (tables : Tables) : Type 0 where
   pub scope_is : own ≡ scope_of stack.inner
   pub totalled : Totalled totals (with_imports stack (map import_shown is))
   pub tabled : Tabled tables (with_imports stack (map import_shown is)).inner
@@ -31,6 +31,6 @@ pub record Importing (stack : Open) (before : List NamedExtern) (is : List Impor
 
 -- an import that is read and counted, or none
 abbrev pub ImportsOne : Config → Open → List NamedExtern → List Import → Scope → TreeTotals → Tables → List ℕ → Option Import → List ℕ → Type 0
-ImportsOne config stack before is own totals tables b None rest = NoImportValue config stack is b rest is × Importing stack before is own totals tables
+ImportsOne config stack before is own totals tables b None rest = NoImportValue config stack is b rest is × ImportsState stack before is own totals tables
 ImportsOne config stack before is own totals tables b (Some i) rest =
-    ReadsImportValue config stack before is b i rest (is ++ i ∷ []) × Importing stack before (is ++ i ∷ []) own totals tables
+    ReadsImportValue config stack before is b i rest (is ++ i ∷ []) × ImportsState stack before (is ++ i ∷ []) own totals tables

@@ -25,7 +25,7 @@ abbrev pub growing : OpenComponent → List Func → Growing
 growing component funcs = record { before = shown_sections component.sections.items; funcs = map shown_canon funcs }
 
 -- The last scope and the tables are those of the component with that section.
-pub record IsDraft (scopes : List Contents) (component : OpenComponent) (funcs : List Func) : Type 0 where
+pub record CanonicalsState (scopes : List Contents) (component : OpenComponent) (funcs : List Func) : Type 0 where
   pub scope_is : own_scope scopes ≡ scope_of (grown (growing component funcs))
   pub tabled : Tabled component.tables (grown (growing component funcs))
 

@@ -1,5 +1,6 @@
 -- A canonical section as the program makes it.
-use Rattle.std.proofs.Common.{◌≡◌, ◌⊎◌, inl, inr, ℕ, ◌-◌, ◌<◌, ◌≤◌, Bool, true, false, List, [], ◌∷◌, ◌++◌, map, length, get_or, refl, sym, ap, ◌∙◌, subst, arith, append-nil, append_assoc, length-append, Some}
+use Rattle.std.proofs.Common.{◌≡◌, ◌⊎◌, inl, inr, ℕ, ◌-◌, ◌<◌, ◌≤◌, Bool, true, false, List, [], ◌∷◌, ◌++◌, map, length, get_or, refl, sym, ap, ◌∙◌, subst}
+use Rattle.std.proofs.Common.{arith, append-nil, append_assoc, length-append, Some}
 use Rattle.std.proofs.lemmas.Bool.{false≢true}
 use Rattle.std.proofs.lemmas.List.{map-append, nil_from_length}
 use Rattle.std.proofs.lemmas.List.Concat.{flat_map-append}
@@ -29,8 +30,9 @@ use Rattle.smith_types.specs.MakingTypes.{HoldsExterns}
 use Rattle.smith_scopes.specs.Scopes.{AddsType, Contents, last_of, own_scope}
 use Rattle.smith_types.proofs.Declaring.{equal_shown}
 use Rattle.smith_scopes.proofs.Stack.{grown as scopes_grown, length-last}
-use Rattle.smith_component.specs.Canonicals.{CanonTurn, Growing, NoCanon, ReadsCanons, empty_section, equal_types, grown, spaces_at, with_canon, with_defined, LiftsTo, to_equal, to_defined, given_up, ReadsLift, ReadsLower}
-use Rattle.smith_component.specs.Draft.{IsDraft, IsDrafted, IsLowered, KeepsFront, LiftsAs, growing}
+use Rattle.smith_component.specs.Canonicals.{CanonTurn, Growing, NoCanon, ReadsCanons, empty_section, equal_types, grown, spaces_at, with_canon, with_defined}
+use Rattle.smith_component.specs.Canonicals.{LiftsTo, to_equal, to_defined, given_up, ReadsLift, ReadsLower}
+use Rattle.smith_component.specs.CanonicalsState.{CanonicalsState, IsDrafted, IsLowered, KeepsFront, LiftsAs, growing}
 use Rattle.smith_component.specs.SectionValues.{externs_in, externs_of}
 use Rattle.smith_component.specs.Shown.{shown_canon, shown_sections}
 use Rattle.smith_component.specs.Tables.{AddsCoreFunction, AddsFunction, IsLowerable, Tabled}
@@ -52,7 +54,8 @@ use Rattle.smith_component.proofs.Tables.{scalar_at, tabled_core_function, table
 pub funcs_more : (old new : List Func) (f : Func) → new ≡ old ++ f ∷ [] → map shown_canon new ≡ map shown_canon old ++ shown_canon f ∷ []
 funcs_more old new f e = ap (map shown_canon) e ∙ map-append shown_canon old (f ∷ [])
 
-pub growing_more : (old new : OpenComponent) (fs gs : List Func) (f : Func) → new.sections.items ≡ old.sections.items → gs ≡ fs ++ f ∷ [] → growing new gs ≡ with_canon (growing old fs) (shown_canon f)
+pub growing_more : (old new : OpenComponent) (fs gs : List Func) (f : Func) → new.sections.items ≡ old.sections.items → gs ≡ fs ++ f ∷ []
+    → growing new gs ≡ with_canon (growing old fs) (shown_canon f)
 growing_more old new fs gs f e more =
     let parts : shown_sections new.sections.items ≡ shown_sections old.sections.items = ap shown_sections e in
     let funcs = funcs_more fs gs f more in
@@ -60,13 +63,15 @@ growing_more old new fs gs f e more =
 
 -- The tables, where the section has one function more.
 
-tabled_lower : {old new : Tables} (s : Growing) (f : ℕ) → IsScalarFunction (spaces_at s) f → Tabled old (grown s) → AddsCoreFunction old f new → Tabled new (grown (with_canon s (lower f)))
+tabled_lower : {old new : Tables} (s : Growing) (f : ℕ) → IsScalarFunction (spaces_at s) f → Tabled old (grown s) → AddsCoreFunction old f new
+    → Tabled new (grown (with_canon s (lower f)))
 tabled_lower s f scalar tabled adds =
     let e = spaces_canon s.before s.funcs (lower f) in
     tabled_core_function (grown s) (grown (with_canon s (lower f))) scalar tabled adds
     (ap (λ z. z.types) e) (ap (λ z. z.functions) e) (ap (λ z. z.core_functions) e)
 
-tabled_lift : {own : Scope} {old new : Tables} (s : Growing) (c t : ℕ) → own ≡ scope_of (grown s) → t < length own.types → Tabled old (grown s) → AddsFunction own old t new → Tabled new (grown (with_canon s (lift c t)))
+tabled_lift : {own : Scope} {old new : Tables} (s : Growing) (c t : ℕ) → own ≡ scope_of (grown s) → t < length own.types → Tabled old (grown s)
+    → AddsFunction own old t new → Tabled new (grown (with_canon s (lift c t)))
 tabled_lift {own} s c t is known tabled adds =
     let e = spaces_canon s.before s.funcs (lift c t) in
     tabled_function (grown s) (grown (with_canon s (lift c t))) is (omega (arith, known, ap (λ z. length z.types) is)) tabled adds
@@ -85,7 +90,9 @@ scope_signature : (s : Growing) (signature : Signature) → scope_of (grown (wit
 scope_signature s signature = ap scope_at (spaces_signature s signature)
 
 -- A function is lowered.
-module _ (old new : OpenComponent) (fs gs : List Func) (items b rest : List ℕ) (f : ℕ) (tabled : Tabled old.tables (grown (growing old fs))) (are : items ≡ old.tables.scalars.items) (chosen : (k : ℕ) × Reads (length items) b k rest × (slice_get items k ≡ Some f)) (same : new.sections.items ≡ old.sections.items) (more : gs ≡ fs ++ CanonLower f ∷ []) where
+module _ (old new : OpenComponent) (fs gs : List Func) (items b rest : List ℕ) (f : ℕ) (tabled : Tabled old.tables (grown (growing old fs)))
+    (are : items ≡ old.tables.scalars.items) (chosen : (k : ℕ) × Reads (length items) b k rest × (slice_get items k ≡ Some f))
+    (same : new.sections.items ≡ old.sections.items) (more : gs ≡ fs ++ CanonLower f ∷ []) where
   pub lower_reads : ReadsLower (growing old fs) b rest (growing new gs)
   lower_reads = (f, subst (λ xs. ReadsAmong xs b f rest) (are ∙ tabled.scalars) (among chosen), growing_more old new fs gs (CanonLower f) same more)
 
@@ -96,7 +103,8 @@ module _ (old new : OpenComponent) (fs gs : List Func) (items b rest : List ℕ)
       subst (λ z. Tabled new.tables (grown z)) (sym (growing_more old new fs gs (CanonLower f) same more)) (tabled_lower s f scalar tabled adds)
 
 -- A component stays a draft where a function is lowered.
-pub lower_draft : (old new : OpenComponent) (fs gs : List Func) (scopes : List Contents) (b rest : List ℕ) → IsDraft scopes old fs → ReadsLower (growing old fs) b rest (growing new gs) → Tabled new.tables (grown (growing new gs)) → IsDraft scopes new gs
+pub lower_draft : (old new : OpenComponent) (fs gs : List Func) (scopes : List Contents) (b rest : List ℕ) → CanonicalsState scopes old fs
+    → ReadsLower (growing old fs) b rest (growing new gs) → Tabled new.tables (grown (growing new gs)) → CanonicalsState scopes new gs
 lower_draft old new fs gs scopes b rest d (f, among, e) tabled = record {
   scope_is = d.scope_is ∙ sym (ap (λ z. scope_of (grown z)) e ∙ scope_canon (growing old fs) (lower f));
   tabled = tabled;
@@ -118,14 +126,16 @@ no_function e s h is = false≢true (sym h ∙ ap is_func is)
 
 -- a defined type, or the type of a component or of an instance
 abbrev pub IsOther : DefType → Type 0
-IsOther t = ((d : DefinedType) × (t ≡ def.Defined d)) ⊎ (((d : Rc ComponentType Global) × (t ≡ def.Component d)) ⊎ ((d : Rc InstanceType Global) × (t ≡ def.Instance d)))
+IsOther t = ((d : DefinedType) × (t ≡ def.Defined d)) ⊎ (((d : Rc ComponentType Global) × (t ≡ def.Component d))
+    ⊎ ((d : Rc InstanceType Global) × (t ≡ def.Instance d)))
 
 no_other : (t : DefType) (s : Signature) → shown_type t ≡ function s → IsOther t → ⊥
 no_other t s e (inl d) = no_function (shown_type t) s (ap (λ x. is_func (shown_type x)) d.1 ∙ ap (λ x. is_func (plain x)) (full_defined d.0)) e
 no_other t s e (inr (inl d)) = no_function (shown_type t) s (ap (λ x. is_func (shown_type x)) d.1 ∙ ap (λ x. is_func (plain x)) (full_component d.0)) e
 no_other t s e (inr (inr d)) = no_function (shown_type t) s (ap (λ x. is_func (shown_type x)) d.1 ∙ ap (λ x. is_func (plain x)) (full_instance d.0)) e
 
-module _ (scopes : List Contents) (tables : Tables) (c i t : ℕ) (known : IsLowered (own_scope scopes) tables c) (at : i ≡ get_or tables.core_functions.items c i) (of : t ≡ get_or tables.functions.items i t) where
+module _ (scopes : List Contents) (tables : Tables) (c i t : ℕ) (known : IsLowered (own_scope scopes) tables c)
+    (at : i ≡ get_or tables.core_functions.items c i) (of : t ≡ get_or tables.functions.items i t) where
   index_is : i ≡ known.1.f
   index_is = at ∙ get_or_from_slice_get tables.core_functions.items c known.1.f i known.1.lowers
 
@@ -157,17 +167,24 @@ module _ (scopes : List Contents) (tables : Tables) (c i t : ℕ) (known : IsLow
       lowered_scalar = ap is_scalar lowered_is ∙ known.2
 
       -- It is read how the core function is lifted.
-      pub lifts_as : (core : Function) (lowered signature : Signature) (b rest : List ℕ) → lowered ≡ f.value → Flattens lowered core → ReadsLifted core b signature rest → LiftsAs (own_scope scopes) tables c b signature rest
+      pub lifts_as : (core : Function) (lowered signature : Signature) (b rest : List ℕ) → lowered ≡ f.value → Flattens lowered core
+          → ReadsLifted core b signature rest → LiftsAs (own_scope scopes) tables c b signature rest
       lifts_as core lowered signature b rest e flat reads = record {
         lowered = lowered;
         core = core;
-        of = record { f = known.1.f; ty = known.1.ty; lowers = known.1.lowers; stands = known.1.stands; is = known.1.is ∙ ap (λ s. Some (function s)) (sym (e ∙ lowered_is)) };
+        of = record {
+          f = known.1.f;
+          ty = known.1.ty;
+          lowers = known.1.lowers;
+          stands = known.1.stands;
+          is = known.1.is ∙ ap (λ s. Some (function s)) (sym (e ∙ lowered_is));
+        };
         flattens = flat;
         reads = reads;
       }
 
 -- What is known of a draft.
-module _ (scopes : List Contents) (component : OpenComponent) (funcs : List Func) (d : IsDraft scopes component funcs) where
+module _ (scopes : List Contents) (component : OpenComponent) (funcs : List Func) (d : CanonicalsState scopes component funcs) where
   abbrev s : Growing
   s = growing component funcs
 
@@ -177,7 +194,8 @@ module _ (scopes : List Contents) (component : OpenComponent) (funcs : List Func
       let items : List ℕ = component.tables.core_functions.items in
       let f : ℕ = get_or items c 0 in
       let at : slice_get items c ≡ Some f = slice_get-get_or items c 0 h in
-      let l : IsLowerable (grown s) f = all_at (IsLowerable (grown s)) (core_functions_of (grown s)) c f d.tabled.grounded.lowered (ap (λ xs. slice_get xs c) (sym d.tabled.core_functions) ∙ at) in (
+      let l : IsLowerable (grown s) f = all_at (IsLowerable (grown s)) (core_functions_of (grown s)) c f d.tabled.grounded.lowered
+      (ap (λ xs. slice_get xs c) (sym d.tabled.core_functions) ∙ at) in (
         l.0,
         record {
           f = f;
@@ -193,13 +211,20 @@ module _ (scopes : List Contents) (component : OpenComponent) (funcs : List Func
   equal_are signature = equal_own scopes signature ∙ ap (λ z. places (is_of_signature signature) 0 z.types) d.scope_is
 
   -- One of the types that are equal is there.
-  pub equal_within : (signature : Signature) (k t : ℕ) → slice_get (places (has_signature signature) 0 (last_of scopes).types) k ≡ Some t → t < length (own_scope scopes).types
+  pub equal_within : (signature : Signature) (k t : ℕ) → slice_get (places (has_signature signature) 0 (last_of scopes).types) k ≡ Some t
+      → t < length (own_scope scopes).types
   equal_within signature k t h =
       let e : slice_get (equal_types s signature) k ≡ Some t = ap (λ xs. slice_get xs k) (sym (equal_are signature)) ∙ h in
-      omega (arith, slice_get_within (spaces_at s).types t (function signature) (equal_at (spaces_at s).types signature k t e), ap (λ z. length z.types) d.scope_is)
+      omega (
+        arith,
+        slice_get_within (spaces_at s).types t (function signature) (equal_at (spaces_at s).types signature k t e),
+        ap (λ z. length z.types) d.scope_is,
+      )
 
   -- A lift is read by where it leads.
-  module _ (config : Config) (n c : ℕ) (signature : Signature) (b mid low rest : List ℕ) (next : Growing) (count : n ≡ length component.tables.core_functions.items) (chosen : Reads n b c mid) (lifts : LiftsAs (own_scope scopes) component.tables c mid signature low) where
+  module _ (config : Config) (n c : ℕ) (signature : Signature) (b mid low rest : List ℕ) (next : Growing)
+      (count : n ≡ length component.tables.core_functions.items) (chosen : Reads n b c mid)
+      (lifts : LiftsAs (own_scope scopes) component.tables c mid signature low) where
     pub lift_reads : LiftsTo config s c signature low rest next → ReadsLift config s b rest next
     lift_reads to = record {
       c = c;
@@ -222,39 +247,52 @@ module _ (scopes : List Contents) (component : OpenComponent) (funcs : List Func
     }
 
     -- to one of the types that are equal
-    pub lift_equal : (m k t : ℕ) → m ≡ length (places (has_signature signature) 0 (last_of scopes).types) → Reads m low k rest → slice_get (places (has_signature signature) 0 (last_of scopes).types) k ≡ Some t → next ≡ with_canon s (lift c t) → ReadsLift config s b rest next
+    pub lift_equal : (m k t : ℕ) → m ≡ length (places (has_signature signature) 0 (last_of scopes).types) → Reads m low k rest
+        → slice_get (places (has_signature signature) 0 (last_of scopes).types) k ≡ Some t → next ≡ with_canon s (lift c t) → ReadsLift config s b rest next
     lift_equal m k t many read at e =
-        let r : ReadsAmong (places (has_signature signature) 0 (last_of scopes).types) low t rest = record { place = k; reads = subst (λ z. Reads z low k rest) many read; named = at } in
+        let r : ReadsAmong (places (has_signature signature) 0 (last_of scopes).types) low t rest =
+        record { place = k; reads = subst (λ z. Reads z low k rest) many read; named = at } in
         lift_reads (to_equal (subst (λ xs. ReadsAmong xs low t rest) (equal_are signature) r) e)
 
     none_equal : (m : ℕ) → m ≡ length (places (has_signature signature) 0 (last_of scopes).types) → m ≤ 0 → equal_types s signature ≡ []
     none_equal m many none = sym (equal_are signature) ∙ nil_from_length (places (has_signature signature) 0 (last_of scopes).types) (omega (arith, many, none))
 
     -- to one that it defines
-    pub lift_defined : (m : ℕ) → m ≡ length (places (has_signature signature) 0 (last_of scopes).types) → m ≤ 0 → length (own_scope scopes).types < config.max_types → rest ≡ low → next ≡ with_defined s c signature → ReadsLift config s b rest next
+    pub lift_defined : (m : ℕ) → m ≡ length (places (has_signature signature) 0 (last_of scopes).types) → m ≤ 0
+        → length (own_scope scopes).types < config.max_types → rest ≡ low → next ≡ with_defined s c signature → ReadsLift config s b rest next
     lift_defined m many none room left e = lift_reads (to_defined (none_equal m many none) (omega (arith, room, ap (λ z. length z.types) d.scope_is)) left e)
 
     -- or not at all
-    pub lift_given_up : (m : ℕ) → m ≡ length (places (has_signature signature) 0 (last_of scopes).types) → m ≤ 0 → config.max_types ≤ length (own_scope scopes).types → rest ≡ low → next ≡ s → ReadsLift config s b rest next
+    pub lift_given_up : (m : ℕ) → m ≡ length (places (has_signature signature) 0 (last_of scopes).types) → m ≤ 0
+        → config.max_types ≤ length (own_scope scopes).types → rest ≡ low → next ≡ s → ReadsLift config s b rest next
     lift_given_up m many none full left e = lift_reads (given_up (none_equal m many none) (omega (arith, full, ap (λ z. length z.types) d.scope_is)) left e)
 
   -- It stays a draft where a core function is lifted to a type that is there.
-  pub lift_draft : (new : OpenComponent) (more : List Func) (c t : ℕ) → t < length (own_scope scopes).types → AddsFunction (own_scope scopes) component.tables t new.tables → growing new more ≡ with_canon s (lift c t) → IsDraft scopes new more
+  pub lift_draft : (new : OpenComponent) (more : List Func) (c t : ℕ) → t < length (own_scope scopes).types
+      → AddsFunction (own_scope scopes) component.tables t new.tables → growing new more ≡ with_canon s (lift c t) → CanonicalsState scopes new more
   lift_draft new more c t known adds e = record {
     scope_is = d.scope_is ∙ sym (ap (λ z. scope_of (grown z)) e ∙ scope_canon s (lift c t));
     tabled = subst (λ z. Tabled new.tables (grown z)) (sym e) (tabled_lift s c t d.scope_is known d.tabled adds);
   }
 
   -- It stays one where the type is defined.
-  module _ (after : List Contents) (new : OpenComponent) (more : List Func) (c t : ℕ) (signature : Signature) (ty : DefType) (shows : shown_type ty ≡ function signature) (grows : AddsType scopes ty after) (e : growing new more ≡ with_defined s c signature) where
+  module _ (after : List Contents) (new : OpenComponent) (more : List Func) (c t : ℕ) (signature : Signature) (ty : DefType)
+      (shows : shown_type ty ≡ function signature) (grows : AddsType scopes ty after) (e : growing new more ≡ with_defined s c signature) where
     scope_after : own_scope after ≡ scope_of (grown (with_signature s signature))
-    scope_after = (scopes_grown scopes after ty grows).own ∙ (ap (with_type (own_scope scopes)) shows ∙ (ap (λ z. with_type z (function signature)) d.scope_is ∙ sym (scope_signature s signature)))
+    scope_after = (scopes_grown scopes after ty grows).own ∙ (ap (with_type (own_scope scopes)) shows
+        ∙ (ap (λ z. with_type z (function signature)) d.scope_is ∙ sym (scope_signature s signature)))
 
-    pub define_draft : t ≡ length (last_of scopes).types → AddsFunction (own_scope after) component.tables t new.tables → IsDraft after new more
+    pub define_draft : t ≡ length (last_of scopes).types → AddsFunction (own_scope after) component.tables t new.tables → CanonicalsState after new more
     define_draft index adds =
         let u : Growing = with_signature s signature in
         let at : t ≡ length (spaces_at s).types = omega (arith, index, length-last scopes, ap (λ z. length z.types) d.scope_is) in
-        let known : t < length (own_scope after).types = omega (arith, at, ap (λ z. length z.types) scope_after, ap (λ z. length z.types) (spaces_signature s signature), length-append (spaces_at s).types (function signature ∷ [])) in
+        let known : t < length (own_scope after).types = omega (
+          arith,
+          at,
+          ap (λ z. length z.types) scope_after,
+          ap (λ z. length z.types) (spaces_signature s signature),
+          length-append (spaces_at s).types (function signature ∷ []),
+        ) in
         let tabled = tabled_lift u c t scope_after known (tabled_signature s signature d.tabled) adds in
         let same : growing new more ≡ with_canon u (lift c t) = e ∙ ap (λ n. with_canon u (lift c n)) (sym at) in
         record {
@@ -266,21 +304,27 @@ module _ (scopes : List Contents) (component : OpenComponent) (funcs : List Func
   type_index t index = omega (arith, index, length-last scopes, ap (λ z. length z.types) d.scope_is)
 
 -- The section ends, the type is defined, and another section begins.
-pub defines : (s : Growing) (c t : ℕ) (signature : Signature) (middle last : Tree) (ended made : List Func) (entries : List (Rc DefType Global)) (shared : Rc DefType Global)
-    → middle ≡ add s.before (canons (map shown_canon ended)) → map shown_canon ended ≡ s.funcs → last ≡ add middle (types (map shown_shared entries)) → entries ≡ shared ∷ [] → shown_type shared.value ≡ function signature → made ≡ CanonLift t c ∷ []
+pub defines : (s : Growing) (c t : ℕ) (signature : Signature) (middle last : Tree) (ended made : List Func) (entries : List (Rc DefType Global))
+    (shared : Rc DefType Global)
+    → middle ≡ add s.before (canons (map shown_canon ended)) → map shown_canon ended ≡ s.funcs → last ≡ add middle (types (map shown_shared entries))
+    → entries ≡ shared ∷ [] → shown_type shared.value ≡ function signature → made ≡ CanonLift t c ∷ []
     → t ≡ length (spaces_at s).types → record { before = last; funcs = map shown_canon made } ≡ with_defined s c signature
 defines s c t signature middle last ended made entries shared a b e f g h index =
     let es : map shown_shared entries ≡ function signature ∷ [] = ap (map shown_shared) f ∙ ap (λ x. x ∷ []) g in
-    let before : last ≡ add (grown s) (types (function signature ∷ [])) = e ∙ (ap (λ z. add z (types (map shown_shared entries))) (a ∙ ap (λ fs. add s.before (canons fs)) b) ∙ ap (λ xs. add (grown s) (types xs)) es) in
+    let before : last ≡ add (grown s) (types (function signature ∷ [])) = e
+    ∙ (ap (λ z. add z (types (map shown_shared entries))) (a ∙ ap (λ fs. add s.before (canons fs)) b) ∙ ap (λ xs. add (grown s) (types xs)) es) in
     let funcs : map shown_canon made ≡ lift c (length (spaces_at s).types) ∷ [] = ap (map shown_canon) h ∙ ap (λ n. lift c n ∷ []) index in
     λ i. record { before = before i; funcs = funcs i }
 
 -- Before the first turn the section is empty.
 
-pub first_growing : (component : OpenComponent) (funcs : List Func) → funcs ≡ [] → growing component funcs ≡ empty_section (shown_sections component.sections.items)
+pub first_growing : (component : OpenComponent) (funcs : List Func) → funcs ≡ []
+    → growing component funcs ≡ empty_section (shown_sections component.sections.items)
 first_growing component funcs none = let e = ap (map shown_canon) none in λ i. record { before = shown_sections component.sections.items; funcs = e i }
 
-pub first_draft : (scopes : List Contents) (component : OpenComponent) (funcs : List Func) → funcs ≡ [] → own_scope scopes ≡ scope_of (shown_sections component.sections.items) → Tabled component.tables (shown_sections component.sections.items) → IsDraft scopes component funcs
+pub first_draft : (scopes : List Contents) (component : OpenComponent) (funcs : List Func) → funcs ≡ []
+    → own_scope scopes ≡ scope_of (shown_sections component.sections.items) → Tabled component.tables (shown_sections component.sections.items)
+    → CanonicalsState scopes component funcs
 first_draft scopes component funcs none is tabled =
     let t : Tree = shown_sections component.sections.items in
     let e = spaces-add t (canons []) in
@@ -291,13 +335,15 @@ first_draft scopes component funcs none is tabled =
           (tabled_quiet t (add t (canons [])) tabled (ap (λ z. z.types) e) (ap (λ z. z.functions) e) (ap (λ z. z.core_functions) e));
     }
 
-pub first_count : (component : OpenComponent) (funcs : List Func) → funcs ≡ [] → function_count (grown (growing component funcs)) ≡ function_count (shown_sections component.sections.items)
+pub first_count : (component : OpenComponent) (funcs : List Func) → funcs ≡ []
+    → function_count (grown (growing component funcs)) ≡ function_count (shown_sections component.sections.items)
 first_count component funcs none =
     let t : Tree = shown_sections component.sections.items in
     ap (λ z. function_count (grown z)) (first_growing component funcs none) ∙ ap functions_at (spaces-add t (canons []))
 
 -- All turns together.
-pub all_read : (config : Config) (least most : ℕ) (t : Tree) (first next : Growing) (b rest : List ℕ) → first ≡ empty_section t → most ≡ config.max_funcs - function_count t
+pub all_read : (config : Config) (least most : ℕ) (t : Tree) (first next : Growing) (b rest : List ℕ) → first ≡ empty_section t
+    → most ≡ config.max_funcs - function_count t
     → (turns : List CanonItem) × Loop NoCanon (CanonTurn config) least most 0 first b turns rest next → (last : Tree) → last ≡ grown next
     → (turns : List CanonItem) × (next : Growing) × ReadsCanons config least t b turns rest next × (last ≡ grown next)
 all_read config least most t first next b rest e m (turns, l) last is =
@@ -318,21 +364,26 @@ front_then old mid new f g = record {
   names = g.names ∙ f.names;
 }
 
-pub front_push : (old mid new : OpenComponent) (section : Section) → KeepsFront old mid → new.sections.items ≡ mid.sections.items ++ section ∷ [] → externs_in section ≡ [] → new.tables.imports ≡ mid.tables.imports → KeepsFront old new
+pub front_push : (old mid new : OpenComponent) (section : Section) → KeepsFront old mid → new.sections.items ≡ mid.sections.items ++ section ∷ []
+    → externs_in section ≡ [] → new.tables.imports ≡ mid.tables.imports → KeepsFront old new
 front_push old mid new section f e none names =
     front_then old mid new f (record { more = section ∷ []; sections = e; no_imports = ap (λ xs. xs ++ []) none; names = names })
 
 -- A draft's names are those of its imports then.
-pub front_externs : (old new : OpenComponent) → KeepsFront old new → HoldsExterns old.tables.imports (externs_of old.sections.items) → HoldsExterns new.tables.imports (externs_of new.sections.items)
+pub front_externs : (old new : OpenComponent) → KeepsFront old new → HoldsExterns old.tables.imports (externs_of old.sections.items)
+    → HoldsExterns new.tables.imports (externs_of new.sections.items)
 front_externs old new f h =
     let same : externs_of new.sections.items ≡ externs_of old.sections.items =
-    ap externs_of f.sections ∙ (flat_map-append externs_in old.sections.items f.more ∙ (ap (λ xs. externs_of old.sections.items ++ xs) f.no_imports ∙ append-nil (externs_of old.sections.items))) in
+    ap externs_of f.sections ∙ (flat_map-append externs_in old.sections.items f.more
+    ∙ (ap (λ xs. externs_of old.sections.items ++ xs) f.no_imports ∙ append-nil (externs_of old.sections.items))) in
     subst (λ names. HoldsExterns names (externs_of new.sections.items)) (sym f.names) (subst (HoldsExterns old.tables.imports) (sym same) h)
 
 -- What a turn of the program is.
 
-pub drafted_ends : (config : Config) (s next : Growing) (b rest : List ℕ) (made : Bool) → made ≡ false → IsDrafted config s b made rest next → NoCanon s b rest next
+pub drafted_ends : (config : Config) (s next : Growing) (b rest : List ℕ) (made : Bool) → made ≡ false → IsDrafted config s b made rest next
+    → NoCanon s b rest next
 drafted_ends config s next b rest made e d = subst (λ m. IsDrafted config s b m rest next) e d
 
-pub drafted_turn : (config : Config) (s next : Growing) (b rest : List ℕ) (made : Bool) → made ≡ true → IsDrafted config s b made rest next → (item : CanonItem) × CanonTurn config s b item rest next
+pub drafted_turn : (config : Config) (s next : Growing) (b rest : List ℕ) (made : Bool) → made ≡ true → IsDrafted config s b made rest next
+    → (item : CanonItem) × CanonTurn config s b item rest next
 drafted_turn config s next b rest made e d = subst (λ m. IsDrafted config s b m rest next) e d

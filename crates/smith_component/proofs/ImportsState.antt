@@ -33,7 +33,8 @@ one_allowed : (has : Bool) (count most : ℕ) → (has && allows_one true false 
 one_allowed has count most e = let lt : nat_lt count most ≡ true = (both_true has (nat_lt count most) e).1 in grind (arith, nat_tests, lt)
 
 -- An import that is read finds room.
-pub import_room : (config : Config) (own : Scope) (totals : RefTotals) (b : List ℕ) (r : ComponentTypeRef) (rest : List ℕ) → ReadsRef config own totals true false b r rest → RefRoom config totals r
+pub import_room : (config : Config) (own : Scope) (totals : RefTotals) (b : List ℕ) (r : ComponentTypeRef) (rest : List ℕ)
+    → ReadsRef config own totals true false b r rest → RefRoom config totals r
 import_room config own totals b r rest h = subst (RefRoom config totals) (sym h.is) (each h.index)
   where
     none : (count most : ℕ) → count + 0 ≤ max count most

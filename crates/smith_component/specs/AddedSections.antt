@@ -1,0 +1,61 @@
+-- How the sections that a turn adds are read.
+use Rattle.std.specs.Prelude.{◌≡◌, ℕ, ◌-◌, List, length}
+use Rattle.smith_input.specs.Loops.{Loop, Never}
+use Rattle.smith_input.specs.Texts.{ReadsText, ReadsBytes}
+use Rattle.smith_format.specs.declared.config.Config.{Config}
+use Rattle.smith_syntax.specs.Entries.{Entry, CoreEntry, ImportEntry}
+use Rattle.smith_types.specs.Made.{MadeWith}
+use Rattle.smith_core_types.specs.MadeCore.{MadeCore}
+use Rattle.smith_syntax.specs.Scope.{Scope, with_type, with_core_type}
+use Rattle.smith_component.specs.Spaces.{types_of}
+use Rattle.smith_component.specs.Tree.{Tree, custom, component, types, imports, add}
+use Rattle.smith_component.specs.Canonicals.{Growing, ReadsCanons, grown}
+use Rattle.smith_component.specs.Imports.{ReadsImports}
+use Rattle.smith_component.specs.Open.{Open, scopes_in}
+use Rattle.smith_component.specs.WellFormed.{scope_of}
+use Rattle.smith_component.specs.declared.item.CanonItem.{CanonItem}
+use Rattle.smith_component.specs.declared.item.Counted.{Counted}
+use Rattle.smith_component.specs.declared.item.Counted.TheVariants as counted
+
+-- a custom section: a text of at most 1000 bytes, and then any bytes
+abbrev pub ReadsCustom : List ℕ → List ℕ → List ℕ → List ℕ → Type 0
+ReadsCustom b name contents rest = (mid : List ℕ) × ReadsText 1000 b name mid × ReadsBytes mid contents rest
+
+-- A type of a type section, with fresh fuel. It stands in the scopes that the types before it leave.
+abbrev pub ReadsType : Config → List Scope → Scope → List ℕ → Entry → List ℕ → Scope → Type 0
+ReadsType config outer own b x rest next = MadeWith config own outer config.max_type_size b x rest × (next ≡ with_type own x)
+
+-- at least and at most so many types, which lead from one scope to another
+abbrev pub ReadsTypes : Config → List Scope → ℕ → ℕ → Scope → List ℕ → List Entry → List ℕ → Scope → Type 0
+ReadsTypes config outer min max own b xs rest next = Loop Never (ReadsType config outer) min max 0 own b xs rest next
+
+-- A core type of a core type section, with fresh fuel. It stands in the scope that the core types before it leave.
+abbrev pub ReadsCoreType : Config → Scope → List ℕ → CoreEntry → List ℕ → Scope → Type 0
+ReadsCoreType config own b x rest next = (left : ℕ) × MadeCore config own b config.max_type_size x rest left × (next ≡ with_core_type own x)
+
+-- at most so many core types, which lead from one scope to another
+abbrev pub ReadsCoreTypes : Config → ℕ → Scope → List ℕ → List CoreEntry → List ℕ → Scope → Type 0
+ReadsCoreTypes config max own b xs rest next = Loop Never (ReadsCoreType config) 0 max 0 own b xs rest next
+
+-- What the sections with a minimum do on the bytes b, where at least so many are to be added: they lead to the inner component t.
+
+-- a type section, with at most as many types as the component may still have
+abbrev pub AddsTypes : Config → ℕ → Open → List ℕ → Tree → List ℕ → Type 0
+AddsTypes config min stack b t rest =
+    (xs : List Entry) × (scope : Scope) × ReadsTypes config (scopes_in stack.outer) min (config.max_types - length (types_of stack.inner))
+    (scope_of stack.inner) b xs rest scope
+    × (t ≡ add stack.inner (types xs))
+
+-- an import section
+abbrev pub AddsImports : Config → ℕ → Open → List ℕ → Tree → List ℕ → Type 0
+AddsImports config min stack b t rest = (is : List ImportEntry) × ReadsImports config min stack b is rest × (t ≡ add stack.inner (imports is))
+
+-- canonical sections, with the type sections that lifts define between them
+abbrev pub AddsCanons : Config → ℕ → Open → List ℕ → Tree → List ℕ → Type 0
+AddsCanons config min stack b t rest = (turns : List CanonItem) × (next : Growing) × ReadsCanons config min stack.inner b turns rest next × (t ≡ grown next)
+
+-- by what is counted
+abbrev pub Adds : Counted → Config → ℕ → Open → List ℕ → Tree → List ℕ → Type 0
+Adds counted.Types config min stack b t rest = AddsTypes config min stack b t rest
+Adds counted.Imports config min stack b t rest = AddsImports config min stack b t rest
+Adds counted.Functions config min stack b t rest = AddsCanons config min stack b t rest

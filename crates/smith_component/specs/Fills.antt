@@ -1,0 +1,39 @@
+-- How what lacks of a minimum is filled where a component is finished.
+use Rattle.std.specs.Prelude.{◌≡◌, ℕ, ◌-◌, ◌<◌, ◌≤◌, List, length, ◌⊎◌}
+use Rattle.smith_format.specs.declared.config.Config.{Config}
+use Rattle.smith_component.specs.Spaces.{function_count}
+use Rattle.smith_component.specs.Tree.{Tree, types, imports, imports_of}
+use Rattle.smith_component.specs.Counted.{count_of, minimum_of}
+use Rattle.smith_component.specs.Open.{Open, with_inner}
+use Rattle.smith_component.specs.declared.item.Counted.{Counted}
+use Rattle.smith_component.specs.declared.item.Counted.TheVariants as counted
+use Rattle.smith_component.specs.declared.item.Item.TheVariants.{Types, Imports}
+use Rattle.smith_component.specs.AddedSections.{Adds}
+
+-- What lacks of a minimum is filled, and where nothing lacks nothing is done.
+abbrev pub Fills : Counted → Config → Open → List ℕ → Tree → List ℕ → Type 0
+Fills what config stack b t rest =
+    ((minimum_of what config ≤ count_of what stack.inner) × (t ≡ stack.inner) × (rest ≡ b))
+    ⊎ ((count_of what stack.inner < minimum_of what config) × Adds what config (minimum_of what config - count_of what stack.inner) stack b t rest)
+
+-- Types are filled first, then imports, and then functions, each counted anew, and no import or function lacks then.
+pub record FillsAll (config : Config) (stack : Open) (b : List ℕ) (full : Tree) (rest : List ℕ) : Type 0 where
+  pub typed : Tree
+  pub mid : List ℕ
+  pub imported : Tree
+  pub low : List ℕ
+  pub types : Fills counted.Types config stack b typed mid
+  pub imports : Fills counted.Imports config (with_inner stack typed) mid imported low
+  pub enough_imports : config.min_imports ≤ length (imports_of imported)
+  pub functions : Fills counted.Functions config (with_inner stack imported) low full rest
+  pub enough_functions : config.min_funcs ≤ function_count full
+
+-- Imports lack when they are filled; or they do not, and functions lack when those are filled.
+pub data Lacks (config : Config) (stack : Open) (b : List ℕ) : Type 0 where
+  of_imports : {typed imported : Tree} {mid low : List ℕ} → Fills counted.Types config stack b typed mid
+      → Fills counted.Imports config (with_inner stack typed) mid imported low
+      → length (imports_of imported) < config.min_imports → Lacks config stack b
+  of_functions : {typed imported full : Tree} {mid low rest : List ℕ} → Fills counted.Types config stack b typed mid
+      → Fills counted.Imports config (with_inner stack typed) mid imported low
+      → config.min_imports ≤ length (imports_of imported) → Fills counted.Functions config (with_inner stack imported) low full rest
+      → function_count full < config.min_funcs → Lacks config stack b
