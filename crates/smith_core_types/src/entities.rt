@@ -62,11 +62,7 @@ fn allows_function(config: &Config, declared: &Declared) -> bool
 }
 
 // The kind of an entity: each below its limit, a tag where there is a type for it, a function where there is a type.
-fn entity_kind(
-    u: &mut Unstructured,
-    config: &Config,
-    declared: &Declared,
-) -> Option<ExportKind>
+fn entity_kind(u: &mut Unstructured, config: &Config, declared: &Declared) -> Option<ExportKind>
     ensures reads { MatchOption result
         ((entity_kinds config.now (so_far declared.now 0) ≡ []) × (u.new ≡ u.old))
         (λ k. ReadsAmong (entity_kinds config.now (so_far declared.now 0)) u.old k u.new) }

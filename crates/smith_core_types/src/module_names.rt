@@ -40,9 +40,8 @@ fn exported_name(def: &ModuleTypeDef) -> Option<&str>
 {
     match def {
         ModuleTypeDef::Export(name, _) => Some(name.as_str()),
-        ModuleTypeDef::Import(_)
-        | ModuleTypeDef::FuncDef(_)
-        | ModuleTypeDef::OuterAlias { .. } => None,
+        ModuleTypeDef::Import(_) | ModuleTypeDef::FuncDef(_) | ModuleTypeDef::OuterAlias { .. } =>
+            None,
     }
 }
 

@@ -151,9 +151,7 @@ fn declaration(
     ensures tail { IsTail u.new u.old }
 {
     let item = declaration_item(u, config, scopes);
-    declaration_of(
-        alloc, u, config, valtypes, scopes, fuel, exports, item,
-    )
+    declaration_of(alloc, u, config, valtypes, scopes, fuel, exports, item)
 }
 
 // A declaration of a component type: an import where it is asked for and possible, else one as in an instance type.
