@@ -1,5 +1,6 @@
 -- What the program keeps of a module type that it makes, step by step.
-use Rattle.std.proofs.Common.{◌≡◌, ℕ, zero, suc, ◌+◌, ◌-◌, ◌<◌, ◌≤◌, Bool, true, false, List, [], ◌∷◌, ◌++◌, map, length, refl, sym, ap, ◌∙◌, subst, arith, append-nil, append_assoc, length-append, bytes_eq}
+use Rattle.std.proofs.Common.{◌≡◌, ℕ, zero, suc, ◌+◌, ◌-◌, ◌<◌, ◌≤◌, Bool, true, false, List, [], ◌∷◌, ◌++◌, map, length, refl, sym, ap, ◌∙◌, arith, append-nil, length-append, bytes_eq, ◌||◌, get_or}
+use Rattle.std.proofs.Math.ListN.{drop}
 use Rattle.std.proofs.lemmas.Bool.{false≢true}
 use Rattle.std.proofs.lemmas.List.{length-map, map-append}
 use Rattle.std.proofs.lemmas.List.Concat.{flat_map-cons}
@@ -7,32 +8,28 @@ use Rattle.std.proofs.lemmas.List.Elements.{filter-append}
 use Rattle.std.proofs.lemmas.Bool.Decides.{nat_tests}
 use Rattle.std.proofs.lemmas.Option.{slice_get_within, slice_get-map}
 use Rattle.std.specs.Option.{option_to_list}
-use Rattle.std.specs.List.{filter, flat_map, IsDistinct}
-use Rattle.std.specs.Prelude.{◌↔◌, IsTrue, IfSome, nat_lt, Option, Some, None, option_map, slice_get}
-use Rattle.smith_format.specs.CoreFormed.{FormedMemory}
+use Rattle.std.specs.List.{filter, flat_map}
+use Rattle.std.specs.Prelude.{◌↔◌, IsTrue, nat_lt, Some, option_map, slice_get}
 use Rattle.smith_format.specs.CoreTypes.{Function}
 use Rattle.smith_format.specs.Entities.{CoreImport}
 use Rattle.smith_format.specs.declared.config.Config.{Config}
 use Rattle.smith_format.specs.declared.types.EntityType.{EntityType}
-use Rattle.smith_format.specs.declared.types.MemoryType.{MemoryType}
 use Rattle.smith_input.specs.Choices.{ReadsAmong}
 use Rattle.smith_input.specs.Names.{is_among}
 use Rattle.smith_syntax.specs.Entries.{CoreEntry, ModuleDecl, aliases, core_func, core_module}
-use Rattle.smith_core_types.specs.MadeCore.{ReadsDecl, ReadsFront, indexes, module_items, no_export, no_import}
+use Rattle.smith_core_types.specs.MadeCore.{indexes, module_items, no_export, no_import}
 use Rattle.smith_core_types.specs.MadeCore.{Declared as SoFar}
-use Rattle.smith_core_types.specs.MakingCore.{Adds, Turns, choices_among}
-use Rattle.smith_syntax.specs.ModuleTypes.{adds, aliased, export_names, export_of, HasNewNames, import_of, names_from}
+use Rattle.smith_core_types.specs.MakingCore.{Adds, Turns, choices_among, names_taken}
+use Rattle.smith_syntax.specs.ModuleTypes.{adds, aliased, export_names, export_of, import_of, names_from}
 use Rattle.smith_syntax.specs.Scope.{Scope, is_core_func, own_of, places}
 use Rattle.smith_scopes.specs.Scopes.{Contents, inward, last_of}
-use Rattle.smith_syntax.specs.Shown.{shown_core}
+use Rattle.smith_syntax.specs.Shown.{shown_core, shown_decl}
 use Rattle.smith_syntax.specs.declared.core_types.CoreType.{CoreType}
+use Rattle.smith_syntax.specs.declared.core_types.ModuleTypeDef.{ModuleTypeDef}
 use Rattle.smith_core_types.specs.declared.module_types.ModuleItem.{ModuleItem}
 use Rattle.smith_core_types.specs.declared.module_types.ModuleItem.TheVariants as item
+use Rattle.smith_input.proofs.Rests.{drop_past, rest_at}
 use Rattle.smith_scopes.proofs.Stack.{length-last-core, own_last}
-use Rattle.smith_core_types.proofs.MadeCore.{decl_of_formed}
-use Rattle.smith_core_types.proofs.ModuleFronts.{front_is}
-use Rattle.smith_core_types.proofs.ModuleTypes.{HasNewName, exported_more, export_new, import_new, judged_front, judged_names, names_more}
-use Rattle.smith_core_types.proofs.Names.{AreNew, distinct_new, new_distinct, none_before}
 use Rattle.smith_scopes.proofs.Places.{place_stands, get_left, get_right}
 
 -- indexes
@@ -56,34 +53,61 @@ entities_in d = map (λ i. i.2) (import_of d) ++ map (λ x. x.1) (export_of d)
 
 -- names
 
-new_at : (before xs : List (List ℕ)) (n : List ℕ) (ys : List (List ℕ)) → AreNew before (xs ++ n ∷ ys) → is_among (before ++ xs) n ≡ false
-new_at before [] n ys a = ap (λ z. is_among z n) (append-nil before) ∙ a.0
-new_at before (x ∷ xs) n ys a = ap (λ z. is_among z n) (sym (append_assoc before (x ∷ []) xs)) ∙ new_at (before ++ x ∷ []) xs n ys a.1
-
--- one of distinct names is none of those before it
-pub new_after : (all xs : List (List ℕ)) (n : List ℕ) (ys : List (List ℕ)) → IsDistinct bytes_eq all → xs ++ n ∷ ys ≡ all → is_among xs n ≡ false
-new_after all xs n ys d e = new_at [] xs n ys (distinct_new [] (xs ++ n ∷ ys) (none_before (xs ++ n ∷ ys)) (subst (IsDistinct bytes_eq) (sym e) d))
-
-prefix_new : (before xs ys : List (List ℕ)) → AreNew before (xs ++ ys) → AreNew before xs
-prefix_new before [] ys a = tt
-prefix_new before (x ∷ xs) ys a = (a.0, prefix_new (before ++ x ∷ []) xs ys a.1)
-
--- the names before others are distinct
-pub distinct_prefix : (all xs ys : List (List ℕ)) → IsDistinct bytes_eq all → xs ++ ys ≡ all → IsDistinct bytes_eq xs
-distinct_prefix all xs ys d e = new_distinct [] xs (prefix_new [] xs ys (distinct_new [] (xs ++ ys) (none_before (xs ++ ys)) (subst (IsDistinct bytes_eq) (sym e) d)))
-
-pub exports_more : (d : ModuleDecl) (ds : List ModuleDecl) → export_names (d ∷ ds) ≡ export_names (d ∷ []) ++ export_names ds
+exports_more : (d : ModuleDecl) (ds : List ModuleDecl) → export_names (d ∷ ds) ≡ export_names (d ∷ []) ++ export_names ds
 exports_more d ds =
     ap (map (λ x. x.0)) (flat_map-cons export_of d ds) ∙ map-append (λ x. x.0) (export_of d) (flat_map export_of ds)
     ∙ ap (λ z. map (λ x. x.0) z ++ export_names ds) (sym (append-nil (export_of d)))
 
-pub imports_more : (from : List ℕ) (d : ModuleDecl) (ds : List ModuleDecl) → names_from from (d ∷ ds) ≡ names_from from (d ∷ []) ++ names_from from ds
+imports_more : (from : List ℕ) (d : ModuleDecl) (ds : List ModuleDecl) → names_from from (d ∷ ds) ≡ names_from from (d ∷ []) ++ names_from from ds
 imports_more from d ds =
     let mine : List CoreImport → List (List ℕ) = λ z. map (λ i. i.1) (filter (λ i. bytes_eq i.0 from) z) in
     ap mine (flat_map-cons import_of d ds)
     ∙ ap (map (λ i. i.1)) (filter-append (λ i. bytes_eq i.0 from) (import_of d) (flat_map import_of ds))
     ∙ map-append (λ i. i.1) (filter (λ i. bytes_eq i.0 from) (import_of d)) (filter (λ i. bytes_eq i.0 from) (flat_map import_of ds))
     ∙ ap (λ z. mine z ++ names_from from ds) (sym (append-nil (import_of d)))
+
+taken_more : (imported : Bool) (from : List ℕ) (d : ModuleDecl) (ds : List ModuleDecl) → names_taken imported from (d ∷ ds) ≡ names_taken imported from (d ∷ []) ++ names_taken imported from ds
+taken_more true from d ds = imports_more from d ds
+taken_more false from d ds = exports_more d ds
+
+taken_none : (imported : Bool) (from : List ℕ) → names_taken imported from [] ≡ []
+taken_none true from = refl
+taken_none false from = refl
+
+pub among_append : (xs ys : List (List ℕ)) (q : List ℕ) → is_among (xs ++ ys) q ≡ (is_among xs q || is_among ys q)
+among_append [] ys q = refl
+among_append (x ∷ xs) ys q = ap (λ b. bytes_eq x q || b) (among_append xs ys q) ∙ or_assoc (bytes_eq x q) (is_among xs q) (is_among ys q)
+  where
+    or_assoc : (a b c : Bool) → (a || (b || c)) ≡ ((a || b) || c)
+    or_assoc true b c = refl
+    or_assoc false b c = refl
+
+-- the names of the declarations from a place on
+module _ (imported : Bool) (from : List ℕ) (defs : List ModuleTypeDef) (i : ℕ) where
+  abbrev Later : ℕ → List (List ℕ)
+  Later j = names_taken imported from (map shown_decl (drop j defs))
+
+  module _ (d : ModuleTypeDef) (h : i < length defs) (e : d ≡ get_or defs i d) where
+    abbrev Here : List (List ℕ)
+    Here = names_taken imported from (shown_decl d ∷ [])
+
+    split : Later i ≡ Here ++ Later (i + 1)
+    split = ap (λ z. names_taken imported from (map shown_decl z)) (rest_at defs i d h e) ∙ taken_more imported from (shown_decl d) (map shown_decl (drop (i + 1) defs))
+
+    among : (q : List ℕ) → is_among (Later i) q ≡ (is_among Here q || is_among (Later (i + 1)) q)
+    among q = ap (λ ns. is_among ns q) split ∙ among_append Here (Later (i + 1)) q
+
+    pub taken_found : (q : List ℕ) → is_among Here q ≡ true → is_among (Later i) q ≡ true
+    taken_found q t = among q ∙ ap (λ b. b || is_among (Later (i + 1)) q) t
+
+    pub taken_passed : (q : List ℕ) → is_among Here q ≡ false → is_among (Later i) q ≡ is_among (Later (i + 1)) q
+    taken_passed q f = among q ∙ ap (λ b. b || is_among (Later (i + 1)) q) f
+
+    pub taken_counted : length (Later i) ≡ length Here + length (Later (i + 1))
+    taken_counted = ap length split ∙ length-append Here (Later (i + 1))
+
+  pub taken_past : length defs ≤ i → Later i ≡ []
+  taken_past h = ap (λ z. names_taken imported from (map shown_decl z)) (drop_past defs i h) ∙ taken_none imported from
 
 -- outer aliases
 
@@ -156,30 +180,6 @@ no_module p q = false≢true (sym (ap is_core_func q) ∙ ap is_core_func p)
 -- the first item of two that are one
 pub same_item : {A : Type 0} {x y : A} → Some x ≡ Some y → x ≡ y
 same_item e = cc
-
--- names stay new
-
-as_new : (ns : List (List ℕ)) → IsDistinct bytes_eq ns → AreNew [] ns
-as_new ns d = distinct_new [] ns (none_before ns) d
-
-pub names_kept : (ds : List ModuleDecl) (d : ModuleDecl) → HasNewNames ds → HasNewName ds d → HasNewNames (ds ++ d ∷ [])
-names_kept ds d h new = record {
-  imported = λ from. new_distinct [] (names_from from (ds ++ d ∷ [])) (subst (AreNew []) (sym (names_more from ds d)) (import_new ds d from new (as_new (names_from from ds) (h.imported from))));
-  exported = new_distinct [] (export_names (ds ++ d ∷ [])) (subst (AreNew []) (sym (exported_more ds d)) (export_new ds d new (as_new (export_names ds) h.exported)));
-}
-
-pub decl_names : (config : Config) (around : Scope) (s : SoFar) (b : List ℕ) (d : ModuleDecl) (rest : List ℕ) (t : SoFar) → ReadsDecl config around s b d rest t → HasNewNames s.decls → HasNewNames t.decls
-decl_names config around s b d rest t r h =
-    subst (λ z. HasNewNames z.decls) (sym r.state) (names_kept s.decls d h (decl_of_formed config around s r.item r.mid d rest r.reads).1)
-
-memory_is_formed : (config : Config) (m : Option MemoryType) → IfSome m (λ t. FormedMemory t × (0 < config.max_memories)) → IfSome m FormedMemory
-memory_is_formed config None h = tt
-memory_is_formed config (Some m) h = h.0
-
-pub front_names : (config : Config) (b : List ℕ) (fuel : ℕ) (s : SoFar) (rest : List ℕ) → ReadsFront config b fuel s rest → HasNewNames s.decls
-front_names config b fuel s rest r =
-    let f = front_is config b fuel s rest r in
-    subst (λ z. HasNewNames z.decls) (sym f.state) (judged_names [] _ _ (judged_front [] f.memory f.reallocs f.frees (memory_is_formed config f.memory f.has_memory)))
 
 -- a turn, by what it adds
 pub turns_of : (config : Config) (around : Scope) (s : SoFar) (i : ModuleItem) (b mid rest : List ℕ) (t : SoFar) → 0 < s.fuel - 1 → ReadsAmong (module_items config around s) b i mid → (more : Bool) → Adds config around s i mid more rest t → Turns config around s b more rest t

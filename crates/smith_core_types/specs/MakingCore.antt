@@ -11,7 +11,7 @@ use Rattle.smith_format.specs.declared.types.FuncType.{FuncType}
 use Rattle.smith_syntax.specs.Entries.{CoreEntry, ModuleDecl}
 use Rattle.smith_core_types.specs.MadeCore.{ReadsDecl, ReadsDeclOf, ReadsEntity, ReadsImportNames, ReadsExportName, ModuleEnds, alias_choices, entity_kinds, with_decl, with_fuel}
 use Rattle.smith_core_types.specs.MadeCore.{Declared as SoFar}
-use Rattle.smith_syntax.specs.ModuleTypes.{adds, aliased, is_tag_type}
+use Rattle.smith_syntax.specs.ModuleTypes.{adds, aliased, export_names, is_tag_type, names_from}
 use Rattle.smith_syntax.specs.Scope.{Scope, places}
 use Rattle.smith_syntax.specs.Shown.{shown_decl}
 use Rattle.smith_syntax.specs.declared.core_types.CoreType.{CoreType}
@@ -44,6 +44,11 @@ HasChoiceFor around s item.Import = Unit {0}
 HasChoiceFor around s item.Export = Unit {0}
 HasChoiceFor around s item.Type = Unit {0}
 HasChoiceFor around s item.Alias = 0 < length (alias_choices around s)
+
+-- the names that are imported from a module, or those that are exported
+abbrev pub names_taken : Bool → List ℕ → List ModuleDecl → List (List ℕ)
+names_taken true from ds = names_from from ds
+names_taken false from ds = export_names ds
 
 -- an entity, or none where nothing can be imported or exported, and then nothing is read
 abbrev pub MaybeEntity : Config → SoFar → List ℕ → Option EntityType → List ℕ → Type 0

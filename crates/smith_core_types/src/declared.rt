@@ -53,6 +53,18 @@ pub(crate) fn allows(defs: &[ModuleTypeDef], kind: ExportKind, max: usize) -> bo
     count_of(defs, kind) < max
 }
 
+// Is there a type that a tag may have?
+pub(crate) fn has_tag_type(own: &[Rc<FuncType>]) -> bool
+    ensures { result ≡ nat_lt 0 (length (places is_tag_type 0 (shown_funcs own.now))) }
+{
+    for ty in own {
+        if ty.results.is_empty() {
+            return true;
+        }
+    }
+    false
+}
+
 // The indexes of the types that a tag may have: those without results.
 pub(crate) fn tag_types(alloc: Global, own: &[Rc<FuncType>]) -> Result<Vec<u32>, Error>
     requires { length own.now < 1000 }

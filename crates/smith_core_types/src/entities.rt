@@ -11,7 +11,7 @@ ghost use Rattle.smith_syntax.specs.ModuleTypes.{count_of, is_tag_type};
 ghost use Rattle.smith_syntax.specs.Scope.{places};
 ghost use Rattle.smith_syntax.specs.Shown.{shown_decl};
 
-use crate::declared::{Declared, allows, tag_types};
+use crate::declared::{Declared, allows, has_tag_type, tag_types};
 use smith_format::{
     Config, EntityType, ExportKind, FuncType, GlobalType, ValType, arbitrary_memtype,
     arbitrary_table_type, arbitrary_tag_type,
@@ -43,13 +43,14 @@ fn own_type(u: &mut Unstructured, own: &[Rc<FuncType>]) -> u32
 }
 
 // Is a tag allowed: below the limit, where there are tags, and where there is a type for one?
-fn allows_tag(config: &Config, declared: &Declared, has_type: bool) -> bool
+fn allows_tag(config: &Config, declared: &Declared) -> bool
     ensures { result ≡ (nat_lt (count_of kind.Tag (map shown_decl declared.now.defs.items)) config.now.max_tags
-        && config.now.exceptions_enabled && has_type) }
+        && config.now.exceptions_enabled
+        && nat_lt 0 (length (places is_tag_type 0 (shown_funcs declared.now.own.items)))) }
 {
     allows(&declared.defs, ExportKind::Tag, config.max_tags)
         && config.exceptions_enabled
-        && has_type
+        && has_tag_type(&declared.own)
 }
 
 // Is a function allowed: below the limit, and where there is a type?
@@ -61,13 +62,7 @@ fn allows_function(config: &Config, declared: &Declared) -> bool
 }
 
 // The kind of an entity: each below its limit, a tag where there is a type for it, a function where there is a type.
-fn entity_kind(
-    u: &mut Unstructured,
-    config: &Config,
-    declared: &Declared,
-    has_tag_type: bool,
-) -> Option<ExportKind>
-    requires { has_tag_type ≡ nat_lt 0 (length (places is_tag_type 0 (shown_funcs declared.now.own.items))) }
+fn entity_kind(u: &mut Unstructured, config: &Config, declared: &Declared) -> Option<ExportKind>
     ensures reads { MatchOption result
         ((entity_kinds config.now (so_far declared.now 0) ≡ []) × (u.new ≡ u.old))
         (λ k. ReadsAmong (entity_kinds config.now (so_far declared.now 0)) u.old k u.new) }
@@ -80,7 +75,7 @@ fn entity_kind(
         (with_global, ExportKind::Global),
         (with_table, ExportKind::Table),
         (with_memory, ExportKind::Memory),
-        (allows_tag(config, declared, has_tag_type), ExportKind::Tag),
+        (allows_tag(config, declared), ExportKind::Tag),
         (allows_function(config, declared), ExportKind::Func),
     ];
     choose_offered(u, &offers)
@@ -88,26 +83,30 @@ fn entity_kind(
 
 // An entity of a kind.
 fn entity_of(
+    alloc: Global,
     u: &mut Unstructured,
     config: &Config,
     valtypes: &[ValType],
     declared: &Declared,
-    tag_types: &[u32],
     kind: ExportKind,
-) -> EntityType
+) -> Result<EntityType, Error>
     requires valtypes { valtypes.now ≡ configured config.now }
     requires few { length declared.now.own.items < 1000 }
-    requires tag_types { tag_types.now ≡ places is_tag_type 0 (shown_funcs declared.now.own.items) }
     requires possible { HasTypeFor (shown_funcs declared.now.own.items) kind }
-    ensures reads { (fuel : ℕ) → ReadsEntityOf config.now (so_far declared.now fuel) kind u.old result u.new }
+    ensures reads { IfOk result
+        (λ e. (fuel : ℕ) → ReadsEntityOf config.now (so_far declared.now fuel) kind u.old e u.new) }
+    ensures memory { IfErr result (λ e. e ≡ Error.OutOfMemory) }
     ensures tail { IsTail u.new u.old }
 {
     match kind {
-        ExportKind::Global => EntityType::Global(global_type(u, valtypes)),
-        ExportKind::Table => EntityType::Table(arbitrary_table_type(u, config)),
-        ExportKind::Memory => EntityType::Memory(arbitrary_memtype(u, config)),
-        ExportKind::Tag => EntityType::Tag(arbitrary_tag_type(u, tag_types)),
-        ExportKind::Func => EntityType::Func(own_type(u, &declared.own)),
+        ExportKind::Global => Ok(EntityType::Global(global_type(u, valtypes))),
+        ExportKind::Table => Ok(EntityType::Table(arbitrary_table_type(u, config))),
+        ExportKind::Memory => Ok(EntityType::Memory(arbitrary_memtype(u, config))),
+        ExportKind::Tag => {
+            let tag_types = tag_types(alloc, &declared.own)?;
+            Ok(EntityType::Tag(arbitrary_tag_type(u, &tag_types)))
+        }
+        ExportKind::Func => Ok(EntityType::Func(own_type(u, &declared.own))),
     }
 }
 
@@ -126,9 +125,9 @@ pub(crate) fn entity(
     ensures memory { IfErr result (λ e. e ≡ Error.OutOfMemory) }
     ensures tail { IsTail u.new u.old }
 {
-    let tag_types = tag_types(alloc, &declared.own)?;
-    let Some(kind) = entity_kind(u, config, declared, tag_types.len() > 0) else {
+    let Some(kind) = entity_kind(u, config, declared) else {
         return Ok(None);
     };
-    Ok(Some(entity_of(u, config, valtypes, declared, &tag_types, kind)))
+    let entity = entity_of(alloc, u, config, valtypes, declared, kind)?;
+    Ok(Some(entity))
 }

@@ -1,88 +1,116 @@
 //! The names of what a module type imports and exports.
 
-ghost use Rattle.std.specs.Prelude.{◌≡◌, ◌++◌, ◌∷◌, ℕ, List, false, [], bytes_eq, map, string_bytes, OnOk, IfOk, IfErr};
-ghost use Rattle.std.specs.BTreeSet.{contains_text};
-ghost use Rattle.std.specs.List.{IsDistinct};
-ghost use Rattle.smith_input.specs.Names.{GainsName, Holds};
+ghost use Rattle.std.specs.Prelude.{◌≡◌, ◌∷◌, ℕ, List, [], map, length, string_bytes, IfOk, IfErr, MatchOption};
+ghost use Rattle.smith_input.specs.Names.{is_among};
 ghost use Rattle.smith_input.specs.Reading.{IsTail};
 ghost use Rattle.smith_input.specs.Texts.{ReadsText};
 ghost use Rattle.smith_core_types.specs.MadeCore.{ReadsNewText};
-ghost use Rattle.smith_syntax.specs.ModuleTypes.{export_names, names_from, HasNewNames};
+ghost use Rattle.smith_core_types.specs.MakingCore.{names_taken};
+ghost use Rattle.smith_syntax.specs.ModuleTypes.{export_names, names_from};
 ghost use Rattle.smith_syntax.specs.Shown.{shown_decl};
 
-use smith_input::{Error, Unstructured, limited_string, unique_string};
+use smith_input::{Error, TakenNames, Unstructured, limited_string, new_string};
 use smith_syntax::ModuleTypeDef;
 use std::alloc::Global;
-use std::collections::BTreeSet;
 
-// Puts a name into a set.
-fn gain(names: &mut BTreeSet<String>, name: &String) -> Result<(), Error>
-    ensures gained { contains_text names.old (string_bytes name.now) ≡ false
-        → OnOk result (GainsName names.old names.new (string_bytes name.now)) }
-    ensures memory { IfErr result (λ e. e ≡ Error.OutOfMemory) }
-{
-    names.insert(name.clone()?)?;
-    Ok(())
-}
-
-// Puts the name of an import into a set, where it is from that module.
-fn gain_import(names: &mut BTreeSet<String>, from: &str, def: &ModuleTypeDef) -> Result<(), Error>
-    ensures gained { (so_far : List (List ℕ)) → Holds names.old so_far
-        → IsDistinct bytes_eq (so_far ++ names_from from.now (shown_decl def.now ∷ []))
-        → OnOk result (Holds names.new (so_far ++ names_from from.now (shown_decl def.now ∷ []))) }
-    ensures memory { IfErr result (λ e. e ≡ Error.OutOfMemory) }
+// The name of an import from that module.
+fn imported_name<'a>(def: &'a ModuleTypeDef, from: &str) -> Option<&'a str>
+    ensures { MatchOption result
+        (names_from from.now (shown_decl def.now ∷ []) ≡ [])
+        (λ name. names_from from.now (shown_decl def.now ∷ []) ≡ name.now ∷ []) }
 {
     match def {
         ModuleTypeDef::Import(import) => {
             if import.module.as_str() == from {
-                return gain(names, &import.name);
+                return Some(import.name.as_str());
             }
-            Ok(())
+            None
         }
         ModuleTypeDef::Export(_, _)
         | ModuleTypeDef::FuncDef(_)
-        | ModuleTypeDef::OuterAlias { .. } => Ok(()),
+        | ModuleTypeDef::OuterAlias { .. } => None,
     }
 }
 
-// Puts the name of an export into a set.
-fn gain_export(names: &mut BTreeSet<String>, def: &ModuleTypeDef) -> Result<(), Error>
-    ensures gained { (so_far : List (List ℕ)) → Holds names.old so_far
-        → IsDistinct bytes_eq (so_far ++ export_names (shown_decl def.now ∷ []))
-        → OnOk result (Holds names.new (so_far ++ export_names (shown_decl def.now ∷ []))) }
-    ensures memory { IfErr result (λ e. e ≡ Error.OutOfMemory) }
+// The name of an export.
+fn exported_name(def: &ModuleTypeDef) -> Option<&str>
+    ensures { MatchOption result
+        (export_names (shown_decl def.now ∷ []) ≡ [])
+        (λ name. export_names (shown_decl def.now ∷ []) ≡ name.now ∷ []) }
 {
     match def {
-        ModuleTypeDef::Export(name, _) => gain(names, name),
+        ModuleTypeDef::Export(name, _) => Some(name.as_str()),
         ModuleTypeDef::Import(_) | ModuleTypeDef::FuncDef(_) | ModuleTypeDef::OuterAlias { .. } =>
-            Ok(()),
+            None,
     }
 }
 
-// The names that are imported from a module.
-fn names_from(alloc: Global, defs: &[ModuleTypeDef], from: &str) -> Result<BTreeSet<String>, Error>
-    requires { HasNewNames (map shown_decl defs.now) }
-    ensures names { IfOk result (λ s. Holds s (names_from from.now (map shown_decl defs.now))) }
-    ensures memory { IfErr result (λ e. e ≡ Error.OutOfMemory) }
+// The name of an import from that module, or that of an export.
+fn taken_name<'a>(def: &'a ModuleTypeDef, imported: bool, from: &str) -> Option<&'a str>
+    ensures { MatchOption result
+        (names_taken imported from.now (shown_decl def.now ∷ []) ≡ [])
+        (λ name. names_taken imported from.now (shown_decl def.now ∷ []) ≡ name.now ∷ []) }
 {
-    let mut names = BTreeSet::new(alloc);
-    for def in defs {
-        gain_import(&mut names, from, def)?;
+    if imported {
+        imported_name(def, from)
+    } else {
+        exported_name(def)
     }
-    Ok(names)
 }
 
-// The names that are exported.
-fn export_names(alloc: Global, defs: &[ModuleTypeDef]) -> Result<BTreeSet<String>, Error>
-    requires { HasNewNames (map shown_decl defs.now) }
-    ensures names { IfOk result (λ s. Holds s (export_names (map shown_decl defs.now))) }
-    ensures memory { IfErr result (λ e. e ≡ Error.OutOfMemory) }
+// Is it that name?
+fn is_taken_name(def: &ModuleTypeDef, imported: bool, from: &str, name: &str) -> bool
+    ensures { result ≡ is_among (names_taken imported from.now (shown_decl def.now ∷ [])) name.now }
 {
-    let mut names = BTreeSet::new(alloc);
-    for def in defs {
-        gain_export(&mut names, def)?;
+    match taken_name(def, imported, from) {
+        Some(taken) => taken == name,
+        None => false,
     }
-    Ok(names)
+}
+
+// Is it one of those names?
+fn is_taken(defs: &[ModuleTypeDef], imported: bool, from: &str, name: &str) -> bool
+    ensures { result ≡ is_among (names_taken imported from.now (map shown_decl defs.now)) name.now }
+{
+    for def in defs {
+        if is_taken_name(def, imported, from, name) {
+            return true;
+        }
+    }
+    false
+}
+
+// How many of those names there are.
+fn count_taken(defs: &[ModuleTypeDef], imported: bool, from: &str) -> usize
+    ensures { result ≡ length (names_taken imported from.now (map shown_decl defs.now)) }
+{
+    let mut count = 0;
+    for def in defs {
+        if taken_name(def, imported, from).is_some() {
+            count += 1;
+        }
+    }
+    count
+}
+
+// The names that are imported from a module, or those that are exported.
+#[derive(Drop)]
+struct Taken<'a> {
+    defs: &'a [ModuleTypeDef],
+    imported: bool,
+    from: &'a str,
+}
+
+impl<'a> TakenNames for Taken<'a> {
+    ghost texts = { λ n. names_taken n.imported n.from.now (map shown_decl n.defs.now) };
+
+    fn has_name(&self, name: &str) -> bool {
+        is_taken(self.defs, self.imported, self.from, name)
+    }
+
+    fn name_count(&self) -> usize {
+        count_taken(self.defs, self.imported, self.from)
+    }
 }
 
 // The two names of an import: that of the module, and one that is imported from it for the first time.
@@ -91,15 +119,18 @@ pub(crate) fn import_names(
     u: &mut Unstructured,
     defs: &[ModuleTypeDef],
 ) -> Result<(String, String), Error>
-    requires { HasNewNames (map shown_decl defs.now) }
     ensures reads { IfOk result (λ n. (mid : List ℕ) × ReadsText 100 u.old (string_bytes n.0) mid
         × ReadsNewText (names_from (string_bytes n.0) (map shown_decl defs.now)) mid (string_bytes n.1) u.new) }
     ensures memory { IfErr result (λ e. e ≡ Error.OutOfMemory) }
     ensures tail { IsTail u.new u.old }
 {
     let from = limited_string(alloc, 100, u)?;
-    let mut names = names_from(alloc, defs, from.as_str())?;
-    let name = unique_string(alloc, 100, &mut names, u)?;
+    let taken = Taken {
+        defs,
+        imported: true,
+        from: from.as_str(),
+    };
+    let name = new_string(alloc, 100, &taken, u)?;
     Ok((from, name))
 }
 
@@ -109,12 +140,15 @@ pub(crate) fn export_name(
     u: &mut Unstructured,
     defs: &[ModuleTypeDef],
 ) -> Result<String, Error>
-    requires { HasNewNames (map shown_decl defs.now) }
     ensures reads { IfOk result (λ n.
         ReadsNewText (export_names (map shown_decl defs.now)) u.old (string_bytes n) u.new) }
     ensures memory { IfErr result (λ e. e ≡ Error.OutOfMemory) }
     ensures tail { IsTail u.new u.old }
 {
-    let mut names = export_names(alloc, defs)?;
-    unique_string(alloc, 100, &mut names, u)
+    let taken = Taken {
+        defs,
+        imported: false,
+        from: "",
+    };
+    new_string(alloc, 100, &taken, u)
 }

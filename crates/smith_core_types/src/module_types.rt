@@ -10,7 +10,6 @@ ghost use Rattle.smith_syntax.specs.Entries.{ModuleDecl};
 ghost use Rattle.smith_core_types.specs.MadeCore.{MadeModule, ModuleEnds, ReadsDecl};
 ghost use Rattle.smith_core_types.specs.MadeCore.{allows_type, alias_choices, module_items};
 ghost use Rattle.smith_core_types.specs.MakingCore.{Adds, HasChoiceFor, KeepEach, Keeps, Turns, shown_funcs, so_far};
-ghost use Rattle.smith_syntax.specs.ModuleTypes.{HasNewNames};
 ghost use Rattle.smith_scopes.specs.Scopes.{own_scope};
 ghost use Rattle.smith_syntax.specs.Shown.{shown_decl};
 ghost use Rattle.smith_core_types.specs.declared.module_types.ModuleItem.TheVariants as item;
@@ -84,7 +83,6 @@ fn import(
 ) -> Result<bool, Error>
     requires valtypes { valtypes.now ≡ configured config.now }
     requires few { length declared.old.own.items < 1000 }
-    requires names { HasNewNames (map shown_decl declared.old.defs.items) }
     ensures adds { (around : _) (fuel : ℕ) → IfOk result (λ b.
         Adds config.now around (so_far declared.old fuel) item.Import u.old b u.new (so_far declared.new (fuel - 1))) }
     ensures own { OnOk result (length declared.new.own.items ≤ length declared.old.own.items + 1) }
@@ -117,7 +115,6 @@ fn export(
 ) -> Result<bool, Error>
     requires valtypes { valtypes.now ≡ configured config.now }
     requires few { length declared.old.own.items < 1000 }
-    requires names { HasNewNames (map shown_decl declared.old.defs.items) }
     ensures adds { (around : _) (fuel : ℕ) → IfOk result (λ b.
         Adds config.now around (so_far declared.old fuel) item.Export u.old b u.new (so_far declared.new (fuel - 1))) }
     ensures own { OnOk result (length declared.new.own.items ≤ length declared.old.own.items + 1) }
@@ -147,7 +144,6 @@ fn add_of(
 ) -> Result<bool, Error>
     requires valtypes { valtypes.now ≡ configured config.now }
     requires few { length declared.old.own.items < 1000 }
-    requires names { HasNewNames (map shown_decl declared.old.defs.items) }
     requires possible { HasChoiceFor (own_scope scopes.now) (so_far declared.old 0) item }
     ensures adds { (fuel : ℕ) → IfOk result (λ b. Adds config.now (own_scope scopes.now) (so_far declared.old fuel)
         item u.old b u.new (so_far declared.new (fuel - 1))) }
@@ -182,7 +178,6 @@ fn turn(
 ) -> Result<bool, Error>
     requires valtypes { valtypes.now ≡ configured config.now }
     requires few { length declared.old.own.items < 1000 }
-    requires names { HasNewNames (map shown_decl declared.old.defs.items) }
     ensures turns { (fuel : ℕ) → 0 < fuel - 1 → IfOk result (λ b. Turns config.now (own_scope scopes.now)
         (so_far declared.old fuel) u.old b u.new (so_far declared.new (fuel - 1))) }
     ensures own { OnOk result (length declared.new.own.items ≤ length declared.old.own.items + 1) }
@@ -207,7 +202,6 @@ fn declarations(
 ) -> Result<(), Error>
     requires valtypes { valtypes.now ≡ configured config.now }
     requires few { length declared.old.own.items ≤ 2 }
-    requires names { HasNewNames (map shown_decl declared.old.defs.items) }
     ensures reads { OnOk result ((more : List ModuleDecl) × Loop (ModuleEnds config.now (own_scope scopes.now))
         (ReadsDecl config.now (own_scope scopes.now)) 0 100 0 (so_far declared.old fuel.old) u.old more u.new
         (so_far declared.new fuel.new)) }

@@ -6,5 +6,6 @@ pub mod NewNames
 pub mod Offered
 pub mod Picks
 pub mod ReadingLemmas
+pub mod Rests
 pub mod TextsLemmas
 pub mod Widths

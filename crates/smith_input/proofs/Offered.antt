@@ -1,15 +1,14 @@
 -- What is offered, item by item.
-use Rattle.std.proofs.Common.{◌≡◌, ℕ, suc, ◌+◌, ◌<◌, ◌≤◌, Bool, true, false, List, [], ◌∷◌, length, ap, sym, ◌∙◌, refl, get_or, add-one, arith, zero, subst, None}
+use Rattle.std.proofs.Common.{◌≡◌, ℕ, suc, ◌+◌, ◌<◌, ◌≤◌, Bool, true, false, List, [], ◌∷◌, length, ap, ◌∙◌, refl, get_or, add-one, arith, zero, subst, None}
 use Rattle.std.proofs.Math.ListN.{drop}
-use Rattle.std.proofs.Math.Seq.{drop-cons}
-use Rattle.std.proofs.lemmas.List.{length-drop}
 use Rattle.std.specs.List.{AllByRecursion}
 use Rattle.std.specs.Prelude.{if◌then◌else◌, slice_get, Some}
 use Rattle.smith_input.specs.Script.{offers_of}
+use Rattle.smith_input.proofs.Rests.{drop_past, rest_at}
 
 module _ {A : Type 0} (os : List (Bool × A)) (i : ℕ) (o : Bool × A) (h : i < length os) (e : o ≡ get_or os i o) where
   at : drop i os ≡ o ∷ drop (i + 1) os
-  at = drop-cons os i o h ∙ (ap (λ x. x ∷ drop (suc i) os) (sym e) ∙ ap (λ n. o ∷ drop n os) (sym (add-one i)))
+  at = rest_at os i o h e
 
   both : (b : Bool) → o.0 ≡ b → offers_of (o ∷ drop (i + 1) os) ≡ (if b then o.1 ∷ offers_of (drop (i + 1) os) else offers_of (drop (i + 1) os))
   both b f = ap (λ c. if c then o.1 ∷ offers_of (drop (i + 1) os) else offers_of (drop (i + 1) os)) f
@@ -19,13 +18,6 @@ module _ {A : Type 0} (os : List (Bool × A)) (i : ℕ) (o : Bool × A) (h : i <
 
   pub not_offered : o.0 ≡ false → offers_of (drop i os) ≡ offers_of (drop (i + 1) os)
   not_offered f = ap offers_of at ∙ both false f
-
-drop_past : {A : Type 0} (xs : List A) (i : ℕ) → length xs ≤ i → drop i xs ≡ []
-drop_past xs i h = no_length (drop i xs) (omega (arith, length-drop i xs))
-  where
-    no_length : {A : Type 0} (ys : List A) → length ys ≡ 0 → ys ≡ []
-    no_length [] e = refl
-    no_length (y ∷ ys) e = absurd (omega arith)
 
 pub no_more_offers : {A : Type 0} (os : List (Bool × A)) (i : ℕ) → length os ≤ i → offers_of (drop i os) ≡ []
 no_more_offers os i h = ap offers_of (drop_past os i h)

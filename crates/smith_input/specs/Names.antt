@@ -68,6 +68,10 @@ ReadsUrl max old new bytes url rest =
 abbrev pub is_among : List (List ℕ) → List ℕ → Bool
 is_among names text = list_any (λ name. bytes_eq name text) names
 
+-- A text that was read is made a name that is none of these.
+abbrev pub IsMadeNew : List (List ℕ) → List ℕ → List ℕ → Type 0
+IsMadeNew names text name = IsMadeUnique (is_among names) (length names) text name
+
 -- A set has these names, each once, and no others.
 pub record Holds {A : Type 0} (set : BTreeSet (String A)) (names : List (List ℕ)) : Type 0 where
   pub has : (q : List ℕ) → contains_text set q ≡ is_among names q
@@ -77,4 +81,4 @@ pub record Holds {A : Type 0} (set : BTreeSet (String A)) (names : List (List �
 pub record ReadsNew (max : ℕ) (names : List (List ℕ)) (bytes name rest : List ℕ) : Type 0 where
   pub text : List ℕ
   pub reads : ReadsKebab max bytes text rest
-  pub unique : IsMadeUnique (is_among names) (length names) text name
+  pub unique : IsMadeNew names text name

@@ -9,7 +9,10 @@ mod texts;
 mod unstructured;
 
 pub use error::Error;
-pub use names::{unique_kebab_string, unique_string, unique_url};
+pub use names::{
+    Labelled, TakenNames, new_kebab_string, new_string, unique_kebab_string, unique_string,
+    unique_url,
+};
 pub use offers::choose_offered;
 pub use texts::{arbitrary_bytes, limited_string};
 pub use unstructured::Unstructured;

@@ -1,16 +1,18 @@
 //! Names that are read, and are new to a set of names.
 
-ghost use Rattle.std.specs.Prelude.{◌≡◌, ◌<◌, ◌≤◌, ◌++◌, ℕ, List, false, length, string_bytes, IfOk, IfErr, OnErr};
+ghost use Rattle.std.specs.Prelude.{◌≡◌, ◌<◌, ◌≤◌, ◌++◌, ℕ, List, false, length, map, string_bytes, IfOk, IfErr, OnErr};
 ghost use Rattle.std.specs.BTreeSet.{contains_text};
 ghost use Rattle.smith_input.specs.Reading.{IsTail};
 ghost use Rattle.smith_input.specs.Texts.{ReadsText};
 ghost use Rattle.smith_input.specs.Kebab.{Kebab};
-ghost use Rattle.smith_input.specs.Names.{character, ReadsKebab, IsUniqueIn, ReadsUnique, ReadsUrl, GainsName};
+ghost use Rattle.smith_input.specs.Names.{character, is_among, ReadsKebab, IsMadeNew, ReadsNew, ReadsUnique, ReadsUrl, GainsName};
 ghost use Rattle.smith_input.specs.Script.{script_name};
 
 use crate::{Error, Unstructured, limited_string};
 use std::alloc::Global;
 use std::collections::BTreeSet;
+
+const HOST: &str = "https://example.com/";
 
 // The character of a choice among 37, where a word must begin or goes on.
 fn kebab_character(choice: u8, begins: bool) -> u8
@@ -32,9 +34,9 @@ fn kebab_string(alloc: Global, max: usize, u: &mut Unstructured) -> Result<Strin
     ensures memory { IfErr result (λ e. e ≡ Error.OutOfMemory) }
     ensures tail { IsTail u.new u.old }
 {
-    let mut name = String::new(alloc);
-    let mut begins = true;
     let count = u.int_in_range(0, max as u64);
+    let mut name = String::with_capacity(alloc, (count as usize).saturating_add(1))?;
+    let mut begins = true;
     for _place in 0..count {
         let character = kebab_character(u.choose_index(37) as u8, begins);
         begins = character == b'-';
@@ -46,19 +48,124 @@ fn kebab_string(alloc: Global, max: usize, u: &mut Unstructured) -> Result<Strin
     Ok(name)
 }
 
-// The name, with the digits of the set's size at its end while the set has it.
-fn made_unique(alloc: Global, name: String, names: &BTreeSet<String>) -> Result<String, Error>
-    ensures unique { IfOk result (λ unique. IsUniqueIn names.now (string_bytes name) (string_bytes unique)) }
+/// Names that there are. Public for the crates above alone.
+pub trait TakenNames {
+    ghost texts: { Self → List (List ℕ) };
+
+    /// Whether the name is one of them.
+    fn has_name(&self, name: &str) -> bool
+        ensures { result ≡ is_among (texts self.now) name.now };
+
+    /// How many there are.
+    fn name_count(&self) -> usize
+        ensures { result ≡ length (texts self.now) };
+}
+
+impl TakenNames for BTreeSet<String> {
+    ghost texts = { λ s. map string_bytes s.keys };
+
+    fn has_name(&self, name: &str) -> bool {
+        self.contains(name)
+    }
+
+    fn name_count(&self) -> usize {
+        self.len()
+    }
+}
+
+/// What has a name. Public for the crates above alone.
+pub trait Labelled {
+    ghost text: { Self → List ℕ };
+
+    /// The name.
+    fn label(&self) -> &str
+        ensures { result.now ≡ text self.now };
+}
+
+impl Labelled for String {
+    ghost text = { string_bytes };
+
+    fn label(&self) -> &str {
+        self.as_str()
+    }
+}
+
+impl<T> Labelled for (String, T) {
+    ghost text = { λ p. string_bytes p.0 };
+
+    fn label(&self) -> &str {
+        self.0.as_str()
+    }
+}
+
+// Has one of the items that name?
+fn has_label<T: Labelled>(items: &[T], name: &str) -> bool
+    ensures { result ≡ is_among (map T.text items.now) name.now }
+{
+    for item in items {
+        if item.label() == name {
+            return true;
+        }
+    }
+    false
+}
+
+impl<'a, T: Labelled> TakenNames for &'a [T] {
+    ghost texts = { λ s. map T.text s.now };
+
+    fn has_name(&self, name: &str) -> bool {
+        has_label(*self, name)
+    }
+
+    fn name_count(&self) -> usize {
+        self.len()
+    }
+}
+
+// The name, with the digits of the number of names at its end while it is one of them.
+fn made_unique<N: TakenNames>(alloc: Global, name: String, names: &N) -> Result<String, Error>
+    ensures unique { IfOk result (λ unique. IsMadeNew (N.texts names.now) (string_bytes name) (string_bytes unique)) }
     ensures kebab { IfOk result (λ unique. Kebab (string_bytes name) → Kebab (string_bytes unique)) }
     ensures memory { IfErr result (λ e. e ≡ Error.OutOfMemory) }
 {
-    // The set's size stays as it is here, so the same digits are appended each time.
     let mut unique = name;
-    while names.contains(unique.as_str()) {
-        let digits = names.len().to_string(alloc)?;
+    while names.has_name(unique.as_str()) {
+        let digits = names.name_count().to_string(alloc)?;
         unique.push_str(digits.as_str())?;
     }
     Ok(unique)
+}
+
+/// A text that is none of the names: one of at most `max` bytes is read, and while it is one of them, the decimal
+/// digits of their number are appended. The error is `OutOfMemory` alone. Public for the crates above alone.
+pub fn new_string<N: TakenNames>(
+    alloc: Global,
+    max: usize,
+    names: &N,
+    u: &mut Unstructured,
+) -> Result<String, Error>
+    ensures read { IfOk result (λ name. (text : List ℕ) × ReadsText max u.old text u.new
+        × IsMadeNew (N.texts names.now) text (string_bytes name)) }
+    ensures memory { IfErr result (λ e. e ≡ Error.OutOfMemory) }
+    ensures tail { IsTail u.new u.old }
+{
+    made_unique(alloc, limited_string(alloc, max, u)?, names)
+}
+
+/// A name in kebab case that is none of the names: one is read and made unique as by `unique_kebab_string`. The error is
+/// `OutOfMemory` alone. Public for the crates above alone.
+pub fn new_kebab_string<N: TakenNames>(
+    alloc: Global,
+    max: usize,
+    names: &N,
+    u: &mut Unstructured,
+) -> Result<String, Error>
+    ensures read { IfOk result (λ name. ReadsNew max (N.texts names.now) u.old (string_bytes name) u.new) }
+    ensures kebab { IfOk result (λ name. Kebab (string_bytes name)) }
+    ensures memory { IfErr result (λ e. e ≡ Error.OutOfMemory) }
+    ensures tail { IsTail u.new u.old }
+{
+    made_unique(alloc, kebab_string(alloc, max, u)?, names)
 }
 
 /// A text that was not in the set, and is in it then: one of at most `max` bytes is read, and while the set has
@@ -76,7 +183,7 @@ pub fn unique_string(
     ensures memory { IfErr result (λ e. e ≡ Error.OutOfMemory) }
     ensures tail { IsTail u.new u.old }
 {
-    let name = made_unique(alloc, limited_string(alloc, max, u)?, names)?;
+    let name = new_string(alloc, max, &*names, u)?;
     names.insert(name.clone()?)?;
     Ok(name)
 }
@@ -101,7 +208,7 @@ pub fn unique_kebab_string(
     ensures memory { IfErr result (λ e. e ≡ Error.OutOfMemory) }
     ensures tail { IsTail u.new u.old }
 {
-    let name = made_unique(alloc, kebab_string(alloc, max, u)?, names)?;
+    let name = new_kebab_string(alloc, max, &*names, u)?;
     names.insert(name.clone()?)?;
     Ok(name)
 }
@@ -120,8 +227,10 @@ pub fn unique_url(
     ensures memory { IfErr result (λ e. e ≡ Error.OutOfMemory) }
     ensures tail { IsTail u.new u.old }
 {
-    let path = made_unique(alloc, kebab_string(alloc, max, u)?, names)?;
-    let url = format!(in alloc; "https://example.com/{path}")?;
+    let path = new_kebab_string(alloc, max, &*names, u)?;
+    let mut url = String::with_capacity(alloc, HOST.len() + path.len())?;
+    url.push_str(HOST)?;
+    url.push_str(path.as_str())?;
     names.insert(path)?;
     Ok(url)
 }

@@ -25,6 +25,7 @@ use Rattle.smith_types.specs.Offers.{is_occupied, occupied, numbered, aliases_of
 use Rattle.smith_types.specs.MakingTypes.{Declares, SameOuter, with_aliased, with_exported}
 use Rattle.smith_scopes.specs.Scopes.{Contents, shown_scope, inward, last_of, scope_at, AddsType, AddsCoreType}
 use Rattle.smith_types.proofs.DeclarationsRead.{named_in, numbered_stands}
+use Rattle.smith_input.proofs.Rests.{drop_past}
 use Rattle.smith_scopes.proofs.Places.{place_stands, get_either, get_left, get_right}
 use Rattle.smith_scopes.proofs.Plain.{rest_from}
 use Rattle.smith_scopes.proofs.Stack.{map-reverse, opened_scope, split_scopes, length-inward, length-last, own_last, grown, grown_core}
@@ -130,19 +131,22 @@ module _ (scopes : List Contents) (i : ℕ) (h : i < length scopes) (so_far whol
       let f : is_occupied (shown_scope scope) ≡ false = ap (nat_lt 0) lt in
       from_here false f
 
+pub occupied_past : (scopes : List Contents) (i : ℕ) → length scopes ≤ i → [] ++ places is_occupied i (drop i (inward scopes)) ≡ occupied (inward scopes) → occupied (inward scopes) ≡ []
+occupied_past scopes i h e = sym e ∙ ap (places is_occupied i) (drop_past (inward scopes) i (omega (arith, h, length-inward scopes)))
+
 -- a choice among the counts of the scopes that have an entry
 pub scope_chosen : (scopes : List Contents) (counts b mid : List ℕ) (count : ℕ) → counts ≡ occupied (inward scopes) → (k : ℕ) × Reads (length counts) b k mid × (slice_get counts k ≡ Some count) → ReadsAmong (occupied (inward scopes)) b count mid
 scope_chosen scopes counts b mid count e (k, r, at) = record { place = k; reads = subst (λ cs. Reads (length cs) b k mid) e r; named = ap (λ cs. slice_get cs k) (sym e) ∙ at }
 
 -- where one of the scopes has an entry, there is one
-pub split_occupied : (counts : List ℕ) (scopes : List Scope) → counts ≡ occupied scopes → 0 < length counts → scopes ≡ own_of scopes ∷ outer_of scopes
-split_occupied counts [] e h = absurd (let l = ap length e in omega (arith, l, h))
-split_occupied counts (s ∷ ss) e h = refl
+pub split_occupied : (scopes : List Scope) → 0 < length (occupied (own_of scopes ∷ outer_of scopes)) → scopes ≡ own_of scopes ∷ outer_of scopes
+split_occupied [] h = absurd (omega (arith, h))
+split_occupied (s ∷ ss) h = refl
 
 -- the same, also where there is none
-pub occupied_count : (counts : List ℕ) (scopes : List Scope) → counts ≡ occupied scopes → length (occupied (own_of scopes ∷ outer_of scopes)) ≡ length counts
-occupied_count counts [] e = sym (ap length e)
-occupied_count counts (s ∷ ss) e = sym (ap length e)
+pub occupied_count : (scopes : List Scope) → length (occupied (own_of scopes ∷ outer_of scopes)) ≡ length (occupied scopes)
+occupied_count [] = refl
+occupied_count (s ∷ ss) = refl
 
 pub scopes_count : (scopes : List Contents) → 1 ≤ length scopes → length (own_of (inward scopes) ∷ outer_of (inward scopes)) ≡ length scopes
 scopes_count scopes h = sym (ap length (split_scopes (inward scopes) (omega (arith, h, length-inward scopes)))) ∙ length-inward scopes

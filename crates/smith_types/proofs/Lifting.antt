@@ -151,7 +151,7 @@ module _ {f : Function} {b : List ℕ} {s : Signature} {rest : List ℕ} (r : Re
 -- The same parameter by parameter, as the program reads them: whatever is read from here, all is read with the parameters so far.
 
 -- the names with one more at the end
-pub names_more : (so_far next : List Field) (x : Field) → next ≡ so_far ++ x ∷ [] → map (λ q. q.0) next ≡ map (λ q. q.0) so_far ++ x.0 ∷ []
+names_more : (so_far next : List Field) (x : Field) → next ≡ so_far ++ x ∷ [] → map (λ q. q.0) next ≡ map (λ q. q.0) so_far ++ x.0 ∷ []
 names_more so_far next x more = ap (map (λ q. q.0)) more ∙ map-append (λ q. q.0) so_far (x ∷ [])
 
 abbrev pub Onward : List ValType → List ℕ → ℕ → List ℕ → List Field → Type 0

@@ -1,7 +1,9 @@
 -- Loops over members: what they leave, how many they read, that they are determined, and what a script says of them.
-use Rattle.std.proofs.Common.{◌≡◌, ℕ, ◌+◌, ◌-◌, ◌<◌, ◌≤◌, ◌^◌, false, List, [], ◌∷◌, ◌++◌, map, length, refl, sym, ap, ◌∙◌, subst, arith, append-nil, append_assoc, length-append}
+use Rattle.std.proofs.Common.{◌≡◌, ℕ, ◌+◌, ◌-◌, ◌<◌, ◌≤◌, ◌^◌, false, List, [], ◌∷◌, ◌++◌, map, length, refl, sym, ap, ◌∙◌, subst, arith, append-nil, append_assoc, length-append, string_bytes}
 use Rattle.std.proofs.lemmas.List.{length-map, map-append, map-id}
 use Rattle.std.specs.List.{AllByRecursion}
+use Rattle.std.specs.Prelude.{String}
+use Rattle.std.specs.declared.alloc.Global.{Global}
 use Rattle.smith_input.specs.Loops.{Loop, after_all, Along}
 use Rattle.smith_input.specs.Script.{script_more, script_loop}
 use Rattle.smith_input.specs.Kebab.{Kebab}
@@ -12,6 +14,7 @@ use Rattle.smith_input.proofs.NewNames.{new_tail, new_unique, new_kebab, new_rea
 use Rattle.smith_input.proofs.ReadingLemmas.{tail_trans, tail_is}
 use Rattle.smith_types.specs.Made.{IsSpent, ReadsMember, ReadsMembers, ReadsNamed}
 use Rattle.smith_types.specs.Script.{script_members, script_label, AreShort}
+use Rattle.smith_syntax.specs.Signature.{named}
 use Rattle.smith_syntax.specs.WellFormed.{Named}
 use Rattle.smith_core_types.proofs.Same.{Same}
 use Rattle.smith_core_types.proofs.Names.{AreNew, new_distinct, distinct_new, none_before}
@@ -182,6 +185,17 @@ module _ {A : Type 0} (name : A → List ℕ) (Q : A → Type 0) where
 
   pub named_ready : (xs : List A) → Named (map name xs) → AreShort (map name xs) → AllByRecursion Q xs → Ready (IsReady name Q) [] xs
   named_ready xs n s q = each_ready xs [] n.0 s (distinct_new [] (map name xs) (none_before (map name xs)) n.1) q
+
+-- A name that is new among those of the program's members.
+names_of : {B : Type 0} (so_far : List (String Global × B)) → map (λ p. string_bytes p.0) so_far ≡ map (λ y. y.0) (map named so_far)
+names_of [] = refl
+names_of (p ∷ ps) = ap (λ ns. string_bytes p.0 ∷ ns) (names_of ps)
+
+pub new_named : {B : Type 0} (so_far : List (String Global × B)) {bytes name mid : List ℕ} → ReadsNew 100 (map (λ p. string_bytes p.0) so_far) bytes name mid → ReadsNew 100 (map (λ y. y.0) (map named so_far)) bytes name mid
+new_named so_far {bytes} {name} {mid} r = subst (λ ns. ReadsNew 100 ns bytes name mid) (names_of so_far) r
+
+pub is_named : {B : Type 0} {After : List ℕ → B → List ℕ → Type 0} (so_far : List (String Global × B)) {bytes name mid rest : List ℕ} {y : B} → ReadsNew 100 (map (λ p. string_bytes p.0) so_far) bytes name mid → After mid y rest → ReadsNamed After (map named so_far) bytes (name, y) rest
+is_named so_far {mid = mid} r a = record { mid = mid; name = new_named so_far r; after = a }
 
 -- a name, and what stands after it
 pub named_read : {B : Type 0} (After : List ℕ → B → List ℕ → Type 0) (f : B → List ℕ) (Q : B → Type 0) → ((x : B) (rest : List ℕ) → Q x → After (f x ++ rest) x rest)

@@ -15,10 +15,9 @@ ghost use Rattle.smith_types.specs.Offers.{lifted};
 ghost use Rattle.smith_types.specs.Script.{AreShort, script_lifted};
 
 use smith_format::ValType;
-use smith_input::{Error, Unstructured, unique_kebab_string};
+use smith_input::{Error, Unstructured, new_kebab_string};
 use smith_syntax::{ComponentValType, FuncType, PrimitiveValType};
 use std::alloc::Global;
-use std::collections::BTreeSet;
 use std::rc::Rc;
 
 static LIFTED_I32: [PrimitiveValType; 8] = [
@@ -129,10 +128,9 @@ fn lifted_params(
     ensures memory { IfErr result (λ e. e ≡ Error.OutOfMemory) }
     ensures tail { IsTail u.new u.old }
 {
-    let mut names = BTreeSet::new(alloc);
     let mut params = Vec::with_capacity(alloc, core.len())?;
     for ty in core {
-        let name = unique_kebab_string(alloc, 100, &mut names, u)?;
+        let name = new_kebab_string(alloc, 100, &params.as_slice(), u)?;
         let primitive = lifted_primitive(u, *ty);
         params.push((name, ComponentValType::Primitive(primitive)))?;
     }

@@ -48,12 +48,12 @@ fn has_reference(scopes: &Scopes) -> bool
 }
 
 // The counts of the scopes that have an entry, innermost first.
-pub(super) fn occupied_scopes(alloc: Global, scopes: &Scopes) -> Result<Vec<u32>, Error>
+fn occupied_scopes(alloc: Global, scopes: &Scopes) -> Result<Vec<u32>, Error>
     requires { length scopes.now ≤ 1002 }
     ensures counts { IfOk result (λ v. v.items ≡ occupied (inward scopes.now)) }
     ensures memory { IfErr result (λ e. e ≡ Error.OutOfMemory) }
 {
-    let mut counts = Vec::new(alloc);
+    let mut counts = Vec::with_capacity(alloc, scopes.depth())?;
     for count in 0..scopes.depth() as u32 {
         if scopes.len(count) + scopes.len_core(count) > 0 {
             counts.push(count)?;
@@ -63,11 +63,16 @@ pub(super) fn occupied_scopes(alloc: Global, scopes: &Scopes) -> Result<Vec<u32>
 }
 
 // Has one of the scopes an entry?
-fn has_entry(scopes: &Scopes, counts: &[u32]) -> bool
-    requires { counts.now ≡ occupied (inward scopes.now) }
+fn has_entry(scopes: &Scopes) -> bool
+    requires { length scopes.now ≤ 1002 }
     ensures { result ≡ nat_lt 0 (length (occupied (own_scope scopes.now ∷ outer_scopes scopes.now))) }
 {
-    counts.len() > 0
+    for count in 0..scopes.depth() as u32 {
+        if scopes.len(count) + scopes.len_core(count) > 0 {
+            return true;
+        }
+    }
+    false
 }
 
 // May one more scope nest?
@@ -82,16 +87,15 @@ pub(super) fn declaration_item(
     u: &mut Unstructured,
     config: &Config,
     scopes: &Scopes,
-    counts: &[u32],
 ) -> DeclarationItem
-    requires { counts.now ≡ occupied (inward scopes.now) }
+    requires { length scopes.now ≤ 1002 }
     ensures reads { ReadsAmong (declaration_items config.now (outer_scopes scopes.now) (own_scope scopes.now))
         u.old result u.new }
     ensures possible { HasTarget config.now (own_scope scopes.now) (outer_scopes scopes.now) result }
 {
     let offers = [
         (has_reference(scopes), DeclarationItem::Export),
-        (has_entry(scopes, counts), DeclarationItem::Alias),
+        (has_entry(scopes), DeclarationItem::Alias),
         (true, DeclarationItem::CoreType),
         (may_nest(config, scopes), DeclarationItem::Type),
     ];
@@ -212,12 +216,12 @@ fn add_aliased(scopes: &mut Scopes, alias: &Alias) -> Result<(), Error>
 
 // An outer alias, which keeps what it names.
 pub(super) fn outer_alias(
+    alloc: Global,
     u: &mut Unstructured,
     scopes: &mut Scopes,
-    counts: &[u32],
 ) -> Result<InstanceTypeDecl, Error>
-    requires places { counts.now ≡ occupied (inward scopes.old) }
-    requires some { 0 < length counts.now }
+    requires shallow { length scopes.old ≤ 1002 }
+    requires some { 0 < length (occupied (own_scope scopes.old ∷ outer_scopes scopes.old)) }
     requires types { length (own_scope scopes.old).types ≤ 100 }
     requires core_types { length (own_scope scopes.old).core_types ≤ 100 }
     ensures reads { IfOk result (λ d. ReadsAlias (inward scopes.old) u.old (full_instance_decl d) u.new) }
@@ -227,7 +231,8 @@ pub(super) fn outer_alias(
     ensures memory { IfErr result (λ e. e ≡ Error.OutOfMemory) }
     ensures tail { IsTail u.new u.old }
 {
-    let alias = alias_choice(u, scopes, counts)?;
+    let counts = occupied_scopes(alloc, scopes)?;
+    let alias = alias_choice(u, scopes, &counts)?;
     add_aliased(scopes, &alias)?;
     Ok(InstanceTypeDecl::Alias(alias))
 }

@@ -1,7 +1,7 @@
 //! Members of a type from the input: a loop that takes fuel.
 
-ghost use Rattle.std.specs.Prelude.{◌≡◌, ◌≤◌, ℕ, List, [], ◌∷◌, ◌++◌, map, refl, string_bytes, IfOk, IfErr};
-ghost use Rattle.smith_input.specs.Names.{Holds, ReadsNew};
+ghost use Rattle.std.specs.Prelude.{◌≡◌, ◌≤◌, ℕ, List, map, string_bytes, IfOk, IfErr};
+ghost use Rattle.smith_input.specs.Names.{ReadsNew};
 ghost use Rattle.smith_input.specs.Reading.{IsTail};
 ghost use Rattle.smith_syntax.specs.Entries.{Field, Case};
 ghost use Rattle.smith_types.specs.Made.{ReadsVal, ReadsMaybe, ReadsNamed, ReadsMembers};
@@ -12,11 +12,10 @@ ghost use Rattle.smith_syntax.specs.declared.types.ComponentValType.{ComponentVa
 
 use super::values::{maybe_value_type, value_type};
 use smith_core_types::burn;
-use smith_input::{Error, Unstructured, unique_kebab_string};
+use smith_input::{Error, Unstructured, new_kebab_string};
 use smith_scopes::Scopes;
 use smith_syntax::ComponentValType;
 use std::alloc::Global;
-use std::collections::BTreeSet;
 
 // What a loop reads, one after another. A member that has a name has one that none before it has.
 pub(super) trait Member: Drop {
@@ -24,25 +23,19 @@ pub(super) trait Member: Drop {
 
     ghost shown: { Self → Shown };
 
-    ghost names_of: { List Shown → List (List ℕ) };
-
     ghost reads_member: { Scope → List Shown → List ℕ → Shown → List ℕ → Type 0 };
 
-    // A member after those so far, whose names the set has.
+    // A member after those so far.
     fn read(
         alloc: Global,
         u: &mut Unstructured,
         scopes: &Scopes,
-        names: &mut BTreeSet<String>,
+        so_far: &[Self],
     ) -> Result<Self, Error>
-        ensures read { (so_far : List Shown) → Holds names.old (names_of so_far)
-            → IfOk result (λ m. reads_member (own_scope scopes.now) so_far u.old (shown m) u.new) }
-        ensures names { (so_far : List Shown) → Holds names.old (names_of so_far)
-            → IfOk result (λ m. Holds names.new (names_of (so_far ++ shown m ∷ []))) }
+        ensures read { IfOk result
+            (λ m. reads_member (own_scope scopes.now) (map shown so_far.now) u.old (shown m) u.new) }
         ensures memory { IfErr result (λ e. e ≡ Error.OutOfMemory) }
         ensures tail { IsTail u.new u.old };
-
-    ghost no_names: { names_of [] ≡ [] };
 }
 
 // The members of a type: at least `min` where the fuel lasts, and at most `max`.
@@ -60,7 +53,6 @@ pub(super) fn members<M: Member>(
     ensures memory { IfErr result (λ e. e ≡ Error.OutOfMemory) }
     ensures tail { IsTail u.new u.old }
 {
-    let mut names = BTreeSet::new(alloc);
     let mut members = Vec::new(alloc);
     for done in 0..max {
         if !u.more(done, min, max) {
@@ -70,7 +62,7 @@ pub(super) fn members<M: Member>(
         if *fuel == 0 {
             return Ok(members);
         }
-        let member = M::read(alloc, u, scopes, &mut names)?;
+        let member = M::read(alloc, u, scopes, &members)?;
         members.push(member)?;
     }
     Ok(members)
@@ -81,20 +73,16 @@ impl Member for ComponentValType {
 
     ghost shown = { λ v. v };
 
-    ghost names_of = { λ _. [] };
-
     ghost reads_member = { λ own so_far. ReadsVal own };
 
     fn read(
         _alloc: Global,
         u: &mut Unstructured,
         scopes: &Scopes,
-        _names: &mut BTreeSet<String>,
+        _so_far: &[ComponentValType],
     ) -> Result<ComponentValType, Error> {
         Ok(value_type(u, scopes))
     }
-
-    ghost no_names = { refl };
 }
 
 impl Member for String {
@@ -102,20 +90,16 @@ impl Member for String {
 
     ghost shown = { string_bytes };
 
-    ghost names_of = { λ ns. ns };
-
     ghost reads_member = { λ own. ReadsNew 100 };
 
     fn read(
         alloc: Global,
         u: &mut Unstructured,
         _scopes: &Scopes,
-        names: &mut BTreeSet<String>,
+        so_far: &[String],
     ) -> Result<String, Error> {
-        unique_kebab_string(alloc, 100, names, u)
+        new_kebab_string(alloc, 100, &so_far, u)
     }
-
-    ghost no_names = { refl };
 }
 
 impl Member for (String, ComponentValType) {
@@ -123,21 +107,17 @@ impl Member for (String, ComponentValType) {
 
     ghost shown = { λ f. named f };
 
-    ghost names_of = { map (λ f. f.0) };
-
     ghost reads_member = { λ own. ReadsNamed (ReadsVal own) };
 
     fn read(
         alloc: Global,
         u: &mut Unstructured,
         scopes: &Scopes,
-        names: &mut BTreeSet<String>,
+        so_far: &[(String, ComponentValType)],
     ) -> Result<(String, ComponentValType), Error> {
-        let name = unique_kebab_string(alloc, 100, names, u)?;
+        let name = new_kebab_string(alloc, 100, &so_far, u)?;
         Ok((name, value_type(u, scopes)))
     }
-
-    ghost no_names = { refl };
 }
 
 impl Member for (String, Option<ComponentValType>) {
@@ -145,19 +125,15 @@ impl Member for (String, Option<ComponentValType>) {
 
     ghost shown = { λ c. named c };
 
-    ghost names_of = { map (λ c. c.0) };
-
     ghost reads_member = { λ own. ReadsNamed (ReadsMaybe own) };
 
     fn read(
         alloc: Global,
         u: &mut Unstructured,
         scopes: &Scopes,
-        names: &mut BTreeSet<String>,
+        so_far: &[(String, Option<ComponentValType>)],
     ) -> Result<(String, Option<ComponentValType>), Error> {
-        let name = unique_kebab_string(alloc, 100, names, u)?;
+        let name = new_kebab_string(alloc, 100, &so_far, u)?;
         Ok((name, maybe_value_type(u, scopes)))
     }
-
-    ghost no_names = { refl };
 }

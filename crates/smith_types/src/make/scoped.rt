@@ -10,17 +10,16 @@ ghost use Rattle.smith_syntax.specs.Shown.{full_component_decl, full_instance_de
 ghost use Rattle.smith_syntax.specs.Scope.{empty_scope};
 ghost use Rattle.smith_syntax.specs.WellFormed.{export_of, import_of};
 ghost use Rattle.smith_types.specs.Declarations.{NamedExtern, NoImport, nothing_so_far};
-ghost use Rattle.smith_types.specs.Offers.{occupied};
 ghost use Rattle.smith_types.specs.Made.{Made, MadeDeclaration, MadeDeclarations};
 ghost use Rattle.smith_types.specs.MakingTypes.{Declares, HasAtMost, HasTarget, HoldsExterns, IsNameless};
 ghost use Rattle.smith_types.specs.MakingTypes.{MadeItem, MadeKind, SameOuter};
 ghost use Rattle.smith_types.specs.Offers.{type_kinds};
-ghost use Rattle.smith_scopes.specs.Scopes.{inward, own_scope, outer_scopes};
+ghost use Rattle.smith_scopes.specs.Scopes.{own_scope, outer_scopes};
 ghost use Rattle.smith_types.specs.declared.make.declarations.DeclarationItem.TheVariants as item;
 ghost use Rattle.smith_types.specs.declared.make.TypeKind.TheVariants as kind;
 
 use super::declarations::{
-    DeclarationItem, core_type_decl, declaration_item, export, import, occupied_scopes, outer_alias,
+    DeclarationItem, core_type_decl, declaration_item, export, import, outer_alias,
 };
 use super::defined::defined_type;
 use super::externs::ExternNames;
@@ -97,14 +96,12 @@ fn declaration_of(
     scopes: &mut Scopes,
     fuel: &mut u32,
     exports: &mut ExternNames,
-    counts: &[u32],
     item: DeclarationItem,
 ) -> Result<InstanceTypeDecl, Error>
     requires valtypes { valtypes.now ≡ configured config.now }
     requires consistent { IsConsistent config.now }
     requires shallow { length scopes.old ≤ 1002 }
     requires few { HasAtMost 100 (own_scope scopes.old) }
-    requires places { counts.now ≡ occupied (inward scopes.old) }
     requires possible { HasTarget config.now (own_scope scopes.old) (outer_scopes scopes.old) item }
     ensures made { (so_far : List NamedExtern) → HoldsExterns exports.old so_far → IfOk result (λ d.
         MadeItem config.now (own_scope scopes.old) (outer_scopes scopes.old) so_far item u.old fuel.old
@@ -119,7 +116,7 @@ fn declaration_of(
 {
     match item {
         DeclarationItem::Export => export(alloc, u, config, scopes, exports),
-        DeclarationItem::Alias => outer_alias(u, scopes, counts),
+        DeclarationItem::Alias => outer_alias(alloc, u, scopes),
         DeclarationItem::CoreType => core_type_decl(alloc, u, config, valtypes, scopes, fuel),
         DeclarationItem::Type => type_decl(alloc, u, config, valtypes, scopes, fuel),
     }
@@ -153,11 +150,8 @@ fn declaration(
     ensures memory { IfErr result (λ e. e ≡ Error.OutOfMemory) }
     ensures tail { IsTail u.new u.old }
 {
-    let counts = occupied_scopes(alloc, scopes)?;
-    let item = declaration_item(u, config, scopes, &counts);
-    declaration_of(
-        alloc, u, config, valtypes, scopes, fuel, exports, &counts, item,
-    )
+    let item = declaration_item(u, config, scopes);
+    declaration_of(alloc, u, config, valtypes, scopes, fuel, exports, item)
 }
 
 // A declaration of a component type: an import where it is asked for and possible, else one as in an instance type.

@@ -5,11 +5,10 @@ use Rattle.smith_core_types.specs.MadeCore.{no_fuel}
 use Rattle.smith_core_types.specs.MakingCore.{Turns, so_far}
 use Rattle.smith_syntax.specs.Scope.{own_of}
 use Rattle.smith_scopes.specs.Scopes.{inward}
-use Rattle.smith_core_types.proofs.MakingCore.{decl_names}
 use Rattle.smith_core_types.proofs.module_types.declarations.Goals as goal
 
 pub loop-done-init : goal.loop-done-init
-loop-done-init c = record { tail = tail_same _; few = omega (arith, c.requires.few); names = c.requires.names; kept = λ k. k; read = []; onward = begins _ _ _ _ _ _ [] refl }
+loop-done-init c = record { tail = tail_same _; few = omega (arith, c.requires.few); kept = λ k. k; read = []; onward = begins _ _ _ _ _ _ [] refl }
 
 pub returns-then-not-more-clause-reads : goal.returns-then-not-more-clause-reads
 returns-then-not-more-clause-reads c = (c.loop-done.invariant.read, stops _ _ _ _ _ _ _ _ _ _ _ _ c.if-not-more.true c.more.ensures c.loop-done.invariant.onward)
@@ -45,7 +44,6 @@ loop-done-preserved c =
     record {
       tail = tail_trans c.in_ok-turn.ensures.tail (tail_trans (more_tail c.more.ensures) v.tail);
       few = omega (arith, c.in_ok-turn.ensures.own, v.few);
-      names = decl_names _ _ _ _ _ _ _ one.1 v.names;
       kept = λ k. c.in_ok-turn.ensures.kept (v.kept k);
       read = v.read ++ one.0 ∷ [];
       onward = goes_on _ _ _ _ _ _ _ _ _ _ _ _ _ _ _ _ c.if-not-more.false c.more.ensures one.1 refl v.onward;

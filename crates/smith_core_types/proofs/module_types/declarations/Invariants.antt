@@ -1,13 +1,11 @@
-use Rattle.std.proofs.Common.{◌≤◌, ◌+◌, List, length, map}
+use Rattle.std.proofs.Common.{◌≤◌, ◌+◌, List, length}
 use Rattle.smith_input.specs.Reading.{IsTail}
 use Rattle.smith_input.proofs.Loops.{Onward}
 use Rattle.smith_syntax.specs.Entries.{ModuleDecl}
 use Rattle.smith_core_types.specs.MadeCore.{ModuleEnds, ReadsDecl}
 use Rattle.smith_core_types.specs.MakingCore.{Keeps, so_far}
-use Rattle.smith_syntax.specs.ModuleTypes.{HasNewNames}
 use Rattle.smith_syntax.specs.Scope.{own_of}
 use Rattle.smith_scopes.specs.Scopes.{inward}
-use Rattle.smith_syntax.specs.Shown.{shown_decl}
 use Rattle.smith_core_types.proofs.module_types.declarations.Given as goal
 
 -- Whatever the rest of the loop reads, the whole loop reads it after what was read.
@@ -17,7 +15,6 @@ invariant-loop-done l =
     record {
       tail : IsTail l.u l.fn.u;
       few : length l.declared.own.items ≤ 2 + l.done;
-      names : HasNewNames (map shown_decl l.declared.defs.items);
       kept : Keeps around.core_types l.fn.declared → Keeps around.core_types l.declared;
       read : List ModuleDecl;
       onward : Onward (ModuleEnds l.config around) (ReadsDecl l.config around) 0 100 (so_far l.fn.declared l.fn.fuel) l.fn.u read l.done (so_far l.declared l.fuel) l.u;

@@ -1,20 +1,12 @@
-use Rattle.std.proofs.Common.{map, sym, ap, ◌∙◌, subst}
-use Rattle.smith_input.specs.Names.{Holds}
+use Rattle.std.proofs.Common.{map, ap}
 use Rattle.smith_input.proofs.Loops.{stops, ends_early, goes_on, ends_full}
-use Rattle.smith_input.proofs.NewNames.{holds_none}
 use Rattle.smith_input.proofs.ReadingLemmas.{tail_same, tail_trans, more_tail}
 use Rattle.smith_scopes.proofs.Plain.{pushed}
 use Rattle.smith_types.proofs.Members.{starts, spends, has_read_as}
 use Rattle.smith_types.proofs.make.members.members.Goals as goal
 
 pub loop-done-init : goal.loop-done-init
-loop-done-init g c =
-    let none = ap (map g.M.Member.shown) c.new-members.ensures.items in
-    record {
-      tail = tail_same _;
-      names = subst (Holds c.new-names.result) (sym (ap g.M.Member.names_of none ∙ g.met.M.Member.no_names)) (holds_none _ c.new-names.ensures.empty c.new-names.ensures.len);
-      onward = starts _ _ none;
-    }
+loop-done-init g c = record { tail = tail_same _; onward = starts _ _ (ap (map g.M.Member.shown) c.new-members.ensures.items) }
 
 pub returns-then-not-more-clause-reads : goal.returns-then-not-more-clause-reads
 returns-then-not-more-clause-reads g c = stops _ _ _ _ _ _ _ _ _ _ _ _ c.if-not-more.true c.more.ensures c.loop-done.invariant.onward
@@ -28,10 +20,10 @@ loop-done-preserved g c =
     let so_far = map shown c.loop-done.members.items in
     let x = shown c.in_ok-member.member in
     let next = pushed shown c.loop-done.members.items c.push.new.self.items c.in_ok-member.member c.in_ok-push.ensures.items in
+    let read = rw c.deref.ensures.value at c.in_ok-member.ensures.read in
     record {
       tail = tail_trans c.in_ok-member.ensures.tail (tail_trans (more_tail c.more.ensures) c.loop-done.invariant.tail);
-      names = subst (λ ns. Holds c.read.new.names (g.M.Member.names_of ns)) (sym next) (c.in_ok-member.ensures.names so_far c.loop-done.invariant.names);
-      onward = goes_on _ _ _ _ _ _ so_far _ x _ _ _ _ _ _ _ c.if-not-more.false c.more.ensures (has_read_as _ _ x c.burn.ensures c.if-fuel-eq0.false (c.in_ok-member.ensures.read so_far c.loop-done.invariant.names) next) next c.loop-done.invariant.onward;
+      onward = goes_on _ _ _ _ _ _ so_far _ x _ _ _ _ _ _ _ c.if-not-more.false c.more.ensures (has_read_as _ _ x c.burn.ensures c.if-fuel-eq0.false read next) next c.loop-done.invariant.onward;
     }
 
 pub returns-clause-reads : goal.returns-clause-reads

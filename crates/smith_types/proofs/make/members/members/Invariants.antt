@@ -1,20 +1,18 @@
 use Rattle.std.proofs.Common.{ℕ, List, [], ◌++◌, map}
 use Rattle.smith_input.specs.Loops.{Loop}
-use Rattle.smith_input.specs.Names.{Holds}
 use Rattle.smith_input.specs.Reading.{IsTail}
 use Rattle.smith_types.specs.Made.{IsSpent, ReadsMember}
 use Rattle.smith_syntax.specs.Scope.{own_of}
 use Rattle.smith_scopes.specs.Scopes.{inward}
 use Rattle.smith_types.proofs.make.members.members.Given as goal
 
--- The set has the names so far, and whatever the rest of the loop reads, the whole loop reads it after what was read.
+-- Whatever the rest of the loop reads, the whole loop reads it after what was read.
 abbrev pub invariant-loop-done : goal.invariant-loop-done
 invariant-loop-done g l =
     let Item = ReadsMember (g.M.Member.reads_member (own_of (inward l.scopes))) in
     let so_far = map g.M.Member.shown l.members.items in
     record {
       tail : IsTail l.u l.fn.u;
-      names : Holds l.names (g.M.Member.names_of so_far);
       onward :
           (xs : List g.M.Member.Shown) (rest : List ℕ) (t : List g.M.Member.Shown × ℕ) → Loop IsSpent Item l.min l.max l.done (so_far, l.fuel) l.u xs rest t
           → Loop IsSpent Item l.min l.max 0 ([], l.fn.fuel) l.fn.u (so_far ++ xs) rest t;
