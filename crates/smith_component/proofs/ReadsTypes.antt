@@ -120,6 +120,7 @@ module _ (config : Config) (outer : List Scope) where
           → ReadsType config outer s (script_type x config config.max_type_size s outer ++ rest) x rest (with_type s x)
       one s x rest (formed, limits, lasts, small) =
           let fit : Fit (s ∷ outer) = record { many = omega (arith, shallow); each = (small, around) } in (
-            type_read config deep s outer config.max_type_size x rest (record { formed = formed; limits = limits; lasts = lasts; fit = fit; shallow = shallow }),
+            type_read config deep s outer config.max_type_size x rest
+                (record { formed = formed; limits = limits; lasts = lasts; fit = fit; shallow = shallow }),
             refl,
           )

@@ -1,5 +1,6 @@
 -- The bytes of a core module are bytes, and begin with the core preamble.
-use Rattle.std.proofs.Common.{◌≡◌, ℕ, zero, suc, ◌<◌, Bool, true, false, List, [], ◌∷◌, ◌++◌, length, refl, ap, sym, ◌∙◌, arith, Option, Some, None, string_bytes}
+use Rattle.std.proofs.Common.{◌≡◌, ℕ, zero, suc, ◌<◌, Bool, true, false, List, [], ◌∷◌, ◌++◌, length, refl, ap, sym, ◌∙◌, arith, Option, Some, None}
+use Rattle.std.proofs.Common.{string_bytes}
 use Rattle.std.specs.List.{AllByRecursion, slice_get, slice_range, zip}
 use Rattle.std.specs.declared.alloc.Global.{Global}
 use Rattle.std.specs.declared.string.String.{String}
@@ -16,7 +17,8 @@ use Rattle.smith_format.specs.declared.types.ValType.{ValType}
 use Rattle.smith_format.proofs.Piece.{parts_are}
 use Rattle.smith_core.specs.Module.{binary_order, section_id, is_written, last, start, contents, section, module_text}
 use Rattle.smith_core.specs.Preamble.{core_preamble}
-use Rattle.smith_core.specs.Segments.{expression, table, named_type, kind_byte, export, offset, functions_front, expressions_front, element_of, element, local, instructions, code_text, data_form, data_segment}
+use Rattle.smith_core.specs.Segments.{expression, table, named_type, kind_byte, export, offset, functions_front, expressions_front, element_of, element, local}
+use Rattle.smith_core.specs.Segments.{instructions, code_text, data_form, data_segment}
 use Rattle.smith_core.specs.SubTypes.{storage, field, composite, sub_prefix, sub_type, rec_type}
 use Rattle.smith_core.specs.declared.module.parts.ModuleParts.{ModuleParts}
 use Rattle.smith_core.specs.declared.module.sections.SectionKind.{SectionKind}
@@ -41,7 +43,9 @@ use Rattle.smith_core.specs.declared.module.types.StorageType.{StorageType}
 use Rattle.smith_core.specs.declared.module.types.StorageType.TheVariants.{I8, I16, Val}
 use Rattle.smith_core.specs.declared.module.types.SubType.{SubType}
 use Rattle.smith_format.proofs.TooLong.{small_raw}
-use Rattle.smith_core.proofs.BytesTypes.{AreBytes, are_none, are_some, are_byte, are_after, are_join, are_choice, are_u, are_s, are_raw, are_text, are_framed, are_sized, are_each, are_many, are_bit, are_core_val, are_ref_val, are_core_function, are_table_type, are_memory_type, are_global_type, are_tag_type, are_core_import}
+use Rattle.smith_core.proofs.BytesTypes.{AreBytes, are_none, are_some, are_byte, are_after, are_join, are_choice, are_u, are_s, are_raw, are_text, are_framed}
+use Rattle.smith_core.proofs.BytesTypes.{are_sized, are_each, are_many, are_bit, are_core_val, are_ref_val, are_core_function, are_table_type, are_memory_type}
+use Rattle.smith_core.proofs.BytesTypes.{are_global_type, are_tag_type, are_core_import}
 
 -- types
 are_storage : (t : StorageType) → AreBytes (storage t)

@@ -1,5 +1,6 @@
 -- Tables and globals, whose parts stand in two lists, and data segments.
-use Rattle.std.proofs.Common.{◌≡◌, ◌≢◌, ℕ, zero, suc, ◌+◌, ◌<◌, Bool, true, false, cond, nat_lt, List, [], ◌∷◌, length, get_or, Some, None, refl, ap, sym, ◌∙◌, subst, arith}
+use Rattle.std.proofs.Common.{◌≡◌, ◌≢◌, ℕ, zero, suc, ◌+◌, ◌<◌, Bool, true, false, cond, nat_lt, List, [], ◌∷◌, length, get_or, Some, None, refl, ap, sym, ◌∙◌}
+use Rattle.std.proofs.Common.{subst, arith}
 use Rattle.std.specs.List.{AllByRecursion, list_all, slice_get, zip}
 use Rattle.std.specs.declared.vec.Vec.{Vec}
 use Rattle.std.specs.declared.alloc.Global.{Global}
@@ -29,7 +30,8 @@ found (x ∷ xs) zero d e h = refl
 found (x ∷ xs) (suc i) d e h = found xs i d e (omega arith)
 
 -- the pair at an index of two lists of one length
-pub pair_at : {A B : Type 0} (xs : List A) (ys : List B) (i : ℕ) (d : A) (y : B) → length xs ≡ length ys → i < length ys → y ≡ get_or ys i y → (get_or xs i d, y) ≡ get_or (zip xs ys) i (get_or xs i d, y)
+pub pair_at : {A B : Type 0} (xs : List A) (ys : List B) (i : ℕ) (d : A) (y : B) → length xs ≡ length ys → i < length ys → y ≡ get_or ys i y
+    → (get_or xs i d, y) ≡ get_or (zip xs ys) i (get_or xs i d, y)
 pair_at {A} {B} xs ys i d y l h e =
     let x : A = get_or xs i d in
     sym (get_or-zip xs ys i (x, y) (omega arith) h ∙ ap (λ z. (z, get_or ys i y)) (found xs i x d (omega arith)) ∙ ap (λ z. (x, z)) (sym e))
@@ -48,7 +50,8 @@ module _ (ts : List GlobalType) (i : ℕ) (d : GlobalType) (h : i < length ts) w
   pub due_type : {e : Error} {a : Vec ℕ Global} (q : Piece) → IsDue e a (global_type (get_or ts i d)) → IsDue e a (named_type (slice_get ts i) ⊕ q)
   due_type {e} {a} q w = due_left q (subst (λ (p : Piece). IsDue e a p) (type_at ts i d h) w)
 
-  pub due_value : {e : Error} {a b : Vec ℕ Global} {q : Piece} → Gains a b (global_type (get_or ts i d)) → IsDue e b q → IsDue e a (named_type (slice_get ts i) ⊕ q)
+  pub due_value : {e : Error} {a b : Vec ℕ Global} {q : Piece} → Gains a b (global_type (get_or ts i d)) → IsDue e b q
+      → IsDue e a (named_type (slice_get ts i) ⊕ q)
   due_value {e} {a} {b} {q} g w = due_right (subst (λ (p : Piece). Gains a b p) (type_at ts i d h) g) w
 
   pub gains_global : {a b c : Vec ℕ Global} {q : Piece} → Gains a b (global_type (get_or ts i d)) → Gains b c q → Gains a c (named_type (slice_get ts i) ⊕ q)

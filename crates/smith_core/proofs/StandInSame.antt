@@ -1,5 +1,6 @@
 -- The bytes decide the module that stands for a generated one, up to the room of its lists: they decide its bytes, and what is left.
-use Rattle.std.proofs.Common.{◌≡◌, ℕ, suc, ◌+◌, ◌-◌, Bool, true, false, ◌&&◌, List, [], ◌∷◌, ◌++◌, map, length, take, drop, refl, sym, ap, ◌∙◌, subst, arith, append_assoc, length-append, nat_lt}
+use Rattle.std.proofs.Common.{◌≡◌, ℕ, suc, ◌+◌, ◌-◌, Bool, true, false, ◌&&◌, List, [], ◌∷◌, ◌++◌, map, length, take, drop, refl, sym, ap, ◌∙◌, subst, arith}
+use Rattle.std.proofs.Common.{append_assoc, length-append, nat_lt}
 use Rattle.std.proofs.lemmas.List.{drop_at}
 use Rattle.std.specs.List.{AllByRecursion, slice_range}
 use Rattle.std.specs.Prelude.{if◌then◌else◌}
@@ -61,7 +62,8 @@ module _ (config : Config) where
   ReadsShown s b f r z = ReadsFunction (configured config) (max_results config) b f r
 
   shown_read : (s : Unit {0}) (b : List ℕ) (t : SubType) (r : List ℕ) (z : Unit {0}) → ReadsSubType config s b t r z → ReadsShown s b (function_at t) r z
-  shown_read s b t r z i = subst (λ f. ReadsFunction (configured config) (max_results config) b f r) (sym (as_function_is t.composite_type i.function i.composite)) i.reads
+  shown_read s b t r z i = subst (λ f. ReadsFunction (configured config) (max_results config) b f r)
+      (sym (as_function_is t.composite_type i.function i.composite)) i.reads
 
 -- the types behind others, each in a group by itself
 one_group : (front ts : List SubType) (t : SubType) (at : ℕ) → length front ≡ at → rec_type (slice_range (front ++ t ∷ ts) at (at + 1)) ≡ sub_type t
@@ -74,7 +76,8 @@ groups_plain : (front ts all : List SubType) (at : ℕ) → front ++ ts ≡ all 
     → each (λ g. rec_type (slice_range all g.0 g.1)) (groups_from at ts) ≡ each plain (map function_at ts)
 groups_plain front [] all at e n h = refl
 groups_plain front (t ∷ ts) all at e n h =
-    let first : rec_type (slice_range all at (at + 1)) ≡ plain (function_at t) = ap (λ xs. rec_type (slice_range xs at (at + 1))) (sym e) ∙ (one_group front ts t at n ∙ h.0) in
+    let first : rec_type (slice_range all at (at + 1)) ≡ plain (function_at t) = ap (λ xs. rec_type (slice_range xs at (at + 1))) (sym e)
+    ∙ (one_group front ts t at n ∙ h.0) in
     let more = groups_plain (front ++ t ∷ []) ts all (at + 1) (append_assoc front (t ∷ []) ts ∙ e) (omega (arith, n, length-append front (t ∷ []))) h.1 in
     λ i. first i ⊕ more i
 
@@ -155,15 +158,20 @@ module _ (m : ModuleParts) (h : HasTypesAndMemories m) (all : AllByRecursion IsP
   text_is = ap (λ p. bytes core_preamble ⊕ p) (each_is binary_order)
 
 -- The bytes decide those of the module, and what is left.
-pub stand_in_same : {config : Config} {b : List ℕ} {m n : ModuleParts} {r q : List ℕ} → ReadsStandIn config b m r → ReadsStandIn config b n q → (module_text m ≡ module_text n) × (r ≡ q)
+pub stand_in_same : {config : Config} {b : List ℕ} {m n : ModuleParts} {r q : List ℕ} → ReadsStandIn config b m r → ReadsStandIn config b n q
+    → (module_text m ≡ module_text n) × (r ≡ q)
 stand_in_same {config} {b} {m} {n} {r} {q} x y =
     let F = ReadsShown config in
     let fs = loop_map function_at (shown_read config) 0 tt b m.types.items x.mid tt x.types in
     let gs = loop_map function_at (shown_read config) 0 tt b n.types.items y.mid tt y.types in
-    let types = loop_same {Item = F} (λ s c v p t w e f. absurd e) (λ s c k v p t w e i. e) (λ s c f g v p t w i j. let d = function_unique i j in (d.0, d.1, refl)) 0 tt b (map function_at m.types.items) (map function_at n.types.items) x.mid y.mid tt tt fs gs in
+    let types = loop_same {Item = F} (λ s c v p t w e f. absurd e) (λ s c k v p t w e i. e) (λ s c f g v p t w i j. let d = function_unique i j in
+    (d.0, d.1, refl)) 0 tt b (map function_at m.types.items) (map function_at n.types.items) x.mid y.mid tt tt fs gs in
     let M : List ℕ → Type 0 = λ z. Loop Never ReadsMemoryType config.min_memories config.max_memories 0 tt z m.memories.items r tt in
-    let memories = loop_same {Item = ReadsMemoryType} (λ s c v p t w e f. absurd e) (λ s c k v p t w e i. e) (λ s c f g v p t w i j. let d = memory_unique i j in (d.0, d.1, refl)) 0 tt y.mid m.memories.items n.memories.items r q tt tt (subst M types.1 x.memories) y.memories in
+    let memories = loop_same {Item = ReadsMemoryType} (λ s c v p t w e f. absurd e) (λ s c k v p t w e i. e)
+    (λ s c f g v p t w i j. let d = memory_unique i j in (d.0, d.1, refl)) 0 tt y.mid m.memories.items n.memories.items r q tt tt
+    (subst M types.1 x.memories) y.memories in
     let plain_m = loop_all IsPlain (is_plain config) 0 tt b m.types.items x.mid tt x.types in
     let plain_n = loop_all IsPlain (is_plain config) 0 tt b n.types.items y.mid tt y.types in
-    let same : stand_in_text (map function_at m.types.items) m.memories.items ≡ stand_in_text (map function_at n.types.items) n.memories.items = λ i. stand_in_text (types.0 i) (memories.0 i) in
+    let same : stand_in_text (map function_at m.types.items) m.memories.items ≡ stand_in_text (map function_at n.types.items) n.memories.items =
+    λ i. stand_in_text (types.0 i) (memories.0 i) in
     (text_is m x.parts plain_m ∙ (same ∙ sym (text_is n y.parts plain_n)), memories.1)

@@ -1,5 +1,6 @@
 -- Core modules that have no encoding.
-use Rattle.std.proofs.Common.{◌≡◌, ℕ, zero, suc, ◌^◌, ◌<◌, ◌≤◌, ◌⊎◌, inl, inr, ◌↔◌, Bool, true, false, List, [], ◌∷◌, length, refl, subst, sym, arith, Some, None, Option, string_bytes}
+use Rattle.std.proofs.Common.{◌≡◌, ℕ, zero, suc, ◌^◌, ◌<◌, ◌≤◌, ◌⊎◌, inl, inr, ◌↔◌, Bool, true, false, List, [], ◌∷◌, length, refl, subst, sym, arith, Some}
+use Rattle.std.proofs.Common.{None, Option, string_bytes}
 use Rattle.std.specs.Prelude.{if◌then◌else◌}
 use Rattle.std.specs.List.{slice_get, slice_range, zip}
 use Rattle.std.specs.declared.vec.Vec.{Vec}
@@ -18,16 +19,22 @@ use Rattle.smith_format.specs.declared.types.RefType.{RefType}
 use Rattle.smith_format.specs.declared.types.TableType.{TableType}
 use Rattle.smith_format.specs.declared.types.ValType.{ValType}
 use Rattle.smith_format.proofs.Sizes.{u_none_where}
-use Rattle.smith_format.proofs.TooLong.{join_none, after_bytes, before_bytes, bytes_none, each_none_where, many_none_where, many_none_among, name_none, raw_none, framed_none_where, sized_none_by, ref_none_where, val_none_where, function_none_where, table_none, memory_none, global_none, tag_none, entity_none_where}
+use Rattle.smith_format.proofs.TooLong.{join_none, after_bytes, before_bytes, bytes_none, each_none_where, many_none_where, many_none_among, name_none}
+use Rattle.smith_format.proofs.TooLong.{raw_none, framed_none_where, sized_none_by, ref_none_where, val_none_where, function_none_where, table_none}
+use Rattle.smith_format.proofs.TooLong.{memory_none, global_none, tag_none, entity_none_where}
 use Rattle.smith_core.specs.Module.{binary_order, section_id, is_written, last, start, contents, section, module_text}
 use Rattle.smith_core.specs.Preamble.{core_preamble}
 use Rattle.smith_core.specs.Parts.{Agree, NamesTable}
-use Rattle.smith_core.specs.Segments.{expression, table, named_type, kind_byte, export, offset, functions_front, expressions_front, element, element_of, local, instructions, code_text, data_form, data_segment}
+use Rattle.smith_core.specs.Segments.{expression, table, named_type, kind_byte, export, offset, functions_front, expressions_front, element, element_of, local}
+use Rattle.smith_core.specs.Segments.{instructions, code_text, data_form, data_segment}
 use Rattle.smith_core.specs.SubTypes.{storage, field, composite, sub_prefix, sub_type, rec_type}
-use Rattle.smith_core.specs.TooLong.{IndexTooLong, StorageTooLong, CompositeTooLong, SubTypeTooLong, CoreImportTooLong, TableTooLong, NamedTooLong, ExportTooLong, OffsetTooLong, PlaceTooLong, ItemsTooLong, ElementTooLong, InstructionsTooLong, CodeTooLong, DataFormTooLong, DataTooLong, SectionTooLong, ModuleTooLong}
+use Rattle.smith_core.specs.TooLong.{IndexTooLong, StorageTooLong, CompositeTooLong, SubTypeTooLong, CoreImportTooLong, TableTooLong, NamedTooLong}
+use Rattle.smith_core.specs.TooLong.{ExportTooLong, OffsetTooLong, PlaceTooLong, ItemsTooLong, ElementTooLong, InstructionsTooLong, CodeTooLong}
+use Rattle.smith_core.specs.TooLong.{DataFormTooLong, DataTooLong, SectionTooLong, ModuleTooLong}
 use Rattle.smith_core.specs.declared.module.parts.ModuleParts.{ModuleParts}
 use Rattle.smith_core.specs.declared.module.sections.SectionKind.{SectionKind}
-use Rattle.smith_core.specs.declared.module.sections.SectionKind.TheVariants.{Types, Imports, Functions, Tables, Memories, Tags, Globals, Exports, Start, Elements, DataCount, Code, Data}
+use Rattle.smith_core.specs.declared.module.sections.SectionKind.TheVariants.{Types, Imports, Functions, Tables, Memories, Tags, Globals, Exports, Start}
+use Rattle.smith_core.specs.declared.module.sections.SectionKind.TheVariants.{Elements, DataCount, Code, Data}
 use Rattle.smith_core.specs.declared.module.segments.Code.{Code as Body}
 use Rattle.smith_core.specs.declared.module.segments.DataSegment.{DataSegment}
 use Rattle.smith_core.specs.declared.module.segments.DataSegmentKind.{DataSegmentKind}

@@ -8,7 +8,8 @@ use Rattle.smith_core.specs.Segments.{expression, table, named_type, export, ele
 use Rattle.smith_core.specs.SubTypes.{rec_type}
 use Rattle.smith_core.specs.declared.module.parts.ModuleParts.{ModuleParts}
 use Rattle.smith_core.specs.declared.module.sections.SectionKind.{SectionKind}
-use Rattle.smith_core.specs.declared.module.sections.SectionKind.TheVariants.{Types, Imports, Functions, Tables, Memories, Tags, Globals, Exports, Start, Elements, DataCount, Code, Data}
+use Rattle.smith_core.specs.declared.module.sections.SectionKind.TheVariants.{Types, Imports, Functions, Tables, Memories, Tags, Globals, Exports, Start}
+use Rattle.smith_core.specs.declared.module.sections.SectionKind.TheVariants.{Elements, DataCount, Code, Data}
 
 -- the sections in the order in which a module has them
 abbrev pub binary_order : List SectionKind

@@ -18,7 +18,8 @@ use Rattle.smith_core.specs.Module.{binary_order, is_written, last, contents}
 use Rattle.smith_core.specs.Segments.{local, instructions}
 use Rattle.smith_core.specs.declared.module.parts.ModuleParts.{ModuleParts}
 use Rattle.smith_core.specs.declared.module.sections.SectionKind.{SectionKind}
-use Rattle.smith_core.specs.declared.module.sections.SectionKind.TheVariants.{Types, Imports, Functions, Tables, Memories, Tags, Globals, Exports, Start, Elements, DataCount, Code, Data}
+use Rattle.smith_core.specs.declared.module.sections.SectionKind.TheVariants.{Types, Imports, Functions, Tables, Memories, Tags, Globals, Exports, Start}
+use Rattle.smith_core.specs.declared.module.sections.SectionKind.TheVariants.{Elements, DataCount, Code, Data}
 use Rattle.smith_core.specs.declared.module.segments.Code.{Code as Body}
 use Rattle.smith_core.specs.declared.module.segments.DataSegment.{DataSegment}
 use Rattle.smith_core.specs.declared.module.segments.DataSegmentKind.{DataSegmentKind}

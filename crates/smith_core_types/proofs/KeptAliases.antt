@@ -15,12 +15,14 @@ use Rattle.smith_syntax.specs.declared.core_types.ModuleTypeDef.{ModuleTypeDef}
 use Rattle.smith_syntax.specs.declared.core_types.ModuleTypeDef.TheVariants as decl
 use Rattle.smith_core_types.proofs.ModuleTypes.{own_more}
 
-each_more : (around : List CoreEntry) (own : List Function) (ds : List ModuleTypeDef) (d : ModuleTypeDef) → KeepEach around own ds → KeepsNamed around (own_after around own (map shown_decl ds)) d → KeepEach around own (ds ++ d ∷ [])
+each_more : (around : List CoreEntry) (own : List Function) (ds : List ModuleTypeDef) (d : ModuleTypeDef) → KeepEach around own ds
+    → KeepsNamed around (own_after around own (map shown_decl ds)) d → KeepEach around own (ds ++ d ∷ [])
 each_more around own [] d all one = (one, tt)
 each_more around own (e ∷ ds) d all one = (all.0, each_more around (own ++ adds around own (shown_decl e)) ds d all.1 one)
 
 -- one declaration more, where these are the own types, and those after it
-pub keep_more : (around : List CoreEntry) (own later : List Function) (ds more : List ModuleTypeDef) (d : ModuleTypeDef) → KeepEach around [] ds × (own_after around [] (map shown_decl ds) ≡ own) → KeepsNamed around own d
+pub keep_more : (around : List CoreEntry) (own later : List Function) (ds more : List ModuleTypeDef) (d : ModuleTypeDef)
+    → KeepEach around [] ds × (own_after around [] (map shown_decl ds) ≡ own) → KeepsNamed around own d
     → later ≡ own ++ adds around own (shown_decl d) → more ≡ ds ++ d ∷ [] → KeepEach around [] more × (own_after around [] (map shown_decl more) ≡ later)
 keep_more around own later ds more d (all, types) one owns e = (
   subst (KeepEach around []) (sym e) (each_more around [] ds d all (subst (λ z. KeepsNamed around z d) (sym types) one)),
@@ -32,13 +34,15 @@ keep_more around own later ds more d (all, types) one owns e = (
 
 -- What the outer aliases keep is what they name.
 
-one_kept : (around : List CoreEntry) (own : List Function) (d : ModuleTypeDef) → KeepsNamed around own d → kept_decl d ≡ flat_map (λ a. option_to_list (aliased around own a.0 a.1)) (alias_of (shown_decl d))
+one_kept : (around : List CoreEntry) (own : List Function) (d : ModuleTypeDef) → KeepsNamed around own d
+    → kept_decl d ≡ flat_map (λ a. option_to_list (aliased around own a.0 a.1)) (alias_of (shown_decl d))
 one_kept around own (decl.FuncDef f) k = refl
 one_kept around own (decl.Import i) k = refl
 one_kept around own (decl.OuterAlias count i ty) k = sym (ap (λ o. option_to_list o ++ []) k)
 one_kept around own (decl.Export name e) k = refl
 
-pub kept_named : (around : List CoreEntry) (own : List Function) (ds : List ModuleTypeDef) → KeepEach around own ds → flat_map kept_decl ds ≡ functions_named around own (map shown_decl ds)
+pub kept_named : (around : List CoreEntry) (own : List Function) (ds : List ModuleTypeDef) → KeepEach around own ds
+    → flat_map kept_decl ds ≡ functions_named around own (map shown_decl ds)
 kept_named around own [] k = refl
 kept_named around own (d ∷ ds) k = λ i. one_kept around own d k.0 i ++ kept_named around (own ++ adds around own (shown_decl d)) ds k.1 i
 

@@ -1,5 +1,6 @@
 -- What the program keeps of a module type that it makes, step by step.
-use Rattle.std.proofs.Common.{◌≡◌, ℕ, zero, suc, ◌+◌, ◌-◌, ◌<◌, ◌≤◌, Bool, true, false, List, [], ◌∷◌, ◌++◌, map, length, refl, sym, ap, ◌∙◌, arith, append-nil, length-append, bytes_eq, ◌||◌, get_or}
+use Rattle.std.proofs.Common.{◌≡◌, ℕ, zero, suc, ◌+◌, ◌-◌, ◌<◌, ◌≤◌, Bool, true, false, List, [], ◌∷◌, ◌++◌, map, length, refl, sym, ap, ◌∙◌, arith, append-nil}
+use Rattle.std.proofs.Common.{length-append, bytes_eq, ◌||◌, get_or}
 use Rattle.std.proofs.Math.ListN.{drop}
 use Rattle.std.proofs.lemmas.Bool.{false≢true}
 use Rattle.std.proofs.lemmas.List.{length-map, map-append}
@@ -66,7 +67,8 @@ imports_more from d ds =
     ∙ map-append (λ i. i.1) (filter (λ i. bytes_eq i.0 from) (import_of d)) (filter (λ i. bytes_eq i.0 from) (flat_map import_of ds))
     ∙ ap (λ z. mine z ++ names_from from ds) (sym (append-nil (import_of d)))
 
-taken_more : (imported : Bool) (from : List ℕ) (d : ModuleDecl) (ds : List ModuleDecl) → names_taken imported from (d ∷ ds) ≡ names_taken imported from (d ∷ []) ++ names_taken imported from ds
+taken_more : (imported : Bool) (from : List ℕ) (d : ModuleDecl) (ds : List ModuleDecl)
+    → names_taken imported from (d ∷ ds) ≡ names_taken imported from (d ∷ []) ++ names_taken imported from ds
 taken_more true from d ds = imports_more from d ds
 taken_more false from d ds = exports_more d ds
 
@@ -92,7 +94,8 @@ module _ (imported : Bool) (from : List ℕ) (defs : List ModuleTypeDef) (i : �
     Here = names_taken imported from (shown_decl d ∷ [])
 
     split : Later i ≡ Here ++ Later (i + 1)
-    split = ap (λ z. names_taken imported from (map shown_decl z)) (rest_at defs i d h e) ∙ taken_more imported from (shown_decl d) (map shown_decl (drop (i + 1) defs))
+    split = ap (λ z. names_taken imported from (map shown_decl z)) (rest_at defs i d h e)
+        ∙ taken_more imported from (shown_decl d) (map shown_decl (drop (i + 1) defs))
 
     among : (q : List ℕ) → is_among (Later i) q ≡ (is_among Here q || is_among (Later (i + 1)) q)
     among q = ap (λ ns. is_among ns q) split ∙ among_append Here (Later (i + 1)) q
@@ -118,14 +121,16 @@ choices_count around own =
     let g : ℕ → ℕ × ℕ = λ i. (0, i) in
     omega (arith, length-append (map f here) (map g (indexes own)), length-map here f, length-map (indexes own) g, length-indexes 0 own)
 
-pub choice_around : (around : Scope) (own : List Function) (k i : ℕ) → slice_get (places is_core_func 0 around.core_types) k ≡ Some i → slice_get (choices_among around own) k ≡ Some (1, i)
+pub choice_around : (around : Scope) (own : List Function) (k i : ℕ) → slice_get (places is_core_func 0 around.core_types) k ≡ Some i
+    → slice_get (choices_among around own) k ≡ Some (1, i)
 choice_around around own k i h =
     let here = places is_core_func 0 around.core_types in
     let f : ℕ → ℕ × ℕ = λ i. (1, i) in
     get_left (map f here) (map (λ i. (0, i)) (indexes own)) k (omega (arith, length-map here f, slice_get_within here k i h))
     ∙ (slice_get-map f here k ∙ ap (option_map f) h)
 
-pub choice_own : (around : Scope) (own : List Function) (k j : ℕ) → k ≡ length (places is_core_func 0 around.core_types) + j → j < length own → slice_get (choices_among around own) k ≡ Some (0, j)
+pub choice_own : (around : Scope) (own : List Function) (k j : ℕ) → k ≡ length (places is_core_func 0 around.core_types) + j → j < length own
+    → slice_get (choices_among around own) k ≡ Some (0, j)
 choice_own around own k j e h =
     let here = places is_core_func 0 around.core_types in
     let f : ℕ → ℕ × ℕ = λ i. (1, i) in
@@ -133,10 +138,12 @@ choice_own around own k j e h =
     get_right (map f here) (map g (indexes own)) k j (omega (arith, length-map here f, e))
     ∙ (slice_get-map g (indexes own) j ∙ ap (option_map g) (own_at own j h))
 
-pub alias_adds : (around : List CoreEntry) (own : List Function) (count i : ℕ) (f : Function) → aliased around own count i ≡ Some f → adds around own (aliases count i) ≡ f ∷ []
+pub alias_adds : (around : List CoreEntry) (own : List Function) (count i : ℕ) (f : Function) → aliased around own count i ≡ Some f
+    → adds around own (aliases count i) ≡ f ∷ []
 alias_adds around own count i f e = ap (λ o. option_to_list o ++ []) e
 
-pub same_state : {a b : List Function} {c d : List ModuleDecl} (f g : ℕ) → a ≡ b → c ≡ d → f ≡ g → let x : SoFar = record { own = a; decls = c; fuel = f } in let y : SoFar = record { own = b; decls = d; fuel = g } in x ≡ y
+pub same_state : {a b : List Function} {c d : List ModuleDecl} (f g : ℕ) → a ≡ b → c ≡ d → f ≡ g → let x : SoFar = record { own = a; decls = c; fuel = f } in
+    let y : SoFar = record { own = b; decls = d; fuel = g } in x ≡ y
 same_state f g p q r = λ i. record { own = p i; decls = q i; fuel = r i }
 
 -- what a core function type of the innermost scope is
@@ -157,7 +164,8 @@ around_at scopes k p h =
     let g = is_func_of f.0 f.2 in
     record { func = g.0; at = f.1 ∙ ap Some g.1; within = omega (arith, slice_get_within es p f.0 f.1, length-last-core scopes) }
 
-pub shown_at : (scopes : List Contents) (p : ℕ) (t : CoreType) → slice_get (last_of scopes).core_types p ≡ Some t → slice_get (own_of (inward scopes)).core_types p ≡ Some (shown_core t)
+pub shown_at : (scopes : List Contents) (p : ℕ) (t : CoreType) → slice_get (last_of scopes).core_types p ≡ Some t
+    → slice_get (own_of (inward scopes)).core_types p ≡ Some (shown_core t)
 shown_at scopes p t h =
     ap (λ s. slice_get s.core_types p) (own_last scopes) ∙ (slice_get-map shown_core (last_of scopes).core_types p ∙ ap (option_map shown_core) h)
 
@@ -182,7 +190,8 @@ pub same_item : {A : Type 0} {x y : A} → Some x ≡ Some y → x ≡ y
 same_item e = cc
 
 -- a turn, by what it adds
-pub turns_of : (config : Config) (around : Scope) (s : SoFar) (i : ModuleItem) (b mid rest : List ℕ) (t : SoFar) → 0 < s.fuel - 1 → ReadsAmong (module_items config around s) b i mid → (more : Bool) → Adds config around s i mid more rest t → Turns config around s b more rest t
+pub turns_of : (config : Config) (around : Scope) (s : SoFar) (i : ModuleItem) (b mid rest : List ℕ) (t : SoFar) → 0 < s.fuel - 1
+    → ReadsAmong (module_items config around s) b i mid → (more : Bool) → Adds config around s i mid more rest t → Turns config around s b more rest t
 turns_of config around s i b mid rest t lasts c true (d, r, e) = (d, record { lasts = lasts; item = i; mid = mid; choice = c; reads = r; state = e })
 turns_of config around s item.Import b mid rest t lasts c false ((from, name, r, none), e) = no_import lasts c r none e
 turns_of config around s item.Export b mid rest t lasts c false ((name, r, none), e) = no_export lasts c r none e

@@ -13,8 +13,10 @@ use Rattle.smith_format.specs.declared.types.MemoryType.{MemoryType}
 use Rattle.smith_format.proofs.CoreReading.{limits_formed}
 use Rattle.smith_syntax.specs.Entries.{ModuleDecl, declares, exports}
 use Rattle.smith_scopes.proofs.Plain.{both_true}
-use Rattle.smith_core_types.specs.MadeCore.{Declared, undeclared, with_front, allows_function, allows_type, ReadsLine, not_allowed, declined, taken, MemoryLine, ReadsFunctionLine, ReadsFront}
-use Rattle.smith_syntax.specs.ModuleTypes.{realloc, free, is_export, is_of_kind, is_type, is_function_of, after_memory, after_function, after_realloc, after_free, after_front}
+use Rattle.smith_core_types.specs.MadeCore.{Declared, undeclared, with_front, allows_function, allows_type, ReadsLine, not_allowed, declined, taken, MemoryLine}
+use Rattle.smith_core_types.specs.MadeCore.{ReadsFunctionLine, ReadsFront}
+use Rattle.smith_syntax.specs.ModuleTypes.{realloc, free, is_export, is_of_kind, is_type, is_function_of, after_memory, after_function, after_realloc}
+use Rattle.smith_syntax.specs.ModuleTypes.{after_free, after_front}
 
 -- the shapes: with an export of a memory or without, with a function that allocates or without, with one that frees or without
 
@@ -62,35 +64,42 @@ module _ (config : Config) (fuel : ℕ) where
   memory_is b rest t (declined m c k e) = (None, e, tt)
   memory_is b rest t (taken may c k (m, r, i) e) = (Some m, e ∙ ap (with_front (undeclared fuel)) i, (memory_formed r, ltb-true 0 config.max_memories may))
 
-  with_realloc_is : (m : Option MemoryType) → with_front (front_state fuel m false false) (declares realloc ∷ exports (codes "canonical_abi_realloc") (Func 0) ∷ []) ≡ front_state fuel m true false
+  with_realloc_is : (m : Option MemoryType) → with_front (front_state fuel m false false)
+      (declares realloc ∷ exports (codes "canonical_abi_realloc") (Func 0) ∷ []) ≡ front_state fuel m true false
   with_realloc_is None = refl
   with_realloc_is (Some m) = refl
 
-  realloc_allowed : (m : Option MemoryType) → (allows_function config (front_state fuel m false false) && allows_type config (front_state fuel m false false)) ≡ true → (0 < config.max_funcs) × (0 < config.max_types)
+  realloc_allowed : (m : Option MemoryType) → (allows_function config (front_state fuel m false false) && allows_type config (front_state fuel m false false))
+      ≡ true → (0 < config.max_funcs) × (0 < config.max_types)
   realloc_allowed None e = both_below 0 0 config.max_funcs config.max_types e
   realloc_allowed (Some m) e = both_below 0 0 config.max_funcs config.max_types e
 
-  realloc_is : (m : Option MemoryType) (b rest : List ℕ) (t : Declared) → ReadsFunctionLine config (codes "canonical_abi_realloc") realloc (front_state fuel m false false) b t rest
+  realloc_is : (m : Option MemoryType) (b rest : List ℕ) (t : Declared)
+      → ReadsFunctionLine config (codes "canonical_abi_realloc") realloc (front_state fuel m false false) b t rest
       → (r : Bool) × (t ≡ front_state fuel m r false) × (r ≡ true → (0 < config.max_funcs) × (0 < config.max_types))
   realloc_is m b rest t (not_allowed n e) = (false, e, λ f. absurd (false≢true f))
   realloc_is m b rest t (declined a c k e) = (false, e, λ f. absurd (false≢true f))
   realloc_is m b rest t (taken may c k l e) = (true, e ∙ (ap (with_front (front_state fuel m false false)) l.1 ∙ with_realloc_is m), λ f. realloc_allowed m may)
 
-  with_free_is : (m : Option MemoryType) (r : Bool) → with_front (front_state fuel m r false) (declares free ∷ exports (codes "canonical_abi_free") (Func (length (front_own r false))) ∷ []) ≡ front_state fuel m r true
+  with_free_is : (m : Option MemoryType) (r : Bool) → with_front (front_state fuel m r false)
+      (declares free ∷ exports (codes "canonical_abi_free") (Func (length (front_own r false))) ∷ []) ≡ front_state fuel m r true
   with_free_is None false = refl
   with_free_is None true = refl
   with_free_is (Some m) false = refl
   with_free_is (Some m) true = refl
 
-  free_allowed : (m : Option MemoryType) (r : Bool) → (allows_function config (front_state fuel m r false) && allows_type config (front_state fuel m r false)) ≡ true
+  free_allowed : (m : Option MemoryType) (r : Bool) → (allows_function config (front_state fuel m r false) && allows_type config (front_state fuel m r false))
+      ≡ true
       → (length (front_own r false) < config.max_funcs) × (length (front_own r false) < config.max_types)
   free_allowed None false e = both_below 0 0 config.max_funcs config.max_types e
   free_allowed None true e = both_below 1 1 config.max_funcs config.max_types e
   free_allowed (Some m) false e = both_below 0 0 config.max_funcs config.max_types e
   free_allowed (Some m) true e = both_below 1 1 config.max_funcs config.max_types e
 
-  free_is : (m : Option MemoryType) (r : Bool) (b rest : List ℕ) (t : Declared) → ReadsFunctionLine config (codes "canonical_abi_free") free (front_state fuel m r false) b t rest
-      → (f : Bool) × (t ≡ front_state fuel m r f) × (f ≡ true → (length (front_own r false) < config.max_funcs) × (length (front_own r false) < config.max_types))
+  free_is : (m : Option MemoryType) (r : Bool) (b rest : List ℕ) (t : Declared)
+      → ReadsFunctionLine config (codes "canonical_abi_free") free (front_state fuel m r false) b t rest
+      → (f : Bool) × (t ≡ front_state fuel m r f) × (f ≡ true
+      → (length (front_own r false) < config.max_funcs) × (length (front_own r false) < config.max_types))
   free_is m r b rest t (not_allowed n e) = (false, e, λ f. absurd (false≢true f))
   free_is m r b rest t (declined a c k e) = (false, e, λ f. absurd (false≢true f))
   free_is m r b rest t (taken may c k l e) = (true, e ∙ (ap (with_front (front_state fuel m r false)) l.1 ∙ with_free_is m r), λ f. free_allowed m r may)
@@ -125,7 +134,11 @@ function_less name f i (d ∷ e ∷ ds) = two_less (is_type f d && is_export nam
 
 free_less : (ds : List ModuleDecl) → length (after_free ds) ≤ length ds
 free_less ds =
-    omega (arith, function_less (codes "canonical_abi_realloc") realloc 0 ds, function_less (codes "canonical_abi_free") free (if nat_lt (length (after_realloc ds)) (length ds) then 1 else 0) (after_realloc ds))
+    omega (
+      arith,
+      function_less (codes "canonical_abi_realloc") realloc 0 ds,
+      function_less (codes "canonical_abi_free") free (if nat_lt (length (after_realloc ds)) (length ds) then 1 else 0) (after_realloc ds),
+    )
 
 -- both functions, and the one that frees alone
 abbrev after_free_at : ℕ → Bool → List ModuleDecl → List ModuleDecl
@@ -133,7 +146,8 @@ after_free_at i r more = after_function (codes "canonical_abi_free") free i (fre
 
 both_functions : (more : List ModuleDecl) → length (after_free (realloc_decls true ++ free_decls true true ++ more)) ≤ length more
 both_functions more =
-    let below : nat_lt (length (free_decls true true ++ more)) (length (realloc_decls true ++ free_decls true true ++ more)) ≡ true = lt-ltb _ _ (omega arith) in
+    let below : nat_lt (length (free_decls true true ++ more)) (length (realloc_decls true ++ free_decls true true ++ more)) ≡ true =
+    lt-ltb _ _ (omega arith) in
     subst (λ b. length (after_free_at (if b then 1 else 0) true more) ≤ length more) (sym below) (omega arith)
 
 one_function : (more : List ModuleDecl) → length (after_free (free_decls false true ++ more)) ≤ length more

@@ -1,5 +1,6 @@
 -- Module types that grow by one declaration after another: that they are well formed, and within the limits.
-use Rattle.std.proofs.Common.{◌≡◌, ℕ, ◌+◌, ◌<◌, ◌≤◌, Bool, true, false, List, [], ◌∷◌, ◌++◌, map, length, refl, sym, ap, ◌∙◌, subst, arith, append-nil, length-append, bytes_eq}
+use Rattle.std.proofs.Common.{◌≡◌, ℕ, ◌+◌, ◌<◌, ◌≤◌, Bool, true, false, List, [], ◌∷◌, ◌++◌, map, length, refl, sym, ap, ◌∙◌, subst, arith, append-nil}
+use Rattle.std.proofs.Common.{length-append, bytes_eq}
 use Rattle.std.proofs.lemmas.Bool.{false≢true}
 use Rattle.std.proofs.lemmas.Grind.{flat_map-append}
 use Rattle.std.proofs.lemmas.List.{map-append}
@@ -25,7 +26,8 @@ use Rattle.smith_syntax.specs.CoreLimits.{EntityLimits}
 use Rattle.smith_syntax.specs.Entries.{CoreEntry, ModuleDecl, imports, declares, aliases, exports}
 use Rattle.smith_core_types.specs.MadeCore.{Declared}
 use Rattle.smith_core_types.specs.MakingCore.{own_after}
-use Rattle.smith_syntax.specs.ModuleTypes.{adds, aliased, alias_of, func_of, import_of, export_of, declared_in, type_count, entities_of, is_of_kind, count_of, names_from, export_names, HasNewNames, realloc, free}
+use Rattle.smith_syntax.specs.ModuleTypes.{adds, aliased, alias_of, func_of, import_of, export_of, declared_in, type_count, entities_of, is_of_kind, count_of}
+use Rattle.smith_syntax.specs.ModuleTypes.{names_from, export_names, HasNewNames, realloc, free}
 use Rattle.smith_syntax.specs.WellFormed.{FormedDecl, FormedDecls}
 use Rattle.smith_core_types.proofs.ModuleFronts.{front_own, front_decls, IsFront}
 use Rattle.smith_core_types.proofs.Names.{AreNew, new_distinct, new_more}
@@ -35,19 +37,23 @@ use Rattle.smith_core_types.proofs.Names.{AreNew, new_distinct, new_more}
 snoc_flat : {A : Type 0} (f : ModuleDecl → List A) (ds : List ModuleDecl) (d : ModuleDecl) → flat_map f (ds ++ d ∷ []) ≡ flat_map f ds ++ f d
 snoc_flat f ds d = flat_map-append f ds (d ∷ []) ∙ ap (λ xs. flat_map f ds ++ xs) (append-nil (f d))
 
-pub names_more : (from : List ℕ) (ds : List ModuleDecl) (d : ModuleDecl) → names_from from (ds ++ d ∷ []) ≡ names_from from ds ++ map (λ i. i.1) (filter (λ i. bytes_eq i.0 from) (import_of d))
+pub names_more : (from : List ℕ) (ds : List ModuleDecl) (d : ModuleDecl)
+    → names_from from (ds ++ d ∷ []) ≡ names_from from ds ++ map (λ i. i.1) (filter (λ i. bytes_eq i.0 from) (import_of d))
 names_more from ds d =
     ap (λ is. map (λ i. i.1) (filter (λ i. bytes_eq i.0 from) is)) (snoc_flat import_of ds d)
-    ∙ (ap (map (λ i. i.1)) (filter-append (λ i. bytes_eq i.0 from) (flat_map import_of ds) (import_of d)) ∙ map-append (λ i. i.1) (filter (λ i. bytes_eq i.0 from) (flat_map import_of ds)) (filter (λ i. bytes_eq i.0 from) (import_of d)))
+    ∙ (ap (map (λ i. i.1)) (filter-append (λ i. bytes_eq i.0 from) (flat_map import_of ds) (import_of d))
+    ∙ map-append (λ i. i.1) (filter (λ i. bytes_eq i.0 from) (flat_map import_of ds)) (filter (λ i. bytes_eq i.0 from) (import_of d)))
 
 pub exported_more : (ds : List ModuleDecl) (d : ModuleDecl) → export_names (ds ++ d ∷ []) ≡ export_names ds ++ map (λ x. x.0) (export_of d)
 exported_more ds d = ap (map (λ x. x.0)) (snoc_flat export_of ds d) ∙ map-append (λ x. x.0) (flat_map export_of ds) (export_of d)
 
-pub own_more : (around : List CoreEntry) (own : List Function) (ds : List ModuleDecl) (d : ModuleDecl) → own_after around own (ds ++ d ∷ []) ≡ own_after around own ds ++ adds around (own_after around own ds) d
+pub own_more : (around : List CoreEntry) (own : List Function) (ds : List ModuleDecl) (d : ModuleDecl)
+    → own_after around own (ds ++ d ∷ []) ≡ own_after around own ds ++ adds around (own_after around own ds) d
 own_more around own [] d = refl
 own_more around own (e ∷ ds) d = own_more around (own ++ adds around own e) ds d
 
-decls_more : (around : List CoreEntry) (own : List Function) (ds : List ModuleDecl) (d : ModuleDecl) → FormedDecls around own ds → FormedDecl around (own_after around own ds) d → FormedDecls around own (ds ++ d ∷ [])
+decls_more : (around : List CoreEntry) (own : List Function) (ds : List ModuleDecl) (d : ModuleDecl) → FormedDecls around own ds
+    → FormedDecl around (own_after around own ds) d → FormedDecls around own (ds ++ d ∷ [])
 decls_more around own [] d all one = (one, tt)
 decls_more around own (e ∷ ds) d all one = (all.0, decls_more around (own ++ adds around own e) ds d all.1 one)
 
@@ -68,24 +74,29 @@ pub record Judged (around : List CoreEntry) (own : List Function) (ds : List Mod
 none_more : (names : List (List ℕ)) → AreNew [] names → AreNew [] (names ++ [])
 none_more names a = subst (AreNew []) (sym (append-nil names)) a
 
-import_cases : (m n : List ℕ) (e : EntityType) (from : List ℕ) (ds : List ModuleDecl) → is_among (names_from m ds) n ≡ false → AreNew [] (names_from from ds) → (b : Bool) → bytes_eq m from ≡ b
+import_cases : (m n : List ℕ) (e : EntityType) (from : List ℕ) (ds : List ModuleDecl) → is_among (names_from m ds) n ≡ false → AreNew [] (names_from from ds)
+    → (b : Bool) → bytes_eq m from ≡ b
     → AreNew [] (names_from from ds ++ map (λ (i : List ℕ × List ℕ × EntityType). i.1) (if b then (m, n, e) ∷ [] else []))
-import_cases m n e from ds new a true same = new_more [] (names_from from ds) n a (subst (λ z. is_among (names_from z ds) n ≡ false) ((bytes_eq-Decides m from).0 same) new)
+import_cases m n e from ds new a true same = new_more [] (names_from from ds) n a
+    (subst (λ z. is_among (names_from z ds) n ≡ false) ((bytes_eq-Decides m from).0 same) new)
 import_cases m n e from ds new a false same = none_more (names_from from ds) a
 
-pub import_new : (ds : List ModuleDecl) (d : ModuleDecl) (from : List ℕ) → HasNewName ds d → AreNew [] (names_from from ds) → AreNew [] (names_from from ds ++ map (λ i. i.1) (filter (λ i. bytes_eq i.0 from) (import_of d)))
+pub import_new : (ds : List ModuleDecl) (d : ModuleDecl) (from : List ℕ) → HasNewName ds d → AreNew [] (names_from from ds)
+    → AreNew [] (names_from from ds ++ map (λ i. i.1) (filter (λ i. bytes_eq i.0 from) (import_of d)))
 import_new ds (imports m n e) from new a = import_cases m n e from ds new a (bytes_eq m from) refl
 import_new ds (declares f) from new a = none_more (names_from from ds) a
 import_new ds (aliases count i) from new a = none_more (names_from from ds) a
 import_new ds (exports n e) from new a = none_more (names_from from ds) a
 
-pub export_new : (ds : List ModuleDecl) (d : ModuleDecl) → HasNewName ds d → AreNew [] (export_names ds) → AreNew [] (export_names ds ++ map (λ x. x.0) (export_of d))
+pub export_new : (ds : List ModuleDecl) (d : ModuleDecl) → HasNewName ds d → AreNew [] (export_names ds)
+    → AreNew [] (export_names ds ++ map (λ x. x.0) (export_of d))
 export_new ds (imports m n e) new a = none_more (export_names ds) a
 export_new ds (declares f) new a = none_more (export_names ds) a
 export_new ds (aliases count i) new a = none_more (export_names ds) a
 export_new ds (exports n e) new a = new_more [] (export_names ds) n a new
 
-pub judged_more : (around : List CoreEntry) (own : List Function) (ds : List ModuleDecl) (d : ModuleDecl) → Judged around own ds → FormedDecl around own d → HasNewName ds d → Judged around (own ++ adds around own d) (ds ++ d ∷ [])
+pub judged_more : (around : List CoreEntry) (own : List Function) (ds : List ModuleDecl) (d : ModuleDecl) → Judged around own ds → FormedDecl around own d
+    → HasNewName ds d → Judged around (own ++ adds around own d) (ds ++ d ∷ [])
 judged_more around own ds d j one new = record {
   formed = decls_more around [] ds d j.formed (subst (λ z. FormedDecl around z d) j.types one);
   types = ap (λ z. z ++ adds around z d) j.types ∙ sym (own_more around [] ds d);
@@ -94,17 +105,40 @@ judged_more around own ds d j one new = record {
 }
 
 pub judged_names : (around : List CoreEntry) (own : List Function) (ds : List ModuleDecl) → Judged around own ds → HasNewNames ds
-judged_names around own ds j = record { imported = λ from. new_distinct [] (names_from from ds) (j.imported from); exported = new_distinct [] (export_names ds) j.exported }
+judged_names around own ds j = record {
+  imported = λ from. new_distinct [] (names_from from ds) (j.imported from);
+  exported = new_distinct [] (export_names ds) j.exported;
+}
 
 pub judged_front : (around : List CoreEntry) (m : Option MemoryType) (r f : Bool) → IfSome m FormedMemory → Judged around (front_own r f) (front_decls m r f)
 judged_front around None false false h = record { formed = tt; types = refl; imported = λ from. tt; exported = tt }
 judged_front around None true false h = record { formed = (tt, ((realloc, refl), tt)); types = refl; imported = λ from. tt; exported = (refl, tt) }
 judged_front around None false true h = record { formed = (tt, ((free, refl), tt)); types = refl; imported = λ from. tt; exported = (refl, tt) }
-judged_front around None true true h = record { formed = (tt, ((realloc, refl), (tt, ((free, refl), tt)))); types = refl; imported = λ from. tt; exported = (refl, (refl, tt)) }
+judged_front around None true true h = record {
+  formed = (tt, ((realloc, refl), (tt, ((free, refl), tt))));
+  types = refl;
+  imported = λ from. tt;
+  exported = (refl, (refl, tt));
+}
 judged_front around (Some m) false false h = record { formed = (h, tt); types = refl; imported = λ from. tt; exported = (refl, tt) }
-judged_front around (Some m) true false h = record { formed = (h, (tt, ((realloc, refl), tt))); types = refl; imported = λ from. tt; exported = (refl, (refl, tt)) }
-judged_front around (Some m) false true h = record { formed = (h, (tt, ((free, refl), tt))); types = refl; imported = λ from. tt; exported = (refl, (refl, tt)) }
-judged_front around (Some m) true true h = record { formed = (h, (tt, ((realloc, refl), (tt, ((free, refl), tt))))); types = refl; imported = λ from. tt; exported = (refl, (refl, (refl, tt))) }
+judged_front around (Some m) true false h = record {
+  formed = (h, (tt, ((realloc, refl), tt)));
+  types = refl;
+  imported = λ from. tt;
+  exported = (refl, (refl, tt));
+}
+judged_front around (Some m) false true h = record {
+  formed = (h, (tt, ((free, refl), tt)));
+  types = refl;
+  imported = λ from. tt;
+  exported = (refl, (refl, tt));
+}
+judged_front around (Some m) true true h = record {
+  formed = (h, (tt, ((realloc, refl), (tt, ((free, refl), tt)))));
+  types = refl;
+  imported = λ from. tt;
+  exported = (refl, (refl, (refl, tt)));
+}
 
 -- within the limits
 
@@ -159,23 +193,32 @@ module _ (config : Config) where
     few : length own + length (adds around own d) ≤ config.max_types
     counts : (k : ExportKind) → count_of k ds + length (filter (is_of_kind k) (entities_in d)) ≤ limit_of config k
 
-  count_cases : (e : EntityType) (ds : List ModuleDecl) (k : ExportKind) → count_of (kind_of e) ds < limit_of config (kind_of e) → count_of k ds ≤ limit_of config k → (b : Bool) → kinds.eq (kind_of e) k ≡ b → count_of k ds + length (if b then e ∷ [] else []) ≤ limit_of config k
+  count_cases : (e : EntityType) (ds : List ModuleDecl) (k : ExportKind) → count_of (kind_of e) ds < limit_of config (kind_of e)
+      → count_of k ds ≤ limit_of config k → (b : Bool) → kinds.eq (kind_of e) k ≡ b → count_of k ds + length (if b then e ∷ [] else []) ≤ limit_of config k
   count_cases e ds k room few true same = let here = subst (λ z. count_of z ds < limit_of config z) (same_kind (kind_of e) k same) room in omega (arith, here)
   count_cases e ds k room few false same = omega (arith, few)
 
   module _ (around : List CoreEntry) (own : List Function) (ds : List ModuleDecl) (w : Within own ds) where
-    entity_adds : (d : ModuleDecl) (e : EntityType) → func_of d ≡ [] → adds around own d ≡ [] → alias_of d ≡ [] → entities_in d ≡ e ∷ [] → EntityFits config ds e → Adds around own ds d
+    entity_adds : (d : ModuleDecl) (e : EntityType) → func_of d ≡ [] → adds around own d ≡ [] → alias_of d ≡ [] → entities_in d ≡ e ∷ []
+        → EntityFits config ds e → Adds around own ds d
     entity_adds d e no_func no_adds no_alias one fits = record {
       functions = subst (AllByRecursion (FormedFunction (configured config) (max_results config))) (sym no_func) tt;
       values = subst (AllByRecursion (EntityLimits config)) (sym one) (fits.0, tt);
       types = omega (arith, ap length no_func, ap length no_adds, ap length no_alias);
       few = omega (arith, w.few, ap length no_adds);
-      counts = λ k. subst (λ es. count_of k ds + length (filter (is_of_kind k) es) ≤ limit_of config k) (sym one) (count_cases e ds k fits.1 (w.counts k) (kinds.eq (kind_of e) k) refl);
+      counts = λ k. subst (λ es. count_of k ds + length (filter (is_of_kind k) es) ≤ limit_of config k) (sym one)
+          (count_cases e ds k fits.1 (w.counts k) (kinds.eq (kind_of e) k) refl);
     }
 
     decl_adds : (d : ModuleDecl) → DeclFits config around own ds d → Adds around own ds d
     decl_adds (imports m n e) fits = entity_adds (imports m n e) e refl refl refl refl fits
-    decl_adds (declares f) fits = record { functions = (fits.0, tt); values = tt; types = refl; few = omega (arith, fits.1); counts = λ k. omega (arith, w.counts k) }
+    decl_adds (declares f) fits = record {
+      functions = (fits.0, tt);
+      values = tt;
+      types = refl;
+      few = omega (arith, fits.1);
+      counts = λ k. omega (arith, w.counts k);
+    }
     decl_adds (aliases count i) fits =
         let one : length (adds around own (aliases count i)) ≡ 1 = ap (λ o. length (option_to_list o ++ [])) fits.0.1 in
         record { functions = tt; values = tt; types = one; few = omega (arith, fits.1, one); counts = λ k. omega (arith, w.counts k) }
@@ -186,15 +229,18 @@ module _ (config : Config) where
         let entities : entities_of (ds ++ d ∷ []) ≡ entities_of ds ++ entities_in d = snoc_flat entities_in ds d in
         let long = length-append own (adds around own d) in
         record {
-          functions = subst (AllByRecursion (FormedFunction (configured config) (max_results config))) (sym (snoc_flat func_of ds d)) (all_append _ (declared_in ds) (func_of d) w.functions a.functions);
-          values = subst (AllByRecursion (EntityLimits config)) (sym entities) (all_append (EntityLimits config) (entities_of ds) (entities_in d) w.values a.values);
+          functions = subst (AllByRecursion (FormedFunction (configured config) (max_results config))) (sym (snoc_flat func_of ds d))
+              (all_append _ (declared_in ds) (func_of d) w.functions a.functions);
+          values = subst (AllByRecursion (EntityLimits config)) (sym entities)
+              (all_append (EntityLimits config) (entities_of ds) (entities_in d) w.values a.values);
           types = let t = ap length (snoc_flat func_of ds d) ∙ length-append (flat_map func_of ds) (func_of d) in
               let u = ap length (snoc_flat alias_of ds d) ∙ length-append (flat_map alias_of ds) (alias_of d) in
               let v = w.types in omega (arith, t, u, v, a.types, long);
           few = omega (arith, a.few, long);
           counts = λ k.
               let c = ap (λ es. length (filter (is_of_kind k) es)) entities
-              ∙ (ap length (filter-append (is_of_kind k) (entities_of ds) (entities_in d)) ∙ length-append (filter (is_of_kind k) (entities_of ds)) (filter (is_of_kind k) (entities_in d))) in omega (arith, c, a.counts k);
+              ∙ (ap length (filter-append (is_of_kind k) (entities_of ds) (entities_in d))
+              ∙ length-append (filter (is_of_kind k) (entities_of ds)) (filter (is_of_kind k) (entities_in d))) in omega (arith, c, a.counts k);
         }
 
     pub within_more : (d : ModuleDecl) → DeclFits config around own ds d → Within (own ++ adds around own d) (ds ++ d ∷ [])
@@ -211,35 +257,52 @@ module _ (config : Config) where
   one_result false = omega arith
 
   realloc_fits : FormedFunction (configured config) (max_results config) realloc
-  realloc_fits = record { few_params = omega arith; few_results = one_result config.multi_value_enabled; params = (has_i32, (has_i32, (has_i32, (has_i32, tt)))); results = (has_i32, tt) }
+  realloc_fits = record {
+    few_params = omega arith;
+    few_results = one_result config.multi_value_enabled;
+    params = (has_i32, (has_i32, (has_i32, (has_i32, tt))));
+    results = (has_i32, tt);
+  }
 
   free_fits : FormedFunction (configured config) (max_results config) free
   free_fits = record { few_params = omega arith; few_results = omega arith; params = (has_i32, (has_i32, (has_i32, tt))); results = tt }
 
   -- a function type, and the export of a function
-  within_function : (own : List Function) (ds : List ModuleDecl) (name : List ℕ) (f : Function) (i : ℕ) → Within own ds → FormedFunction (configured config) (max_results config) f → length own < config.max_types → count_of kind.Func (ds ++ declares f ∷ []) < config.max_funcs
+  within_function : (own : List Function) (ds : List ModuleDecl) (name : List ℕ) (f : Function) (i : ℕ) → Within own ds
+      → FormedFunction (configured config) (max_results config) f → length own < config.max_types
+      → count_of kind.Func (ds ++ declares f ∷ []) < config.max_funcs
       → Within ((own ++ f ∷ []) ++ []) ((ds ++ declares f ∷ []) ++ exports name (Func i) ∷ [])
-  within_function own ds name f i w fits types funcs = within_more [] (own ++ f ∷ []) (ds ++ declares f ∷ []) (within_more [] own ds w (declares f) (fits, types)) (exports name (Func i)) (tt, funcs)
+  within_function own ds name f i w fits types funcs = within_more [] (own ++ f ∷ []) (ds ++ declares f ∷ [])
+      (within_more [] own ds w (declares f) (fits, types)) (exports name (Func i)) (tt, funcs)
 
-  front_memory : (m : Option MemoryType) → IfSome m (λ m. FormedMemory m × (0 < config.max_memories)) → Within (front_own false false) (front_decls m false false)
+  front_memory : (m : Option MemoryType) → IfSome m (λ m. FormedMemory m × (0 < config.max_memories))
+      → Within (front_own false false) (front_decls m false false)
   front_memory None h = within_none
   front_memory (Some m) h = within_more [] [] [] within_none (exports (codes "memory") (Memory m)) (tt, h.1)
 
-  front_realloc : (m : Option MemoryType) (r : Bool) → (r ≡ true → (0 < config.max_funcs) × (0 < config.max_types)) → Within (front_own false false) (front_decls m false false) → Within (front_own r false) (front_decls m r false)
+  front_realloc : (m : Option MemoryType) (r : Bool) → (r ≡ true → (0 < config.max_funcs) × (0 < config.max_types))
+      → Within (front_own false false) (front_decls m false false) → Within (front_own r false) (front_decls m r false)
   front_realloc None false h w = w
   front_realloc None true h w = within_function [] [] (codes "canonical_abi_realloc") realloc 0 w realloc_fits (h refl).1 (h refl).0
   front_realloc (Some m) false h w = w
-  front_realloc (Some m) true h w = within_function [] (front_decls (Some m) false false) (codes "canonical_abi_realloc") realloc 0 w realloc_fits (h refl).1 (h refl).0
+  front_realloc (Some m) true h w = within_function [] (front_decls (Some m) false false) (codes "canonical_abi_realloc") realloc 0 w realloc_fits (h refl).1
+      (h refl).0
 
-  front_free : (m : Option MemoryType) (r f : Bool) → (f ≡ true → (length (front_own r false) < config.max_funcs) × (length (front_own r false) < config.max_types)) → Within (front_own r false) (front_decls m r false) → Within (front_own r f) (front_decls m r f)
+  front_free : (m : Option MemoryType) (r f : Bool) → (f ≡ true
+      → (length (front_own r false) < config.max_funcs) × (length (front_own r false) < config.max_types)) → Within (front_own r false) (front_decls m r false)
+      → Within (front_own r f) (front_decls m r f)
   front_free None false false h w = w
   front_free None true false h w = w
   front_free (Some m) false false h w = w
   front_free (Some m) true false h w = w
   front_free None false true h w = within_function [] [] (codes "canonical_abi_free") free 0 w free_fits (h refl).1 (h refl).0
-  front_free None true true h w = within_function (realloc ∷ []) (front_decls None true false) (codes "canonical_abi_free") free 1 w free_fits (h refl).1 (h refl).0
-  front_free (Some m) false true h w = within_function [] (front_decls (Some m) false false) (codes "canonical_abi_free") free 0 w free_fits (h refl).1 (h refl).0
-  front_free (Some m) true true h w = within_function (realloc ∷ []) (front_decls (Some m) true false) (codes "canonical_abi_free") free 1 w free_fits (h refl).1 (h refl).0
+  front_free None true true h w = within_function (realloc ∷ []) (front_decls None true false) (codes "canonical_abi_free") free 1 w free_fits (h refl).1
+      (h refl).0
+  front_free (Some m) false true h w = within_function [] (front_decls (Some m) false false) (codes "canonical_abi_free") free 0 w free_fits (h refl).1
+      (h refl).0
+  front_free (Some m) true true h w = within_function (realloc ∷ []) (front_decls (Some m) true false) (codes "canonical_abi_free") free 1 w free_fits
+      (h refl).1 (h refl).0
 
-  pub within_front : {fuel : ℕ} {s : Declared} → (front : IsFront config fuel s) → Within (front_own front.reallocs front.frees) (front_decls front.memory front.reallocs front.frees)
+  pub within_front : {fuel : ℕ} {s : Declared} → (front : IsFront config fuel s)
+      → Within (front_own front.reallocs front.frees) (front_decls front.memory front.reallocs front.frees)
   within_front x = front_free x.memory x.reallocs x.frees x.has_free (front_realloc x.memory x.reallocs x.has_realloc (front_memory x.memory x.has_memory))

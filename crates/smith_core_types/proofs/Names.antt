@@ -26,17 +26,22 @@ differ false h = refl
 -- one of the names before is none of the new ones
 apart : (before ns : List (List ℕ)) (q : List ℕ) → is_among before q ≡ true → AreNew before ns → AllByRecursion (λ n. bytes_eq q n ≡ false) ns
 apart before [] q h a = tt
-apart before (n ∷ ns) q h a =
-    (differ (bytes_eq q n) (λ e. false≢true (sym (sym h ∙ (ap (is_among before) ((bytes_eq-Decides q n).0 e) ∙ a.0)))), apart (before ++ n ∷ []) ns q (among_more before n q ∙ or_second (bytes_eq n q) (is_among before q) h) a.1)
+apart before (n ∷ ns) q h a = (
+  differ (bytes_eq q n) (λ e. false≢true (sym (sym h ∙ (ap (is_among before) ((bytes_eq-Decides q n).0 e) ∙ a.0)))),
+  apart (before ++ n ∷ []) ns q (among_more before n q ∙ or_second (bytes_eq n q) (is_among before q) h) a.1,
+)
 
 pub new_distinct : (before ns : List (List ℕ)) → AreNew before ns → IsDistinct bytes_eq ns
 unfolding IsDistinct
 new_distinct before [] a = tt
-new_distinct before (n ∷ ns) a =
-    (apart (before ++ n ∷ []) ns n (among_more before n n ∙ or_first (bytes_eq n n) (is_among before n) ((bytes_eq-Decides n n).1 refl)) a.1, new_distinct (before ++ n ∷ []) ns a.1)
+new_distinct before (n ∷ ns) a = (
+  apart (before ++ n ∷ []) ns n (among_more before n n ∙ or_first (bytes_eq n n) (is_among before n) ((bytes_eq-Decides n n).1 refl)) a.1,
+  new_distinct (before ++ n ∷ []) ns a.1,
+)
 
 -- the names of a list are none of those before, nor of one more
-apart_more : (before ns : List (List ℕ)) (n : List ℕ) → AllByRecursion (λ m. is_among before m ≡ false) ns → AllByRecursion (λ m. bytes_eq n m ≡ false) ns → AllByRecursion (λ m. is_among (before ++ n ∷ []) m ≡ false) ns
+apart_more : (before ns : List (List ℕ)) (n : List ℕ) → AllByRecursion (λ m. is_among before m ≡ false) ns → AllByRecursion (λ m. bytes_eq n m ≡ false) ns
+    → AllByRecursion (λ m. is_among (before ++ n ∷ []) m ≡ false) ns
 apart_more before [] n a b = tt
 apart_more before (m ∷ ms) n a b = (among_more before n m ∙ (ap (λ x. x || is_among before m) b.0 ∙ a.0), apart_more before ms n a.1 b.1)
 

@@ -61,7 +61,8 @@ entity_kinds config s = offers_of (kind_offers config s)
 
 -- an entity of a kind
 abbrev pub ReadsEntityOf : Config → Declared → ExportKind → List ℕ → EntityType → List ℕ → Type 0
-ReadsEntityOf config s kind.Global b e rest = (g : GlobalType) × (mid : List ℕ) × ReadsAmong (configured config) b g.val_type mid × Flips mid g.mutable rest × (e ≡ Global g)
+ReadsEntityOf config s kind.Global b e rest = (g : GlobalType) × (mid : List ℕ) × ReadsAmong (configured config) b g.val_type mid × Flips mid g.mutable rest
+    × (e ≡ Global g)
 ReadsEntityOf config s kind.Table b e rest = (t : _) × ReadsTable config.reference_types_enabled b t rest × (e ≡ Table t)
 ReadsEntityOf config s kind.Memory b e rest = (m : MemoryType) × ReadsMemory b m rest × (e ≡ Memory m)
 ReadsEntityOf config s kind.Tag b e rest = (t : _) × ReadsTag (places is_tag_type 0 s.own) b t rest × (e ≡ Tag t)
@@ -94,7 +95,8 @@ alias_choices around s = map (λ i. (1, i)) (places is_core_func 0 around.core_t
 -- what a declaration is among
 abbrev pub item_offers : Config → Scope → Declared → List (Bool × ModuleItem)
 item_offers config around s =
-    (true, item.Import) ∷ (true, item.Export) ∷ (allows_type config s, item.Type) ∷ (allows_type config s && nat_lt 0 (length (alias_choices around s)), item.Alias) ∷ []
+    (true, item.Import) ∷ (true, item.Export) ∷ (allows_type config s, item.Type) ∷
+    (allows_type config s && nat_lt 0 (length (alias_choices around s)), item.Alias) ∷ []
 
 abbrev pub module_items : Config → Scope → Declared → List ModuleItem
 module_items config around s = offers_of (item_offers config around s)
@@ -124,9 +126,11 @@ with_fuel s fuel = record { own = s.own; decls = s.decls; fuel = fuel }
 -- The loop ends by itself where no fuel is left, and where nothing can be imported or exported; the names are read then.
 pub data ModuleEnds (config : Config) (around : Scope) (s : Declared) : List ℕ → List ℕ → Declared → Type 0 where
   no_fuel : {bytes : List ℕ} {t : Declared} → s.fuel - 1 ≡ 0 → t ≡ with_fuel s 0 → ModuleEnds config around s bytes bytes t
-  no_import : {bytes mid from name rest : List ℕ} {t : Declared} → 0 < s.fuel - 1 → ReadsAmong (module_items config around s) bytes item.Import mid → ReadsImportNames s mid from name rest → entity_kinds config s ≡ [] → t ≡ with_fuel s (s.fuel - 1)
+  no_import : {bytes mid from name rest : List ℕ} {t : Declared} → 0 < s.fuel - 1 → ReadsAmong (module_items config around s) bytes item.Import mid
+      → ReadsImportNames s mid from name rest → entity_kinds config s ≡ [] → t ≡ with_fuel s (s.fuel - 1)
       → ModuleEnds config around s bytes rest t
-  no_export : {bytes mid name rest : List ℕ} {t : Declared} → 0 < s.fuel - 1 → ReadsAmong (module_items config around s) bytes item.Export mid → ReadsExportName s mid name rest → entity_kinds config s ≡ [] → t ≡ with_fuel s (s.fuel - 1)
+  no_export : {bytes mid name rest : List ℕ} {t : Declared} → 0 < s.fuel - 1 → ReadsAmong (module_items config around s) bytes item.Export mid
+      → ReadsExportName s mid name rest → entity_kinds config s ≡ [] → t ≡ with_fuel s (s.fuel - 1)
       → ModuleEnds config around s bytes rest t
 
 -- declarations for the canonical ABI, which take no fuel
@@ -137,7 +141,8 @@ with_front s ds = record { own = s.own ++ declared_in ds; decls = s.decls ++ ds;
 pub data ReadsLine (may : Bool) (Line : List ℕ → List ModuleDecl → List ℕ → Type 0) (s : Declared) : List ℕ → Declared → List ℕ → Type 0 where
   not_allowed : {bytes : List ℕ} {t : Declared} → may ≡ false → t ≡ s → ReadsLine may Line s bytes t bytes
   declined : {bytes rest : List ℕ} {t : Declared} {k : ℕ} → may ≡ true → Reads 100 bytes k rest → 99 ≤ k → t ≡ s → ReadsLine may Line s bytes t rest
-  taken : {bytes mid rest : List ℕ} {t : Declared} {k : ℕ} {ds : List ModuleDecl} → may ≡ true → Reads 100 bytes k mid → k < 99 → Line mid ds rest → t ≡ with_front s ds → ReadsLine may Line s bytes t rest
+  taken : {bytes mid rest : List ℕ} {t : Declared} {k : ℕ} {ds : List ModuleDecl} → may ≡ true → Reads 100 bytes k mid → k < 99 → Line mid ds rest
+      → t ≡ with_front s ds → ReadsLine may Line s bytes t rest
 
 abbrev pub MemoryLine : List ℕ → List ModuleDecl → List ℕ → Type 0
 MemoryLine bytes ds rest = (m : MemoryType) × ReadsMemory bytes m rest × (ds ≡ exports (codes "memory") (Memory m) ∷ [])
@@ -176,16 +181,20 @@ pub record MadeModule (config : Config) (around : Scope) (bytes : List ℕ) (fue
 
 -- A core type takes one from the fuel. Where none is left then it is the empty module type; else a choice of two.
 pub data MadeCore (config : Config) (around : Scope) : List ℕ → ℕ → CoreEntry → List ℕ → ℕ → Type 0 where
-  spent_core : {bytes : List ℕ} {fuel : ℕ} {e : CoreEntry} {left : ℕ} → fuel - 1 ≡ 0 → e ≡ core_module [] → left ≡ 0 → MadeCore config around bytes fuel e bytes left
-  of_function : {bytes mid : List ℕ} {fuel : ℕ} {f : Function} {e : CoreEntry} {rest : List ℕ} {left : ℕ} → 0 < fuel - 1 → Reads 2 bytes 0 mid → ReadsFunction (configured config) (max_results config) mid f rest → e ≡ core_func f → left ≡ fuel - 1
+  spent_core : {bytes : List ℕ} {fuel : ℕ} {e : CoreEntry} {left : ℕ} → fuel - 1 ≡ 0 → e ≡ core_module [] → left ≡ 0
+      → MadeCore config around bytes fuel e bytes left
+  of_function : {bytes mid : List ℕ} {fuel : ℕ} {f : Function} {e : CoreEntry} {rest : List ℕ} {left : ℕ} → 0 < fuel - 1 → Reads 2 bytes 0 mid
+      → ReadsFunction (configured config) (max_results config) mid f rest → e ≡ core_func f → left ≡ fuel - 1
       → MadeCore config around bytes fuel e rest left
-  of_module : {bytes mid : List ℕ} {fuel : ℕ} {ds : List ModuleDecl} {e : CoreEntry} {rest : List ℕ} {left : ℕ} → 0 < fuel - 1 → Reads 2 bytes 1 mid → MadeModule config around mid (fuel - 1) ds rest left → e ≡ core_module ds
+  of_module : {bytes mid : List ℕ} {fuel : ℕ} {ds : List ModuleDecl} {e : CoreEntry} {rest : List ℕ} {left : ℕ} → 0 < fuel - 1 → Reads 2 bytes 1 mid
+      → MadeModule config around mid (fuel - 1) ds rest left → e ≡ core_module ds
       → MadeCore config around bytes fuel e rest left
 
 -- the function types that the outer aliases of a module type name, in order
 abbrev pub functions_named : List CoreEntry → List Function → List ModuleDecl → List Function
 functions_named around own [] = []
-functions_named around own (d ∷ ds) = flat_map (λ a. option_to_list (aliased around own a.0 a.1)) (alias_of d) ++ functions_named around (own ++ adds around own d) ds
+functions_named around own (d ∷ ds) = flat_map (λ a. option_to_list (aliased around own a.0 a.1)) (alias_of d) ++ functions_named around
+    (own ++ adds around own d) ds
 
 -- the same of a core type
 abbrev pub named_by_core : List CoreEntry → CoreEntry → List Function

@@ -1,5 +1,6 @@
 -- Two readings of the same bytes, piece by piece.
-use Rattle.std.proofs.Common.{◌≡◌, ℕ, zero, suc, ◌+◌, ◌-◌, ◌/◌, ◌%◌, ◌^◌, ◌<◌, ◌≤◌, ◌⊎◌, inl, inr, List, [], ◌∷◌, ◌++◌, length, refl, ap, sym, ◌∙◌, arith, nat_lt, true, false, Bool, Some, None, ℤ, pos, negsuc}
+use Rattle.std.proofs.Common.{◌≡◌, ℕ, zero, suc, ◌+◌, ◌-◌, ◌/◌, ◌%◌, ◌^◌, ◌<◌, ◌≤◌, ◌⊎◌, inl, inr, List, [], ◌∷◌, ◌++◌, length, refl, ap, sym, ◌∙◌, arith}
+use Rattle.std.proofs.Common.{nat_lt, true, false, Bool, Some, None, ℤ, pos, negsuc}
 use Rattle.std.proofs.lemmas.Bool.{ltb-false}
 use Rattle.std.proofs.lemmas.List.{append_cancel_left}
 use borrow.Author.Tests.{ltb-true}
@@ -35,7 +36,8 @@ pub clash : (m n : ℕ) (b : List ℕ) → (t : List ℕ) × (b ≡ m ∷ t) →
 clash m n b x y = let e = x.1 in let f = y.1 in let g : m ∷ x.0 ≡ n ∷ y.0 = cc in cc
 
 -- a sort, and then more
-pub then_agree : {A : Type 0} (f : A → Piece) → IsClear f → (x y : A) (s t p q : Piece) (b : List ℕ) → (f x ⊕ s) ⊕ p ≡ Some b → (f y ⊕ t) ⊕ q ≡ Some b → Agree x y (s ⊕ p) (t ⊕ q)
+pub then_agree : {A : Type 0} (f : A → Piece) → IsClear f → (x y : A) (s t p q : Piece) (b : List ℕ) → (f x ⊕ s) ⊕ p ≡ Some b → (f y ⊕ t) ⊕ q ≡ Some b
+    → Agree x y (s ⊕ p) (t ⊕ q)
 then_agree f c x y s t p q b e g = c.law x y (s ⊕ p) (t ⊕ q) b (sym (assoc (f x) s p) ∙ e) (sym (assoc (f y) t q) ∙ g)
 
 -- the same of what fills its bytes
@@ -97,7 +99,8 @@ writing_turned : IsWriting turned
 writing_turned = record { same = λ m n f g e. omega arith; small = λ n h. omega arith }
 
 module _ (bits : ℕ → ℕ) (w : IsWriting bits) (last : ℕ) (low : 0 < last) (high : last ≤ 128) where
-  clear_cases : (k m n : ℕ) (a c : List ℕ) → ((a' c' : List ℕ) → digits bits last k (m / 128) ++ a' ≡ digits bits last k (n / 128) ++ c' → (m / 128 ≡ n / 128) × (a' ≡ c')) → (x y : Bool) → nat_lt m last ≡ x → nat_lt n last ≡ y
+  clear_cases : (k m n : ℕ) (a c : List ℕ) → ((a' c' : List ℕ) → digits bits last k (m / 128) ++ a' ≡ digits bits last k (n / 128) ++ c'
+      → (m / 128 ≡ n / 128) × (a' ≡ c')) → (x y : Bool) → nat_lt m last ≡ x → nat_lt n last ≡ y
       → digits bits last (suc k) m ++ a ≡ digits bits last (suc k) n ++ c → (m ≡ n) × (a ≡ c)
   clear_cases k m n a c ih true true f g e =
       let v : bits m ∷ a ≡ bits n ∷ c = rw (digits_last bits last (suc k) m (ltb-true m last f), digits_last bits last (suc k) n (ltb-true n last g)) at e in
@@ -105,15 +108,18 @@ module _ (bits : ℕ → ℕ) (w : IsWriting bits) (last : ℕ) (low : 0 < last)
       let t : a ≡ c = cc in
       (w.same m n (omega (arith, ltb-true m last f)) (omega (arith, ltb-true n last g)) h, t)
   clear_cases k m n a c ih true false f g e =
-      let v : bits m ∷ a ≡ (128 + bits (n % 128)) ∷ (digits bits last k (n / 128) ++ c) = rw (digits_last bits last (suc k) m (ltb-true m last f), digits_more bits last k n (ltb-false n last g)) at e in
+      let v : bits m ∷ a ≡ (128 + bits (n % 128)) ∷ (digits bits last k (n / 128) ++ c) =
+      rw (digits_last bits last (suc k) m (ltb-true m last f), digits_more bits last k n (ltb-false n last g)) at e in
       let h : bits m ≡ 128 + bits (n % 128) = cc in
       absurd (omega (arith, w.small m (omega (arith, ltb-true m last f))))
   clear_cases k m n a c ih false true f g e =
-      let v : (128 + bits (m % 128)) ∷ (digits bits last k (m / 128) ++ a) ≡ bits n ∷ c = rw (digits_more bits last k m (ltb-false m last f), digits_last bits last (suc k) n (ltb-true n last g)) at e in
+      let v : (128 + bits (m % 128)) ∷ (digits bits last k (m / 128) ++ a) ≡ bits n ∷ c =
+      rw (digits_more bits last k m (ltb-false m last f), digits_last bits last (suc k) n (ltb-true n last g)) at e in
       let h : 128 + bits (m % 128) ≡ bits n = cc in
       absurd (omega (arith, w.small n (omega (arith, ltb-true n last g))))
   clear_cases k m n a c ih false false f g e =
-      let v : (128 + bits (m % 128)) ∷ (digits bits last k (m / 128) ++ a) ≡ (128 + bits (n % 128)) ∷ (digits bits last k (n / 128) ++ c) = rw (digits_more bits last k m (ltb-false m last f), digits_more bits last k n (ltb-false n last g)) at e in
+      let v : (128 + bits (m % 128)) ∷ (digits bits last k (m / 128) ++ a) ≡ (128 + bits (n % 128)) ∷ (digits bits last k (n / 128) ++ c) =
+      rw (digits_more bits last k m (ltb-false m last f), digits_more bits last k n (ltb-false n last g)) at e in
       let h : 128 + bits (m % 128) ≡ 128 + bits (n % 128) = cc in
       let t : digits bits last k (m / 128) ++ a ≡ digits bits last k (n / 128) ++ c = cc in
       let r = ih a c t in
@@ -132,21 +138,26 @@ module _ (bits : ℕ → ℕ) (w : IsWriting bits) (last : ℕ) (low : 0 < last)
   whole_clear : (m n : ℕ) (a c : List ℕ) → digits bits last m m ++ a ≡ digits bits last n n ++ c → (m ≡ n) × (a ≡ c)
   whole_clear m n a c e =
       digits_clear (m + n) m n a c (omega arith) (omega arith)
-      (ap (λ d. d ++ a) (digits_enough bits last (m + n) m m low (omega arith) (omega arith)) ∙ e ∙ ap (λ d. d ++ c) (digits_enough bits last n (m + n) n low (omega arith) (omega arith)))
+      (ap (λ d. d ++ a) (digits_enough bits last (m + n) m m low (omega arith) (omega arith)) ∙ e
+      ∙ ap (λ d. d ++ c) (digits_enough bits last n (m + n) n low (omega arith) (omega arith)))
 
 -- a number and one whose bits are turned differ in their last bytes
-apart_cases : (k m n : ℕ) (a c : List ℕ) → (digits as_it_is 64 k (m / 128) ++ a ≡ digits turned 64 k (n / 128) ++ c → ⊥) → (x y : Bool) → nat_lt m 64 ≡ x → nat_lt n 64 ≡ y → digits as_it_is 64 (suc k) m ++ a ≡ digits turned 64 (suc k) n ++ c → ⊥
+apart_cases : (k m n : ℕ) (a c : List ℕ) → (digits as_it_is 64 k (m / 128) ++ a ≡ digits turned 64 k (n / 128) ++ c → ⊥) → (x y : Bool) → nat_lt m 64 ≡ x
+    → nat_lt n 64 ≡ y → digits as_it_is 64 (suc k) m ++ a ≡ digits turned 64 (suc k) n ++ c → ⊥
 apart_cases k m n a c ih true true f g e =
     let v : m ∷ a ≡ (127 - n) ∷ c = rw (digits_last as_it_is 64 (suc k) m (ltb-true m 64 f), digits_last turned 64 (suc k) n (ltb-true n 64 g)) at e in
     let h : m ≡ 127 - n = cc in omega (arith, ltb-true m 64 f, ltb-true n 64 g)
 apart_cases k m n a c ih true false f g e =
-    let v : m ∷ a ≡ (128 + (127 - n % 128)) ∷ (digits turned 64 k (n / 128) ++ c) = rw (digits_last as_it_is 64 (suc k) m (ltb-true m 64 f), digits_more turned 64 k n (ltb-false n 64 g)) at e in
+    let v : m ∷ a ≡ (128 + (127 - n % 128)) ∷ (digits turned 64 k (n / 128) ++ c) =
+    rw (digits_last as_it_is 64 (suc k) m (ltb-true m 64 f), digits_more turned 64 k n (ltb-false n 64 g)) at e in
     let h : m ≡ 128 + (127 - n % 128) = cc in omega (arith, ltb-true m 64 f)
 apart_cases k m n a c ih false true f g e =
-    let v : (128 + m % 128) ∷ (digits as_it_is 64 k (m / 128) ++ a) ≡ (127 - n) ∷ c = rw (digits_more as_it_is 64 k m (ltb-false m 64 f), digits_last turned 64 (suc k) n (ltb-true n 64 g)) at e in
+    let v : (128 + m % 128) ∷ (digits as_it_is 64 k (m / 128) ++ a) ≡ (127 - n) ∷ c =
+    rw (digits_more as_it_is 64 k m (ltb-false m 64 f), digits_last turned 64 (suc k) n (ltb-true n 64 g)) at e in
     let h : 128 + m % 128 ≡ 127 - n = cc in omega arith
 apart_cases k m n a c ih false false f g e =
-    let v : (128 + m % 128) ∷ (digits as_it_is 64 k (m / 128) ++ a) ≡ (128 + (127 - n % 128)) ∷ (digits turned 64 k (n / 128) ++ c) = rw (digits_more as_it_is 64 k m (ltb-false m 64 f), digits_more turned 64 k n (ltb-false n 64 g)) at e in
+    let v : (128 + m % 128) ∷ (digits as_it_is 64 k (m / 128) ++ a) ≡ (128 + (127 - n % 128)) ∷ (digits turned 64 k (n / 128) ++ c) =
+    rw (digits_more as_it_is 64 k m (ltb-false m 64 f), digits_more turned 64 k n (ltb-false n 64 g)) at e in
     let t : digits as_it_is 64 k (m / 128) ++ a ≡ digits turned 64 k (n / 128) ++ c = cc in ih t
 
 digits_apart : (k m n : ℕ) (a c : List ℕ) → m ≤ k → n ≤ k → digits as_it_is 64 k m ++ a ≡ digits turned 64 k n ++ c → ⊥
@@ -159,7 +170,8 @@ digits_apart (suc k) m n a c f g e =
 whole_apart : (m n : ℕ) (a c : List ℕ) → digits as_it_is 64 m m ++ a ≡ digits turned 64 n n ++ c → ⊥
 whole_apart m n a c e =
     digits_apart (m + n) m n a c (omega arith) (omega arith)
-    (ap (λ d. d ++ a) (digits_enough as_it_is 64 (m + n) m m (omega arith) (omega arith) (omega arith)) ∙ e ∙ ap (λ d. d ++ c) (digits_enough turned 64 n (m + n) n (omega arith) (omega arith) (omega arith)))
+    (ap (λ d. d ++ a) (digits_enough as_it_is 64 (m + n) m m (omega arith) (omega arith) (omega arith)) ∙ e
+    ∙ ap (λ d. d ++ c) (digits_enough turned 64 n (m + n) n (omega arith) (omega arith) (omega arith)))
 
 -- numbers
 pub unsigned_clear : (m n : ℕ) (a c : List ℕ) → unsigned m ++ a ≡ unsigned n ++ c → (m ≡ n) × (a ≡ c)
@@ -217,7 +229,8 @@ s_index_head n p b e = by_test (nat_lt n 64) refl
     by_test true h = let f = ltb-true n 64 h in let r = head n [] p b (ap (λ d. Some d ⊕ p) (sym (digits_last as_it_is 64 n n f)) ∙ y) in (n, r.0, r.1, inl f)
     by_test false h =
         let f = ltb-false n 64 h in
-        let r = head (128 + n % 128) (digits as_it_is 64 (n / 128) (n / 128)) p b (ap (λ d. Some d ⊕ p) (sym (digits_next as_it_is 64 n (omega arith) f)) ∙ y) in (128 + n % 128, r.0, r.1, inr (omega arith))
+        let r = head (128 + n % 128) (digits as_it_is 64 (n / 128) (n / 128)) p b
+        (ap (λ d. Some d ⊕ p) (sym (digits_next as_it_is 64 n (omega arith) f)) ∙ y) in (128 + n % 128, r.0, r.1, inr (omega arith))
 
 pub clear_text : IsClear text
 unfolding text
@@ -238,7 +251,8 @@ pub same_framed : (c d p q : Piece) (b : List ℕ) → framed c ⊕ p ≡ Some b
 same_framed None d p q b e h = let z : None ≡ Some b = sym (left_none p) ∙ ap (λ x. x ⊕ p) (sym framed_nothing) ∙ e in cc
 same_framed (Some c) None p q b e h = let z : None ≡ Some b = sym (left_none q) ∙ ap (λ x. x ⊕ q) (sym framed_nothing) ∙ h in cc
 same_framed (Some c) (Some d) p q b e h =
-    let n = then_agree u clear_u (length c) (length d) (Some c) (Some d) p q b (ap (λ x. x ⊕ p) (sym (framed_bytes c)) ∙ e) (ap (λ x. x ⊕ q) (sym (framed_bytes d)) ∙ h) in
+    let n = then_agree u clear_u (length c) (length d) (Some c) (Some d) p q b (ap (λ x. x ⊕ p) (sym (framed_bytes c)) ∙ e)
+    (ap (λ x. x ⊕ q) (sym (framed_bytes d)) ∙ h) in
     let r = same_length c d p q n.rests.rest n.same n.rests.first n.rests.second in
     record { contents = c; first = refl; second = ap Some (sym r.same); rests = r.rests }
 

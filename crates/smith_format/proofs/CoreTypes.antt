@@ -47,8 +47,10 @@ ref_law (Concrete true i) (Concrete true j) p q b e h =
 ref_law (Concrete false i) (Concrete false j) p q b e h =
     let t = then_tail (0x64 ∷ []) (s_index i) (s_index j) p q b e h in
     let r = clear_s_index.law i j p q t.rest t.first t.second in record { same = ap (Concrete false) r.same; rests = r.rests }
-ref_law (Concrete true i) (Concrete false j) p q b e h = let c = clash _ _ b (then_head 0x63 [] (s_index i) p b e) (then_head 0x64 [] (s_index j) q b h) in absurd (omega arith)
-ref_law (Concrete false i) (Concrete true j) p q b e h = let c = clash _ _ b (then_head 0x64 [] (s_index i) p b e) (then_head 0x63 [] (s_index j) q b h) in absurd (omega arith)
+ref_law (Concrete true i) (Concrete false j) p q b e h = let c = clash _ _ b (then_head 0x63 [] (s_index i) p b e) (then_head 0x64 [] (s_index j) q b h) in
+    absurd (omega arith)
+ref_law (Concrete false i) (Concrete true j) p q b e h = let c = clash _ _ b (then_head 0x64 [] (s_index i) p b e) (then_head 0x63 [] (s_index j) q b h) in
+    absurd (omega arith)
 ref_law (Concrete n i) y p q b e h = let c = clash _ _ b (ref_tagged (Concrete n i) p b e) (ref_tagged y q b h) in absurd (omega (arith, concrete_below n i))
 ref_law x (Concrete n j) p q b e h = let c = clash _ _ b (ref_tagged x p b e) (ref_tagged (Concrete n j) q b h) in absurd (omega (arith, concrete_below n j))
 ref_law x y p q b e h = let c = clash _ _ b (ref_tagged x p b e) (ref_tagged y q b h) in absurd (omega arith)

@@ -1,5 +1,6 @@
 -- The digits of a number, one after another.
-use Rattle.std.proofs.Common.{◌≡◌, ℕ, zero, suc, ◌+◌, ◌*◌, ◌/◌, ◌%◌, ◌^◌, ◌<◌, ◌≤◌, ◌⊎◌, inl, inr, [], ◌∷◌, length, refl, ap, sym, ◌∙◌, arith, Bool, true, false, nat_lt, ℤ, pos, negsuc}
+use Rattle.std.proofs.Common.{◌≡◌, ℕ, zero, suc, ◌+◌, ◌*◌, ◌/◌, ◌%◌, ◌^◌, ◌<◌, ◌≤◌, ◌⊎◌, inl, inr, [], ◌∷◌, length, refl, ap, sym, ◌∙◌, arith, Bool, true}
+use Rattle.std.proofs.Common.{false, nat_lt, ℤ, pos, negsuc}
 use Rattle.std.proofs.lemmas.Bool.{cond_below, cond_above, ltb-false}
 use Rattle.std.proofs.Math.Nat.{pow-suc, mul_assoc, mul_comm}
 use Rattle.std.proofs.lemmas.Int.{ints}
@@ -19,7 +20,8 @@ module _ (bits : ℕ → ℕ) (last : ℕ) where
   unfolding digits
   digits_more more n h = sym (cond_above n last (bits n ∷ []) _ _ h refl)
 
-  enough_cases : (j k n : ℕ) → (n / 128 ≤ j → n / 128 ≤ k → digits bits last j (n / 128) ≡ digits bits last k (n / 128)) → 0 < last → n ≤ suc j → n ≤ suc k → (x : Bool) → nat_lt n last ≡ x → digits bits last (suc j) n ≡ digits bits last (suc k) n
+  enough_cases : (j k n : ℕ) → (n / 128 ≤ j → n / 128 ≤ k → digits bits last j (n / 128) ≡ digits bits last k (n / 128)) → 0 < last → n ≤ suc j → n ≤ suc k
+      → (x : Bool) → nat_lt n last ≡ x → digits bits last (suc j) n ≡ digits bits last (suc k) n
   enough_cases j k n ih h f g true e = let l : n < last = ltb-true n last e in digits_last (suc j) n l ∙ sym (digits_last (suc k) n l)
   enough_cases j k n ih h f g false e =
       let l : last ≤ n = ltb-false n last e in
@@ -33,7 +35,8 @@ module _ (bits : ℕ → ℕ) (last : ℕ) where
 
   pub digits_next : (n : ℕ) → 0 < last → last ≤ n → digits bits last n n ≡ (128 + bits (n % 128)) ∷ digits bits last (n / 128) (n / 128)
   digits_next zero h l = absurd (omega arith)
-  digits_next (suc m) h l = digits_more m (suc m) l ∙ ap (λ d. (128 + bits (suc m % 128)) ∷ d) (digits_enough m (suc m / 128) (suc m / 128) h (omega arith) (omega arith))
+  digits_next (suc m) h l = digits_more m (suc m) l ∙ ap (λ d. (128 + bits (suc m % 128)) ∷ d)
+      (digits_enough m (suc m / 128) (suc m / 128) h (omega arith) (omega arith))
 
   some_cases : (more n : ℕ) (x : Bool) → nat_lt n last ≡ x → 0 < length (digits bits last (suc more) n)
   some_cases more n true e = let q = ap length (digits_last (suc more) n (ltb-true n last e)) in omega arith
@@ -47,7 +50,8 @@ module _ (bits : ℕ → ℕ) (last : ℕ) where
   grow : (k : ℕ) → last * 128 ^ suc k ≡ 128 * (last * 128 ^ k)
   grow k = ap (λ p. last * p) (pow-suc 128 k) ∙ sym (mul_assoc last (128 ^ k) 128) ∙ mul_comm (last * 128 ^ k) 128
 
-  short_cases : (k more n : ℕ) → (n / 128 < last * 128 ^ k → length (digits bits last more (n / 128)) ≤ suc k) → n < last * 128 ^ suc k → (x : Bool) → nat_lt n last ≡ x → length (digits bits last (suc more) n) ≤ suc (suc k)
+  short_cases : (k more n : ℕ) → (n / 128 < last * 128 ^ k → length (digits bits last more (n / 128)) ≤ suc k) → n < last * 128 ^ suc k → (x : Bool)
+      → nat_lt n last ≡ x → length (digits bits last (suc more) n) ≤ suc (suc k)
   short_cases k more n ih h true e = let q = ap length (digits_last (suc more) n (ltb-true n last e)) in omega arith
   short_cases k more n ih h false e =
       let q = ap length (digits_more more n (ltb-false n last e)) in

@@ -50,7 +50,8 @@ record SameLimits (s t w v : Bool) (m n : ℕ) (x y : Option ℕ) (p q : Piece) 
 clear_bytes : IsClear (λ (n : ℕ). byte n)
 clear_bytes = clear_byte (λ n. n) (λ m n e. e)
 
-limits_law : (s t w v : Bool) (m n : ℕ) (x y : Option ℕ) (p q : Piece) (b : List ℕ) → limits s w m x ⊕ p ≡ Some b → limits t v n y ⊕ q ≡ Some b → SameLimits s t w v m n x y p q
+limits_law : (s t w v : Bool) (m n : ℕ) (x y : Option ℕ) (p q : Piece) (b : List ℕ) → limits s w m x ⊕ p ≡ Some b → limits t v n y ⊕ q ≡ Some b
+    → SameLimits s t w v m n x y p q
 limits_law s t w v m n x y p q b e h =
     let a = then_agree byte clear_bytes (flags x s w) (flags y t v) (number m ⊕ maximum x) (number n ⊕ maximum y) p q b e h in
     let f = bits_same (has_maximum x) (has_maximum y) s t w v a.same in
@@ -68,7 +69,8 @@ clear_memory = record { law = memory_law }
 
 table_law : (x y : TableType) (p q : Piece) (b : List ℕ) → table_type x ⊕ p ≡ Some b → table_type y ⊕ q ≡ Some b → Agree x y p q
 table_law x y p q b e h =
-    let a = then_agree ref_val clear_ref x.element_type y.element_type (limits false x.table64 x.minimum x.maximum) (limits false y.table64 y.minimum y.maximum) p q b e h in
+    let a = then_agree ref_val clear_ref x.element_type y.element_type (limits false x.table64 x.minimum x.maximum) (limits false y.table64 y.minimum y.maximum)
+    p q b e h in
     let r = limits_law false false x.table64 y.table64 x.minimum y.minimum x.maximum y.maximum p q a.rests.rest a.rests.first a.rests.second in
     record { same = λ i. record { element_type = a.same i; table64 = r.wide i; minimum = r.minimum i; maximum = r.most i }; rests = r.rests }
 

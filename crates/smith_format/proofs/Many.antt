@@ -1,5 +1,6 @@
 -- Lists: pieces one after another, and loops that put them.
-use Rattle.std.proofs.Common.{◌≡◌, ℕ, suc, ◌+◌, ◌<◌, ◌≤◌, List, [], ◌∷◌, ◌++◌, length, map, take, drop, get_or, refl, ap, subst, sym, ◌∙◌, Result, IsErrAnd, take_all}
+use Rattle.std.proofs.Common.{◌≡◌, ℕ, suc, ◌+◌, ◌<◌, ◌≤◌, List, [], ◌∷◌, ◌++◌, length, map, take, drop, get_or, refl, ap, subst, sym, ◌∙◌, Result, IsErrAnd}
+use Rattle.std.proofs.Common.{take_all}
 use Rattle.std.proofs.lemmas.List.{take_more, take-append-drop, length-map}
 use Rattle.std.proofs.Math.Seq.{drop-cons}
 use Rattle.std.specs.declared.vec.Vec.{Vec}
@@ -39,18 +40,23 @@ module _ {A : Type 0} (f : A → Piece) where
   pub put_all : (xs : List A) (i : ℕ) (a b : Vec ℕ Global) → Put xs i a b → length xs ≤ i → Gains a b (each f xs)
   put_all xs i a b p h = subst (λ (q : List A). Gains a b (each f q)) (take_all i xs h) p.is
 
-  each_due : (xs : List A) (i : ℕ) (x : A) (e : Error) {a b : Vec ℕ Global} → Put xs i a b → i < length xs → x ≡ get_or xs i x → IsDue e b (f x) → IsDue e a (each f xs)
+  each_due : (xs : List A) (i : ℕ) (x : A) (e : Error) {a b : Vec ℕ Global} → Put xs i a b → i < length xs → x ≡ get_or xs i x → IsDue e b (f x)
+      → IsDue e a (each f xs)
   each_due xs i x e {a} {b} p h is d = subst (λ (q : Piece). IsDue e a q) (sym (each_at xs i x h is)) (due_right p.is (due_left _ d))
 
   -- A writer of each leaves its loop by a `?`, and is done.
-  pub each_exit : {T : Type 0} (r : Result T Error) (e : Error) (xs : List A) (i : ℕ) (x : A) {a c : Vec ℕ Global} → IsErrAnd r (λ y. y ≡ e) → (b : Vec ℕ Global) → Put xs i a b → i < length xs → x ≡ get_or xs i x → Begins b c × IsDue e b (f x) → Puts r a c (each f xs)
+  pub each_exit : {T : Type 0} (r : Result T Error) (e : Error) (xs : List A) (i : ℕ) (x : A) {a c : Vec ℕ Global} → IsErrAnd r (λ y. y ≡ e)
+      → (b : Vec ℕ Global) → Put xs i a b → i < length xs → x ≡ get_or xs i x → Begins b c × IsDue e b (f x) → Puts r a c (each f xs)
   each_exit r e xs i x is b p h at d = exits r e is (gains_begins p.is d.0) (each_due xs i x e p h at d.1)
 
   -- the same after a prefix, as the count
-  pub front_exit : {T : Type 0} (r : Result T Error) (e : Error) (xs : List A) (i : ℕ) (x : A) {a b c : Vec ℕ Global} {front : Piece} → IsErrAnd r (λ y. y ≡ e) → Gains a b front → (h : Vec ℕ Global) → Put xs i b h → i < length xs → x ≡ get_or xs i x → Begins h c × IsDue e h (f x) → Puts r a c (front ⊕ each f xs)
+  pub front_exit : {T : Type 0} (r : Result T Error) (e : Error) (xs : List A) (i : ℕ) (x : A) {a b c : Vec ℕ Global} {front : Piece} → IsErrAnd r (λ y. y ≡ e)
+      → Gains a b front → (h : Vec ℕ Global) → Put xs i b h → i < length xs → x ≡ get_or xs i x → Begins h c × IsDue e h (f x) → Puts r a c (front ⊕ each f xs)
   front_exit r e xs i x is n h p lt at d = exits r e is (gains_begins n (gains_begins p.is d.0)) (due_right n (each_due xs i x e p lt at d.1))
 
-  pub loop_exit : {T : Type 0} (r : Result T Error) (e : Error) (xs : List A) (i : ℕ) (x : A) {a b c : Vec ℕ Global} → IsErrAnd r (λ y. y ≡ e) → Gains a b (u (length xs)) → (h : Vec ℕ Global) → Put xs i b h → i < length xs → x ≡ get_or xs i x → Begins h c × IsDue e h (f x) → Puts r a c (many f xs)
+  pub loop_exit : {T : Type 0} (r : Result T Error) (e : Error) (xs : List A) (i : ℕ) (x : A) {a b c : Vec ℕ Global} → IsErrAnd r (λ y. y ≡ e)
+      → Gains a b (u (length xs)) → (h : Vec ℕ Global) → Put xs i b h → i < length xs → x ≡ get_or xs i x → Begins h c × IsDue e h (f x)
+      → Puts r a c (many f xs)
   loop_exit r e xs i x is n h p lt at d = front_exit r e xs i x is n h p lt at d
 
   pub loop_done : (xs : List A) (i : ℕ) {a b c : Vec ℕ Global} → Gains a b (u (length xs)) → Put xs i b c → length xs ≤ i → Gains a c (many f xs)

@@ -1,5 +1,6 @@
 -- Pieces: how they are joined, bytes as they are, texts, and numbers that have an encoding.
-use Rattle.std.proofs.Common.{◌≡◌, ℕ, ◌+◌, ◌⊎◌, inl, inr, length-append, List, [], ◌++◌, refl, ap, append_assoc, Some, None, append-nil, ◌<◌, length, get_or, sym, ◌∙◌, IsUtf8, Bool, true, false, cond, nat_lt, ◌^◌, ◌≤◌, pos}
+use Rattle.std.proofs.Common.{◌≡◌, ℕ, ◌+◌, ◌⊎◌, inl, inr, length-append, List, [], ◌++◌, refl, ap, append_assoc, Some, None, append-nil, ◌<◌, length, get_or}
+use Rattle.std.proofs.Common.{sym, ◌∙◌, IsUtf8, Bool, true, false, cond, nat_lt, ◌^◌, ◌≤◌, pos}
 use Rattle.smith_format.specs.Piece.{Piece, ◌⊕◌, piece_length, raw, utf8, text, u, s_index}
 use Rattle.std.specs.List.{list_all}
 use Rattle.std.specs.Str.{is_utf8}
@@ -79,7 +80,8 @@ text_is t h = ap (λ p. u (length t) ⊕ p) (utf8_is t h)
 pub raw_is : (bs : List ℕ) → ((i : ℕ) → get_or bs i 0 < 256) → raw bs ≡ Some bs
 unfolding raw
 raw_is bs h =
-    let e : list_all (λ b. nat_lt b 256) bs ≡ true = list_all-from_AllPass (λ b. nat_lt b 256) bs (All-from_get_or (λ b. nat_lt b 256 ≡ true) bs 0 (λ i _. lt-ltb (get_or bs i 0) 256 (h i))) in rw e refl
+    let e : list_all (λ b. nat_lt b 256) bs ≡ true = list_all-from_AllPass (λ b. nat_lt b 256) bs
+    (All-from_get_or (λ b. nat_lt b 256 ≡ true) bs 0 (λ i _. lt-ltb (get_or bs i 0) 256 (h i))) in rw e refl
 
 guarded : (x : Bool) (t : List ℕ) (p : Piece) (b : List ℕ) → cond x (Some t) None ⊕ p ≡ Some b → Some t ⊕ p ≡ Some b
 guarded true t p b e = e

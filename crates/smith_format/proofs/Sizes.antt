@@ -1,11 +1,13 @@
 -- The lengths of pieces.
-use Rattle.std.proofs.Common.{◌≡◌, ℕ, suc, ◌+◌, ◌^◌, ◌<◌, ◌≤◌, ◌⊎◌, inl, inr, ◌↔◌, Bool, true, false, nat_lt, IsUtf8, List, [], ◌∷◌, length, take, drop, get_or, ap, subst, sym, ◌∙◌, arith, take_all, Option, Some, None, SomeIff, Result, Ok, Err, IsErrAnd, refl}
+use Rattle.std.proofs.Common.{◌≡◌, ℕ, suc, ◌+◌, ◌^◌, ◌<◌, ◌≤◌, ◌⊎◌, inl, inr, ◌↔◌, Bool, true, false, nat_lt, IsUtf8, List, [], ◌∷◌, length, take, drop, get_or}
+use Rattle.std.proofs.Common.{ap, subst, sym, ◌∙◌, arith, take_all, Option, Some, None, SomeIff, Result, Ok, Err, IsErrAnd, refl}
 use Rattle.smith_input.specs.declared.error.Error.{Error}
 use Rattle.smith_input.specs.declared.error.Error.TheVariants.{TooLong}
 use Rattle.smith_format.specs.Numbers.{unsigned}
 use Rattle.smith_format.specs.Piece.{Piece, ◌⊕◌, piece_length, byte, bytes, u, s_index, text, each, many, framed, sized}
 use Rattle.smith_format.specs.Writing.{Takes, TakesTooMuch, IsLengthOf, Measures}
-use Rattle.smith_format.proofs.Piece.{assoc, joined, right_none, left_none, length_join, none_join, u_fits, u_none, u_cases, s_index_fits, s_index_none, text_is}
+use Rattle.smith_format.proofs.Piece.{assoc, joined, right_none, left_none, length_join, none_join, u_fits, u_none, u_cases, s_index_fits, s_index_none}
+use Rattle.smith_format.proofs.Piece.{text_is}
 use Rattle.std.proofs.lemmas.Bool.{ltb-false}
 use borrow.Author.Tests.{ltb-true}
 use Rattle.smith_format.proofs.Many.{each_more, each_at}
@@ -18,7 +20,11 @@ pub takes_then : {m n : ℕ} {p q : Piece} → Takes m p → Takes n q → Takes
 takes_then {m} {n} {p} {q} t s =
     record {
       spelled = λ h. elim (none_join p q h) [ inl e ↦ t.spelled e | inr e ↦ s.spelled e ];
-      long = elim (length_join p q) [ inl e ↦ absurd (elim (none_join p q e) [ inl f ↦ t.spelled f | inr f ↦ s.spelled f ]) | inr e ↦ omega (arith, t.long, s.long) ];
+      long = elim (length_join p q) [
+        | inl e ↦ absurd (elim (none_join p q e) [ inl f ↦ t.spelled f | inr f ↦ s.spelled f ])
+        | inr e ↦ omega
+            (arith, t.long, s.long)
+      ];
     }
 
 pub takes_u : (n : ℕ) → n < 2 ^ 32 → Takes (length (unsigned n)) (u n)
@@ -54,12 +60,14 @@ length_then (Some k) {m} {n} {p} {q} s t w = (subst (λ (l : ℕ). Takes l (p �
 length_then None {m} {n} s t w = too_much_long (takes_then t w) (omega (arith, s))
 
 -- Something after its length has an encoding where what it holds has one of at most 4,294,967,295 bytes.
-pub framed_cases : (p : Piece) → ((framed p ≡ None) × TakesTooMuch p) ⊎ (Takes (piece_length p) p × (piece_length p < 2 ^ 32) × Takes (length (unsigned (piece_length p)) + piece_length p) (framed p))
+pub framed_cases : (p : Piece) → ((framed p ≡ None) × TakesTooMuch p)
+    ⊎ (Takes (piece_length p) p × (piece_length p < 2 ^ 32) × Takes (length (unsigned (piece_length p)) + piece_length p) (framed p))
 framed_cases None = inl (framed_nothing, too_much_none (λ i. None))
 framed_cases (Some b) = by_count (u_cases (length b))
   where
     by_count : ((u (length b) ≡ Some (unsigned (length b))) × (length b < 2 ^ 32)) ⊎ ((u (length b) ≡ None) × (2 ^ 32 ≤ length b))
-        → ((framed (Some b) ≡ None) × TakesTooMuch (Some b)) ⊎ (Takes (length b) (Some b) × (length b < 2 ^ 32) × Takes (length (unsigned (length b)) + length b) (framed (Some b)))
+        → ((framed (Some b) ≡ None) × TakesTooMuch (Some b))
+        ⊎ (Takes (length b) (Some b) × (length b < 2 ^ 32) × Takes (length (unsigned (length b)) + length b) (framed (Some b)))
     by_count (inl h) =
         let t = takes_bytes (length b) b (λ i. length b) in
         inr (t, h.1, subst (λ (q : Piece). Takes (length (unsigned (length b)) + length b) q) (sym (framed_bytes b)) (takes_then (takes_u (length b) h.1) t))
@@ -75,7 +83,8 @@ takes_framed {n} {p} t l = by_count (framed_cases p)
     too_short (inl e) = t.spelled e
     too_short (inr m) = omega (arith, t.long)
 
-    by_count : ((framed p ≡ None) × TakesTooMuch p) ⊎ (Takes (piece_length p) p × (piece_length p < 2 ^ 32) × Takes (length (unsigned (piece_length p)) + piece_length p) (framed p)) → Takes (length (unsigned n) + n) (framed p)
+    by_count : ((framed p ≡ None) × TakesTooMuch p) ⊎ (Takes (piece_length p) p × (piece_length p < 2 ^ 32)
+        × Takes (length (unsigned (piece_length p)) + piece_length p) (framed p)) → Takes (length (unsigned n) + n) (framed p)
     by_count (inl h) = absurd (too_short h.1.is)
     by_count (inr h) = subst (λ (k : ℕ). Takes (length (unsigned k) + k) (framed p)) (sym t.long) h.2
 
@@ -96,7 +105,10 @@ module _ {A : Type 0} (f : A → Piece) where
 
   pub sum_next : (xs : List A) (i : ℕ) (x : A) (m n k : ℕ) → Sum xs i m → i < length xs → x ≡ get_or xs i x → Takes n (f x) → k ≡ m + n → Sum xs (i + 1) k
   sum_next xs i x m n k s h e t q =
-      record { is = subst (λ (z : Piece). Takes k z) (sym (each_more f xs i x h e)) (subst (λ (z : ℕ). Takes z (each f (take i xs) ⊕ f x)) (sym q) (takes_then s.is t)) }
+      record {
+        is = subst (λ (z : Piece). Takes k z) (sym (each_more f xs i x h e))
+            (subst (λ (z : ℕ). Takes z (each f (take i xs) ⊕ f x)) (sym q) (takes_then s.is t));
+      }
 
   pub sum_all : (xs : List A) (i n : ℕ) → Sum xs i n → length xs ≤ i → Takes n (each f xs)
   sum_all xs i n s h = subst (λ (q : List A). Takes n (each f q)) (take_all i xs h) s.is
@@ -106,13 +118,16 @@ module _ {A : Type 0} (f : A → Piece) where
   each_too_much xs i x h e t = subst (λ (q : Piece). TakesTooMuch q) (sym (each_at f xs i x h e)) (too_much_right _ (too_much_left _ t))
 
   -- those so far and the next are too long
-  pub each_reaches : (xs : List A) (i : ℕ) (x : A) (m n : ℕ) → i < length xs → x ≡ get_or xs i x → Sum xs i m → Takes n (f x) → 2 ^ 32 ≤ m + n → TakesTooMuch (each f xs)
+  pub each_reaches : (xs : List A) (i : ℕ) (x : A) (m n : ℕ) → i < length xs → x ≡ get_or xs i x → Sum xs i m → Takes n (f x) → 2 ^ 32 ≤ m + n
+      → TakesTooMuch (each f xs)
   each_reaches xs i x m n h e s t l =
-      subst (λ (q : Piece). TakesTooMuch q) (sym (each_at f xs i x h e ∙ sym (assoc (each f (take i xs)) (f x) (each f (drop (suc i) xs))))) (too_much_left _ (too_much_long (takes_then s.is t) l))
+      subst (λ (q : Piece). TakesTooMuch q) (sym (each_at f xs i x h e ∙ sym (assoc (each f (take i xs)) (f x) (each f (drop (suc i) xs)))))
+      (too_much_left _ (too_much_long (takes_then s.is t) l))
 
   -- one of them has no encoding
   pub each_none : (xs : List A) (i : ℕ) (x : A) → i < length xs → x ≡ get_or xs i x → f x ≡ None → each f xs ≡ None
-  each_none xs i x h e n = each_at f xs i x h e ∙ ap (λ q. each f (take i xs) ⊕ (q ⊕ each f (drop (suc i) xs))) n ∙ ap (λ q. each f (take i xs) ⊕ q) (left_none _) ∙ right_none _
+  each_none xs i x h e n = each_at f xs i x h e ∙ ap (λ q. each f (take i xs) ⊕ (q ⊕ each f (drop (suc i) xs))) n
+      ∙ ap (λ q. each f (take i xs) ⊕ q) (left_none _) ∙ right_none _
 
   pub many_too_much : (xs : List A) → TakesTooMuch (each f xs) → TakesTooMuch (many f xs)
   many_too_much xs t = too_much_right (u (length xs)) t

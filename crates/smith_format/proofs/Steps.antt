@@ -1,5 +1,6 @@
 -- How writers follow one another.
-use Rattle.std.proofs.Common.{◌≡◌, ℕ, ◌+◌, ◌<◌, ◌≤◌, ◌⊎◌, inl, inr, List, [], ◌++◌, refl, ap, append-nil, length-append, arith, Some, None, sym, ◌∙◌, subst, Result, Ok, Err, IsErrAnd, Bool, true, false, nat_le, take, drop, length, take_all, ◌∷◌, append_assoc}
+use Rattle.std.proofs.Common.{◌≡◌, ℕ, ◌+◌, ◌<◌, ◌≤◌, ◌⊎◌, inl, inr, List, [], ◌++◌, refl, ap, append-nil, length-append, arith, Some, None, sym, ◌∙◌, subst}
+use Rattle.std.proofs.Common.{Result, Ok, Err, IsErrAnd, Bool, true, false, nat_le, take, drop, length, take_all, ◌∷◌, append_assoc}
 use Rattle.std.proofs.lemmas.Bool.{leb-true, leb-false}
 use Rattle.std.proofs.lemmas.List.{take-append-drop, take-append-le, length-take, length-take-le}
 use Rattle.std.proofs.Math.Seq.{take-append_seam}
@@ -22,7 +23,10 @@ take_take i j xs h = take_cases (nat_le j (length xs)) refl
     take_cases false e = ap (take i) (take_all j xs (let l = leb-false j (length xs) e in omega arith))
 
 pub begins_bytes : {old new : Vec ℕ Global} (bs : List ℕ) → new.items ≡ old.items ++ bs → vec_capacity old ≤ vec_capacity new → Begins old new
-begins_bytes {old} {new} bs e h = record { is = ap (λ l. take l new.items) old.ok.0 ∙ ap (take (length old.items)) e ∙ take-append_seam old.items bs; capacity = h }
+begins_bytes {old} {new} bs e h = record {
+  is = ap (λ l. take l new.items) old.ok.0 ∙ ap (take (length old.items)) e ∙ take-append_seam old.items bs;
+  capacity = h;
+}
 
 pub begins_same : {a : Vec ℕ Global} → Begins a a
 begins_same {a} = begins_bytes [] (sym (append-nil a.items)) (omega arith)
@@ -38,7 +42,10 @@ begun_length {a} {b} g = let l = ap length g.is in omega (arith, length-take (ve
 
 pub begins_then : {a b c : Vec ℕ Global} → Begins a b → Begins b c → Begins a c
 begins_then {a} {b} {c} g h =
-    record { is = sym (take_take (vec_len a) (vec_len b) c.items (begun_length g)) ∙ ap (take (vec_len a)) h.is ∙ g.is; capacity = omega (arith, g.capacity, h.capacity) }
+    record {
+      is = sym (take_take (vec_len a) (vec_len b) c.items (begun_length g)) ∙ ap (take (vec_len a)) h.is ∙ g.is;
+      capacity = omega (arith, g.capacity, h.capacity);
+    }
 
 pub gains_bytes : {old new : Vec ℕ Global} (bs : List ℕ) → new.items ≡ old.items ++ bs → vec_capacity old ≤ vec_capacity new → Gains old new (Some bs)
 gains_bytes {old} {new} bs e h =
@@ -68,7 +75,9 @@ pub gains_then : {a b c : Vec ℕ Global} {p q : Piece} → Gains a b p → Gain
 gains_then {a} {b} {c} {p} {q} g h =
     let x = gains_some g in
     let y = gains_some h in
-    let l : piece_length (p ⊕ q) ≡ piece_length p + piece_length q = ap (λ z. piece_length (z ⊕ q)) x.1 ∙ ap (λ z. piece_length (Some x.0 ⊕ z)) y.1 ∙ ap piece_length (joined x.0 y.0) ∙ length-append x.0 y.0 ∙ ap (λ z. piece_length z + length y.0) (sym x.1) ∙ ap (λ z. piece_length p + piece_length z) (sym y.1) in
+    let l : piece_length (p ⊕ q) ≡ piece_length p + piece_length q = ap (λ z. piece_length (z ⊕ q)) x.1 ∙ ap (λ z. piece_length (Some x.0 ⊕ z)) y.1
+    ∙ ap piece_length (joined x.0 y.0) ∙ length-append x.0 y.0 ∙ ap (λ z. piece_length z + length y.0) (sym x.1)
+    ∙ ap (λ z. piece_length p + piece_length z) (sym y.1) in
     record {
       is = h.is ∙ ap (λ z. z ⊕ q) g.is ∙ assoc (Some a.items) p q;
       begins = begins_then g.begins h.begins;
@@ -81,7 +90,8 @@ gains_begins g h = begins_then g.begins h
 pub due_none : {old : Vec ℕ Global} {p : Piece} → p ≡ None → IsDue TooLong old p
 due_none e = record { only = inl refl; too_long = λ _. e; full = λ h. cc }
 
-full_left : (a : Vec ℕ Global) (p q : Piece) → (p ≡ None) ⊎ (vec_capacity a < vec_len a + piece_length p) → (p ⊕ q ≡ None) ⊎ (vec_capacity a < vec_len a + piece_length (p ⊕ q))
+full_left : (a : Vec ℕ Global) (p q : Piece) → (p ≡ None) ⊎ (vec_capacity a < vec_len a + piece_length p)
+    → (p ⊕ q ≡ None) ⊎ (vec_capacity a < vec_len a + piece_length (p ⊕ q))
 full_left a p q (inl n) = inl (ap (λ x. x ⊕ q) n ∙ left_none q)
 full_left a p q (inr h) = elim (length_join p q) [ inl n ↦ inl n | inr l ↦ inr (omega arith) ]
 
@@ -89,7 +99,8 @@ pub due_left : {e : Error} {a : Vec ℕ Global} {p : Piece} (q : Piece) → IsDu
 due_left {e} {a} {p} q d =
     record { only = d.only; too_long = λ h. ap (λ x. x ⊕ q) (d.too_long h) ∙ left_none q; full = λ h. full_left a p q (d.full h) }
 
-full_right : (a b : Vec ℕ Global) (p q : Piece) → Gains a b p → (q ≡ None) ⊎ (vec_capacity b < vec_len b + piece_length q) → (p ⊕ q ≡ None) ⊎ (vec_capacity a < vec_len a + piece_length (p ⊕ q))
+full_right : (a b : Vec ℕ Global) (p q : Piece) → Gains a b p → (q ≡ None) ⊎ (vec_capacity b < vec_len b + piece_length q)
+    → (p ⊕ q ≡ None) ⊎ (vec_capacity a < vec_len a + piece_length (p ⊕ q))
 full_right a b p q g (inl n) = inl (ap (λ x. p ⊕ x) n ∙ right_none p)
 full_right a b p q g (inr h) = elim (length_join p q) [ inl n ↦ inl n | inr l ↦ inr (omega (arith, g.length, g.begins.capacity)) ]
 
@@ -103,7 +114,8 @@ exits (Ok x) e {a} {b} {p} is g d = absurd is
 exits (Err y) e {a} {b} {p} is g d = (g, subst (λ (z : Error). IsDue z a p) (sym is) d)
 
 -- and with more to come
-pub exits_between : {A : Type 0} (r : Result A Error) (e : Error) {a b c : Vec ℕ Global} {p q : Piece} (s : Piece) → IsErrAnd r (λ y. y ≡ e) → Gains a b p → Begins b c → IsDue e b q → Puts r a c (p ⊕ q ⊕ s)
+pub exits_between : {A : Type 0} (r : Result A Error) (e : Error) {a b c : Vec ℕ Global} {p q : Piece} (s : Piece) → IsErrAnd r (λ y. y ≡ e) → Gains a b p
+    → Begins b c → IsDue e b q → Puts r a c (p ⊕ q ⊕ s)
 exits_between r e s is g h d = exits r e is (gains_begins g h) (due_right g (due_left s d))
 
 -- a last call whose result is returned
@@ -115,13 +127,16 @@ pub ends : {A : Type 0} (r : Result A Error) {a b : Vec ℕ Global} (c : Vec ℕ
 ends (Ok x) c q g h = gains_then g h
 ends (Err e) c {p} q g h = (gains_begins g h.0, due_right g h.1)
 
-pub ends_appending : {A : Type 0} (r : Result A Error) {a b : Vec ℕ Global} (c : Vec ℕ Global) {p : Piece} (q : Piece) → Gains a b p → Appends r b c q → Puts r a c (p ⊕ q)
+pub ends_appending : {A : Type 0} (r : Result A Error) {a b : Vec ℕ Global} (c : Vec ℕ Global) {p : Piece} (q : Piece) → Gains a b p → Appends r b c q
+    → Puts r a c (p ⊕ q)
 ends_appending r {a} {b} c q g h = ends r c q g (appends_puts r b c q h)
 
-pub ends_third : {A : Type 0} (r : Result A Error) {a b c : Vec ℕ Global} (d : Vec ℕ Global) {p q : Piece} (s : Piece) → Gains a b p → Gains b c q → Puts r c d s → Puts r a d (p ⊕ q ⊕ s)
+pub ends_third : {A : Type 0} (r : Result A Error) {a b c : Vec ℕ Global} (d : Vec ℕ Global) {p q : Piece} (s : Piece) → Gains a b p → Gains b c q
+    → Puts r c d s → Puts r a d (p ⊕ q ⊕ s)
 ends_third r d s g h k = ends r d _ g (ends r d s h k)
 
-pub ends_third_appending : {A : Type 0} (r : Result A Error) {a b c : Vec ℕ Global} (d : Vec ℕ Global) {p q : Piece} (s : Piece) → Gains a b p → Gains b c q → Appends r c d s → Puts r a d (p ⊕ q ⊕ s)
+pub ends_third_appending : {A : Type 0} (r : Result A Error) {a b c : Vec ℕ Global} (d : Vec ℕ Global) {p q : Piece} (s : Piece) → Gains a b p → Gains b c q
+    → Appends r c d s → Puts r a d (p ⊕ q ⊕ s)
 ends_third_appending r {a} {b} {c} d s g h k = ends_third r d s g h (appends_puts r c d s k)
 
 -- contents after their length
@@ -140,7 +155,8 @@ framed_is (Some b) t = framed_bytes b ∙ ap (λ m. u m ⊕ Some b) (sym t.long)
 pub sized_is : (id : ℕ) {n : ℕ} {p : Piece} → Takes n p → sized id p ≡ (byte id ⊕ u n) ⊕ p
 sized_is id {n} {p} t = ap (λ q. byte id ⊕ q) (framed_is p t) ∙ sym (assoc (byte id) (u n) p)
 
-pub ends_sized : {A : Type 0} (r : Result A Error) (id : ℕ) {n : ℕ} {a b : Vec ℕ Global} (c : Vec ℕ Global) {p : Piece} → Takes n p → Gains a b (byte id ⊕ u n) → Puts r b c p → Puts r a c (sized id p)
+pub ends_sized : {A : Type 0} (r : Result A Error) (id : ℕ) {n : ℕ} {a b : Vec ℕ Global} (c : Vec ℕ Global) {p : Piece} → Takes n p → Gains a b (byte id ⊕ u n)
+    → Puts r b c p → Puts r a c (sized id p)
 ends_sized r id c {p} t g h = rw (sized_is id t) (ends r c p g h)
 
 -- what has an encoding may want memory
@@ -155,7 +171,8 @@ pub record Towards (old : Vec ℕ Global) (all : List ℕ) (new : Vec ℕ Global
   pub begun : Begins old new
   pub is : new.items ++ left ≡ old.items ++ all
 
-pub towards_next : (old : Vec ℕ Global) (all : List ℕ) (mid new : Vec ℕ Global) (x : ℕ) (left rest : List ℕ) → Towards old all mid left → left ≡ x ∷ rest → Gains mid new (byte x) → Towards old all new rest
+pub towards_next : (old : Vec ℕ Global) (all : List ℕ) (mid new : Vec ℕ Global) (x : ℕ) (left rest : List ℕ) → Towards old all mid left → left ≡ x ∷ rest
+    → Gains mid new (byte x) → Towards old all new rest
 towards_next old all mid new x left rest t e g =
     let f = gained (x ∷ []) g in
     record {
@@ -163,21 +180,39 @@ towards_next old all mid new x left rest t e g =
       is = ap (λ l. l ++ rest) f ∙ append_assoc mid.items (x ∷ []) rest ∙ ap (λ l. mid.items ++ l) (sym e) ∙ t.is;
     }
 
-pub towards_exit : {A : Type 0} (r : Result A Error) (e : Error) (old : Vec ℕ Global) (all : List ℕ) (mid new : Vec ℕ Global) (x : ℕ) (left : List ℕ) → IsErrAnd r (λ y. y ≡ e) → Towards old all mid left → 0 < length left → Keeps mid new × IsDue e mid (byte x) → Puts r old new (Some all)
+pub towards_exit : {A : Type 0} (r : Result A Error) (e : Error) (old : Vec ℕ Global) (all : List ℕ) (mid new : Vec ℕ Global) (x : ℕ) (left : List ℕ)
+    → IsErrAnd r (λ y. y ≡ e) → Towards old all mid left → 0 < length left → Keeps mid new × IsDue e mid (byte x) → Puts r old new (Some all)
 towards_exit r e old all mid new x left is t h d =
     exits r e is (begins_then t.begun (keeps_begins d.0)) (record {
       only = d.1.only;
       too_long = λ z. let w = d.1.too_long z in cc;
       full = λ z. inr (full_byte (d.1.full z) (ap length t.is));
     }) where
-      full_byte : (byte x ≡ None) ⊎ (vec_capacity mid < vec_len mid + 1) → length (mid.items ++ left) ≡ length (old.items ++ all) → vec_capacity old < vec_len old + length all
+      full_byte : (byte x ≡ None) ⊎ (vec_capacity mid < vec_len mid + 1) → length (mid.items ++ left) ≡ length (old.items ++ all)
+          → vec_capacity old < vec_len old + length all
       full_byte (inl n) l = cc
       full_byte (inr m) l = omega (arith, t.begun.capacity, length-append mid.items left, length-append old.items all, old.ok.0, mid.ok.0)
 
-pub towards_end : {A : Type 0} (r : Result A Error) (old : Vec ℕ Global) (all : List ℕ) (mid new : Vec ℕ Global) (x : ℕ) (left : List ℕ) → Towards old all mid left → left ≡ x ∷ [] → Appends r mid new (byte x) → Puts r old new (Some all)
+pub towards_end : {A : Type 0} (r : Result A Error) (old : Vec ℕ Global) (all : List ℕ) (mid new : Vec ℕ Global) (x : ℕ) (left : List ℕ)
+    → Towards old all mid left → left ≡ x ∷ [] → Appends r mid new (byte x) → Puts r old new (Some all)
 towards_end (Ok v) old all mid new x left t e g =
     gains_bytes all (gained (x ∷ []) g ∙ ap (λ l. mid.items ++ l) (sym e) ∙ t.is) (omega (arith, t.begun.capacity, g.begins.capacity))
 towards_end {A} (Err y) old all mid new x left t e d =
     towards_exit {A = A} (Err y) y old all mid new x left refl t (let l = ap length e in omega arith) d
 
-pub ruleset writing = (take_take, gains_bytes, gains_nothing, gains_then, keeps_begins, left_none, right_none, length_join, framed_bytes, text_is, ends, ends_appending, ends_third, ends_third_appending)
+pub ruleset writing = (
+  take_take,
+  gains_bytes,
+  gains_nothing,
+  gains_then,
+  keeps_begins,
+  left_none,
+  right_none,
+  length_join,
+  framed_bytes,
+  text_is,
+  ends,
+  ends_appending,
+  ends_third,
+  ends_third_appending,
+)

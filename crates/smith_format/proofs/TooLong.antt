@@ -1,5 +1,6 @@
 -- What has no encoding.
-use Rattle.std.proofs.Common.{◌≡◌, ℕ, zero, suc, ◌<◌, ◌⊎◌, inl, inr, ◌↔◌, Bool, true, false, IsUtf8, List, [], ◌∷◌, length, refl, ap, subst, sym, ◌∙◌, arith, Some, None, Option}
+use Rattle.std.proofs.Common.{◌≡◌, ℕ, zero, suc, ◌<◌, ◌⊎◌, inl, inr, ◌↔◌, Bool, true, false, IsUtf8, List, [], ◌∷◌, length, refl, ap, subst, sym, ◌∙◌, arith}
+use Rattle.std.proofs.Common.{Some, None, Option}
 use Rattle.std.specs.List.{Any, AllByRecursion, list_all}
 use Rattle.std.specs.Str.{is_utf8}
 use Rattle.std.proofs.lemmas.Bool.{and_parts, lt-ltb, false≢true}
@@ -9,7 +10,8 @@ use borrow.Author.Tests.{ltb-true}
 use Rattle.smith_format.specs.CoreTypes.{ref_val, core_val, core_function, Function}
 use Rattle.smith_format.specs.Entities.{maximum, limits, table_type, memory_type, global_type, tag_type, entity, CoreImport, core_import}
 use Rattle.smith_format.specs.Piece.{Piece, ◌⊕◌, number, u, s_index, raw, utf8, framed, text, each, many, sized}
-use Rattle.smith_format.specs.TooLong.{Passes, NameTooLong, NoBytes, ListTooLong, ContentsTooLong, RefTooLong, ValTooLong, FunctionTooLong, EntityTooLong, ImportTooLong}
+use Rattle.smith_format.specs.TooLong.{Passes, NameTooLong, NoBytes, ListTooLong, ContentsTooLong, RefTooLong, ValTooLong, FunctionTooLong, EntityTooLong}
+use Rattle.smith_format.specs.TooLong.{ImportTooLong}
 use Rattle.smith_format.specs.declared.types.EntityType.{EntityType}
 use Rattle.smith_format.specs.declared.types.EntityType.TheVariants.{Func, Table, Memory, Global, Tag}
 use Rattle.smith_format.specs.declared.types.GlobalType.{GlobalType}
@@ -33,11 +35,17 @@ join_none {P} {Q} p q f g = (λ e. elim (none_join p q e) [ inl n ↦ inl (f.0 n
 
 -- bytes in front have one
 pub after_bytes : {Q : Type 0} (b : List ℕ) (q : Piece) → (q ≡ None) ↔ Q → (Some b ⊕ q ≡ None) ↔ Q
-after_bytes {Q} b q g = (λ e. elim (none_join (Some b) q e) [ inl n ↦ absurd (let z : Some b ≡ None = n in cc) | inr n ↦ g.0 n ], λ h. ap (λ x. Some b ⊕ x) (g.1 h) ∙ right_none (Some b))
+after_bytes {Q} b q g = (
+  λ e. elim (none_join (Some b) q e) [ inl n ↦ absurd (let z : Some b ≡ None = n in cc) | inr n ↦ g.0 n ],
+  λ h. ap (λ x. Some b ⊕ x) (g.1 h) ∙ right_none (Some b),
+)
 
 -- and so have bytes at the end
 pub before_bytes : {P : Type 0} (p : Piece) (b : List ℕ) → (p ≡ None) ↔ P → (p ⊕ Some b ≡ None) ↔ P
-before_bytes {P} p b f = (λ e. elim (none_join p (Some b) e) [ inl n ↦ f.0 n | inr n ↦ absurd (let z : Some b ≡ None = n in cc) ], λ h. ap (λ x. x ⊕ Some b) (f.1 h) ∙ left_none (Some b))
+before_bytes {P} p b f = (
+  λ e. elim (none_join p (Some b) e) [ inl n ↦ f.0 n | inr n ↦ absurd (let z : Some b ≡ None = n in cc) ],
+  λ h. ap (λ x. x ⊕ Some b) (f.1 h) ∙ left_none (Some b),
+)
 
 pub bytes_none : (b : List ℕ) → (Some b ≡ None) ↔ ⊥
 bytes_none b = (λ e. cc, λ h. absurd h)
@@ -92,7 +100,8 @@ val_none_where (Ref r) = ref_none_where r
 
 pub function_none_where : (f : Function) → (core_function f ≡ None) ↔ FunctionTooLong f
 function_none_where f =
-    after_bytes (0x60 ∷ []) (many core_val f.0 ⊕ many core_val f.1) (join_none (many core_val f.0) (many core_val f.1) (many_none_where core_val val_none_where f.0) (many_none_where core_val val_none_where f.1))
+    after_bytes (0x60 ∷ []) (many core_val f.0 ⊕ many core_val f.1)
+    (join_none (many core_val f.0) (many core_val f.1) (many_none_where core_val val_none_where f.0) (many_none_where core_val val_none_where f.1))
 
 maximum_some : (m : Option ℕ) → (b : List ℕ) × (maximum m ≡ Some b)
 maximum_some None = ([], refl)
@@ -100,7 +109,11 @@ maximum_some (Some n) = (_, refl)
 
 limits_none : (shared wide : Bool) (n : ℕ) (m : Option ℕ) → (limits shared wide n m ≡ None) ↔ ⊥
 limits_none shared wide n m =
-    after_bytes _ (number n ⊕ maximum m) (after_bytes _ (maximum m) (λ e. let s = maximum_some m in let z : Some s.0 ≡ None = sym s.1 ∙ e in absurd cc, λ h. absurd h))
+    after_bytes _ (number n ⊕ maximum m) (after_bytes _ (maximum m) (
+      λ e. let s = maximum_some m in let z : Some s.0 ≡ None = sym s.1 ∙ e in
+          absurd cc,
+      λ h. absurd h,
+    ))
 
 pub table_none : (t : TableType) → (table_type t ≡ None) ↔ RefTooLong t.element_type
 table_none t = (λ e. elim (parts.0 e) [ inl h ↦ h | inr h ↦ absurd h ], λ h. parts.1 (inl h))

@@ -51,7 +51,8 @@ IsDefault c =
 -- the core value types that the limits allow (core specification, Types, Value Types)
 abbrev pub configured : Config → List ValType
 configured c =
-    (I32 ∷ I64 ∷ []) ++ offered c.allow_floats (F32 ∷ F64 ∷ []) ++ offered c.simd_enabled (V128 ∷ []) ++ offered c.reference_types_enabled (Ref FuncRef ∷ Ref ExternRef ∷ [])
+    (I32 ∷ I64 ∷ []) ++ offered c.allow_floats (F32 ∷ F64 ∷ []) ++ offered c.simd_enabled (V128 ∷ []) ++ offered c.reference_types_enabled
+    (Ref FuncRef ∷ Ref ExternRef ∷ [])
 
 -- how many results the limits allow a core function
 abbrev pub max_results : Config → ℕ

@@ -1,5 +1,6 @@
 -- Names in kebab case.
-use Rattle.std.proofs.Common.{◌≡◌, nat_eq, ℕ, zero, suc, ◌+◌, ◌-◌, ◌<◌, ◌≤◌, ◌^◌, ◌⊎◌, Bool, true, false, List, [], ◌∷◌, ◌++◌, length, refl, sym, ap, subst, ◌∙◌, arith, inl, inr, ⊎_elim, append_assoc, append-nil, map, ◌%◌}
+use Rattle.std.proofs.Common.{◌≡◌, nat_eq, ℕ, zero, suc, ◌+◌, ◌-◌, ◌<◌, ◌≤◌, ◌^◌, ◌⊎◌, Bool, true, false, List, [], ◌∷◌, ◌++◌, length, refl, sym, ap, subst}
+use Rattle.std.proofs.Common.{◌∙◌, arith, inl, inr, ⊎_elim, append_assoc, append-nil, map, ◌%◌}
 use Rattle.std.proofs.lemmas.Bool.Decides.{nat_tests}
 use Rattle.std.proofs.lemmas.Bool.{cases_lt}
 use Rattle.std.proofs.lemmas.Fmt.{decimal_by_steps}
@@ -35,7 +36,8 @@ is_hyphen : (c : ℕ) → c ≡ 45 → nat_eq c 45 ≡ true
 is_hyphen c h = grind (arith, nat_tests)
 
 -- one character in front
-step_name : (begins : Bool) (c : ℕ) (cs : List ℕ) → (begins ≡ true → IsLetter c) → (begins ≡ false → (IsLetter c ⊎ IsDigit c) ⊎ (c ≡ 45)) → Follows (nat_eq c 45) cs → Follows begins (c ∷ cs)
+step_name : (begins : Bool) (c : ℕ) (cs : List ℕ) → (begins ≡ true → IsLetter c) → (begins ≡ false → (IsLetter c ⊎ IsDigit c) ⊎ (c ≡ 45))
+    → Follows (nat_eq c 45) cs → Follows begins (c ∷ cs)
 step_name true c cs l i f = begins_word c cs (l refl) (subst (λ b. Follows b cs) (not_hyphen c (inl (l refl))) f)
 step_name false c cs l i f =
     ⊎_elim
@@ -70,16 +72,21 @@ characters_follow : (begins : Bool) {bytes ks rest : List ℕ} → ReadsEach 37 
 characters_follow true none = word {cs = 97 ∷ []} ((omega arith, omega arith), tt)
 characters_follow false none = inl tt
 characters_follow true (next {k = k} {ks = ks} r rs) =
-    step_name true (character true k) (characters (nat_eq (character true k) 45) ks) (λ _. begun_is_letter k r.below) (λ e. absurd (cc e)) (characters_follow (nat_eq (character true k) 45) rs)
+    step_name true (character true k) (characters (nat_eq (character true k) 45) ks) (λ _. begun_is_letter k r.below) (λ e. absurd (cc e))
+    (characters_follow (nat_eq (character true k) 45) rs)
 characters_follow false (next {k = k} {ks = ks} r rs) =
-    step_name false (character false k) (characters (nat_eq (character false k) 45) ks) (λ e. absurd (cc e)) (λ _. inside_is k r.below) (characters_follow (nat_eq (character false k) 45) rs)
+    step_name false (character false k) (characters (nat_eq (character false k) 45) ks) (λ e. absurd (cc e)) (λ _. inside_is k r.below)
+    (characters_follow (nat_eq (character false k) 45) rs)
 
 -- one character after
-pub spelt_pushed : (name pushed ks : List ℕ) (c r : ℕ) → r ≡ c → pushed ≡ name ++ r ∷ [] → name ++ c ∷ characters (nat_eq c 45) ks ≡ pushed ++ characters (nat_eq r 45) ks
+pub spelt_pushed : (name pushed ks : List ℕ) (c r : ℕ) → r ≡ c → pushed ≡ name ++ r ∷ []
+    → name ++ c ∷ characters (nat_eq c 45) ks ≡ pushed ++ characters (nat_eq r 45) ks
 spelt_pushed name pushed ks c r e p =
-    sym (ap (λ b. b ++ characters (nat_eq r 45) ks) p ∙ (append_assoc name (r ∷ []) (characters (nat_eq r 45) ks) ∙ ap (λ d. name ++ d ∷ characters (nat_eq d 45) ks) e))
+    sym (ap (λ b. b ++ characters (nat_eq r 45) ks) p ∙ (append_assoc name (r ∷ []) (characters (nat_eq r 45) ks)
+    ∙ ap (λ d. name ++ d ∷ characters (nat_eq d 45) ks) e))
 
-pub kebab_counted : {max count place k : ℕ} {bytes after name rest choices : List ℕ} → count ≡ 0 + k → Reads (max - 0 + 1) bytes k after → length choices ≡ place + 0 → place ≡ count → ReadsEach 37 after choices rest → name ≡ characters true choices → ReadsKebab max bytes name rest
+pub kebab_counted : {max count place k : ℕ} {bytes after name rest choices : List ℕ} → count ≡ 0 + k → Reads (max - 0 + 1) bytes k after
+    → length choices ≡ place + 0 → place ≡ count → ReadsEach 37 after choices rest → name ≡ characters true choices → ReadsKebab max bytes name rest
 kebab_counted {max} {count} {place} {k} {bytes} {after} {choices = choices} c r l p each n =
     let same : max - 0 ≡ max = omega arith in
     let many : k ≡ length choices = omega arith in
@@ -132,7 +139,8 @@ each_tail (next r rs) = tail_trans (each_tail rs) (reads_tail r)
 pub kebab_tail : {max : ℕ} {bytes name rest : List ℕ} → ReadsKebab max bytes name rest → IsTail rest bytes
 kebab_tail r = tail_trans (each_tail r.chosen) (reads_tail r.counted)
 
-each_unique : {n : ℕ} {bytes other ks js left rest : List ℕ} → ReadsEach n bytes ks left → ReadsEach n other js rest → bytes ≡ other → length ks ≡ length js → (ks ≡ js) × (left ≡ rest)
+each_unique : {n : ℕ} {bytes other ks js left rest : List ℕ} → ReadsEach n bytes ks left → ReadsEach n other js rest → bytes ≡ other → length ks ≡ length js
+    → (ks ≡ js) × (left ≡ rest)
 each_unique none none e l = (refl, e)
 each_unique none (next r rs) e l = absurd (omega (arith, l))
 each_unique (next r rs) none e l = absurd (omega (arith, l))
@@ -172,7 +180,8 @@ inside_fits c (inl l) = let k = letter_code c l in omega (arith, k.0)
 inside_fits c (inr d) = let k = digit_code c d in omega (arith, k.1)
 
 -- one choice in front
-spelt_more : (begins : Bool) (c : ℕ) (ks cs : List ℕ) → character begins (code c) ≡ c → (IsLetter c ⊎ IsDigit c) → characters false ks ≡ cs → characters begins (code c ∷ ks) ≡ c ∷ cs
+spelt_more : (begins : Bool) (c : ℕ) (ks cs : List ℕ) → character begins (code c) ≡ c → (IsLetter c ⊎ IsDigit c) → characters false ks ≡ cs
+    → characters begins (code c ∷ ks) ≡ c ∷ cs
 spelt_more begins c ks cs e l h = rw (e, not_hyphen c l) (ap (λ x. c ∷ x) h)
 
 word_spelt : (cs ks : List ℕ) → AreInWord cs → characters false (map code cs ++ ks) ≡ cs ++ characters false ks

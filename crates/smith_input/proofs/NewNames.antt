@@ -1,5 +1,6 @@
 -- Names that are new among those that were read before them.
-use Rattle.std.proofs.Common.{◌≡◌, ℕ, ◌^◌, ◌<◌, ◌≤◌, ◌||◌, Bool, true, false, List, [], ◌∷◌, ◌++◌, length, refl, sym, ap, ◌∙◌, subst, arith, length-append, ⊎_elim, bytes_eq, string_bytes}
+use Rattle.std.proofs.Common.{◌≡◌, ℕ, ◌^◌, ◌<◌, ◌≤◌, ◌||◌, Bool, true, false, List, [], ◌∷◌, ◌++◌, length, refl, sym, ap, ◌∙◌, subst, arith, length-append}
+use Rattle.std.proofs.Common.{⊎_elim, bytes_eq, string_bytes}
 use Rattle.std.specs.declared.string.String.{String}
 use Rattle.std.specs.List.{list_any}
 use Rattle.std.specs.BTreeMap.{is_at}
@@ -28,7 +29,8 @@ among_more [] name q = refl
 among_more (n ∷ ns) name q = ap (λ b. bytes_eq n q || b) (among_more ns name q) ∙ or_turned (bytes_eq n q) (bytes_eq name q) (is_among ns q)
 
 -- a set that gains a name has it at the end
-pub holds_more : {A : Type 0} {old new : BTreeSet (String A)} {names : List (List ℕ)} {name : List ℕ} → Holds old names → GainsName old new name → Holds new (names ++ name ∷ [])
+pub holds_more : {A : Type 0} {old new : BTreeSet (String A)} {names : List (List ℕ)} {name : List ℕ} → Holds old names → GainsName old new name
+    → Holds new (names ++ name ∷ [])
 holds_more {names = names} {name = name} h g = record {
   has = λ q. g.has q ∙ (ap (λ b. bytes_eq name q || b) (h.has q) ∙ sym (among_more names name q));
   size = omega (arith, g.size, h.size, length-append names (name ∷ []));
@@ -53,7 +55,8 @@ made_unique_same has size text a b u v =
 pub new_tail : {max : ℕ} {names : List (List ℕ)} {bytes name rest : List ℕ} → ReadsNew max names bytes name rest → IsTail rest bytes
 new_tail r = kebab_tail r.reads
 
-pub new_unique : {max : ℕ} {names : List (List ℕ)} {bytes a b left rest : List ℕ} → ReadsNew max names bytes a left → ReadsNew max names bytes b rest → (a ≡ b) × (left ≡ rest)
+pub new_unique : {max : ℕ} {names : List (List ℕ)} {bytes a b left rest : List ℕ} → ReadsNew max names bytes a left → ReadsNew max names bytes b rest
+    → (a ≡ b) × (left ≡ rest)
 new_unique {names = names} {a = a} {b = b} r s =
     let same = kebab_unique r.reads s.reads in
     let P : List ℕ → Type 0 = λ t. IsMadeUnique (is_among names) (length names) t a in
@@ -63,7 +66,8 @@ pub new_kebab : {max : ℕ} {names : List (List ℕ)} {bytes name rest : List �
 new_kebab h r = kebab_is_kept _ _ _ _ h (kebab_is_read r.reads) r.unique
 
 -- a spelled name that is none of those before it is read as itself
-pub new_read : (max : ℕ) (names : List (List ℕ)) (name rest : List ℕ) → max < 2 ^ 64 → Kebab name → length name ≤ max → is_among names name ≡ false → ReadsNew max names (script_name max name ++ rest) name rest
+pub new_read : (max : ℕ) (names : List (List ℕ)) (name rest : List ℕ) → max < 2 ^ 64 → Kebab name → length name ≤ max → is_among names name ≡ false
+    → ReadsNew max names (script_name max name ++ rest) name rest
 new_read max names name rest h k l n = record {
   text = name;
   reads = name_read max name rest h k l;
@@ -71,7 +75,8 @@ new_read max names name rest h k l n = record {
 }
 
 -- The script of a name that the names lack gives that name.
-pub unique_scripted : (has : List ℕ → Bool) (size max : ℕ) (bytes text name left spelled rest : List ℕ) → max < 2 ^ 64 → Kebab spelled → length spelled ≤ max → has spelled ≡ false → bytes ≡ script_name max spelled ++ rest
+pub unique_scripted : (has : List ℕ → Bool) (size max : ℕ) (bytes text name left spelled rest : List ℕ) → max < 2 ^ 64 → Kebab spelled → length spelled ≤ max
+    → has spelled ≡ false → bytes ≡ script_name max spelled ++ rest
     → ReadsKebab max bytes text left → IsMadeUnique has size text name → (name ≡ spelled) × (left ≡ rest)
 unique_scripted has size max bytes text name left spelled rest h k l n e reads unique =
     let same = kebab_unique (subst (λ z. ReadsKebab max z text left) e reads) (name_read max spelled rest h k l) in

@@ -1,5 +1,6 @@
 -- Spelled picks.
-use Rattle.std.proofs.Common.{◌∙◌, ap, ◌∷◌, [], ◌≡◌, ℕ, zero, suc, ◌+◌, ◌/◌, ◌%◌, ◌^◌, ◌<◌, ◌≤◌, List, ◌++◌, drop, refl, sym, arith, nat_le, Bool, true, false, if◌then◌else◌}
+use Rattle.std.proofs.Common.{◌∙◌, ap, ◌∷◌, [], ◌≡◌, ℕ, zero, suc, ◌+◌, ◌/◌, ◌%◌, ◌^◌, ◌<◌, ◌≤◌, List, ◌++◌, drop, refl, sym, arith, nat_le, Bool, true, false}
+use Rattle.std.proofs.Common.{if◌then◌else◌}
 use Rattle.std.proofs.lemmas.Bool.Decides.{nat_tests}
 use Rattle.std.proofs.lemmas.Nat.{div-add-mod', mod_below}
 use Rattle.std.proofs.Math.Nat.{pow-suc}
@@ -31,7 +32,8 @@ wide n w h i = record { enough = omega (arith, pow-suc 256 w, i.enough); least =
     least_of zero e = absurd (omega arith)
     least_of (suc v) e = let below : (n + 255) / 256 ≤ 256 ^ v = omega (arith, pow-suc 256 v) in omega (arith, i.least v below)
 
-width_cases : (fuel n : ℕ) → (1 < n → IsWidth ((n + 255) / 256) (width_within fuel ((n + 255) / 256))) → (b : Bool) → nat_le n 1 ≡ b → IsWidth n (if b then 0 else suc (width_within fuel ((n + 255) / 256)))
+width_cases : (fuel n : ℕ) → (1 < n → IsWidth ((n + 255) / 256) (width_within fuel ((n + 255) / 256))) → (b : Bool) → nat_le n 1 ≡ b
+    → IsWidth n (if b then 0 else suc (width_within fuel ((n + 255) / 256)))
 width_cases fuel n more true e = narrow n (below_is n e)
   where
     below_is : (n : ℕ) → nat_le n 1 ≡ true → n ≤ 1
@@ -65,7 +67,8 @@ reads-pick n k rest h below =
 pub pick-byte : (n k : ℕ) → 2 ≤ n → n ≤ 256 → pick n k ≡ k ∷ []
 unfolding pick
 pick-byte n k two few =
-    ap (λ b. big_endian (if b then 0 else suc (width_within 7 ((n + 255) / 256))) k) many ∙ (ap (λ m. big_endian (suc (width_within 7 m)) k) one ∙ ap (λ d. d ∷ []) (div-one k))
+    ap (λ b. big_endian (if b then 0 else suc (width_within 7 ((n + 255) / 256))) k) many
+    ∙ (ap (λ m. big_endian (suc (width_within 7 m)) k) one ∙ ap (λ d. d ∷ []) (div-one k))
   where
     many : nat_le n 1 ≡ false
     many = grind (arith, nat_tests)

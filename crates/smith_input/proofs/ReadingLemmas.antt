@@ -35,8 +35,10 @@ rest_unique n a b s t number p q e f =
 
 pub reads_unique : {n j k : ℕ} {bytes rest left : List ℕ} → Reads n bytes j rest → Reads n bytes k left → (j ≡ k) × (rest ≡ left)
 reads_unique {n} {j} {k} {bytes} r s =
-    let w : r.width ≡ s.width = width_unique r.is_width s.is_width in
-    (rest_unique n j k r.turns s.turns (spelled r.width bytes) r.below s.below r.spells (ap (λ v. spelled v bytes) w ∙ s.spells), r.left ∙ (ap (λ v. drop v bytes) w ∙ sym s.left))
+    let w : r.width ≡ s.width = width_unique r.is_width s.is_width in (
+      rest_unique n j k r.turns s.turns (spelled r.width bytes) r.below s.below r.spells (ap (λ v. spelled v bytes) w ∙ s.spells),
+      r.left ∙ (ap (λ v. drop v bytes) w ∙ sym s.left),
+    )
 
 pub flips_unique : {a b : Bool} {bytes rest left : List ℕ} → Flips bytes a rest → Flips bytes b left → (a ≡ b) × (rest ≡ left)
 flips_unique {a = true} {b = true} f g = (refl, f.left ∙ sym g.left)
@@ -44,7 +46,8 @@ flips_unique {a = true} {b = false} f g = absurd (cc (g.bit.1 (f.bit.0 refl)))
 flips_unique {a = false} {b = true} f g = absurd (cc (f.bit.1 (g.bit.0 refl)))
 flips_unique {a = false} {b = false} f g = (refl, f.left ∙ sym g.left)
 
-pub more_unique : {done min max : ℕ} {a b : Bool} {bytes rest left : List ℕ} → More done min max bytes a rest → More done min max bytes b left → (a ≡ b) × (rest ≡ left)
+pub more_unique : {done min max : ℕ} {a b : Bool} {bytes rest left : List ℕ} → More done min max bytes a rest → More done min max bytes b left
+    → (a ≡ b) × (rest ≡ left)
 more_unique {done} {min} {max} m n =
     ⊎_elim
     (λ lt. ⊎_elim

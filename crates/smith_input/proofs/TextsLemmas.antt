@@ -1,5 +1,6 @@
 -- Bytes and texts that are read: what is left, that they are determined, and that spelled ones are read.
-use Rattle.std.proofs.Common.{◌≡◌, ℕ, ◌+◌, ◌-◌, min, ◌<◌, ◌≤◌, ◌^◌, true, false, List, [], ◌∷◌, ◌++◌, length, take, drop, slice_index, refl, sym, ap, subst, ◌∙◌, arith, ⊎_elim}
+use Rattle.std.proofs.Common.{◌≡◌, ℕ, ◌+◌, ◌-◌, min, ◌<◌, ◌≤◌, ◌^◌, true, false, List, [], ◌∷◌, ◌++◌, length, take, drop, slice_index, refl, sym, ap, subst}
+use Rattle.std.proofs.Common.{◌∙◌, arith, ⊎_elim}
 use Rattle.std.proofs.lemmas.Bool.{cases_lt}
 use Rattle.std.proofs.lemmas.List.{append_assoc, length-take, take_at, take_min, drop_at, take_all}
 use Rattle.std.specs.Prelude.{Result, Ok, Err}
@@ -15,11 +16,16 @@ pub bytes_tail : {bytes values rest : List ℕ} → ReadsBytes bytes values rest
 bytes_tail (ends f) = (1, f.left)
 bytes_tail (follows f b more) = tail_trans (bytes_tail more) (tail_trans (1, b.left) (1, f.left))
 
-pub bytes_unique : {bytes other some more left rest : List ℕ} → ReadsBytes bytes some left → ReadsBytes other more rest → bytes ≡ other → (some ≡ more) × (left ≡ rest)
-bytes_unique {left = left} {rest = rest} (ends {bytes = bytes} f) (ends {bytes = other} g) e = (refl, (flips_unique f (subst (λ b. Flips b false rest) (sym e) g)).1)
-bytes_unique (ends {bytes = bytes} f) (follows {bytes = other} {mid = mid} g h r) e = absurd (let n : false ≡ true = (flips_unique f (subst (λ b. Flips b true mid) (sym e) g)).0 in cc)
-bytes_unique {rest = rest} (follows {bytes = bytes} g h r) (ends {bytes = other} f) e = absurd (let n : true ≡ false = (flips_unique g (subst (λ b. Flips b false rest) (sym e) f)).0 in cc)
-bytes_unique (follows {bytes = bytes} {mid = mid} {low = low} {value = value} {values = values} f b r) (follows {bytes = other} {mid = amid} {low = alow} {value = avalue} {values = avalues} g c s) e =
+pub bytes_unique : {bytes other some more left rest : List ℕ} → ReadsBytes bytes some left → ReadsBytes other more rest → bytes ≡ other
+    → (some ≡ more) × (left ≡ rest)
+bytes_unique {left = left} {rest = rest} (ends {bytes = bytes} f) (ends {bytes = other} g) e =
+    (refl, (flips_unique f (subst (λ b. Flips b false rest) (sym e) g)).1)
+bytes_unique (ends {bytes = bytes} f) (follows {bytes = other} {mid = mid} g h r) e =
+    absurd (let n : false ≡ true = (flips_unique f (subst (λ b. Flips b true mid) (sym e) g)).0 in cc)
+bytes_unique {rest = rest} (follows {bytes = bytes} g h r) (ends {bytes = other} f) e =
+    absurd (let n : true ≡ false = (flips_unique g (subst (λ b. Flips b false rest) (sym e) f)).0 in cc)
+bytes_unique (follows {bytes = bytes} {mid = mid} {low = low} {value = value} {values = values} f b r)
+    (follows {bytes = other} {mid = amid} {low = alow} {value = avalue} {values = avalues} g c s) e =
     let m : mid ≡ amid = (flips_unique f (subst (λ b. Flips b true amid) (sym e) g)).1 in
     let v : value ≡ avalue = b.value_is ∙ (ap (λ x. slice_index x 0) m ∙ sym c.value_is) in
     let l : low ≡ alow = b.left ∙ (ap (λ x. drop 1 x) m ∙ sym c.left) in
@@ -44,12 +50,14 @@ longest_front bytes text n e v =
     record { utf8 = subst IsUtf8 (sym e) v.front; front = e ∙ ap (λ k. take k bytes) (sym len); longest = λ m h _. v.longest m (omega arith) }
 
 -- a prefix that is tested to be UTF-8 is given as it is
-pub tested_front : {T E : Type 0} (Q : E → Type 0) (now : T → List ℕ) (bytes : List ℕ) (r : Result T E) (other x : T) → MatchResult r (λ s. (now s ≡ bytes) × IsUtf8 bytes) (λ e. ¬ (IsUtf8 bytes) × Q e) → IsUtf8 bytes → x ≡ result_unwrap_or r other → now x ≡ bytes
+pub tested_front : {T E : Type 0} (Q : E → Type 0) (now : T → List ℕ) (bytes : List ℕ) (r : Result T E) (other x : T)
+    → MatchResult r (λ s. (now s ≡ bytes) × IsUtf8 bytes) (λ e. ¬ (IsUtf8 bytes) × Q e) → IsUtf8 bytes → x ≡ result_unwrap_or r other → now x ≡ bytes
 tested_front Q now bytes (Ok s) other x m u e = ap now e ∙ m.0
 tested_front Q now bytes (Err f) other x m u e = absurd (m.0 u)
 
 -- a text by its length, cut to what is left
-pub text_cut : {max count k len : ℕ} {bytes after left text got rest : List ℕ} → count ≡ 0 + k → Reads (max - 0 + 1) bytes k after → left ≡ after → len ≡ min count (length left) → IsLongestText (take len left) text → got ≡ text → rest ≡ drop (length text) after → ReadsText max bytes got rest
+pub text_cut : {max count k len : ℕ} {bytes after left text got rest : List ℕ} → count ≡ 0 + k → Reads (max - 0 + 1) bytes k after → left ≡ after
+    → len ≡ min count (length left) → IsLongestText (take len left) text → got ≡ text → rest ≡ drop (length text) after → ReadsText max bytes got rest
 text_cut {max} {count} {k} {len} {bytes} {after} {left} {text} {got} {rest} c r l m t g d =
     let same : max - 0 ≡ max = omega arith in
     let counted : count ≡ k = omega arith in
@@ -85,7 +93,8 @@ text_unique {a = a} {b = b} r s =
 
 pub text_read : (max : ℕ) (text rest : List ℕ) → max < 2 ^ 64 → IsUtf8 text → length text ≤ max → ReadsText max (script_text max text ++ rest) text rest
 text_read max text rest h u l =
-    let counted : Reads (max + 1) (pick (max + 1) (length text) ++ (text ++ rest)) (length text) (text ++ rest) = reads-pick (max + 1) (length text) (text ++ rest) (omega arith) (omega arith) in
+    let counted : Reads (max + 1) (pick (max + 1) (length text) ++ (text ++ rest)) (length text) (text ++ rest) =
+    reads-pick (max + 1) (length text) (text ++ rest) (omega arith) (omega arith) in
     record {
       count = length text;
       after_count = text ++ rest;

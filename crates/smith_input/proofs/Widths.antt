@@ -29,7 +29,8 @@ pub fits_eight : (n w : ℕ) → w < 8 → n < 256 ^ w → n * 256 + 255 < 2 ^ 6
 fits_eight n w h k = omega (arith, byte_fits n w 255 k (omega arith), powers_rise (w + 1) 8 (omega arith))
 
 -- a remainder is a choice
-pub reads_rest : (n w : ℕ) (bytes rest : List ℕ) (number : ℕ) → 0 < n → IsWidth n w → number ≡ spelled w bytes → rest ≡ drop w bytes → Reads n bytes (number % n) rest
+pub reads_rest : (n w : ℕ) (bytes rest : List ℕ) (number : ℕ) → 0 < n → IsWidth n w → number ≡ spelled w bytes → rest ≡ drop w bytes
+    → Reads n bytes (number % n) rest
 reads_rest n w bytes rest number z i e d = record {
   width = w;
   is_width = i;

@@ -1,5 +1,6 @@
 -- Names in kebab case, as they are read, made unique among those that there are, and scripted.
-use Rattle.std.specs.Prelude.{◌≡◌, ℕ, zero, suc, ◌+◌, ◌-◌, ◌<◌, ◌||◌, Bool, true, false, nat_eq, nat_lt, if◌then◌else◌, List, [], ◌∷◌, ◌++◌, length, bytes_eq, codes}
+use Rattle.std.specs.Prelude.{◌≡◌, ℕ, zero, suc, ◌+◌, ◌-◌, ◌<◌, ◌||◌, Bool, true, false, nat_eq, nat_lt, if◌then◌else◌, List, [], ◌∷◌, ◌++◌, length, bytes_eq}
+use Rattle.std.specs.Prelude.{codes}
 use Rattle.std.specs.Fmt.{decimal}
 use Rattle.std.specs.List.{list_any}
 use Rattle.std.specs.BTreeSet.{BTreeSet, contains_text, btree_set_len}
@@ -62,7 +63,8 @@ pub record GainsName {A : Type 0} (old new : BTreeSet (String A)) (name : List �
 -- A URL: the host, and a name in kebab case that is read, made unique among the names of a set, and gained by that.
 abbrev pub ReadsUrl : {A : Type 0} → ℕ → BTreeSet (String A) → BTreeSet (String A) → List ℕ → List ℕ → List ℕ → Type 0
 ReadsUrl max old new bytes url rest =
-    (text name : List ℕ) × (url ≡ codes "https://example.com/" ++ name) × ReadsKebab max bytes text rest × IsUniqueIn old text name × Kebab name × GainsName old new name
+    (text name : List ℕ) × (url ≡ codes "https://example.com/" ++ name) × ReadsKebab max bytes text rest × IsUniqueIn old text name × Kebab name
+    × GainsName old new name
 
 -- Is the text one of the names?
 abbrev pub is_among : List (List ℕ) → List ℕ → Bool

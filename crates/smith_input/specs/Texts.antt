@@ -11,7 +11,8 @@ pub record ReadsByte (bytes : List ℕ) (value : ℕ) (rest : List ℕ) : Type 0
 -- Bytes of any length: a byte follows each boolean that is true, up to the first that is false.
 pub data ReadsBytes : List ℕ → List ℕ → List ℕ → Type 0 where
   ends : {bytes rest : List ℕ} → Flips bytes false rest → ReadsBytes bytes [] rest
-  follows : {bytes mid low rest : List ℕ} {value : ℕ} {values : List ℕ} → Flips bytes true mid → ReadsByte mid value low → ReadsBytes low values rest → ReadsBytes bytes (value ∷ values) rest
+  follows : {bytes mid low rest : List ℕ} {value : ℕ} {values : List ℕ} → Flips bytes true mid → ReadsByte mid value low → ReadsBytes low values rest
+      → ReadsBytes bytes (value ∷ values) rest
 
 -- The text is a prefix of the bytes that is UTF-8, and no longer prefix is.
 pub record IsLongestText (bytes text : List ℕ) : Type 0 where

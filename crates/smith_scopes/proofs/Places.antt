@@ -29,7 +29,8 @@ module _ {A : Type 0} (test : A → Bool) where
 
 -- What passes a test stands among the places of what does.
 module _ {A : Type 0} (test : A → Bool) where
-  place_split : (x : A) (xs : List A) (n i : ℕ) → (k : ℕ) × (slice_get (places test (n + 1) xs) k ≡ Some i) → (b : Bool) → test x ≡ b → (k : ℕ) × (slice_get (cond b (n ∷ places test (n + 1) xs) (places test (n + 1) xs)) k ≡ Some i)
+  place_split : (x : A) (xs : List A) (n i : ℕ) → (k : ℕ) × (slice_get (places test (n + 1) xs) k ≡ Some i) → (b : Bool) → test x ≡ b
+      → (k : ℕ) × (slice_get (cond b (n ∷ places test (n + 1) xs) (places test (n + 1) xs)) k ≡ Some i)
   place_split x xs n i later true t = (suc later.0, later.1)
   place_split x xs n i later false t = later
 
@@ -59,7 +60,8 @@ get_right (x ∷ xs) ys zero j h = absurd (omega arith)
 get_right (x ∷ xs) ys (suc k) j h = get_right xs ys k j (omega arith)
 
 -- an item of two lists in a row stands in one of them
-pub get_either : {A : Type 0} (xs ys : List A) (k : ℕ) (x : A) → slice_get (xs ++ ys) k ≡ Some x → ((j : ℕ) × (slice_get xs j ≡ Some x)) ⊎ ((j : ℕ) × (slice_get ys j ≡ Some x))
+pub get_either : {A : Type 0} (xs ys : List A) (k : ℕ) (x : A) → slice_get (xs ++ ys) k ≡ Some x
+    → ((j : ℕ) × (slice_get xs j ≡ Some x)) ⊎ ((j : ℕ) × (slice_get ys j ≡ Some x))
 get_either [] ys k x e = inr (k, e)
 get_either (z ∷ xs) ys zero x e = inl (0, e)
 get_either (z ∷ xs) ys (suc k) x e = elim (get_either xs ys k x e) [ inl p ↦ inl (suc p.0, p.1) | inr p ↦ inr p ]

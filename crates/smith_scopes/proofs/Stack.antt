@@ -1,5 +1,6 @@
 -- Stacks of scopes, and the places of their entries.
-use Rattle.std.proofs.Common.{◌≡◌, ℕ, ◌+◌, ◌<◌, ◌≤◌, Bool, true, false, cond, List, [], ◌∷◌, ◌++◌, get_or, length, map, reverse, refl, sym, ap, ◌∙◌, arith, append-nil}
+use Rattle.std.proofs.Common.{◌≡◌, ℕ, ◌+◌, ◌<◌, ◌≤◌, Bool, true, false, cond, List, [], ◌∷◌, ◌++◌, get_or, length, map, reverse, refl, sym, ap, ◌∙◌, arith}
+use Rattle.std.proofs.Common.{append-nil}
 use Rattle.std.proofs.lemmas.List.{reverse-append, map-append, length-map, length-reverse}
 use Rattle.smith_syntax.specs.Scope.{Scope, empty_scope, with_type, with_types, with_core_type, with_core_types, own_of, outer_of, places}
 use Rattle.smith_scopes.specs.Scopes.{Contents, shown_scope, inward, last_of, Changes, AddsType, AddsCoreType}
@@ -14,7 +15,8 @@ pub last_is : (scopes ss : List Contents) (s : Contents) → ss ++ s ∷ [] ≡ 
 last_is scopes ss s e = ap last_of (sym e) ∙ last_of-snoc ss s
 
 -- what holds of the places in the innermost scope holds of those in the last one
-pub places_last : (test : DefType → Bool) (scopes ss : List Contents) (s : Contents) (row : List ℕ) → ss ++ s ∷ [] ≡ scopes → row ≡ places test 0 s.types → row ≡ places test 0 (last_of scopes).types
+pub places_last : (test : DefType → Bool) (scopes ss : List Contents) (s : Contents) (row : List ℕ) → ss ++ s ∷ [] ≡ scopes → row ≡ places test 0 s.types
+    → row ≡ places test 0 (last_of scopes).types
 places_last test scopes ss s row e is = is ∙ ap (λ d. places test 0 d.types) (sym (last_is scopes ss s e))
 
 pub inward-snoc : (ss : List Contents) (s : Contents) → inward (ss ++ s ∷ []) ≡ shown_scope s ∷ inward ss
@@ -33,7 +35,8 @@ module _ {A : Type 0} (p : A → Bool) where
   places-append i (x ∷ xs) ys =
       let rest = places-append (i + 1) xs ys in
       let at : i + 1 + length xs ≡ i + length (x ∷ xs) = omega arith in
-      ap (λ ws. cond (p x) (i ∷ ws) ws) (rest ∙ ap (λ k. places p (i + 1) xs ++ places p k ys) at) ∙ push_front (p x) i (places p (i + 1) xs) (places p (i + length (x ∷ xs)) ys)
+      ap (λ ws. cond (p x) (i ∷ ws) ws) (rest ∙ ap (λ k. places p (i + 1) xs ++ places p k ys) at)
+      ∙ push_front (p x) i (places p (i + 1) xs) (places p (i + length (x ∷ xs)) ys)
 
   longer : (b : Bool) (i : ℕ) (us : List ℕ) (n : ℕ) → length us ≤ n → length (cond b (i ∷ us) us) ≤ n + 1
   longer true i us n h = omega arith
@@ -74,7 +77,8 @@ pub record Grown (f : Scope → Scope) (old new : List Contents) : Type 0 where
   pub whole : inward new ≡ own_of (inward new) ∷ outer_of (inward new)
   pub was : inward old ≡ own_of (inward old) ∷ outer_of (inward old)
 
-changed : (g : Contents → Contents) (f : Scope → Scope) → ((d : Contents) → shown_scope (g d) ≡ f (shown_scope d)) → (old new : List Contents) → Changes g old new → Grown f old new
+changed : (g : Contents → Contents) (f : Scope → Scope) → ((d : Contents) → shown_scope (g d) ≡ f (shown_scope d)) → (old new : List Contents)
+    → Changes g old new → Grown f old new
 changed g f shows old new a =
     let b : inward old ≡ shown_scope a.own ∷ inward a.outer = ap inward a.before ∙ inward-snoc a.outer a.own in
     let n : inward new ≡ shown_scope (g a.own) ∷ inward a.outer = ap inward a.after ∙ inward-snoc a.outer (g a.own) in
@@ -87,11 +91,13 @@ changed g f shows old new a =
 
 pub grown : (old new : List Contents) (ty : DefType) → AddsType old ty new → Grown (λ s. with_type s (shown_type ty)) old new
 grown old new ty a =
-    changed (λ d. with_type d ty) (λ s. with_type s (shown_type ty)) (λ d. ap (λ ts. record { types = ts; core_types = map shown_core d.core_types }) (map-append shown_type d.types (ty ∷ []))) old new a
+    changed (λ d. with_type d ty) (λ s. with_type s (shown_type ty))
+    (λ d. ap (λ ts. record { types = ts; core_types = map shown_core d.core_types }) (map-append shown_type d.types (ty ∷ []))) old new a
 
 pub grown_core : (old new : List Contents) (ty : CoreType) → AddsCoreType old ty new → Grown (λ s. with_core_type s (shown_core ty)) old new
 grown_core old new ty a =
-    changed (λ d. with_core_type d ty) (λ s. with_core_type s (shown_core ty)) (λ d. ap (λ ts. record { types = map shown_type d.types; core_types = ts }) (map-append shown_core d.core_types (ty ∷ []))) old new a
+    changed (λ d. with_core_type d ty) (λ s. with_core_type s (shown_core ty))
+    (λ d. ap (λ ts. record { types = map shown_type d.types; core_types = ts }) (map-append shown_core d.core_types (ty ∷ []))) old new a
 
 -- A scope is opened, and closed.
 

@@ -5,10 +5,12 @@ use Rattle.smith_format.specs.CoreTypes.{core_val, core_function}
 use Rattle.smith_format.specs.Entities.{entity}
 use Rattle.smith_format.specs.Piece.{Piece, ◌⊕◌, byte, s_index, text, many, u}
 use Rattle.smith_format.specs.declared.types.EntityType.{EntityType}
-use Rattle.smith_format.proofs.Clear.{tail, head, then_head, then_tail, then_agree, clash, clear_byte, clear_s_index, s_index_head, clear_text, clear_u, clear_many, clear_both}
+use Rattle.smith_format.proofs.Clear.{tail, head, then_head, then_tail, then_agree, clash, clear_byte, clear_s_index, s_index_head, clear_text, clear_u}
+use Rattle.smith_format.proofs.Clear.{clear_many, clear_both}
 use Rattle.smith_format.proofs.CoreTypes.{clear_core_function}
 use Rattle.smith_format.proofs.Entities.{clear_entity}
-use Rattle.smith_syntax.specs.Entries.{DefValType, primitive_type, record_type, variant_type, list_type, tuple_type, flags_type, enum_type, option_type, result_type}
+use Rattle.smith_syntax.specs.Entries.{DefValType, primitive_type, record_type, variant_type, list_type, tuple_type, flags_type, enum_type, option_type}
+use Rattle.smith_syntax.specs.Entries.{result_type}
 use Rattle.smith_syntax.specs.Entries.{Field, Signature, CoreEntry, core_func, core_module, ModuleDecl, imports, declares, aliases, exports}
 use Rattle.smith_syntax.specs.Grammar.{primvaltype, valtype, maybe_valtype, labelvaltype, case, resultlist, defvaltype, functype, moduledecl, core_entry}
 use Rattle.smith_syntax.specs.declared.types.ComponentValType.{ComponentValType}
@@ -87,7 +89,8 @@ clear_fields : IsClear (many labelvaltype)
 clear_fields = clear_many labelvaltype clear_field
 
 -- a value type that may be missing, and the byte that ends a case
-case_end_law : (x y : Option ComponentValType) (p q : Piece) (b : List ℕ) → (maybe_valtype x ⊕ byte 0) ⊕ p ≡ Some b → (maybe_valtype y ⊕ byte 0) ⊕ q ≡ Some b → Agree x y p q
+case_end_law : (x y : Option ComponentValType) (p q : Piece) (b : List ℕ) → (maybe_valtype x ⊕ byte 0) ⊕ p ≡ Some b → (maybe_valtype y ⊕ byte 0) ⊕ q ≡ Some b
+    → Agree x y p q
 case_end_law x y p q b e h =
     let a = then_agree maybe_valtype clear_maybe x y (byte 0) (byte 0) p q b e h in
     record { same = a.same; rests = tail (0 ∷ []) p q a.rests.rest a.rests.first a.rests.second }
@@ -153,19 +156,22 @@ same_tag : (x y : DefValType) (p q : Piece) (b : List ℕ) → defvaltype x ⊕ 
 same_tag x y p q b e h = clash _ _ b (tagged x p b e) (tagged y q b h)
 
 -- a list after a byte that says what it is
-list_law : {A : Type 0} (first : ℕ) (f : A → Piece) → IsClear f → {T : Type 0} (of : List A → T) → (x y : List A) (p q : Piece) (b : List ℕ) → (byte first ⊕ many f x) ⊕ p ≡ Some b → (byte first ⊕ many f y) ⊕ q ≡ Some b → Agree (of x) (of y) p q
+list_law : {A : Type 0} (first : ℕ) (f : A → Piece) → IsClear f → {T : Type 0} (of : List A → T) → (x y : List A) (p q : Piece) (b : List ℕ)
+    → (byte first ⊕ many f x) ⊕ p ≡ Some b → (byte first ⊕ many f y) ⊕ q ≡ Some b → Agree (of x) (of y) p q
 list_law first f clear of x y p q b e h =
     let t = then_tail (first ∷ []) (many f x) (many f y) p q b e h in
     let r = (clear_many f clear).law x y p q t.rest t.first t.second in record { same = ap of r.same; rests = r.rests }
 
 -- a value type after such a byte
-val_after_law : (first : ℕ) (of : ComponentValType → DefValType) → (x y : ComponentValType) (p q : Piece) (b : List ℕ) → (byte first ⊕ valtype x) ⊕ p ≡ Some b → (byte first ⊕ valtype y) ⊕ q ≡ Some b → Agree (of x) (of y) p q
+val_after_law : (first : ℕ) (of : ComponentValType → DefValType) → (x y : ComponentValType) (p q : Piece) (b : List ℕ) → (byte first ⊕ valtype x) ⊕ p ≡ Some b
+    → (byte first ⊕ valtype y) ⊕ q ≡ Some b → Agree (of x) (of y) p q
 val_after_law first of x y p q b e h =
     let t = then_tail (first ∷ []) (valtype x) (valtype y) p q b e h in
     let r = clear_val.law x y p q t.rest t.first t.second in record { same = ap of r.same; rests = r.rests }
 
 defined_law : (x y : DefValType) (p q : Piece) (b : List ℕ) → defvaltype x ⊕ p ≡ Some b → defvaltype y ⊕ q ≡ Some b → Agree x y p q
-defined_law (primitive_type a) (primitive_type c) p q b e h = let r = clear_primitive.law a c p q b e h in record { same = ap primitive_type r.same; rests = r.rests }
+defined_law (primitive_type a) (primitive_type c) p q b e h = let r = clear_primitive.law a c p q b e h in
+    record { same = ap primitive_type r.same; rests = r.rests }
 defined_law (record_type x) (record_type y) p q b e h = list_law 0x72 labelvaltype clear_field record_type x y p q b e h
 defined_law (variant_type x) (variant_type y) p q b e h = list_law 0x71 case clear_case variant_type x y p q b e h
 defined_law (list_type x) (list_type y) p q b e h = val_after_law 0x70 list_type x y p q b e h
@@ -222,7 +228,8 @@ same_decl_tag x y p q b e h = clash _ _ b (decl_tagged x p b e) (decl_tagged y q
 decl_law : (x y : ModuleDecl) (p q : Piece) (b : List ℕ) → moduledecl x ⊕ p ≡ Some b → moduledecl y ⊕ q ≡ Some b → Agree x y p q
 decl_law (imports m n e) (imports o r f) p q b i j =
     let t = then_tail (0x00 ∷ []) (text m ⊕ text n ⊕ entity e) (text o ⊕ text r ⊕ entity f) p q b i j in
-    let z = clear_imported.law (m, (n, e)) (o, (r, f)) p q t.rest t.first t.second in record { same = ap (λ x. imports x.0 x.1.0 x.1.1) z.same; rests = z.rests }
+    let z = clear_imported.law (m, (n, e)) (o, (r, f)) p q t.rest t.first t.second in
+    record { same = ap (λ x. imports x.0 x.1.0 x.1.1) z.same; rests = z.rests }
 decl_law (declares f) (declares g) p q b i j =
     let t = then_tail (0x01 ∷ []) (core_function f) (core_function g) p q b i j in
     let z = clear_core_function.law f g p q t.rest t.first t.second in record { same = ap declares z.same; rests = z.rests }

@@ -5,7 +5,8 @@ use Rattle.smith_format.specs.Piece.{Piece, ◌⊕◌, bytes, text, many, u}
 use Rattle.smith_format.proofs.Clear.{then_head, then_tail, then_agree, clash, clear_text, clear_u, clear_both}
 use Rattle.smith_format.proofs.Piece.{assoc, left_nil, left_none}
 use Rattle.smith_syntax.specs.Entries.{Entry, ImportEntry, defined, function, component_type, instance_type}
-use Rattle.smith_syntax.specs.Entries.{Decl, Decls, core_type_decl, type_decl, type_alias, core_type_alias, import_decl, export_decl, no_decls, then_decls, decl_count}
+use Rattle.smith_syntax.specs.Entries.{Decl, Decls, core_type_decl, type_decl, type_alias, core_type_alias, import_decl, export_decl, no_decls, then_decls}
+use Rattle.smith_syntax.specs.Entries.{decl_count}
 use Rattle.smith_syntax.specs.Grammar.{labelvaltype, resultlist, core_entry, externdesc, named_extern, importdecl, import_entry, entry, decl, decls}
 use Rattle.smith_syntax.specs.declared.deftype.ComponentTypeRef.{ComponentTypeRef}
 use Rattle.smith_syntax.specs.declared.deftype.ComponentTypeRef.TheVariants as to
@@ -29,7 +30,8 @@ ref_tagged (to.Component i) p b e = then_head 0x04 [] (u i) p b e
 ref_tagged (to.Instance i) p b e = then_head 0x05 [] (u i) p b e
 
 -- an index after bytes that say what it is of
-index_law : (first : List ℕ) (of : ℕ → ComponentTypeRef) (i j : ℕ) (p q : Piece) (b : List ℕ) → (bytes first ⊕ u i) ⊕ p ≡ Some b → (bytes first ⊕ u j) ⊕ q ≡ Some b → Agree (of i) (of j) p q
+index_law : (first : List ℕ) (of : ℕ → ComponentTypeRef) (i j : ℕ) (p q : Piece) (b : List ℕ) → (bytes first ⊕ u i) ⊕ p ≡ Some b
+    → (bytes first ⊕ u j) ⊕ q ≡ Some b → Agree (of i) (of j) p q
 index_law first of i j p q b e h =
     let t = then_tail first (u i) (u j) p q b e h in
     let r = clear_u.law i j p q t.rest t.first t.second in record { same = ap of r.same; rests = r.rests }
@@ -91,7 +93,8 @@ decl_tag (core_type_alias count i k) = 0x02
 decl_tag (import_decl name n r) = 0x03
 decl_tag (export_decl name n r) = 0x04
 
-import_tagged : (importing : Bool) (name : List ℕ) (r : ComponentTypeRef) (p : Piece) (b : List ℕ) → importdecl importing name r ⊕ p ≡ Some b → (t : List ℕ) × (b ≡ 0x03 ∷ t)
+import_tagged : (importing : Bool) (name : List ℕ) (r : ComponentTypeRef) (p : Piece) (b : List ℕ) → importdecl importing name r ⊕ p ≡ Some b
+    → (t : List ℕ) × (b ≡ 0x03 ∷ t)
 import_tagged true name r p b e = then_head 0x03 [] (named_extern name r) p b e
 import_tagged false name r p b e = let z : None ≡ Some b = sym (left_none p) ∙ e in cc
 
@@ -103,16 +106,20 @@ decl_tagged importing (core_type_alias count i k) p b e = then_head 0x02 (0x00 �
 decl_tagged importing (import_decl name n r) p b e = import_tagged importing name r p b e
 decl_tagged importing (export_decl name n r) p b e = then_head 0x04 [] (named_extern name r) p b e
 
-same_decl_tag : (importing : Bool) (x y : Decl) (p q : Piece) (b : List ℕ) → decl importing x ⊕ p ≡ Some b → decl importing y ⊕ q ≡ Some b → decl_tag x ≡ decl_tag y
+same_decl_tag : (importing : Bool) (x y : Decl) (p q : Piece) (b : List ℕ) → decl importing x ⊕ p ≡ Some b → decl importing y ⊕ q ≡ Some b
+    → decl_tag x ≡ decl_tag y
 same_decl_tag importing x y p q b e h = clash _ _ b (decl_tagged importing x p b e) (decl_tagged importing y q b h)
 
 -- the second byte tells an alias of a type from one of a core type
-aliases_differ : (x y p q : Piece) (b : List ℕ) → (bytes (0x02 ∷ 0x03 ∷ 0x02 ∷ []) ⊕ x) ⊕ p ≡ Some b → (bytes (0x02 ∷ 0x00 ∷ 0x10 ∷ 0x02 ∷ []) ⊕ y) ⊕ q ≡ Some b → ⊥
+aliases_differ : (x y p q : Piece) (b : List ℕ) → (bytes (0x02 ∷ 0x03 ∷ 0x02 ∷ []) ⊕ x) ⊕ p ≡ Some b → (bytes (0x02 ∷ 0x00 ∷ 0x10 ∷ 0x02 ∷ []) ⊕ y) ⊕ q ≡ Some b
+    → ⊥
 unfolding ◌⊕◌
-aliases_differ (Some x) (Some y) (Some p) (Some q) b e h = let z : bytes (0x02 ∷ 0x03 ∷ 0x02 ∷ (x ++ p)) ≡ bytes (0x02 ∷ 0x00 ∷ 0x10 ∷ 0x02 ∷ (y ++ q)) = e ∙ sym h in absurd (cc)
+aliases_differ (Some x) (Some y) (Some p) (Some q) b e h = let z : bytes (0x02 ∷ 0x03 ∷ 0x02 ∷ (x ++ p)) ≡ bytes (0x02 ∷ 0x00 ∷ 0x10 ∷ 0x02 ∷ (y ++ q)) = e
+    ∙ sym h in absurd (cc)
 aliases_differ x y p q b e h = absurd (cc)
 
-import_law : (importing : Bool) (x y : List ℕ × ComponentTypeRef) (p q : Piece) (b : List ℕ) → importdecl importing x.0 x.1 ⊕ p ≡ Some b → importdecl importing y.0 y.1 ⊕ q ≡ Some b → Agree x y p q
+import_law : (importing : Bool) (x y : List ℕ × ComponentTypeRef) (p q : Piece) (b : List ℕ) → importdecl importing x.0 x.1 ⊕ p ≡ Some b
+    → importdecl importing y.0 y.1 ⊕ q ≡ Some b → Agree x y p q
 import_law true x y p q b e h =
     let t = then_tail (0x03 ∷ []) (named_extern x.0 x.1) (named_extern y.0 y.1) p q b e h in
     named_law x y p q t.rest t.first t.second
@@ -156,12 +163,15 @@ mutual
       let z = named_law (name, r) (other, s) p q t.rest t.first t.second in record { same = ap (λ x. export_decl x.0 n x.1) z.same; rests = z.rests }
   decl_law importing x y p q b e h = let c = same_decl_tag importing x y p q b e h in absurd (omega arith)
 
-  decls_law : (importing : Bool) (ds es : Decls) (p q : Piece) (b : List ℕ) → decl_count ds ≡ decl_count es → decls importing ds ⊕ p ≡ Some b → decls importing es ⊕ q ≡ Some b → Agree ds es p q
-  decls_law importing no_decls no_decls p q b n e h = record { same = refl; rests = record { rest = b; first = sym (left_nil p) ∙ e; second = sym (left_nil q) ∙ h } }
+  decls_law : (importing : Bool) (ds es : Decls) (p q : Piece) (b : List ℕ) → decl_count ds ≡ decl_count es → decls importing ds ⊕ p ≡ Some b
+      → decls importing es ⊕ q ≡ Some b → Agree ds es p q
+  decls_law importing no_decls no_decls p q b n e h = record
+      { same = refl; rests = record { rest = b; first = sym (left_nil p) ∙ e; second = sym (left_nil q) ∙ h } }
   decls_law importing no_decls (then_decls d es) p q b n e h = absurd (omega arith)
   decls_law importing (then_decls d ds) no_decls p q b n e h = absurd (omega arith)
   decls_law importing (then_decls d ds) (then_decls c es) p q b n e h =
-      let a = decl_law importing d c (decls importing ds ⊕ p) (decls importing es ⊕ q) b (sym (assoc (decl importing d) (decls importing ds) p) ∙ e) (sym (assoc (decl importing c) (decls importing es) q) ∙ h) in
+      let a = decl_law importing d c (decls importing ds ⊕ p) (decls importing es ⊕ q) b (sym (assoc (decl importing d) (decls importing ds) p) ∙ e)
+      (sym (assoc (decl importing c) (decls importing es) q) ∙ h) in
       let m : decl_count ds ≡ decl_count es = omega arith in
       let r = decls_law importing ds es p q a.rests.rest m a.rests.first a.rests.second in
       record { same = λ i. then_decls (a.same i) (r.same i); rests = r.rests }

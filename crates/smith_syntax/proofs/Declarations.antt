@@ -28,25 +28,32 @@ module _ {N K : Type 0} where
   each_of b (d ∷ ds) = ap (λ p. decl b (plain_decl d) ⊕ p) (each_of b ds)
 
   -- declarations in order are spelled as a list of them
-  pub many_of : (b : Bool) (ds : List (DeclOf N K)) → u (decl_count (plain_decls (in_order ds))) ⊕ decls b (plain_decls (in_order ds)) ≡ many (λ d. decl b (plain_decl d)) ds
+  pub many_of : (b : Bool) (ds : List (DeclOf N K)) → u (decl_count (plain_decls (in_order ds))) ⊕ decls b (plain_decls (in_order ds)) ≡ many
+      (λ d. decl b (plain_decl d)) ds
   many_of b ds = ap (λ n. u n ⊕ decls b (plain_decls (in_order ds))) (count_of ds) ∙ ap (λ p. u (length ds) ⊕ p) (each_of b ds)
 
-pub entry_component : (t : Rc ComponentType Global) → entry (shown_type (ty.Component t)) ≡ byte 0x41 ⊕ many (λ d. decl true (shown_component_decl d)) t.value.defs.items
+pub entry_component : (t : Rc ComponentType Global) → entry (shown_type (ty.Component t)) ≡ byte 0x41 ⊕ many (λ d. decl true (shown_component_decl d))
+    t.value.defs.items
 entry_component t =
     ap entry (shown_component_is t)
-    ∙ ap (λ p. byte 0x41 ⊕ p) (many_of true (map full_component_decl t.value.defs.items) ∙ many-map (λ d. decl true (plain_decl d)) full_component_decl t.value.defs.items)
+    ∙ ap (λ p. byte 0x41 ⊕ p) (many_of true (map full_component_decl t.value.defs.items)
+    ∙ many-map (λ d. decl true (plain_decl d)) full_component_decl t.value.defs.items)
 
-pub entry_instance : (t : Rc InstanceType Global) → entry (shown_type (ty.Instance t)) ≡ byte 0x42 ⊕ many (λ d. decl false (shown_instance_decl d)) t.value.defs.items
+pub entry_instance : (t : Rc InstanceType Global) → entry (shown_type (ty.Instance t)) ≡ byte 0x42 ⊕ many (λ d. decl false (shown_instance_decl d))
+    t.value.defs.items
 entry_instance t =
     ap entry (shown_instance_is t)
-    ∙ ap (λ p. byte 0x42 ⊕ p) (many_of false (map full_instance_decl t.value.defs.items) ∙ many-map (λ d. decl false (plain_decl d)) full_instance_decl t.value.defs.items)
+    ∙ ap (λ p. byte 0x42 ⊕ p) (many_of false (map full_instance_decl t.value.defs.items)
+    ∙ many-map (λ d. decl false (plain_decl d)) full_instance_decl t.value.defs.items)
 
 -- outer aliases
 
-pub type_alias_is : (b : Bool) (a : Alias) (t : Rc DefType Global) → a.kind ≡ kind.OfType t → decl b (shown_alias a) ≡ bytes (0x02 ∷ 0x03 ∷ 0x02 ∷ []) ⊕ u a.count ⊕ u a.i
+pub type_alias_is : (b : Bool) (a : Alias) (t : Rc DefType Global) → a.kind ≡ kind.OfType t
+    → decl b (shown_alias a) ≡ bytes (0x02 ∷ 0x03 ∷ 0x02 ∷ []) ⊕ u a.count ⊕ u a.i
 type_alias_is b a t e = ap (λ d. decl b (plain_decl d)) (alias_of_type a t e)
 
-pub core_type_alias_is : (b : Bool) (a : Alias) (t : Rc CoreType Global) → a.kind ≡ kind.OfCoreType t → decl b (shown_alias a) ≡ bytes (0x02 ∷ 0x00 ∷ 0x10 ∷ 0x02 ∷ []) ⊕ u a.count ⊕ u a.i
+pub core_type_alias_is : (b : Bool) (a : Alias) (t : Rc CoreType Global) → a.kind ≡ kind.OfCoreType t
+    → decl b (shown_alias a) ≡ bytes (0x02 ∷ 0x00 ∷ 0x10 ∷ 0x02 ∷ []) ⊕ u a.count ⊕ u a.i
 core_type_alias_is b a t e = ap (λ d. decl b (plain_decl d)) (alias_of_core_type a t e)
 
 -- a length, and one byte before it

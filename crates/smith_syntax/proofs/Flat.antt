@@ -40,7 +40,8 @@ module _ {A : Type 0} (f : A → Option ValType) where
       let both = both_true (is_some (f x)) (list_all (λ z. is_some (f z)) xs) e in
       by_value (f x) refl both.0 (some_each xs both.1)
     where
-      by_value : (v : Option ValType) → f x ≡ v → is_some (f x) ≡ true → (ys : List ValType) × (map f xs ≡ map Some ys) → (ys : List ValType) × (map f (x ∷ xs) ≡ map Some ys)
+      by_value : (v : Option ValType) → f x ≡ v → is_some (f x) ≡ true → (ys : List ValType) × (map f xs ≡ map Some ys)
+          → (ys : List ValType) × (map f (x ∷ xs) ≡ map Some ys)
       by_value None is some later = absurd (false≢true (sym (ap is_some is) ∙ some))
       by_value (Some y) is some later = (y ∷ later.0, λ i. is i ∷ later.1 i)
 

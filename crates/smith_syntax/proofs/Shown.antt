@@ -17,8 +17,10 @@ use Rattle.smith_syntax.specs.declared.deftype.InstanceTypeDecl.TheVariants as i
 use Rattle.smith_syntax.specs.declared.deftype.OuterAliasKind.TheVariants as kind
 use Rattle.smith_syntax.specs.declared.func.FuncType.{FuncType}
 use Rattle.smith_syntax.specs.declared.types.DefinedType.{DefinedType}
-use Rattle.smith_syntax.specs.Entries.{component_type, core_type_alias, core_type_decl, defined, export_decl, function, import_decl, in_order, instance_type, keeps_core_type, keeps_functions, keeps_type, plain, plain_decls, type_alias, type_decl}
-use Rattle.smith_syntax.specs.Shown.{full_alias, full_component_decl, full_instance_decl, full_type, kept_core, shown_core, shown_defined, shown_type, shown_url}
+use Rattle.smith_syntax.specs.Entries.{component_type, core_type_alias, core_type_decl, defined, export_decl, function, import_decl, in_order, instance_type}
+use Rattle.smith_syntax.specs.Entries.{keeps_core_type, keeps_functions, keeps_type, plain, plain_decls, type_alias, type_decl}
+use Rattle.smith_syntax.specs.Shown.{full_alias, full_component_decl, full_instance_decl, full_type, kept_core, shown_core, shown_defined, shown_type}
+use Rattle.smith_syntax.specs.Shown.{shown_url}
 
 -- types with URLs and with what their aliases keep
 
@@ -41,7 +43,8 @@ component_import i = search (rules, the_lemmas)
 
 -- what an instance type declares
 
-pub instance_core_decl : (t : Rc CoreType Global) → full_instance_decl (in_instance.CoreTypeDecl t) ≡ core_type_decl (shown_core t.value) (keeps_functions (kept_core t.value))
+pub instance_core_decl : (t : Rc CoreType Global) → full_instance_decl (in_instance.CoreTypeDecl t) ≡ core_type_decl (shown_core t.value)
+    (keeps_functions (kept_core t.value))
 instance_core_decl t = search (rules, the_lemmas)
 
 pub instance_type_decl : (t : Rc DefType Global) → full_instance_decl (in_instance.TypeDecl t) ≡ type_decl (full_type t.value)
@@ -50,21 +53,26 @@ instance_type_decl t = search (rules, the_lemmas)
 pub instance_alias : (a : Alias) → full_instance_decl (in_instance.Alias a) ≡ full_alias a
 instance_alias a = search (rules, the_lemmas)
 
-pub instance_export : (name : String Global) (url : Option (String Global)) (r : ComponentTypeRef) → full_instance_decl (in_instance.Export name url r) ≡ export_decl (string_bytes name) (shown_url url) r
+pub instance_export : (name : String Global) (url : Option (String Global)) (r : ComponentTypeRef)
+    → full_instance_decl (in_instance.Export name url r) ≡ export_decl (string_bytes name) (shown_url url) r
 instance_export name url r = search (rules, the_lemmas)
 
 -- outer aliases
 
-pub alias_of_type : (a : Alias) (t : Rc DefType Global) → a.kind ≡ kind.OfType t → full_alias a ≡ type_alias a.count a.i (keeps_type (plain (full_type t.value)))
+pub alias_of_type : (a : Alias) (t : Rc DefType Global) → a.kind ≡ kind.OfType t
+    → full_alias a ≡ type_alias a.count a.i (keeps_type (plain (full_type t.value)))
 alias_of_type a t e = search (rules, the_lemmas, e)
 
-pub alias_of_core_type : (a : Alias) (t : Rc CoreType Global) → a.kind ≡ kind.OfCoreType t → full_alias a ≡ core_type_alias a.count a.i (keeps_core_type (shown_core t.value))
+pub alias_of_core_type : (a : Alias) (t : Rc CoreType Global) → a.kind ≡ kind.OfCoreType t
+    → full_alias a ≡ core_type_alias a.count a.i (keeps_core_type (shown_core t.value))
 alias_of_core_type a t e = search (rules, the_lemmas, e)
 
 -- plain trees
 
-pub shown_component_is : (t : Rc ComponentType Global) → shown_type (ty.Component t) ≡ component_type (plain_decls (in_order (map full_component_decl t.value.defs.items)))
+pub shown_component_is : (t : Rc ComponentType Global) → shown_type (ty.Component t) ≡ component_type
+    (plain_decls (in_order (map full_component_decl t.value.defs.items)))
 shown_component_is t = search (rules, the_lemmas)
 
-pub shown_instance_is : (t : Rc InstanceType Global) → shown_type (ty.Instance t) ≡ instance_type (plain_decls (in_order (map full_instance_decl t.value.defs.items)))
+pub shown_instance_is : (t : Rc InstanceType Global) → shown_type (ty.Instance t) ≡ instance_type
+    (plain_decls (in_order (map full_instance_decl t.value.defs.items)))
 shown_instance_is t = search (rules, the_lemmas)

@@ -32,7 +32,8 @@ each : (xs : List Stored) → flat_map field_input (map named xs) ≡ flat_map (
 each [] = refl
 each (x ∷ xs) = ap (λ ws. field_input (named x) ++ ws) (each xs)
 
-pub input-named : (xs : List Stored) (r : Option ComponentValType) → slice (λ p. field_input (named p)) xs ++ option val_hash.hash_input r ≡ signature_input (signature xs r)
+pub input-named : (xs : List Stored) (r : Option ComponentValType)
+    → slice (λ p. field_input (named p)) xs ++ option val_hash.hash_input r ≡ signature_input (signature xs r)
 input-named xs r = λ i. (usize (sym (length-map {A = Stored} xs named) i) ++ sym (each xs) i) ++ option val_hash.hash_input r
 
 -- A type has a signature exactly where it is shown as the function of it.
@@ -57,7 +58,8 @@ pub shown_signature : (s : Signature) (ty : DefType) → shown_type ty ≡ funct
 shown_signature s ty e = tells s (full_type ty) e
 
 -- how a function type is spelled, by its fields
-pub functype_is : (f : Signature) (ps : List Stored) (r : Option ComponentValType) → signature ps r ≡ f → functype f ≡ (byte 0x40 ⊕ many (λ p. labelvaltype (named p)) ps) ⊕ resultlist r
+pub functype_is : (f : Signature) (ps : List Stored) (r : Option ComponentValType) → signature ps r ≡ f
+    → functype f ≡ (byte 0x40 ⊕ many (λ p. labelvaltype (named p)) ps) ⊕ resultlist r
 functype_is f ps r e =
     ap functype (sym e) ∙ ap (λ p. byte 0x40 ⊕ p ⊕ resultlist r) (many-map labelvaltype named ps)
     ∙ sym (assoc (byte 0x40) (many (λ p. labelvaltype (named p)) ps) (resultlist r))

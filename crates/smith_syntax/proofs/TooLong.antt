@@ -6,11 +6,16 @@ use Rattle.smith_format.specs.Piece.{◌⊕◌, bytes, u, text, many}
 use Rattle.smith_format.specs.TooLong.{Passes, ListTooLong}
 use Rattle.smith_format.proofs.Sizes.{u_none_where, s_index_none_where}
 use Rattle.smith_format.proofs.TooLong.{join_none, after_bytes, before_bytes, bytes_none, name_none, many_none_where, function_none_where, entity_none_where}
-use Rattle.smith_syntax.specs.Entries.{DefValType, primitive_type, record_type, variant_type, list_type, tuple_type, flags_type, enum_type, option_type, result_type}
-use Rattle.smith_syntax.specs.Entries.{Field, Case, Signature, Entry, defined, function, component_type, instance_type, CoreEntry, core_func, core_module, ModuleDecl, imports, declares, aliases, exports}
-use Rattle.smith_syntax.specs.Entries.{ImportEntry, Decl, Decls, core_type_decl, type_decl, type_alias, core_type_alias, import_decl, export_decl, no_decls, then_decls, decl_count}
-use Rattle.smith_syntax.specs.Grammar.{primvaltype, valtype, maybe_valtype, labelvaltype, case, resultlist, defvaltype, functype, moduledecl, core_entry, externdesc, named_extern, importdecl, import_entry, entry, decl, decls}
-use Rattle.smith_syntax.specs.TooLong.{ValTooLong, MaybeTooLong, FieldTooLong, CaseTooLong, DefinedTooLong, DeclTooLong, CoreEntryTooLong, RefTooLong, ExternTooLong, ImportEntryTooLong, ImportTooLong, EntryTooLong, DeclarationTooLong, DeclarationsTooLong}
+use Rattle.smith_syntax.specs.Entries.{DefValType, primitive_type, record_type, variant_type, list_type, tuple_type, flags_type, enum_type, option_type}
+use Rattle.smith_syntax.specs.Entries.{result_type}
+use Rattle.smith_syntax.specs.Entries.{Field, Case, Signature, Entry, defined, function, component_type, instance_type, CoreEntry, core_func, core_module}
+use Rattle.smith_syntax.specs.Entries.{ModuleDecl, imports, declares, aliases, exports}
+use Rattle.smith_syntax.specs.Entries.{ImportEntry, Decl, Decls, core_type_decl, type_decl, type_alias, core_type_alias, import_decl, export_decl, no_decls}
+use Rattle.smith_syntax.specs.Entries.{then_decls, decl_count}
+use Rattle.smith_syntax.specs.Grammar.{primvaltype, valtype, maybe_valtype, labelvaltype, case, resultlist, defvaltype, functype, moduledecl, core_entry}
+use Rattle.smith_syntax.specs.Grammar.{externdesc, named_extern, importdecl, import_entry, entry, decl, decls}
+use Rattle.smith_syntax.specs.TooLong.{ValTooLong, MaybeTooLong, FieldTooLong, CaseTooLong, DefinedTooLong, DeclTooLong, CoreEntryTooLong, RefTooLong}
+use Rattle.smith_syntax.specs.TooLong.{ExternTooLong, ImportEntryTooLong, ImportTooLong, EntryTooLong, DeclarationTooLong, DeclarationsTooLong}
 use Rattle.smith_syntax.specs.declared.deftype.ComponentTypeRef.{ComponentTypeRef}
 use Rattle.smith_syntax.specs.declared.deftype.ComponentTypeRef.TheVariants as to
 use Rattle.smith_syntax.specs.declared.types.ComponentValType.{ComponentValType}
@@ -43,10 +48,12 @@ defined_none (tuple_type vs) = after_bytes (0x6f ∷ []) (many valtype vs) (many
 defined_none (flags_type ns) = after_bytes (0x6e ∷ []) (many text ns) (many_none_where text name_none ns)
 defined_none (enum_type ns) = after_bytes (0x6d ∷ []) (many text ns) (many_none_where text name_none ns)
 defined_none (option_type v) = after_bytes (0x6b ∷ []) (valtype v) (val_none v)
-defined_none (result_type ok err) = after_bytes (0x6a ∷ []) (maybe_valtype ok ⊕ maybe_valtype err) (join_none (maybe_valtype ok) (maybe_valtype err) (maybe_none ok) (maybe_none err))
+defined_none (result_type ok err) = after_bytes (0x6a ∷ []) (maybe_valtype ok ⊕ maybe_valtype err)
+    (join_none (maybe_valtype ok) (maybe_valtype err) (maybe_none ok) (maybe_none err))
 
 decl_none : (d : ModuleDecl) → (moduledecl d ≡ None) ↔ DeclTooLong d
-decl_none (imports m n e) = after_bytes (0 ∷ []) (text m ⊕ text n ⊕ entity e) (join_none (text m) (text n ⊕ entity e) (name_none m) (join_none (text n) (entity e) (name_none n) (entity_none_where e)))
+decl_none (imports m n e) = after_bytes (0 ∷ []) (text m ⊕ text n ⊕ entity e)
+    (join_none (text m) (text n ⊕ entity e) (name_none m) (join_none (text n) (entity e) (name_none n) (entity_none_where e)))
 decl_none (declares f) = after_bytes (1 ∷ []) (core_function f) (function_none_where f)
 decl_none (aliases count i) = after_bytes (0x02 ∷ 0x10 ∷ 0x01 ∷ []) (u count ⊕ u i) (join_none (u count) (u i) (u_none_where count) (u_none_where i))
 decl_none (exports n e) = after_bytes (3 ∷ []) (text n ⊕ entity e) (join_none (text n) (entity e) (name_none n) (entity_none_where e))
@@ -57,7 +64,8 @@ core_entry_none (core_module ds) = after_bytes (0x50 ∷ []) (many moduledecl ds
 
 function_type_none : (s : Signature) → (functype s ≡ None) ↔ (ListTooLong FieldTooLong s.params ⊎ MaybeTooLong s.result)
 function_type_none s =
-    after_bytes (0x40 ∷ []) (many labelvaltype s.params ⊕ resultlist s.result) (join_none (many labelvaltype s.params) (resultlist s.result) (many_none_where labelvaltype field_none s.params) (result_none s.result))
+    after_bytes (0x40 ∷ []) (many labelvaltype s.params ⊕ resultlist s.result)
+    (join_none (many labelvaltype s.params) (resultlist s.result) (many_none_where labelvaltype field_none s.params) (result_none s.result))
 
 ref_none : (r : ComponentTypeRef) → (externdesc r ≡ None) ↔ RefTooLong r
 ref_none (to.Module i) = after_bytes (0x00 ∷ 0x11 ∷ []) (u i) (u_none_where i)
@@ -84,8 +92,10 @@ mutual
   pub entry_none : (e : Entry) → (entry e ≡ None) ↔ EntryTooLong e
   entry_none (defined t) = defined_none t
   entry_none (function s) = function_type_none s
-  entry_none (component_type ds) = after_bytes (0x41 ∷ []) (u (decl_count ds) ⊕ decls true ds) (join_none (u (decl_count ds)) (decls true ds) (u_none_where (decl_count ds)) (declarations_none true ds))
-  entry_none (instance_type ds) = after_bytes (0x42 ∷ []) (u (decl_count ds) ⊕ decls false ds) (join_none (u (decl_count ds)) (decls false ds) (u_none_where (decl_count ds)) (declarations_none false ds))
+  entry_none (component_type ds) = after_bytes (0x41 ∷ []) (u (decl_count ds) ⊕ decls true ds)
+      (join_none (u (decl_count ds)) (decls true ds) (u_none_where (decl_count ds)) (declarations_none true ds))
+  entry_none (instance_type ds) = after_bytes (0x42 ∷ []) (u (decl_count ds) ⊕ decls false ds)
+      (join_none (u (decl_count ds)) (decls false ds) (u_none_where (decl_count ds)) (declarations_none false ds))
 
   declaration_none : (importing : Bool) (d : Decl) → (decl importing d ≡ None) ↔ DeclarationTooLong importing d
   declaration_none importing (core_type_decl t k) = after_bytes (0x00 ∷ []) (core_entry t) (core_entry_none t)
@@ -97,4 +107,5 @@ mutual
 
   declarations_none : (importing : Bool) (ds : Decls) → (decls importing ds ≡ None) ↔ DeclarationsTooLong importing ds
   declarations_none importing no_decls = bytes_none []
-  declarations_none importing (then_decls d ds) = join_none (decl importing d) (decls importing ds) (declaration_none importing d) (declarations_none importing ds)
+  declarations_none importing (then_decls d ds) = join_none (decl importing d) (decls importing ds) (declaration_none importing d)
+      (declarations_none importing ds)

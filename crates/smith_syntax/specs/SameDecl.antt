@@ -15,4 +15,5 @@ pub data SameDecl (d : InstanceTypeDecl) (r : ComponentTypeDef) : Type 0 where
   same_core_type : {t : Rc CoreType Global} → d ≡ in_instance.CoreTypeDecl t → r ≡ in_component.CoreTypeDecl t → SameDecl d r
   same_type : {t : Rc DefType Global} → d ≡ in_instance.TypeDecl t → r ≡ in_component.TypeDecl t → SameDecl d r
   same_alias : {a : Alias} → d ≡ in_instance.Alias a → r ≡ in_component.Alias a → SameDecl d r
-  same_export : {name : String Global} {url : Option (String Global)} {to : ComponentTypeRef} → d ≡ in_instance.Export name url to → r ≡ in_component.Export name url to → SameDecl d r
+  same_export : {name : String Global} {url : Option (String Global)} {to : ComponentTypeRef} → d ≡ in_instance.Export name url to
+      → r ≡ in_component.Export name url to → SameDecl d r

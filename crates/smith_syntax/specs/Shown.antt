@@ -4,10 +4,13 @@ use Rattle.std.specs.List.{flat_map}
 use Rattle.std.specs.declared.alloc.Global.{Global}
 use Rattle.std.specs.declared.rc.Rc.{Rc}
 use Rattle.smith_format.specs.CoreTypes.{Function, shown_func}
-use Rattle.smith_syntax.specs.Entries.{DefValType, primitive_type, record_type, variant_type, list_type, tuple_type, flags_type, enum_type, option_type, result_type}
-use Rattle.smith_syntax.specs.Entries.{EntryOf, FullEntry, FullDecl, FullDecls, component_type, instance_type, core_type_decl, type_decl, type_alias, core_type_alias, import_decl, export_decl}
+use Rattle.smith_syntax.specs.Entries.{DefValType, primitive_type, record_type, variant_type, list_type, tuple_type, flags_type, enum_type, option_type}
+use Rattle.smith_syntax.specs.Entries.{result_type}
+use Rattle.smith_syntax.specs.Entries.{EntryOf, FullEntry, FullDecl, FullDecls, component_type, instance_type, core_type_decl, type_decl, type_alias}
+use Rattle.smith_syntax.specs.Entries.{core_type_alias, import_decl, export_decl}
 use Rattle.smith_syntax.specs.Entries.{keeps_type, keeps_core_type, keeps_functions, in_order, plain, plain_decl}
-use Rattle.smith_syntax.specs.Entries.{Signature, Entry, ImportEntry, Decl, defined, function, CoreEntry, core_func, core_module, ModuleDecl, declares, imports, aliases, exports}
+use Rattle.smith_syntax.specs.Entries.{Signature, Entry, ImportEntry, Decl, defined, function, CoreEntry, core_func, core_module, ModuleDecl, declares, imports}
+use Rattle.smith_syntax.specs.Entries.{aliases, exports}
 use Rattle.smith_syntax.specs.Signature.{named, same_signature}
 use Rattle.smith_syntax.specs.declared.core_types.CoreType.{CoreType}
 use Rattle.smith_syntax.specs.declared.core_types.CoreType.TheVariants as core
@@ -21,7 +24,8 @@ use Rattle.smith_syntax.specs.declared.deftype.InstanceTypeDecl.{InstanceTypeDec
 use Rattle.smith_syntax.specs.declared.deftype.Alias.{Alias}
 use Rattle.smith_syntax.specs.declared.deftype.Import.{Import}
 use Rattle.smith_syntax.specs.declared.deftype.ComponentTypeDef.TheOpen as layer
-use Rattle.smith_syntax.specs.declared.deftype.ComponentTypeDef.TheOpen.{ComponentTypeDef-F, DefType-F, InstanceTypeDecl-F, OuterAliasKind-F, Alias-F, ComponentType-F, InstanceType-F}
+use Rattle.smith_syntax.specs.declared.deftype.ComponentTypeDef.TheOpen.{ComponentTypeDef-F, DefType-F, InstanceTypeDecl-F, OuterAliasKind-F, Alias-F}
+use Rattle.smith_syntax.specs.declared.deftype.ComponentTypeDef.TheOpen.{ComponentType-F, InstanceType-F}
 use Rattle.smith_syntax.specs.declared.deftype.ComponentTypeDef.TheFolds.{fold-DefType, fold-ComponentTypeDef, fold-InstanceTypeDecl, fold-Alias}
 
 abbrev pub shown_defined : DefinedType → DefValType
@@ -102,16 +106,20 @@ abbrev pub instance_step : InstanceType-F FullDecl FullEntry FullDecl (ℕ → �
 instance_step t = in_order t.defs.items
 
 abbrev pub full_type : DefType → FullEntry
-full_type = fold-DefType FullDecl FullEntry FullDecl (ℕ → ℕ → FullDecl) FullDecl FullDecls FullDecls component_decl_step type_step instance_decl_step kind_step alias_step component_step instance_step
+full_type = fold-DefType FullDecl FullEntry FullDecl (ℕ → ℕ → FullDecl) FullDecl FullDecls FullDecls component_decl_step type_step instance_decl_step kind_step
+    alias_step component_step instance_step
 
 abbrev pub full_component_decl : ComponentTypeDef → FullDecl
-full_component_decl = fold-ComponentTypeDef FullDecl FullEntry FullDecl (ℕ → ℕ → FullDecl) FullDecl FullDecls FullDecls component_decl_step type_step instance_decl_step kind_step alias_step component_step instance_step
+full_component_decl = fold-ComponentTypeDef FullDecl FullEntry FullDecl (ℕ → ℕ → FullDecl) FullDecl FullDecls FullDecls component_decl_step type_step
+    instance_decl_step kind_step alias_step component_step instance_step
 
 abbrev pub full_instance_decl : InstanceTypeDecl → FullDecl
-full_instance_decl = fold-InstanceTypeDecl FullDecl FullEntry FullDecl (ℕ → ℕ → FullDecl) FullDecl FullDecls FullDecls component_decl_step type_step instance_decl_step kind_step alias_step component_step instance_step
+full_instance_decl = fold-InstanceTypeDecl FullDecl FullEntry FullDecl (ℕ → ℕ → FullDecl) FullDecl FullDecls FullDecls component_decl_step type_step
+    instance_decl_step kind_step alias_step component_step instance_step
 
 abbrev pub full_alias : Alias → FullDecl
-full_alias = fold-Alias FullDecl FullEntry FullDecl (ℕ → ℕ → FullDecl) FullDecl FullDecls FullDecls component_decl_step type_step instance_decl_step kind_step alias_step component_step instance_step
+full_alias = fold-Alias FullDecl FullEntry FullDecl (ℕ → ℕ → FullDecl) FullDecl FullDecls FullDecls component_decl_step type_step instance_decl_step kind_step
+    alias_step component_step instance_step
 
 -- A type as a plain tree: URLs and what is kept are left out.
 abbrev pub shown_type : DefType → Entry

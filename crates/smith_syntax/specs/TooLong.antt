@@ -1,9 +1,12 @@
 -- Which types have no encoding, since a count, the length of a name or an index in them passes 4,294,967,295.
 use Rattle.std.specs.Prelude.{ℕ, ◌⊎◌, Bool, true, false, List, Option, Some, None}
 use Rattle.smith_format.specs.TooLong.{Passes, NameTooLong, ListTooLong, FunctionTooLong, EntityTooLong}
-use Rattle.smith_syntax.specs.Entries.{DefValType, primitive_type, record_type, variant_type, list_type, tuple_type, flags_type, enum_type, option_type, result_type}
-use Rattle.smith_syntax.specs.Entries.{Field, Case, Entry, defined, function, component_type, instance_type, CoreEntry, core_func, core_module, ModuleDecl, imports, declares, aliases, exports}
-use Rattle.smith_syntax.specs.Entries.{ImportEntry, Decl, Decls, core_type_decl, type_decl, type_alias, core_type_alias, import_decl, export_decl, no_decls, then_decls, decl_count}
+use Rattle.smith_syntax.specs.Entries.{DefValType, primitive_type, record_type, variant_type, list_type, tuple_type, flags_type, enum_type, option_type}
+use Rattle.smith_syntax.specs.Entries.{result_type}
+use Rattle.smith_syntax.specs.Entries.{Field, Case, Entry, defined, function, component_type, instance_type, CoreEntry, core_func, core_module, ModuleDecl}
+use Rattle.smith_syntax.specs.Entries.{imports, declares, aliases, exports}
+use Rattle.smith_syntax.specs.Entries.{ImportEntry, Decl, Decls, core_type_decl, type_decl, type_alias, core_type_alias, import_decl, export_decl, no_decls}
+use Rattle.smith_syntax.specs.Entries.{then_decls, decl_count}
 use Rattle.smith_syntax.specs.declared.deftype.ComponentTypeRef.{ComponentTypeRef}
 use Rattle.smith_syntax.specs.declared.deftype.ComponentTypeRef.TheVariants as to
 use Rattle.smith_syntax.specs.declared.types.ComponentValType.{ComponentValType}

@@ -8,13 +8,17 @@ use Rattle.smith_format.specs.CoreTypes.{Function}
 use Rattle.smith_format.specs.declared.types.EntityType.{EntityType}
 use Rattle.smith_format.specs.declared.types.EntityType.TheVariants.{Func, Table, Memory, Global, Tag}
 use Rattle.smith_input.specs.Kebab.{Kebab}
-use Rattle.smith_syntax.specs.Entries.{DefValType, primitive_type, record_type, variant_type, list_type, tuple_type, flags_type, enum_type, option_type, result_type}
-use Rattle.smith_syntax.specs.Entries.{Entry, defined, function, component_type, instance_type, CoreEntry, core_func, core_module, ModuleDecl, imports, declares, aliases, exports}
-use Rattle.smith_syntax.specs.Entries.{DeclOf, DeclsOf, Decl, Decls, core_type_decl, type_decl, type_alias, core_type_alias, import_decl, export_decl, no_decls, then_decls}
+use Rattle.smith_syntax.specs.Entries.{DefValType, primitive_type, record_type, variant_type, list_type, tuple_type, flags_type, enum_type, option_type}
+use Rattle.smith_syntax.specs.Entries.{result_type}
+use Rattle.smith_syntax.specs.Entries.{Entry, defined, function, component_type, instance_type, CoreEntry, core_func, core_module, ModuleDecl, imports}
+use Rattle.smith_syntax.specs.Entries.{declares, aliases, exports}
+use Rattle.smith_syntax.specs.Entries.{DeclOf, DeclsOf, Decl, Decls, core_type_decl, type_decl, type_alias, core_type_alias, import_decl, export_decl, no_decls}
+use Rattle.smith_syntax.specs.Entries.{then_decls}
 use Rattle.smith_syntax.specs.declared.deftype.ComponentTypeRef.{ComponentTypeRef}
 use Rattle.smith_syntax.specs.declared.deftype.ComponentTypeRef.TheVariants as to
 use Rattle.smith_syntax.specs.ModuleTypes.{adds, aliased, is_tag_type, HasNewNames, after_front}
-use Rattle.smith_syntax.specs.Scope.{Scope, empty_scope, with_type, with_core_type, is_defined, is_func, is_component, is_instance, is_core_module, type_named, core_type_named, after_decl}
+use Rattle.smith_syntax.specs.Scope.{Scope, empty_scope, with_type, with_core_type, is_defined, is_func, is_component, is_instance, is_core_module, type_named}
+use Rattle.smith_syntax.specs.Scope.{core_type_named, after_decl}
 use Rattle.smith_syntax.specs.declared.types.ComponentValType.{ComponentValType}
 use Rattle.smith_syntax.specs.declared.types.ComponentValType.TheVariants.{Primitive, Indexed}
 

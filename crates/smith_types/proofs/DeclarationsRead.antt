@@ -14,7 +14,8 @@ use Rattle.smith_syntax.specs.Entries.{Kept, FullDecl, plain_decl, type_alias, c
 use Rattle.smith_syntax.specs.Scope.{Scope, in_scope}
 use Rattle.smith_syntax.specs.WellFormed.{FormedDeclaration}
 use Rattle.smith_syntax.specs.declared.deftype.ComponentTypeRef.{ComponentTypeRef}
-use Rattle.smith_types.specs.Declarations.{NamedExtern, ReadsMaybeUrl, no_url, a_url, url_names, ReadsNamedExtern, ReadsAlias, NoImport, in_instance, nothing_there, not_asked, none_fits, ReadsImport, ReadsExport}
+use Rattle.smith_types.specs.Declarations.{NamedExtern, ReadsMaybeUrl, no_url, a_url, url_names, ReadsNamedExtern, ReadsAlias, NoImport, in_instance}
+use Rattle.smith_types.specs.Declarations.{nothing_there, not_asked, none_fits, ReadsImport, ReadsExport}
 use Rattle.smith_types.specs.Offers.{numbered, occupied, aliases_of, declaration_offers, declaration_items, ref_places}
 use Rattle.smith_types.specs.MakingTypes.{HasTarget}
 use Rattle.smith_types.specs.References.{ref_to, ReadsRef}
@@ -43,7 +44,8 @@ alias_tail scopes b d rest r = tail_trans (among_tail r.names) (among_tail r.cho
 
 module _ (config : Config) (own : Scope) where
   pub import_tail : (imports : List NamedExtern) (b : List ℕ) (d : FullDecl) (rest : List ℕ) → ReadsImport config own imports b d rest → IsTail rest b
-  import_tail imports b d rest r = tail_trans (extern_tail imports r.low r.named rest r.name) (tail_trans (ref_tail config own _ true true r.mid r.to r.low r.of) (reads_tail r.asked))
+  import_tail imports b d rest r = tail_trans (extern_tail imports r.low r.named rest r.name)
+      (tail_trans (ref_tail config own _ true true r.mid r.to r.low r.of) (reads_tail r.asked))
 
   pub export_tail : (exports : List NamedExtern) (b : List ℕ) (d : FullDecl) (rest : List ℕ) → ReadsExport config own exports b d rest → IsTail rest b
   export_tail exports b d rest r = tail_trans (extern_tail exports r.mid r.named rest r.name) (ref_tail config own _ false true b r.to r.mid r.of)
@@ -55,7 +57,8 @@ module _ (config : Config) (own : Scope) where
   no_import_tail importing b rest (none_fits e f r n) = reads_tail r
 
 -- A declaration has what it needs.
-pub item_offered : (config : Config) (outer : List Scope) (own : Scope) (k : ℕ) (i : DeclarationItem) → slice_get (declaration_items config outer own) k ≡ Some i → HasTarget config own outer i
+pub item_offered : (config : Config) (outer : List Scope) (own : Scope) (k : ℕ) (i : DeclarationItem)
+    → slice_get (declaration_items config outer own) k ≡ Some i → HasTarget config own outer i
 item_offered config outer own k i e =
     offer_holds (HasTarget config own outer) (declaration_offers config outer own) (
       λ t. t,
@@ -73,7 +76,8 @@ item_offered config outer own k i e =
 
 -- well formed
 
-numbered_later : {A B : Type 0} (f : ℕ → A → B) (n : ℕ) (xs : List A) (k : ℕ) (y : B) → slice_get (numbered f n xs) k ≡ Some y → (x : A) × (slice_get xs k ≡ Some x) × (y ≡ f (n + k) x)
+numbered_later : {A B : Type 0} (f : ℕ → A → B) (n : ℕ) (xs : List A) (k : ℕ) (y : B) → slice_get (numbered f n xs) k ≡ Some y
+    → (x : A) × (slice_get xs k ≡ Some x) × (y ≡ f (n + k) x)
 numbered_later f n [] k y e = absurd (let z : None ≡ Some y = e in cc)
 numbered_later f n (x ∷ xs) zero y e = let z : f n x ≡ y = cc in let at : n ≡ n + 0 = omega arith in (x, refl, sym z ∙ ap (λ m. f m x) at)
 numbered_later f n (x ∷ xs) (suc k) y e =
@@ -81,41 +85,52 @@ numbered_later f n (x ∷ xs) (suc k) y e =
     let at : n + 1 + k ≡ n + suc k = omega arith in
     (r.0, r.1, r.2 ∙ ap (λ m. f m r.0) at)
 
-pub numbered_stands : {A B : Type 0} (f : ℕ → A → B) (xs : List A) (k : ℕ) (y : B) → slice_get (numbered f 0 xs) k ≡ Some y → (x : A) × (slice_get xs k ≡ Some x) × (y ≡ f k x)
+pub numbered_stands : {A B : Type 0} (f : ℕ → A → B) (xs : List A) (k : ℕ) (y : B) → slice_get (numbered f 0 xs) k ≡ Some y
+    → (x : A) × (slice_get xs k ≡ Some x) × (y ≡ f k x)
 numbered_stands f xs k y e =
     let r = numbered_later f 0 xs k y e in
     let at : 0 + k ≡ k = omega arith in
     (r.0, r.1, r.2 ∙ ap (λ m. f m r.0) at)
 
 -- what stands in a scope of that count
-pub named_in : {A : Type 0} (of : Scope → List A) (scopes : List Scope) (count i : ℕ) (s : Scope) (x : A) → slice_get scopes count ≡ Some s → slice_get (of s) i ≡ Some x
+pub named_in : {A : Type 0} (of : Scope → List A) (scopes : List Scope) (count i : ℕ) (s : Scope) (x : A) → slice_get scopes count ≡ Some s
+    → slice_get (of s) i ≡ Some x
     → in_scope of scopes count i ≡ Some x
 named_in of scopes count i s x e f = ap (λ o. elim o [ None ↦ None | Some t ↦ slice_get (of t) i ]) e ∙ f
 
-pub alias_formed : (own : Scope) (outer : List Scope) (b : List ℕ) (d : FullDecl) (rest : List ℕ) → ReadsAlias (own ∷ outer) b d rest → FormedDeclaration (plain_decl d) own outer
+pub alias_formed : (own : Scope) (outer : List Scope) (b : List ℕ) (d : FullDecl) (rest : List ℕ) → ReadsAlias (own ∷ outer) b d rest
+    → FormedDeclaration (plain_decl d) own outer
 alias_formed own outer b d rest r =
-    elim (get_either (numbered (λ i e. type_alias r.count i (keeps_type e)) 0 r.scope.types) (numbered (λ i e. core_type_alias r.count i (keeps_core_type e)) 0 r.scope.core_types) r.names.place d r.names.named) [
+    elim (get_either (numbered (λ i e. type_alias r.count i (keeps_type e)) 0 r.scope.types)
+    (numbered (λ i e. core_type_alias r.count i (keeps_core_type e)) 0 r.scope.core_types) r.names.place d r.names.named) [
       | inl p ↦ (let t = numbered_stands (λ i e. type_alias r.count i (keeps_type e)) r.scope.types p.0 d p.1 in
           subst (λ z. FormedDeclaration (plain_decl z) own outer) (sym t.2) (t.0, named_in (λ s. s.types) (own ∷ outer) r.count p.0 r.scope t.0 r.stands t.1))
       | inr p ↦ (let t = numbered_stands (λ i e. core_type_alias r.count i (keeps_core_type e)) r.scope.core_types p.0 d p.1 in
-          subst (λ z. FormedDeclaration (plain_decl z) own outer) (sym t.2) (t.0, named_in (λ s. s.core_types) (own ∷ outer) r.count p.0 r.scope t.0 r.stands t.1))
+          subst (λ z. FormedDeclaration (plain_decl z) own outer) (sym t.2)
+          (t.0, named_in (λ s. s.core_types) (own ∷ outer) r.count p.0 r.scope t.0 r.stands t.1))
     ]
 
 module _ (config : Config) (own : Scope) (outer : List Scope) where
-  pub import_formed : (imports : List NamedExtern) (b : List ℕ) (d : FullDecl) (rest : List ℕ) → ReadsImport config own imports b d rest → FormedDeclaration (plain_decl d) own outer
+  pub import_formed : (imports : List NamedExtern) (b : List ℕ) (d : FullDecl) (rest : List ℕ) → ReadsImport config own imports b d rest
+      → FormedDeclaration (plain_decl d) own outer
   import_formed imports b d rest r =
-      subst (λ z. FormedDeclaration (plain_decl z) own outer) (sym r.is) (ref_formed config own _ true true r.mid r.to r.low r.of, import_not_equal config own _ true r.mid r.to r.low r.of)
+      subst (λ z. FormedDeclaration (plain_decl z) own outer) (sym r.is)
+      (ref_formed config own _ true true r.mid r.to r.low r.of, import_not_equal config own _ true r.mid r.to r.low r.of)
 
-  pub export_formed : (exports : List NamedExtern) (b : List ℕ) (d : FullDecl) (rest : List ℕ) → ReadsExport config own exports b d rest → FormedDeclaration (plain_decl d) own outer
+  pub export_formed : (exports : List NamedExtern) (b : List ℕ) (d : FullDecl) (rest : List ℕ) → ReadsExport config own exports b d rest
+      → FormedDeclaration (plain_decl d) own outer
   export_formed exports b d rest r = subst (λ z. FormedDeclaration (plain_decl z) own outer) (sym r.is) (ref_formed config own _ false true b r.to r.mid r.of)
 
 -- what holds of all outer aliases
 pub alias_holds : (P : FullDecl → Type 0) → ((count i : ℕ) (k : Kept) → P (type_alias count i k)) → ((count i : ℕ) (k : Kept) → P (core_type_alias count i k))
     → (scopes : List Scope) (b : List ℕ) (d : FullDecl) (rest : List ℕ) → ReadsAlias scopes b d rest → P d
 alias_holds P types core_types scopes b d rest r =
-    elim (get_either (numbered (λ i e. type_alias r.count i (keeps_type e)) 0 r.scope.types) (numbered (λ i e. core_type_alias r.count i (keeps_core_type e)) 0 r.scope.core_types) r.names.place d r.names.named) [
-      | inl p ↦ (let t = numbered_stands (λ i e. type_alias r.count i (keeps_type e)) r.scope.types p.0 d p.1 in subst P (sym t.2) (types r.count p.0 (keeps_type t.0)))
-      | inr p ↦ (let t = numbered_stands (λ i e. core_type_alias r.count i (keeps_core_type e)) r.scope.core_types p.0 d p.1 in subst P (sym t.2) (core_types r.count p.0 (keeps_core_type t.0)))
+    elim (get_either (numbered (λ i e. type_alias r.count i (keeps_type e)) 0 r.scope.types)
+    (numbered (λ i e. core_type_alias r.count i (keeps_core_type e)) 0 r.scope.core_types) r.names.place d r.names.named) [
+      | inl p ↦ (let t = numbered_stands (λ i e. type_alias r.count i (keeps_type e)) r.scope.types p.0 d p.1 in
+          subst P (sym t.2) (types r.count p.0 (keeps_type t.0)))
+      | inr p ↦ (let t = numbered_stands (λ i e. core_type_alias r.count i (keeps_core_type e)) r.scope.core_types p.0 d p.1 in
+          subst P (sym t.2) (core_types r.count p.0 (keeps_core_type t.0)))
     ]
 
 -- determined
@@ -138,7 +153,8 @@ url_same used b u v r s (a_url {name = a} f n e) (a_url {name = c} g m h) =
     let w = new_unique (subst P (flips_unique f g).1 n) m in
     (e ∙ ap (λ t. Some (codes "https://example.com/" ++ t)) w.0 ∙ sym h, w.1)
 
-pub extern_same : (so_far : List NamedExtern) (b : List ℕ) (x y : NamedExtern) (r s : List ℕ) → ReadsNamedExtern so_far b x r → ReadsNamedExtern so_far b y s → (x ≡ y) × (r ≡ s)
+pub extern_same : (so_far : List NamedExtern) (b : List ℕ) (x y : NamedExtern) (r s : List ℕ) → ReadsNamedExtern so_far b x r → ReadsNamedExtern so_far b y s
+    → (x ≡ y) × (r ≡ s)
 extern_same so_far b x y r s p q =
     let n = new_unique p.name q.name in
     let u = url_same (url_names so_far) q.mid x.1 y.1 r s (subst (λ z. ReadsMaybeUrl (url_names so_far) z x.1 r) n.1 p.url) q.url in
@@ -155,14 +171,16 @@ alias_same scopes b d e r s p q =
     among_same (subst R u.1 (subst Q scope (subst P u.0 p.names))) q.names
 
 module _ (config : Config) (own : Scope) where
-  pub import_same : (imports : List NamedExtern) (b : List ℕ) (d e : FullDecl) (r s : List ℕ) → ReadsImport config own imports b d r → ReadsImport config own imports b e s → (d ≡ e) × (r ≡ s)
+  pub import_same : (imports : List NamedExtern) (b : List ℕ) (d e : FullDecl) (r s : List ℕ) → ReadsImport config own imports b d r
+      → ReadsImport config own imports b e s → (d ≡ e) × (r ≡ s)
   import_same imports b d e r s p q =
       let a = (reads_unique p.asked q.asked).1 in
       let o = ref_same config own _ true true q.mid p.to q.to p.low q.low (subst (λ z. ReadsRef config own _ true true z p.to p.low) a p.of) q.of in
       let n = extern_same imports q.low p.named q.named r s (subst (λ z. ReadsNamedExtern imports z p.named r) o.1 p.name) q.name in
       (p.is ∙ (λ i. import_decl (n.0 i).0 (n.0 i).1 (o.0 i)) ∙ sym q.is, n.1)
 
-  pub export_same : (exports : List NamedExtern) (b : List ℕ) (d e : FullDecl) (r s : List ℕ) → ReadsExport config own exports b d r → ReadsExport config own exports b e s → (d ≡ e) × (r ≡ s)
+  pub export_same : (exports : List NamedExtern) (b : List ℕ) (d e : FullDecl) (r s : List ℕ) → ReadsExport config own exports b d r
+      → ReadsExport config own exports b e s → (d ≡ e) × (r ≡ s)
   export_same exports b d e r s p q =
       let o = ref_same config own _ false true b p.to q.to p.mid q.mid p.of q.of in
       let n = extern_same exports q.mid p.named q.named r s (subst (λ z. ReadsNamedExtern exports z p.named r) o.1 p.name) q.name in
@@ -187,7 +205,8 @@ module _ (config : Config) (own : Scope) where
   no_import_same importing b r s (none_fits e t a n) (none_fits f u c m) = (reads_unique a c).1
 
   -- An import is declared, or none is.
-  pub import_or_none : (importing : Bool) (imports : List NamedExtern) (b r s : List ℕ) (d : FullDecl) → importing ≡ true → ReadsImport config own imports b d r → NoImport config importing own b s → ⊥
+  pub import_or_none : (importing : Bool) (imports : List NamedExtern) (b r s : List ℕ) (d : FullDecl) → importing ≡ true → ReadsImport config own imports b d r
+      → NoImport config importing own b s → ⊥
   import_or_none importing imports b r s d e p (in_instance f) = false≢true (sym f ∙ e)
   import_or_none importing imports b r s d e p (nothing_there f t) = false≢true (sym t ∙ p.there)
   import_or_none importing imports b r s d e p (not_asked f t c k) = omega (arith, k, (reads_unique c p.asked).0)

@@ -2,7 +2,8 @@
 use Rattle.std.proofs.Common.{ℕ, zero, suc, ◌+◌, ◌-◌, ◌≤◌, List, [], ◌∷◌, ◌++◌, length, arith, subst, sym}
 use Rattle.std.specs.Prelude.{max, ◌↔◌}
 use Rattle.smith_format.specs.declared.config.Config.{Config}
-use Rattle.smith_syntax.specs.Entries.{DefValType, primitive_type, record_type, variant_type, list_type, tuple_type, flags_type, enum_type, option_type, result_type}
+use Rattle.smith_syntax.specs.Entries.{DefValType, primitive_type, record_type, variant_type, list_type, tuple_type, flags_type, enum_type, option_type}
+use Rattle.smith_syntax.specs.Entries.{result_type}
 use Rattle.smith_syntax.specs.Entries.{Entry, defined, function, component_type, instance_type, CoreEntry, core_func, core_module}
 use Rattle.smith_syntax.specs.Entries.{Decl, Decls, core_type_decl, type_decl, type_alias, core_type_alias, import_decl, export_decl, no_decls, then_decls}
 use Rattle.smith_syntax.specs.Scope.{Scope, empty_scope, after_decl}
@@ -41,13 +42,17 @@ scoped : (a fuel : ℕ) → max 2 (a + 1) ≤ fuel → (2 ≤ fuel) × (a ≤ fu
 scoped a fuel h = (omega (arith, h), omega (arith, h))
 
 mutual
-  lasts : (e : Entry) (config : Config) (own : Scope) (outer : List Scope) (scopes fuel : ℕ) → FormedEntry e own outer → Brief e → Nests e config scopes → need e ≤ fuel → Lasts e config scopes fuel
+  lasts : (e : Entry) (config : Config) (own : Scope) (outer : List Scope) (scopes fuel : ℕ) → FormedEntry e own outer → Brief e → Nests e config scopes
+      → need e ≤ fuel → Lasts e config scopes fuel
   lasts (defined t) config own outer scopes fuel f b x n = defined_lasts t own fuel f b n
   lasts (function s) config own outer scopes fuel f b x n = (b, n)
-  lasts (component_type ds) config own outer scopes fuel f b x n = let p = scoped (decls_need ds) fuel n in (p.0, decls_last ds config empty_scope (own ∷ outer) (suc scopes) (fuel - 1) f.0 b x p.1)
-  lasts (instance_type ds) config own outer scopes fuel f b x n = let p = scoped (decls_need ds) fuel n in (p.0, decls_last ds config empty_scope (own ∷ outer) (suc scopes) (fuel - 1) f.0 b x p.1)
+  lasts (component_type ds) config own outer scopes fuel f b x n = let p = scoped (decls_need ds) fuel n in
+      (p.0, decls_last ds config empty_scope (own ∷ outer) (suc scopes) (fuel - 1) f.0 b x p.1)
+  lasts (instance_type ds) config own outer scopes fuel f b x n = let p = scoped (decls_need ds) fuel n in
+      (p.0, decls_last ds config empty_scope (own ∷ outer) (suc scopes) (fuel - 1) f.0 b x p.1)
 
-  decl_lasts : (d : Decl) (config : Config) (own : Scope) (outer : List Scope) (scopes fuel : ℕ) → FormedDeclaration d own outer → BriefDecl d → DeclNests d config scopes → decl_need d ≤ fuel → LastsDecl d config scopes fuel
+  decl_lasts : (d : Decl) (config : Config) (own : Scope) (outer : List Scope) (scopes fuel : ℕ) → FormedDeclaration d own outer → BriefDecl d
+      → DeclNests d config scopes → decl_need d ≤ fuel → LastsDecl d config scopes fuel
   decl_lasts (core_type_decl t k) config own outer scopes fuel f b x n = core_lasts t fuel b n
   decl_lasts (type_decl e) config own outer scopes fuel f b x n = (x.0, lasts e config own outer scopes fuel f b x.1 n)
   decl_lasts (type_alias count i k) config own outer scopes fuel f b x n = tt
@@ -55,18 +60,28 @@ mutual
   decl_lasts (import_decl name u r) config own outer scopes fuel f b x n = b
   decl_lasts (export_decl name u r) config own outer scopes fuel f b x n = b
 
-  decls_last : (ds : Decls) (config : Config) (own : Scope) (outer : List Scope) (scopes fuel : ℕ) → FormedDeclarations ds own outer → BriefDecls ds → DeclsNest ds config scopes → decls_need ds ≤ fuel → LastsDecls ds config scopes fuel
+  decls_last : (ds : Decls) (config : Config) (own : Scope) (outer : List Scope) (scopes fuel : ℕ) → FormedDeclarations ds own outer → BriefDecls ds
+      → DeclsNest ds config scopes → decls_need ds ≤ fuel → LastsDecls ds config scopes fuel
   decls_last no_decls config own outer scopes fuel f b x n = tt
   decls_last (then_decls d ds) config own outer scopes fuel f b x n =
-      let p = turn (decl_need d) (decls_need ds) (decl_cost d) fuel n in
-      (p.0, decl_lasts d config own outer scopes (fuel - 1) f.0 b.0 x.0 p.1, decls_last ds config (after_decl outer own d) outer scopes (fuel - 1 - decl_cost d) f.1 b.1 x.1 p.2)
+      let p = turn (decl_need d) (decls_need ds) (decl_cost d) fuel n in (
+        p.0,
+        decl_lasts d config own outer scopes (fuel - 1) f.0 b.0 x.0 p.1,
+        decls_last ds config (after_decl outer own d) outer scopes (fuel - 1 - decl_cost d) f.1 b.1 x.1 p.2,
+      )
 
-pub exact : (config : Config) (own : Scope) (outer : List Scope) (fuel : ℕ) (e : Entry) → config.max_nesting_depth ≤ 1000 → FormedEntry e own outer → EntryLimits config e → Brief e → Fit (own ∷ outer) → length (own ∷ outer) ≤ 1000
+pub exact : (config : Config) (own : Scope) (outer : List Scope) (fuel : ℕ) (e : Entry) → config.max_nesting_depth ≤ 1000 → FormedEntry e own outer
+    → EntryLimits config e → Brief e → Fit (own ∷ outer) → length (own ∷ outer) ≤ 1000
     → ((bytes rest : List ℕ) × MadeWith config own outer fuel bytes e rest) ↔ ((need e ≤ fuel) × Nests e config (length (own ∷ outer)))
 exact config own outer fuel e deep f m b fit few = (
   λ (bytes, rest, made).
       let r = made_needs config own outer bytes fuel made.full rest made.left made.made in
       let P : Entry → Type 0 = λ z. (need z ≤ fuel) × Nests z config (length (own ∷ outer)) in
       subst P (sym made.shown) (r.enough, r.nests),
-  λ (n, x). (script_type e config fuel own outer ++ [], [], type_read config deep own outer fuel e [] (record { formed = f; limits = m; lasts = lasts e config own outer (length (own ∷ outer)) fuel f b x n; fit = fit; shallow = few })),
+  λ (n, x). (
+    script_type e config fuel own outer ++ [],
+    [],
+    type_read config deep own outer fuel e []
+        (record { formed = f; limits = m; lasts = lasts e config own outer (length (own ∷ outer)) fuel f b x n; fit = fit; shallow = few }),
+  ),
 )

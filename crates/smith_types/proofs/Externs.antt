@@ -1,5 +1,6 @@
 -- Names of imports and exports, with their URLs.
-use Rattle.std.proofs.Common.{◌≡◌, ℕ, ◌+◌, ◌||◌, Bool, true, false, cond, if◌then◌else◌, List, [], ◌∷◌, ◌++◌, length, refl, sym, ap, ◌∙◌, subst, arith, append-nil, bytes_eq, string_bytes}
+use Rattle.std.proofs.Common.{◌≡◌, ℕ, ◌+◌, ◌||◌, Bool, true, false, cond, if◌then◌else◌, List, [], ◌∷◌, ◌++◌, length, refl, sym, ap, ◌∙◌, subst, arith}
+use Rattle.std.proofs.Common.{append-nil, bytes_eq, string_bytes}
 use Rattle.std.proofs.lemmas.List.{map-append}
 use Rattle.std.proofs.lemmas.List.Concat.{flat_map-append}
 use Rattle.std.proofs.lemmas.Map.Text.{btree_set_updates_text}
@@ -26,16 +27,19 @@ url_names_more so_far x = flat_map-append (λ y. url_name y.1) so_far (x ∷ [])
 
 module _ {A : Type 0} where
   -- What is new to a set is new among the names that it has.
-  pub new_among : {set : BTreeSet (String A)} {text name : List ℕ} {held : List (List ℕ)} → Holds set held → IsUniqueIn set text name → IsMadeUnique (is_among held) (length held) text name
+  pub new_among : {set : BTreeSet (String A)} {text name : List ℕ} {held : List (List ℕ)} → Holds set held → IsUniqueIn set text name
+      → IsMadeUnique (is_among held) (length held) text name
   new_among {set = set} {text = text} {name = name} {held = held} h u = record {
     times = u.times;
     name_is = u.name_is ∙ ap (λ n. appended text (decimal n) u.times) h.size;
-    taken = λ n l. ap (λ size. is_among held (appended text (decimal size) n)) (sym h.size) ∙ (sym (h.has (appended text (decimal (btree_set_len set)) n)) ∙ u.taken n l);
+    taken = λ n l. ap (λ size. is_among held (appended text (decimal size) n)) (sym h.size)
+        ∙ (sym (h.has (appended text (decimal (btree_set_len set)) n)) ∙ u.taken n l);
     is_new = sym (h.has name) ∙ u.is_new;
   }
 
   -- A URL was read, whose name is new.
-  pub url_read : {old new : BTreeSet (String A)} {used : List (List ℕ)} {bytes mid url rest : List ℕ} → Holds old used → Flips bytes true mid → ReadsUrl 100 old new mid url rest → ReadsMaybeUrl used bytes (Some url) rest
+  pub url_read : {old new : BTreeSet (String A)} {used : List (List ℕ)} {bytes mid url rest : List ℕ} → Holds old used → Flips bytes true mid
+      → ReadsUrl 100 old new mid url rest → ReadsMaybeUrl used bytes (Some url) rest
   url_read h f (text, name, is, reads, unique, kebab, gained) = a_url f (record { text = text; reads = reads; unique = new_among h unique }) (ap Some is)
 
 -- a set that loses a name that it gained
@@ -46,8 +50,10 @@ without false had new = refl
 
 module _ {A : Type 0} where
   -- The set has what it had before it gained the name.
-  pub holds_again : {old more new : BTreeSet (String A)} {name taken : List ℕ} {held : List (List ℕ)} {there : Bool} → Holds old held → contains_text old name ≡ false → GainsName old more name → taken ≡ name
-      → UpdatesBy string_cmp (λ k. slice_cmp nat_cmp taken (string_bytes k)) more new false → there ≡ contains_text more taken → btree_set_len new + (if there then 1 else 0) ≡ btree_set_len more → Holds new held
+  pub holds_again : {old more new : BTreeSet (String A)} {name taken : List ℕ} {held : List (List ℕ)} {there : Bool} → Holds old held
+      → contains_text old name ≡ false → GainsName old more name → taken ≡ name
+      → UpdatesBy string_cmp (λ k. slice_cmp nat_cmp taken (string_bytes k)) more new false → there ≡ contains_text more taken
+      → btree_set_len new + (if there then 1 else 0) ≡ btree_set_len more → Holds new held
   holds_again {old = old} {more = more} {new = new} {name = name} {taken = taken} {there = there} h absent gained same updates t len =
       let itself : bytes_eq name name ≡ true = (bytes_eq-Decides name name).1 refl in
       let was_there : there ≡ true = t ∙ (ap (contains_text more) same ∙ (gained.has name ∙ ap (λ b. b || contains_text old name) itself)) in

@@ -49,10 +49,12 @@ module _ (config : Config) (own : Scope) (b mid : List ℕ) (n : ℕ) (has : has
   pub import_fits_none : n ≡ 0 → ref_kinds config own uncounted true true ≡ [] → NoImport config true own b mid
   import_fits_none e none = none_fits refl has (asked e) none
 
-  pub import_read : (so_far : List NamedExtern) (r : ComponentTypeRef) (x : NamedExtern) (low rest : List ℕ) → n ≡ 0 → ReadsRef config own uncounted true true mid r low → ReadsNamedExtern so_far low x rest
+  pub import_read : (so_far : List NamedExtern) (r : ComponentTypeRef) (x : NamedExtern) (low rest : List ℕ) → n ≡ 0
+      → ReadsRef config own uncounted true true mid r low → ReadsNamedExtern so_far low x rest
       → ReadsImport config own so_far b (import_decl x.0 x.1 r) rest
   import_read so_far r x low rest e of name = record { mid = mid; low = low; to = r; named = x; there = has; asked = asked e; of = of; name = name; is = refl }
 
-pub export_read : (config : Config) (own : Scope) (so_far : List NamedExtern) (r : ComponentTypeRef) (x : NamedExtern) (b mid rest : List ℕ) (d : FullDecl) → ReadsRef config own uncounted false true b r mid → ReadsNamedExtern so_far mid x rest → d ≡ export_decl x.0 x.1 r
+pub export_read : (config : Config) (own : Scope) (so_far : List NamedExtern) (r : ComponentTypeRef) (x : NamedExtern) (b mid rest : List ℕ) (d : FullDecl)
+    → ReadsRef config own uncounted false true b r mid → ReadsNamedExtern so_far mid x rest → d ≡ export_decl x.0 x.1 r
     → ReadsExport config own so_far b d rest
 export_read config own so_far r x b mid rest d of name is = record { mid = mid; to = r; named = x; of = of; name = name; is = is }

@@ -1,5 +1,6 @@
 -- The script of the signature of a lift is read as it.
-use Rattle.std.proofs.Common.{◌≡◌, ℕ, ◌≤◌, ◌^◌, List, [], ◌∷◌, ◌++◌, map, length, arith, refl, sym, ap, ◌∙◌, subst, append_assoc, Option, None, Some, Decides, lit≤}
+use Rattle.std.proofs.Common.{◌≡◌, ℕ, ◌≤◌, ◌^◌, List, [], ◌∷◌, ◌++◌, map, length, arith, refl, sym, ap, ◌∙◌, subst, append_assoc, Option, None, Some, Decides}
+use Rattle.std.proofs.Common.{lit≤}
 use Rattle.std.specs.List.{AllByRecursion}
 use Rattle.std.specs.Option.{option_to_list}
 use Rattle.std.specs.Prelude.{slice_get}
@@ -38,12 +39,15 @@ lifted_few F64 = lit≤ tt
 lifted_few V128 = lit≤ tt
 lifted_few (Ref r) = lit≤ tt
 
-scalar_in : (w : ValType) (p : PrimitiveValType) (k : ℕ) (v : ValType) (rest : List ℕ) → slice_get (lifted w) k ≡ Some p → Some w ≡ Some v → ReadsAmong (lifted v) (script_among prims.eq (lifted w) p ++ rest) p rest
+scalar_in : (w : ValType) (p : PrimitiveValType) (k : ℕ) (v : ValType) (rest : List ℕ) → slice_get (lifted w) k ≡ Some p → Some w ≡ Some v
+    → ReadsAmong (lifted v) (script_among prims.eq (lifted w) p ++ rest) p rest
 scalar_in w p k v rest named e =
     let z : w ≡ v = cc in
-    subst (λ x. ReadsAmong (lifted x) (script_among prims.eq (lifted w) p ++ rest) p rest) z (among_read prims.eq primitive_Decides (lifted w) p k rest (lifted_few w) named)
+    subst (λ x. ReadsAmong (lifted x) (script_among prims.eq (lifted w) p ++ rest) p rest) z
+    (among_read prims.eq primitive_Decides (lifted w) p k rest (lifted_few w) named)
 
-scalar_read : (p : PrimitiveValType) (v : ValType) (rest : List ℕ) → flat_primitive p ≡ Some v → ReadsAmong (lifted v) (script_scalar (Primitive p) ++ rest) p rest
+scalar_read : (p : PrimitiveValType) (v : ValType) (rest : List ℕ) → flat_primitive p ≡ Some v
+    → ReadsAmong (lifted v) (script_scalar (Primitive p) ++ rest) p rest
 scalar_read prim.Char v rest e = scalar_in I32 prim.Char 0 v rest refl e
 scalar_read prim.Bool v rest e = scalar_in I32 prim.Bool 1 v rest refl e
 scalar_read prim.S8 v rest e = scalar_in I32 prim.S8 2 v rest refl e
@@ -58,7 +62,8 @@ scalar_read prim.F32 v rest e = scalar_in F32 prim.F32 0 v rest refl e
 scalar_read prim.F64 v rest e = scalar_in F64 prim.F64 0 v rest refl e
 scalar_read prim.String v rest e = absurd (cc)
 
-params_read : (ns : List (List ℕ)) (vs : List ValType) (fs : List Field) (rest : List ℕ) → map (λ p. flat_value p.1) fs ≡ map Some vs → AllByRecursion Kebab (map (λ p. p.0) fs) → AreNew ns (map (λ p. p.0) fs) → AreShort (map (λ p. p.0) fs)
+params_read : (ns : List (List ℕ)) (vs : List ValType) (fs : List Field) (rest : List ℕ) → map (λ p. flat_value p.1) fs ≡ map Some vs
+    → AllByRecursion Kebab (map (λ p. p.0) fs) → AreNew ns (map (λ p. p.0) fs) → AreShort (map (λ p. p.0) fs)
     → ReadsParams ns vs (script_params fs ++ rest) fs rest
 params_read ns [] [] rest e k n h = no_params
 params_read ns [] (f ∷ fs) rest e k n h = absurd (cc)
@@ -72,7 +77,8 @@ params_read ns (v ∷ vs) ((name, Primitive p) ∷ fs) rest e k n h =
     let more : map (λ (q : Field). flat_value q.1) fs ≡ map Some vs = cc in
     let whole : (a ++ (b ++ c)) ++ rest ≡ a ++ (b ++ (c ++ rest)) = append_assoc a (b ++ c) rest ∙ ap (λ z. a ++ z) (append_assoc b c rest) in
     subst (λ z. ReadsParams ns (v ∷ vs) z ((name, Primitive p) ∷ fs) rest) (sym whole)
-    (a_param (new_read 100 ns name (b ++ (c ++ rest)) (omega arith) k.0 h.0 n.0) (scalar_read p v (c ++ rest) first) (params_read (ns ++ name ∷ []) vs fs rest more k.1 n.1 h.1))
+    (a_param (new_read 100 ns name (b ++ (c ++ rest)) (omega arith) k.0 h.0 n.0) (scalar_read p v (c ++ rest) first)
+    (params_read (ns ++ name ∷ []) vs fs rest more k.1 n.1 h.1))
 
 -- the one result
 record ReadsResult (o : Option ComponentValType) (vs : List ValType) (rest : List ℕ) : Type 0 where
@@ -82,7 +88,8 @@ record ReadsResult (o : Option ComponentValType) (vs : List ValType) (rest : Lis
   reads : ReadsAmong (lifted value) (script_result o ++ rest) primitive rest
   is : o ≡ Some (Primitive primitive)
 
-result_read : (o : Option ComponentValType) (vs : List ValType) (rest : List ℕ) → map flat_value (option_to_list o) ≡ map Some vs → length vs ≡ 1 → ReadsResult o vs rest
+result_read : (o : Option ComponentValType) (vs : List ValType) (rest : List ℕ) → map flat_value (option_to_list o) ≡ map Some vs → length vs ≡ 1
+    → ReadsResult o vs rest
 result_read o [] rest e one = absurd (omega (arith, one))
 result_read o (v ∷ w ∷ vs) rest e one = absurd (omega (arith, one))
 result_read None (v ∷ []) rest e one = absurd (cc)
@@ -91,7 +98,8 @@ result_read (Some (Primitive p)) (v ∷ []) rest e one =
     let first : flat_primitive p ≡ Some v = cc in
     record { value = v; primitive = p; only = refl; reads = scalar_read p v rest first; is = refl }
 
-pub lifted_read : (core : Function) (s : Signature) (rest : List ℕ) → Flattens s core → Named (map (λ p. p.0) s.params) → AreShort (map (λ p. p.0) s.params) → ReadsLifted core (script_lifted s ++ rest) s rest
+pub lifted_read : (core : Function) (s : Signature) (rest : List ℕ) → Flattens s core → Named (map (λ p. p.0) s.params) → AreShort (map (λ p. p.0) s.params)
+    → ReadsLifted core (script_lifted s ++ rest) s rest
 lifted_read core s rest flat named short =
     let r = result_read s.result core.1 rest flat.result flat.one in
     let new : AreNew [] (map (λ p. p.0) s.params) = distinct_new [] _ (none_before _) named.1 in
@@ -106,5 +114,7 @@ lifted_read core s rest flat named short =
     })
 
 -- What a script says is read as it, and as nothing else.
-pub lifted_scripted : (core : Function) (s t : Signature) (bytes rest left : List ℕ) → Flattens s core → Named (map (λ p. p.0) s.params) → AreShort (map (λ p. p.0) s.params) → bytes ≡ script_lifted s ++ rest → ReadsLifted core bytes t left → (t ≡ s) × (left ≡ rest)
-lifted_scripted core s t bytes rest left flat named short begins reads = lifted_same (subst (λ z. ReadsLifted core z t left) begins reads) (lifted_read core s rest flat named short)
+pub lifted_scripted : (core : Function) (s t : Signature) (bytes rest left : List ℕ) → Flattens s core → Named (map (λ p. p.0) s.params)
+    → AreShort (map (λ p. p.0) s.params) → bytes ≡ script_lifted s ++ rest → ReadsLifted core bytes t left → (t ≡ s) × (left ≡ rest)
+lifted_scripted core s t bytes rest left flat named short begins reads =
+    lifted_same (subst (λ z. ReadsLifted core z t left) begins reads) (lifted_read core s rest flat named short)

@@ -11,9 +11,11 @@ use Rattle.smith_types.specs.Lifting.{ReadsParams, no_params, a_param, ReadsLift
 use Rattle.smith_types.specs.Offers.{lifted}
 
 -- parameters
-pub params_same : {names : List (List ℕ)} {vs : List ValType} {b r q : List ℕ} {fs gs : List Field} → ReadsParams names vs b fs r → ReadsParams names vs b gs q → (fs ≡ gs) × (r ≡ q)
+pub params_same : {names : List (List ℕ)} {vs : List ValType} {b r q : List ℕ} {fs gs : List Field} → ReadsParams names vs b fs r → ReadsParams names vs b gs q
+    → (fs ≡ gs) × (r ≡ q)
 params_same no_params no_params = (refl, refl)
-params_same {names = names} {r = r} (a_param {v = v} {vs = vs} {mid = mid} {low = low} {name = a} {p = p} {fs = fs} n c more) (a_param {name = d} {p = o} m e rest) =
+params_same {names = names} {r = r} (a_param {v = v} {vs = vs} {mid = mid} {low = low} {name = a} {p = p} {fs = fs} n c more)
+    (a_param {name = d} {p = o} m e rest) =
     let s = new_unique n m in
     let t = among_same (subst (λ z. ReadsAmong (lifted v) z p low) s.1 c) e in
     let M : List (List ℕ) → Type 0 = λ z. ReadsParams z vs low fs r in

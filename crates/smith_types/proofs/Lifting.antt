@@ -1,5 +1,6 @@
 -- Signatures that are read so that they flatten to a core function type.
-use Rattle.std.proofs.Common.{◌≡◌, ℕ, zero, suc, ◌+◌, ◌^◌, ◌<◌, ◌≤◌, List, [], ◌∷◌, ◌++◌, map, length, drop, get_or, refl, sym, ap, ◌∙◌, subst, arith, append_assoc, append-nil, length-append, lit<, Some}
+use Rattle.std.proofs.Common.{◌≡◌, ℕ, zero, suc, ◌+◌, ◌^◌, ◌<◌, ◌≤◌, List, [], ◌∷◌, ◌++◌, map, length, drop, get_or, refl, sym, ap, ◌∙◌, subst, arith}
+use Rattle.std.proofs.Common.{append_assoc, append-nil, length-append, lit<, Some}
 use Rattle.std.proofs.lemmas.List.{map-append, drop_all, drop_more}
 use Rattle.std.proofs.lemmas.Option.{slice_get_within}
 use Rattle.std.specs.List.{AllByRecursion}
@@ -68,7 +69,8 @@ value_lifts : (c : ComponentValType) (v : ValType) → flat_value c ≡ Some v �
 value_lifts (Primitive p) v e = flat_lifts p v e
 value_lifts (Indexed i) v e = absurd (cc)
 
-all_lift : {A : Type 0} (value : A → ComponentValType) (xs : List A) (vs : List ValType) → map (λ x. flat_value (value x)) xs ≡ map Some vs → AllByRecursion IsLiftable vs
+all_lift : {A : Type 0} (value : A → ComponentValType) (xs : List A) (vs : List ValType) → map (λ x. flat_value (value x)) xs ≡ map Some vs
+    → AllByRecursion IsLiftable vs
 all_lift value xs [] e = tt
 all_lift value [] (v ∷ vs) e = absurd (cc)
 all_lift value (x ∷ xs) (v ∷ vs) e =
@@ -90,7 +92,8 @@ pub params_tail : {names : List (List ℕ)} {vs : List ValType} {b rest : List �
 params_tail no_params = tail_same _
 params_tail (a_param n p later) = tail_trans (params_tail later) (tail_trans (among_tail p) (new_tail n))
 
-params_flat : {names : List (List ℕ)} {vs : List ValType} {b rest : List ℕ} {fs : List Field} → ReadsParams names vs b fs rest → map (λ p. flat_value p.1) fs ≡ map Some vs
+params_flat : {names : List (List ℕ)} {vs : List ValType} {b rest : List ℕ} {fs : List Field} → ReadsParams names vs b fs rest
+    → map (λ p. flat_value p.1) fs ≡ map Some vs
 params_flat no_params = refl
 params_flat (a_param n p later) = let first = among_flat p in let more = params_flat later in λ i. first i ∷ more i
 
@@ -98,7 +101,8 @@ params_count : {names : List (List ℕ)} {vs : List ValType} {b rest : List ℕ}
 params_count no_params = refl
 params_count (a_param n p later) = let more = params_count later in omega (arith, more)
 
-params_primitive : {names : List (List ℕ)} {vs : List ValType} {b rest : List ℕ} {fs : List Field} (own : Scope) → ReadsParams names vs b fs rest → AllByRecursion (λ p. FormedVal own p.1) fs
+params_primitive : {names : List (List ℕ)} {vs : List ValType} {b rest : List ℕ} {fs : List Field} (own : Scope) → ReadsParams names vs b fs rest
+    → AllByRecursion (λ p. FormedVal own p.1) fs
 params_primitive own no_params = tt
 params_primitive own (a_param n p later) = (tt, params_primitive own later)
 
@@ -106,7 +110,8 @@ params_new : {names : List (List ℕ)} {vs : List ValType} {b rest : List ℕ} {
 params_new no_params = tt
 params_new (a_param n p later) = (n.unique.is_new, params_new later)
 
-params_kebab : {names : List (List ℕ)} {vs : List ValType} {b rest : List ℕ} {fs : List Field} → length names + length vs < 2 ^ 64 → ReadsParams names vs b fs rest → AllByRecursion Kebab (map (λ p. p.0) fs)
+params_kebab : {names : List (List ℕ)} {vs : List ValType} {b rest : List ℕ} {fs : List Field} → length names + length vs < 2 ^ 64
+    → ReadsParams names vs b fs rest → AllByRecursion Kebab (map (λ p. p.0) fs)
 params_kebab h no_params = tt
 params_kebab {names = names} {vs = vs} h (a_param {vs = us} {name = name} n p later) =
     let more : length (names ++ name ∷ []) + length us < 2 ^ 64 = omega (arith, h, length-append names (name ∷ [])) in
@@ -158,8 +163,10 @@ abbrev pub Onward : List ValType → List ℕ → ℕ → List ℕ → List Fiel
 Onward core start i b so_far =
     (fs : List Field) (rest : List ℕ) → ReadsParams (map (λ p. p.0) so_far) (drop i core) b fs rest → ReadsParams [] core start (so_far ++ fs) rest
 
-pub one_more : (core : List ValType) (start : List ℕ) (i : ℕ) (b mid low name : List ℕ) (v other : ValType) (p : PrimitiveValType) (so_far next : List Field) → i < length core → v ≡ get_or core i other
-    → ReadsNew 100 (map (λ q. q.0) so_far) b name mid → ReadsAmong (lifted v) mid p low → next ≡ so_far ++ (name, Primitive p) ∷ [] → Onward core start i b so_far → Onward core start (i + 1) low next
+pub one_more : (core : List ValType) (start : List ℕ) (i : ℕ) (b mid low name : List ℕ) (v other : ValType) (p : PrimitiveValType) (so_far next : List Field)
+    → i < length core → v ≡ get_or core i other
+    → ReadsNew 100 (map (λ q. q.0) so_far) b name mid → ReadsAmong (lifted v) mid p low → next ≡ so_far ++ (name, Primitive p) ∷ []
+    → Onward core start i b so_far → Onward core start (i + 1) low next
 one_more core start i b mid low name v other p so_far next h e n a more onward fs rest later =
     let x : Field = (name, Primitive p) in
     let names = names_more so_far next x more in
@@ -171,7 +178,8 @@ one_more core start i b mid low name v other p so_far next h e n a more onward f
     let same : so_far ++ (x ∷ fs) ≡ next ++ fs = sym (append_assoc so_far (x ∷ []) fs) ∙ sym (ap (λ z. z ++ fs) more) in
     subst F same (onward (x ∷ fs) rest here)
 
-pub none_left : (core : List ValType) (start : List ℕ) (i : ℕ) (b : List ℕ) (so_far : List Field) → length core ≤ i → Onward core start i b so_far → ReadsParams [] core start so_far b
+pub none_left : (core : List ValType) (start : List ℕ) (i : ℕ) (b : List ℕ) (so_far : List Field) → length core ≤ i → Onward core start i b so_far
+    → ReadsParams [] core start so_far b
 none_left core start i b so_far h onward =
     let L : List ValType → Type 0 = λ vs. ReadsParams (map (λ q. q.0) so_far) vs b [] b in
     let F : List Field → Type 0 = λ gs. ReadsParams [] core start gs b in
@@ -184,7 +192,8 @@ one_item (y ∷ []) x n e = λ i. sym e i ∷ []
 one_item (y ∷ z ∷ zs) x n e = absurd (omega (arith, n))
 
 -- The result is read after the parameters.
-pub all_lifted : (f : Function) (vs : List ValType) (v : ValType) (b mid rest : List ℕ) (fs : List Field) (p : PrimitiveValType) → vs ≡ f.0 → length f.1 ≡ 1 → v ≡ get_or f.1 0 v → ReadsParams [] vs b fs mid → ReadsAmong (lifted v) mid p rest
+pub all_lifted : (f : Function) (vs : List ValType) (v : ValType) (b mid rest : List ℕ) (fs : List Field) (p : PrimitiveValType) → vs ≡ f.0 → length f.1 ≡ 1
+    → v ≡ get_or f.1 0 v → ReadsParams [] vs b fs mid → ReadsAmong (lifted v) mid p rest
     → ReadsLifted f b (record { params = fs; result = Some (Primitive p) }) rest
 all_lifted f vs v b mid rest fs p same one first params result = record {
   mid = mid;

@@ -1,5 +1,6 @@
 -- Types that are made are well formed.
-use Rattle.std.proofs.Common.{◌≡◌, ◌⊎◌, inl, inr, ℕ, ◌+◌, ◌-◌, ◌^◌, ◌<◌, ◌≤◌, Bool, true, false, List, [], ◌∷◌, ◌++◌, length, refl, sym, ap, ◌∙◌, subst, arith, append-nil, append_assoc, length-append}
+use Rattle.std.proofs.Common.{◌≡◌, ◌⊎◌, inl, inr, ℕ, ◌+◌, ◌-◌, ◌^◌, ◌<◌, ◌≤◌, Bool, true, false, List, [], ◌∷◌, ◌++◌, length, refl, sym, ap, ◌∙◌, subst, arith}
+use Rattle.std.proofs.Common.{append-nil, append_assoc, length-append}
 use Rattle.std.proofs.lemmas.Bool.{false≢true}
 use Rattle.std.proofs.lemmas.List.{map-append, length-map}
 use Rattle.std.specs.List.{AllByRecursion}
@@ -8,13 +9,15 @@ use Rattle.smith_input.specs.Names.{ReadsNew}
 use Rattle.smith_input.proofs.NewNames.{new_kebab}
 use Rattle.smith_input.proofs.ReadingLemmas.{more_within}
 use Rattle.smith_format.specs.declared.config.Config.{Config}
-use Rattle.smith_syntax.specs.Entries.{EntryOf, DeclOf, DeclsOf, defined, function, component_type, instance_type, core_type_decl, type_decl, type_alias, core_type_alias, import_decl, export_decl, no_decls, then_decls}
+use Rattle.smith_syntax.specs.Entries.{EntryOf, DeclOf, DeclsOf, defined, function, component_type, instance_type, core_type_decl, type_decl, type_alias}
+use Rattle.smith_syntax.specs.Entries.{core_type_alias, import_decl, export_decl, no_decls, then_decls}
 use Rattle.smith_syntax.specs.Entries.{FullEntry, FullDecl, FullDecls, plain, plain_decl, plain_decls}
 use Rattle.smith_syntax.specs.Scope.{Scope, with_type, after_decl}
 use Rattle.smith_syntax.specs.WellFormed.{FormedEntry, FormedDeclaration, FormedDeclarations, Named, names, import_of, export_of, imports_in, exports_in}
 use Rattle.smith_types.specs.Declarations.{NamedExtern, SoFar, nothing_so_far, after_one}
 use Rattle.smith_types.specs.Made.{Made, spent_type, made_defined, made_function, made_component, made_instance}
-use Rattle.smith_types.specs.Made.{MadeDeclaration, made_import, made_export, made_alias, made_core_type, made_type, MadeDeclarations, no_more_decls, spent_decls, one_decl}
+use Rattle.smith_types.specs.Made.{MadeDeclaration, made_import, made_export, made_alias, made_core_type, made_type, MadeDeclarations, no_more_decls}
+use Rattle.smith_types.specs.Made.{spent_decls, one_decl}
 use Rattle.smith_types.proofs.DeclarationsRead.{alias_holds, alias_formed, import_formed, export_formed}
 use Rattle.smith_types.proofs.Made.{defined_formed, function_formed}
 use Rattle.smith_core_types.proofs.MadeCore.{made_core_formed}
@@ -87,14 +90,16 @@ module _ (config : Config) (importing : Bool) (outer : List Scope) (s : SoFar) (
   declaration_imports : MadeDeclaration config importing outer s b fuel d rest left → MaybeNew s.imports (import_of d)
   declaration_imports (made_import e r l) = inr (r.named, ap import_of r.is, r.low, r.name.mid, r.name.name)
   declaration_imports (made_export n c r l) = inl (ap import_of r.is)
-  declaration_imports (made_alias {low = low} n c r l) = inl (alias_holds (λ z. import_of z ≡ []) (λ count i k. refl) (λ count i k. refl) (s.own ∷ outer) low d rest r)
+  declaration_imports (made_alias {low = low} n c r l) = inl
+      (alias_holds (λ z. import_of z ≡ []) (λ count i k. refl) (λ count i k. refl) (s.own ∷ outer) low d rest r)
   declaration_imports (made_core_type n c m i) = inl (ap import_of i)
   declaration_imports (made_type n c m i) = inl (ap import_of i)
 
   declaration_exports : MadeDeclaration config importing outer s b fuel d rest left → MaybeNew s.exports (export_of d)
   declaration_exports (made_import e r l) = inl (ap export_of r.is)
   declaration_exports (made_export n c r l) = inr (r.named, ap export_of r.is, r.mid, r.name.mid, r.name.name)
-  declaration_exports (made_alias {low = low} n c r l) = inl (alias_holds (λ z. export_of z ≡ []) (λ count i k. refl) (λ count i k. refl) (s.own ∷ outer) low d rest r)
+  declaration_exports (made_alias {low = low} n c r l) = inl
+      (alias_holds (λ z. export_of z ≡ []) (λ count i k. refl) (λ count i k. refl) (s.own ∷ outer) low d rest r)
   declaration_exports (made_core_type n c m i) = inl (ap export_of i)
   declaration_exports (made_type n c m i) = inl (ap export_of i)
 
@@ -102,7 +107,8 @@ module _ (config : Config) (importing : Bool) (outer : List Scope) (s : SoFar) (
   declaration_own : importing ≡ false → MadeDeclaration config importing outer s b fuel d rest left → import_of (plain_decl d) ≡ []
   declaration_own never (made_import e r l) = absurd (false≢true (sym never ∙ e))
   declaration_own never (made_export n c r l) = ap (λ z. import_of (plain_decl z)) r.is
-  declaration_own never (made_alias {low = low} n c r l) = alias_holds (λ z. import_of (plain_decl z) ≡ []) (λ count i k. refl) (λ count i k. refl) (s.own ∷ outer) low d rest r
+  declaration_own never (made_alias {low = low} n c r l) = alias_holds (λ z. import_of (plain_decl z) ≡ []) (λ count i k. refl) (λ count i k. refl)
+      (s.own ∷ outer) low d rest r
   declaration_own never (made_core_type n c m i) = ap (λ z. import_of (plain_decl z)) i
   declaration_own never (made_type n c m i) = ap (λ z. import_of (plain_decl z)) i
 
@@ -120,13 +126,17 @@ names_more so_far one later few (inr (x, is, b, rest, new)) after =
     let Q : List NamedExtern → Type 0 = λ z. NewNames so_far (z ++ later) in
     let then_new = subst P is after in
     let below : length (names so_far) < 2 ^ 64 = omega (arith, length-map so_far (λ y. y.0), few) in
-    subst Q (sym is) ((new.unique.is_new, subst (λ z. AreNew z (names later)) (map-append (λ y. y.0) so_far (x ∷ [])) then_new.0), (new_kebab below new, then_new.1))
+    subst Q (sym is) (
+      (new.unique.is_new, subst (λ z. AreNew z (names later)) (map-append (λ y. y.0) so_far (x ∷ [])) then_new.0),
+      (new_kebab below new, then_new.1),
+    )
 
 at_most_one : (so_far one : List NamedExtern) → MaybeNew so_far one → length (so_far ++ one) ≤ length so_far + 1
 at_most_one so_far one (inl none) = omega (arith, length-append so_far one, ap length none)
 at_most_one so_far one (inr (x, is, b, rest, new)) = omega (arith, length-append so_far one, ap length is)
 
-pub imports_new : (config : Config) (importing : Bool) (outer : List Scope) (done : ℕ) (s : SoFar) (b : List ℕ) (fuel : ℕ) (ds : FullDecls) (rest : List ℕ) (left : ℕ) → length s.imports ≤ done
+pub imports_new : (config : Config) (importing : Bool) (outer : List Scope) (done : ℕ) (s : SoFar) (b : List ℕ) (fuel : ℕ) (ds : FullDecls) (rest : List ℕ)
+    (left : ℕ) → length s.imports ≤ done
     → MadeDeclarations config importing outer done s b fuel ds rest left → NewNames s.imports (imports_in ds)
 imports_new config importing outer done s b fuel ds rest left few (no_more_decls m l) = (tt, tt)
 imports_new config importing outer done s b fuel ds rest left few (spent_decls m f l) = (tt, tt)
@@ -134,9 +144,11 @@ imports_new config importing outer done s b fuel _ rest left few (one_decl {mid 
     let new = declaration_imports config importing outer s mid (fuel - 1) d low held one in
     let lt : done < 100 = more_within m in
     names_more s.imports (import_of d) (imports_in ds) (omega (arith, few, lt)) new
-    (imports_new config importing outer (done + 1) (after_one outer s d) low held ds rest left (omega (arith, few, at_most_one s.imports (import_of d) new)) later)
+    (imports_new config importing outer (done + 1) (after_one outer s d) low held ds rest left (omega (arith, few, at_most_one s.imports (import_of d) new))
+    later)
 
-pub exports_new : (config : Config) (importing : Bool) (outer : List Scope) (done : ℕ) (s : SoFar) (b : List ℕ) (fuel : ℕ) (ds : FullDecls) (rest : List ℕ) (left : ℕ) → length s.exports ≤ done
+pub exports_new : (config : Config) (importing : Bool) (outer : List Scope) (done : ℕ) (s : SoFar) (b : List ℕ) (fuel : ℕ) (ds : FullDecls) (rest : List ℕ)
+    (left : ℕ) → length s.exports ≤ done
     → MadeDeclarations config importing outer done s b fuel ds rest left → NewNames s.exports (exports_in ds)
 exports_new config importing outer done s b fuel ds rest left few (no_more_decls m l) = (tt, tt)
 exports_new config importing outer done s b fuel ds rest left few (spent_decls m f l) = (tt, tt)
@@ -144,14 +156,17 @@ exports_new config importing outer done s b fuel _ rest left few (one_decl {mid 
     let new = declaration_exports config importing outer s mid (fuel - 1) d low held one in
     let lt : done < 100 = more_within m in
     names_more s.exports (export_of d) (exports_in ds) (omega (arith, few, lt)) new
-    (exports_new config importing outer (done + 1) (after_one outer s d) low held ds rest left (omega (arith, few, at_most_one s.exports (export_of d) new)) later)
+    (exports_new config importing outer (done + 1) (after_one outer s d) low held ds rest left (omega (arith, few, at_most_one s.exports (export_of d) new))
+    later)
 
-pub no_imports : (config : Config) (importing : Bool) (outer : List Scope) (done : ℕ) (s : SoFar) (b : List ℕ) (fuel : ℕ) (ds : FullDecls) (rest : List ℕ) (left : ℕ) → importing ≡ false
+pub no_imports : (config : Config) (importing : Bool) (outer : List Scope) (done : ℕ) (s : SoFar) (b : List ℕ) (fuel : ℕ) (ds : FullDecls) (rest : List ℕ)
+    (left : ℕ) → importing ≡ false
     → MadeDeclarations config importing outer done s b fuel ds rest left → imports_in (plain_decls ds) ≡ []
 no_imports config importing outer done s b fuel ds rest left never (no_more_decls m l) = refl
 no_imports config importing outer done s b fuel ds rest left never (spent_decls m f l) = refl
 no_imports config importing outer done s b fuel _ rest left never (one_decl {mid = mid} {low = low} {held = held} {d = d} {ds = ds} m f one later) =
-    (λ i. declaration_own config importing outer s mid (fuel - 1) d low held never one i ++ no_imports config importing outer (done + 1) (after_one outer s d) low held ds rest left never later i)
+    (λ i. declaration_own config importing outer s mid (fuel - 1) d low held never one i ++ no_imports config importing outer (done + 1) (after_one outer s d)
+    low held ds rest left never later i)
 
 -- Names after those so far.
 
@@ -168,21 +183,27 @@ named_more xs ys n new =
     let whole = new_append [] (names xs) (names ys) (distinct_new [] (names xs) (none_before (names xs)) n.1) new.0 in
     subst Named (sym (map-append (λ x. x.0) xs ys)) (kebab_append (names xs) (names ys) n.0 new.1, new_distinct [] (names xs ++ names ys) whole)
 
-module _ (config : Config) (importing : Bool) (outer : List Scope) (done : ℕ) (s : SoFar) (b : List ℕ) (fuel : ℕ) (ds : FullDecls) (rest : List ℕ) (left : ℕ) where
-  pub imports_named : length s.imports ≤ done → Named (names s.imports) → MadeDeclarations config importing outer done s b fuel ds rest left → Named (names (s.imports ++ imports_in ds))
+module _ (config : Config) (importing : Bool) (outer : List Scope) (done : ℕ) (s : SoFar) (b : List ℕ) (fuel : ℕ) (ds : FullDecls) (rest : List ℕ)
+    (left : ℕ) where
+  pub imports_named : length s.imports ≤ done → Named (names s.imports) → MadeDeclarations config importing outer done s b fuel ds rest left
+      → Named (names (s.imports ++ imports_in ds))
   imports_named few n m = named_more s.imports (imports_in ds) n (imports_new config importing outer done s b fuel ds rest left few m)
 
-  pub exports_named : length s.exports ≤ done → Named (names s.exports) → MadeDeclarations config importing outer done s b fuel ds rest left → Named (names (s.exports ++ exports_in ds))
+  pub exports_named : length s.exports ≤ done → Named (names s.exports) → MadeDeclarations config importing outer done s b fuel ds rest left
+      → Named (names (s.exports ++ exports_in ds))
   exports_named few n m = named_more s.exports (exports_in ds) n (exports_new config importing outer done s b fuel ds rest left few m)
 
 none_named : Named []
 none_named = (tt, new_distinct [] [] tt)
 
 mutual
-  pub made_formed : (config : Config) (own : Scope) (outer : List Scope) (b : List ℕ) (fuel : ℕ) (e : FullEntry) (rest : List ℕ) (left : ℕ) → Made config own outer b fuel e rest left
+  pub made_formed : (config : Config) (own : Scope) (outer : List Scope) (b : List ℕ) (fuel : ℕ) (e : FullEntry) (rest : List ℕ) (left : ℕ)
+      → Made config own outer b fuel e rest left
       → FormedEntry (plain e) own outer
-  made_formed config own outer b fuel e rest left (spent_type {t = t} f d i) = subst (λ z. FormedEntry (plain z) own outer) (sym i) (defined_formed own b 0 t rest left d)
-  made_formed config own outer b fuel e rest left (made_defined {mid = mid} {t = t} f c d i) = subst (λ z. FormedEntry (plain z) own outer) (sym i) (defined_formed own mid (fuel - 1) t rest left d)
+  made_formed config own outer b fuel e rest left (spent_type {t = t} f d i) =
+      subst (λ z. FormedEntry (plain z) own outer) (sym i) (defined_formed own b 0 t rest left d)
+  made_formed config own outer b fuel e rest left (made_defined {mid = mid} {t = t} f c d i) =
+      subst (λ z. FormedEntry (plain z) own outer) (sym i) (defined_formed own mid (fuel - 1) t rest left d)
   made_formed config own outer b fuel e rest left (made_function {mid = mid} {s = s} f c d i) =
       subst (λ z. FormedEntry (plain z) own outer) (sym i) (function_formed own outer mid (fuel - 1) s rest left d)
   made_formed config own outer b fuel e rest left (made_component {mid = mid} {ds = ds} f c d i) =
@@ -198,20 +219,24 @@ mutual
         subst Named (sym (exports_plain ds)) (exports_named config false (own ∷ outer) 0 nothing_so_far mid (fuel - 1) ds rest left (omega arith) none_named d),
       )
 
-  pub declaration_formed : (config : Config) (importing : Bool) (outer : List Scope) (s : SoFar) (b : List ℕ) (fuel : ℕ) (d : FullDecl) (rest : List ℕ) (left : ℕ)
+  pub declaration_formed : (config : Config) (importing : Bool) (outer : List Scope) (s : SoFar) (b : List ℕ) (fuel : ℕ) (d : FullDecl) (rest : List ℕ)
+      (left : ℕ)
       → MadeDeclaration config importing outer s b fuel d rest left → FormedDeclaration (plain_decl d) s.own outer
   declaration_formed config importing outer s b fuel d rest left (made_import i r l) = import_formed config s.own outer s.imports b d rest r
   declaration_formed config importing outer s b fuel d rest left (made_export {low = low} n c r l) = export_formed config s.own outer s.exports low d rest r
   declaration_formed config importing outer s b fuel d rest left (made_alias {low = low} n c r l) = alias_formed s.own outer low d rest r
-  declaration_formed config importing outer s b fuel d rest left (made_core_type n c m i) = subst (λ z. FormedDeclaration (plain_decl z) s.own outer) (sym i) (made_core_formed m)
+  declaration_formed config importing outer s b fuel d rest left (made_core_type n c m i) =
+      subst (λ z. FormedDeclaration (plain_decl z) s.own outer) (sym i) (made_core_formed m)
   declaration_formed config importing outer s b fuel d rest left (made_type {low = low} {e = e} n c m i) =
       subst (λ z. FormedDeclaration (plain_decl z) s.own outer) (sym i) (made_formed config s.own outer low fuel e rest left m)
 
-  pub declarations_formed : (config : Config) (importing : Bool) (outer : List Scope) (done : ℕ) (s : SoFar) (b : List ℕ) (fuel : ℕ) (ds : FullDecls) (rest : List ℕ) (left : ℕ)
+  pub declarations_formed : (config : Config) (importing : Bool) (outer : List Scope) (done : ℕ) (s : SoFar) (b : List ℕ) (fuel : ℕ) (ds : FullDecls)
+      (rest : List ℕ) (left : ℕ)
       → MadeDeclarations config importing outer done s b fuel ds rest left → FormedDeclarations (plain_decls ds) s.own outer
   declarations_formed config importing outer done s b fuel ds rest left (no_more_decls m l) = tt
   declarations_formed config importing outer done s b fuel ds rest left (spent_decls m f l) = tt
   declarations_formed config importing outer done s b fuel _ rest left (one_decl {mid = mid} {low = low} {held = held} {d = d} {ds = ds} m f one later) = (
     declaration_formed config importing outer s mid (fuel - 1) d low held one,
-    subst (λ z. FormedDeclarations (plain_decls ds) z outer) (sym (after_plain outer s.own d)) (declarations_formed config importing outer (done + 1) (after_one outer s d) low held ds rest left later),
+    subst (λ z. FormedDeclarations (plain_decls ds) z outer) (sym (after_plain outer s.own d))
+        (declarations_formed config importing outer (done + 1) (after_one outer s d) low held ds rest left later),
   )

@@ -6,7 +6,8 @@ use Rattle.smith_syntax.specs.Entries.{FullEntry, FullDecl}
 use Rattle.smith_syntax.specs.Scope.{Scope}
 use Rattle.smith_types.specs.Declarations.{NamedExtern, SoFar, NoImport}
 use Rattle.smith_types.specs.Offers.{declaration_items, type_kinds}
-use Rattle.smith_types.specs.Made.{Made, spent_type, made_defined, made_function, made_component, made_instance, MadeDeclaration, made_export, made_alias, made_core_type, made_type}
+use Rattle.smith_types.specs.Made.{Made, spent_type, made_defined, made_function, made_component, made_instance, MadeDeclaration, made_export, made_alias}
+use Rattle.smith_types.specs.Made.{made_core_type, made_type}
 use Rattle.smith_types.specs.MakingTypes.{HoldsExterns, MadeItem, MadeKind}
 use Rattle.smith_types.specs.declared.make.TypeKind.{TypeKind}
 use Rattle.smith_types.specs.declared.make.TypeKind.TheVariants as kind
@@ -15,7 +16,8 @@ use Rattle.smith_types.specs.declared.make.declarations.DeclarationItem.TheVaria
 use Rattle.smith_types.specs.declared.make.externs.ExternNames.{ExternNames}
 
 -- a declaration of a sort that was chosen
-pub item_made : (config : Config) (importing : Bool) (s : SoFar) (outer : List Scope) (start mid low rest : List ℕ) (i : DeclarationItem) (fuel left : ℕ) (d : FullDecl) → NoImport config importing s.own start mid → ReadsAmong (declaration_items config outer s.own) mid i low
+pub item_made : (config : Config) (importing : Bool) (s : SoFar) (outer : List Scope) (start mid low rest : List ℕ) (i : DeclarationItem) (fuel left : ℕ)
+    (d : FullDecl) → NoImport config importing s.own start mid → ReadsAmong (declaration_items config outer s.own) mid i low
     → MadeItem config s.own outer s.exports i low fuel d rest left → MadeDeclaration config importing outer s start fuel d rest left
 item_made config importing s outer start mid low rest item.Export fuel left d none chosen (r, l) = made_export none chosen r l
 item_made config importing s outer start mid low rest item.Alias fuel left d none chosen (r, l) = made_alias none chosen r l
@@ -23,24 +25,31 @@ item_made config importing s outer start mid low rest item.CoreType fuel left d 
 item_made config importing s outer start mid low rest item.«Type» fuel left d none chosen (e, m, is) = made_type none chosen m is
 
 -- a type of a kind that was chosen, after it took one from the fuel
-kind_made : (config : Config) (own : Scope) (outer : List Scope) (b mid rest : List ℕ) (k : TypeKind) (fuel left : ℕ) (e : FullEntry) → 0 < fuel - 1 → ReadsAmong type_kinds b k mid → MadeKind config own outer k mid (fuel - 1) e rest left → Made config own outer b fuel e rest left
+kind_made : (config : Config) (own : Scope) (outer : List Scope) (b mid rest : List ℕ) (k : TypeKind) (fuel left : ℕ) (e : FullEntry) → 0 < fuel - 1
+    → ReadsAmong type_kinds b k mid → MadeKind config own outer k mid (fuel - 1) e rest left → Made config own outer b fuel e rest left
 kind_made config own outer b mid rest kind.Defined fuel left e lasts chosen (t, m, is) = made_defined lasts chosen m is
 kind_made config own outer b mid rest kind.Function fuel left e lasts chosen (s, m, is) = made_function lasts chosen m is
 kind_made config own outer b mid rest kind.Component fuel left e lasts chosen (ds, m, is) = made_component lasts chosen m is
 kind_made config own outer b mid rest kind.Instance fuel left e lasts chosen (ds, m, is) = made_instance lasts chosen m is
 
-spent_made : (config : Config) (own : Scope) (outer : List Scope) (b mid rest : List ℕ) (k : TypeKind) (fuel left : ℕ) (e : FullEntry) → fuel - 1 ≡ 0 → (k ≡ kind.Defined) × (mid ≡ b) → MadeKind config own outer k mid (fuel - 1) e rest left → Made config own outer b fuel e rest left
+spent_made : (config : Config) (own : Scope) (outer : List Scope) (b mid rest : List ℕ) (k : TypeKind) (fuel left : ℕ) (e : FullEntry) → fuel - 1 ≡ 0
+    → (k ≡ kind.Defined) × (mid ≡ b) → MadeKind config own outer k mid (fuel - 1) e rest left → Made config own outer b fuel e rest left
 spent_made config own outer b mid rest k fuel left e none (is, same) m =
-    let d = subst (λ n. MadeKind config own outer kind.Defined b n e rest left) none (subst (λ z. MadeKind config own outer kind.Defined z (fuel - 1) e rest left) same (subst (λ z. MadeKind config own outer z mid (fuel - 1) e rest left) is m)) in
+    let d = subst (λ n. MadeKind config own outer kind.Defined b n e rest left) none
+    (subst (λ z. MadeKind config own outer kind.Defined z (fuel - 1) e rest left) same
+    (subst (λ z. MadeKind config own outer z mid (fuel - 1) e rest left) is m)) in
     spent_type none d.1 d.2
 
-pub type_made : (config : Config) (own : Scope) (outer : List Scope) (b mid rest : List ℕ) (k : TypeKind) (fuel held left : ℕ) (e : FullEntry) → held ≡ fuel - 1 → (held ≡ 0 → (k ≡ kind.Defined) × (mid ≡ b)) → (0 < held → ReadsAmong type_kinds b k mid)
+pub type_made : (config : Config) (own : Scope) (outer : List Scope) (b mid rest : List ℕ) (k : TypeKind) (fuel held left : ℕ) (e : FullEntry) → held ≡ fuel - 1
+    → (held ≡ 0 → (k ≡ kind.Defined) × (mid ≡ b)) → (0 < held → ReadsAmong type_kinds b k mid)
     → MadeKind config own outer k mid held e rest left → Made config own outer b fuel e rest left
 type_made config own outer b mid rest k fuel zero left e burnt spent chosen m =
     spent_made config own outer b mid rest k fuel left e (sym burnt) (spent refl) (subst (λ n. MadeKind config own outer k mid n e rest left) burnt m)
 type_made config own outer b mid rest k fuel (suc n) left e burnt spent chosen m =
-    kind_made config own outer b mid rest k fuel left e (omega (arith, burnt)) (chosen (omega arith)) (subst (λ h. MadeKind config own outer k mid h e rest left) burnt m)
+    kind_made config own outer b mid rest k fuel left e (omega (arith, burnt)) (chosen (omega arith))
+    (subst (λ h. MadeKind config own outer k mid h e rest left) burnt m)
 
 -- what a declaration without a name adds to the names
-pub names_stay : (sets : ExternNames) (so_far : List NamedExtern) (more : List NamedExtern) → more ≡ [] → HoldsExterns sets so_far → HoldsExterns sets (so_far ++ more)
+pub names_stay : (sets : ExternNames) (so_far : List NamedExtern) (more : List NamedExtern) → more ≡ [] → HoldsExterns sets so_far
+    → HoldsExterns sets (so_far ++ more)
 names_stay sets so_far more none held = subst (HoldsExterns sets) (sym (ap (λ xs. so_far ++ xs) none ∙ append-nil so_far)) held

@@ -1,5 +1,6 @@
 -- Loops over members: what they leave, how many they read, that they are determined, and what a script says of them.
-use Rattle.std.proofs.Common.{◌≡◌, ℕ, ◌+◌, ◌-◌, ◌<◌, ◌≤◌, ◌^◌, false, List, [], ◌∷◌, ◌++◌, map, length, refl, sym, ap, ◌∙◌, subst, arith, append-nil, append_assoc, length-append, string_bytes}
+use Rattle.std.proofs.Common.{◌≡◌, ℕ, ◌+◌, ◌-◌, ◌<◌, ◌≤◌, ◌^◌, false, List, [], ◌∷◌, ◌++◌, map, length, refl, sym, ap, ◌∙◌, subst, arith, append-nil}
+use Rattle.std.proofs.Common.{append_assoc, length-append, string_bytes}
 use Rattle.std.proofs.lemmas.List.{length-map, map-append, map-id}
 use Rattle.std.specs.List.{AllByRecursion}
 use Rattle.std.specs.Prelude.{String}
@@ -21,16 +22,19 @@ use Rattle.smith_core_types.proofs.Names.{AreNew, new_distinct, distinct_new, no
 
 -- tails
 
-pub members_tail : {A : Type 0} {Member : List A → List ℕ → A → List ℕ → Type 0} {min max : ℕ} → ((so_far : List A) (b : List ℕ) (x : A) (rest : List ℕ) → Member so_far b x rest → IsTail rest b)
+pub members_tail : {A : Type 0} {Member : List A → List ℕ → A → List ℕ → Type 0} {min max : ℕ}
+    → ((so_far : List A) (b : List ℕ) (x : A) (rest : List ℕ) → Member so_far b x rest → IsTail rest b)
     → (b : List ℕ) (fuel : ℕ) (xs : List A) (rest : List ℕ) (left : ℕ) → ReadsMembers Member min max b fuel xs rest left → IsTail rest b
 members_tail one b fuel xs rest left l = loop_tail (λ s c r t e. tail_is e.stays) (λ s c x r t i. one s.0 c x r i.member) 0 ([], fuel) b xs rest (xs, left) l
 
-pub named_tail : {B : Type 0} {After : List ℕ → B → List ℕ → Type 0} → ((b : List ℕ) (y : B) (rest : List ℕ) → After b y rest → IsTail rest b) → (so_far : List (List ℕ × B)) (b : List ℕ) (x : List ℕ × B) (rest : List ℕ) → ReadsNamed After so_far b x rest → IsTail rest b
+pub named_tail : {B : Type 0} {After : List ℕ → B → List ℕ → Type 0} → ((b : List ℕ) (y : B) (rest : List ℕ) → After b y rest → IsTail rest b)
+    → (so_far : List (List ℕ × B)) (b : List ℕ) (x : List ℕ × B) (rest : List ℕ) → ReadsNamed After so_far b x rest → IsTail rest b
 named_tail one so_far b x rest r = tail_trans (one r.mid x.1 rest r.after) (new_tail r.name)
 
 -- how many there are, and how much fuel they take
 
-module _ {A : Type 0} {Member : List A → List ℕ → A → List ℕ → Type 0} {min max : ℕ} (b : List ℕ) (fuel : ℕ) (xs : List A) (rest : List ℕ) (left : ℕ) (l : ReadsMembers Member min max b fuel xs rest left) where
+module _ {A : Type 0} {Member : List A → List ℕ → A → List ℕ → Type 0} {min max : ℕ} (b : List ℕ) (fuel : ℕ) (xs : List A) (rest : List ℕ) (left : ℕ)
+    (l : ReadsMembers Member min max b fuel xs rest left) where
   pub members_few : length xs ≤ max
   members_few = let few = loop_few 0 ([], fuel) b xs rest (xs, left) (omega arith) l in omega (arith, few)
 
@@ -54,7 +58,9 @@ module _ {A : Type 0} {Member : List A → List ℕ → A → List ℕ → Type 
   members_all P one = loop_all P (λ s c x r t i. one s.0 c x r i.member) 0 ([], fuel) b xs rest (xs, left) l
 
 -- members with names, of which none is that of a member before it
-module _ {A : Type 0} {Member : List A → List ℕ → A → List ℕ → Type 0} {min max : ℕ} (name : A → List ℕ) (one : (so_far : List A) (b : List ℕ) (x : A) (rest : List ℕ) → Member so_far b x rest → (mid : List ℕ) × ReadsNew 100 (map name so_far) b (name x) mid) where
+module _ {A : Type 0} {Member : List A → List ℕ → A → List ℕ → Type 0} {min max : ℕ} (name : A → List ℕ)
+    (one : (so_far : List A) (b : List ℕ) (x : A) (rest : List ℕ) → Member so_far b x rest
+    → (mid : List ℕ) × ReadsNew 100 (map name so_far) b (name x) mid) where
   members_new : (b : List ℕ) (fuel : ℕ) (xs : List A) (rest : List ℕ) (left : ℕ) → ReadsMembers Member min max b fuel xs rest left → AreNew [] (map name xs)
   members_new b fuel xs rest left l =
       loop_gives
@@ -72,7 +78,8 @@ module _ {A : Type 0} {Member : List A → List ℕ → A → List ℕ → Type 
       (xs, left)
       l
 
-  members_kebab : (b : List ℕ) (fuel : ℕ) (xs : List A) (rest : List ℕ) (left : ℕ) → max ≤ 100 → ReadsMembers Member min max b fuel xs rest left → AllByRecursion Kebab (map name xs)
+  members_kebab : (b : List ℕ) (fuel : ℕ) (xs : List A) (rest : List ℕ) (left : ℕ) → max ≤ 100 → ReadsMembers Member min max b fuel xs rest left
+      → AllByRecursion Kebab (map name xs)
   members_kebab b fuel xs rest left h l =
       loop_gives
       (λ s ys t. length s.0 + length ys ≤ 100 → AllByRecursion Kebab (map name ys))
@@ -91,20 +98,25 @@ module _ {A : Type 0} {Member : List A → List ℕ → A → List ℕ → Type 
       l
       (let most = members_few b fuel xs rest left l in omega (arith, most, h))
 
-  pub members_named : (b : List ℕ) (fuel : ℕ) (xs : List A) (rest : List ℕ) (left : ℕ) → max ≤ 100 → ReadsMembers Member min max b fuel xs rest left → Named (map name xs)
+  pub members_named : (b : List ℕ) (fuel : ℕ) (xs : List A) (rest : List ℕ) (left : ℕ) → max ≤ 100 → ReadsMembers Member min max b fuel xs rest left
+      → Named (map name xs)
   members_named b fuel xs rest left h l = (members_kebab b fuel xs rest left h l, new_distinct [] (map name xs) (members_new b fuel xs rest left l))
 
-pub named_name : {B : Type 0} {After : List ℕ → B → List ℕ → Type 0} → (so_far : List (List ℕ × B)) (b : List ℕ) (x : List ℕ × B) (rest : List ℕ) → ReadsNamed After so_far b x rest → (mid : List ℕ) × ReadsNew 100 (map (λ y. y.0) so_far) b x.0 mid
+pub named_name : {B : Type 0} {After : List ℕ → B → List ℕ → Type 0} → (so_far : List (List ℕ × B)) (b : List ℕ) (x : List ℕ × B) (rest : List ℕ)
+    → ReadsNamed After so_far b x rest → (mid : List ℕ) × ReadsNew 100 (map (λ y. y.0) so_far) b x.0 mid
 named_name so_far b x rest r = (r.mid, r.name)
 
 label_name : (so_far : List (List ℕ)) (b x rest : List ℕ) → ReadsNew 100 so_far b x rest → (mid : List ℕ) × ReadsNew 100 (map (λ y. y) so_far) b x mid
 label_name so_far b x rest r = (rest, subst (λ ns. ReadsNew 100 ns b x rest) (sym (map-id so_far)) r)
 
-pub labels_named : {min max : ℕ} (b : List ℕ) (fuel : ℕ) (xs : List (List ℕ)) (rest : List ℕ) (left : ℕ) → max ≤ 100 → ReadsMembers (ReadsNew 100) min max b fuel xs rest left → Named xs
+pub labels_named : {min max : ℕ} (b : List ℕ) (fuel : ℕ) (xs : List (List ℕ)) (rest : List ℕ) (left : ℕ) → max ≤ 100
+    → ReadsMembers (ReadsNew 100) min max b fuel xs rest left → Named xs
 labels_named b fuel xs rest left h l = subst Named (map-id xs) (members_named (λ x. x) label_name b fuel xs rest left h l)
 
-pub members_same : {A : Type 0} {Member : List A → List ℕ → A → List ℕ → Type 0} {min max : ℕ} → ((so_far : List A) (b : List ℕ) (x y : A) (r s : List ℕ) → Member so_far b x r → Member so_far b y s → (x ≡ y) × (r ≡ s))
-    → (b : List ℕ) (fuel : ℕ) (xs ys : List A) (r s : List ℕ) (f g : ℕ) → ReadsMembers Member min max b fuel xs r f → ReadsMembers Member min max b fuel ys s g → Same xs ys r s f g
+pub members_same : {A : Type 0} {Member : List A → List ℕ → A → List ℕ → Type 0} {min max : ℕ}
+    → ((so_far : List A) (b : List ℕ) (x y : A) (r s : List ℕ) → Member so_far b x r → Member so_far b y s → (x ≡ y) × (r ≡ s))
+    → (b : List ℕ) (fuel : ℕ) (xs ys : List A) (r s : List ℕ) (f g : ℕ) → ReadsMembers Member min max b fuel xs r f → ReadsMembers Member min max b fuel ys s g
+    → Same xs ys r s f g
 members_same one b fuel xs ys r s f g l m =
     let d =
     loop_same
@@ -128,7 +140,8 @@ members_same one b fuel xs ys r s f g l m =
     record { value = d.0; rest = d.1; left = ap (λ z. z.1) d.2 }
 
 pub named_same : {B : Type 0} {After : List ℕ → B → List ℕ → Type 0} → ((b : List ℕ) (x y : B) (r s : List ℕ) → After b x r → After b y s → (x ≡ y) × (r ≡ s))
-    → (so_far : List (List ℕ × B)) (b : List ℕ) (x y : List ℕ × B) (r s : List ℕ) → ReadsNamed After so_far b x r → ReadsNamed After so_far b y s → (x ≡ y) × (r ≡ s)
+    → (so_far : List (List ℕ × B)) (b : List ℕ) (x y : List ℕ × B) (r s : List ℕ) → ReadsNamed After so_far b x r → ReadsNamed After so_far b y s
+    → (x ≡ y) × (r ≡ s)
 named_same {After = After} one so_far b x y r s p q =
     let n = new_unique p.name q.name in
     let t = one q.mid x.1 y.1 r s (subst (λ m. After m x.1 r) n.1 p.after) q.after in
@@ -137,7 +150,8 @@ named_same {After = After} one so_far b x y r s p q =
 -- scripts
 
 -- A script that takes no heed of the state is the same in all of them.
-any_state : {S A : Type 0} (f : A → List ℕ) (next : S → A → S) (min max done : ℕ) (s : S) (xs : List A) → script_loop (λ (u : Unit {0}) x. f x) (λ u x. u) min max done tt xs ≡ script_loop (λ t x. f x) next min max done s xs
+any_state : {S A : Type 0} (f : A → List ℕ) (next : S → A → S) (min max done : ℕ) (s : S) (xs : List A)
+    → script_loop (λ (u : Unit {0}) x. f x) (λ u x. u) min max done tt xs ≡ script_loop (λ t x. f x) next min max done s xs
 any_state f next min max done s [] = refl
 any_state f next min max done s (x ∷ xs) = ap (λ later. script_more min done ++ f x ++ later) (any_state f next min max (done + 1) (next s x) xs)
 
@@ -155,12 +169,14 @@ module _ {A : Type 0} where
       after_members (so_far ++ x ∷ []) (fuel - 1) xs
       ∙ (λ i. (append_assoc so_far (x ∷ []) xs i, (let z : fuel - 1 - length xs ≡ fuel - length (x ∷ xs) = omega arith in z) i))
 
-  lasts_along : (P : List A → A → Type 0) (so_far : List A) (fuel : ℕ) (xs : List A) → Ready P so_far xs → length xs + 1 ≤ fuel → Along (λ s x. P s.0 x × (0 < s.1 - 1)) next_member (so_far, fuel) xs
+  lasts_along : (P : List A → A → Type 0) (so_far : List A) (fuel : ℕ) (xs : List A) → Ready P so_far xs → length xs + 1 ≤ fuel
+      → Along (λ s x. P s.0 x × (0 < s.1 - 1)) next_member (so_far, fuel) xs
   lasts_along P so_far fuel [] all lasts = tt
   lasts_along P so_far fuel (x ∷ xs) all lasts = ((all.0, omega arith), lasts_along P (so_far ++ x ∷ []) (fuel - 1) xs all.1 (omega arith))
 
   -- A script of members is read as them.
-  pub members_read : {min max : ℕ} (Member : List A → List ℕ → A → List ℕ → Type 0) (f : A → List ℕ) (P : List A → A → Type 0) → ((so_far : List A) (x : A) (rest : List ℕ) → P so_far x → Member so_far (f x ++ rest) x rest)
+  pub members_read : {min max : ℕ} (Member : List A → List ℕ → A → List ℕ → Type 0) (f : A → List ℕ) (P : List A → A → Type 0)
+      → ((so_far : List A) (x : A) (rest : List ℕ) → P so_far x → Member so_far (f x ++ rest) x rest)
       → (xs : List A) (fuel : ℕ) (rest : List ℕ) → Ready P [] xs → min ≤ length xs → length xs ≤ max → length xs + 1 ≤ fuel
       → (left : ℕ) × (left + length xs ≡ fuel) × ReadsMembers Member min max (script_members f min max xs ++ rest) fuel xs rest left
   members_read {min = min} {max = max} Member f P one xs fuel rest all some few lasts =
@@ -178,7 +194,8 @@ abbrev pub IsReady : {A : Type 0} → (A → List ℕ) → (A → Type 0) → Li
 IsReady name Q so_far x = Kebab (name x) × (length (name x) ≤ 100) × (is_among (map name so_far) (name x) ≡ false) × Q x
 
 module _ {A : Type 0} (name : A → List ℕ) (Q : A → Type 0) where
-  each_ready : (xs so_far : List A) → AllByRecursion Kebab (map name xs) → AreShort (map name xs) → AreNew (map name so_far) (map name xs) → AllByRecursion Q xs → Ready (IsReady name Q) so_far xs
+  each_ready : (xs so_far : List A) → AllByRecursion Kebab (map name xs) → AreShort (map name xs) → AreNew (map name so_far) (map name xs) → AllByRecursion Q xs
+      → Ready (IsReady name Q) so_far xs
   each_ready [] so_far k s n q = tt
   each_ready (x ∷ xs) so_far k s n q =
       ((k.0, s.0, n.0, q.0), each_ready xs (so_far ++ x ∷ []) k.1 s.1 (subst (λ ns. AreNew ns (map name xs)) (sym (map-append name so_far (x ∷ []))) n.1) q.1)
@@ -191,22 +208,27 @@ names_of : {B : Type 0} (so_far : List (String Global × B)) → map (λ p. stri
 names_of [] = refl
 names_of (p ∷ ps) = ap (λ ns. string_bytes p.0 ∷ ns) (names_of ps)
 
-pub new_named : {B : Type 0} (so_far : List (String Global × B)) {bytes name mid : List ℕ} → ReadsNew 100 (map (λ p. string_bytes p.0) so_far) bytes name mid → ReadsNew 100 (map (λ y. y.0) (map named so_far)) bytes name mid
+pub new_named : {B : Type 0} (so_far : List (String Global × B)) {bytes name mid : List ℕ} → ReadsNew 100 (map (λ p. string_bytes p.0) so_far) bytes name mid
+    → ReadsNew 100 (map (λ y. y.0) (map named so_far)) bytes name mid
 new_named so_far {bytes} {name} {mid} r = subst (λ ns. ReadsNew 100 ns bytes name mid) (names_of so_far) r
 
-pub is_named : {B : Type 0} {After : List ℕ → B → List ℕ → Type 0} (so_far : List (String Global × B)) {bytes name mid rest : List ℕ} {y : B} → ReadsNew 100 (map (λ p. string_bytes p.0) so_far) bytes name mid → After mid y rest → ReadsNamed After (map named so_far) bytes (name, y) rest
+pub is_named : {B : Type 0} {After : List ℕ → B → List ℕ → Type 0} (so_far : List (String Global × B)) {bytes name mid rest : List ℕ} {y : B}
+    → ReadsNew 100 (map (λ p. string_bytes p.0) so_far) bytes name mid → After mid y rest → ReadsNamed After (map named so_far) bytes (name, y) rest
 is_named so_far {mid = mid} r a = record { mid = mid; name = new_named so_far r; after = a }
 
 -- a name, and what stands after it
-pub named_read : {B : Type 0} (After : List ℕ → B → List ℕ → Type 0) (f : B → List ℕ) (Q : B → Type 0) → ((x : B) (rest : List ℕ) → Q x → After (f x ++ rest) x rest)
-    → (so_far : List (List ℕ × B)) (x : List ℕ × B) (rest : List ℕ) → IsReady (λ y. y.0) (λ y. Q y.1) so_far x → ReadsNamed After so_far ((script_label x.0 ++ f x.1) ++ rest) x rest
+pub named_read : {B : Type 0} (After : List ℕ → B → List ℕ → Type 0) (f : B → List ℕ) (Q : B → Type 0)
+    → ((x : B) (rest : List ℕ) → Q x → After (f x ++ rest) x rest)
+    → (so_far : List (List ℕ × B)) (x : List ℕ × B) (rest : List ℕ) → IsReady (λ y. y.0) (λ y. Q y.1) so_far x
+    → ReadsNamed After so_far ((script_label x.0 ++ f x.1) ++ rest) x rest
 named_read After f Q one so_far x rest (k, s, n, q) =
     let P : List ℕ → Type 0 = λ b. ReadsNamed After so_far b x rest in
     subst P (sym (append_assoc (script_label x.0) (f x.1) rest))
     (record { mid = f x.1 ++ rest; name = new_read 100 (map (λ y. y.0) so_far) x.0 (f x.1 ++ rest) (omega arith) k s n; after = one x.1 rest q })
 
 pub label_read : (so_far : List (List ℕ)) (n rest : List ℕ) → IsReady (λ y. y) (λ y. Unit {0}) so_far n → ReadsNew 100 so_far (script_label n ++ rest) n rest
-label_read so_far n rest (k, s, w, _) = subst (λ ns. ReadsNew 100 ns (script_label n ++ rest) n rest) (map-id so_far) (new_read 100 (map (λ y. y) so_far) n rest (omega arith) k s w)
+label_read so_far n rest (k, s, w, _) = subst (λ ns. ReadsNew 100 ns (script_label n ++ rest) n rest) (map-id so_far)
+    (new_read 100 (map (λ y. y) so_far) n rest (omega arith) k s w)
 
 pub all_unit : {A : Type 0} (xs : List A) → AllByRecursion (λ x. Unit {0}) xs
 all_unit [] = tt
@@ -220,16 +242,19 @@ spends {so_far = so_far} held left burnt none = record { spent = omega arith; st
 
 module _ {A : Type 0} {Member : List A → List ℕ → A → List ℕ → Type 0} where
   -- nothing was read
-  pub starts : {min max : ℕ} {b : List ℕ} (fuel : ℕ) (so_far : List A) → so_far ≡ [] → (xs : List A) (rest : List ℕ) (t : List A × ℕ) → Loop IsSpent (ReadsMember Member) min max 0 (so_far, fuel) b xs rest t → Loop IsSpent (ReadsMember Member) min max 0 ([], fuel) b (so_far ++ xs) rest t
+  pub starts : {min max : ℕ} {b : List ℕ} (fuel : ℕ) (so_far : List A) → so_far ≡ [] → (xs : List A) (rest : List ℕ) (t : List A × ℕ)
+      → Loop IsSpent (ReadsMember Member) min max 0 (so_far, fuel) b xs rest t → Loop IsSpent (ReadsMember Member) min max 0 ([], fuel) b (so_far ++ xs) rest t
   starts {min = min} {max = max} {b = b} fuel so_far none xs rest t l =
       let P : List A → Type 0 = λ ys. Loop IsSpent (ReadsMember Member) min max 0 ([], fuel) b (ys ++ xs) rest t in
       let Q : List A → Type 0 = λ ys. Loop IsSpent (ReadsMember Member) min max 0 (ys, fuel) b xs rest t in
       subst P (sym none) (subst Q none l)
 
   -- a member was read
-  pub has_read : {so_far : List A} {b rest : List ℕ} (held left : ℕ) (x : A) → left ≡ held - 1 → (left ≡ 0 → ⊥) → Member so_far b x rest → ReadsMember Member (so_far, held) b x rest (so_far ++ x ∷ [], left)
+  pub has_read : {so_far : List A} {b rest : List ℕ} (held left : ℕ) (x : A) → left ≡ held - 1 → (left ≡ 0 → ⊥) → Member so_far b x rest
+      → ReadsMember Member (so_far, held) b x rest (so_far ++ x ∷ [], left)
   has_read {so_far = so_far} held left x burnt some one = record { lasts = omega arith; member = one; state = ap (λ n. (so_far ++ x ∷ [], n)) burnt }
 
   -- a member was read, and stands with those so far
-  pub has_read_as : {so_far next : List A} {b rest : List ℕ} (held left : ℕ) (x : A) → left ≡ held - 1 → (left ≡ 0 → ⊥) → Member so_far b x rest → next ≡ so_far ++ x ∷ [] → ReadsMember Member (so_far, held) b x rest (next, left)
+  pub has_read_as : {so_far next : List A} {b rest : List ℕ} (held left : ℕ) (x : A) → left ≡ held - 1 → (left ≡ 0 → ⊥) → Member so_far b x rest
+      → next ≡ so_far ++ x ∷ [] → ReadsMember Member (so_far, held) b x rest (next, left)
   has_read_as {so_far = so_far} held left x burnt some one more = record { lasts = omega arith; member = one; state = λ i. (more i, burnt i) }

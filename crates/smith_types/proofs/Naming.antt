@@ -1,5 +1,6 @@
 -- What the scripts of references, names and outer aliases say is read as them.
-use Rattle.std.proofs.Common.{◌≡◌, ℕ, zero, suc, ◌+◌, ◌<◌, ◌≤◌, ◌^◌, ◌||◌, ◌&&◌, Bool, true, false, List, [], ◌∷◌, ◌++◌, length, refl, sym, ap, ◌∙◌, subst, arith, append_assoc, length-append, nat_eq, nat_lt, None, Some, Decides}
+use Rattle.std.proofs.Common.{◌≡◌, ℕ, zero, suc, ◌+◌, ◌<◌, ◌≤◌, ◌^◌, ◌||◌, ◌&&◌, Bool, true, false, List, [], ◌∷◌, ◌++◌, length, refl, sym, ap, ◌∙◌, subst}
+use Rattle.std.proofs.Common.{arith, append_assoc, length-append, nat_eq, nat_lt, None, Some, Decides}
 use Rattle.std.proofs.lemmas.Bool.Decides.{nat_tests, Decides-eqb}
 use Rattle.std.proofs.lemmas.Option.{slice_get_within}
 use Rattle.std.specs.List.{AllByRecursion}
@@ -23,7 +24,8 @@ use Rattle.smith_syntax.specs.declared.deftype.ComponentTypeRef.TheVariants as t
 use Rattle.smith_scopes.proofs.Places.{get_left, get_right, place_found}
 use Rattle.smith_scopes.proofs.Stack.{length-places}
 use Rattle.smith_types.specs.Declarations.{NamedExtern, ReadsNamedExtern, no_url, ReadsAlias, NoImport, in_instance, nothing_there, not_asked}
-use Rattle.smith_types.specs.Offers.{IsAllowed, has_reference, is_occupied, occupied, numbered, aliases_of, declaration_offers, declaration_items, ref_offers, ref_kinds, ref_places, has_place, allows_one, allows_equal}
+use Rattle.smith_types.specs.Offers.{IsAllowed, has_reference, is_occupied, occupied, numbered, aliases_of, declaration_offers, declaration_items, ref_offers}
+use Rattle.smith_types.specs.Offers.{ref_kinds, ref_places, has_place, allows_one, allows_equal}
 use Rattle.smith_types.specs.References.{ref_to, ReadsRef}
 use Rattle.smith_types.specs.Script.{kind_in, index_in, script_ref, script_label, script_extern, script_entry, script_alias, script_no_import, script_item, Fit}
 use Rattle.smith_types.specs.contracts.make.declarations.DeclarationItem.{the_type as item_type}
@@ -91,7 +93,8 @@ ref_is (to.Component i) = refl
 ref_is (to.Instance i) = refl
 
 module _ (config : Config) (own : Scope) (totals : RefTotals) (for_import for_type_def : Bool) where
-  ref_offered : (r : ComponentTypeRef) → has_place own (kind_in r) ≡ true → IsAllowed config own totals for_import for_type_def r → (j : ℕ) × (slice_get (ref_kinds config own totals for_import for_type_def) j ≡ Some (kind_in r))
+  ref_offered : (r : ComponentTypeRef) → has_place own (kind_in r) ≡ true → IsAllowed config own totals for_import for_type_def r
+      → (j : ℕ) × (slice_get (ref_kinds config own totals for_import for_type_def) j ≡ Some (kind_in r))
   ref_offered (to.Module i) t m = offers_found (ref_offers config own totals for_import for_type_def) 0 _ kind.Module refl (both_hold _ _ t m)
   ref_offered (to.TypeEq i) t m = offers_found (ref_offers config own totals for_import for_type_def) 1 _ kind.TypeEq refl (both_hold _ _ t m)
   ref_offered (to.Func i) t m = offers_found (ref_offers config own totals for_import for_type_def) 2 _ kind.Func refl (both_hold _ _ t m)
@@ -100,14 +103,16 @@ module _ (config : Config) (own : Scope) (totals : RefTotals) (for_import for_ty
 
   -- the choice of the kind
   kind_read : (r : ComponentTypeRef) (rest : List ℕ) → FormedRef own r → IsAllowed config own totals for_import for_type_def r
-      → ReadsAmong (ref_kinds config own totals for_import for_type_def) (script_among refs.eq (ref_kinds config own totals for_import for_type_def) (kind_in r) ++ rest) (kind_in r) rest
+      → ReadsAmong (ref_kinds config own totals for_import for_type_def)
+      (script_among refs.eq (ref_kinds config own totals for_import for_type_def) (kind_in r) ++ rest) (kind_in r) rest
   kind_read r rest formed allowed =
       let at = ref_index own r formed in
       let offered = ref_offered r (some_there (ref_places own (kind_in r)) at.0 (index_in r) at.1) allowed in
       let count = offers_few (ref_offers config own totals for_import for_type_def) in
       among_read refs.eq ref_kind_Decides (ref_kinds config own totals for_import for_type_def) (kind_in r) offered.0 rest (omega (arith, count)) offered.1
 
-  pub ref_read : length own.types + length own.core_types ≤ 2 ^ 64 → (r : ComponentTypeRef) (rest : List ℕ) → FormedRef own r → IsAllowed config own totals for_import for_type_def r
+  pub ref_read : length own.types + length own.core_types ≤ 2 ^ 64 → (r : ComponentTypeRef) (rest : List ℕ) → FormedRef own r
+      → IsAllowed config own totals for_import for_type_def r
       → ReadsRef config own totals for_import for_type_def (script_ref config own totals for_import for_type_def r ++ rest) r rest
   ref_read few r rest formed allowed =
       let at = ref_index own r formed in
@@ -123,7 +128,8 @@ module _ (config : Config) (own : Scope) (totals : RefTotals) (for_import for_ty
       })
 
   -- What a script says is read, and nothing else.
-  pub ref_scripted : (t r : ComponentTypeRef) (bytes left rest : List ℕ) → FormedRef own r → IsAllowed config own totals for_import for_type_def r → bytes ≡ script_ref config own totals for_import for_type_def r ++ rest
+  pub ref_scripted : (t r : ComponentTypeRef) (bytes left rest : List ℕ) → FormedRef own r → IsAllowed config own totals for_import for_type_def r
+      → bytes ≡ script_ref config own totals for_import for_type_def r ++ rest
       → (h : ReadsRef config own totals for_import for_type_def bytes t left) → length (ref_places own h.kind) ≤ 2 ^ 64 → (t ≡ r) × (left ≡ rest)
   ref_scripted t r bytes left rest formed allowed begins h few =
       let choice : List ℕ = script_among refs.eq (ref_kinds config own totals for_import for_type_def) (kind_in r) in
@@ -134,10 +140,12 @@ module _ (config : Config) (own : Scope) (totals : RefTotals) (for_import for_ty
       let N : RefKind → Type 0 = λ z. length (ref_places own z) ≤ 2 ^ 64 in
       let K : RefKind → Type 0 = λ z. ReadsAmong (ref_places own z) h.mid h.index left in
       let M : List ℕ → Type 0 = λ z. ReadsAmong (ref_places own (kind_in r)) z h.index left in
-      let d = among_same (subst M same.1 (subst K same.0 h.names)) (among_read nat_eq Decides-eqb (ref_places own (kind_in r)) (index_in r) at.0 rest (subst N same.0 few) at.1) in
+      let d = among_same (subst M same.1 (subst K same.0 h.names))
+      (among_read nat_eq Decides-eqb (ref_places own (kind_in r)) (index_in r) at.0 rest (subst N same.0 few) at.1) in
       (h.is ∙ ((λ j. ref_to (same.0 j) (d.0 j)) ∙ sym (ref_is r)), d.1)
 
-  pub ref_not_none : (r : ComponentTypeRef) → FormedRef own r → IsAllowed config own totals for_import for_type_def r → ref_kinds config own totals for_import for_type_def ≡ [] → ⊥
+  pub ref_not_none : (r : ComponentTypeRef) → FormedRef own r → IsAllowed config own totals for_import for_type_def r
+      → ref_kinds config own totals for_import for_type_def ≡ [] → ⊥
   ref_not_none r formed allowed none = among_none none (kind_read r [] formed allowed)
 
 -- An import of a function where it can be of nothing else: its kind is no choice.
@@ -149,8 +157,10 @@ and_false false = refl
 none_there : (xs : List ℕ) (b : Bool) → xs ≡ [] → (nat_lt 0 (length xs) && b) ≡ false
 none_there xs b e = ap (λ ys. nat_lt 0 (length ys) && b) e
 
-pub function_chosen : (config : Config) (own : Scope) (totals : RefTotals) (i : ℕ) → places is_core_module 0 own.core_types ≡ [] → places is_component 0 own.types ≡ [] → places is_instance 0 own.types ≡ []
-    → FormedRef own (to.Func i) → IsAllowed config own totals true false (to.Func i) → script_ref config own totals true false (to.Func i) ≡ script_among nat_eq (places is_func 0 own.types) i
+pub function_chosen : (config : Config) (own : Scope) (totals : RefTotals) (i : ℕ) → places is_core_module 0 own.core_types ≡ []
+    → places is_component 0 own.types ≡ [] → places is_instance 0 own.types ≡ []
+    → FormedRef own (to.Func i) → IsAllowed config own totals true false (to.Func i)
+    → script_ref config own totals true false (to.Func i) ≡ script_among nat_eq (places is_func 0 own.types) i
 unfolding pick
 function_chosen config own totals i modules components instances formed allowed =
     let at = ref_index own (to.Func i) formed in
@@ -159,12 +169,14 @@ function_chosen config own totals i modules components instances formed allowed 
     let c = both_hold _ _ (some_there (places is_func 0 own.types) at.0 i at.1) allowed in
     let d = none_there (places is_component 0 own.types) (allows_one true false totals.components config.max_components) components in
     let e = none_there (places is_instance 0 own.types) (allows_one true false totals.instances config.max_instances) instances in
-    let one : ref_kinds config own totals true false ≡ kind.Func ∷ [] = λ j. offers_of ((a j, kind.Module) ∷ (b j, kind.TypeEq) ∷ (c j, kind.Func) ∷ (d j, kind.Component) ∷ (e j, kind.Instance) ∷ []) in
+    let one : ref_kinds config own totals true false ≡ kind.Func ∷ [] =
+    λ j. offers_of ((a j, kind.Module) ∷ (b j, kind.TypeEq) ∷ (c j, kind.Func) ∷ (d j, kind.Component) ∷ (e j, kind.Instance) ∷ []) in
     ap (λ ks. script_among refs.eq ks kind.Func ++ script_among nat_eq (places is_func 0 own.types) i) one
 
 -- names
 
-pub extern_read : (so_far : List NamedExtern) (name rest : List ℕ) → Kebab name → length name ≤ 100 → is_among (names so_far) name ≡ false → ReadsNamedExtern so_far (script_extern name ++ rest) (name, None) rest
+pub extern_read : (so_far : List NamedExtern) (name rest : List ℕ) → Kebab name → length name ≤ 100 → is_among (names so_far) name ≡ false
+    → ReadsNamedExtern so_far (script_extern name ++ rest) (name, None) rest
 extern_read so_far name rest k short new =
     subst (λ z. ReadsNamedExtern so_far z (name, None) rest) (sym (append_assoc (script_label name) (0 ∷ []) rest))
     (record { mid = 0 ∷ rest; name = new_read 100 (names so_far) name (0 ∷ rest) (omega arith) k short new; url = no_url (flips_zero rest) })
@@ -182,10 +194,13 @@ module _ (config : Config) (own : Scope) where
 
 -- what is declared
 
-pub item_read : (config : Config) (outer : List Scope) (own : Scope) (i : DeclarationItem) (k : ℕ) (b : Bool) (rest : List ℕ) → slice_get (declaration_offers config outer own) k ≡ Some (b, i) → b ≡ true → ReadsAmong (declaration_items config outer own) (script_item config outer own i ++ rest) i rest
+pub item_read : (config : Config) (outer : List Scope) (own : Scope) (i : DeclarationItem) (k : ℕ) (b : Bool) (rest : List ℕ)
+    → slice_get (declaration_offers config outer own) k ≡ Some (b, i) → b ≡ true
+    → ReadsAmong (declaration_items config outer own) (script_item config outer own i ++ rest) i rest
 item_read config outer own i k b rest named offered =
     let at = offers_found (declaration_offers config outer own) k b i named offered in
-    among_read items.eq item_Decides (declaration_items config outer own) i at.0 rest (let few = offers_few (declaration_offers config outer own) in omega (arith, few)) at.1
+    among_read items.eq item_Decides (declaration_items config outer own) i at.0 rest (let few = offers_few (declaration_offers config outer own) in
+    omega (arith, few)) at.1
 
 -- outer aliases
 
@@ -193,12 +208,14 @@ numbered_length : {A B : Type 0} (f : ℕ → A → B) (n : ℕ) (xs : List A) �
 numbered_length f n [] = refl
 numbered_length f n (x ∷ xs) = ap suc (numbered_length f (n + 1) xs)
 
-numbered_get : {A B : Type 0} (f : ℕ → A → B) (n : ℕ) (xs : List A) (k : ℕ) (x : A) → slice_get xs k ≡ Some x → slice_get (numbered f n xs) k ≡ Some (f (n + k) x)
+numbered_get : {A B : Type 0} (f : ℕ → A → B) (n : ℕ) (xs : List A) (k : ℕ) (x : A) → slice_get xs k ≡ Some x
+    → slice_get (numbered f n xs) k ≡ Some (f (n + k) x)
 numbered_get f n [] k x h = absurd (cc)
 numbered_get f n (y ∷ ys) zero x h = let same : y ≡ x = cc in ap (λ z. Some (f n z)) same ∙ ap (λ m. Some (f m x)) (let z : n ≡ n + 0 = omega arith in z)
 numbered_get f n (y ∷ ys) (suc k) x h = numbered_get f (n + 1) ys k x h ∙ ap (λ m. Some (f m x)) (let z : n + 1 + k ≡ n + suc k = omega arith in z)
 
-in_split : {A : Type 0} (of : Scope → List A) (o : Option Scope) (i : ℕ) (x : A) → elim o [ None ↦ None | Some s ↦ slice_get (of s) i ] ≡ Some x → (s : Scope) × (o ≡ Some s) × (slice_get (of s) i ≡ Some x)
+in_split : {A : Type 0} (of : Scope → List A) (o : Option Scope) (i : ℕ) (x : A) → elim o [ None ↦ None | Some s ↦ slice_get (of s) i ] ≡ Some x
+    → (s : Scope) × (o ≡ Some s) × (slice_get (of s) i ≡ Some x)
 in_split of None i x h = absurd (cc)
 in_split of (Some s) i x h = (s, refl, h)
 
@@ -219,11 +236,13 @@ aliases_count count s =
 
 module _ (scopes : List Scope) (fit : Fit scopes) where
   -- what stands at a place of a scope
-  alias_read : (count : ℕ) (place : Scope → ℕ) (s : Scope) (d : FullDecl) (rest : List ℕ) → slice_get scopes count ≡ Some s → slice_get (aliases_of count s) (place s) ≡ Some d → ReadsAlias scopes (script_alias scopes count place ++ rest) d rest
+  alias_read : (count : ℕ) (place : Scope → ℕ) (s : Scope) (d : FullDecl) (rest : List ℕ) → slice_get scopes count ≡ Some s
+      → slice_get (aliases_of count s) (place s) ≡ Some d → ReadsAlias scopes (script_alias scopes count place ++ rest) d rest
   alias_read count place s d rest stands named =
       let os : List ℕ = occupied scopes in
       let within : place s < length (aliases_of count s) = slice_get_within (aliases_of count s) (place s) d named in
-      let some : nat_lt 0 (length s.types + length s.core_types) ≡ true = below (length s.types + length s.core_types) (omega (arith, within, aliases_count count s)) in
+      let some : nat_lt 0 (length s.types + length s.core_types) ≡ true =
+      below (length s.types + length s.core_types) (omega (arith, within, aliases_count count s)) in
       let at = place_found is_occupied scopes count s stands some in
       let choice : List ℕ = script_among nat_eq os count in
       let said : List ℕ = pick (length (aliases_of count s)) (place s) in
@@ -232,9 +251,14 @@ module _ (scopes : List Scope) (fit : Fit scopes) where
         count = count;
         mid = said ++ rest;
         scope = s;
-        choice = among_read nat_eq Decides-eqb os count at.0 (said ++ rest) (let z : length scopes ≤ 2 ^ 64 = fit.many in omega (arith, z, length-places is_occupied 0 scopes)) at.1;
+        choice = among_read nat_eq Decides-eqb os count at.0 (said ++ rest) (let z : length scopes ≤ 2 ^ 64 = fit.many in
+            omega (arith, z, length-places is_occupied 0 scopes)) at.1;
         stands = stands;
-        names = record { place = place s; reads = reads-pick (length (aliases_of count s)) (place s) rest (omega (arith, few, aliases_count count s)) within; named = named };
+        names = record {
+          place = place s;
+          reads = reads-pick (length (aliases_of count s)) (place s) rest (omega (arith, few, aliases_count count s)) within;
+          named = named;
+        };
       } in
       let P : List ℕ → Type 0 = λ z. ReadsAlias scopes z d rest in
       let Q : Option Scope → Type 0 = λ o. ReadsAlias scopes ((choice ++ script_entry count place o) ++ rest) d rest in
@@ -243,7 +267,8 @@ module _ (scopes : List Scope) (fit : Fit scopes) where
       below : (n : ℕ) → 0 < n → nat_lt 0 n ≡ true
       below n h = grind (arith, nat_tests)
 
-  pub type_alias_read : (count i : ℕ) (e : Entry) (rest : List ℕ) → type_named scopes count i ≡ Some e → ReadsAlias scopes (script_alias scopes count (λ s. i) ++ rest) (type_alias count i (keeps_type e)) rest
+  pub type_alias_read : (count i : ℕ) (e : Entry) (rest : List ℕ) → type_named scopes count i ≡ Some e
+      → ReadsAlias scopes (script_alias scopes count (λ s. i) ++ rest) (type_alias count i (keeps_type e)) rest
   type_alias_read count i e rest h =
       let at = in_split (λ s. s.types) (slice_get scopes count) i e h in
       let f : ℕ → Entry → FullDecl = λ j x. type_alias count j (keeps_type x) in
@@ -252,7 +277,8 @@ module _ (scopes : List Scope) (fit : Fit scopes) where
       let here : slice_get front i ≡ Some (f i e) = numbered_get f 0 at.0.types i e at.2 ∙ ap (λ m. Some (f m e)) (let z : 0 + i ≡ i = omega arith in z) in
       alias_read count (λ s. i) at.0 (f i e) rest at.1 (get_left front (numbered g 0 at.0.core_types) i (slice_get_within front i (f i e) here) ∙ here)
 
-  pub core_alias_read : (count i : ℕ) (e : CoreEntry) (rest : List ℕ) → core_type_named scopes count i ≡ Some e → ReadsAlias scopes (script_alias scopes count (λ s. length s.types + i) ++ rest) (core_type_alias count i (keeps_core_type e)) rest
+  pub core_alias_read : (count i : ℕ) (e : CoreEntry) (rest : List ℕ) → core_type_named scopes count i ≡ Some e
+      → ReadsAlias scopes (script_alias scopes count (λ s. length s.types + i) ++ rest) (core_type_alias count i (keeps_core_type e)) rest
   core_alias_read count i e rest h =
       let at = in_split (λ s. s.core_types) (slice_get scopes count) i e h in
       let f : ℕ → Entry → FullDecl = λ j x. type_alias count j (keeps_type x) in
@@ -260,13 +286,16 @@ module _ (scopes : List Scope) (fit : Fit scopes) where
       let front : List FullDecl = numbered f 0 at.0.types in
       let back : List FullDecl = numbered g 0 at.0.core_types in
       let here : slice_get back i ≡ Some (g i e) = numbered_get g 0 at.0.core_types i e at.2 ∙ ap (λ m. Some (g m e)) (let z : 0 + i ≡ i = omega arith in z) in
-      alias_read count (λ s. length s.types + i) at.0 (g i e) rest at.1 (get_right front back (length at.0.types + i) i (omega (arith, numbered_length f 0 at.0.types)) ∙ here)
+      alias_read count (λ s. length s.types + i) at.0 (g i e) rest at.1
+      (get_right front back (length at.0.types + i) i (omega (arith, numbered_length f 0 at.0.types)) ∙ here)
 
   -- what an outer alias names stands in a scope
-  pub alias_there : {A : Type 0} (of : Scope → List A) → ((s : Scope) → length (of s) ≤ length s.types + length s.core_types) → (count i : ℕ) (x : A) → in_scope of scopes count i ≡ Some x → nat_lt 0 (length (occupied scopes)) ≡ true
+  pub alias_there : {A : Type 0} (of : Scope → List A) → ((s : Scope) → length (of s) ≤ length s.types + length s.core_types) → (count i : ℕ) (x : A)
+      → in_scope of scopes count i ≡ Some x → nat_lt 0 (length (occupied scopes)) ≡ true
   alias_there of within count i x h =
       let at = in_split of (slice_get scopes count) i x h in
-      let some : nat_lt 0 (length at.0.types + length at.0.core_types) ≡ true = below (length at.0.types + length at.0.core_types) (omega (arith, slice_get_within (of at.0) i x at.2, within at.0)) in
+      let some : nat_lt 0 (length at.0.types + length at.0.core_types) ≡ true =
+      below (length at.0.types + length at.0.core_types) (omega (arith, slice_get_within (of at.0) i x at.2, within at.0)) in
       let place = place_found is_occupied scopes count at.0 at.1 some in
       some_there (occupied scopes) place.0 count place.1
     where

@@ -4,15 +4,20 @@ use Rattle.std.specs.Option.{option_to_list}
 use Rattle.std.specs.Prelude.{max}
 use Rattle.smith_input.proofs.Loops.{loop_gives}
 use Rattle.smith_format.specs.declared.config.Config.{Config}
-use Rattle.smith_syntax.specs.Entries.{record_type, variant_type, tuple_type, flags_type, enum_type, Entry, Decl, Decls, type_alias, core_type_alias, import_decl, export_decl, no_decls, then_decls, DefValType, Signature, CoreEntry, core_func, core_module, ModuleDecl, FullEntry, FullDecl, FullDecls, defined, function, component_type, instance_type, plain, plain_decl, plain_decls, type_decl, core_type_decl}
+use Rattle.smith_syntax.specs.Entries.{record_type, variant_type, tuple_type, flags_type, enum_type, Entry, Decl, Decls, type_alias, core_type_alias}
+use Rattle.smith_syntax.specs.Entries.{import_decl, export_decl, no_decls, then_decls, DefValType, Signature, CoreEntry, core_func, core_module, ModuleDecl}
+use Rattle.smith_syntax.specs.Entries.{FullEntry, FullDecl, FullDecls, defined, function, component_type, instance_type, plain, plain_decl, plain_decls}
+use Rattle.smith_syntax.specs.Entries.{type_decl, core_type_decl}
 use Rattle.smith_syntax.specs.Scope.{Scope}
 use Rattle.smith_syntax.specs.WellFormed.{size, defined_size, core_size}
 use Rattle.smith_core_types.specs.MadeCore.{MadeCore, spent_core, of_function, of_module, MadeModule, ModuleEnds, ReadsDecl}
 use Rattle.smith_core_types.proofs.MadeCore.{module_after, module_size}
 use Rattle.smith_core_types.proofs.ModuleFronts.{front_is}
 use Rattle.smith_types.specs.Declarations.{SoFar, nothing_so_far, after_one}
-use Rattle.smith_types.specs.Made.{ReadsMembers, MadeMembers, MadeAs, MadeFunction, or_bool, Made, spent_type, made_defined, made_function, made_component, made_instance}
-use Rattle.smith_types.specs.Made.{MadeDeclaration, made_import, made_export, made_alias, made_core_type, made_type, MadeDeclarations, no_more_decls, spent_decls, one_decl}
+use Rattle.smith_types.specs.Made.{ReadsMembers, MadeMembers, MadeAs, MadeFunction, or_bool, Made, spent_type, made_defined, made_function, made_component}
+use Rattle.smith_types.specs.Made.{made_instance}
+use Rattle.smith_types.specs.Made.{MadeDeclaration, made_import, made_export, made_alias, made_core_type, made_type, MadeDeclarations, no_more_decls}
+use Rattle.smith_types.specs.Made.{spent_decls, one_decl}
 use Rattle.smith_types.specs.Needs.{need_of, core_need, need, decl_need, decls_need, Nests, DeclNests, DeclsNest}
 use Rattle.smith_types.specs.Script.{cost, core_cost, decl_cost, decls_cost}
 use Rattle.smith_types.specs.declared.make.declarations.DeclarationItem.TheVariants as item
@@ -33,13 +38,15 @@ one_used : {A : Type 0} (xs : List A) (f g : ℕ) → used (length xs) ≤ f →
 one_used [] f g h p q = omega (arith, h, p, q)
 one_used (x ∷ xs) f g h p q = omega (arith, h, p, q)
 
-members_used : {A : Type 0} {Member : List A → List ℕ → A → List ℕ → Type 0} {min max : ℕ} (b : List ℕ) (fuel : ℕ) (xs : List A) (rest : List ℕ) (left : ℕ) → ReadsMembers Member min max b fuel xs rest left → used (length xs) ≤ fuel
+members_used : {A : Type 0} {Member : List A → List ℕ → A → List ℕ → Type 0} {min max : ℕ} (b : List ℕ) (fuel : ℕ) (xs : List A) (rest : List ℕ) (left : ℕ)
+    → ReadsMembers Member min max b fuel xs rest left → used (length xs) ≤ fuel
 members_used b fuel xs rest left l =
     loop_gives
     (λ s ys t. used (length ys) ≤ s.1)
     (λ s. omega arith)
     (λ s c r t e. omega arith)
-    (λ s t u c x r ys i le. let less = ap (λ z. z.1) i.state in let lasts = i.lasts in one_used ys t.1 s.1 le (omega (arith, less, lasts)) (omega (arith, less, lasts)))
+    (λ s t u c x r ys i le. let less = ap (λ z. z.1) i.state in let lasts = i.lasts in
+    one_used ys t.1 s.1 le (omega (arith, less, lasts)) (omega (arith, less, lasts)))
     0
     ([], fuel)
     b
@@ -48,17 +55,22 @@ members_used b fuel xs rest left l =
     (xs, left)
     l
 
-or_bool_used : {A : Type 0} (of : List A → DefValType) → ((xs : List A) → defined_size (of xs) ≡ length xs) → (xs : List A) (f : ℕ) → used (length xs) ≤ f → used (defined_size (or_bool of xs)) ≤ f
+or_bool_used : {A : Type 0} (of : List A → DefValType) → ((xs : List A) → defined_size (of xs) ≡ length xs) → (xs : List A) (f : ℕ) → used (length xs) ≤ f
+    → used (defined_size (or_bool of xs)) ≤ f
 or_bool_used of is [] f h = omega arith
 or_bool_used of is (x ∷ xs) f h = subst (λ n. used n ≤ f) (sym (is (x ∷ xs))) h
 
-made_members_used : {A : Type 0} {Member : List A → List ℕ → A → List ℕ → Type 0} {max : ℕ} (of : List A → DefValType) → ((xs : List A) → defined_size (of xs) ≡ length xs) → (b : List ℕ) (fuel : ℕ) (t : DefValType) (rest : List ℕ) (left : ℕ) → MadeMembers Member max of b fuel t rest left → used (defined_size t) ≤ fuel
-made_members_used of is b fuel t rest left (xs, r, i) = subst (λ z. used (defined_size z) ≤ fuel) (sym i) (or_bool_used of is xs fuel (members_used b fuel xs rest left r))
+made_members_used : {A : Type 0} {Member : List A → List ℕ → A → List ℕ → Type 0} {max : ℕ} (of : List A → DefValType)
+    → ((xs : List A) → defined_size (of xs) ≡ length xs) → (b : List ℕ) (fuel : ℕ) (t : DefValType) (rest : List ℕ) (left : ℕ)
+    → MadeMembers Member max of b fuel t rest left → used (defined_size t) ≤ fuel
+made_members_used of is b fuel t rest left (xs, r, i) = subst (λ z. used (defined_size z) ≤ fuel) (sym i)
+    (or_bool_used of is xs fuel (members_used b fuel xs rest left r))
 
 none_used : (t u : DefValType) (fuel : ℕ) → t ≡ u → used (defined_size u) ≤ 0 → used (defined_size t) ≤ fuel
 none_used t u fuel i h = subst (λ z. used (defined_size z) ≤ fuel) (sym i) (omega (arith, h))
 
-as_used : (own : Scope) (k : DefinedKind) (b : List ℕ) (fuel : ℕ) (t : DefValType) (rest : List ℕ) (left : ℕ) → MadeAs own k b fuel t rest left → used (defined_size t) ≤ fuel
+as_used : (own : Scope) (k : DefinedKind) (b : List ℕ) (fuel : ℕ) (t : DefValType) (rest : List ℕ) (left : ℕ) → MadeAs own k b fuel t rest left
+    → used (defined_size t) ≤ fuel
 as_used own kind.Primitive b fuel t rest left (p, r, i, j) = none_used t _ fuel i (omega arith)
 as_used own kind.Record b fuel t rest left m = made_members_used record_type (λ xs. refl) b fuel t rest left m
 as_used own kind.Variant b fuel t rest left m = made_members_used variant_type (λ xs. refl) b fuel t rest left m
@@ -73,9 +85,11 @@ needed : (n f g : ℕ) → used n ≤ f → f ≤ g - 1 → need_of n ≤ g
 needed zero f g h le = omega arith
 needed (suc n) f g h le = omega (arith, h, le)
 
-function_used : (own : Scope) (b : List ℕ) (fuel : ℕ) (s : Signature) (rest : List ℕ) (left : ℕ) → 0 < fuel → MadeFunction own b fuel s rest left → size (function s) + 1 ≤ fuel
+function_used : (own : Scope) (b : List ℕ) (fuel : ℕ) (s : Signature) (rest : List ℕ) (left : ℕ) → 0 < fuel → MadeFunction own b fuel s rest left
+    → size (function s) + 1 ≤ fuel
 function_used own b fuel s rest left some f =
-    by (length s.params) (length (option_to_list s.result)) fuel f.held some (members_used b fuel s.params f.mid f.held f.takes) (members_size b fuel s.params f.mid f.held f.takes) (members_used f.mid f.held (option_to_list s.result) rest left f.gives)
+    by (length s.params) (length (option_to_list s.result)) fuel f.held some (members_used b fuel s.params f.mid f.held f.takes)
+    (members_size b fuel s.params f.mid f.held f.takes) (members_used f.mid f.held (option_to_list s.result) rest left f.gives)
   where
     by : (n r fuel held : ℕ) → 0 < fuel → used n ≤ fuel → n + held ≤ fuel → used r ≤ held → n + r + 1 ≤ fuel
     by zero zero fuel held some h k l = omega arith
@@ -85,13 +99,15 @@ function_used own b fuel s rest left some f =
 -- core types
 
 module _ (config : Config) (around : Scope) where
-  module_used : (b : List ℕ) (fuel : ℕ) (ds : List ModuleDecl) (rest : List ℕ) (left : ℕ) → (m : MadeModule config around b fuel ds rest left) → used (length m.more) ≤ m.front.fuel
+  module_used : (b : List ℕ) (fuel : ℕ) (ds : List ModuleDecl) (rest : List ℕ) (left : ℕ) → (m : MadeModule config around b fuel ds rest left)
+      → used (length m.more) ≤ m.front.fuel
   module_used b fuel ds rest left m =
       loop_gives {Ends = ModuleEnds config around} {Item = ReadsDecl config around}
       (λ s xs t. used (length xs) ≤ s.fuel)
       (λ s. omega arith)
       (λ s c r t e. omega arith)
-      (λ s t u c x r xs i le. let less = ap (λ z. z.fuel) i.state in let lasts = i.lasts in one_used xs t.fuel s.fuel le (omega (arith, less, lasts)) (omega (arith, less, lasts)))
+      (λ s t u c x r xs i le. let less = ap (λ z. z.fuel) i.state in let lasts = i.lasts in
+      one_used xs t.fuel s.fuel le (omega (arith, less, lasts)) (omega (arith, less, lasts)))
       0 m.front m.mid m.more rest m.whole m.goes_on
 
   module_need : (ds : List ModuleDecl) (k f g : ℕ) → core_size (core_module ds) ≤ k → used k ≤ f → 0 < f → f ≤ g - 1 → core_need (core_module ds) ≤ g
@@ -99,16 +115,19 @@ module _ (config : Config) (around : Scope) where
   module_need (d ∷ ds) zero f g h u p l = omega (arith, h, p, l)
   module_need (d ∷ ds) (suc k) f g h u p l = omega (arith, h, u, l)
 
-pub core_needed : {config : Config} {around : Scope} {b rest : List ℕ} {fuel left : ℕ} {e : CoreEntry} → MadeCore config around b fuel e rest left → core_need e ≤ fuel
+pub core_needed : {config : Config} {around : Scope} {b rest : List ℕ} {fuel left : ℕ} {e : CoreEntry} → MadeCore config around b fuel e rest left
+    → core_need e ≤ fuel
 core_needed {fuel = fuel} (spent_core f i n) = subst (λ z. core_need z ≤ fuel) (sym i) (omega arith)
 core_needed {fuel = fuel} (of_function f c r i n) = subst (λ z. core_need z ≤ fuel) (sym i) (omega (arith, f))
 core_needed {config} {around} {rest = rest} {fuel = fuel} {left = left} (of_module {mid = mid} {ds = ds} f c m i) =
     let front = front_is config mid (fuel - 1) m.front m.mid m.begins in
     let same : m.front.fuel ≡ fuel - 1 = ap (λ s. s.fuel) front.state in
     subst (λ z. core_need z ≤ fuel) (sym i)
-    (module_need config around ds (length m.more) m.front.fuel fuel (module_after config around m) (module_used config around mid (fuel - 1) ds rest left m) (omega (arith, f, same)) (omega (arith, same)))
+    (module_need config around ds (length m.more) m.front.fuel fuel (module_after config around m) (module_used config around mid (fuel - 1) ds rest left m)
+    (omega (arith, f, same)) (omega (arith, same)))
 
-core_leaves : {config : Config} {around : Scope} {b rest : List ℕ} {fuel left : ℕ} {e : CoreEntry} → MadeCore config around b fuel e rest left → left ≤ fuel - core_cost e
+core_leaves : {config : Config} {around : Scope} {b rest : List ℕ} {fuel left : ℕ} {e : CoreEntry} → MadeCore config around b fuel e rest left
+    → left ≤ fuel - core_cost e
 core_leaves (spent_core f i n) = omega (arith, n)
 core_leaves (of_function f c r i n) = omega (arith, n, ap core_size i)
 core_leaves {config} {around} {fuel = fuel} (of_module f c m i) = omega (arith, f, ap core_size i, module_size config around m)
@@ -172,14 +191,16 @@ record DeclsNeed (config : Config) (scopes fuel : ℕ) (ds : FullDecls) (left : 
   leaves : left ≤ fuel - decls_cost (plain_decls ds)
   nests : DeclsNest (plain_decls ds) config scopes
 
-nothing_needed : (config : Config) (scopes fuel left : ℕ) → left ≡ fuel → (d : FullDecl) → decl_need (plain_decl d) ≡ 0 → decl_cost (plain_decl d) ≡ 0 → DeclNests (plain_decl d) config scopes → DeclNeeds config scopes fuel d left
+nothing_needed : (config : Config) (scopes fuel left : ℕ) → left ≡ fuel → (d : FullDecl) → decl_need (plain_decl d) ≡ 0 → decl_cost (plain_decl d) ≡ 0
+    → DeclNests (plain_decl d) config scopes → DeclNeeds config scopes fuel d left
 nothing_needed config scopes fuel left l d n c u = record { enough = omega (arith, n); leaves = omega (arith, l, c); nests = u }
 
 most_two : (a b f : ℕ) → a ≤ f → b ≤ f → max a b ≤ f
 most_two a b f h k = omega (arith, h, k)
 
 mutual
-  pub made_needs : (config : Config) (own : Scope) (outer : List Scope) (b : List ℕ) (fuel : ℕ) (e : FullEntry) (rest : List ℕ) (left : ℕ) → Made config own outer b fuel e rest left → Needs config (length (own ∷ outer)) fuel e left
+  pub made_needs : (config : Config) (own : Scope) (outer : List Scope) (b : List ℕ) (fuel : ℕ) (e : FullEntry) (rest : List ℕ) (left : ℕ)
+      → Made config own outer b fuel e rest left → Needs config (length (own ∷ outer)) fuel e left
   made_needs config own outer b fuel e rest left (spent_type {t = t} f d i) =
       subst (λ z. Needs config (length (own ∷ outer)) fuel z left) (sym i) (record {
         enough = needed (defined_size t) 0 fuel (as_used own d.kind d.mid 0 t rest left d.made) (omega arith);
@@ -213,31 +234,41 @@ mutual
         nests = r.nests;
       })
 
-  declaration_needs : (config : Config) (importing : Bool) (outer : List Scope) (s : SoFar) (b : List ℕ) (fuel : ℕ) (d : FullDecl) (rest : List ℕ) (left : ℕ) → MadeDeclaration config importing outer s b fuel d rest left → DeclNeeds config (length (s.own ∷ outer)) fuel d left
-  declaration_needs config importing outer s b fuel d rest left (made_import i r l) = subst (λ z. DeclNeeds config (length (s.own ∷ outer)) fuel z left) (sym r.is) (nothing_needed config _ fuel left l _ refl refl tt)
-  declaration_needs config importing outer s b fuel d rest left (made_export n c r l) = subst (λ z. DeclNeeds config (length (s.own ∷ outer)) fuel z left) (sym r.is) (nothing_needed config _ fuel left l _ refl refl tt)
+  declaration_needs : (config : Config) (importing : Bool) (outer : List Scope) (s : SoFar) (b : List ℕ) (fuel : ℕ) (d : FullDecl) (rest : List ℕ) (left : ℕ)
+      → MadeDeclaration config importing outer s b fuel d rest left → DeclNeeds config (length (s.own ∷ outer)) fuel d left
+  declaration_needs config importing outer s b fuel d rest left (made_import i r l) =
+      subst (λ z. DeclNeeds config (length (s.own ∷ outer)) fuel z left) (sym r.is) (nothing_needed config _ fuel left l _ refl refl tt)
+  declaration_needs config importing outer s b fuel d rest left (made_export n c r l) =
+      subst (λ z. DeclNeeds config (length (s.own ∷ outer)) fuel z left) (sym r.is) (nothing_needed config _ fuel left l _ refl refl tt)
   declaration_needs config importing outer s b fuel d rest left (made_alias {low = low} n c r l) =
-      alias_holds (λ z. DeclNeeds config (length (s.own ∷ outer)) fuel z left) (λ count i k. nothing_needed config _ fuel left l _ refl refl tt) (λ count i k. nothing_needed config _ fuel left l _ refl refl tt) (s.own ∷ outer) low d rest r
+      alias_holds (λ z. DeclNeeds config (length (s.own ∷ outer)) fuel z left) (λ count i k. nothing_needed config _ fuel left l _ refl refl tt)
+      (λ count i k. nothing_needed config _ fuel left l _ refl refl tt) (s.own ∷ outer) low d rest r
   declaration_needs config importing outer s b fuel d rest left (made_core_type n c m i) =
       subst (λ z. DeclNeeds config (length (s.own ∷ outer)) fuel z left) (sym i) (record { enough = core_needed m; leaves = core_leaves m; nests = tt })
   declaration_needs config importing outer s b fuel d rest left (made_type {low = low} {e = e} n c m i) =
       let r = made_needs config s.own outer low fuel e rest left m in
-      subst (λ z. DeclNeeds config (length (s.own ∷ outer)) fuel z left) (sym i) (record { enough = r.enough; leaves = r.leaves; nests = (item_offered config outer s.own c.place item.«Type» c.named, r.nests) })
+      subst (λ z. DeclNeeds config (length (s.own ∷ outer)) fuel z left) (sym i)
+      (record { enough = r.enough; leaves = r.leaves; nests = (item_offered config outer s.own c.place item.«Type» c.named, r.nests) })
 
-  declarations_need : (config : Config) (importing : Bool) (outer : List Scope) (done : ℕ) (s : SoFar) (b : List ℕ) (fuel : ℕ) (ds : FullDecls) (rest : List ℕ) (left : ℕ) → MadeDeclarations config importing outer done s b fuel ds rest left → DeclsNeed config (length (s.own ∷ outer)) fuel ds left
-  declarations_need config importing outer done s b fuel ds rest left (no_more_decls m l) = record { enough = omega arith; leaves = omega (arith, l); nests = tt }
-  declarations_need config importing outer done s b fuel ds rest left (spent_decls m f l) = record { enough = omega arith; leaves = omega (arith, l); nests = tt }
+  declarations_need : (config : Config) (importing : Bool) (outer : List Scope) (done : ℕ) (s : SoFar) (b : List ℕ) (fuel : ℕ) (ds : FullDecls) (rest : List ℕ)
+      (left : ℕ) → MadeDeclarations config importing outer done s b fuel ds rest left → DeclsNeed config (length (s.own ∷ outer)) fuel ds left
+  declarations_need config importing outer done s b fuel ds rest left (no_more_decls m l) =
+      record { enough = omega arith; leaves = omega (arith, l); nests = tt }
+  declarations_need config importing outer done s b fuel ds rest left (spent_decls m f l) =
+      record { enough = omega arith; leaves = omega (arith, l); nests = tt }
   declarations_need config importing outer done s b fuel _ rest left (one_decl {mid = mid} {low = low} {held = held} {d = d} {ds = ds} m f one later) =
       let x = declaration_needs config importing outer s mid (fuel - 1) d low held one in
       let y = declarations_need config importing outer (done + 1) (after_one outer s d) low held ds rest left later in
       let n : ℕ = decl_need (plain_decl d) in
       let k : ℕ = decls_need (plain_decls ds) + decl_cost (plain_decl d) + 1 in
       record {
-        enough = most_two 2 _ fuel (omega (arith, f)) (most_two (n + 1) k fuel (omega (arith, f, x.enough)) (behind d (decls_need (plain_decls ds)) fuel held f x.enough x.leaves y.enough));
+        enough = most_two 2 _ fuel (omega (arith, f)) (most_two (n + 1) k fuel (omega (arith, f, x.enough))
+            (behind d (decls_need (plain_decls ds)) fuel held f x.enough x.leaves y.enough));
         leaves = omega (arith, x.leaves, y.leaves);
         nests = (x.nests, y.nests);
       }
     where
-      behind : (d : FullDecl) (k fuel held : ℕ) → 0 < fuel - 1 → decl_need (plain_decl d) ≤ fuel - 1 → held ≤ fuel - 1 - decl_cost (plain_decl d) → k ≤ held → k + decl_cost (plain_decl d) + 1 ≤ fuel
+      behind : (d : FullDecl) (k fuel held : ℕ) → 0 < fuel - 1 → decl_need (plain_decl d) ≤ fuel - 1 → held ≤ fuel - 1 - decl_cost (plain_decl d) → k ≤ held
+          → k + decl_cost (plain_decl d) + 1 ≤ fuel
       behind d zero fuel held f h l le = let z = decl_costs (plain_decl d) in omega (arith, f, h, z)
       behind d (suc k) fuel held f h l le = omega (arith, l, le)

@@ -1,5 +1,6 @@
 -- What the script of a type with declarations says is made of it.
-use Rattle.std.proofs.Common.{◌≡◌, ℕ, ◌+◌, ◌-◌, ◌^◌, ◌<◌, ◌≤◌, Bool, true, false, List, [], ◌∷◌, ◌++◌, length, refl, sym, ap, ◌∙◌, subst, arith, append_assoc, append-nil, length-append, nat_lt, None, Some}
+use Rattle.std.proofs.Common.{◌≡◌, ℕ, ◌+◌, ◌-◌, ◌^◌, ◌<◌, ◌≤◌, Bool, true, false, List, [], ◌∷◌, ◌++◌, length, refl, sym, ap, ◌∙◌, subst, arith, append_assoc}
+use Rattle.std.proofs.Common.{append-nil, length-append, nat_lt, None, Some}
 use Rattle.std.proofs.lemmas.Bool.Decides.{nat_tests}
 use Rattle.std.proofs.lemmas.List.{map-append}
 use Rattle.std.specs.List.{AllByRecursion}
@@ -11,7 +12,9 @@ use Rattle.smith_input.proofs.Picks.{reads-pick}
 use Rattle.smith_input.proofs.ReadingLemmas.{more_one}
 use Rattle.smith_input.specs.Script.{pick}
 use Rattle.smith_format.specs.declared.config.Config.{Config}
-use Rattle.smith_syntax.specs.Entries.{Entry, Decl, Decls, FullEntry, FullDecl, FullDecls, defined, function, component_type, instance_type, core_func, core_module, CoreEntry, decl_count, plain, plain_decl, plain_decls, core_type_decl, type_decl, type_alias, core_type_alias, import_decl, export_decl, no_decls, then_decls, keeps_functions, keeps_type, keeps_core_type}
+use Rattle.smith_syntax.specs.Entries.{Entry, Decl, Decls, FullEntry, FullDecl, FullDecls, defined, function, component_type, instance_type, core_func}
+use Rattle.smith_syntax.specs.Entries.{core_module, CoreEntry, decl_count, plain, plain_decl, plain_decls, core_type_decl, type_decl, type_alias}
+use Rattle.smith_syntax.specs.Entries.{core_type_alias, import_decl, export_decl, no_decls, then_decls, keeps_functions, keeps_type, keeps_core_type}
 use Rattle.smith_syntax.specs.CoreLimits.{CoreLimits}
 use Rattle.smith_syntax.specs.Scope.{Scope, after_decl, exported_type, type_named, core_type_named}
 use Rattle.smith_syntax.specs.TypeLimits.{EntryLimits, DeclLimits, DeclsLimits}
@@ -24,8 +27,11 @@ use Rattle.smith_core_types.proofs.Names.{AreNew, distinct_new, none_before}
 use Rattle.smith_scopes.proofs.Plain.{all_back, all_front}
 use Rattle.smith_types.specs.Declarations.{NamedExtern, SoFar, nothing_so_far, after_one, ReadsImport, ReadsExport}
 use Rattle.smith_types.specs.Offers.{uncounted, IsAllowed}
-use Rattle.smith_types.specs.Made.{Made, made_component, made_instance, MadeWith, MadeDeclaration, made_import, made_export, made_alias, made_core_type, made_type, MadeDeclarations, no_more_decls, one_decl}
-use Rattle.smith_types.specs.Script.{Fit, IsSayable, Lasts, LastsCore, LastsDecl, LastsDecls, cost, core_cost, decl_cost, decls_cost, script_alias, script_core, script_decl, script_decls, script_declares, script_extern, script_item, script_no_import, script_ref, script_type, script_type_kind}
+use Rattle.smith_types.specs.Made.{Made, made_component, made_instance, MadeWith, MadeDeclaration, made_import, made_export, made_alias, made_core_type}
+use Rattle.smith_types.specs.Made.{made_type, MadeDeclarations, no_more_decls, one_decl}
+use Rattle.smith_types.specs.Script.{Fit, IsSayable, Lasts, LastsCore, LastsDecl, LastsDecls, cost, core_cost, decl_cost, decls_cost, script_alias, script_core}
+use Rattle.smith_types.specs.Script.{script_decl, script_decls, script_declares, script_extern, script_item, script_no_import, script_ref, script_type}
+use Rattle.smith_types.specs.Script.{script_type_kind}
 use Rattle.smith_types.specs.declared.make.TypeKind.TheVariants.{Component, Instance}
 use Rattle.smith_types.specs.declared.make.declarations.DeclarationItem.{DeclarationItem}
 use Rattle.smith_types.specs.declared.make.declarations.DeclarationItem.TheVariants as item
@@ -36,7 +42,8 @@ use Rattle.smith_types.proofs.Script.{type_function, type_values, type_kind_read
 
 -- core types
 
-pub core_read : (config : Config) (around : Scope) (fuel : ℕ) (e : CoreEntry) (rest : List ℕ) → CoreLimits config e → LastsCore fuel e → MadeCore config around (script_core config e ++ rest) fuel e rest (fuel - core_cost e)
+pub core_read : (config : Config) (around : Scope) (fuel : ℕ) (e : CoreEntry) (rest : List ℕ) → CoreLimits config e → LastsCore fuel e
+    → MadeCore config around (script_core config e ++ rest) fuel e rest (fuel - core_cost e)
 core_read config around fuel (core_func f) rest limits lasts = core_type_read config around fuel f rest lasts limits
 core_read config around fuel (core_module ds) rest limits (few, none) =
     spent_core (omega (arith, few)) (ap core_module none) (omega (arith, few))
@@ -68,8 +75,10 @@ Next so_far xs = AreNew (names so_far) (names xs) × AllByRecursion Kebab (names
 
 next_front : (so_far : List NamedExtern) (one later : Externs) → Next so_far (one ++ later) → Next so_far one
 next_front so_far one later (n, k) =
-    let parts : names (one ++ later) ≡ names one ++ names later = map-append (λ x. x.0) one later in
-    (new_front (names so_far) (names one) (names later) (subst (AreNew (names so_far)) parts n), all_front Kebab (names one) (names later) (subst (AllByRecursion Kebab) parts k))
+    let parts : names (one ++ later) ≡ names one ++ names later = map-append (λ x. x.0) one later in (
+      new_front (names so_far) (names one) (names later) (subst (AreNew (names so_far)) parts n),
+      all_front Kebab (names one) (names later) (subst (AllByRecursion Kebab) parts k),
+    )
 
 next_back : (so_far more : List NamedExtern) (one later : Externs) → names one ≡ names more → Next so_far (one ++ later) → Next (so_far ++ more) later
 next_back so_far more one later same (n, k) =
@@ -124,13 +133,16 @@ export_allowed config own (to.Instance i) = refl
 
 module _ (config : Config) where
   -- what stands behind the choice of what is declared
-  declares_read : (importing : Bool) (outer : List Scope) (own : Scope) (i : DeclarationItem) (said rest : List ℕ) (P : List ℕ → Type 0) → P (script_no_import importing own ++ (script_item config outer own i ++ (said ++ rest))) → P ((script_declares config importing own outer i ++ said) ++ rest)
+  declares_read : (importing : Bool) (outer : List Scope) (own : Scope) (i : DeclarationItem) (said rest : List ℕ) (P : List ℕ → Type 0)
+      → P (script_no_import importing own ++ (script_item config outer own i ++ (said ++ rest)))
+      → P ((script_declares config importing own outer i ++ said) ++ rest)
   declares_read importing outer own i said rest P made =
       let a : List ℕ = script_no_import importing own in
       let b : List ℕ = script_item config outer own i in
       subst P (sym (append_assoc (a ++ b) said rest ∙ append_assoc a b (said ++ rest))) made
 
-  export_read : (s : SoFar) (name rest : List ℕ) (r : ComponentTypeRef) → Holding (2 ^ 64) s.own → Kebab name × (length name ≤ 100) × AreNew (names s.exports) (name ∷ []) → (u : Unit {0}) → FormedDeclaration (export_decl name u r) s.own []
+  export_read : (s : SoFar) (name rest : List ℕ) (r : ComponentTypeRef) → Holding (2 ^ 64) s.own
+      → Kebab name × (length name ≤ 100) × AreNew (names s.exports) (name ∷ []) → (u : Unit {0}) → FormedDeclaration (export_decl name u r) s.own []
       → ReadsExport config s.own s.exports ((script_ref config s.own uncounted false true r ++ script_extern name) ++ rest) (export_decl name None r) rest
   export_read s name rest r few (k, short, new) u formed =
       let of : List ℕ = script_ref config s.own uncounted false true r in
@@ -144,12 +156,15 @@ module _ (config : Config) where
         is = refl;
       })
 
-  import_read : (s : SoFar) (name rest : List ℕ) (r : ComponentTypeRef) → Holding (2 ^ 64) s.own → Kebab name × (length name ≤ 100) × AreNew (names s.imports) (name ∷ []) → (u : Unit {0}) → FormedDeclaration (import_decl name u r) s.own []
-      → ReadsImport config s.own s.imports ((pick 4 0 ++ (script_ref config s.own uncounted true true r ++ script_extern name)) ++ rest) (import_decl name None r) rest
+  import_read : (s : SoFar) (name rest : List ℕ) (r : ComponentTypeRef) → Holding (2 ^ 64) s.own
+      → Kebab name × (length name ≤ 100) × AreNew (names s.imports) (name ∷ []) → (u : Unit {0}) → FormedDeclaration (import_decl name u r) s.own []
+      → ReadsImport config s.own s.imports ((pick 4 0 ++ (script_ref config s.own uncounted true true r ++ script_extern name)) ++ rest)
+      (import_decl name None r) rest
   import_read s name rest r few (k, short, new) u formed =
       let of : List ℕ = script_ref config s.own uncounted true true r in
       let said : List ℕ = script_extern name in
-      let whole : (pick 4 0 ++ (of ++ said)) ++ rest ≡ pick 4 0 ++ (of ++ (said ++ rest)) = append_assoc (pick 4 0) (of ++ said) rest ∙ ap (λ z. pick 4 0 ++ z) (append_assoc of said rest) in
+      let whole : (pick 4 0 ++ (of ++ said)) ++ rest ≡ pick 4 0 ++ (of ++ (said ++ rest)) = append_assoc (pick 4 0) (of ++ said) rest
+      ∙ ap (λ z. pick 4 0 ++ z) (append_assoc of said rest) in
       subst (λ z. ReadsImport config s.own s.imports z (import_decl name None r) rest) (sym whole) (record {
         mid = of ++ (said ++ rest);
         low = said ++ rest;
@@ -164,10 +179,13 @@ module _ (config : Config) where
 
   module _ (deep : config.max_nesting_depth ≤ 1000) where
     mutual
-      pub full_read : (e : Entry) (own : Scope) (outer : List Scope) (fuel : ℕ) (rest : List ℕ) → FormedEntry e own outer → EntryLimits config e → Lasts e config (length (own ∷ outer)) fuel → Fit (own ∷ outer) → length (own ∷ outer) ≤ 1000
+      pub full_read : (e : Entry) (own : Scope) (outer : List Scope) (fuel : ℕ) (rest : List ℕ) → FormedEntry e own outer → EntryLimits config e
+          → Lasts e config (length (own ∷ outer)) fuel → Fit (own ∷ outer) → length (own ∷ outer) ≤ 1000
           → (full : FullEntry) × (e ≡ plain full) × Made config own outer (script_type e config fuel own outer ++ rest) fuel full rest (fuel - cost e)
-      full_read (defined t) own outer fuel rest f m l fit few = (defined t, refl, type_values own (let z = fit.each.0 in omega (arith, z)) config outer fuel t rest f l)
-      full_read (function s) own outer fuel rest f m l fit few = (function s, refl, type_function own (let z = fit.each.0 in omega (arith, z)) config outer fuel s rest f l.0 l.1)
+      full_read (defined t) own outer fuel rest f m l fit few =
+          (defined t, refl, type_values own (let z = fit.each.0 in omega (arith, z)) config outer fuel t rest f l)
+      full_read (function s) own outer fuel rest f m l fit few =
+          (function s, refl, type_function own (let z = fit.each.0 in omega (arith, z)) config outer fuel s rest f l.0 l.1)
       full_read (component_type ds) own outer fuel rest f m l fit few =
           let around : Fit (nothing_so_far.own ∷ (own ∷ outer)) = record { many = omega (arith, few); each = (omega arith, fit.each) } in
           let said : Sayable true nothing_so_far (imports_in ds) (exports_in ds) = record {
@@ -182,7 +200,8 @@ module _ (config : Config) where
           let Q : ℕ → Type 0 = λ n. MadeDeclarations config true (own ∷ outer) 0 nothing_so_far (script ++ rest) (fuel - 1) r.0 rest n in (
             component_type r.0,
             ap component_type r.1,
-            subst P (sym (append_assoc (script_type_kind Component) script rest)) (made_component (omega (arith, l.0)) (type_kind_read Component 2 (script ++ rest) refl) (subst Q left r.2) refl),
+            subst P (sym (append_assoc (script_type_kind Component) script rest))
+                (made_component (omega (arith, l.0)) (type_kind_read Component 2 (script ++ rest) refl) (subst Q left r.2) refl),
           )
       full_read (instance_type ds) own outer fuel rest f m l fit few =
           let around : Fit (nothing_so_far.own ∷ (own ∷ outer)) = record { many = omega (arith, few); each = (omega arith, fit.each) } in
@@ -199,11 +218,13 @@ module _ (config : Config) where
           let Q : ℕ → Type 0 = λ n. MadeDeclarations config false (own ∷ outer) 0 nothing_so_far (script ++ rest) (fuel - 1) r.0 rest n in (
             instance_type r.0,
             ap instance_type r.1,
-            subst P (sym (append_assoc (script_type_kind Instance) script rest)) (made_instance (omega (arith, l.0)) (type_kind_read Instance 3 (script ++ rest) refl) (subst Q left r.2) refl),
+            subst P (sym (append_assoc (script_type_kind Instance) script rest))
+                (made_instance (omega (arith, l.0)) (type_kind_read Instance 3 (script ++ rest) refl) (subst Q left r.2) refl),
           )
 
       -- A declaration: it imports and exports what its plain tree does.
-      decl_read : (d : Decl) (importing : Bool) (outer : List Scope) (s : SoFar) (fuel : ℕ) (rest : List ℕ) → FormedDeclaration d s.own outer → DeclLimits config d → LastsDecl d config (length (s.own ∷ outer)) fuel → Sayable importing s (import_of d) (export_of d) → Fit (s.own ∷ outer)
+      decl_read : (d : Decl) (importing : Bool) (outer : List Scope) (s : SoFar) (fuel : ℕ) (rest : List ℕ) → FormedDeclaration d s.own outer
+          → DeclLimits config d → LastsDecl d config (length (s.own ∷ outer)) fuel → Sayable importing s (import_of d) (export_of d) → Fit (s.own ∷ outer)
           → (full : FullDecl) × (d ≡ plain_decl full) × (names (import_of d) ≡ names (import_of full)) × (names (export_of d) ≡ names (export_of full))
           × MadeDeclaration config importing outer s (script_decl d config importing fuel s.own outer ++ rest) fuel full rest (fuel - decl_cost d)
       decl_read (core_type_decl t k) importing outer s fuel rest f m l said fit =
@@ -214,7 +235,8 @@ module _ (config : Config) where
             refl,
             refl,
             declares_read importing outer s.own item.CoreType (script_core config t) rest P
-                (made_core_type (no_import_read config s.own importing _) (item_read config outer s.own item.CoreType 2 true _ refl refl) (core_read config s.own fuel t rest m l) refl),
+                (made_core_type (no_import_read config s.own importing _) (item_read config outer s.own item.CoreType 2 true _ refl refl)
+                (core_read config s.own fuel t rest m l) refl),
           )
       decl_read (type_decl e) importing outer s fuel rest f m l said fit =
           let room : nat_lt (length (s.own ∷ outer)) config.max_nesting_depth ≡ true = below (length (s.own ∷ outer)) config.max_nesting_depth l.0 in
@@ -240,7 +262,8 @@ module _ (config : Config) where
             refl,
             refl,
             declares_read importing outer s.own item.Alias (script_alias (s.own ∷ outer) count (λ z. i)) rest P
-                (made_alias (no_import_read config s.own importing _) (item_read config outer s.own item.Alias 1 _ _ refl there) (type_alias_read (s.own ∷ outer) fit count i f.0 rest f.1) left),
+                (made_alias (no_import_read config s.own importing _) (item_read config outer s.own item.Alias 1 _ _ refl there)
+                (type_alias_read (s.own ∷ outer) fit count i f.0 rest f.1) left),
           )
       decl_read (core_type_alias count i k) importing outer s fuel rest f m l said fit =
           let full : FullDecl = core_type_alias count i (keeps_core_type f.0) in
@@ -252,7 +275,8 @@ module _ (config : Config) where
             refl,
             refl,
             declares_read importing outer s.own item.Alias (script_alias (s.own ∷ outer) count (λ z. length z.types + i)) rest P
-                (made_alias (no_import_read config s.own importing _) (item_read config outer s.own item.Alias 1 _ _ refl there) (core_alias_read (s.own ∷ outer) fit count i f.0 rest f.1) left),
+                (made_alias (no_import_read config s.own importing _) (item_read config outer s.own item.Alias 1 _ _ refl there)
+                (core_alias_read (s.own ∷ outer) fit count i f.0 rest f.1) left),
           )
       decl_read (import_decl name u r) true outer s fuel rest f m l said fit =
           let left : fuel - 0 ≡ fuel = omega arith in (
@@ -275,12 +299,15 @@ module _ (config : Config) where
             refl,
             refl,
             declares_read importing outer s.own item.Export (script_ref config s.own uncounted false true r ++ script_extern name) rest P
-                (made_export (no_import_read config s.own importing _) (item_read config outer s.own item.Export 0 _ _ refl (ref_there s.own r f)) (export_read s name rest r fit.each.0 (said.exports.1.0, l, said.exports.0) u f) left),
+                (made_export (no_import_read config s.own importing _) (item_read config outer s.own item.Export 0 _ _ refl (ref_there s.own r f))
+                (export_read s name rest r fit.each.0 (said.exports.1.0, l, said.exports.0) u f) left),
           )
 
-      decls_read : (ds : Decls) (importing : Bool) (outer : List Scope) (s : SoFar) (fuel done : ℕ) (rest : List ℕ) → FormedDeclarations ds s.own outer → DeclsLimits config ds → LastsDecls ds config (length (s.own ∷ outer)) fuel → Sayable importing s (imports_in ds) (exports_in ds)
+      decls_read : (ds : Decls) (importing : Bool) (outer : List Scope) (s : SoFar) (fuel done : ℕ) (rest : List ℕ) → FormedDeclarations ds s.own outer
+          → DeclsLimits config ds → LastsDecls ds config (length (s.own ∷ outer)) fuel → Sayable importing s (imports_in ds) (exports_in ds)
           → done + decl_count ds ≤ 100 → Holding done s.own → Fit (s.own ∷ outer)
-          → (full : FullDecls) × (ds ≡ plain_decls full) × MadeDeclarations config importing outer done s (script_decls ds config importing fuel done s.own outer ++ rest) fuel full rest (fuel - decls_cost ds)
+          → (full : FullDecls) × (ds ≡ plain_decls full) × MadeDeclarations config importing outer done s
+          (script_decls ds config importing fuel done s.own outer ++ rest) fuel full rest (fuel - decls_cost ds)
       decls_read no_decls importing outer s fuel done rest f m l said few held fit =
           (no_decls, refl, no_more_decls (end_read 0 100 done rest (omega arith) (omega (arith, few))) (omega arith))
       decls_read (then_decls d ds) importing outer s fuel done rest f m l said few held fit =
@@ -305,24 +332,29 @@ module _ (config : Config) where
           let around : Fit (next.own ∷ outer) = record { many = fit.many; each = (omega (arith, holds, few), fit.each.1) } in
           let more = decls_read ds importing outer next held_next (done + 1) rest formed m.1 l.2 behind (omega (arith, few)) holds around in
           let left : held_next - decls_cost ds ≡ fuel - decls_cost (then_decls d ds) = omega arith in
-          let M : Scope → Type 0 = λ z. MadeDeclarations config importing outer (done + 1) next (script_decls ds config importing held_next (done + 1) z outer ++ rest) held_next more.0 rest (held_next - decls_cost ds) in
+          let M : Scope → Type 0 = λ z. MadeDeclarations config importing outer (done + 1) next
+          (script_decls ds config importing held_next (done + 1) z outer ++ rest) held_next more.0 rest (held_next - decls_cost ds) in
           let N : ℕ → Type 0 = λ n. MadeDeclarations config importing outer (done + 1) next (later ++ rest) held_next more.0 rest n in
           let made : N (fuel - decls_cost (then_decls d ds)) = subst N left (subst M (sym same) more.2) in
           let said_one : List ℕ = script_decl d config importing (fuel - 1) s.own outer in
-          let P : List ℕ → Type 0 = λ b. MadeDeclarations config importing outer done s (1 ∷ b) fuel (then_decls one.0 more.0) rest (fuel - decls_cost (then_decls d ds)) in (
+          let P : List ℕ → Type 0 = λ b. MadeDeclarations config importing outer done s (1 ∷ b) fuel (then_decls one.0 more.0) rest
+          (fuel - decls_cost (then_decls d ds)) in (
             then_decls one.0 more.0,
             λ i. then_decls (one.1 i) (more.1 i),
-            subst P (sym (append_assoc said_one later rest)) (one_decl (more_one (said_one ++ (later ++ rest)) (omega (arith, few)) (omega arith)) (omega (arith, l.0)) one.4 made),
+            subst P (sym (append_assoc said_one later rest))
+                (one_decl (more_one (said_one ++ (later ++ rest)) (omega (arith, few)) (omega arith)) (omega (arith, l.0)) one.4 made),
           )
 
     -- What the script of a type says is made of it, and the rest is left.
-    pub type_read : (own : Scope) (outer : List Scope) (fuel : ℕ) (e : Entry) (rest : List ℕ) → IsSayable config own outer fuel e → MadeWith config own outer fuel (script_type e config fuel own outer ++ rest) e rest
+    pub type_read : (own : Scope) (outer : List Scope) (fuel : ℕ) (e : Entry) (rest : List ℕ) → IsSayable config own outer fuel e
+        → MadeWith config own outer fuel (script_type e config fuel own outer ++ rest) e rest
     type_read own outer fuel e rest said =
         let r = full_read e own outer fuel rest said.formed said.limits said.lasts said.fit said.shallow in
         record { full = r.0; left = fuel - cost e; made = r.2; shown = r.1 }
 
     -- What a script says is made of it, and nothing else.
-    pub type_scripted : (own : Scope) (outer : List Scope) (fuel left : ℕ) (e : Entry) (full : FullEntry) (bytes rest remains : List ℕ) → IsSayable config own outer fuel e → bytes ≡ script_type e config fuel own outer ++ rest
+    pub type_scripted : (own : Scope) (outer : List Scope) (fuel left : ℕ) (e : Entry) (full : FullEntry) (bytes rest remains : List ℕ)
+        → IsSayable config own outer fuel e → bytes ≡ script_type e config fuel own outer ++ rest
         → Made config own outer bytes fuel full remains left → (plain full ≡ e) × (remains ≡ rest)
     type_scripted own outer fuel left e full bytes rest remains said begins made =
         let read = type_read own outer fuel e rest said in

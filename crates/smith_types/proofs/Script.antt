@@ -1,5 +1,6 @@
 -- What the script of a type says is made of it.
-use Rattle.std.proofs.Common.{◌≡◌, ℕ, ◌+◌, ◌-◌, ◌^◌, ◌<◌, ◌≤◌, Bool, true, false, List, [], ◌∷◌, ◌++◌, map, length, refl, sym, subst, arith, append_assoc, nat_le, nat_eq, Decides, lit≤}
+use Rattle.std.proofs.Common.{◌≡◌, ℕ, ◌+◌, ◌-◌, ◌^◌, ◌<◌, ◌≤◌, Bool, true, false, List, [], ◌∷◌, ◌++◌, map, length, refl, sym, subst, arith, append_assoc}
+use Rattle.std.proofs.Common.{nat_le, nat_eq, Decides, lit≤}
 use Rattle.std.proofs.lemmas.Bool.Decides.{nat_tests, Decides-eqb}
 use Rattle.std.proofs.lemmas.List.{map-id}
 use Rattle.std.specs.List.{AllByRecursion}
@@ -13,11 +14,14 @@ use Rattle.smith_input.proofs.Choices.{among_read}
 use Rattle.smith_input.proofs.Picks.{reads-pick}
 use Rattle.smith_input.proofs.ReadingLemmas.{flips_one, flips_zero}
 use Rattle.smith_format.specs.declared.config.Config.{Config}
-use Rattle.smith_syntax.specs.Entries.{DefValType, primitive_type, record_type, variant_type, list_type, tuple_type, flags_type, enum_type, option_type, result_type, Field, Case, Signature, defined, function}
+use Rattle.smith_syntax.specs.Entries.{DefValType, primitive_type, record_type, variant_type, list_type, tuple_type, flags_type, enum_type, option_type}
+use Rattle.smith_syntax.specs.Entries.{result_type, Field, Case, Signature, defined, function}
 use Rattle.smith_types.specs.Offers.{primitives, defined_kinds, type_kinds}
-use Rattle.smith_types.specs.Made.{ReadsVal, only_primitive, either_primitive, either_index, ReadsMaybe, absent, present, ReadsNamed, or_bool, MadeMembers, MadeAs, MadeDefined, MadeFunction, Made, spent_type, made_defined, made_function}
+use Rattle.smith_types.specs.Made.{ReadsVal, only_primitive, either_primitive, either_index, ReadsMaybe, absent, present, ReadsNamed, or_bool, MadeMembers}
+use Rattle.smith_types.specs.Made.{MadeAs, MadeDefined, MadeFunction, Made, spent_type, made_defined, made_function}
 use Rattle.smith_syntax.specs.Scope.{Scope, defined_places, is_defined}
-use Rattle.smith_types.specs.Script.{script_primitive, script_val, script_maybe, script_label, script_field, script_case, script_members, script_kind, script_defined, script_function, script_type_kind, script_type, AreShort, LastsDefined, cost}
+use Rattle.smith_types.specs.Script.{script_primitive, script_val, script_maybe, script_label, script_field, script_case, script_members, script_kind}
+use Rattle.smith_types.specs.Script.{script_defined, script_function, script_type_kind, script_type, AreShort, LastsDefined, cost}
 use Rattle.smith_syntax.specs.WellFormed.{FormedVal, FormedMaybe, FormedDefined, FormedEntry, Named, size, defined_size}
 use Rattle.smith_types.specs.contracts.make.TypeKind.{the_type as type_kind_type}
 use Rattle.smith_types.specs.contracts.make.TypeKindPartialEq.TheImpl.{ghosts as types}
@@ -78,7 +82,8 @@ kind_place kind.Option = (7, refl)
 kind_place kind.Result = (8, refl)
 
 -- the kind that a script says
-kind_read : (own : Scope) (k : DefinedKind) (said rest : List ℕ) (fuel : ℕ) (t : DefValType) (left : ℕ) → MadeAs own k (said ++ rest) fuel t rest left → MadeDefined own ((script_kind k ++ said) ++ rest) fuel t rest left
+kind_read : (own : Scope) (k : DefinedKind) (said rest : List ℕ) (fuel : ℕ) (t : DefValType) (left : ℕ) → MadeAs own k (said ++ rest) fuel t rest left
+    → MadeDefined own ((script_kind k ++ said) ++ rest) fuel t rest left
 kind_read own k said rest fuel t left made =
     let P : List ℕ → Type 0 = λ b. MadeDefined own b fuel t rest left in
     let at = kind_place k in
@@ -94,7 +99,8 @@ type_kind_read k at rest named = among_read types.eq type_kind_Decides type_kind
 
 -- value types
 
-val_primitive : (own : Scope) (p : PrimitiveValType) (rest : List ℕ) (b : Bool) → nat_eq (length (defined_places own)) 0 ≡ b → ReadsVal own ((if b then [] else pick 2 0) ++ (script_primitive p ++ rest)) (Primitive p) rest
+val_primitive : (own : Scope) (p : PrimitiveValType) (rest : List ℕ) (b : Bool) → nat_eq (length (defined_places own)) 0 ≡ b
+    → ReadsVal own ((if b then [] else pick 2 0) ++ (script_primitive p ++ rest)) (Primitive p) rest
 val_primitive own p rest true e = only_primitive (none (defined_places own) e) (primitive_read p rest)
   where
     none : (xs : List ℕ) → nat_eq (length xs) 0 ≡ true → xs ≡ []
@@ -103,7 +109,8 @@ val_primitive own p rest true e = only_primitive (none (defined_places own) e) (
       where
         clash : (n : ℕ) → 0 < n → nat_eq n 0 ≡ true → ⊥
         clash n p h = grind (arith, nat_tests)
-val_primitive own p rest false e = either_primitive (some (length (defined_places own)) e) (reads-pick 2 0 (script_primitive p ++ rest) (omega arith) (omega arith)) (primitive_read p rest)
+val_primitive own p rest false e = either_primitive (some (length (defined_places own)) e)
+    (reads-pick 2 0 (script_primitive p ++ rest) (omega arith) (omega arith)) (primitive_read p rest)
   where
     some : (n : ℕ) → nat_eq n 0 ≡ false → 0 < n
     some n h = grind (arith, nat_tests)
@@ -112,22 +119,26 @@ module _ (own : Scope) (few : length own.types ≤ 2 ^ 64) where
   val_read : (v : ComponentValType) (rest : List ℕ) → FormedVal own v → ReadsVal own (script_val own v ++ rest) v rest
   val_read (Primitive p) rest f =
       let P : List ℕ → Type 0 = λ b. ReadsVal own b (Primitive p) rest in
-      subst P (sym (append_assoc (if nat_eq (length (defined_places own)) 0 then [] else pick 2 0) (script_primitive p) rest)) (val_primitive own p rest (nat_eq (length (defined_places own)) 0) refl)
+      subst P (sym (append_assoc (if nat_eq (length (defined_places own)) 0 then [] else pick 2 0) (script_primitive p) rest))
+      (val_primitive own p rest (nat_eq (length (defined_places own)) 0) refl)
   val_read (Indexed i) rest (e, at, t) =
       let found = place_found is_defined own.types i e at t in
       let said : List ℕ = script_among nat_eq (defined_places own) i in
       let P : List ℕ → Type 0 = λ b. ReadsVal own b (Indexed i) rest in
       subst P (sym (append_assoc (pick 2 1) said rest))
-      (either_index (reads-pick 2 1 (said ++ rest) (omega arith) (omega arith)) (among_read nat_eq Decides-eqb (defined_places own) i found.0 rest (omega (arith, length-places is_defined 0 own.types)) found.1))
+      (either_index (reads-pick 2 1 (said ++ rest) (omega arith) (omega arith))
+      (among_read nat_eq Decides-eqb (defined_places own) i found.0 rest (omega (arith, length-places is_defined 0 own.types)) found.1))
 
   maybe_read : (v : Option ComponentValType) (rest : List ℕ) → FormedMaybe own v → ReadsMaybe own (script_maybe own v ++ rest) v rest
   maybe_read None rest f = absent (flips_zero rest)
   maybe_read (Some v) rest f = present (flips_one (script_val own v ++ rest)) (val_read v rest f)
 
-  field_read : (so_far : List Field) (x : Field) (rest : List ℕ) → IsReady (λ y. y.0) (λ y. FormedVal own y.1) so_far x → ReadsNamed (ReadsVal own) so_far (script_field own x ++ rest) x rest
+  field_read : (so_far : List Field) (x : Field) (rest : List ℕ) → IsReady (λ y. y.0) (λ y. FormedVal own y.1) so_far x
+      → ReadsNamed (ReadsVal own) so_far (script_field own x ++ rest) x rest
   field_read so_far x rest r = named_read (ReadsVal own) (script_val own) (FormedVal own) val_read so_far x rest r
 
-  case_read : (so_far : List Case) (x : Case) (rest : List ℕ) → IsReady (λ y. y.0) (λ y. FormedMaybe own y.1) so_far x → ReadsNamed (ReadsMaybe own) so_far (script_case own x ++ rest) x rest
+  case_read : (so_far : List Case) (x : Case) (rest : List ℕ) → IsReady (λ y. y.0) (λ y. FormedMaybe own y.1) so_far x
+      → ReadsNamed (ReadsMaybe own) so_far (script_case own x ++ rest) x rest
   case_read so_far x rest r = named_read (ReadsMaybe own) (script_maybe own) (FormedMaybe own) maybe_read so_far x rest r
 
   vals_ready : (vs so_far : List ComponentValType) → AllByRecursion (FormedVal own) vs → Ready (λ so_far. FormedVal own) so_far vs
@@ -141,28 +152,37 @@ module _ (own : Scope) (few : length own.types ≤ 2 ^ 64) where
   some_members of (x ∷ xs) h = refl
 
   -- a type of members, each of which its script says
-  made_members : {A : Type 0} (Member : List A → List ℕ → A → List ℕ → Type 0) (f : A → List ℕ) (P : List A → A → Type 0) (max : ℕ) (of : List A → DefValType) → ((so_far : List A) (x : A) (rest : List ℕ) → P so_far x → Member so_far (f x ++ rest) x rest)
-      → (xs : List A) (fuel : ℕ) (rest : List ℕ) → Ready P [] xs → 1 ≤ length xs → length xs ≤ max → length xs + 1 ≤ fuel → (left : ℕ) × (left + length xs ≡ fuel) × MadeMembers Member max of (script_members f 1 max xs ++ rest) fuel (of xs) rest left
+  made_members : {A : Type 0} (Member : List A → List ℕ → A → List ℕ → Type 0) (f : A → List ℕ) (P : List A → A → Type 0) (max : ℕ) (of : List A → DefValType)
+      → ((so_far : List A) (x : A) (rest : List ℕ) → P so_far x → Member so_far (f x ++ rest) x rest)
+      → (xs : List A) (fuel : ℕ) (rest : List ℕ) → Ready P [] xs → 1 ≤ length xs → length xs ≤ max → length xs + 1 ≤ fuel
+      → (left : ℕ) × (left + length xs ≡ fuel) × MadeMembers Member max of (script_members f 1 max xs ++ rest) fuel (of xs) rest left
   made_members Member f P max of one xs fuel rest ready some few lasts =
       let r = members_read Member f P one xs fuel rest ready some few lasts in
       (r.0, r.1, (xs, r.2, some_members of xs some))
 
-  labels_made : (max : ℕ) (of : List (List ℕ) → DefValType) (ns : List (List ℕ)) (fuel : ℕ) (rest : List ℕ) → Named ns → AreShort ns → 1 ≤ length ns → length ns ≤ max → length ns + 1 ≤ fuel → (left : ℕ) × (left + length ns ≡ fuel) × MadeMembers (ReadsNew 100) max of (script_members script_label 1 max ns ++ rest) fuel (of ns) rest left
+  labels_made : (max : ℕ) (of : List (List ℕ) → DefValType) (ns : List (List ℕ)) (fuel : ℕ) (rest : List ℕ) → Named ns → AreShort ns → 1 ≤ length ns
+      → length ns ≤ max → length ns + 1 ≤ fuel → (left : ℕ) × (left + length ns ≡ fuel)
+      × MadeMembers (ReadsNew 100) max of (script_members script_label 1 max ns ++ rest) fuel (of ns) rest left
   labels_made max of ns fuel rest n s some most lasts =
       let same = sym (map-id ns) in
-      made_members (ReadsNew 100) script_label (IsReady (λ y. y) (λ y. Unit {0})) max of label_read ns fuel rest (named_ready (λ y. y) (λ y. Unit {0}) ns (subst Named same n) (subst AreShort same s) (all_unit ns)) some most lasts
+      made_members (ReadsNew 100) script_label (IsReady (λ y. y) (λ y. Unit {0})) max of label_read ns fuel rest
+      (named_ready (λ y. y) (λ y. Unit {0}) ns (subst Named same n) (subst AreShort same s) (all_unit ns)) some most lasts
 
-  defined_read : (fuel : ℕ) (t : DefValType) (rest : List ℕ) → FormedDefined t own → LastsDefined (fuel + 1) t → (left : ℕ) × (left + defined_size t ≡ fuel) × MadeDefined own (script_defined own t ++ rest) fuel t rest left
+  defined_read : (fuel : ℕ) (t : DefValType) (rest : List ℕ) → FormedDefined t own → LastsDefined (fuel + 1) t
+      → (left : ℕ) × (left + defined_size t ≡ fuel) × MadeDefined own (script_defined own t ++ rest) fuel t rest left
   defined_read fuel (primitive_type p) rest f l = (fuel, omega arith, kind_read own kind.Primitive _ rest fuel _ fuel (p, primitive_read p rest, refl, refl))
   defined_read fuel (record_type fs) rest f l =
-      let r = made_members (ReadsNamed (ReadsVal own)) (script_field own) (IsReady (λ y. y.0) (λ y. FormedVal own y.1)) 100 record_type field_read fs fuel rest (named_ready (λ y. y.0) (λ y. FormedVal own y.1) fs f.0 l.0 f.1) f.2 f.3 (omega (arith, l.1)) in
+      let r = made_members (ReadsNamed (ReadsVal own)) (script_field own) (IsReady (λ y. y.0) (λ y. FormedVal own y.1)) 100 record_type field_read fs fuel rest
+      (named_ready (λ y. y.0) (λ y. FormedVal own y.1) fs f.0 l.0 f.1) f.2 f.3 (omega (arith, l.1)) in
       (r.0, r.1, kind_read own kind.Record _ rest fuel _ r.0 r.2)
   defined_read fuel (variant_type cs) rest f l =
-      let r = made_members (ReadsNamed (ReadsMaybe own)) (script_case own) (IsReady (λ y. y.0) (λ y. FormedMaybe own y.1)) 100 variant_type case_read cs fuel rest (named_ready (λ y. y.0) (λ y. FormedMaybe own y.1) cs f.0 l.0 f.1) f.2 f.3 (omega (arith, l.1)) in
+      let r = made_members (ReadsNamed (ReadsMaybe own)) (script_case own) (IsReady (λ y. y.0) (λ y. FormedMaybe own y.1)) 100 variant_type case_read cs fuel
+      rest (named_ready (λ y. y.0) (λ y. FormedMaybe own y.1) cs f.0 l.0 f.1) f.2 f.3 (omega (arith, l.1)) in
       (r.0, r.1, kind_read own kind.Variant _ rest fuel _ r.0 r.2)
   defined_read fuel (list_type v) rest f l = (fuel, omega arith, kind_read own kind.List _ rest fuel _ fuel (v, val_read v rest f, refl, refl))
   defined_read fuel (tuple_type vs) rest f l =
-      let r = made_members (λ so_far. ReadsVal own) (script_val own) (λ so_far. FormedVal own) 100 tuple_type (λ so_far v more h. val_read v more h) vs fuel rest (vals_ready vs [] f.0) f.1 f.2 (omega (arith, l)) in
+      let r = made_members (λ so_far. ReadsVal own) (script_val own) (λ so_far. FormedVal own) 100 tuple_type (λ so_far v more h. val_read v more h) vs fuel
+      rest (vals_ready vs [] f.0) f.1 f.2 (omega (arith, l)) in
       (r.0, r.1, kind_read own kind.Tuple _ rest fuel _ r.0 r.2)
   defined_read fuel (flags_type ns) rest f l =
       let r = labels_made 32 flags_type ns fuel rest f.0 l.0 f.1 f.2 (omega (arith, l.1)) in
@@ -188,26 +208,33 @@ module _ (own : Scope) (few : length own.types ≤ 2 ^ 64) where
   at_most_one None = omega arith
   at_most_one (Some v) = omega arith
 
-  function_read : (outer : List Scope) (fuel : ℕ) (s : Signature) (rest : List ℕ) → FormedEntry (function s) own outer → AreShort (map (λ p. p.0) s.params) × (size (function s) + 2 ≤ fuel + 1) → (left : ℕ) × (left + size (function s) ≡ fuel) × MadeFunction own (script_function own s ++ rest) fuel s rest left
+  function_read : (outer : List Scope) (fuel : ℕ) (s : Signature) (rest : List ℕ) → FormedEntry (function s) own outer
+      → AreShort (map (λ p. p.0) s.params) × (size (function s) + 2 ≤ fuel + 1)
+      → (left : ℕ) × (left + size (function s) ≡ fuel) × MadeFunction own (script_function own s ++ rest) fuel s rest left
   function_read outer fuel s rest f l =
       let said : List ℕ = script_members (script_field own) 0 16 s.params in
       let gives : List ℕ = script_members (script_val own) 0 1 (option_to_list s.result) in
-      let p = members_read {min = 0} {max = 16} (ReadsNamed (ReadsVal own)) (script_field own) (IsReady (λ y. y.0) (λ y. FormedVal own y.1)) field_read s.params fuel (gives ++ rest) (named_ready (λ y. y.0) (λ y. FormedVal own y.1) s.params f.0 l.0 f.1) (omega arith) f.2 (omega (arith, l.1)) in
-      let g = members_read {min = 0} {max = 1} (λ so_far. ReadsVal own) (script_val own) (λ so_far. FormedVal own) (λ so_far v more h. val_read v more h) (option_to_list s.result) p.0 rest (vals_ready (option_to_list s.result) [] (one_all s.result f.3)) (omega arith) (at_most_one s.result) (omega (arith, p.1, l.1)) in
+      let p = members_read {min = 0} {max = 16} (ReadsNamed (ReadsVal own)) (script_field own) (IsReady (λ y. y.0) (λ y. FormedVal own y.1)) field_read s.params
+      fuel (gives ++ rest) (named_ready (λ y. y.0) (λ y. FormedVal own y.1) s.params f.0 l.0 f.1) (omega arith) f.2 (omega (arith, l.1)) in
+      let g = members_read {min = 0} {max = 1} (λ so_far. ReadsVal own) (script_val own) (λ so_far. FormedVal own) (λ so_far v more h. val_read v more h)
+      (option_to_list s.result) p.0 rest (vals_ready (option_to_list s.result) [] (one_all s.result f.3)) (omega arith) (at_most_one s.result)
+      (omega (arith, p.1, l.1)) in
       let P : List ℕ → Type 0 = λ b. MadeFunction own b fuel s rest g.0 in
       (g.0, omega (arith, p.1, g.1), subst P (sym (append_assoc said gives rest)) (record { mid = gives ++ rest; held = p.0; takes = p.2; gives = g.2 }))
 
   -- types
 
   -- a type of values with fuel for two turns, and with less
-  pub values_read : (config : Config) (outer : List Scope) (fuel : ℕ) (t : DefValType) (rest : List ℕ) → FormedDefined t own → LastsDefined fuel t → (b : Bool) → nat_le 2 fuel ≡ b
+  pub values_read : (config : Config) (outer : List Scope) (fuel : ℕ) (t : DefValType) (rest : List ℕ) → FormedDefined t own → LastsDefined fuel t → (b : Bool)
+      → nat_le 2 fuel ≡ b
       → Made config own outer ((if b then script_type_kind Defined else []) ++ (script_defined own t ++ rest)) fuel (defined t) rest (fuel - cost (defined t))
   values_read config outer fuel t rest f l true h =
       let two : 2 ≤ fuel = grind (arith, nat_tests) in
       let same : fuel ≡ fuel - 1 + 1 = omega arith in
       let r = defined_read (fuel - 1) t rest f (subst (λ n. LastsDefined n t) same l) in
       let left : r.0 ≡ fuel - cost (defined t) = omega (arith, r.1) in
-      made_defined (omega arith) (type_kind_read Defined 0 (script_defined own t ++ rest) refl) (subst (λ n. MadeDefined own (script_defined own t ++ rest) (fuel - 1) t rest n) left r.2) refl
+      made_defined (omega arith) (type_kind_read Defined 0 (script_defined own t ++ rest) refl)
+      (subst (λ n. MadeDefined own (script_defined own t ++ rest) (fuel - 1) t rest n) left r.2) refl
   values_read config outer fuel t rest f l false h =
       let less : fuel < 2 = grind (arith, nat_tests) in
       let r = defined_read 0 t rest f (lasts_less fuel t less l) in
@@ -226,15 +253,21 @@ module _ (own : Scope) (few : length own.types ≤ 2 ^ 64) where
       lasts_less fuel (result_type ok err) less l = tt
 
   -- What the script of a type of values or of functions says is made of it, and the rest is left.
-  pub type_values : (config : Config) (outer : List Scope) (fuel : ℕ) (t : DefValType) (rest : List ℕ) → FormedDefined t own → LastsDefined fuel t → Made config own outer (script_type (defined t) config fuel own outer ++ rest) fuel (defined t) rest (fuel - cost (defined t))
+  pub type_values : (config : Config) (outer : List Scope) (fuel : ℕ) (t : DefValType) (rest : List ℕ) → FormedDefined t own → LastsDefined fuel t
+      → Made config own outer (script_type (defined t) config fuel own outer ++ rest) fuel (defined t) rest (fuel - cost (defined t))
   type_values config outer fuel t rest f l =
       let P : List ℕ → Type 0 = λ b. Made config own outer b fuel (defined t) rest (fuel - cost (defined t)) in
-      subst P (sym (append_assoc (if nat_le 2 fuel then script_type_kind Defined else []) (script_defined own t) rest)) (values_read config outer fuel t rest f l (nat_le 2 fuel) refl)
+      subst P (sym (append_assoc (if nat_le 2 fuel then script_type_kind Defined else []) (script_defined own t) rest))
+      (values_read config outer fuel t rest f l (nat_le 2 fuel) refl)
 
-  pub type_function : (config : Config) (outer : List Scope) (fuel : ℕ) (s : Signature) (rest : List ℕ) → FormedEntry (function s) own outer → AreShort (map (λ p. p.0) s.params) → size (function s) + 2 ≤ fuel → Made config own outer (script_type (function s) config fuel own outer ++ rest) fuel (function s) rest (fuel - cost (function s))
+  pub type_function : (config : Config) (outer : List Scope) (fuel : ℕ) (s : Signature) (rest : List ℕ) → FormedEntry (function s) own outer
+      → AreShort (map (λ p. p.0) s.params) → size (function s) + 2 ≤ fuel
+      → Made config own outer (script_type (function s) config fuel own outer ++ rest) fuel (function s) rest (fuel - cost (function s))
   type_function config outer fuel s rest f short lasts =
       let m = function_read outer (fuel - 1) s rest f (short, omega (arith, lasts)) in
       let left : m.0 ≡ fuel - cost (function s) = omega (arith, m.1) in
-      let made : MadeFunction own (script_function own s ++ rest) (fuel - 1) s rest (fuel - cost (function s)) = subst (λ n. MadeFunction own (script_function own s ++ rest) (fuel - 1) s rest n) left m.2 in
+      let made : MadeFunction own (script_function own s ++ rest) (fuel - 1) s rest (fuel - cost (function s)) =
+      subst (λ n. MadeFunction own (script_function own s ++ rest) (fuel - 1) s rest n) left m.2 in
       let P : List ℕ → Type 0 = λ b. Made config own outer b fuel (function s) rest (fuel - cost (function s)) in
-      subst P (sym (append_assoc (script_type_kind Function) (script_function own s) rest)) (made_function (omega (arith, lasts)) (type_kind_read Function 1 (script_function own s ++ rest) refl) made refl)
+      subst P (sym (append_assoc (script_type_kind Function) (script_function own s) rest))
+      (made_function (omega (arith, lasts)) (type_kind_read Function 1 (script_function own s ++ rest) refl) made refl)

@@ -41,7 +41,8 @@ url_names xs = flat_map (λ x. url_name x.1) xs
 -- A boolean, and a URL where it is true: the host, and a name that is new among those of the URLs so far.
 pub data ReadsMaybeUrl (used : List (List ℕ)) : List ℕ → Option (List ℕ) → List ℕ → Type 0 where
   no_url : {bytes rest : List ℕ} → Flips bytes false rest → ReadsMaybeUrl used bytes None rest
-  a_url : {bytes mid name rest : List ℕ} {url : Option (List ℕ)} → Flips bytes true mid → ReadsNew 100 used mid name rest → url ≡ Some (codes "https://example.com/" ++ name) → ReadsMaybeUrl used bytes url rest
+  a_url : {bytes mid name rest : List ℕ} {url : Option (List ℕ)} → Flips bytes true mid → ReadsNew 100 used mid name rest
+      → url ≡ Some (codes "https://example.com/" ++ name) → ReadsMaybeUrl used bytes url rest
 
 -- A name that is new among those so far, and a URL or none.
 pub record ReadsNamedExtern (so_far : List NamedExtern) (bytes : List ℕ) (x : NamedExtern) (rest : List ℕ) : Type 0 where
@@ -63,8 +64,10 @@ pub record ReadsAlias (scopes : List Scope) (bytes : List ℕ) (d : FullDecl) (r
 pub data NoImport (config : Config) (importing : Bool) (own : Scope) : List ℕ → List ℕ → Type 0 where
   in_instance : {bytes : List ℕ} → importing ≡ false → NoImport config importing own bytes bytes
   nothing_there : {bytes : List ℕ} → importing ≡ true → has_reference own ≡ false → NoImport config importing own bytes bytes
-  not_asked : {bytes rest : List ℕ} {k : ℕ} → importing ≡ true → has_reference own ≡ true → Reads 4 bytes k rest → 0 < k → NoImport config importing own bytes rest
-  none_fits : {bytes rest : List ℕ} → importing ≡ true → has_reference own ≡ true → Reads 4 bytes 0 rest → ref_kinds config own uncounted true true ≡ [] → NoImport config importing own bytes rest
+  not_asked : {bytes rest : List ℕ} {k : ℕ} → importing ≡ true → has_reference own ≡ true → Reads 4 bytes k rest → 0 < k
+      → NoImport config importing own bytes rest
+  none_fits : {bytes rest : List ℕ} → importing ≡ true → has_reference own ≡ true → Reads 4 bytes 0 rest → ref_kinds config own uncounted true true ≡ []
+      → NoImport config importing own bytes rest
 
 -- An import: where there is something to name, one of four choices, what it is of, and its name.
 pub record ReadsImport (config : Config) (own : Scope) (imports : List NamedExtern) (bytes : List ℕ) (d : FullDecl) (rest : List ℕ) : Type 0 where

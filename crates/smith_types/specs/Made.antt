@@ -5,7 +5,9 @@ use Rattle.smith_input.specs.Choices.{ReadsAmong}
 use Rattle.smith_input.specs.Loops.{Loop}
 use Rattle.smith_input.specs.Names.{ReadsNew}
 use Rattle.smith_input.specs.Reading.{Reads, Flips, More}
-use Rattle.smith_syntax.specs.Entries.{DefValType, primitive_type, record_type, variant_type, list_type, tuple_type, flags_type, enum_type, option_type, result_type, Signature, Entry, FullEntry, FullDecl, FullDecls, defined, function, component_type, instance_type, plain, core_type_decl, type_decl, no_decls, then_decls, keeps_functions, CoreEntry}
+use Rattle.smith_syntax.specs.Entries.{DefValType, primitive_type, record_type, variant_type, list_type, tuple_type, flags_type, enum_type, option_type}
+use Rattle.smith_syntax.specs.Entries.{result_type, Signature, Entry, FullEntry, FullDecl, FullDecls, defined, function, component_type, instance_type, plain}
+use Rattle.smith_syntax.specs.Entries.{core_type_decl, type_decl, no_decls, then_decls, keeps_functions, CoreEntry}
 use Rattle.smith_syntax.specs.Scope.{Scope, defined_places}
 use Rattle.smith_format.specs.declared.config.Config.{Config}
 use Rattle.smith_types.specs.Declarations.{SoFar, nothing_so_far, after_one, ReadsAlias, ReadsExport, ReadsImport, NoImport}
@@ -23,9 +25,12 @@ use Rattle.smith_syntax.specs.declared.types.PrimitiveValType.TheVariants as pri
 -- A value type is a primitive one where the scope has no defined types. Else it is a choice of two: a primitive one, or one of
 -- the defined types of the scope, by its index.
 pub data ReadsVal (own : Scope) : List ℕ → ComponentValType → List ℕ → Type 0 where
-  only_primitive : {bytes : List ℕ} {p : PrimitiveValType} {rest : List ℕ} → defined_places own ≡ [] → ReadsAmong primitives bytes p rest → ReadsVal own bytes (Primitive p) rest
-  either_primitive : {bytes mid : List ℕ} {p : PrimitiveValType} {rest : List ℕ} → 0 < length (defined_places own) → Reads 2 bytes 0 mid → ReadsAmong primitives mid p rest → ReadsVal own bytes (Primitive p) rest
-  either_index : {bytes mid : List ℕ} {i : ℕ} {rest : List ℕ} → Reads 2 bytes 1 mid → ReadsAmong (defined_places own) mid i rest → ReadsVal own bytes (Indexed i) rest
+  only_primitive : {bytes : List ℕ} {p : PrimitiveValType} {rest : List ℕ} → defined_places own ≡ [] → ReadsAmong primitives bytes p rest
+      → ReadsVal own bytes (Primitive p) rest
+  either_primitive : {bytes mid : List ℕ} {p : PrimitiveValType} {rest : List ℕ} → 0 < length (defined_places own) → Reads 2 bytes 0 mid
+      → ReadsAmong primitives mid p rest → ReadsVal own bytes (Primitive p) rest
+  either_index : {bytes mid : List ℕ} {i : ℕ} {rest : List ℕ} → Reads 2 bytes 1 mid → ReadsAmong (defined_places own) mid i rest
+      → ReadsVal own bytes (Indexed i) rest
 
 -- a boolean, and a value type where it is true
 pub data ReadsMaybe (own : Scope) : List ℕ → Option ComponentValType → List ℕ → Type 0 where
@@ -40,7 +45,8 @@ pub record IsSpent {A : Type 0} (s : List A × ℕ) (bytes rest : List ℕ) (t :
   pub state : t ≡ (s.0, 0)
 
 -- a turn that reads a member
-pub record ReadsMember {A : Type 0} (Member : List A → List ℕ → A → List ℕ → Type 0) (s : List A × ℕ) (bytes : List ℕ) (x : A) (rest : List ℕ) (t : List A × ℕ) : Type 0 where
+pub record ReadsMember {A : Type 0} (Member : List A → List ℕ → A → List ℕ → Type 0) (s : List A × ℕ) (bytes : List ℕ) (x : A) (rest : List ℕ)
+    (t : List A × ℕ) : Type 0 where
   pub lasts : 0 < s.1 - 1
   pub member : Member s.0 bytes x rest
   pub state : t ≡ (s.0 ++ x ∷ [], s.1 - 1)
@@ -50,7 +56,8 @@ abbrev pub ReadsMembers : {A : Type 0} → (List A → List ℕ → A → List �
 ReadsMembers Member min max bytes fuel xs rest left = Loop IsSpent (ReadsMember Member) min max 0 ([], fuel) bytes xs rest (xs, left)
 
 -- A member with a name, and what stands after that. The name is new among those of the members so far.
-pub record ReadsNamed {B : Type 0} (After : List ℕ → B → List ℕ → Type 0) (so_far : List (List ℕ × B)) (bytes : List ℕ) (x : List ℕ × B) (rest : List ℕ) : Type 0 where
+pub record ReadsNamed {B : Type 0} (After : List ℕ → B → List ℕ → Type 0) (so_far : List (List ℕ × B)) (bytes : List ℕ) (x : List ℕ × B)
+    (rest : List ℕ) : Type 0 where
   pub mid : List ℕ
   pub name : ReadsNew 100 (map (λ y. y.0) so_far) bytes x.0 mid
   pub after : After mid x.1 rest
@@ -75,7 +82,8 @@ MadeAs own kind.Flags b fuel t rest left = MadeMembers (ReadsNew 100) 32 flags_t
 MadeAs own kind.Enum b fuel t rest left = MadeMembers (ReadsNew 100) 100 enum_type b fuel t rest left
 MadeAs own kind.Option b fuel t rest left = (v : ComponentValType) × ReadsVal own b v rest × (t ≡ option_type v) × (left ≡ fuel)
 MadeAs own kind.Result b fuel t rest left =
-    (ok : Option ComponentValType) × (mid : List ℕ) × ReadsMaybe own b ok mid × (err : Option ComponentValType) × ReadsMaybe own mid err rest × (t ≡ result_type ok err) × (left ≡ fuel)
+    (ok : Option ComponentValType) × (mid : List ℕ) × ReadsMaybe own b ok mid × (err : Option ComponentValType) × ReadsMaybe own mid err rest
+    × (t ≡ result_type ok err) × (left ≡ fuel)
 
 -- a choice of a kind, and a type of that kind
 pub record MadeDefined (own : Scope) (bytes : List ℕ) (fuel : ℕ) (t : DefValType) (rest : List ℕ) (left : ℕ) : Type 0 where
@@ -99,35 +107,52 @@ mutual
   -- A type takes one from the fuel. Where none is left then it is a defined type; else its kind is a choice of four. The declarations of
   -- a component type and of an instance type stand in a scope of their own.
   pub data Made (config : Config) : Scope → List Scope → List ℕ → ℕ → FullEntry → List ℕ → ℕ → Type 0 where
-    spent_type : {own : Scope} {outer : List Scope} {bytes rest : List ℕ} {fuel left : ℕ} {t : DefValType} {e : FullEntry} → fuel - 1 ≡ 0 → MadeDefined own bytes 0 t rest left → e ≡ defined t → Made config own outer bytes fuel e rest left
-    made_defined : {own : Scope} {outer : List Scope} {bytes mid rest : List ℕ} {fuel left : ℕ} {t : DefValType} {e : FullEntry} → 0 < fuel - 1 → ReadsAmong type_kinds bytes Defined mid → MadeDefined own mid (fuel - 1) t rest left → e ≡ defined t
+    spent_type : {own : Scope} {outer : List Scope} {bytes rest : List ℕ} {fuel left : ℕ} {t : DefValType} {e : FullEntry} → fuel - 1 ≡ 0
+        → MadeDefined own bytes 0 t rest left → e ≡ defined t → Made config own outer bytes fuel e rest left
+    made_defined : {own : Scope} {outer : List Scope} {bytes mid rest : List ℕ} {fuel left : ℕ} {t : DefValType} {e : FullEntry} → 0 < fuel - 1
+        → ReadsAmong type_kinds bytes Defined mid → MadeDefined own mid (fuel - 1) t rest left → e ≡ defined t
         → Made config own outer bytes fuel e rest left
-    made_function : {own : Scope} {outer : List Scope} {bytes mid rest : List ℕ} {fuel left : ℕ} {s : Signature} {e : FullEntry} → 0 < fuel - 1 → ReadsAmong type_kinds bytes Function mid → MadeFunction own mid (fuel - 1) s rest left → e ≡ function s
+    made_function : {own : Scope} {outer : List Scope} {bytes mid rest : List ℕ} {fuel left : ℕ} {s : Signature} {e : FullEntry} → 0 < fuel - 1
+        → ReadsAmong type_kinds bytes Function mid → MadeFunction own mid (fuel - 1) s rest left → e ≡ function s
         → Made config own outer bytes fuel e rest left
-    made_component : {own : Scope} {outer : List Scope} {bytes mid rest : List ℕ} {fuel left : ℕ} {ds : FullDecls} {e : FullEntry} → 0 < fuel - 1 → ReadsAmong type_kinds bytes Component mid
-        → MadeDeclarations config true (own ∷ outer) 0 nothing_so_far mid (fuel - 1) ds rest left → e ≡ component_type ds → Made config own outer bytes fuel e rest left
-    made_instance : {own : Scope} {outer : List Scope} {bytes mid rest : List ℕ} {fuel left : ℕ} {ds : FullDecls} {e : FullEntry} → 0 < fuel - 1 → ReadsAmong type_kinds bytes Instance mid
-        → MadeDeclarations config false (own ∷ outer) 0 nothing_so_far mid (fuel - 1) ds rest left → e ≡ instance_type ds → Made config own outer bytes fuel e rest left
+    made_component : {own : Scope} {outer : List Scope} {bytes mid rest : List ℕ} {fuel left : ℕ} {ds : FullDecls} {e : FullEntry} → 0 < fuel - 1
+        → ReadsAmong type_kinds bytes Component mid
+        → MadeDeclarations config true (own ∷ outer) 0 nothing_so_far mid (fuel - 1) ds rest left → e ≡ component_type ds
+        → Made config own outer bytes fuel e rest left
+    made_instance : {own : Scope} {outer : List Scope} {bytes mid rest : List ℕ} {fuel left : ℕ} {ds : FullDecls} {e : FullEntry} → 0 < fuel - 1
+        → ReadsAmong type_kinds bytes Instance mid
+        → MadeDeclarations config false (own ∷ outer) 0 nothing_so_far mid (fuel - 1) ds rest left → e ≡ instance_type ds
+        → Made config own outer bytes fuel e rest left
 
   -- A declaration of a component type (true) or of an instance type (false), after its turn's fuel is taken.
   pub data MadeDeclaration (config : Config) : Bool → List Scope → SoFar → List ℕ → ℕ → FullDecl → List ℕ → ℕ → Type 0 where
-    made_import : {importing : Bool} {outer : List Scope} {s : SoFar} {bytes rest : List ℕ} {fuel left : ℕ} {d : FullDecl} → importing ≡ true → ReadsImport config s.own s.imports bytes d rest → left ≡ fuel → MadeDeclaration config importing outer s bytes fuel d rest left
-    made_export : {importing : Bool} {outer : List Scope} {s : SoFar} {bytes mid low rest : List ℕ} {fuel left : ℕ} {d : FullDecl} → NoImport config importing s.own bytes mid → ReadsAmong (declaration_items config outer s.own) mid item.Export low
+    made_import : {importing : Bool} {outer : List Scope} {s : SoFar} {bytes rest : List ℕ} {fuel left : ℕ} {d : FullDecl} → importing ≡ true
+        → ReadsImport config s.own s.imports bytes d rest → left ≡ fuel → MadeDeclaration config importing outer s bytes fuel d rest left
+    made_export : {importing : Bool} {outer : List Scope} {s : SoFar} {bytes mid low rest : List ℕ} {fuel left : ℕ} {d : FullDecl}
+        → NoImport config importing s.own bytes mid → ReadsAmong (declaration_items config outer s.own) mid item.Export low
         → ReadsExport config s.own s.exports low d rest → left ≡ fuel → MadeDeclaration config importing outer s bytes fuel d rest left
-    made_alias : {importing : Bool} {outer : List Scope} {s : SoFar} {bytes mid low rest : List ℕ} {fuel left : ℕ} {d : FullDecl} → NoImport config importing s.own bytes mid → ReadsAmong (declaration_items config outer s.own) mid item.Alias low
+    made_alias : {importing : Bool} {outer : List Scope} {s : SoFar} {bytes mid low rest : List ℕ} {fuel left : ℕ} {d : FullDecl}
+        → NoImport config importing s.own bytes mid → ReadsAmong (declaration_items config outer s.own) mid item.Alias low
         → ReadsAlias (s.own ∷ outer) low d rest → left ≡ fuel → MadeDeclaration config importing outer s bytes fuel d rest left
-    made_core_type : {importing : Bool} {outer : List Scope} {s : SoFar} {bytes mid low rest : List ℕ} {fuel left : ℕ} {c : CoreEntry} {d : FullDecl} → NoImport config importing s.own bytes mid
-        → ReadsAmong (declaration_items config outer s.own) mid item.CoreType low → MadeCore config s.own low fuel c rest left → d ≡ core_type_decl c (keeps_functions (named_by_core s.own.core_types c)) → MadeDeclaration config importing outer s bytes fuel d rest left
-    made_type : {importing : Bool} {outer : List Scope} {s : SoFar} {bytes mid low rest : List ℕ} {fuel left : ℕ} {e : FullEntry} {d : FullDecl} → NoImport config importing s.own bytes mid → ReadsAmong (declaration_items config outer s.own) mid item.Type low
+    made_core_type : {importing : Bool} {outer : List Scope} {s : SoFar} {bytes mid low rest : List ℕ} {fuel left : ℕ} {c : CoreEntry} {d : FullDecl}
+        → NoImport config importing s.own bytes mid
+        → ReadsAmong (declaration_items config outer s.own) mid item.CoreType low → MadeCore config s.own low fuel c rest left
+        → d ≡ core_type_decl c (keeps_functions (named_by_core s.own.core_types c)) → MadeDeclaration config importing outer s bytes fuel d rest left
+    made_type : {importing : Bool} {outer : List Scope} {s : SoFar} {bytes mid low rest : List ℕ} {fuel left : ℕ} {e : FullEntry} {d : FullDecl}
+        → NoImport config importing s.own bytes mid → ReadsAmong (declaration_items config outer s.own) mid item.Type low
         → Made config s.own outer low fuel e rest left → d ≡ type_decl e → MadeDeclaration config importing outer s bytes fuel d rest left
 
   -- At most 100 declarations, `done` of which were made before. Each turn takes one from the fuel, and the loop ends where none is left
   -- then. It is a loop like those over members, written out since it nests types.
   pub data MadeDeclarations (config : Config) : Bool → List Scope → ℕ → SoFar → List ℕ → ℕ → FullDecls → List ℕ → ℕ → Type 0 where
-    no_more_decls : {importing : Bool} {outer : List Scope} {done : ℕ} {s : SoFar} {bytes rest : List ℕ} {fuel left : ℕ} → More done 0 100 bytes false rest → left ≡ fuel → MadeDeclarations config importing outer done s bytes fuel no_decls rest left
-    spent_decls : {importing : Bool} {outer : List Scope} {done : ℕ} {s : SoFar} {bytes rest : List ℕ} {fuel left : ℕ} → More done 0 100 bytes true rest → fuel - 1 ≡ 0 → left ≡ 0 → MadeDeclarations config importing outer done s bytes fuel no_decls rest left
-    one_decl : {importing : Bool} {outer : List Scope} {done : ℕ} {s : SoFar} {bytes mid low rest : List ℕ} {fuel held left : ℕ} {d : FullDecl} {ds : FullDecls} → More done 0 100 bytes true mid → 0 < fuel - 1
-        → MadeDeclaration config importing outer s mid (fuel - 1) d low held → MadeDeclarations config importing outer (done + 1) (after_one outer s d) low held ds rest left
+    no_more_decls : {importing : Bool} {outer : List Scope} {done : ℕ} {s : SoFar} {bytes rest : List ℕ} {fuel left : ℕ} → More done 0 100 bytes false rest
+        → left ≡ fuel → MadeDeclarations config importing outer done s bytes fuel no_decls rest left
+    spent_decls : {importing : Bool} {outer : List Scope} {done : ℕ} {s : SoFar} {bytes rest : List ℕ} {fuel left : ℕ} → More done 0 100 bytes true rest
+        → fuel - 1 ≡ 0 → left ≡ 0 → MadeDeclarations config importing outer done s bytes fuel no_decls rest left
+    one_decl : {importing : Bool} {outer : List Scope} {done : ℕ} {s : SoFar} {bytes mid low rest : List ℕ} {fuel held left : ℕ} {d : FullDecl} {ds : FullDecls}
+        → More done 0 100 bytes true mid → 0 < fuel - 1
+        → MadeDeclaration config importing outer s mid (fuel - 1) d low held
+        → MadeDeclarations config importing outer (done + 1) (after_one outer s d) low held ds rest left
         → MadeDeclarations config importing outer done s bytes fuel (then_decls d ds) rest left
 
 -- the same as a plain tree, whatever is left of the fuel

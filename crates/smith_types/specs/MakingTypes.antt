@@ -2,7 +2,9 @@
 use Rattle.std.specs.Prelude.{◌≡◌, ℕ, ◌<◌, ◌≤◌, Bool, true, false, List, [], ◌∷◌, drop, length, reverse, Option, None, Some, string_bytes}
 use Rattle.smith_format.specs.declared.config.Config.{Config}
 use Rattle.smith_input.specs.Names.{Holds}
-use Rattle.smith_syntax.specs.Entries.{Kept, keeps_type, keeps_core_type, import_decl, export_decl, type_alias, core_type_alias, Signature, CoreEntry, DefValType, FullEntry, FullDecl, FullDecls, defined, function, component_type, instance_type, core_type_decl, type_decl, then_decls, keeps_functions}
+use Rattle.smith_syntax.specs.Entries.{Kept, keeps_type, keeps_core_type, import_decl, export_decl, type_alias, core_type_alias, Signature, CoreEntry}
+use Rattle.smith_syntax.specs.Entries.{DefValType, FullEntry, FullDecl, FullDecls, defined, function, component_type, instance_type, core_type_decl, type_decl}
+use Rattle.smith_syntax.specs.Entries.{then_decls, keeps_functions}
 use Rattle.smith_syntax.specs.Scope.{Scope, with_type, with_core_type, with_types, after_decl, exported_type}
 use Rattle.smith_syntax.specs.Shown.{shown_url}
 use Rattle.smith_syntax.specs.WellFormed.{names, import_of, export_of}
@@ -24,14 +26,17 @@ use Rattle.smith_types.specs.declared.make.externs.ExternNames.{ExternNames}
 abbrev pub MadeKind : Config → Scope → List Scope → TypeKind → List ℕ → ℕ → FullEntry → List ℕ → ℕ → Type 0
 MadeKind config own outer kind.Defined b fuel e rest left = (t : DefValType) × MadeDefined own b fuel t rest left × (e ≡ defined t)
 MadeKind config own outer kind.Function b fuel e rest left = (s : Signature) × MadeFunction own b fuel s rest left × (e ≡ function s)
-MadeKind config own outer kind.Component b fuel e rest left = (ds : FullDecls) × MadeDeclarations config true (own ∷ outer) 0 nothing_so_far b fuel ds rest left × (e ≡ component_type ds)
-MadeKind config own outer kind.Instance b fuel e rest left = (ds : FullDecls) × MadeDeclarations config false (own ∷ outer) 0 nothing_so_far b fuel ds rest left × (e ≡ instance_type ds)
+MadeKind config own outer kind.Component b fuel e rest left = (ds : FullDecls) × MadeDeclarations config true (own ∷ outer) 0 nothing_so_far b fuel ds rest left
+    × (e ≡ component_type ds)
+MadeKind config own outer kind.Instance b fuel e rest left = (ds : FullDecls) × MadeDeclarations config false (own ∷ outer) 0 nothing_so_far b fuel ds rest left
+    × (e ≡ instance_type ds)
 
 -- a declaration of a sort
 abbrev pub MadeItem : Config → Scope → List Scope → List NamedExtern → DeclarationItem → List ℕ → ℕ → FullDecl → List ℕ → ℕ → Type 0
 MadeItem config own outer exports item.Export b fuel d rest left = ReadsExport config own exports b d rest × (left ≡ fuel)
 MadeItem config own outer exports item.Alias b fuel d rest left = ReadsAlias (own ∷ outer) b d rest × (left ≡ fuel)
-MadeItem config own outer exports item.CoreType b fuel d rest left = (c : CoreEntry) × MadeCore config own b fuel c rest left × (d ≡ core_type_decl c (keeps_functions (named_by_core own.core_types c)))
+MadeItem config own outer exports item.CoreType b fuel d rest left = (c : CoreEntry) × MadeCore config own b fuel c rest left
+    × (d ≡ core_type_decl c (keeps_functions (named_by_core own.core_types c)))
 MadeItem config own outer exports item.«Type» b fuel d rest left = (e : FullEntry) × Made config own outer b fuel e rest left × (d ≡ type_decl e)
 
 -- what a declaration needs: an export and an outer alias something to name, and a type that one more scope may nest
@@ -104,11 +109,13 @@ onto [] ds = ds
 onto (x ∷ xs) ds = then_decls x (onto xs ds)
 
 -- A loop of declarations after so many turns: what completes the declarations from here completes all of them.
-pub record Progress (config : Config) (importing : Bool) (outer : List Scope) (start : List ℕ) (first_fuel done : ℕ) (scopes : List Contents) (imports exports : ExternNames) (defs : List FullDecl) (bytes : List ℕ) (fuel : ℕ) : Type 0 where
+pub record Progress (config : Config) (importing : Bool) (outer : List Scope) (start : List ℕ) (first_fuel done : ℕ) (scopes : List Contents)
+    (imports exports : ExternNames) (defs : List FullDecl) (bytes : List ℕ) (fuel : ℕ) : Type 0 where
   pub so_far : SoFar
   pub own_is : own_scope scopes ≡ so_far.own
   pub outer_is : outer_scopes scopes ≡ outer
   pub imports_are : importing ≡ true → HoldsExterns imports so_far.imports
   pub exports_are : HoldsExterns exports so_far.exports
   pub few : HasAtMost done so_far.own
-  pub onward : (ds : FullDecls) (rest : List ℕ) (left : ℕ) → MadeDeclarations config importing outer done so_far bytes fuel ds rest left → MadeDeclarations config importing outer 0 nothing_so_far start first_fuel (onto defs ds) rest left
+  pub onward : (ds : FullDecls) (rest : List ℕ) (left : ℕ) → MadeDeclarations config importing outer done so_far bytes fuel ds rest left
+      → MadeDeclarations config importing outer 0 nothing_so_far start first_fuel (onto defs ds) rest left

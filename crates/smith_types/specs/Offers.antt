@@ -113,7 +113,8 @@ numbered f i (x ∷ xs) = f i x ∷ numbered f (i + 1) xs
 
 -- the outer aliases of what stands in a scope: its types, and then its core types
 abbrev pub aliases_of : ℕ → Scope → List FullDecl
-aliases_of count s = numbered (λ i e. type_alias count i (keeps_type e)) 0 s.types ++ numbered (λ i e. core_type_alias count i (keeps_core_type e)) 0 s.core_types
+aliases_of count s = numbered (λ i e. type_alias count i (keeps_type e)) 0 s.types ++ numbered (λ i e. core_type_alias count i (keeps_core_type e)) 0
+    s.core_types
 
 -- a declaration: an export and an outer alias where there is something to name, and a type where one more scope may nest
 abbrev pub declaration_offers : Config → List Scope → Scope → List (Bool × DeclarationItem)

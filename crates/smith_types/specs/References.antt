@@ -19,7 +19,8 @@ ref_to kind.Component i = to.Component i
 ref_to kind.Instance i = to.Instance i
 
 -- a choice of a kind, and of an entry of that kind
-pub record ReadsRef (config : Config) (own : Scope) (totals : RefTotals) (for_import for_type_def : Bool) (bytes : List ℕ) (r : ComponentTypeRef) (rest : List ℕ) : Type 0 where
+pub record ReadsRef (config : Config) (own : Scope) (totals : RefTotals) (for_import for_type_def : Bool) (bytes : List ℕ) (r : ComponentTypeRef)
+    (rest : List ℕ) : Type 0 where
   pub kind : RefKind
   pub mid : List ℕ
   pub index : ℕ

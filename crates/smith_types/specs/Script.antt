@@ -1,11 +1,15 @@
 -- The input that a type is read from: what a script says of it.
-use Rattle.std.specs.Prelude.{◌≡◌, ℕ, suc, ◌+◌, ◌-◌, ◌<◌, ◌≤◌, ◌^◌, Bool, true, false, ◌&&◌, List, [], ◌∷◌, ◌++◌, map, length, Option, Some, None, slice_get, nat_eq, nat_le, if◌then◌else◌}
+use Rattle.std.specs.Prelude.{◌≡◌, ℕ, suc, ◌+◌, ◌-◌, ◌<◌, ◌≤◌, ◌^◌, Bool, true, false, ◌&&◌, List, [], ◌∷◌, ◌++◌, map, length, Option, Some, None, slice_get}
+use Rattle.std.specs.Prelude.{nat_eq, nat_le, if◌then◌else◌}
 use Rattle.std.specs.List.{AllByRecursion}
 use Rattle.std.specs.Option.{option_to_list}
 use Rattle.smith_input.specs.Script.{script_among, script_end, script_loop, script_name, pick}
 use Rattle.smith_core_types.specs.Script.{script_core_type}
 use Rattle.smith_format.specs.declared.config.Config.{Config}
-use Rattle.smith_syntax.specs.Entries.{DefValType, primitive_type, record_type, variant_type, list_type, tuple_type, flags_type, enum_type, option_type, result_type, Field, Case, Signature, Entry, defined, function, component_type, instance_type, CoreEntry, core_func, core_module, Decl, Decls, core_type_decl, type_decl, type_alias, core_type_alias, import_decl, export_decl, no_decls, then_decls}
+use Rattle.smith_syntax.specs.Entries.{DefValType, primitive_type, record_type, variant_type, list_type, tuple_type, flags_type, enum_type, option_type}
+use Rattle.smith_syntax.specs.Entries.{result_type, Field, Case, Signature, Entry, defined, function, component_type, instance_type, CoreEntry, core_func}
+use Rattle.smith_syntax.specs.Entries.{core_module, Decl, Decls, core_type_decl, type_decl, type_alias, core_type_alias, import_decl, export_decl, no_decls}
+use Rattle.smith_syntax.specs.Entries.{then_decls}
 use Rattle.smith_syntax.specs.Scope.{Scope, empty_scope, defined_places, after_decl}
 use Rattle.smith_syntax.specs.TypeLimits.{EntryLimits}
 use Rattle.smith_syntax.specs.WellFormed.{FormedEntry, size, defined_size, core_size}
@@ -182,16 +186,20 @@ abbrev mutual
   pub script_decl : Decl → Config → Bool → ℕ → Scope → List Scope → List ℕ
   script_decl (core_type_decl t k) config importing fuel own outer = script_declares config importing own outer item.CoreType ++ script_core config t
   script_decl (type_decl e) config importing fuel own outer = script_declares config importing own outer item.«Type» ++ script_type e config fuel own outer
-  script_decl (type_alias count i k) config importing fuel own outer = script_declares config importing own outer item.Alias ++ script_alias (own ∷ outer) count (λ s. i)
-  script_decl (core_type_alias count i k) config importing fuel own outer = script_declares config importing own outer item.Alias ++ script_alias (own ∷ outer) count (λ s. length s.types + i)
+  script_decl (type_alias count i k) config importing fuel own outer =
+      script_declares config importing own outer item.Alias ++ script_alias (own ∷ outer) count (λ s. i)
+  script_decl (core_type_alias count i k) config importing fuel own outer =
+      script_declares config importing own outer item.Alias ++ script_alias (own ∷ outer) count (λ s. length s.types + i)
   script_decl (import_decl name n r) config importing fuel own outer = pick 4 0 ++ (script_ref config own uncounted true true r ++ script_extern name)
-  script_decl (export_decl name n r) config importing fuel own outer = script_declares config importing own outer item.Export ++ (script_ref config own uncounted false true r ++ script_extern name)
+  script_decl (export_decl name n r) config importing fuel own outer =
+      script_declares config importing own outer item.Export ++ (script_ref config own uncounted false true r ++ script_extern name)
 
   -- A byte asks for each declaration, so many being made before. Each turn takes one from the fuel.
   pub script_decls : Decls → Config → Bool → ℕ → ℕ → Scope → List Scope → List ℕ
   script_decls no_decls config importing fuel done own outer = script_end done 100
   script_decls (then_decls d ds) config importing fuel done own outer =
-      1 ∷ (script_decl d config importing (fuel - 1) own outer ++ script_decls ds config importing (fuel - 1 - decl_cost d) (done + 1) (after_decl outer own d) outer)
+      1 ∷ (script_decl d config importing (fuel - 1) own outer ++ script_decls ds config importing (fuel - 1 - decl_cost d) (done + 1) (after_decl outer own d)
+      outer)
 
 -- Names have at most 100 bytes.
 abbrev pub AreShort : List (List ℕ) → Type 0

@@ -58,13 +58,16 @@ abbrev pub lower_and_lift : Tree
 lower_and_lift = first (types (u32_to_bool ∷ [])) (first (imports (import_of_type (codes "b") 0 ∷ [])) (first (canons (lower 0 ∷ lift 0 0 ∷ [])) ends))
 
 abbrev pub lower_of_a_lift : Tree
-lower_of_a_lift = first (types (u32_to_bool ∷ [])) (first (imports (import_of_type (codes "b") 0 ∷ [])) (first (canons (lower 0 ∷ lift 0 0 ∷ lower 1 ∷ [])) ends))
+lower_of_a_lift = first (types (u32_to_bool ∷ [])) (first (imports (import_of_type (codes "b") 0 ∷ []))
+    (first (canons (lower 0 ∷ lift 0 0 ∷ lower 1 ∷ [])) ends))
 
 -- a component type that imports a function, exports a type and has outer aliases
 abbrev scoping_type : Entry
 scoping_type =
     component_type
-    (then_decls (type_alias 1 0 tt) (then_decls (type_alias 1 1 tt) (then_decls (import_decl (codes "d") tt (to.Func 0)) (then_decls (export_decl (codes "e0") tt (to.TypeEq 1)) (then_decls (type_alias 0 2 tt) no_decls)))))
+    (then_decls (type_alias 1 0 tt) (then_decls (type_alias 1 1 tt)
+    (then_decls (import_decl (codes "d") tt (to.Func 0))
+    (then_decls (export_decl (codes "e0") tt (to.TypeEq 1)) (then_decls (type_alias 0 2 tt) no_decls)))))
 
 abbrev pub scoped_type : Tree
 scoped_type = first (types (to_nothing ∷ defined (primitive_type prim.U32) ∷ scoping_type ∷ [])) ends

@@ -11,11 +11,15 @@ returns-clause-written g c =
     let input = c.in_ok-input.input.items in
     let left = c.generate.new.u in
     let made = c.in_ok-generated.generated in
-    let tail : IsTail left input = (c.in_ok-generated.ensures.tail.0, cc (c.in_ok-generated.ensures.tail.1, c.new-unstructured.ensures, c.deref.ensures.value)) in
+    let tail : IsTail left input = (
+      c.in_ok-generated.ensures.tail.0,
+      cc (c.in_ok-generated.ensures.tail.1, c.new-unstructured.ensures, c.deref.ensures.value),
+    ) in
     let R : List ℕ → Type 0 = λ bytes. RunsTo c.args.config bytes made.component left in
     let read = c.new-unstructured.ensures ∙ c.deref.ensures.value in
     let ran = subst R read c.in_ok-generated.ensures.run in
-    let text : c.deref-3.result.now ≡ page made.bytes.items (length left) = cc (c.deref-3.ensures.value, c.in_ok-text.ensures, c.deref-2.ensures.value, c.left.ensures) in
+    let text : c.deref-3.result.now ≡ page made.bytes.items (length left) =
+    cc (c.deref-3.ensures.value, c.in_ok-text.ensures, c.deref-2.ensures.value, c.left.ensures) in
     on_ok_weaker
     c.write_page.result
     (λ written. (

@@ -18,9 +18,11 @@ returns-clause-adds c config fuel =
     let a = c.in_ok-count in
     let old = c.args.declared.now in
     let N : List _ → Type 0 = λ own. aliased (own_of (inward c.args.scopes.now)).core_types (shown_funcs own) a.count a.i ≡ Some (shown_func a.ty.value) in
-    let R : List _ → Type 0 = λ own. ReadsAmong (choices_among (own_of (inward c.args.scopes.now)) (shown_funcs own)) c.args.u.now (a.count, a.i) c.alias_choice.new.u in
+    let R : List _ → Type 0 = λ own. ReadsAmong (choices_among (own_of (inward c.args.scopes.now)) (shown_funcs own)) c.args.u.now (a.count, a.i)
+    c.alias_choice.new.u in
     let kept = c.deref.ensures.value in
-    let one = alias_adds (own_of (inward c.args.scopes.now)).core_types (shown_funcs old.own.items) a.count a.i (shown_func a.ty.value) (subst N kept a.ensures.named) in
+    let one = alias_adds (own_of (inward c.args.scopes.now)).core_types (shown_funcs old.own.items) a.count a.i (shown_func a.ty.value)
+    (subst N kept a.ensures.named) in
     let own = pushed (λ t. shown_func t.value) old.own.items c.push.new.self.items c.in_ok-clone.field-0 c.in_ok-push.ensures.items
     ∙ ap (λ f. shown_funcs old.own.items ++ f ∷ []) (ap shown_func c.in_ok-clone.ensures.cases)
     ∙ ap (λ fs. shown_funcs old.own.items ++ fs) (sym one) in

@@ -28,11 +28,13 @@ returns-clause-reads c =
     let own = c.args.own.now in
     let same = length-map own (λ t. shown_func t.value) in
     let R : ℕ → Type 0 = λ n. Reads n c.args.u.now c.choose_index-place.result c.choose_index-place.new.self in
-    let past : c.kind_len-around.result + (c.choose_index-place.result - c.kind_len-around.result) ≡ c.choose_index-place.result = omega (arith, c.if-place-around.false) in
+    let past : c.kind_len-around.result + (c.choose_index-place.result - c.kind_len-around.result) ≡ c.choose_index-place.result =
+    omega (arith, c.if-place-around.false) in
     record {
       place = c.choose_index-place.result;
       reads = subst R (omega (arith, c.kind_len-around.ensures.count, same, choices_count around (shown_funcs own))) c.choose_index-place.ensures;
-      named = choice_own around (shown_funcs own) c.choose_index-place.result (c.choose_index-place.result - c.kind_len-around.result) (omega (arith, past, c.kind_len-around.ensures.count)) (omega (arith, past, same, c.choose_index-place.ensures.below));
+      named = choice_own around (shown_funcs own) c.choose_index-place.result (c.choose_index-place.result - c.kind_len-around.result)
+          (omega (arith, past, c.kind_len-around.ensures.count)) (omega (arith, past, same, c.choose_index-place.ensures.below));
     }
 
 pub returns-clause-named : goal.returns-clause-named
@@ -40,5 +42,7 @@ returns-clause-named c =
     let own = c.args.own.now in
     let j = c.choose_index-place.result - c.kind_len-around.result in
     let past : c.kind_len-around.result + j ≡ c.choose_index-place.result = omega (arith, c.if-place-around.false) in
-    let at : slice_get own j ≡ Some c.index-own-i.result = slice_get_read own (length own) j c.index-own-i.result refl (omega (arith, past, c.choose_index-place.ensures.below)) c.index-own-i.is in
-    slice_get-map (λ t. shown_func t.value) own j ∙ (ap (option_map (λ t. shown_func t.value)) at ∙ ap (λ t. Some (shown_func t)) (sym c.in_ok-clone.ensures.cases))
+    let at : slice_get own j ≡ Some c.index-own-i.result = slice_get_read own (length own) j c.index-own-i.result refl
+    (omega (arith, past, c.choose_index-place.ensures.below)) c.index-own-i.is in
+    slice_get-map (λ t. shown_func t.value) own j ∙ (ap (option_map (λ t. shown_func t.value)) at
+    ∙ ap (λ t. Some (shown_func t)) (sym c.in_ok-clone.ensures.cases))

@@ -10,4 +10,10 @@ use Rattle.smith_core_types.proofs.aliases.alias_count.Goals as goal
 pub returns : goal.returns
 returns c =
     let own = c.args.declared.now.own.items in
-    omega (arith, c.kind_len.ensures.count, c.len.ensures, length-map own (λ t. shown_func t.value), choices_count (own_of (inward c.args.scopes.now)) (shown_funcs own))
+    omega (
+      arith,
+      c.kind_len.ensures.count,
+      c.len.ensures,
+      length-map own (λ t. shown_func t.value),
+      choices_count (own_of (inward c.args.scopes.now)) (shown_funcs own),
+    )

@@ -17,4 +17,5 @@ unreachable-requires c =
 pub returns-clause-named : goal.returns-clause-named
 returns-clause-named c =
     let s = shown_at c.args.scopes.now c.kind_at-i.result c.get_core.result.now.value c.get_core.ensures in
-    ap func_in (s ∙ ap (λ t. Some (shown_core t)) (sym c.deref.ensures ∙ c.in-Func.is)) ∙ ap (λ t. Some (shown_func t)) (sym c.in_ok-clone-in-Func.ensures.cases)
+    ap func_in (s ∙ ap (λ t. Some (shown_core t)) (sym c.deref.ensures ∙ c.in-Func.is))
+    ∙ ap (λ t. Some (shown_func t)) (sym c.in_ok-clone-in-Func.ensures.cases)

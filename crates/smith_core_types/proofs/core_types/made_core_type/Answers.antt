@@ -18,13 +18,15 @@ returns-then-fuel-eq0-clause-made c =
 pub returns-then-choose_index-eq0-clause-made : goal.returns-then-choose_index-eq0-clause-made
 returns-then-choose_index-eq0-clause-made c =
     let P : ℕ → Type 0 = λ k. Reads 2 c.args.u.now k c.choose_index.new.self in
-    of_function (omega (arith, c.burn.ensures, c.if-fuel-eq0.false)) (subst P c.if-choose_index-eq0.true c.choose_index.ensures) c.in_ok-core_function.ensures.reads refl c.burn.ensures
+    of_function (omega (arith, c.burn.ensures, c.if-fuel-eq0.false)) (subst P c.if-choose_index-eq0.true c.choose_index.ensures)
+    c.in_ok-core_function.ensures.reads refl c.burn.ensures
 
 pub returns-clause-made : goal.returns-clause-made
 returns-clause-made c =
     let P : ℕ → Type 0 = λ k. Reads 2 c.args.u.now k c.choose_index.new.self in
     let one : c.choose_index.result ≡ 1 = omega (arith, c.choose_index.ensures.below, c.if-choose_index-eq0.false) in
-    let M : ℕ → Type 0 = λ n. MadeModule c.args.config.now (own_of (inward c.args.scopes.now)) c.choose_index.new.self n (map shown_decl c.in_ok-defs.defs.items) c.module_type.new.u c.module_type.new.fuel in
+    let M : ℕ → Type 0 = λ n. MadeModule c.args.config.now (own_of (inward c.args.scopes.now)) c.choose_index.new.self n
+    (map shown_decl c.in_ok-defs.defs.items) c.module_type.new.u c.module_type.new.fuel in
     of_module
     (omega (arith, c.burn.ensures, c.if-fuel-eq0.false))
     (subst P one c.choose_index.ensures)

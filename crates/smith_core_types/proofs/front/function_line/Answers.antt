@@ -16,7 +16,8 @@ returns-then-not-allows_line-clause-reads c fuel = not_allowed (sym c.allows_lin
 
 pub returns-then-not-ratio-clause-reads : goal.returns-then-not-ratio-clause-reads
 returns-then-not-ratio-clause-reads c fuel =
-    declined (sym c.allows_line.ensures ∙ c.if-not-allows_line.false) c.ratio.ensures.1 (ratio_false c.ratio.result c.ratio.ensures.0 c.ratio.ensures.2 c.if-not-ratio.true) refl
+    declined (sym c.allows_line.ensures ∙ c.if-not-allows_line.false) c.ratio.ensures.1
+    (ratio_false c.ratio.result c.ratio.ensures.0 c.ratio.ensures.2 c.if-not-ratio.true) refl
 
 pub returns-clause-reads : goal.returns-clause-reads
 returns-clause-reads c fuel =
@@ -30,8 +31,10 @@ returns-clause-reads c fuel =
     let owns = c.in_ok-declare.ensures.own ∙ ap (λ g. own ++ g ∷ []) made in
     let first = c.in_ok-declare.ensures.defs ∙ ap (λ g. before ++ declares g ∷ []) made in
     let last = pushed shown_decl c.declare.new.declared.defs.items c.push.new.self.items _ c.in_ok-push.ensures.items in
-    let decls = last ∙ (λ i. first i ++ exports (c.in_ok-name.ensures.ok i) (Func (count i)) ∷ []) ∙ append_assoc before (declares f ∷ []) (exports name (Func (length own)) ∷ []) in
-    taken (sym c.allows_line.ensures ∙ c.if-not-allows_line.false) c.ratio.ensures.1 (ratio_true c.ratio.result c.ratio.ensures.0 c.ratio.ensures.2 c.if-not-ratio.false) (refl, refl) (same_state fuel fuel owns decls refl)
+    let decls = last ∙ (λ i. first i ++ exports (c.in_ok-name.ensures.ok i) (Func (count i)) ∷ [])
+    ∙ append_assoc before (declares f ∷ []) (exports name (Func (length own)) ∷ []) in
+    taken (sym c.allows_line.ensures ∙ c.if-not-allows_line.false) c.ratio.ensures.1
+    (ratio_true c.ratio.result c.ratio.ensures.0 c.ratio.ensures.2 c.if-not-ratio.false) (refl, refl) (same_state fuel fuel owns decls refl)
 
 pub returns-clause-kept : goal.returns-clause-kept
 returns-clause-kept c around k =

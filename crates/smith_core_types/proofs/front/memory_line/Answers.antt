@@ -26,8 +26,10 @@ returns-clause-reads c fuel =
     let old = c.args.declared.now in
     let m = c.arbitrary_memtype.result in
     let before = map shown_decl old.defs.items in
-    let decls = pushed shown_decl old.defs.items c.push.new.self.items _ c.in_ok-push.ensures.items ∙ ap (λ n. before ++ exports n (Memory m) ∷ []) c.in_ok-name.ensures.ok in
-    taken may c.ratio.ensures.1 (ratio_true c.ratio.result c.ratio.ensures.0 c.ratio.ensures.2 c.if-not-ratio.false) (m, c.arbitrary_memtype.ensures.reads, refl) (same_state fuel fuel (sym (append-nil (shown_funcs old.own.items))) decls refl)
+    let decls = pushed shown_decl old.defs.items c.push.new.self.items _ c.in_ok-push.ensures.items
+    ∙ ap (λ n. before ++ exports n (Memory m) ∷ []) c.in_ok-name.ensures.ok in
+    taken may c.ratio.ensures.1 (ratio_true c.ratio.result c.ratio.ensures.0 c.ratio.ensures.2 c.if-not-ratio.false)
+    (m, c.arbitrary_memtype.ensures.reads, refl) (same_state fuel fuel (sym (append-nil (shown_funcs old.own.items))) decls refl)
 
 pub returns-clause-kept : goal.returns-clause-kept
 returns-clause-kept c around k =

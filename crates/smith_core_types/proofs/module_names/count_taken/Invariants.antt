@@ -7,5 +7,6 @@ use Rattle.smith_core_types.proofs.module_names.count_taken.Given as goal
 abbrev pub invariant-loop-def : goal.invariant-loop-def
 invariant-loop-def l = record {
   few : l.count ≤ l.def-index;
-  so_far : l.count + length (names_taken l.imported l.from (map shown_decl (drop l.def-index l.defs))) ≡ length (names_taken l.imported l.from (map shown_decl l.defs));
+  so_far : l.count + length (names_taken l.imported l.from (map shown_decl (drop l.def-index l.defs))) ≡ length
+      (names_taken l.imported l.from (map shown_decl l.defs));
 }

@@ -7,4 +7,5 @@ use Rattle.smith_core_types.proofs.module_names.is_taken.Given as goal
 
 -- No declaration so far has the name.
 abbrev pub invariant-loop-def : goal.invariant-loop-def
-invariant-loop-def l = is_among (names_taken l.imported l.from (map shown_decl (drop l.def-index l.defs))) l.name ≡ is_among (names_taken l.imported l.from (map shown_decl l.defs)) l.name
+invariant-loop-def l = is_among (names_taken l.imported l.from (map shown_decl (drop l.def-index l.defs))) l.name ≡ is_among
+    (names_taken l.imported l.from (map shown_decl l.defs)) l.name

@@ -11,12 +11,18 @@ pub loop-done-init : goal.loop-done-init
 loop-done-init c = record { tail = tail_same _; few = omega (arith, c.requires.few); kept = λ k. k; read = []; onward = begins _ _ _ _ _ _ [] refl }
 
 pub returns-then-not-more-clause-reads : goal.returns-then-not-more-clause-reads
-returns-then-not-more-clause-reads c = (c.loop-done.invariant.read, stops _ _ _ _ _ _ _ _ _ _ _ _ c.if-not-more.true c.more.ensures c.loop-done.invariant.onward)
+returns-then-not-more-clause-reads c = (
+  c.loop-done.invariant.read,
+  stops _ _ _ _ _ _ _ _ _ _ _ _ c.if-not-more.true c.more.ensures c.loop-done.invariant.onward,
+)
 
 pub returns-then-fuel-eq0-clause-reads : goal.returns-then-fuel-eq0-clause-reads
 returns-then-fuel-eq0-clause-reads c =
-    let none : c.loop-done.fuel - 1 ≡ 0 = sym c.burn.ensures ∙ c.if-fuel-eq0.true in
-    (c.loop-done.invariant.read, ends_early _ _ _ _ _ _ _ _ _ _ _ _ _ _ c.if-not-more.false c.more.ensures (no_fuel none (ap (so_far c.loop-done.declared) c.if-fuel-eq0.true)) c.loop-done.invariant.onward)
+    let none : c.loop-done.fuel - 1 ≡ 0 = sym c.burn.ensures ∙ c.if-fuel-eq0.true in (
+      c.loop-done.invariant.read,
+      ends_early _ _ _ _ _ _ _ _ _ _ _ _ _ _ c.if-not-more.false c.more.ensures
+          (no_fuel none (ap (so_far c.loop-done.declared) c.if-fuel-eq0.true)) c.loop-done.invariant.onward,
+    )
 
 pub returns-in_err-turn-clause-tail : goal.returns-in_err-turn-clause-tail
 returns-in_err-turn-clause-tail c = tail_trans c.in_err-turn.ensures.tail (tail_trans (more_tail c.more.ensures) c.loop-done.invariant.tail)
@@ -25,7 +31,8 @@ pub returns-then-not-branch-clause-reads : goal.returns-then-not-branch-clause-r
 returns-then-not-branch-clause-reads c =
     let around = own_of (inward c.args.scopes.now) in
     let fuel = c.loop-done.fuel in
-    let T : Bool → ℕ → Type 0 = λ b n. Turns c.args.config.now around (so_far c.loop-done.declared fuel) c.more.new.self b c.turn.new.u (so_far c.turn.new.declared n) in
+    let T : Bool → ℕ → Type 0 = λ b n. Turns c.args.config.now around (so_far c.loop-done.declared fuel) c.more.new.self b c.turn.new.u
+    (so_far c.turn.new.declared n) in
     let turned = c.in_ok-turn.ensures.turns fuel (omega (arith, c.burn.ensures, c.if-fuel-eq0.false)) in
     let ends = subst (T false) (sym c.burn.ensures) (subst (λ b. T b (fuel - 1)) c.if-not-branch.true turned) in
     (c.loop-done.invariant.read, ends_early _ _ _ _ _ _ _ _ _ _ _ _ _ _ c.if-not-more.false c.more.ensures ends c.loop-done.invariant.onward)
@@ -38,7 +45,8 @@ loop-done-preserved c =
     let around = own_of (inward c.args.scopes.now) in
     let fuel = c.loop-done.fuel in
     let v = c.loop-done.invariant in
-    let T : Bool → ℕ → Type 0 = λ b n. Turns c.args.config.now around (so_far c.loop-done.declared fuel) c.more.new.self b c.turn.new.u (so_far c.turn.new.declared n) in
+    let T : Bool → ℕ → Type 0 = λ b n. Turns c.args.config.now around (so_far c.loop-done.declared fuel) c.more.new.self b c.turn.new.u
+    (so_far c.turn.new.declared n) in
     let turned = c.in_ok-turn.ensures.turns fuel (omega (arith, c.burn.ensures, c.if-fuel-eq0.false)) in
     let one = subst (T true) (sym c.burn.ensures) (subst (λ b. T b (fuel - 1)) c.if-not-branch.false turned) in
     record {

@@ -20,11 +20,15 @@ returns-in-None-clause-adds c around fuel =
 pub returns-in_ok-push-in-Some-clause-adds : goal.returns-in_ok-push-in-Some-clause-adds
 returns-in_ok-push-in-Some-clause-adds c around fuel =
     let old = c.args.declared.now in
-    let some = subst (λ e. MaybeEntity c.args.config.now (so_far old fuel) c.export_name.new.u e c.entity.new.u) c.in-Some.is (c.in_ok-entity.ensures.reads fuel) in
+    let some = subst (λ e. MaybeEntity c.args.config.now (so_far old fuel) c.export_name.new.u e c.entity.new.u) c.in-Some.is
+    (c.in_ok-entity.ensures.reads fuel) in
     let name = string_bytes c.in_ok-name.name in
     let N : List _ → Type 0 = λ ds. ReadsNewText (export_names (map shown_decl ds)) c.args.u.now name c.export_name.new.u in
-    let decls = pushed shown_decl old.defs.items c.push.new.self.items _ c.in_ok-push-in-Some.ensures.items in
-    (exports name c.in-Some.entity, (name, c.export_name.new.u, subst N c.deref.ensures.value c.in_ok-name.ensures.reads, c.in-Some.entity, some, refl), same_state (fuel - 1) (fuel - 1) (sym (append-nil (shown_funcs old.own.items))) decls refl)
+    let decls = pushed shown_decl old.defs.items c.push.new.self.items _ c.in_ok-push-in-Some.ensures.items in (
+      exports name c.in-Some.entity,
+      (name, c.export_name.new.u, subst N c.deref.ensures.value c.in_ok-name.ensures.reads, c.in-Some.entity, some, refl),
+      same_state (fuel - 1) (fuel - 1) (sym (append-nil (shown_funcs old.own.items))) decls refl,
+    )
 
 pub returns-in_ok-push-in-Some-clause-kept : goal.returns-in_ok-push-in-Some-clause-kept
 returns-in_ok-push-in-Some-clause-kept c around k =

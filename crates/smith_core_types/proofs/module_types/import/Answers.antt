@@ -17,7 +17,8 @@ returns-in-None-clause-adds c around fuel =
     let none = subst (λ e. MaybeEntity c.args.config.now s c.import_names.new.u e c.entity.new.u) c.in-None.is (c.in_ok-entity.ensures.reads fuel) in
     let from = string_bytes c.in_ok-module.module in
     let name = string_bytes c.in_ok-module.name in
-    let N : List _ → Type 0 = λ ds. (mid : List ℕ) × ReadsText 100 c.args.u.now from mid × ReadsNewText (names_from from (map shown_decl ds)) mid name c.import_names.new.u in
+    let N : List _ → Type 0 = λ ds. (mid : List ℕ) × ReadsText 100 c.args.u.now from mid
+    × ReadsNewText (names_from from (map shown_decl ds)) mid name c.import_names.new.u in
     let R : List ℕ → Type 0 = λ r. ReadsImportNames s c.args.u.now from name r in
     ((from, name, subst R (sym none.1) (subst N c.deref.ensures.value c.in_ok-module.ensures.reads), none.0), refl)
 
@@ -27,12 +28,25 @@ returns-in-None-clause-tail c = tail_trans c.in_ok-entity.ensures.tail c.in_ok-m
 pub returns-in_ok-push-in-Some-clause-adds : goal.returns-in_ok-push-in-Some-clause-adds
 returns-in_ok-push-in-Some-clause-adds c around fuel =
     let old = c.args.declared.now in
-    let some = subst (λ e. MaybeEntity c.args.config.now (so_far old fuel) c.import_names.new.u e c.entity.new.u) c.in-Some.is (c.in_ok-entity.ensures.reads fuel) in
+    let some = subst (λ e. MaybeEntity c.args.config.now (so_far old fuel) c.import_names.new.u e c.entity.new.u) c.in-Some.is
+    (c.in_ok-entity.ensures.reads fuel) in
     let from = string_bytes c.in_ok-module.module in
     let name = string_bytes c.in_ok-module.name in
-    let N : List _ → Type 0 = λ ds. (mid : List ℕ) × ReadsText 100 c.args.u.now from mid × ReadsNewText (names_from from (map shown_decl ds)) mid name c.import_names.new.u in
-    let decls = pushed shown_decl old.defs.items c.push.new.self.items _ c.in_ok-push-in-Some.ensures.items in
-    (imports from name c.in-Some.entity_type, (from, name, c.import_names.new.u, subst N c.deref.ensures.value c.in_ok-module.ensures.reads, c.in-Some.entity_type, some, refl), same_state (fuel - 1) (fuel - 1) (sym (append-nil (shown_funcs old.own.items))) decls refl)
+    let N : List _ → Type 0 = λ ds. (mid : List ℕ) × ReadsText 100 c.args.u.now from mid
+    × ReadsNewText (names_from from (map shown_decl ds)) mid name c.import_names.new.u in
+    let decls = pushed shown_decl old.defs.items c.push.new.self.items _ c.in_ok-push-in-Some.ensures.items in (
+      imports from name c.in-Some.entity_type,
+      (
+        from,
+        name,
+        c.import_names.new.u,
+        subst N c.deref.ensures.value c.in_ok-module.ensures.reads,
+        c.in-Some.entity_type,
+        some,
+        refl,
+      ),
+      same_state (fuel - 1) (fuel - 1) (sym (append-nil (shown_funcs old.own.items))) decls refl,
+    )
 
 pub returns-in_ok-push-in-Some-clause-tail : goal.returns-in_ok-push-in-Some-clause-tail
 returns-in_ok-push-in-Some-clause-tail c = tail_trans c.in_ok-entity.ensures.tail c.in_ok-module.ensures.tail

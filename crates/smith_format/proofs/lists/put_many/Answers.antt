@@ -6,7 +6,8 @@ loop-item-init g c = put_none _ _ _
 
 pub returns-in_err-put : goal.returns-in_err-put
 returns-in_err-put g c =
-    loop_exit _ _ _ _ _ _ c.from_residual-in_err-put.ensures.1 ((c.in_ok-write_count.ensures {u = tt}).written) _ c.loop-item.invariant c.loop-item-test.true c.item-item.is (c.in_err-put.ensures {u = tt})
+    loop_exit _ _ _ _ _ _ c.from_residual-in_err-put.ensures.1 ((c.in_ok-write_count.ensures {u = tt}).written) _ c.loop-item.invariant c.loop-item-test.true
+    c.item-item.is (c.in_err-put.ensures {u = tt})
 
 pub loop-item-preserved : goal.loop-item-preserved
 loop-item-preserved g c = put_next _ _ _ _ _ _ _ c.loop-item.invariant c.loop-item-test.true c.item-item.is (c.in_ok-put.ensures {u = tt})

@@ -7,4 +7,8 @@ returns-clause-formed c = function_formed (record { mid = c.values.new.u; params
 
 pub returns-clause-script : goal.returns-clause-script
 returns-clause-script c f rest h many e =
-    function_scripted _ _ f _ _ rest _ h many e (record { mid = c.values.new.u; params = c.in_ok-params.ensures.reads; results = c.in_ok-results.ensures.reads })
+    function_scripted _ _ f _ _ rest _ h many e (record {
+      mid = c.values.new.u;
+      params = c.in_ok-params.ensures.reads;
+      results = c.in_ok-results.ensures.reads;
+    })

@@ -7,7 +7,11 @@ use Rattle.smith_format.proofs.make.limits.Goals as goal
 pub returns-then-arbitrary_bool-clause-reads : goal.returns-then-arbitrary_bool-clause-reads
 returns-then-arbitrary_bool-clause-reads c =
     let flipped = subst (λ a. Flips c.int_in_range-minimum.new.self a c.arbitrary_bool.new.self) c.if-arbitrary_bool.true c.arbitrary_bool.ensures in
-    record { mid = c.int_in_range-minimum.new.self; least = between c.int_in_range-minimum.ensures; most = bounded flipped (between c.int_in_range-maximum.ensures) }
+    record {
+      mid = c.int_in_range-minimum.new.self;
+      least = between c.int_in_range-minimum.ensures;
+      most = bounded flipped (between c.int_in_range-maximum.ensures);
+    }
 
 pub returns-clause-reads : goal.returns-clause-reads
 returns-clause-reads c =

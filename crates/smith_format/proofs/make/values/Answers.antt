@@ -12,7 +12,8 @@ returns-then-not-more-clause-reads c = stops _ _ _ _ _ _ _ _ _ _ _ _ c.if-not-mo
 pub loop-done-preserved : goal.loop-done-preserved
 loop-done-preserved c = record {
   tail = tail_trans (reads_tail c.choose-ty.ensures.1) (tail_trans (more_tail c.more.ensures) c.loop-done.invariant.tail);
-  onward = goes_on _ _ _ _ _ _ _ _ _ _ _ _ _ _ _ _ c.if-not-more.false c.more.ensures (among c.choose-ty.ensures) c.in_ok-push.ensures.items c.loop-done.invariant.onward;
+  onward = goes_on _ _ _ _ _ _ _ _ _ _ _ _ _ _ _ _ c.if-not-more.false c.more.ensures (among c.choose-ty.ensures) c.in_ok-push.ensures.items
+      c.loop-done.invariant.onward;
 }
 
 pub returns-clause-reads : goal.returns-clause-reads

@@ -14,7 +14,8 @@ loop-place-preserved c =
         known.0,
         omega (arith, known.1),
         known.2,
-        known.3 ∙ spelt_pushed (string_bytes c.loop-place.name) (string_bytes c.push.new.self) ks _ c.kebab_character-character.result c.kebab_character-character.ensures added,
+        known.3 ∙ spelt_pushed (string_bytes c.loop-place.name) (string_bytes c.push.new.self) ks _ c.kebab_character-character.result
+            c.kebab_character-character.ensures added,
       );
       tail = tail_trans (reads_tail c.choose_index.ensures) c.loop-place.invariant.tail;
     }

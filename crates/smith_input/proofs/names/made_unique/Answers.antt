@@ -12,15 +12,27 @@ loop-alloc-smaller g c =
     let fits = c.in_ok-digits.ensures.digits c.name_count.result refl (omega arith) in
     let had = longest_has c.as_str.result.now texts (sym c.has_name.ensures ∙ c.loop-alloc-test.true) in
     let longer = c.in_ok-push_str.ensures.bytes in
-    omega (arith, had, ap length c.as_str.ensures.value, ap length longer, ap length digits, fits.nonempty, ap length c.as_str-in-loop-alloc.ensures.value, length-append (string_bytes c.loop-alloc.unique) c.as_str-in-loop-alloc.result.now)
+    omega (
+      arith,
+      had,
+      ap length c.as_str.ensures.value,
+      ap length longer,
+      ap length digits,
+      fits.nonempty,
+      ap length c.as_str-in-loop-alloc.ensures.value,
+      length-append (string_bytes c.loop-alloc.unique) c.as_str-in-loop-alloc.result.now,
+    )
 
 pub loop-alloc-preserved : goal.loop-alloc-preserved
 loop-alloc-preserved g c =
     let texts = g.N.TakenNames.texts c.args.names.now in
     let all = decimal (length texts) in
-    let digits : c.as_str-in-loop-alloc.result.now ≡ all = c.as_str-in-loop-alloc.ensures.value ∙ (c.in_ok-digits.ensures.ok ∙ ap decimal c.name_count.ensures) in
-    let longer : string_bytes c.push_str.new.self ≡ string_bytes c.loop-alloc.unique ++ all = c.in_ok-push_str.ensures.bytes ∙ ap (λ ds. string_bytes c.loop-alloc.unique ++ ds) digits in
-    let had : is_among texts (string_bytes c.loop-alloc.unique) ≡ true = ap (is_among texts) (sym c.as_str.ensures.value) ∙ (sym c.has_name.ensures ∙ c.loop-alloc-test.true) in
+    let digits : c.as_str-in-loop-alloc.result.now ≡ all = c.as_str-in-loop-alloc.ensures.value
+    ∙ (c.in_ok-digits.ensures.ok ∙ ap decimal c.name_count.ensures) in
+    let longer : string_bytes c.push_str.new.self ≡ string_bytes c.loop-alloc.unique ++ all = c.in_ok-push_str.ensures.bytes
+    ∙ ap (λ ds. string_bytes c.loop-alloc.unique ++ ds) digits in
+    let had : is_among texts (string_bytes c.loop-alloc.unique) ≡ true = ap (is_among texts) (sym c.as_str.ensures.value)
+    ∙ (sym c.has_name.ensures ∙ c.loop-alloc-test.true) in
     record {
       times = suc c.loop-alloc.invariant.times;
       name_is = longer ∙ ap (λ bs. bs ++ all) c.loop-alloc.invariant.name_is;

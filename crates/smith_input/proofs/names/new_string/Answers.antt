@@ -4,4 +4,5 @@ use Rattle.smith_input.proofs.names.new_string.Goals as goal
 
 pub returns-clause-read : goal.returns-clause-read
 returns-clause-read g c =
-    IfOk-weaker c.made_unique.result _ _ (λ name u. (string_bytes c.in_ok-limited_string.field-0, c.in_ok-limited_string.ensures.read, u)) c.made_unique.ensures.unique
+    IfOk-weaker c.made_unique.result _ _ (λ name u. (string_bytes c.in_ok-limited_string.field-0, c.in_ok-limited_string.ensures.read, u))
+    c.made_unique.ensures.unique

@@ -6,7 +6,8 @@ use Rattle.smith_input.proofs.names.unique_url.Goals as goal
 pub returns-clause-read : goal.returns-clause-read
 returns-clause-read c =
     let r = c.in_ok-path.ensures.read in
-    let host : string_bytes c.push_str.new.self ≡ codes "https://example.com/" = c.in_ok-push_str.ensures.bytes ∙ ap (λ front. front ++ codes "https://example.com/") c.in_ok-url.ensures.bytes in
+    let host : string_bytes c.push_str.new.self ≡ codes "https://example.com/" = c.in_ok-push_str.ensures.bytes
+    ∙ ap (λ front. front ++ codes "https://example.com/") c.in_ok-url.ensures.bytes in
     let url = c.in_ok-push_str-2.ensures.bytes ∙ (λ i. host i ++ c.as_str.ensures.value i) in
     let unique = unique_in_set c.args.names.now _ _ r.unique in (
       r.text,

@@ -10,11 +10,21 @@ loop-offer-preserved g c =
     elim c.if-offer.branch [
       | then-offer w ↦ record {
         few = omega (arith, w.count-is, c.loop-offer.invariant.few);
-        so_far = omega (arith, w.count-is, c.loop-offer.invariant.so_far, ap length (offered_next os i c.offer-item.result c.loop-offer-test.true c.offer-item.is w.if-offer.true));
+        so_far = omega (
+          arith,
+          w.count-is,
+          c.loop-offer.invariant.so_far,
+          ap length (offered_next os i c.offer-item.result c.loop-offer-test.true c.offer-item.is w.if-offer.true),
+        );
       }
       | else-offer w ↦ record {
         few = omega (arith, w.count-is, c.loop-offer.invariant.few);
-        so_far = omega (arith, w.count-is, c.loop-offer.invariant.so_far, ap length (not_offered os i c.offer-item.result c.loop-offer-test.true c.offer-item.is w.if-offer.false));
+        so_far = omega (
+          arith,
+          w.count-is,
+          c.loop-offer.invariant.so_far,
+          ap length (not_offered os i c.offer-item.result c.loop-offer-test.true c.offer-item.is w.if-offer.false),
+        );
       }
     ]
 

@@ -7,7 +7,9 @@ use Rattle.smith_input.proofs.offers.offer_at.Goals.{then-offer+else-left-eq0, e
 
 pub returns-then-left-eq0 : goal.returns-then-left-eq0
 returns-then-left-eq0 g c =
-    sym (first_of _ _ _ c.loop-offer.left c.if-left-eq0.true (offered_next c.args.offers.now c.loop-offer.offer-index c.offer-item.result c.loop-offer-test.true c.offer-item.is c.if-offer.true)) ∙ c.loop-offer.invariant
+    sym (first_of _ _ _ c.loop-offer.left c.if-left-eq0.true
+    (offered_next c.args.offers.now c.loop-offer.offer-index c.offer-item.result c.loop-offer-test.true c.offer-item.is c.if-offer.true))
+    ∙ c.loop-offer.invariant
 
 pub loop-offer-preserved : goal.loop-offer-preserved
 loop-offer-preserved g c =
@@ -15,11 +17,15 @@ loop-offer-preserved g c =
     let i = c.loop-offer.offer-index in
     elim c.if-offer.branch [
       | then-offer+else-left-eq0 w ↦
-          sym (later_of _ _ _ c.loop-offer.left c.if-offer.left (omega (arith, w.left-is, w.if-left-eq0.false)) (offered_next os i c.offer-item.result c.loop-offer-test.true c.offer-item.is w.if-offer.true))
+          sym (later_of _ _ _ c.loop-offer.left c.if-offer.left (omega (arith, w.left-is, w.if-left-eq0.false))
+          (offered_next os i c.offer-item.result c.loop-offer-test.true c.offer-item.is w.if-offer.true))
           ∙ c.loop-offer.invariant
       | else-offer w ↦
-          ap (slice_get (offers_of (drop (i + 1) os))) w.left-is ∙ (ap (λ xs. slice_get xs c.loop-offer.left) (sym (not_offered os i c.offer-item.result c.loop-offer-test.true c.offer-item.is w.if-offer.false)) ∙ c.loop-offer.invariant)
+          ap (slice_get (offers_of (drop (i + 1) os))) w.left-is
+          ∙ (ap (λ xs. slice_get xs c.loop-offer.left) (sym (not_offered os i c.offer-item.result c.loop-offer-test.true c.offer-item.is w.if-offer.false))
+          ∙ c.loop-offer.invariant)
     ]
 
 pub returns : goal.returns
-returns g c = ap (λ xs. slice_get xs c.loop-offer.left) (sym (no_more_offers c.args.offers.now c.loop-offer.offer-index c.loop-offer-test.false)) ∙ c.loop-offer.invariant
+returns g c = ap (λ xs. slice_get xs c.loop-offer.left) (sym (no_more_offers c.args.offers.now c.loop-offer.offer-index c.loop-offer-test.false))
+    ∙ c.loop-offer.invariant

@@ -7,8 +7,10 @@ use Rattle.smith_input.proofs.texts.arbitrary_bytes.Goals as goal
 
 pub loop-bytes-preserved : goal.loop-bytes-preserved
 loop-bytes-preserved c =
-    let flipped : Flips c.loop-bytes.u true c.arbitrary_bool.new.self = subst (λ b. Flips c.loop-bytes.u b c.arbitrary_bool.new.self) c.loop-bytes-test.true c.arbitrary_bool.ensures in
-    let byte : ReadsByte c.arbitrary_bool.new.self c.arbitrary_u8.result c.arbitrary_u8.new.self = record { value_is = c.arbitrary_u8.ensures.value; left = c.arbitrary_u8.ensures.left } in
+    let flipped : Flips c.loop-bytes.u true c.arbitrary_bool.new.self =
+    subst (λ b. Flips c.loop-bytes.u b c.arbitrary_bool.new.self) c.loop-bytes-test.true c.arbitrary_bool.ensures in
+    let byte : ReadsByte c.arbitrary_bool.new.self c.arbitrary_u8.result c.arbitrary_u8.new.self =
+    record { value_is = c.arbitrary_u8.ensures.value; left = c.arbitrary_u8.ensures.left } in
     let pushed : c.push.new.self.items ≡ c.loop-bytes.bytes.items ++ c.arbitrary_u8.result ∷ [] = search (rules, common_steps) in
     record {
       more = λ values rest r. rw (pushed, append_assoc) (c.loop-bytes.invariant.more (c.arbitrary_u8.result ∷ values) rest (follows flipped byte r));
@@ -18,4 +20,5 @@ loop-bytes-preserved c =
 pub returns-clause-read : goal.returns-clause-read
 returns-clause-read c =
     rw (← append-nil c.loop-bytes.bytes.items)
-    (c.loop-bytes.invariant.more [] c.arbitrary_bool.new.self (ends (subst (λ b. Flips c.loop-bytes.u b c.arbitrary_bool.new.self) c.loop-bytes-test.false c.arbitrary_bool.ensures)))
+    (c.loop-bytes.invariant.more [] c.arbitrary_bool.new.self
+    (ends (subst (λ b. Flips c.loop-bytes.u b c.arbitrary_bool.new.self) c.loop-bytes-test.false c.arbitrary_bool.ensures)))

@@ -5,7 +5,8 @@ use Rattle.smith_input.proofs.texts.longest_text.Goals as goal
 
 pub returns-in-Err : goal.returns-in-Err
 returns-in-Err c =
-    let v : IsValidUpTo c.args.bytes.now c.valid_up_to.result = subst (λ n. IsValidUpTo c.args.bytes.now n) (sym c.valid_up_to.ensures) c.in-Err.ensures.cases.1 in
+    let v : IsValidUpTo c.args.bytes.now c.valid_up_to.result =
+    subst (λ n. IsValidUpTo c.args.bytes.now n) (sym c.valid_up_to.ensures) c.in-Err.ensures.cases.1 in
     longest_front
     c.args.bytes.now
     c.unwrap_or.result.now

@@ -6,7 +6,8 @@ use Rattle.smith_types.proofs.canonical.inverse_scalar_canonical_abi_for.Goals a
 
 pub returns-clause-reads : goal.returns-clause-reads
 returns-clause-reads c =
-    all_lifted (shown_func c.args.core.now) _ _ _ _ _ _ _ c.deref.ensures.value c.requires.liftable.one c.index.ensures c.in_ok-params.ensures.reads c.lifted_primitive-result.ensures.reads
+    all_lifted (shown_func c.args.core.now) _ _ _ _ _ _ _ c.deref.ensures.value c.requires.liftable.one c.index.ensures c.in_ok-params.ensures.reads
+    c.lifted_primitive-result.ensures.reads
 
 pub returns-clause-flattens : goal.returns-clause-flattens
 returns-clause-flattens c = lifted_flattens (returns-clause-reads c)
@@ -17,4 +18,5 @@ returns-clause-named c =
     params_named (omega (arith, ap length c.deref.ensures.value, held.ok.0, held.ok.1, held.small)) c.in_ok-params.ensures.reads
 
 pub returns-clause-script : goal.returns-clause-script
-returns-clause-script c s rest flat names short begins = lifted_scripted (shown_func c.args.core.now) s _ _ rest _ flat names short begins (returns-clause-reads c)
+returns-clause-script c s rest flat names short begins = lifted_scripted (shown_func c.args.core.now) s _ _ rest _ flat names short begins
+    (returns-clause-reads c)

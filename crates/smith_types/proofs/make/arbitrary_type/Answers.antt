@@ -24,4 +24,5 @@ pub returns-clause-size : goal.returns-clause-size
 returns-clause-size c = made_size _ _ _ _ _ _ _ _ c.in_ok-made.ensures.made
 
 pub returns-clause-script : goal.returns-clause-script
-returns-clause-script c e rest said begins = type_scripted c.args.config.now c.requires.consistent.nesting _ _ _ _ e _ _ rest _ said begins c.in_ok-made.ensures.made
+returns-clause-script c e rest said begins = type_scripted c.args.config.now c.requires.consistent.nesting _ _ _ _ e _ _ rest _ said begins
+    c.in_ok-made.ensures.made

@@ -12,4 +12,5 @@ pub returns : goal.returns
 returns c =
     let same : c.in_ok-length.length ≡ length c.args.self.now.contents.now = grind (arith, common_steps) in
     let short : c.in_ok-length.length < 2 ^ 32 = grind (arith, common_steps) in
-    length_is c.checked_add.result c.checked_add.ensures (takes_sized c.args.self.now.id (takes_bytes c.in_ok-length.length c.args.self.now.contents.now same) short) (omega arith)
+    length_is c.checked_add.result c.checked_add.ensures (takes_sized c.args.self.now.id (takes_bytes c.in_ok-length.length c.args.self.now.contents.now same)
+    short) (omega arith)

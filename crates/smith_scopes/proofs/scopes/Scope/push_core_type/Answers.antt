@@ -10,11 +10,25 @@ invariant_of-self-2 c =
     let few : length (values_of c.self.inside.core_types.items) < 4294967295 = rw (← c.self.view_is) at c.requires in
     elim c.match-deref.branch [
       | in-Func+in_ok-push-in-Func w ↦
-          let listed = c.push_reserved.ensures.items ∙ ap (λ s. s.core_types.items ++ c.args.entry ∷ []) w.self-inside-is ∙ ap (λ es. es ++ c.args.entry ∷ []) c.in_ok-reserve.ensures.items in
-          let kept = types_kept c.self.invariant.0 (ap (λ s. s.types.items) w.self-inside-is) (ap (λ s. s.defined.items) w.self-inside-is) (ap (λ s. s.funcs.items) w.self-inside-is) (ap (λ s. s.components.items) w.self-inside-is) (ap (λ s. s.instances.items) w.self-inside-is) (ap (λ s. s.equal) w.self-inside-is) in
-          (kept, pushed_core_func c.self.inside.core_types.items c.self.invariant.1 few c.len-index.result at c.args.entry c.push_reserved.new.self.items listed _ (sym c.deref.ensures ∙ w.in-Func.is) (ap (λ s. s.core_funcs.items) w.self-inside-is ∙ w.in_ok-push-in-Func.ensures.items) (ap (λ s. s.core_modules.items) w.self-inside-is))
+          let listed = c.push_reserved.ensures.items ∙ ap (λ s. s.core_types.items ++ c.args.entry ∷ []) w.self-inside-is
+          ∙ ap (λ es. es ++ c.args.entry ∷ []) c.in_ok-reserve.ensures.items in
+          let kept = types_kept c.self.invariant.0 (ap (λ s. s.types.items) w.self-inside-is) (ap (λ s. s.defined.items) w.self-inside-is)
+          (ap (λ s. s.funcs.items) w.self-inside-is) (ap (λ s. s.components.items) w.self-inside-is) (ap (λ s. s.instances.items) w.self-inside-is)
+          (ap (λ s. s.equal) w.self-inside-is) in (
+            kept,
+            pushed_core_func c.self.inside.core_types.items c.self.invariant.1 few c.len-index.result at c.args.entry c.push_reserved.new.self.items listed
+                _ (sym c.deref.ensures ∙ w.in-Func.is) (ap (λ s. s.core_funcs.items) w.self-inside-is ∙ w.in_ok-push-in-Func.ensures.items)
+                (ap (λ s. s.core_modules.items) w.self-inside-is),
+          )
       | in-Module+in_ok-push-in-Module w ↦
-          let listed = c.push_reserved.ensures.items ∙ ap (λ s. s.core_types.items ++ c.args.entry ∷ []) w.self-inside-is ∙ ap (λ es. es ++ c.args.entry ∷ []) c.in_ok-reserve.ensures.items in
-          let kept = types_kept c.self.invariant.0 (ap (λ s. s.types.items) w.self-inside-is) (ap (λ s. s.defined.items) w.self-inside-is) (ap (λ s. s.funcs.items) w.self-inside-is) (ap (λ s. s.components.items) w.self-inside-is) (ap (λ s. s.instances.items) w.self-inside-is) (ap (λ s. s.equal) w.self-inside-is) in
-          (kept, pushed_module c.self.inside.core_types.items c.self.invariant.1 few c.len-index.result at c.args.entry c.push_reserved.new.self.items listed _ (sym c.deref.ensures ∙ w.in-Module.is) (ap (λ s. s.core_funcs.items) w.self-inside-is) (ap (λ s. s.core_modules.items) w.self-inside-is ∙ w.in_ok-push-in-Module.ensures.items))
+          let listed = c.push_reserved.ensures.items ∙ ap (λ s. s.core_types.items ++ c.args.entry ∷ []) w.self-inside-is
+          ∙ ap (λ es. es ++ c.args.entry ∷ []) c.in_ok-reserve.ensures.items in
+          let kept = types_kept c.self.invariant.0 (ap (λ s. s.types.items) w.self-inside-is) (ap (λ s. s.defined.items) w.self-inside-is)
+          (ap (λ s. s.funcs.items) w.self-inside-is) (ap (λ s. s.components.items) w.self-inside-is) (ap (λ s. s.instances.items) w.self-inside-is)
+          (ap (λ s. s.equal) w.self-inside-is) in (
+            kept,
+            pushed_module c.self.inside.core_types.items c.self.invariant.1 few c.len-index.result at c.args.entry c.push_reserved.new.self.items listed _
+                (sym c.deref.ensures ∙ w.in-Module.is) (ap (λ s. s.core_funcs.items) w.self-inside-is)
+                (ap (λ s. s.core_modules.items) w.self-inside-is ∙ w.in_ok-push-in-Module.ensures.items),
+          )
     ]

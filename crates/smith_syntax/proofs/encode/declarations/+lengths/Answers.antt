@@ -11,19 +11,24 @@ component_decls_len-loop-declared-init t c = sum_none _ _
 pub component_decls_len-returns-in_err-component_decl_len : goal.component_decls_len-returns-in_err-component_decl_len
 component_decls_len-returns-in_err-component_decl_len t c =
     rw c.from_residual.ensures
-    (many_too_much (λ d. decl true (shown_component_decl d)) _ (each_too_much _ _ _ _ c.loop-declared-test.true c.declared-item.is (c.in_err-component_decl_len.ensures {u = tt})))
+    (many_too_much (λ d. decl true (shown_component_decl d)) _
+    (each_too_much _ _ _ _ c.loop-declared-test.true c.declared-item.is (c.in_err-component_decl_len.ensures {u = tt})))
 
 pub component_decls_len-returns-in_err-total : goal.component_decls_len-returns-in_err-total
 component_decls_len-returns-in_err-total t c =
     rw c.from_residual-in_err-total.ensures
-    (many_too_much (λ d. decl true (shown_component_decl d)) _ (each_reaches _ _ _ _ _ _ c.loop-declared-test.true c.declared-item.is c.loop-declared.invariant ((c.in_ok-component_decl_len.ensures {u = tt}).0) (omega (arith, c.in_err-total.ensures {u = tt}))))
+    (many_too_much (λ d. decl true (shown_component_decl d)) _
+    (each_reaches _ _ _ _ _ _ c.loop-declared-test.true c.declared-item.is c.loop-declared.invariant ((c.in_ok-component_decl_len.ensures {u = tt}).0)
+    (omega (arith, c.in_err-total.ensures {u = tt}))))
 
 pub component_decls_len-loop-declared-preserved : goal.component_decls_len-loop-declared-preserved
-component_decls_len-loop-declared-preserved t c = sum_next _ _ _ _ _ _ _ c.loop-declared.invariant c.loop-declared-test.true c.declared-item.is ((c.in_ok-component_decl_len.ensures {u = tt}).0) ((c.in_ok-total.ensures {u = tt}).1)
+component_decls_len-loop-declared-preserved t c = sum_next _ _ _ _ _ _ _ c.loop-declared.invariant c.loop-declared-test.true c.declared-item.is
+    ((c.in_ok-component_decl_len.ensures {u = tt}).0) ((c.in_ok-total.ensures {u = tt}).1)
 
 pub component_decls_len-returns : goal.component_decls_len-returns
 component_decls_len-returns t c =
-    length_then c.checked_add-2.result c.checked_add-2.ensures ((c.in_ok-count_len.ensures {u = tt}).0) (sum_all _ _ _ _ c.loop-declared.invariant c.loop-declared-test.false)
+    length_then c.checked_add-2.result c.checked_add-2.ensures ((c.in_ok-count_len.ensures {u = tt}).0)
+    (sum_all _ _ _ _ c.loop-declared.invariant c.loop-declared-test.false)
 
 pub instance_decls_len-loop-declared-init : goal.instance_decls_len-loop-declared-init
 instance_decls_len-loop-declared-init t c = sum_none _ _
@@ -31,19 +36,24 @@ instance_decls_len-loop-declared-init t c = sum_none _ _
 pub instance_decls_len-returns-in_err-instance_decl_len : goal.instance_decls_len-returns-in_err-instance_decl_len
 instance_decls_len-returns-in_err-instance_decl_len t c =
     rw c.from_residual.ensures
-    (many_too_much (λ d. decl false (shown_instance_decl d)) _ (each_too_much _ _ _ _ c.loop-declared-test.true c.declared-item.is (c.in_err-instance_decl_len.ensures {u = tt})))
+    (many_too_much (λ d. decl false (shown_instance_decl d)) _
+    (each_too_much _ _ _ _ c.loop-declared-test.true c.declared-item.is (c.in_err-instance_decl_len.ensures {u = tt})))
 
 pub instance_decls_len-returns-in_err-total : goal.instance_decls_len-returns-in_err-total
 instance_decls_len-returns-in_err-total t c =
     rw c.from_residual-in_err-total.ensures
-    (many_too_much (λ d. decl false (shown_instance_decl d)) _ (each_reaches _ _ _ _ _ _ c.loop-declared-test.true c.declared-item.is c.loop-declared.invariant ((c.in_ok-instance_decl_len.ensures {u = tt}).0) (omega (arith, c.in_err-total.ensures {u = tt}))))
+    (many_too_much (λ d. decl false (shown_instance_decl d)) _
+    (each_reaches _ _ _ _ _ _ c.loop-declared-test.true c.declared-item.is c.loop-declared.invariant ((c.in_ok-instance_decl_len.ensures {u = tt}).0)
+    (omega (arith, c.in_err-total.ensures {u = tt}))))
 
 pub instance_decls_len-loop-declared-preserved : goal.instance_decls_len-loop-declared-preserved
-instance_decls_len-loop-declared-preserved t c = sum_next _ _ _ _ _ _ _ c.loop-declared.invariant c.loop-declared-test.true c.declared-item.is ((c.in_ok-instance_decl_len.ensures {u = tt}).0) ((c.in_ok-total.ensures {u = tt}).1)
+instance_decls_len-loop-declared-preserved t c = sum_next _ _ _ _ _ _ _ c.loop-declared.invariant c.loop-declared-test.true c.declared-item.is
+    ((c.in_ok-instance_decl_len.ensures {u = tt}).0) ((c.in_ok-total.ensures {u = tt}).1)
 
 pub instance_decls_len-returns : goal.instance_decls_len-returns
 instance_decls_len-returns t c =
-    length_then c.checked_add-2.result c.checked_add-2.ensures ((c.in_ok-count_len.ensures {u = tt}).0) (sum_all _ _ _ _ c.loop-declared.invariant c.loop-declared-test.false)
+    length_then c.checked_add-2.result c.checked_add-2.ensures ((c.in_ok-count_len.ensures {u = tt}).0)
+    (sum_all _ _ _ _ c.loop-declared.invariant c.loop-declared-test.false)
 
 pub type_len-returns-in_err-component_decls_len-in-Component : goal.type_len-returns-in_err-component_decls_len-in-Component
 type_len-returns-in_err-component_decls_len-in-Component t c =

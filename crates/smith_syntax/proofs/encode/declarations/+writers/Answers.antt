@@ -8,10 +8,12 @@ put_component_decls-loop-declared-init t c = put_none _ _ _
 
 pub put_component_decls-returns-in_err-put_component_decl : goal.put_component_decls-returns-in_err-put_component_decl
 put_component_decls-returns-in_err-put_component_decl t c =
-    loop_exit _ _ _ _ _ _ c.from_residual-in_err-put_component_decl.ensures.1 ((c.in_ok-write_count.ensures {u = tt}).written) _ c.loop-declared.invariant c.loop-declared-test.true c.declared-item.is (c.in_err-put_component_decl.ensures {u = tt})
+    loop_exit _ _ _ _ _ _ c.from_residual-in_err-put_component_decl.ensures.1 ((c.in_ok-write_count.ensures {u = tt}).written) _ c.loop-declared.invariant
+    c.loop-declared-test.true c.declared-item.is (c.in_err-put_component_decl.ensures {u = tt})
 
 pub put_component_decls-loop-declared-preserved : goal.put_component_decls-loop-declared-preserved
-put_component_decls-loop-declared-preserved t c = put_next _ _ _ _ _ _ _ c.loop-declared.invariant c.loop-declared-test.true c.declared-item.is (c.in_ok-put_component_decl.ensures {u = tt})
+put_component_decls-loop-declared-preserved t c = put_next _ _ _ _ _ _ _ c.loop-declared.invariant c.loop-declared-test.true c.declared-item.is
+    (c.in_ok-put_component_decl.ensures {u = tt})
 
 pub put_component_decls-returns : goal.put_component_decls-returns
 put_component_decls-returns t c = loop_done _ _ _ ((c.in_ok-write_count.ensures {u = tt}).written) c.loop-declared.invariant c.loop-declared-test.false
@@ -21,10 +23,12 @@ put_instance_decls-loop-declared-init t c = put_none _ _ _
 
 pub put_instance_decls-returns-in_err-put_instance_decl : goal.put_instance_decls-returns-in_err-put_instance_decl
 put_instance_decls-returns-in_err-put_instance_decl t c =
-    loop_exit _ _ _ _ _ _ c.from_residual-in_err-put_instance_decl.ensures.1 ((c.in_ok-write_count.ensures {u = tt}).written) _ c.loop-declared.invariant c.loop-declared-test.true c.declared-item.is (c.in_err-put_instance_decl.ensures {u = tt})
+    loop_exit _ _ _ _ _ _ c.from_residual-in_err-put_instance_decl.ensures.1 ((c.in_ok-write_count.ensures {u = tt}).written) _ c.loop-declared.invariant
+    c.loop-declared-test.true c.declared-item.is (c.in_err-put_instance_decl.ensures {u = tt})
 
 pub put_instance_decls-loop-declared-preserved : goal.put_instance_decls-loop-declared-preserved
-put_instance_decls-loop-declared-preserved t c = put_next _ _ _ _ _ _ _ c.loop-declared.invariant c.loop-declared-test.true c.declared-item.is (c.in_ok-put_instance_decl.ensures {u = tt})
+put_instance_decls-loop-declared-preserved t c = put_next _ _ _ _ _ _ _ c.loop-declared.invariant c.loop-declared-test.true c.declared-item.is
+    (c.in_ok-put_instance_decl.ensures {u = tt})
 
 pub put_instance_decls-returns : goal.put_instance_decls-returns
 put_instance_decls-returns t c = loop_done _ _ _ ((c.in_ok-write_count.ensures {u = tt}).written) c.loop-declared.invariant c.loop-declared-test.false
@@ -37,14 +41,17 @@ put_type-returns-in_err-write_byte-in-Component t c =
 pub put_type-returns-in_ok-write_byte-in-Component : goal.put_type-returns-in_ok-write_byte-in-Component
 put_type-returns-in_ok-write_byte-in-Component t c =
     rw (c.in-Component.is, entry_component c.in-Component.ty)
-    (ends c.put_component_decls.result _ _ (c.in_ok-write_byte-in-Component.ensures {u = tt}) (rw (c.deref-in-Component-2.ensures.value, c.deref-in-Component.ensures) at c.put_component_decls.ensures))
+    (ends c.put_component_decls.result _ _ (c.in_ok-write_byte-in-Component.ensures {u = tt})
+    (rw (c.deref-in-Component-2.ensures.value, c.deref-in-Component.ensures) at c.put_component_decls.ensures))
 
 pub put_type-returns-in_err-write_byte-in-Instance : goal.put_type-returns-in_err-write_byte-in-Instance
 put_type-returns-in_err-write_byte-in-Instance t c =
     let d = c.in_err-write_byte-in-Instance.ensures {u = tt} in
-    rw (c.in-Instance.is, entry_instance c.in-Instance.ty) (exits _ _ c.from_residual-in_err-write_byte-in-Instance.ensures.1 (keeps_begins d.0) (due_left _ d.1))
+    rw (c.in-Instance.is, entry_instance c.in-Instance.ty) (exits _ _ c.from_residual-in_err-write_byte-in-Instance.ensures.1 (keeps_begins d.0)
+    (due_left _ d.1))
 
 pub put_type-returns-in_ok-write_byte-in-Instance : goal.put_type-returns-in_ok-write_byte-in-Instance
 put_type-returns-in_ok-write_byte-in-Instance t c =
     rw (c.in-Instance.is, entry_instance c.in-Instance.ty)
-    (ends c.put_instance_decls.result _ _ (c.in_ok-write_byte-in-Instance.ensures {u = tt}) (rw (c.deref-in-Instance-2.ensures.value, c.deref-in-Instance.ensures) at c.put_instance_decls.ensures))
+    (ends c.put_instance_decls.result _ _ (c.in_ok-write_byte-in-Instance.ensures {u = tt})
+    (rw (c.deref-in-Instance-2.ensures.value, c.deref-in-Instance.ensures) at c.put_instance_decls.ensures))

@@ -9,4 +9,5 @@ returns-in-OfType-clause-length c importing =
 
 pub returns-in-OfCoreType-clause-length : goal.returns-in-OfCoreType-clause-length
 returns-in-OfCoreType-clause-length c importing =
-    rw (core_type_alias_is importing c.args.alias.now c.in-OfCoreType.field-0 c.in-OfCoreType.is) (takes_then (takes_bytes 4 _ refl) c.indices_len-in-OfCoreType.ensures.length)
+    rw (core_type_alias_is importing c.args.alias.now c.in-OfCoreType.field-0 c.in-OfCoreType.is)
+    (takes_then (takes_bytes 4 _ refl) c.indices_len-in-OfCoreType.ensures.length)

@@ -11,7 +11,8 @@ use Rattle.smith_syntax.specs.declared.types.ComponentValType.{ComponentValType}
 use Rattle.smith_syntax.proofs.func.FuncType.is_scalar.Goals as goal
 
 -- a parameter is no scalar
-not_scalar : (xs : List (String Global × ComponentValType)) (s : Signature) (i : ℕ) (p : String Global × ComponentValType) → s.params ≡ map named xs → i < length xs → p ≡ get_or xs i p → is_some (flat_value p.1) ≡ false → false ≡ is_scalar s
+not_scalar : (xs : List (String Global × ComponentValType)) (s : Signature) (i : ℕ) (p : String Global × ComponentValType) → s.params ≡ map named xs
+    → i < length xs → p ≡ get_or xs i p → is_some (flat_value p.1) ≡ false → false ≡ is_scalar s
 not_scalar xs s i p e l at not =
     let test : Field → Bool = λ f. is_some (flat_value f.1) in
     let here : list_all (λ q. test (named q)) xs ≡ false = list_all_at (λ q. test (named q)) xs i p l (ap (λ q. test (named q)) (sym at) ∙ not) in

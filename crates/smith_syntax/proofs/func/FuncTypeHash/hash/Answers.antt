@@ -8,4 +8,5 @@ pub returns : goal.returns
 returns g c =
     let us = slice (λ p. field_input (named p)) c.self.inside.params.items in
     let vs = option val_hash.hash_input c.self.inside.result in
-    rw (← c.self.view_is) (fed_along g.H.Hasher.write c.args.state.now c.hash-2.new.state (input-named c.self.inside.params.items c.self.inside.result) (fed_then g.H.Hasher.write c.args.state.now c.hash.new.state c.hash-2.new.state us vs c.hash.ensures c.hash-2.ensures))
+    rw (← c.self.view_is) (fed_along g.H.Hasher.write c.args.state.now c.hash-2.new.state (input-named c.self.inside.params.items c.self.inside.result)
+    (fed_then g.H.Hasher.write c.args.state.now c.hash.new.state c.hash-2.new.state us vs c.hash.ensures c.hash-2.ensures))

@@ -11,4 +11,5 @@ push_type-requires c = omega (arith, length-last c.args.scopes.now, c.requires.r
 
 pub returns-in_ok-push_type-clause-own : goal.returns-in_ok-push_type-clause-own
 returns-in_ok-push_type-clause-own c =
-    rw c.in-TypeEq.is (added_equal c.args.scopes.now c.push_type.new.self c.in-TypeEq.i _ _ c.in_ok-push_type.ensures.ok c.in_ok-entry.ensures.cases c.get.ensures)
+    rw c.in-TypeEq.is (added_equal c.args.scopes.now c.push_type.new.self c.in-TypeEq.i _ _ c.in_ok-push_type.ensures.ok c.in_ok-entry.ensures.cases
+    c.get.ensures)

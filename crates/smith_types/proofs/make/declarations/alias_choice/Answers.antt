@@ -9,17 +9,20 @@ use Rattle.smith_types.proofs.make.declarations.alias_choice.Goals as goal
 
 pub len-types-requires : goal.len-types-requires
 len-types-requires c =
-    let r = scope_chosen c.args.scopes.now c.args.counts.now c.args.u.now c.choose-count.new.self c.choose-count.result.now c.requires.places c.choose-count.ensures in
+    let r = scope_chosen c.args.scopes.now c.args.counts.now c.args.u.now c.choose-count.new.self c.choose-count.result.now c.requires.places
+    c.choose-count.ensures in
     (among_occupied c.args.scopes.now c.choose-count.result.now r.place r.named).within
 
 pub len_core-requires : goal.len_core-requires
 len_core-requires c =
-    let r = scope_chosen c.args.scopes.now c.args.counts.now c.args.u.now c.choose-count.new.self c.choose-count.result.now c.requires.places c.choose-count.ensures in
+    let r = scope_chosen c.args.scopes.now c.args.counts.now c.args.u.now c.choose-count.new.self c.choose-count.result.now c.requires.places
+    c.choose-count.ensures in
     (among_occupied c.args.scopes.now c.choose-count.result.now r.place r.named).within
 
 pub choose_index-place-requires : goal.choose_index-place-requires
 choose_index-place-requires c =
-    let r = scope_chosen c.args.scopes.now c.args.counts.now c.args.u.now c.choose-count.new.self c.choose-count.result.now c.requires.places c.choose-count.ensures in
+    let r = scope_chosen c.args.scopes.now c.args.counts.now c.args.u.now c.choose-count.new.self c.choose-count.result.now c.requires.places
+    c.choose-count.ensures in
     let s = (among_occupied c.args.scopes.now c.choose-count.result.now r.place r.named).some in
     omega (arith, s, c.len-types.ensures.count, c.len_core.ensures.count)
 
@@ -45,7 +48,8 @@ returns-clause-reads c =
     let R : ℕ → Type 0 = λ n. Reads n c.choose-count.new.self c.choose_index-place.result c.choose_index-place.new.self in
     let P : FullDecl → Type 0 = λ d. ReadsAlias (inward scopes) c.args.u.now d c.choose_index-place.new.self in
     subst P (sym (alias_of_core_type _ c.in_ok-clone-2.field-0 refl)) (
-    core_type_alias_read scopes c.args.u.now c.choose-count.new.self c.choose_index-place.new.self c.choose-count.result.now c.choose_index-place.result r a.within
+    core_type_alias_read scopes c.args.u.now c.choose-count.new.self c.choose_index-place.new.self c.choose-count.result.now c.choose_index-place.result r
+    a.within
     (subst R (omega (arith, c.len-types.ensures.count, c.len_core.ensures.count)) c.choose_index-place.ensures)
     (c.choose_index-place.result - c.len-types.result)
     c.in_ok-clone-2.field-0.value

@@ -16,7 +16,8 @@ pub returns-clause-made : goal.returns-clause-made
 returns-clause-made c = λ exports. (
   shown_core c.in_ok-ty.ty.value,
   c.in_ok-ty.ensures.made,
-  instance_core_decl c.in_ok-ty.ty ∙ ap (λ fs. core_type_decl (shown_core c.in_ok-ty.ty.value) (keeps_functions fs)) (kept_core_named _ c.in_ok-ty.ty.value c.in_ok-ty.ensures.kept),
+  instance_core_decl c.in_ok-ty.ty ∙ ap (λ fs. core_type_decl (shown_core c.in_ok-ty.ty.value) (keeps_functions fs))
+      (kept_core_named _ c.in_ok-ty.ty.value c.in_ok-ty.ensures.kept),
 )
 
 pub returns-clause-declares : goal.returns-clause-declares
@@ -24,5 +25,6 @@ returns-clause-declares c =
     let scopes = inward c.args.scopes.now in
     let g = grown_core _ _ _ c.in_ok-push_core_type.ensures.ok in
     declares _ _ _
-    (g.own ∙ (ap (λ t. with_core_type (own_of scopes) (shown_core t)) c.in_ok-entry.ensures.cases ∙ ap (after_decl (outer_of scopes) (own_of scopes)) (sym (instance_core_decl c.in_ok-ty.ty))))
+    (g.own ∙ (ap (λ t. with_core_type (own_of scopes) (shown_core t)) c.in_ok-entry.ensures.cases
+    ∙ ap (after_decl (outer_of scopes) (own_of scopes)) (sym (instance_core_decl c.in_ok-ty.ty))))
     g.outer

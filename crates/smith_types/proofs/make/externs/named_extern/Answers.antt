@@ -15,6 +15,7 @@ returns-in-Ok-clause-names c so_far h =
 
 pub returns-in-Err-clause-refused : goal.returns-in-Err-clause-refused
 returns-in-Err-clause-refused c so_far h = (
-  holds_again h.0 c.in_ok-name.ensures.read.2.is_new c.in_ok-name.ensures.gained c.as_str.ensures.value c.remove.ensures.updates c.remove.ensures.test c.remove.ensures.len,
+  holds_again h.0 c.in_ok-name.ensures.read.2.is_new c.in_ok-name.ensures.gained c.as_str.ensures.value c.remove.ensures.updates c.remove.ensures.test
+      c.remove.ensures.len,
   holds_same h.1 c.in-Err.ensures.refused,
 )

@@ -12,7 +12,8 @@ pub returns-then-not-more-clause-reads : goal.returns-then-not-more-clause-reads
 returns-then-not-more-clause-reads g c = stops _ _ _ _ _ _ _ _ _ _ _ _ c.if-not-more.true c.more.ensures c.loop-done.invariant.onward
 
 pub returns-then-fuel-eq0-clause-reads : goal.returns-then-fuel-eq0-clause-reads
-returns-then-fuel-eq0-clause-reads g c = ends_early _ _ _ _ _ _ _ _ _ _ _ _ _ _ c.if-not-more.false c.more.ensures (spends _ _ c.burn.ensures c.if-fuel-eq0.true) c.loop-done.invariant.onward
+returns-then-fuel-eq0-clause-reads g c = ends_early _ _ _ _ _ _ _ _ _ _ _ _ _ _ c.if-not-more.false c.more.ensures
+    (spends _ _ c.burn.ensures c.if-fuel-eq0.true) c.loop-done.invariant.onward
 
 pub loop-done-preserved : goal.loop-done-preserved
 loop-done-preserved g c =
@@ -23,7 +24,8 @@ loop-done-preserved g c =
     let read = rw c.deref.ensures.value at c.in_ok-member.ensures.read in
     record {
       tail = tail_trans c.in_ok-member.ensures.tail (tail_trans (more_tail c.more.ensures) c.loop-done.invariant.tail);
-      onward = goes_on _ _ _ _ _ _ so_far _ x _ _ _ _ _ _ _ c.if-not-more.false c.more.ensures (has_read_as _ _ x c.burn.ensures c.if-fuel-eq0.false read next) next c.loop-done.invariant.onward;
+      onward = goes_on _ _ _ _ _ _ so_far _ x _ _ _ _ _ _ _ c.if-not-more.false c.more.ensures (has_read_as _ _ x c.burn.ensures c.if-fuel-eq0.false read next)
+          next c.loop-done.invariant.onward;
     }
 
 pub returns-clause-reads : goal.returns-clause-reads

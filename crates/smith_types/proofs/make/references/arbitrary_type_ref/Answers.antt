@@ -17,13 +17,16 @@ placed : (n : ℕ) (allowed : Bool) → (nat_lt 0 n && allowed) ≡ true → 0 <
 placed n allowed t = let some = (both_true (nat_lt 0 n) allowed t).0 in grind (arith, nat_tests, some)
 
 -- A kind that is chosen has an entry.
-chosen_has_place : (config : Config) (own : Scope) (totals : RefTotals) (for_import for_type_def : Bool) (b : List ℕ) (k : RefKind) (rest : List ℕ) → ReadsAmong (ref_kinds config own totals for_import for_type_def) b k rest → 0 < length (ref_places own k)
+chosen_has_place : (config : Config) (own : Scope) (totals : RefTotals) (for_import for_type_def : Bool) (b : List ℕ) (k : RefKind) (rest : List ℕ)
+    → ReadsAmong (ref_kinds config own totals for_import for_type_def) b k rest → 0 < length (ref_places own k)
 chosen_has_place config own totals for_import for_type_def b k rest h =
-    offer_holds (λ j. 0 < length (ref_places own j)) (ref_offers config own totals for_import for_type_def) (placed _ _, (placed _ _, (placed _ _, (placed _ _, (placed _ _, tt))))) h.place k h.named
+    offer_holds (λ j. 0 < length (ref_places own j)) (ref_offers config own totals for_import for_type_def)
+    (placed _ _, (placed _ _, (placed _ _, (placed _ _, (placed _ _, tt))))) h.place k h.named
 
 pub choose_index-rank-requires : goal.choose_index-rank-requires
 choose_index-rank-requires c =
-    let some = chosen_has_place c.args.config.now (own_scope c.args.scopes.now) c.args.totals c.args.for_import c.args.for_type_def _ c.in_ok-kind.kind _ c.in_ok-kind.ensures in
+    let some = chosen_has_place c.args.config.now (own_scope c.args.scopes.now) c.args.totals c.args.for_import c.args.for_type_def _ c.in_ok-kind.kind _
+    c.in_ok-kind.ensures in
     omega (arith, some, c.place_count.ensures.count)
 
 pub returns-clause-reads : goal.returns-clause-reads
@@ -41,9 +44,11 @@ unfolding returns-clause-reads
 returns-clause-script c r rest formed allowed begins =
     let own = own_scope c.args.scopes.now in
     let few : length (ref_places own c.in_ok-kind.kind) ≤ 2 ^ 64 = omega (arith, c.place_count.ensures.count, c.place_count.ensures.few) in
-    let d = ref_scripted c.args.config.now own c.args.totals c.args.for_import c.args.for_type_def _ r _ _ rest formed allowed begins (returns-clause-reads c) few in
+    let d = ref_scripted c.args.config.now own c.args.totals c.args.for_import c.args.for_type_def _ r _ _ rest formed allowed begins (returns-clause-reads c)
+    few in
     (ap Some d.0, d.1)
 
 pub returns-in_err-kind-clause-script : goal.returns-in_err-kind-clause-script
 returns-in_err-kind-clause-script c r rest formed allowed begins =
-    absurd (ref_not_none c.args.config.now (own_scope c.args.scopes.now) c.args.totals c.args.for_import c.args.for_type_def r formed allowed c.in_err-kind.ensures.0)
+    absurd (ref_not_none c.args.config.now (own_scope c.args.scopes.now) c.args.totals c.args.for_import c.args.for_type_def r formed allowed
+    c.in_err-kind.ensures.0)

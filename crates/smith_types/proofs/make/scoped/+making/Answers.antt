@@ -22,7 +22,8 @@ use Rattle.smith_types.proofs.make.scoped.+making.Goals as goal
 pub component_declaration-returns-in-Some-clause-made : goal.component_declaration-returns-in-Some-clause-made
 component_declaration-returns-in-Some-clause-made t c = λ imported exported held other.
     let reads = rw c.in-Some.is at (c.in_ok-import.ensures.reads imported held) in
-    let P : FullDecl → Type 0 = λ d. MadeDeclaration c.args.config.now true (outer_scopes c.args.scopes.now) (record { own = own_scope c.args.scopes.now; imports = imported; exports = exported }) c.args.u.now c.args.fuel.now d c.import.new.u c.args.fuel.now in
+    let P : FullDecl → Type 0 = λ d. MadeDeclaration c.args.config.now true (outer_scopes c.args.scopes.now)
+    (record { own = own_scope c.args.scopes.now; imports = imported; exports = exported }) c.args.u.now c.args.fuel.now d c.import.new.u c.args.fuel.now in
     subst P (sym (component_import c.in-Some.import)) (made_import refl reads refl)
 
 pub component_declaration-returns-clause-imports : goal.component_declaration-returns-clause-imports
@@ -32,7 +33,8 @@ component_declaration-returns-clause-imports t c = λ imported held.
 
 pub component_declarations-loop-done-init : goal.component_declarations-loop-done-init
 component_declarations-loop-done-init t c = record {
-  progress = begins c.args.scopes.now c.new-imports.result c.new-exports.result _ refl c.requires.fresh c.new-imports.ensures c.new-exports.ensures (ap (map full_component_decl) c.new-defs.ensures.items);
+  progress = begins c.args.scopes.now c.new-imports.result c.new-exports.result _ refl c.requires.fresh c.new-imports.ensures c.new-exports.ensures
+      (ap (map full_component_decl) c.new-defs.ensures.items);
   outer = same_refl c.args.scopes.now;
   fuel = omega arith;
   tail = (0, refl);
@@ -42,13 +44,16 @@ pub component_declarations-returns-then-not-more-clause-made : goal.component_de
 component_declarations-returns-then-not-more-clause-made t c = stops c.loop-done.invariant.progress _ c.more.result c.more.ensures c.if-not-more.true
 
 pub component_declarations-returns-then-fuel-eq0-clause-made : goal.component_declarations-returns-then-fuel-eq0-clause-made
-component_declarations-returns-then-fuel-eq0-clause-made t c = spends c.loop-done.invariant.progress _ c.more.result c.burn.new.fuel c.more.ensures c.if-not-more.false c.burn.ensures c.if-fuel-eq0.true
+component_declarations-returns-then-fuel-eq0-clause-made t c =
+    spends c.loop-done.invariant.progress _ c.more.result c.burn.new.fuel c.more.ensures c.if-not-more.false c.burn.ensures c.if-fuel-eq0.true
 
 pub component_declarations-returns-in_err-def-clause-tail : goal.component_declarations-returns-in_err-def-clause-tail
-component_declarations-returns-in_err-def-clause-tail t c = tail_trans c.in_err-def.ensures.tail (tail_trans (more_tail c.more.ensures) c.loop-done.invariant.tail)
+component_declarations-returns-in_err-def-clause-tail t c = tail_trans c.in_err-def.ensures.tail
+    (tail_trans (more_tail c.more.ensures) c.loop-done.invariant.tail)
 
 pub component_declarations-returns-in_err-push-clause-tail : goal.component_declarations-returns-in_err-push-clause-tail
-component_declarations-returns-in_err-push-clause-tail t c = tail_trans c.in_ok-def.ensures.tail (tail_trans (more_tail c.more.ensures) c.loop-done.invariant.tail)
+component_declarations-returns-in_err-push-clause-tail t c =
+    tail_trans c.in_ok-def.ensures.tail (tail_trans (more_tail c.more.ensures) c.loop-done.invariant.tail)
 
 pub component_declarations-loop-done-preserved : goal.component_declarations-loop-done-preserved
 component_declarations-loop-done-preserved t c =
@@ -56,7 +61,10 @@ component_declarations-loop-done-preserved t c =
     let made = c.in_ok-def.ensures.made p.so_far.imports p.so_far.exports (p.imports_are refl) p.exports_are in
     let size = declaration_size _ _ _ _ _ _ _ _ _ made in
     record {
-      progress = goes_on p _ _ c.more.result c.burn.new.fuel _ _ c.component_declaration.new.scopes c.component_declaration.new.imports c.component_declaration.new.exports _ c.more.ensures c.if-not-more.false c.burn.ensures (omega (arith, c.if-fuel-eq0.false)) made c.in_ok-def.ensures.declares (λ _. c.in_ok-def.ensures.imports p.so_far.imports (p.imports_are refl)) (c.in_ok-def.ensures.exports p.so_far.exports p.exports_are)
+      progress = goes_on p _ _ c.more.result c.burn.new.fuel _ _ c.component_declaration.new.scopes c.component_declaration.new.imports
+          c.component_declaration.new.exports _ c.more.ensures c.if-not-more.false c.burn.ensures (omega (arith, c.if-fuel-eq0.false)) made
+          c.in_ok-def.ensures.declares (λ _. c.in_ok-def.ensures.imports p.so_far.imports (p.imports_are refl))
+          (c.in_ok-def.ensures.exports p.so_far.exports p.exports_are)
           (ap (map full_component_decl) c.in_ok-push.ensures.items ∙ map-append full_component_decl c.loop-done.defs.items (c.in_ok-def.def ∷ []));
       outer = same_trans c.loop-done.invariant.outer c.in_ok-def.ensures.outer;
       fuel = omega (arith, size, c.burn.ensures, c.loop-done.invariant.fuel);
@@ -67,26 +75,31 @@ pub component_declarations-returns-clause-made : goal.component_declarations-ret
 component_declarations-returns-clause-made t c = is_full c.loop-done.invariant.progress (omega (arith, c.loop-done-test.false))
 
 pub component_type-returns-in_err-defs-clause-scopes : goal.component_type-returns-in_err-defs-clause-scopes
-component_type-returns-in_err-defs-clause-scopes t c = closed_again c.args.scopes.now c.open_inner.new.scopes c.component_declarations-made.new.scopes c.close_scope.new.self _ _ c.in_ok-open_inner.ensures.opened c.in_err-defs.ensures.outer c.close_scope.ensures
+component_type-returns-in_err-defs-clause-scopes t c = closed_again c.args.scopes.now c.open_inner.new.scopes c.component_declarations-made.new.scopes
+    c.close_scope.new.self _ _ c.in_ok-open_inner.ensures.opened c.in_err-defs.ensures.outer c.close_scope.ensures
 
 pub component_type-returns-in_err-new-clause-scopes : goal.component_type-returns-in_err-new-clause-scopes
-component_type-returns-in_err-new-clause-scopes t c = closed_again c.args.scopes.now c.open_inner.new.scopes c.component_declarations-made.new.scopes c.close_scope.new.self _ _ c.in_ok-open_inner.ensures.opened c.in_ok-defs.ensures.outer c.close_scope.ensures
+component_type-returns-in_err-new-clause-scopes t c = closed_again c.args.scopes.now c.open_inner.new.scopes c.component_declarations-made.new.scopes
+    c.close_scope.new.self _ _ c.in_ok-open_inner.ensures.opened c.in_ok-defs.ensures.outer c.close_scope.ensures
 
 pub component_type-returns-clause-made : goal.component_type-returns-clause-made
 component_type-returns-clause-made t c =
     let ds = in_order (map full_component_decl c.in_ok-defs.defs.items) in
-    let M : List Scope → Type 0 = λ ss. MadeDeclarations c.args.config.now true ss 0 nothing_so_far c.args.u.now c.args.fuel.now ds c.component_declarations-made.new.u c.component_declarations-made.new.fuel in (
+    let M : List Scope → Type 0 = λ ss. MadeDeclarations c.args.config.now true ss 0 nothing_so_far c.args.u.now c.args.fuel.now ds
+    c.component_declarations-made.new.u c.component_declarations-made.new.fuel in (
       ds,
       subst M c.in_ok-open_inner.ensures.around c.in_ok-defs.ensures.made,
       full_component c.in_ok-new.field-0 ∙ ap (λ ty. component_type (in_order (map full_component_decl ty.defs.items))) c.in_ok-new.ensures.ok,
     )
 
 pub component_type-returns-clause-scopes : goal.component_type-returns-clause-scopes
-component_type-returns-clause-scopes t c = closed_again c.args.scopes.now c.open_inner.new.scopes c.component_declarations-made.new.scopes c.close_scope.new.self _ _ c.in_ok-open_inner.ensures.opened c.in_ok-defs.ensures.outer c.close_scope.ensures
+component_type-returns-clause-scopes t c = closed_again c.args.scopes.now c.open_inner.new.scopes c.component_declarations-made.new.scopes
+    c.close_scope.new.self _ _ c.in_ok-open_inner.ensures.opened c.in_ok-defs.ensures.outer c.close_scope.ensures
 
 pub instance_declarations-loop-done-init : goal.instance_declarations-loop-done-init
 instance_declarations-loop-done-init t c = record {
-  progress = begins c.args.scopes.now c.new-exports.result c.new-exports.result _ refl c.requires.fresh c.new-exports.ensures c.new-exports.ensures (ap (map full_instance_decl) c.new-defs.ensures.items);
+  progress = begins c.args.scopes.now c.new-exports.result c.new-exports.result _ refl c.requires.fresh c.new-exports.ensures c.new-exports.ensures
+      (ap (map full_instance_decl) c.new-defs.ensures.items);
   outer = same_refl c.args.scopes.now;
   fuel = omega arith;
   tail = (0, refl);
@@ -96,13 +109,16 @@ pub instance_declarations-returns-then-not-more-clause-made : goal.instance_decl
 instance_declarations-returns-then-not-more-clause-made t c = stops c.loop-done.invariant.progress _ c.more.result c.more.ensures c.if-not-more.true
 
 pub instance_declarations-returns-then-fuel-eq0-clause-made : goal.instance_declarations-returns-then-fuel-eq0-clause-made
-instance_declarations-returns-then-fuel-eq0-clause-made t c = spends c.loop-done.invariant.progress _ c.more.result c.burn.new.fuel c.more.ensures c.if-not-more.false c.burn.ensures c.if-fuel-eq0.true
+instance_declarations-returns-then-fuel-eq0-clause-made t c =
+    spends c.loop-done.invariant.progress _ c.more.result c.burn.new.fuel c.more.ensures c.if-not-more.false c.burn.ensures c.if-fuel-eq0.true
 
 pub instance_declarations-returns-in_err-decl-clause-tail : goal.instance_declarations-returns-in_err-decl-clause-tail
-instance_declarations-returns-in_err-decl-clause-tail t c = tail_trans c.in_err-decl.ensures.tail (tail_trans (more_tail c.more.ensures) c.loop-done.invariant.tail)
+instance_declarations-returns-in_err-decl-clause-tail t c = tail_trans c.in_err-decl.ensures.tail
+    (tail_trans (more_tail c.more.ensures) c.loop-done.invariant.tail)
 
 pub instance_declarations-returns-in_err-push-clause-tail : goal.instance_declarations-returns-in_err-push-clause-tail
-instance_declarations-returns-in_err-push-clause-tail t c = tail_trans c.in_ok-decl.ensures.tail (tail_trans (more_tail c.more.ensures) c.loop-done.invariant.tail)
+instance_declarations-returns-in_err-push-clause-tail t c = tail_trans c.in_ok-decl.ensures.tail
+    (tail_trans (more_tail c.more.ensures) c.loop-done.invariant.tail)
 
 pub instance_declarations-loop-done-preserved : goal.instance_declarations-loop-done-preserved
 instance_declarations-loop-done-preserved t c =
@@ -110,7 +126,9 @@ instance_declarations-loop-done-preserved t c =
     let made = c.in_ok-decl.ensures.made false p.so_far.exports p.so_far.imports _ p.exports_are (in_instance refl) in
     let size = declaration_size _ _ _ _ _ _ _ _ _ made in
     record {
-      progress = goes_on p _ _ c.more.result c.burn.new.fuel _ _ c.declaration.new.scopes c.declaration.new.exports c.declaration.new.exports _ c.more.ensures c.if-not-more.false c.burn.ensures (omega (arith, c.if-fuel-eq0.false)) made c.in_ok-decl.ensures.declares (λ e. absurd (false≢true e)) (c.in_ok-decl.ensures.names p.so_far.exports p.exports_are)
+      progress = goes_on p _ _ c.more.result c.burn.new.fuel _ _ c.declaration.new.scopes c.declaration.new.exports c.declaration.new.exports _ c.more.ensures
+          c.if-not-more.false c.burn.ensures (omega (arith, c.if-fuel-eq0.false)) made c.in_ok-decl.ensures.declares (λ e. absurd (false≢true e))
+          (c.in_ok-decl.ensures.names p.so_far.exports p.exports_are)
           (ap (map full_instance_decl) c.in_ok-push.ensures.items ∙ map-append full_instance_decl c.loop-done.defs.items (c.in_ok-decl.decl ∷ []));
       outer = same_trans c.loop-done.invariant.outer c.in_ok-decl.ensures.outer;
       fuel = omega (arith, size, c.burn.ensures, c.loop-done.invariant.fuel);
@@ -121,40 +139,48 @@ pub instance_declarations-returns-clause-made : goal.instance_declarations-retur
 instance_declarations-returns-clause-made t c = is_full c.loop-done.invariant.progress (omega (arith, c.loop-done-test.false))
 
 pub instance_type-returns-in_err-defs-clause-scopes : goal.instance_type-returns-in_err-defs-clause-scopes
-instance_type-returns-in_err-defs-clause-scopes t c = closed_again c.args.scopes.now c.open_inner.new.scopes c.instance_declarations-made.new.scopes c.close_scope.new.self _ _ c.in_ok-open_inner.ensures.opened c.in_err-defs.ensures.outer c.close_scope.ensures
+instance_type-returns-in_err-defs-clause-scopes t c = closed_again c.args.scopes.now c.open_inner.new.scopes c.instance_declarations-made.new.scopes
+    c.close_scope.new.self _ _ c.in_ok-open_inner.ensures.opened c.in_err-defs.ensures.outer c.close_scope.ensures
 
 pub instance_type-returns-in_err-new-clause-scopes : goal.instance_type-returns-in_err-new-clause-scopes
-instance_type-returns-in_err-new-clause-scopes t c = closed_again c.args.scopes.now c.open_inner.new.scopes c.instance_declarations-made.new.scopes c.close_scope.new.self _ _ c.in_ok-open_inner.ensures.opened c.in_ok-defs.ensures.outer c.close_scope.ensures
+instance_type-returns-in_err-new-clause-scopes t c = closed_again c.args.scopes.now c.open_inner.new.scopes c.instance_declarations-made.new.scopes
+    c.close_scope.new.self _ _ c.in_ok-open_inner.ensures.opened c.in_ok-defs.ensures.outer c.close_scope.ensures
 
 pub instance_type-returns-clause-made : goal.instance_type-returns-clause-made
 instance_type-returns-clause-made t c =
     let ds = in_order (map full_instance_decl c.in_ok-defs.defs.items) in
-    let M : List Scope → Type 0 = λ ss. MadeDeclarations c.args.config.now false ss 0 nothing_so_far c.args.u.now c.args.fuel.now ds c.instance_declarations-made.new.u c.instance_declarations-made.new.fuel in (
+    let M : List Scope → Type 0 = λ ss. MadeDeclarations c.args.config.now false ss 0 nothing_so_far c.args.u.now c.args.fuel.now ds
+    c.instance_declarations-made.new.u c.instance_declarations-made.new.fuel in (
       ds,
       subst M c.in_ok-open_inner.ensures.around c.in_ok-defs.ensures.made,
       full_instance c.in_ok-new.field-0 ∙ ap (λ ty. instance_type (in_order (map full_instance_decl ty.defs.items))) c.in_ok-new.ensures.ok,
     )
 
 pub instance_type-returns-clause-scopes : goal.instance_type-returns-clause-scopes
-instance_type-returns-clause-scopes t c = closed_again c.args.scopes.now c.open_inner.new.scopes c.instance_declarations-made.new.scopes c.close_scope.new.self _ _ c.in_ok-open_inner.ensures.opened c.in_ok-defs.ensures.outer c.close_scope.ensures
+instance_type-returns-clause-scopes t c = closed_again c.args.scopes.now c.open_inner.new.scopes c.instance_declarations-made.new.scopes c.close_scope.new.self
+    _ _ c.in_ok-open_inner.ensures.opened c.in_ok-defs.ensures.outer c.close_scope.ensures
 
 pub declaration-returns-clause-made : goal.declaration-returns-clause-made
 declaration-returns-clause-made t c = λ importing so_far imports start held none.
     IfOk-weaker c.declaration_of.result _ _
-    (λ d m. item_made c.args.config.now importing (record { own = own_scope c.args.scopes.now; imports = imports; exports = so_far }) (outer_scopes c.args.scopes.now) start _ _ _ _ _ _ _ none c.declaration_item-item.ensures.reads m)
+    (λ d m. item_made c.args.config.now importing (record { own = own_scope c.args.scopes.now; imports = imports; exports = so_far })
+    (outer_scopes c.args.scopes.now) start _ _ _ _ _ _ _ none c.declaration_item-item.ensures.reads m)
     (c.declaration_of.ensures.made so_far held)
 
 pub declaration_of-returns-in-Alias-clause-names : goal.declaration_of-returns-in-Alias-clause-names
-declaration_of-returns-in-Alias-clause-names t c = λ so_far held. IfOk-weaker c.outer_alias.result _ _ (λ d n. names_stay c.args.exports.now so_far _ n.no_export held) c.outer_alias.ensures.nameless
+declaration_of-returns-in-Alias-clause-names t c = λ so_far held. IfOk-weaker c.outer_alias.result _ _
+    (λ d n. names_stay c.args.exports.now so_far _ n.no_export held) c.outer_alias.ensures.nameless
 
 pub declaration_of-returns-in-CoreType-clause-names : goal.declaration_of-returns-in-CoreType-clause-names
-declaration_of-returns-in-CoreType-clause-names t c = λ so_far held. IfOk-weaker c.core_type_decl.result _ _ (λ d n. names_stay c.args.exports.now so_far _ n.no_export held) c.core_type_decl.ensures.nameless
+declaration_of-returns-in-CoreType-clause-names t c = λ so_far held. IfOk-weaker c.core_type_decl.result _ _
+    (λ d n. names_stay c.args.exports.now so_far _ n.no_export held) c.core_type_decl.ensures.nameless
 
 pub declaration_of-returns-in-CoreType-clause-made : goal.declaration_of-returns-in-CoreType-clause-made
 declaration_of-returns-in-CoreType-clause-made t c = λ so_far held. rw c.in-CoreType.is (c.core_type_decl.ensures.made so_far)
 
 pub declaration_of-returns-in-Type-clause-names : goal.declaration_of-returns-in-Type-clause-names
-declaration_of-returns-in-Type-clause-names t c = λ so_far held. IfOk-weaker c.type_decl.result _ _ (λ d n. names_stay c.args.exports.now so_far _ n.no_export held) c.type_decl.ensures.nameless
+declaration_of-returns-in-Type-clause-names t c = λ so_far held. IfOk-weaker c.type_decl.result _ _
+    (λ d n. names_stay c.args.exports.now so_far _ n.no_export held) c.type_decl.ensures.nameless
 
 pub declaration_of-returns-in-Type-clause-made : goal.declaration_of-returns-in-Type-clause-made
 declaration_of-returns-in-Type-clause-made t c = λ so_far held. rw c.in-Type.is (c.type_decl.ensures.made so_far)
@@ -167,12 +193,19 @@ made_type-returns-clause-tail t c = tail_trans c.in_ok-made.ensures.tail c.type_
 
 pub made_type-returns-clause-made : goal.made_type-returns-clause-made
 made_type-returns-clause-made t c =
-    let P : DefType → Type 0 = λ ty. Made c.args.config.now (own_scope c.args.scopes.now) (outer_scopes c.args.scopes.now) c.args.u.now c.args.fuel.now (full_type ty) c.type_of.new.u c.type_of.new.fuel in
+    let P : DefType → Type 0 = λ ty. Made c.args.config.now (own_scope c.args.scopes.now) (outer_scopes c.args.scopes.now) c.args.u.now c.args.fuel.now
+    (full_type ty) c.type_of.new.u c.type_of.new.fuel in
     subst P (sym c.in_ok-shared.ensures.ok)
-    (type_made c.args.config.now (own_scope c.args.scopes.now) (outer_scopes c.args.scopes.now) _ _ _ c.type_kind-kind.result c.args.fuel.now c.burn.new.fuel _ _ c.burn.ensures c.type_kind-kind.ensures.spent c.type_kind-kind.ensures.chosen c.in_ok-made.ensures.made)
+    (type_made c.args.config.now (own_scope c.args.scopes.now) (outer_scopes c.args.scopes.now) _ _ _ c.type_kind-kind.result c.args.fuel.now c.burn.new.fuel _
+    _ c.burn.ensures c.type_kind-kind.ensures.spent c.type_kind-kind.ensures.chosen c.in_ok-made.ensures.made)
 
 pub type_decl-push_type-requires : goal.type_decl-push_type-requires
-type_decl-push_type-requires t c = omega (arith, length-last c.made_type.new.scopes, ap (λ s. length (own_scope s).types) c.in_ok-ty.ensures.scopes, c.requires.room)
+type_decl-push_type-requires t c = omega (
+  arith,
+  length-last c.made_type.new.scopes,
+  ap (λ s. length (own_scope s).types) c.in_ok-ty.ensures.scopes,
+  c.requires.room,
+)
 
 pub type_decl-returns-clause-declares : goal.type_decl-returns-clause-declares
 type_decl-returns-clause-declares t c =
@@ -180,5 +213,7 @@ type_decl-returns-clause-declares t c =
     let g = grown _ _ _ c.in_ok-push_type.ensures.ok in
     let same = c.in_ok-ty.ensures.scopes in
     declares _ _ _
-    (g.own ∙ (ap (λ s. with_type (own_scope s) (shown_type c.in_ok-entry.entry.value)) same ∙ (ap (λ ty. with_type (own_scope old) (shown_type ty)) c.in_ok-entry.ensures.cases ∙ ap (after_decl (outer_scopes old) (own_scope old)) (sym (instance_type_decl c.in_ok-ty.ty)))))
+    (g.own ∙ (ap (λ s. with_type (own_scope s) (shown_type c.in_ok-entry.entry.value)) same
+    ∙ (ap (λ ty. with_type (own_scope old) (shown_type ty)) c.in_ok-entry.ensures.cases
+    ∙ ap (after_decl (outer_scopes old) (own_scope old)) (sym (instance_type_decl c.in_ok-ty.ty)))))
     (g.outer ∙ ap outer_scopes same)

@@ -38,7 +38,8 @@ decreases-type_of l = 8 * l.fuel.now + 7
 -- what completes the declarations so far completes all of them
 abbrev pub invariant-component_declarations-loop-done : goal.invariant-component_declarations-loop-done
 invariant-component_declarations-loop-done l = record {
-  progress : Progress l.config true (outer_scopes l.fn.scopes) l.fn.u l.fn.fuel l.done l.scopes l.imports l.exports (map full_component_decl l.defs.items) l.u l.fuel;
+  progress : Progress l.config true (outer_scopes l.fn.scopes) l.fn.u l.fn.fuel l.done l.scopes l.imports l.exports (map full_component_decl l.defs.items) l.u
+      l.fuel;
   outer : SameOuter l.fn.scopes l.scopes;
   fuel : l.fuel ≤ l.fn.fuel;
   tail : IsTail l.u l.fn.u;
@@ -46,7 +47,8 @@ invariant-component_declarations-loop-done l = record {
 
 abbrev pub invariant-instance_declarations-loop-done : goal.invariant-instance_declarations-loop-done
 invariant-instance_declarations-loop-done l = record {
-  progress : Progress l.config false (outer_scopes l.fn.scopes) l.fn.u l.fn.fuel l.done l.scopes l.exports l.exports (map full_instance_decl l.defs.items) l.u l.fuel;
+  progress : Progress l.config false (outer_scopes l.fn.scopes) l.fn.u l.fn.fuel l.done l.scopes l.exports l.exports (map full_instance_decl l.defs.items) l.u
+      l.fuel;
   outer : SameOuter l.fn.scopes l.scopes;
   fuel : l.fuel ≤ l.fn.fuel;
   tail : IsTail l.u l.fn.u;

@@ -8,4 +8,5 @@ returns-clause-fresh c = on_ok_weaker c.open_scope.result (opened_own c.args.sco
 
 pub returns-clause-around : goal.returns-clause-around
 returns-clause-around c =
-    on_ok_weaker c.open_scope.result (λ both. opened_around c.args.scopes.now c.open_scope.new.self both.0 both.1) (both_on _ _ c.open_scope.result c.open_scope.ensures.ok c.open_scope.ensures.deep)
+    on_ok_weaker c.open_scope.result (λ both. opened_around c.args.scopes.now c.open_scope.new.self both.0 both.1)
+    (both_on _ _ c.open_scope.result c.open_scope.ensures.ok c.open_scope.ensures.deep)

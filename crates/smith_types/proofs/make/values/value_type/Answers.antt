@@ -25,7 +25,8 @@ returns-clause-reads c =
       | else-defined-gt0-via-then-defined-gt0+else-choose_index-eq1 w ↦
           let P : ℕ → Type 0 = λ k. Reads 2 c.args.u.now k w.choose_index.new.self in
           let zero : w.choose_index.result ≡ 0 = omega (arith, w.choose_index.ensures.below) in
-          either_primitive (omega (arith, c.kind_len-defined.ensures.count)) (subst P zero w.choose_index.ensures) (subst R w.u-is c.primitive_type.ensures.reads)
+          either_primitive (omega (arith, c.kind_len-defined.ensures.count)) (subst P zero w.choose_index.ensures)
+          (subst R w.u-is c.primitive_type.ensures.reads)
       | else-defined-gt0-via-else-defined-gt0 w ↦
           only_primitive (none _ (omega (arith, c.kind_len-defined.ensures.count))) (subst R w.u-is c.primitive_type.ensures.reads)
     ]

@@ -14,11 +14,13 @@ returns-in_err-write_count c =
 pub returns-in_err-put_table : goal.returns-in_err-put_table
 returns-in_err-put_table c =
     let count = rw (← pairs_long _ _ c.requires) at ((c.in_ok-write_count.ensures {u = tt}).written) in
-    loop_exit _ _ _ _ _ _ c.from_residual-in_err-put_table.ensures.1 count _ c.loop-at.invariant (rw (pairs_long _ _ c.requires) c.loop-at-test.true) (pair_at _ _ _ _ _ c.requires c.loop-at-test.true c.index-initials-at.is) (c.in_err-put_table.ensures {u = tt})
+    loop_exit _ _ _ _ _ _ c.from_residual-in_err-put_table.ensures.1 count _ c.loop-at.invariant (rw (pairs_long _ _ c.requires) c.loop-at-test.true)
+    (pair_at _ _ _ _ _ c.requires c.loop-at-test.true c.index-initials-at.is) (c.in_err-put_table.ensures {u = tt})
 
 pub loop-at-preserved : goal.loop-at-preserved
 loop-at-preserved c =
-    put_next _ _ _ _ _ _ _ c.loop-at.invariant (rw (pairs_long _ _ c.requires) c.loop-at-test.true) (pair_at _ _ _ _ _ c.requires c.loop-at-test.true c.index-initials-at.is) (c.in_ok-put_table.ensures {u = tt})
+    put_next _ _ _ _ _ _ _ c.loop-at.invariant (rw (pairs_long _ _ c.requires) c.loop-at-test.true)
+    (pair_at _ _ _ _ _ c.requires c.loop-at-test.true c.index-initials-at.is) (c.in_ok-put_table.ensures {u = tt})
 
 pub returns : goal.returns
 returns c =

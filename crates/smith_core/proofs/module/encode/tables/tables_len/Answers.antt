@@ -17,12 +17,14 @@ pub returns-in_err-total : goal.returns-in_err-total
 returns-in_err-total c =
     let pair = pair_at _ _ _ _ _ c.requires c.loop-at-test.true c.index-initials-at.is in
     rw c.from_residual-in_err-total.ensures
-    (many_too_much table _ (each_reaches _ _ _ _ _ _ (rw (pairs_long _ _ c.requires) c.loop-at-test.true) pair c.loop-at.invariant ((c.in_ok-table_len.ensures {u = tt}).0) (omega (arith, c.in_err-total.ensures {u = tt}))))
+    (many_too_much table _ (each_reaches _ _ _ _ _ _ (rw (pairs_long _ _ c.requires) c.loop-at-test.true) pair c.loop-at.invariant
+    ((c.in_ok-table_len.ensures {u = tt}).0) (omega (arith, c.in_err-total.ensures {u = tt}))))
 
 pub loop-at-preserved : goal.loop-at-preserved
 loop-at-preserved c =
     let pair = pair_at _ _ _ _ _ c.requires c.loop-at-test.true c.index-initials-at.is in
-    sum_next _ _ _ _ _ _ _ c.loop-at.invariant (rw (pairs_long _ _ c.requires) c.loop-at-test.true) pair ((c.in_ok-table_len.ensures {u = tt}).0) ((c.in_ok-total.ensures {u = tt}).1)
+    sum_next _ _ _ _ _ _ _ c.loop-at.invariant (rw (pairs_long _ _ c.requires) c.loop-at-test.true) pair ((c.in_ok-table_len.ensures {u = tt}).0)
+    ((c.in_ok-total.ensures {u = tt}).1)
 
 pub returns-in_err-count_len : goal.returns-in_err-count_len
 returns-in_err-count_len c =

@@ -4,4 +4,5 @@ use Rattle.smith_core.proofs.module.parts.ModuleParts.put_section.Goals as goal
 pub returns : goal.returns
 returns c =
     rw (← c.writes.ensures, c.if-not-writes.false)
-    (rw c.id.ensures at (ends_sized c.put_contents.result c.id.result _ ((c.in-Some.ensures {u = tt}).0) (c.in_ok-write_head.ensures {u = tt}) c.put_contents.ensures))
+    (rw c.id.ensures at (ends_sized c.put_contents.result c.id.result _ ((c.in-Some.ensures {u = tt}).0) (c.in_ok-write_head.ensures {u = tt})
+    c.put_contents.ensures))

@@ -19,4 +19,5 @@ returns-in_err-many_len-in-Expressions c =
 pub returns-in_ok-many_len-in-Expressions : goal.returns-in_ok-many_len-in-Expressions
 returns-in_ok-many_len-in-Expressions c =
     let listed = rw c.deref-in-Expressions.ensures.value at ((c.in_ok-many_len-in-Expressions.ensures {u = tt}).0) in
-    rw c.in-Expressions.is (length_then c.checked_add-in-Expressions.result c.checked_add-in-Expressions.ensures ((c.in_ok-expressions_front_len-in-Expressions.ensures {u = tt}).0) listed)
+    rw c.in-Expressions.is (length_then c.checked_add-in-Expressions.result c.checked_add-in-Expressions.ensures
+    ((c.in_ok-expressions_front_len-in-Expressions.ensures {u = tt}).0) listed)
