@@ -11,7 +11,7 @@ CRATES = "crates"
 PARTS = [
     ("The first half: one reading, well formed, within the limits", ["Generates"]),
     ("The second half: scripts and plans", ["Script"]),
-    ("Runs and refusals", ["Turn", "Refusals"]),
+    ("Runs and refusals", ["Runs", "Refusals"]),
 ]
 IMPORT = re.compile(r"\s*(?:pub )?use Rattle\.(smith_\w+)\.specs\.([\w.]+?)(?:\.\{.*| as .*)?$")
 
