@@ -7,8 +7,8 @@ use Rattle.smith_component.proofs.component.Component.to_bytes.Goals as goal
 
 pub returns-clause-reading : goal.returns-clause-reading
 returns-clause-reading c t =
-    let g = rw (c.in_ok-out.ensures {u = tt}).items at ((c.in_ok-filled.ensures {u = tt}).is) in
-    let e : Spells c.args.self.now c.put_component-filled.new.out.items = sym (left_nil _) ∙ sym g in (
-      λ h. spells_law t c.args.self.now c.put_component-filled.new.out.items h e,
-      λ h. let P : Tree → Type 0 = λ x. Spells x c.put_component-filled.new.out.items in subst P (sym h) e,
+    let g = rw c.in_ok-out.ensures.items at c.in_ok-fill.ensures.puts.is in
+    let e : Spells c.args.self.now c.fill.new.out.items = sym (left_nil _) ∙ sym g in (
+      λ h. spells_law t c.args.self.now c.fill.new.out.items h e,
+      λ h. let P : Tree → Type 0 = λ x. Spells x c.fill.new.out.items in subst P (sym h) e,
     )
