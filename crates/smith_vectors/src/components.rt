@@ -43,24 +43,28 @@ fn components_within_small_limits(rt: HostRuntime) -> Result<(), Fail> {
             gives: &[8, 1, 0],
             leaves: b"",
         },
+        // Types (3): more, defined (0), primitive (0), u32 (6); no more. Finish (0).
         Row {
             name: "one primitive type",
             input: b"\x03\x01\x00\x00\x06\x00\x00",
             gives: &[7, 2, 1, 0x79],
             leaves: b"",
         },
+        // The same, and one byte behind it.
         Row {
             name: "one byte is left",
             input: b"\x03\x01\x00\x00\x06\x00\x00\xff",
             gives: &[7, 2, 1, 0x79],
             leaves: b"\xff",
         },
+        // The same, and two bytes behind it.
         Row {
             name: "two bytes are left",
             input: b"\x03\x01\x00\x00\x06\x00\x00\xff\x07",
             gives: &[7, 2, 1, 0x79],
             leaves: b"\xff\x07",
         },
+        // Types: more, u32 (0, 0, 6); no more. Types: more, bool (0, 0, 0); no more. Finish.
         Row {
             name: "two type sections stay two",
             input: b"\x03\x01\x00\x00\x06\x00\x03\x01\x00\x00\x00\x00\x00",
@@ -73,6 +77,8 @@ fn components_within_small_limits(rt: HostRuntime) -> Result<(), Fail> {
             gives: &[1, 8, 0x00, 0x61, 0x73, 0x6d, 0x01, 0x00, 0x00, 0x00],
             leaves: b"",
         },
+        // Core module (6): more, a function type without parameters and results (0, 0); no more. More, a memory of at
+        // least 1 without a maximum (1, 0); no more. Past the end is finish.
         Row {
             name: "an embedded module with a type and a memory",
             input: b"\x06\x01\x00\x00\x00\x01\x01\x00\x00",
@@ -94,6 +100,8 @@ fn components_within_small_limits(rt: HostRuntime) -> Result<(), Fail> {
             gives: &[4, 8, 0x00, 0x61, 0x73, 0x6d, 0x0d, 0x00, 0x01, 0x00],
             leaves: b"",
         },
+        // Custom (1): a text of length 1 (0, 1), `a`; bytes 1 and 2, and no more. Types (3): more, a list (0, 3) of
+        // u32 (6); no more. Component (7): finish. Core module (6): no type, and past the end no memory and finish.
         Row {
             name: "sections of five sorts",
             input: b"\x01\x00\x01a\x01\x01\x01\x02\x00\x03\x01\x00\x03\x06\x00\x07\x00\x06\x00",

@@ -5,6 +5,7 @@ use crate::parts::check_equal_answers;
 use smith_component::Config;
 use std::test::Fail;
 
+// Those of more than six bytes are inputs of other tables, read choice by choice there, some with a byte behind.
 const OTHER_INPUTS: &[(&str, &[u8])] = &[
     ("no input", b""),
     ("a module", b"\x06"),

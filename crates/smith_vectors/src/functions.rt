@@ -12,6 +12,9 @@ const LOWERED: &[u8] = &[
 #[test]
 fn functions_within_small_limits(rt: HostRuntime) -> Result<(), Fail> {
     let rows = [
+        // Types: more, function (1), a parameter (1), `a`, u32 (6), no more, a result (1), bool (0); no more. Imports
+        // (4): more, of a function alone, `b`, no URL; no more. Canonical (5): more, a lower alone; more, lift (1 of
+        // lower, lift), `a`, u32 (7), bool (1), the only equal type; no more. Finish.
         Row {
             name: "an import, a lower and a lift to the same type",
             input: b"\x03\x01\x01\x01\x01\x00\x06\x00\x01\x00\x00\x04\x01\x01\x01\x00\x00\x05\x01\x01\x01\x01\x00\x07\x01\x00\x00",
@@ -21,6 +24,8 @@ fn functions_within_small_limits(rt: HostRuntime) -> Result<(), Fail> {
             ],
             leaves: b"",
         },
+        // The same type, import and lower; more, lift (1), `b` (1, 1), char (0), char (0), which no type is equal to;
+        // no more. Finish.
         Row {
             name: "a lift that defines its type splits the section",
             input: b"\x03\x01\x01\x01\x01\x00\x06\x00\x01\x00\x00\x04\x01\x01\x01\x00\x00\x05\x01\x01\x01\x01\x01\x00\x00\x00\x00",
@@ -30,6 +35,8 @@ fn functions_within_small_limits(rt: HostRuntime) -> Result<(), Fail> {
             ],
             leaves: b"",
         },
+        // Types: more, a function of nothing (1, 0, 0); no more. Imports: more, `a`, no URL; more, `a`, a URL (1),
+        // `a`; no more. Finish.
         Row {
             name: "a name that is taken, and a URL that is not written",
             input: b"\x03\x01\x01\x00\x00\x00\x04\x01\x01\x00\x00\x01\x01\x00\x01\x01\x00\x00\x00",
@@ -38,6 +45,7 @@ fn functions_within_small_limits(rt: HostRuntime) -> Result<(), Fail> {
             ],
             leaves: b"",
         },
+        // Types: more, a function of nothing; no more. Twice imports: more, `a`, no URL; no more. Finish.
         Row {
             name: "a name that is taken in another section",
             input: b"\x03\x01\x01\x00\x00\x00\x04\x01\x01\x00\x00\x00\x04\x01\x01\x00\x00\x00\x00",
@@ -60,6 +68,7 @@ fn functions_within_other_limits(rt: HostRuntime) -> Result<(), Fail> {
         max_types: 1,
         ..small_limits()
     };
+    // As the lift that defines its type, but the type section is full and asks for no more.
     let row = Row {
         name: "a lift that is given up",
         input: b"\x03\x01\x01\x01\x01\x00\x06\x00\x01\x00\x04\x01\x01\x01\x00\x00\x05\x01\x01\x01\x01\x01\x00\x00\x00\x00",
@@ -71,6 +80,7 @@ fn functions_within_other_limits(rt: HostRuntime) -> Result<(), Fail> {
         max_imports: 1,
         ..small_limits()
     };
+    // Types: more, a function of nothing; no more. Imports: more, `a`, no URL; full. Imports: full at once. Finish.
     let row = Row {
         name: "a second import section finds no room",
         input: b"\x03\x01\x01\x00\x00\x00\x04\x01\x01\x00\x00\x04\x00",
@@ -97,6 +107,7 @@ fn minima_are_filled(rt: HostRuntime) -> Result<(), Fail> {
         min_imports: 1,
         ..small_limits()
     };
+    // Types: more, a function of nothing; no more. Finish, where an import is filled: past the end `a`, no URL.
     let row = Row {
         name: "one import",
         input: b"\x03\x01\x01\x00\x00\x00\x00",
@@ -108,6 +119,8 @@ fn minima_are_filled(rt: HostRuntime) -> Result<(), Fail> {
         min_funcs: 2,
         ..small_limits()
     };
+    // Types: more, the function type of one u32 to bool; no more. Imports: more, `b`, no URL; no more. Finish, where
+    // the lower is filled.
     let row = Row {
         name: "two functions",
         input: b"\x03\x01\x01\x01\x01\x00\x06\x00\x01\x00\x00\x04\x01\x01\x01\x00\x00\x00",
@@ -137,6 +150,7 @@ fn minima_that_cannot_be_filled_are_refused(rt: HostRuntime) {
             b"",
         ),
         (
+            // Types: more, a function of nothing; no more. Imports: more, `a`, no URL; no more. Component (7): finish.
             "an import in the component within, and nothing to import there",
             Config {
                 min_imports: 1,
@@ -154,6 +168,8 @@ fn minima_that_cannot_be_filled_are_refused(rt: HostRuntime) {
 
 #[test]
 fn the_url_of_an_import_is_kept(rt: HostRuntime) -> Result<(), Fail> {
+    // Types: more, a function of nothing; no more. Imports: more, `a`, no URL; more, `a`, a URL (1), `a`; no more.
+    // Finish.
     let input =
         b"\x03\x01\x01\x00\x00\x00\x04\x01\x01\x00\x00\x01\x01\x00\x01\x01\x00\x00\x00" as &[u8];
     let mut u = Unstructured::new(input);
@@ -180,6 +196,8 @@ fn the_url_of_an_import_is_kept(rt: HostRuntime) -> Result<(), Fail> {
 
 #[test]
 fn a_url_that_is_taken_is_made_new(rt: HostRuntime) -> Result<(), Fail> {
+    // Types: more, a function of nothing; no more. Imports: more, `a`, a URL, `a`; more, `b`, a URL, `a`; no more.
+    // Finish.
     let input =
         b"\x03\x01\x01\x00\x00\x00\x04\x01\x01\x00\x01\x01\x00\x01\x01\x01\x01\x01\x00\x00\x00" as &[u8];
     let mut u = Unstructured::new(input);
@@ -202,6 +220,7 @@ fn a_url_that_is_taken_is_made_new(rt: HostRuntime) -> Result<(), Fail> {
 
 #[test]
 fn canonical_functions_by_their_indexes(rt: HostRuntime) -> Result<(), Fail> {
+    // A function type, an import of it, a lower, and a lift that defines its type, as in the first table.
     let input =
         b"\x03\x01\x01\x01\x01\x00\x06\x00\x01\x00\x00\x04\x01\x01\x01\x00\x00\x05\x01\x01\x01\x01\x01\x00\x00\x00\x00" as &[u8];
     let mut u = Unstructured::new(input);

@@ -8,18 +8,23 @@ use smith_component::Config;
 use std::test::Fail;
 
 const EXAMPLES: &[Row<'static>] = &[
+    // Instance (3); more, a core type without a choice, a function of nothing (0, 0, 0); no more.
     Row {
         name: "an instance type at the depth limit",
         input: b"\x03\x01\x03\x01\x00\x00\x00\x00\x00\x00",
         gives: &[7, 7, 1, 0x42, 1, 0, 0x60, 0, 0],
         leaves: b"",
     },
+    // Bool (0, 0, 0). More, instance (3); more, alias (0 of alias, core type) of the only entry; no more.
     Row {
         name: "an outer alias, where the scope of its own is empty",
         input: b"\x03\x01\x00\x00\x00\x01\x03\x01\x00\x00\x00\x00",
         gives: &[7, 9, 2, 0x7f, 0x42, 1, 2, 3, 2, 1, 0],
         leaves: b"",
     },
+    // A function of nothing (1, 0, 0). More, component (2); more, alias (0) of the only entry; more, 0 in 0..3, of a
+    // function alone, `b`, no URL; more, 1 in 0..3, export (0 of export, alias, core type), type equal (0 of two),
+    // `c`, no URL; no more.
     Row {
         name: "an alias, an import and an exported type in a component type",
         input: b"\x03\x01\x01\x00\x00\x01\x02\x01\x00\x01\x00\x01\x01\x00\x01\x01\x00\x00\x01\x02\x00\x00\x00\x00",
@@ -215,6 +220,7 @@ fn an_instance_type_at_a_depth_of_nothing(rt: HostRuntime) -> Result<(), Fail> {
         max_nesting_depth: 0,
         ..small_limits()
     };
+    // Instance (3); more, a core type without a choice, a function of nothing (0, 0, 0); no more.
     let row = Row {
         name: "an instance type at a depth of nothing",
         input: b"\x03\x01\x03\x01\x00\x00\x00\x00\x00\x00",
