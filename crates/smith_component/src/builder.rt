@@ -184,7 +184,8 @@ impl Builder {
             → IsChosen self.config (open_of self) u.old Module u.new) }
         // The root is finished without memory where no input is left and it lacks nothing.
         ensures alone { IsReady self.config (open_of self) u.old → IsAnswered result }
-        ensures fills { CanFill self.config (open_of self).inner → IfErr result (λ e. ¬ (e ≡ Error.MinimumNotMet)) }
+        ensures fills { CanFill self.config (open_of self).inner
+            → IfErr result (λ e. ¬ (e ≡ Error.MinimumNotMet)) }
         ensures tail { IsTail u.new u.old }
     {
         let mut progress = self.progress;

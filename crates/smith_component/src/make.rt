@@ -36,8 +36,8 @@ impl Component {
             → u.old ≡ script config plan ++ rest → IfErr result (λ e. e ≡ Error.OutOfMemory) }
         ensures accepts { OnOk result (IsConsistent config) }
         ensures refuses { IfErr result (IsRefusal config u.old) }
-        // Where no import and no function is owed, and the limits on memories do not cross, it refuses for want of memory
-        // alone.
+        // Where no import and no function is owed, and the limits on memories do not cross, it refuses for want of
+        // memory alone.
         ensures acceptance { IsConsistent config → config.min_imports ≡ 0 → config.min_funcs ≡ 0
             → config.min_memories ≤ config.max_memories → IfErr result (λ e. e ≡ Error.OutOfMemory) }
         ensures unread { ¬ IsConsistent config → u.new ≡ u.old }

@@ -1,6 +1,7 @@
 //! What the canonical ABI asks of a module type, from the input.
 
-ghost use Rattle.std.specs.Prelude.{◌≡◌, ◌+◌, ◌<◌, ◌≤◌, ◌&&◌, ℕ, length, nat_lt, OnOk, IfOk, IfErr};
+ghost use Rattle.std.specs.Prelude.{◌≡◌, ◌+◌, ◌<◌, ◌≤◌, ◌&&◌, ℕ, length, nat_lt, OnOk, IfOk};
+ghost use Rattle.std.specs.Prelude.{IfErr};
 ghost use Rattle.smith_input.specs.Reading.{IsTail};
 ghost use Rattle.smith_format.specs.CoreTypes.{shown_func};
 ghost use Rattle.smith_core_types.specs.MadeCore.{allows_function, allows_type, MemoryLine};

@@ -1,6 +1,7 @@
 //! The names of what a module type imports and exports.
 
-ghost use Rattle.std.specs.Prelude.{◌≡◌, ◌∷◌, ℕ, List, [], map, length, string_bytes, IfOk, IfErr, MatchOption};
+ghost use Rattle.std.specs.Prelude.{◌≡◌, ◌∷◌, ℕ, List, [], map, length, string_bytes, IfOk, IfErr};
+ghost use Rattle.std.specs.Prelude.{MatchOption};
 ghost use Rattle.smith_input.specs.Names.{is_among};
 ghost use Rattle.smith_input.specs.Reading.{IsTail};
 ghost use Rattle.smith_input.specs.Texts.{ReadsText};

@@ -4,7 +4,8 @@
 #![tactic(auto, using(crate::proofs::Steps::writing, crate::proofs::Sizes::measuring))]
 
 ghost use Rattle.std.specs.Prelude.{◌≡◌, ◌≤◌, Bool};
-ghost use Rattle.smith_format.specs.Entities.{bit, maximum, limits, table_type, memory_type, global_type, tag_type, entity};
+ghost use Rattle.smith_format.specs.Entities.{bit, maximum, limits, table_type, memory_type, global_type, tag_type};
+ghost use Rattle.smith_format.specs.Entities.{entity};
 ghost use Rattle.smith_format.specs.Entities.{shown_import, core_import};
 ghost use Rattle.smith_format.specs.Writing.{Puts, Appends, Takes, IsLengthOf};
 

@@ -1,11 +1,13 @@
 //! Names that are read, and are new to a set of names.
 
-ghost use Rattle.std.specs.Prelude.{◌≡◌, ◌<◌, ◌≤◌, ◌++◌, ℕ, List, false, length, map, string_bytes, IfOk, IfErr, OnErr};
+ghost use Rattle.std.specs.Prelude.{◌≡◌, ◌<◌, ◌≤◌, ◌++◌, ℕ, List, false, length, map};
+ghost use Rattle.std.specs.Prelude.{string_bytes, IfOk, IfErr, OnErr};
 ghost use Rattle.std.specs.BTreeSet.{contains_text};
 ghost use Rattle.smith_input.specs.Reading.{IsTail};
 ghost use Rattle.smith_input.specs.Texts.{ReadsText};
 ghost use Rattle.smith_input.specs.Kebab.{Kebab};
-ghost use Rattle.smith_input.specs.Names.{character, is_among, ReadsKebab, IsMadeNew, ReadsNew, ReadsUnique, ReadsUrl, GainsName};
+ghost use Rattle.smith_input.specs.Names.{character, is_among, ReadsKebab, IsMadeNew, ReadsNew, ReadsUnique, ReadsUrl};
+ghost use Rattle.smith_input.specs.Names.{GainsName};
 ghost use Rattle.smith_input.specs.Script.{script_name};
 
 use crate::{Error, Unstructured, limited_string};
@@ -152,8 +154,8 @@ pub fn new_string<N: TakenNames>(
     made_unique(alloc, limited_string(alloc, max, u)?, names)
 }
 
-/// A name in kebab case that is none of the names: one is read and made unique as by `unique_kebab_string`. The error is
-/// `OutOfMemory` alone. Public for the crates above alone.
+/// A name in kebab case that is none of the names: one is read and made unique as by `unique_kebab_string`. The error
+/// is `OutOfMemory` alone. Public for the crates above alone.
 pub fn new_kebab_string<N: TakenNames>(
     alloc: Global,
     max: usize,

@@ -1,6 +1,7 @@
 //! The reader.
 
-ghost use Rattle.std.specs.Prelude.{◌≡◌, ℕ, ◌+◌, ◌-◌, ◌^◌, ◌<◌, ◌≤◌, ◌↔◌, IsTrue, [], length, Some};
+ghost use Rattle.std.specs.Prelude.{◌≡◌, ℕ, ◌+◌, ◌-◌, ◌^◌, ◌<◌, ◌≤◌, ◌↔◌, IsTrue};
+ghost use Rattle.std.specs.Prelude.{[], length, Some};
 ghost use Rattle.std.specs.Prelude.{slice_get, slice_index, drop};
 ghost use Rattle.smith_input.specs.Reading.{IsWidth, Reads, Flips, More, spelled};
 

@@ -1,6 +1,7 @@
 //! Laws of how types are read. Each function does nothing: its contract is the law.
 
-ghost use Rattle.std.specs.Prelude.{◌≡◌, ◌≤◌, ◌↔◌, ◌∷◌, ℕ, List, [], length, true, false, nat_eq};
+ghost use Rattle.std.specs.Prelude.{◌≡◌, ◌≤◌, ◌↔◌, ◌∷◌, ℕ, List, [], length, true, false};
+ghost use Rattle.std.specs.Prelude.{nat_eq};
 ghost use Rattle.smith_format.specs.declared.config.Config.{Config};
 ghost use Rattle.smith_input.specs.Reading.{IsDecided, IsReadAs};
 ghost use Rattle.smith_input.specs.Script.{script_among};
@@ -33,8 +34,8 @@ pub fn scripts_are_read()
         → IsReadAs (MadeWith config own outer fuel) (script_type e config fuel own outer) e }
 {}
 
-/// Where no type of a component, of an instance or of a core module stands in a scope, the script of what an import of a
-/// component is of has no byte for its kind: it is a choice among the function types.
+/// Where no type of a component, of an instance or of a core module stands in a scope, the script of what an import
+/// of a component is of has no byte for its kind: it is a choice among the function types.
 pub fn function_imports_choose_no_kind()
     ensures { (config : Config) (own : Scope) (totals : RefTotals) (i : ℕ)
         → places is_core_module 0 own.core_types ≡ [] → places is_component 0 own.types ≡ []

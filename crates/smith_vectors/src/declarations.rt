@@ -118,9 +118,9 @@ fn urls_of_imports_and_exports(rt: HostRuntime) -> Result<(), Fail> {
     Ok(())
 }
 
-// Types (3): more, function (1), no parameter, no result. More, component (2): more, alias (0 of alias, core type); more,
-// 0 in 0..3, `a`, a URL, `a`; more, 1 in 0..3, export (0 of export, alias, core type), function (1 of type equal,
-// function), `a`, a URL, `a`; no more. No more; finish.
+// Types (3): more, function (1), no parameter, no result. More, component (2): more, alias (0 of alias, core type);
+// more, 0 in 0..3, `a`, a URL, `a`; more, 1 in 0..3, export (0 of export, alias, core type), function (1 of type
+// equal, function), `a`, a URL, `a`; no more. No more; finish.
 const URLS_IN_A_COMPONENT: &[u8] = b"\x03\x01\x01\x00\x00\
     \x01\x02\x01\x00\
     \x01\x00\x01\x00\x01\x01\x00\

@@ -60,8 +60,8 @@ fn a_thousand_components_are_written_and_dropped(rt: HostRuntime) -> Result<(), 
 }
 
 // Modules that may have neither types nor memories read nothing. Each component is measured once, when it is finished,
-// and not again at each depth that it stands at: a measure at each depth would make this take some 300 times as long. 1 MiB of such input took 42 times longer at a depth of 1000
-// than at a depth of 2.
+// and not again at each depth that it stands at: a measure at each depth would make this take some 300 times as long.
+// 1 MiB of such input took 42 times longer at a depth of 1000 than at a depth of 2.
 #[test]
 fn components_at_each_depth_are_written_in_linear_time(rt: HostRuntime) -> Result<(), Fail> {
     let config = Config {

@@ -17,7 +17,8 @@ fn functions_within_small_limits(rt: HostRuntime) -> Result<(), Fail> {
         // lower, lift), `a`, u32 (7), bool (1), the only equal type; no more. Finish.
         Row {
             name: "an import, a lower and a lift to the same type",
-            input: b"\x03\x01\x01\x01\x01\x00\x06\x00\x01\x00\x00\x04\x01\x01\x01\x00\x00\x05\x01\x01\x01\x01\x00\x07\x01\x00\x00",
+            input: b"\x03\x01\x01\x01\x01\x00\x06\x00\x01\x00\x00\x04\x01\x01\x01\x00\x00\x05\x01\
+                \x01\x01\x01\x00\x07\x01\x00\x00",
             gives: &[
                 7, 8, 1, 0x40, 1, 1, b'a', 0x79, 0, 0x7f, 10, 6, 1, 0, 1, b'b', 1, 0, 8, 10, 2, 1,
                 0, 0, 0, 0, 0, 0, 0, 0,
@@ -28,7 +29,8 @@ fn functions_within_small_limits(rt: HostRuntime) -> Result<(), Fail> {
         // no more. Finish.
         Row {
             name: "a lift that defines its type splits the section",
-            input: b"\x03\x01\x01\x01\x01\x00\x06\x00\x01\x00\x00\x04\x01\x01\x01\x00\x00\x05\x01\x01\x01\x01\x01\x00\x00\x00\x00",
+            input: b"\x03\x01\x01\x01\x01\x00\x06\x00\x01\x00\x00\x04\x01\x01\x01\x00\x00\x05\x01\
+                \x01\x01\x01\x01\x00\x00\x00\x00",
             gives: &[
                 7, 8, 1, 0x40, 1, 1, b'a', 0x79, 0, 0x7f, 10, 6, 1, 0, 1, b'b', 1, 0, 8, 5, 1, 1,
                 0, 0, 0, 7, 8, 1, 0x40, 1, 1, b'b', 0x74, 0, 0x74, 8, 6, 1, 0, 0, 0, 0, 1,
@@ -71,7 +73,8 @@ fn functions_within_other_limits(rt: HostRuntime) -> Result<(), Fail> {
     // As the lift that defines its type, but the type section is full and asks for no more.
     let row = Row {
         name: "a lift that is given up",
-        input: b"\x03\x01\x01\x01\x01\x00\x06\x00\x01\x00\x04\x01\x01\x01\x00\x00\x05\x01\x01\x01\x01\x01\x00\x00\x00\x00",
+        input: b"\x03\x01\x01\x01\x01\x00\x06\x00\x01\x00\x04\x01\x01\x01\x00\x00\x05\x01\x01\x01\
+            \x01\x01\x00\x00\x00\x00",
         gives: LOWERED,
         leaves: b"",
     };
@@ -222,7 +225,8 @@ fn a_url_that_is_taken_is_made_new(rt: HostRuntime) -> Result<(), Fail> {
 fn canonical_functions_by_their_indexes(rt: HostRuntime) -> Result<(), Fail> {
     // A function type, an import of it, a lower, and a lift that defines its type, as in the first table.
     let input =
-        b"\x03\x01\x01\x01\x01\x00\x06\x00\x01\x00\x00\x04\x01\x01\x01\x00\x00\x05\x01\x01\x01\x01\x01\x00\x00\x00\x00" as &[u8];
+        b"\x03\x01\x01\x01\x01\x00\x06\x00\x01\x00\x00\x04\x01\x01\x01\x00\x00\x05\x01\x01\x01\x01\
+            \x01\x00\x00\x00\x00" as &[u8];
     let mut u = Unstructured::new(input);
     let generated = generate(rt.alloc(), small_limits(), &mut u)?;
     let sections = generated.component.sections();

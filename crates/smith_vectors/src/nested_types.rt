@@ -1,7 +1,7 @@
 //! Types of components and of instances within types, and the fuel that they share.
 //!
-//! Each row begins with `03 01`, a type section and its first type, where nothing stands in front, and ends with `00 00`,
-//! the end of the section and the finish, where its input does not end before.
+//! Each row begins with `03 01`, a type section and its first type, where nothing stands in front, and ends with
+//! `00 00`, the end of the section and the finish, where its input does not end before.
 
 use crate::common::{Row, check, small_limits};
 use smith_component::Config;

@@ -1,4 +1,5 @@
-//! Plans of sections, functions, components and limits that are met: what their inputs give, and what is left behind them.
+//! Plans of sections, functions, components and limits that are met: what their inputs give, and what is left behind
+//! them.
 
 use crate::common::small_limits;
 use crate::parts::{Parts, check_parts};
@@ -90,8 +91,8 @@ const FUNCTIONS: &[Parts<'static>] = &[
     Parts {
         name: "a lift to a type that takes all the fuel",
         input: &[
-            b"\x03\x01\x01\x01\x01\x00\x0b\x01\x01\x01\x00\x01\x01\x02\x01\x01\x01\x03\x02", // (a: char, b: bool, c: s8, d: u8,
-            b"\x01\x01\x04\x03\x01\x01\x05\x04\x01\x01\x06\x05\x00\x01\x06\x00", // e: s16, f: u16, g: s32) to u32
+            b"\x03\x01\x01\x01\x01\x00\x0b\x01\x01\x01\x00\x01\x01\x02\x01\x01\x01\x03\x02", // a to d: char, bool, s8, u8
+            b"\x01\x01\x04\x03\x01\x01\x05\x04\x01\x01\x06\x05\x00\x01\x06\x00", // e to g: s16, u16, s32; to u32
             b"\x04\x01\x01\x07\x00\x00", // the import h
             b"\x05\x01", // its lower
             b"\x01\x01\x01\x00\x00\x01\x01\x01\x01\x02\x02\x01\x03\x03", // the lift

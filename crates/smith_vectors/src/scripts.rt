@@ -3,7 +3,8 @@
 
 ghost use Rattle.std.specs.Prelude.{◌≡◌};
 ghost use Rattle.smith_component.specs.Script.{script};
-ghost use Rattle.smith_vectors.specs.Plans.{lower_and_lift, lower_of_a_lift, nested, scoped_type, second_of_equal_types};
+ghost use Rattle.smith_vectors.specs.Plans.{lower_and_lift, lower_of_a_lift, nested, scoped_type};
+ghost use Rattle.smith_vectors.specs.Plans.{second_of_equal_types};
 ghost use Rattle.smith_vectors.specs.Plans.{small_limits};
 
 /// Two types `() to string`, and an import of the second.

@@ -4,8 +4,8 @@ use crate::common::{Row, check, small_limits};
 use smith_component::Config;
 use std::test::Fail;
 
-// Each row begins with `03 01 00`, a type section and a defined type, but for the last, and where its input does not end
-// before with `00 00`, the end of the section and the finish.
+// Each row begins with `03 01 00`, a type section and a defined type, but for the last, and where its input does not
+// end before with `00 00`, the end of the section and the finish.
 #[test]
 fn types_within_small_limits(rt: HostRuntime) -> Result<(), Fail> {
     let rows = [

@@ -1,13 +1,16 @@
 //! Canonical functions: component functions are lowered, and core functions lifted.
 
-ghost use Rattle.std.specs.Prelude.{◌≡◌, ◌+◌, ◌-◌, ◌<◌, ◌≤◌, List, [], length, IfOk, OnOk, IfErr, MatchOption};
+ghost use Rattle.std.specs.Prelude.{◌≡◌, ◌+◌, ◌-◌, ◌<◌, ◌≤◌, List, [], length, IfOk, OnOk};
+ghost use Rattle.std.specs.Prelude.{IfErr, MatchOption};
 ghost use Rattle.smith_input.specs.Choices.{ReadsAmong};
 ghost use Rattle.smith_input.specs.Loops.{Loop};
 ghost use Rattle.smith_input.specs.Reading.{IsTail};
 ghost use Rattle.smith_format.specs.Limits.{IsConsistent};
 ghost use Rattle.smith_scopes.specs.Scopes.{own_scope, outer_scopes};
-ghost use Rattle.smith_component.specs.Canonicals.{CanonTurn, Growing, NoCanon, ReadsCanons, ReadsLift, ReadsLower, grown, with_defined};
-ghost use Rattle.smith_component.specs.CanonicalsState.{CanonicalsState, IsDrafted, IsLowered, LiftsAs, KeepsFront, canon_items_of, growing};
+ghost use Rattle.smith_component.specs.Canonicals.{CanonTurn, Growing, NoCanon, ReadsCanons, ReadsLift, ReadsLower};
+ghost use Rattle.smith_component.specs.Canonicals.{grown, with_defined};
+ghost use Rattle.smith_component.specs.CanonicalsState.{CanonicalsState, IsDrafted, IsLowered, LiftsAs, KeepsFront};
+ghost use Rattle.smith_component.specs.CanonicalsState.{canon_items_of, growing};
 ghost use Rattle.smith_component.specs.Shown.{shown_sections};
 ghost use Rattle.smith_component.specs.Tables.{Tabled};
 ghost use Rattle.smith_component.specs.Spaces.{function_count};

@@ -6,7 +6,8 @@ ghost use Rattle.smith_component.specs.BuilderView.{building_of, stack_of, IsSou
 ghost use Rattle.smith_component.specs.Counted.{count_of, minimum_of};
 ghost use Rattle.smith_component.specs.Limits.{Minima};
 ghost use Rattle.smith_component.specs.Refusals.{IsAnswered, IsFillRefusal, IsMinimum};
-ghost use Rattle.smith_component.specs.Steps.{next_of, step_of, AddsSections, ClosesSections, KeepsSections, SoundUnlessDone, StaysSound};
+ghost use Rattle.smith_component.specs.Steps.{next_of, step_of, AddsSections, ClosesSections, KeepsSections};
+ghost use Rattle.smith_component.specs.Steps.{SoundUnlessDone, StaysSound};
 ghost use Rattle.smith_component.specs.Turn.{Next, Closes, Does};
 ghost use Rattle.smith_component.specs.Fills.{Fills, FillsAll};
 ghost use Rattle.smith_component.specs.declared.item.Item.TheVariants.{Finish};

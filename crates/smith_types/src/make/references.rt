@@ -1,6 +1,7 @@
 //! What imports and exports are of, from the input.
 
-ghost use Rattle.std.specs.Prelude.{◌≡◌, ◌<◌, ◌≤◌, ◌&&◌, ◌++◌, ℕ, List, [], length, slice_get, Some, MatchOption};
+ghost use Rattle.std.specs.Prelude.{◌≡◌, ◌<◌, ◌≤◌, ◌&&◌, ◌++◌, ℕ, List, [], length};
+ghost use Rattle.std.specs.Prelude.{slice_get, Some, MatchOption};
 ghost use Rattle.smith_input.specs.Choices.{ReadsAmong};
 ghost use Rattle.smith_input.specs.Reading.{IsTail};
 ghost use Rattle.smith_syntax.specs.WellFormed.{FormedRef};
@@ -139,8 +140,8 @@ fn ref_kind(
 /// is None exactly where there is no kind to choose, and then nothing is read.
 ///
 /// An import is never of a type that is equal to one, and an export is where `for_type_def` is true or the scope has
-/// fewer types than `max_types`. An import of a component, for which `for_type_def` is false, needs its total to be below
-/// its limit: the totals are those so far. It takes no memory.
+/// fewer types than `max_types`. An import of a component, for which `for_type_def` is false, needs its total to be
+/// below its limit: the totals are those so far. It takes no memory.
 pub fn arbitrary_type_ref(
     u: &mut Unstructured,
     config: &Config,

@@ -1,6 +1,7 @@
 //! Types of components and of instances, and the types in them, from the input.
 
-ghost use Rattle.std.specs.Prelude.{◌≡◌, ◌+◌, ◌≤◌, ◌<◌, List, [], ◌∷◌, ◌++◌, true, false, length, map};
+ghost use Rattle.std.specs.Prelude.{◌≡◌, ◌+◌, ◌≤◌, ◌<◌, List, [], ◌∷◌, ◌++◌, true, false};
+ghost use Rattle.std.specs.Prelude.{length, map};
 ghost use Rattle.std.specs.Prelude.{IfOk, IfErr, OnOk, OnErr};
 ghost use Rattle.smith_input.specs.Choices.{ReadsAmong};
 ghost use Rattle.smith_format.specs.Limits.{configured, IsConsistent};

@@ -1,9 +1,11 @@
-//! Element segments and data segments of core modules in the binary format (core specification, Binary Format, Modules).
+//! Element segments and data segments of core modules in the binary format (core specification, Binary Format,
+//! Modules).
 #![tactic(auto, using(smith_format::proofs::Steps::writing, smith_format::proofs::Sizes::measuring))]
 
 ghost use Rattle.smith_format.specs.Piece.{◌⊕◌, byte, s};
 ghost use Rattle.smith_format.specs.Writing.{Puts, IsLengthOf};
-ghost use Rattle.smith_core.specs.Segments.{data_form, data_segment, element, expressions_front, functions_front, offset};
+ghost use Rattle.smith_core.specs.Segments.{data_form, data_segment, element, expressions_front, functions_front};
+ghost use Rattle.smith_core.specs.Segments.{offset};
 
 use crate::module::encode::ModuleFormat;
 use crate::module::segments::{
