@@ -6,7 +6,7 @@ use Rattle.smith_format.proofs.Clear.{clash, same_section, section_head, tail}
 use Rattle.smith_format.proofs.Piece.{left_nil}
 use Rattle.smith_core.specs.Module.{binary_order, section_id, is_written, contents, section, module_text}
 use Rattle.smith_core.specs.Preamble.{core_preamble}
-use Rattle.smith_core.specs.Split.{CoreSection, core_section, Splits, sections_of, shown_section}
+use Rattle.smith_core.specs.Split.{CoreSection, core_section, Splits, sections_of, present_section}
 use Rattle.smith_core.specs.declared.module.parts.ModuleParts.{ModuleParts}
 use Rattle.smith_core.specs.declared.module.sections.SectionKind.{SectionKind}
 
@@ -16,7 +16,7 @@ any_section y = sized y.0 y.1
 
 -- Sections whose bytes are the same are the same, and those of a module are bytes.
 same_sections : (xs : List CoreSection) (ys : List (ℕ × Piece)) (b : List ℕ) → each core_section xs ≡ Some b
-    → each any_section ys ≡ Some b → map shown_section xs ≡ ys
+    → each any_section ys ≡ Some b → map present_section xs ≡ ys
 same_sections [] [] b e h = refl
 same_sections [] ((n, p) ∷ ys) b e h =
     let z = (section_head n p (each any_section ys) b h).1 in absurd (let y : Some [] ≡ Some b = e in cc)
@@ -30,7 +30,7 @@ same_sections ((m, c) ∷ xs) ((n, p) ∷ ys) b e h =
     let same : bytes c ≡ p = t.first ∙ sym t.second in
     let r = same_sections xs ys t.rests.rest t.rests.first t.rests.second in λ j. (i j, same j) ∷ r j
 
-each_shown : (xs : List CoreSection) → each core_section xs ≡ each any_section (map shown_section xs)
+each_shown : (xs : List CoreSection) → each core_section xs ≡ each any_section (map present_section xs)
 each_shown [] = refl
 each_shown (x ∷ xs) = ap (λ p. core_section x ⊕ p) (each_shown xs)
 
@@ -53,15 +53,15 @@ each_written m (k ∷ ks) = by_choice (is_written m k) (each_written m ks)
     by_choice false f = left_nil (each (section m) ks) ∙ f
 
 pub split_law : (m : ModuleParts) (b : List ℕ) → module_text m ≡ Some b → (xs : List CoreSection)
-    → Splits b xs ↔ (map shown_section xs ≡ sections_of m)
+    → Splits b xs ↔ (map present_section xs ≡ sections_of m)
 split_law m b e xs = (there, back)
   where
-    there : Splits b xs → map shown_section xs ≡ sections_of m
+    there : Splits b xs → map present_section xs ≡ sections_of m
     there h =
         let t = tail core_preamble (each core_section xs) (each (section m) binary_order) b h e in
         same_sections xs (sections_of m) t.rest t.first (sym (each_written m binary_order) ∙ t.second)
 
-    back : map shown_section xs ≡ sections_of m → Splits b xs
+    back : map present_section xs ≡ sections_of m → Splits b xs
     back h =
         let same = each_shown xs ∙ ap (each any_section) h ∙ sym (each_written m binary_order) in
         ap (λ p. bytes core_preamble ⊕ p) same ∙ e

@@ -22,5 +22,5 @@ abbrev pub sections_of : ModuleParts → List (ℕ × Piece)
 sections_of m = map (λ k. (section_id k, contents m k)) (filter (is_written m) binary_order)
 
 -- the same of sections of bytes
-abbrev pub shown_section : CoreSection → ℕ × Piece
-shown_section x = (x.0, Some x.1)
+abbrev pub present_section : CoreSection → ℕ × Piece
+present_section x = (x.0, Some x.1)

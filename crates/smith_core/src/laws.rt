@@ -8,7 +8,7 @@ ghost use Rattle.smith_core.specs.Module.{module_text};
 ghost use Rattle.smith_core.specs.Preamble.{core_preamble};
 ghost use Rattle.smith_core.specs.Parts.{Agree};
 ghost use Rattle.smith_core.specs.StandIn.{ReadsStandIn};
-ghost use Rattle.smith_core.specs.Split.{CoreSection, Splits, sections_of, shown_section};
+ghost use Rattle.smith_core.specs.Split.{CoreSection, Splits, sections_of, present_section};
 ghost use Rattle.smith_core.specs.TooLong.{ModuleTooLong};
 ghost use Rattle.smith_core.specs.declared.module.parts.ModuleParts.{ModuleParts};
 
@@ -22,7 +22,7 @@ pub use smith_format::laws::{
 /// The bytes of a module are split into sections in one way: those that are written, in binary order.
 pub fn modules_are_split_in_one_way()
     ensures { (m : ModuleParts) (b : List ℕ) → module_text m ≡ Some b → (xs : List CoreSection)
-        → Splits b xs ↔ (map shown_section xs ≡ sections_of m) }
+        → Splits b xs ↔ (map present_section xs ≡ sections_of m) }
 {}
 
 /// The bytes of a module are bytes, and begin with the core preamble.

@@ -39,7 +39,7 @@ use Rattle.smith_core_types.specs.MadeCore.{ReadsEntity, ReadsNewText, ReadsImpo
 use Rattle.smith_core_types.specs.MadeCore.{ReadsDecl}
 use Rattle.smith_core_types.specs.MadeCore.{ModuleEnds, no_fuel, no_import, no_export, ReadsLine, not_allowed, declined, taken, MemoryLine, ReadsFunctionLine}
 use Rattle.smith_core_types.specs.MadeCore.{ReadsFront, MadeModule, MadeCore, spent_core, of_function, of_module}
-use Rattle.smith_syntax.specs.ModuleTypes.{func_in, aliased, is_tag_type, count_of, names_from, export_names, realloc, free}
+use Rattle.smith_syntax.specs.ModuleTypes.{func_in, aliased, is_tag_type, count_of_kind, names_from, export_names, realloc, free}
 use Rattle.smith_syntax.specs.Scope.{Scope, is_core_func, places}
 use Rattle.smith_core_types.specs.Script.{script_core_type}
 use Rattle.smith_syntax.specs.WellFormed.{FormedEntity, FormedDecl, FormedCore, core_size}
@@ -433,20 +433,20 @@ module _ (config : Config) (s : Declared) where
   MayStand kind.Func = Unit {0}
 
   abbrev HasRoom : ExportKind → Type 0
-  HasRoom k = (count_of k s.decls < limit_of config k) × MayStand k
+  HasRoom k = (count_of_kind k s.decls < limit_of config k) × MayStand k
 
   kind_offered : (i : ℕ) (k : ExportKind) → slice_get (entity_kinds config s) i ≡ Some k → HasRoom k
   kind_offered i k e =
       offer_holds HasRoom (kind_offers config s) (
-        λ t. (ltb-true (count_of kind.Global s.decls) config.max_globals t, tt),
+        λ t. (ltb-true (count_of_kind kind.Global s.decls) config.max_globals t, tt),
         (
-          λ t. (ltb-true (count_of kind.Table s.decls) config.max_tables t, tt),
+          λ t. (ltb-true (count_of_kind kind.Table s.decls) config.max_tables t, tt),
           (
-            λ t. (ltb-true (count_of kind.Memory s.decls) config.max_memories t, tt),
+            λ t. (ltb-true (count_of_kind kind.Memory s.decls) config.max_memories t, tt),
             (
-              λ t. let both = both_true _ _ (both_true _ _ t).0 in (ltb-true (count_of kind.Tag s.decls) config.max_tags both.0, both.1),
+              λ t. let both = both_true _ _ (both_true _ _ t).0 in (ltb-true (count_of_kind kind.Tag s.decls) config.max_tags both.0, both.1),
               (
-                λ t. (ltb-true (count_of kind.Func s.decls) config.max_funcs (both_true _ _ t).1, tt),
+                λ t. (ltb-true (count_of_kind kind.Func s.decls) config.max_funcs (both_true _ _ t).1, tt),
                 tt,
               ),
             ),

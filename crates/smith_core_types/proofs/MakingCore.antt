@@ -20,8 +20,8 @@ use Rattle.smith_input.specs.Names.{is_among}
 use Rattle.smith_syntax.specs.Entries.{CoreEntry, ModuleDecl, aliases, core_func, core_module}
 use Rattle.smith_core_types.specs.MadeCore.{indexes, module_items, no_export, no_import}
 use Rattle.smith_core_types.specs.MadeCore.{Declared as SoFar}
-use Rattle.smith_core_types.specs.MakingCore.{Adds, Turns, choices_among, names_taken}
-use Rattle.smith_syntax.specs.ModuleTypes.{adds, aliased, export_names, export_of, import_of, names_from}
+use Rattle.smith_core_types.specs.MakingCore.{AddsDecl, DeclTurn, choices_among, names_taken}
+use Rattle.smith_syntax.specs.ModuleTypes.{adds, aliased, export_names, module_export_of, module_import_of, names_from}
 use Rattle.smith_syntax.specs.Scope.{Scope, is_core_func, own_of, places}
 use Rattle.smith_scopes.specs.Scopes.{Contents, inward, last_of}
 use Rattle.smith_syntax.specs.Shown.{shown_core, shown_decl}
@@ -50,22 +50,22 @@ own_at xs k h = let e : 0 + k ≡ k = omega arith in index_at 0 xs k h ∙ ap So
 -- counts
 
 abbrev entities_in : ModuleDecl → List EntityType
-entities_in d = map (λ i. i.2) (import_of d) ++ map (λ x. x.1) (export_of d)
+entities_in d = map (λ i. i.2) (module_import_of d) ++ map (λ x. x.1) (module_export_of d)
 
 -- names
 
 exports_more : (d : ModuleDecl) (ds : List ModuleDecl) → export_names (d ∷ ds) ≡ export_names (d ∷ []) ++ export_names ds
 exports_more d ds =
-    ap (map (λ x. x.0)) (flat_map-cons export_of d ds) ∙ map-append (λ x. x.0) (export_of d) (flat_map export_of ds)
-    ∙ ap (λ z. map (λ x. x.0) z ++ export_names ds) (sym (append-nil (export_of d)))
+    ap (map (λ x. x.0)) (flat_map-cons module_export_of d ds) ∙ map-append (λ x. x.0) (module_export_of d) (flat_map module_export_of ds)
+    ∙ ap (λ z. map (λ x. x.0) z ++ export_names ds) (sym (append-nil (module_export_of d)))
 
 imports_more : (from : List ℕ) (d : ModuleDecl) (ds : List ModuleDecl) → names_from from (d ∷ ds) ≡ names_from from (d ∷ []) ++ names_from from ds
 imports_more from d ds =
     let mine : List CoreImport → List (List ℕ) = λ z. map (λ i. i.1) (filter (λ i. bytes_eq i.0 from) z) in
-    ap mine (flat_map-cons import_of d ds)
-    ∙ ap (map (λ i. i.1)) (filter-append (λ i. bytes_eq i.0 from) (import_of d) (flat_map import_of ds))
-    ∙ map-append (λ i. i.1) (filter (λ i. bytes_eq i.0 from) (import_of d)) (filter (λ i. bytes_eq i.0 from) (flat_map import_of ds))
-    ∙ ap (λ z. mine z ++ names_from from ds) (sym (append-nil (import_of d)))
+    ap mine (flat_map-cons module_import_of d ds)
+    ∙ ap (map (λ i. i.1)) (filter-append (λ i. bytes_eq i.0 from) (module_import_of d) (flat_map module_import_of ds))
+    ∙ map-append (λ i. i.1) (filter (λ i. bytes_eq i.0 from) (module_import_of d)) (filter (λ i. bytes_eq i.0 from) (flat_map module_import_of ds))
+    ∙ ap (λ z. mine z ++ names_from from ds) (sym (append-nil (module_import_of d)))
 
 taken_more : (imported : Bool) (from : List ℕ) (d : ModuleDecl) (ds : List ModuleDecl)
     → names_taken imported from (d ∷ ds) ≡ names_taken imported from (d ∷ []) ++ names_taken imported from ds
@@ -191,7 +191,7 @@ same_item e = cc
 
 -- a turn, by what it adds
 pub turns_of : (config : Config) (around : Scope) (s : SoFar) (i : ModuleItem) (b mid rest : List ℕ) (t : SoFar) → 0 < s.fuel - 1
-    → ReadsAmong (module_items config around s) b i mid → (more : Bool) → Adds config around s i mid more rest t → Turns config around s b more rest t
+    → ReadsAmong (module_items config around s) b i mid → (more : Bool) → AddsDecl config around s i mid more rest t → DeclTurn config around s b more rest t
 turns_of config around s i b mid rest t lasts c true (d, r, e) = (d, record { lasts = lasts; item = i; mid = mid; choice = c; reads = r; state = e })
 turns_of config around s item.Import b mid rest t lasts c false ((from, name, r, none), e) = no_import lasts c r none e
 turns_of config around s item.Export b mid rest t lasts c false ((name, r, none), e) = no_export lasts c r none e

@@ -26,7 +26,8 @@ use Rattle.smith_syntax.specs.CoreLimits.{EntityLimits}
 use Rattle.smith_syntax.specs.Entries.{CoreEntry, ModuleDecl, imports, declares, aliases, exports}
 use Rattle.smith_core_types.specs.MadeCore.{Declared}
 use Rattle.smith_core_types.specs.MakingCore.{own_after}
-use Rattle.smith_syntax.specs.ModuleTypes.{adds, aliased, alias_of, func_of, import_of, export_of, declared_in, type_count, entities_of, is_of_kind, count_of}
+use Rattle.smith_syntax.specs.ModuleTypes.{adds, aliased, alias_of, func_of, module_import_of, module_export_of, declared_in, type_count, entities_of}
+use Rattle.smith_syntax.specs.ModuleTypes.{is_of_kind, count_of_kind}
 use Rattle.smith_syntax.specs.ModuleTypes.{names_from, export_names, HasNewNames, realloc, free}
 use Rattle.smith_syntax.specs.WellFormed.{FormedDecl, FormedDecls}
 use Rattle.smith_core_types.proofs.ModuleFronts.{front_own, front_decls, IsFront}
@@ -38,14 +39,14 @@ snoc_flat : {A : Type 0} (f : ModuleDecl → List A) (ds : List ModuleDecl) (d :
 snoc_flat f ds d = flat_map-append f ds (d ∷ []) ∙ ap (λ xs. flat_map f ds ++ xs) (append-nil (f d))
 
 pub names_more : (from : List ℕ) (ds : List ModuleDecl) (d : ModuleDecl)
-    → names_from from (ds ++ d ∷ []) ≡ names_from from ds ++ map (λ i. i.1) (filter (λ i. bytes_eq i.0 from) (import_of d))
+    → names_from from (ds ++ d ∷ []) ≡ names_from from ds ++ map (λ i. i.1) (filter (λ i. bytes_eq i.0 from) (module_import_of d))
 names_more from ds d =
-    ap (λ is. map (λ i. i.1) (filter (λ i. bytes_eq i.0 from) is)) (snoc_flat import_of ds d)
-    ∙ (ap (map (λ i. i.1)) (filter-append (λ i. bytes_eq i.0 from) (flat_map import_of ds) (import_of d))
-    ∙ map-append (λ i. i.1) (filter (λ i. bytes_eq i.0 from) (flat_map import_of ds)) (filter (λ i. bytes_eq i.0 from) (import_of d)))
+    ap (λ is. map (λ i. i.1) (filter (λ i. bytes_eq i.0 from) is)) (snoc_flat module_import_of ds d)
+    ∙ (ap (map (λ i. i.1)) (filter-append (λ i. bytes_eq i.0 from) (flat_map module_import_of ds) (module_import_of d))
+    ∙ map-append (λ i. i.1) (filter (λ i. bytes_eq i.0 from) (flat_map module_import_of ds)) (filter (λ i. bytes_eq i.0 from) (module_import_of d)))
 
-pub exported_more : (ds : List ModuleDecl) (d : ModuleDecl) → export_names (ds ++ d ∷ []) ≡ export_names ds ++ map (λ x. x.0) (export_of d)
-exported_more ds d = ap (map (λ x. x.0)) (snoc_flat export_of ds d) ∙ map-append (λ x. x.0) (flat_map export_of ds) (export_of d)
+pub exported_more : (ds : List ModuleDecl) (d : ModuleDecl) → export_names (ds ++ d ∷ []) ≡ export_names ds ++ map (λ x. x.0) (module_export_of d)
+exported_more ds d = ap (map (λ x. x.0)) (snoc_flat module_export_of ds d) ∙ map-append (λ x. x.0) (flat_map module_export_of ds) (module_export_of d)
 
 pub own_more : (around : List CoreEntry) (own : List Function) (ds : List ModuleDecl) (d : ModuleDecl)
     → own_after around own (ds ++ d ∷ []) ≡ own_after around own ds ++ adds around (own_after around own ds) d
@@ -82,14 +83,14 @@ import_cases m n e from ds new a true same = new_more [] (names_from from ds) n 
 import_cases m n e from ds new a false same = none_more (names_from from ds) a
 
 pub import_new : (ds : List ModuleDecl) (d : ModuleDecl) (from : List ℕ) → HasNewName ds d → AreNew [] (names_from from ds)
-    → AreNew [] (names_from from ds ++ map (λ i. i.1) (filter (λ i. bytes_eq i.0 from) (import_of d)))
+    → AreNew [] (names_from from ds ++ map (λ i. i.1) (filter (λ i. bytes_eq i.0 from) (module_import_of d)))
 import_new ds (imports m n e) from new a = import_cases m n e from ds new a (bytes_eq m from) refl
 import_new ds (declares f) from new a = none_more (names_from from ds) a
 import_new ds (aliases count i) from new a = none_more (names_from from ds) a
 import_new ds (exports n e) from new a = none_more (names_from from ds) a
 
 pub export_new : (ds : List ModuleDecl) (d : ModuleDecl) → HasNewName ds d → AreNew [] (export_names ds)
-    → AreNew [] (export_names ds ++ map (λ x. x.0) (export_of d))
+    → AreNew [] (export_names ds ++ map (λ x. x.0) (module_export_of d))
 export_new ds (imports m n e) new a = none_more (export_names ds) a
 export_new ds (declares f) new a = none_more (export_names ds) a
 export_new ds (aliases count i) new a = none_more (export_names ds) a
@@ -164,11 +165,11 @@ same_kind j k e = absurd (false≢true e)
 
 -- what a declaration imports or exports
 abbrev entities_in : ModuleDecl → List EntityType
-entities_in d = map (λ i. i.2) (import_of d) ++ map (λ x. x.1) (export_of d)
+entities_in d = map (λ i. i.2) (module_import_of d) ++ map (λ x. x.1) (module_export_of d)
 
 -- there is room for one more of its kind, and a global is of the configured value types
 abbrev pub EntityFits : Config → List ModuleDecl → EntityType → Type 0
-EntityFits config ds e = EntityLimits config e × (count_of (kind_of e) ds < limit_of config (kind_of e))
+EntityFits config ds e = EntityLimits config e × (count_of_kind (kind_of e) ds < limit_of config (kind_of e))
 
 -- a declaration after these, of which these are the own types
 abbrev pub DeclFits : Config → List CoreEntry → List Function → List ModuleDecl → ModuleDecl → Type 0
@@ -183,7 +184,7 @@ module _ (config : Config) where
     pub values : AllByRecursion (EntityLimits config) (entities_of ds)
     pub types : type_count ds ≡ length own
     pub few : length own ≤ config.max_types
-    pub counts : (k : ExportKind) → count_of k ds ≤ limit_of config k
+    pub counts : (k : ExportKind) → count_of_kind k ds ≤ limit_of config k
 
   -- what one declaration adds
   record Adds (around : List CoreEntry) (own : List Function) (ds : List ModuleDecl) (d : ModuleDecl) : Type 0 where
@@ -191,11 +192,13 @@ module _ (config : Config) where
     values : AllByRecursion (EntityLimits config) (entities_in d)
     types : length (adds around own d) ≡ length (func_of d) + length (alias_of d)
     few : length own + length (adds around own d) ≤ config.max_types
-    counts : (k : ExportKind) → count_of k ds + length (filter (is_of_kind k) (entities_in d)) ≤ limit_of config k
+    counts : (k : ExportKind) → count_of_kind k ds + length (filter (is_of_kind k) (entities_in d)) ≤ limit_of config k
 
-  count_cases : (e : EntityType) (ds : List ModuleDecl) (k : ExportKind) → count_of (kind_of e) ds < limit_of config (kind_of e)
-      → count_of k ds ≤ limit_of config k → (b : Bool) → kinds.eq (kind_of e) k ≡ b → count_of k ds + length (if b then e ∷ [] else []) ≤ limit_of config k
-  count_cases e ds k room few true same = let here = subst (λ z. count_of z ds < limit_of config z) (same_kind (kind_of e) k same) room in omega (arith, here)
+  count_cases : (e : EntityType) (ds : List ModuleDecl) (k : ExportKind) → count_of_kind (kind_of e) ds < limit_of config (kind_of e)
+      → count_of_kind k ds ≤ limit_of config k → (b : Bool) → kinds.eq (kind_of e) k ≡ b
+      → count_of_kind k ds + length (if b then e ∷ [] else []) ≤ limit_of config k
+  count_cases e ds k room few true same =
+      let here = subst (λ z. count_of_kind z ds < limit_of config z) (same_kind (kind_of e) k same) room in omega (arith, here)
   count_cases e ds k room few false same = omega (arith, few)
 
   module _ (around : List CoreEntry) (own : List Function) (ds : List ModuleDecl) (w : Within own ds) where
@@ -206,7 +209,7 @@ module _ (config : Config) where
       values = subst (AllByRecursion (EntityLimits config)) (sym one) (fits.0, tt);
       types = omega (arith, ap length no_func, ap length no_adds, ap length no_alias);
       few = omega (arith, w.few, ap length no_adds);
-      counts = λ k. subst (λ es. count_of k ds + length (filter (is_of_kind k) es) ≤ limit_of config k) (sym one)
+      counts = λ k. subst (λ es. count_of_kind k ds + length (filter (is_of_kind k) es) ≤ limit_of config k) (sym one)
           (count_cases e ds k fits.1 (w.counts k) (kinds.eq (kind_of e) k) refl);
     }
 
@@ -270,7 +273,7 @@ module _ (config : Config) where
   -- a function type, and the export of a function
   within_function : (own : List Function) (ds : List ModuleDecl) (name : List ℕ) (f : Function) (i : ℕ) → Within own ds
       → FormedFunction (configured config) (max_results config) f → length own < config.max_types
-      → count_of kind.Func (ds ++ declares f ∷ []) < config.max_funcs
+      → count_of_kind kind.Func (ds ++ declares f ∷ []) < config.max_funcs
       → Within ((own ++ f ∷ []) ++ []) ((ds ++ declares f ∷ []) ++ exports name (Func i) ∷ [])
   within_function own ds name f i w fits types funcs = within_more [] (own ++ f ∷ []) (ds ++ declares f ∷ [])
       (within_more [] own ds w (declares f) (fits, types)) (exports name (Func i)) (tt, funcs)

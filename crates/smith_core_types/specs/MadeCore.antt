@@ -20,7 +20,7 @@ use Rattle.smith_format.specs.declared.types.GlobalType.{GlobalType}
 use Rattle.smith_format.specs.declared.types.MemoryType.{MemoryType}
 use Rattle.smith_format.specs.Limits.{max_results}
 use Rattle.smith_syntax.specs.Entries.{CoreEntry, ModuleDecl, core_func, core_module, imports, declares, aliases, exports}
-use Rattle.smith_syntax.specs.ModuleTypes.{adds, aliased, alias_of, count_of, declared_in, export_names, free, is_tag_type, names_from, realloc}
+use Rattle.smith_syntax.specs.ModuleTypes.{adds, aliased, alias_of, count_of_kind, declared_in, export_names, free, is_tag_type, names_from, realloc}
 use Rattle.smith_syntax.specs.Scope.{Scope, is_core_func, places}
 use Rattle.smith_core_types.specs.declared.module_types.ModuleItem.{ModuleItem}
 use Rattle.smith_core_types.specs.declared.module_types.ModuleItem.TheVariants as item
@@ -37,7 +37,7 @@ with_decl around s d = record { own = s.own ++ adds around s.own d; decls = s.de
 
 -- Is a function or a type still allowed?
 abbrev pub allows_function : Config → Declared → Bool
-allows_function config s = nat_lt (count_of kind.Func s.decls) config.max_funcs
+allows_function config s = nat_lt (count_of_kind kind.Func s.decls) config.max_funcs
 
 abbrev pub allows_type : Config → Declared → Bool
 allows_type config s = nat_lt (length s.own) config.max_types
@@ -49,10 +49,10 @@ indexes xs = places (λ x. true) 0 xs
 -- what an entity is among: each kind below its limit, a tag where there is a type for it, a function where there is a type
 abbrev pub kind_offers : Config → Declared → List (Bool × ExportKind)
 kind_offers config s =
-    (nat_lt (count_of kind.Global s.decls) config.max_globals, kind.Global)
-    ∷ (nat_lt (count_of kind.Table s.decls) config.max_tables, kind.Table)
-    ∷ (nat_lt (count_of kind.Memory s.decls) config.max_memories, kind.Memory)
-    ∷ (nat_lt (count_of kind.Tag s.decls) config.max_tags && config.exceptions_enabled && nat_lt 0 (length (places is_tag_type 0 s.own)), kind.Tag)
+    (nat_lt (count_of_kind kind.Global s.decls) config.max_globals, kind.Global)
+    ∷ (nat_lt (count_of_kind kind.Table s.decls) config.max_tables, kind.Table)
+    ∷ (nat_lt (count_of_kind kind.Memory s.decls) config.max_memories, kind.Memory)
+    ∷ (nat_lt (count_of_kind kind.Tag s.decls) config.max_tags && config.exceptions_enabled && nat_lt 0 (length (places is_tag_type 0 s.own)), kind.Tag)
     ∷ (nat_lt 0 (length s.own) && allows_function config s, kind.Func)
     ∷ []
 

@@ -63,14 +63,14 @@ ReadsNamesAlone config s item.Type b rest = ⊥
 ReadsNamesAlone config s item.Alias b rest = ⊥
 
 -- a declaration of a sort was added, or names were read alone
-abbrev pub Adds : Config → Scope → SoFar → ModuleItem → List ℕ → Bool → List ℕ → SoFar → Type 0
-Adds config around s i b true rest t = (d : ModuleDecl) × ReadsDeclOf config around s i b d rest × (t ≡ with_decl around.core_types s d)
-Adds config around s i b false rest t = ReadsNamesAlone config s i b rest × (t ≡ with_fuel s (s.fuel - 1))
+abbrev pub AddsDecl : Config → Scope → SoFar → ModuleItem → List ℕ → Bool → List ℕ → SoFar → Type 0
+AddsDecl config around s i b true rest t = (d : ModuleDecl) × ReadsDeclOf config around s i b d rest × (t ≡ with_decl around.core_types s d)
+AddsDecl config around s i b false rest t = ReadsNamesAlone config s i b rest × (t ≡ with_fuel s (s.fuel - 1))
 
 -- a turn of the loop: it adds a declaration, or the loop ends
-abbrev pub Turns : Config → Scope → SoFar → List ℕ → Bool → List ℕ → SoFar → Type 0
-Turns config around s b true rest t = (d : ModuleDecl) × ReadsDecl config around s b d rest t
-Turns config around s b false rest t = ModuleEnds config around s b rest t
+abbrev pub DeclTurn : Config → Scope → SoFar → List ℕ → Bool → List ℕ → SoFar → Type 0
+DeclTurn config around s b true rest t = (d : ModuleDecl) × ReadsDecl config around s b d rest t
+DeclTurn config around s b false rest t = ModuleEnds config around s b rest t
 
 -- An outer alias keeps the function type that it names.
 abbrev pub KeepsNamed : List CoreEntry → List Function → ModuleTypeDef → Type 0
@@ -95,8 +95,8 @@ own_after around own [] = own
 own_after around own (d ∷ ds) = own_after around (own ++ adds around own d) ds
 
 -- A module type so far: each outer alias keeps the function type that it names, and its own types are those of its declarations.
-abbrev pub Keeps : List CoreEntry → Declared → Type 0
-Keeps around d = KeepEach around [] d.defs.items × (own_after around [] (map shown_decl d.defs.items) ≡ shown_funcs d.own.items)
+abbrev pub KeepsDeclared : List CoreEntry → Declared → Type 0
+KeepsDeclared around d = KeepEach around [] d.defs.items × (own_after around [] (map shown_decl d.defs.items) ≡ shown_funcs d.own.items)
 
 -- what an outer alias is among, where these are the module type's own types
 abbrev pub choices_among : Scope → List Function → List (ℕ × ℕ)

@@ -6,7 +6,7 @@ ghost use Rattle.smith_input.specs.Choices.{ReadsAmong};
 ghost use Rattle.smith_input.specs.Reading.{IsTail};
 ghost use Rattle.smith_format.specs.CoreTypes.{shown_func};
 ghost use Rattle.smith_core_types.specs.MadeCore.{alias_choices};
-ghost use Rattle.smith_core_types.specs.MakingCore.{Adds, Keeps, choices_among, shown_funcs, so_far};
+ghost use Rattle.smith_core_types.specs.MakingCore.{AddsDecl, KeepsDeclared, choices_among, shown_funcs, so_far};
 ghost use Rattle.smith_syntax.specs.ModuleTypes.{aliased, func_in};
 ghost use Rattle.smith_scopes.specs.Scopes.{own_scope, kind_places};
 ghost use Rattle.smith_core_types.specs.declared.module_types.ModuleItem.TheVariants as item;
@@ -75,10 +75,10 @@ pub(crate) fn add_alias(
 ) -> Result<(), Error>
     requires few { length declared.old.own.items < 1000 }
     requires some { 0 < length (alias_choices (own_scope scopes.now) (so_far declared.old 0)) }
-    ensures adds { (config : _) (fuel : ℕ) → OnOk result (Adds config (own_scope scopes.now)
+    ensures adds { (config : _) (fuel : ℕ) → OnOk result (AddsDecl config (own_scope scopes.now)
         (so_far declared.old fuel) item.Alias u.old true u.new (so_far declared.new (fuel - 1))) }
-    ensures kept { Keeps (own_scope scopes.now).core_types declared.old
-        → OnOk result (Keeps (own_scope scopes.now).core_types declared.new) }
+    ensures kept { KeepsDeclared (own_scope scopes.now).core_types declared.old
+        → OnOk result (KeepsDeclared (own_scope scopes.now).core_types declared.new) }
     ensures own { OnOk result (length declared.new.own.items ≤ length declared.old.own.items + 1) }
     ensures memory { IfErr result (λ e. e ≡ Error.OutOfMemory) }
     ensures tail { IsTail u.new u.old }

@@ -5,8 +5,8 @@ ghost use Rattle.std.specs.Prelude.{if◌then◌else◌};
 ghost use Rattle.std.specs.Prelude.{OnOk, IfOk, IfErr};
 ghost use Rattle.smith_format.specs.CoreTypes.{shown_func};
 ghost use Rattle.smith_syntax.specs.Entries.{declares};
-ghost use Rattle.smith_core_types.specs.MakingCore.{Keeps, shown_funcs};
-ghost use Rattle.smith_syntax.specs.ModuleTypes.{count_of, is_tag_type};
+ghost use Rattle.smith_core_types.specs.MakingCore.{KeepsDeclared, shown_funcs};
+ghost use Rattle.smith_syntax.specs.ModuleTypes.{count_of_kind, is_tag_type};
 ghost use Rattle.smith_syntax.specs.Scope.{places};
 ghost use Rattle.smith_syntax.specs.Shown.{shown_decl};
 
@@ -25,7 +25,7 @@ pub(crate) struct Declared {
 
 // Does it import or export something of a kind?
 fn is_of_kind(def: &ModuleTypeDef, kind: ExportKind) -> bool
-    ensures { count_of kind (shown_decl def.now ∷ []) ≡ (if result then 1 else 0) }
+    ensures { count_of_kind kind (shown_decl def.now ∷ []) ≡ (if result then 1 else 0) }
 {
     match def {
         ModuleTypeDef::Import(import) => import.entity_type.kind() == kind,
@@ -36,7 +36,7 @@ fn is_of_kind(def: &ModuleTypeDef, kind: ExportKind) -> bool
 
 // How many of the imports and exports are of a kind.
 pub(crate) fn count_of(defs: &[ModuleTypeDef], kind: ExportKind) -> usize
-    ensures { result ≡ count_of kind (map shown_decl defs.now) }
+    ensures { result ≡ count_of_kind kind (map shown_decl defs.now) }
 {
     let mut count = 0;
     for def in defs {
@@ -49,7 +49,7 @@ pub(crate) fn count_of(defs: &[ModuleTypeDef], kind: ExportKind) -> usize
 
 // Is one more of a kind below the limit?
 pub(crate) fn allows(defs: &[ModuleTypeDef], kind: ExportKind, max: usize) -> bool
-    ensures { result ≡ nat_lt (count_of kind (map shown_decl defs.now)) max }
+    ensures { result ≡ nat_lt (count_of_kind kind (map shown_decl defs.now)) max }
 {
     count_of(defs, kind) < max
 }
@@ -87,7 +87,7 @@ pub(crate) fn declare(declared: &mut Declared, ty: Rc<FuncType>) -> Result<(), E
         ≡ shown_funcs declared.old.own.items ++ shown_func ty.value ∷ []) }
     ensures defs { IfOk result (λ _. map shown_decl declared.new.defs.items
         ≡ map shown_decl declared.old.defs.items ++ declares (shown_func ty.value) ∷ []) }
-    ensures kept { (around : _) → Keeps around declared.old → OnOk result (Keeps around declared.new) }
+    ensures kept { (around : _) → KeepsDeclared around declared.old → OnOk result (KeepsDeclared around declared.new) }
     ensures memory { IfErr result (λ e. e ≡ Error.OutOfMemory) }
 {
     let shared = ty.clone()?;

@@ -8,7 +8,7 @@ ghost use Rattle.smith_format.specs.Limits.{configured};
 ghost use Rattle.smith_format.specs.declared.types.ExportKind.TheVariants as kind;
 ghost use Rattle.smith_core_types.specs.MadeCore.{ReadsEntityOf, entity_kinds, indexes};
 ghost use Rattle.smith_core_types.specs.MakingCore.{HasTypeFor, MaybeEntity, shown_funcs, so_far};
-ghost use Rattle.smith_syntax.specs.ModuleTypes.{count_of, is_tag_type};
+ghost use Rattle.smith_syntax.specs.ModuleTypes.{count_of_kind, is_tag_type};
 ghost use Rattle.smith_syntax.specs.Scope.{places};
 ghost use Rattle.smith_syntax.specs.Shown.{shown_decl};
 
@@ -45,7 +45,7 @@ fn own_type(u: &mut Unstructured, own: &[Rc<FuncType>]) -> u32
 
 // Is a tag allowed: below the limit, where there are tags, and where there is a type for one?
 fn allows_tag(config: &Config, declared: &Declared) -> bool
-    ensures { result ≡ (nat_lt (count_of kind.Tag (map shown_decl declared.now.defs.items)) config.now.max_tags
+    ensures { result ≡ (nat_lt (count_of_kind kind.Tag (map shown_decl declared.now.defs.items)) config.now.max_tags
         && config.now.exceptions_enabled
         && nat_lt 0 (length (places is_tag_type 0 (shown_funcs declared.now.own.items)))) }
 {
@@ -57,7 +57,7 @@ fn allows_tag(config: &Config, declared: &Declared) -> bool
 // Is a function allowed: below the limit, and where there is a type?
 fn allows_function(config: &Config, declared: &Declared) -> bool
     ensures { result ≡ (nat_lt 0 (length (shown_funcs declared.now.own.items))
-        && nat_lt (count_of kind.Func (map shown_decl declared.now.defs.items)) config.now.max_funcs) }
+        && nat_lt (count_of_kind kind.Func (map shown_decl declared.now.defs.items)) config.now.max_funcs) }
 {
     declared.own.len() > 0 && allows(&declared.defs, ExportKind::Func, config.max_funcs)
 }

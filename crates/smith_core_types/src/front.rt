@@ -6,7 +6,7 @@ ghost use Rattle.smith_input.specs.Reading.{IsTail};
 ghost use Rattle.smith_format.specs.CoreTypes.{shown_func};
 ghost use Rattle.smith_core_types.specs.MadeCore.{allows_function, allows_type, MemoryLine};
 ghost use Rattle.smith_core_types.specs.MadeCore.{ReadsFront, ReadsFunctionLine, ReadsLine};
-ghost use Rattle.smith_core_types.specs.MakingCore.{Keeps, so_far};
+ghost use Rattle.smith_core_types.specs.MakingCore.{KeepsDeclared, so_far};
 ghost use Rattle.smith_syntax.specs.ModuleTypes.{realloc, free};
 
 use crate::declared::{Declared, allows, declare};
@@ -34,7 +34,7 @@ fn memory_line(
     ensures reads { (fuel : ℕ) → OnOk result (ReadsLine (nat_lt 0 config.now.max_memories) MemoryLine
         (so_far declared.old fuel) u.old (so_far declared.new fuel) u.new) }
     ensures own { OnOk result (declared.new.own.items ≡ declared.old.own.items) }
-    ensures kept { (around : _) → Keeps around declared.old → OnOk result (Keeps around declared.new) }
+    ensures kept { (around : _) → KeepsDeclared around declared.old → OnOk result (KeepsDeclared around declared.new) }
     ensures memory { IfErr result (λ e. e ≡ Error.OutOfMemory) }
     ensures tail { IsTail u.new u.old }
 {
@@ -91,7 +91,7 @@ fn function_line(
     ensures reads { (fuel : ℕ) → OnOk result (ReadsFunctionLine config.now name.now (params.now, results.now)
         (so_far declared.old fuel) u.old (so_far declared.new fuel) u.new) }
     ensures own { OnOk result (length declared.new.own.items ≤ length declared.old.own.items + 1) }
-    ensures kept { (around : _) → Keeps around declared.old → OnOk result (Keeps around declared.new) }
+    ensures kept { (around : _) → KeepsDeclared around declared.old → OnOk result (KeepsDeclared around declared.new) }
     ensures memory { IfErr result (λ e. e ≡ Error.OutOfMemory) }
     ensures tail { IsTail u.new u.old }
 {
@@ -114,7 +114,7 @@ fn function_line(
 pub(crate) fn front(alloc: Global, u: &mut Unstructured, config: &Config) -> Result<Declared, Error>
     ensures reads { IfOk result (λ d. (fuel : ℕ) → ReadsFront config.now u.old fuel (so_far d fuel) u.new) }
     ensures few { IfOk result (λ d. length d.own.items ≤ 2) }
-    ensures kept { IfOk result (λ d. (around : _) → Keeps around d) }
+    ensures kept { IfOk result (λ d. (around : _) → KeepsDeclared around d) }
     ensures memory { IfErr result (λ e. e ≡ Error.OutOfMemory) }
     ensures tail { IsTail u.new u.old }
 {

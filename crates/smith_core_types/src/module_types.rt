@@ -9,7 +9,8 @@ ghost use Rattle.smith_format.specs.Limits.{configured};
 ghost use Rattle.smith_syntax.specs.Entries.{ModuleDecl};
 ghost use Rattle.smith_core_types.specs.MadeCore.{MadeModule, ModuleEnds, ReadsDecl};
 ghost use Rattle.smith_core_types.specs.MadeCore.{allows_type, alias_choices, module_items};
-ghost use Rattle.smith_core_types.specs.MakingCore.{Adds, HasChoiceFor, KeepEach, Keeps, Turns, shown_funcs, so_far};
+ghost use Rattle.smith_core_types.specs.MakingCore.{AddsDecl, HasChoiceFor, KeepEach, KeepsDeclared, DeclTurn};
+ghost use Rattle.smith_core_types.specs.MakingCore.{shown_funcs, so_far};
 ghost use Rattle.smith_scopes.specs.Scopes.{own_scope};
 ghost use Rattle.smith_syntax.specs.Shown.{shown_decl};
 ghost use Rattle.smith_core_types.specs.declared.module_types.ModuleItem.TheVariants as item;
@@ -84,9 +85,10 @@ fn import(
     requires valtypes { valtypes.now ≡ configured config.now }
     requires few { length declared.old.own.items < 1000 }
     ensures adds { (around : _) (fuel : ℕ) → IfOk result (λ b.
-        Adds config.now around (so_far declared.old fuel) item.Import u.old b u.new (so_far declared.new (fuel - 1))) }
+        AddsDecl config.now around (so_far declared.old fuel) item.Import u.old b u.new
+        (so_far declared.new (fuel - 1))) }
     ensures own { OnOk result (length declared.new.own.items ≤ length declared.old.own.items + 1) }
-    ensures kept { (around : _) → Keeps around declared.old → OnOk result (Keeps around declared.new) }
+    ensures kept { (around : _) → KeepsDeclared around declared.old → OnOk result (KeepsDeclared around declared.new) }
     ensures memory { IfErr result (λ e. e ≡ Error.OutOfMemory) }
     ensures tail { IsTail u.new u.old }
 {
@@ -116,9 +118,10 @@ fn export(
     requires valtypes { valtypes.now ≡ configured config.now }
     requires few { length declared.old.own.items < 1000 }
     ensures adds { (around : _) (fuel : ℕ) → IfOk result (λ b.
-        Adds config.now around (so_far declared.old fuel) item.Export u.old b u.new (so_far declared.new (fuel - 1))) }
+        AddsDecl config.now around (so_far declared.old fuel) item.Export u.old b u.new
+        (so_far declared.new (fuel - 1))) }
     ensures own { OnOk result (length declared.new.own.items ≤ length declared.old.own.items + 1) }
-    ensures kept { (around : _) → Keeps around declared.old → OnOk result (Keeps around declared.new) }
+    ensures kept { (around : _) → KeepsDeclared around declared.old → OnOk result (KeepsDeclared around declared.new) }
     ensures memory { IfErr result (λ e. e ≡ Error.OutOfMemory) }
     ensures tail { IsTail u.new u.old }
 {
@@ -145,11 +148,11 @@ fn add_of(
     requires valtypes { valtypes.now ≡ configured config.now }
     requires few { length declared.old.own.items < 1000 }
     requires possible { HasChoiceFor (own_scope scopes.now) (so_far declared.old 0) item }
-    ensures adds { (fuel : ℕ) → IfOk result (λ b. Adds config.now (own_scope scopes.now) (so_far declared.old fuel)
+    ensures adds { (fuel : ℕ) → IfOk result (λ b. AddsDecl config.now (own_scope scopes.now) (so_far declared.old fuel)
         item u.old b u.new (so_far declared.new (fuel - 1))) }
     ensures own { OnOk result (length declared.new.own.items ≤ length declared.old.own.items + 1) }
-    ensures kept { Keeps (own_scope scopes.now).core_types declared.old
-        → OnOk result (Keeps (own_scope scopes.now).core_types declared.new) }
+    ensures kept { KeepsDeclared (own_scope scopes.now).core_types declared.old
+        → OnOk result (KeepsDeclared (own_scope scopes.now).core_types declared.new) }
     ensures memory { IfErr result (λ e. e ≡ Error.OutOfMemory) }
     ensures tail { IsTail u.new u.old }
 {
@@ -178,11 +181,11 @@ fn turn(
 ) -> Result<bool, Error>
     requires valtypes { valtypes.now ≡ configured config.now }
     requires few { length declared.old.own.items < 1000 }
-    ensures turns { (fuel : ℕ) → 0 < fuel - 1 → IfOk result (λ b. Turns config.now (own_scope scopes.now)
+    ensures turns { (fuel : ℕ) → 0 < fuel - 1 → IfOk result (λ b. DeclTurn config.now (own_scope scopes.now)
         (so_far declared.old fuel) u.old b u.new (so_far declared.new (fuel - 1))) }
     ensures own { OnOk result (length declared.new.own.items ≤ length declared.old.own.items + 1) }
-    ensures kept { Keeps (own_scope scopes.now).core_types declared.old
-        → OnOk result (Keeps (own_scope scopes.now).core_types declared.new) }
+    ensures kept { KeepsDeclared (own_scope scopes.now).core_types declared.old
+        → OnOk result (KeepsDeclared (own_scope scopes.now).core_types declared.new) }
     ensures memory { IfErr result (λ e. e ≡ Error.OutOfMemory) }
     ensures tail { IsTail u.new u.old }
 {
@@ -205,8 +208,8 @@ fn declarations(
     ensures reads { OnOk result ((more : List ModuleDecl) × Loop (ModuleEnds config.now (own_scope scopes.now))
         (ReadsDecl config.now (own_scope scopes.now)) 0 100 0 (so_far declared.old fuel.old) u.old more u.new
         (so_far declared.new fuel.new)) }
-    ensures kept { Keeps (own_scope scopes.now).core_types declared.old
-        → OnOk result (Keeps (own_scope scopes.now).core_types declared.new) }
+    ensures kept { KeepsDeclared (own_scope scopes.now).core_types declared.old
+        → OnOk result (KeepsDeclared (own_scope scopes.now).core_types declared.new) }
     ensures memory { IfErr result (λ e. e ≡ Error.OutOfMemory) }
     ensures tail { IsTail u.new u.old }
 {

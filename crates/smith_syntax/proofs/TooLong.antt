@@ -14,14 +14,15 @@ use Rattle.smith_syntax.specs.Entries.{ImportEntry, Decl, Decls, core_type_decl,
 use Rattle.smith_syntax.specs.Entries.{then_decls, decl_count}
 use Rattle.smith_syntax.specs.Grammar.{primvaltype, valtype, maybe_valtype, labelvaltype, case, resultlist, defvaltype, functype, moduledecl, core_entry}
 use Rattle.smith_syntax.specs.Grammar.{externdesc, named_extern, importdecl, import_entry, entry, decl, decls}
-use Rattle.smith_syntax.specs.TooLong.{ValTooLong, MaybeTooLong, FieldTooLong, CaseTooLong, DefinedTooLong, DeclTooLong, CoreEntryTooLong, RefTooLong}
-use Rattle.smith_syntax.specs.TooLong.{ExternTooLong, ImportEntryTooLong, ImportTooLong, EntryTooLong, DeclarationTooLong, DeclarationsTooLong}
+use Rattle.smith_syntax.specs.TooLong.{ComponentValTooLong, MaybeTooLong, FieldTooLong, CaseTooLong, DefinedTooLong, DeclTooLong, CoreEntryTooLong}
+use Rattle.smith_syntax.specs.TooLong.{TypeRefTooLong}
+use Rattle.smith_syntax.specs.TooLong.{ExternTooLong, ImportEntryTooLong, ImportDeclTooLong, EntryTooLong, DeclarationTooLong, DeclarationsTooLong}
 use Rattle.smith_syntax.specs.declared.deftype.ComponentTypeRef.{ComponentTypeRef}
 use Rattle.smith_syntax.specs.declared.deftype.ComponentTypeRef.TheVariants as to
 use Rattle.smith_syntax.specs.declared.types.ComponentValType.{ComponentValType}
 use Rattle.smith_syntax.specs.declared.types.ComponentValType.TheVariants.{Primitive, Indexed}
 
-val_none : (v : ComponentValType) → (valtype v ≡ None) ↔ ValTooLong v
+val_none : (v : ComponentValType) → (valtype v ≡ None) ↔ ComponentValTooLong v
 val_none (Primitive p) = bytes_none (primvaltype p ∷ [])
 val_none (Indexed i) = s_index_none_where i
 
@@ -67,7 +68,7 @@ function_type_none s =
     after_bytes (0x40 ∷ []) (many labelvaltype s.params ⊕ resultlist s.result)
     (join_none (many labelvaltype s.params) (resultlist s.result) (many_none_where labelvaltype field_none s.params) (result_none s.result))
 
-ref_none : (r : ComponentTypeRef) → (externdesc r ≡ None) ↔ RefTooLong r
+ref_none : (r : ComponentTypeRef) → (externdesc r ≡ None) ↔ TypeRefTooLong r
 ref_none (to.Module i) = after_bytes (0x00 ∷ 0x11 ∷ []) (u i) (u_none_where i)
 ref_none (to.Func i) = after_bytes (0x01 ∷ []) (u i) (u_none_where i)
 ref_none (to.TypeEq i) = after_bytes (0x03 ∷ 0x00 ∷ []) (u i) (u_none_where i)
@@ -80,7 +81,7 @@ extern_none name r = after_bytes (0x00 ∷ []) (text name ⊕ externdesc r) (joi
 pub import_entry_none : (i : ImportEntry) → (import_entry i ≡ None) ↔ ImportEntryTooLong i
 import_entry_none i = extern_none i.name i.to
 
-import_none : (importing : Bool) (name : List ℕ) (r : ComponentTypeRef) → (importdecl importing name r ≡ None) ↔ ImportTooLong importing name r
+import_none : (importing : Bool) (name : List ℕ) (r : ComponentTypeRef) → (importdecl importing name r ≡ None) ↔ ImportDeclTooLong importing name r
 import_none true name r = after_bytes (0x03 ∷ []) (named_extern name r) (extern_none name r)
 import_none false name r = (λ _. tt, λ _. refl)
 

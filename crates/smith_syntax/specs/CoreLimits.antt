@@ -9,7 +9,7 @@ use Rattle.smith_format.specs.declared.types.EntityType.TheVariants.{Func, Table
 use Rattle.smith_format.specs.declared.types.ExportKind.TheVariants as kind
 use Rattle.smith_format.specs.declared.types.RefType.TheVariants.{FuncRef}
 use Rattle.smith_syntax.specs.Entries.{CoreEntry, ModuleDecl, core_func, core_module}
-use Rattle.smith_syntax.specs.ModuleTypes.{declared_in, entities_of, type_count, count_of}
+use Rattle.smith_syntax.specs.ModuleTypes.{declared_in, entities_of, type_count, count_of_kind}
 use Rattle.smith_syntax.specs.WellFormed.{core_size}
 
 -- Tables hold functions, or anything where there are reference types; globals are of the configured value types; and tags stand only
@@ -26,11 +26,11 @@ pub record ModuleLimits (config : Config) (ds : List ModuleDecl) : Type 0 where
   pub functions : AllByRecursion (FormedFunction (configured config) (max_results config)) (declared_in ds)
   pub entities : AllByRecursion (EntityLimits config) (entities_of ds)
   pub types : type_count ds ≤ config.max_types
-  pub globals : count_of kind.Global ds ≤ config.max_globals
-  pub tables : count_of kind.Table ds ≤ config.max_tables
-  pub memories : count_of kind.Memory ds ≤ config.max_memories
-  pub tags : count_of kind.Tag ds ≤ config.max_tags
-  pub funcs : count_of kind.Func ds ≤ config.max_funcs
+  pub globals : count_of_kind kind.Global ds ≤ config.max_globals
+  pub tables : count_of_kind kind.Table ds ≤ config.max_tables
+  pub memories : count_of_kind kind.Memory ds ≤ config.max_memories
+  pub tags : count_of_kind kind.Tag ds ≤ config.max_tags
+  pub funcs : count_of_kind kind.Func ds ≤ config.max_funcs
   pub declarations : core_size (core_module ds) ≤ 100
 
 abbrev pub CoreLimits : Config → CoreEntry → Type 0

@@ -46,18 +46,18 @@ alias_of (aliases count i) = (count, i) ∷ []
 alias_of (exports n e) = []
 
 -- what it imports, after the two names
-abbrev pub import_of : ModuleDecl → List CoreImport
-import_of (imports m n e) = (m, n, e) ∷ []
-import_of (declares f) = []
-import_of (aliases count i) = []
-import_of (exports n e) = []
+abbrev pub module_import_of : ModuleDecl → List CoreImport
+module_import_of (imports m n e) = (m, n, e) ∷ []
+module_import_of (declares f) = []
+module_import_of (aliases count i) = []
+module_import_of (exports n e) = []
 
 -- what it exports, after the name
-abbrev pub export_of : ModuleDecl → List (List ℕ × EntityType)
-export_of (imports m n e) = []
-export_of (declares f) = []
-export_of (aliases count i) = []
-export_of (exports n e) = (n, e) ∷ []
+abbrev pub module_export_of : ModuleDecl → List (List ℕ × EntityType)
+module_export_of (imports m n e) = []
+module_export_of (declares f) = []
+module_export_of (aliases count i) = []
+module_export_of (exports n e) = (n, e) ∷ []
 
 -- what a declaration adds to the module type's own types
 abbrev pub adds : List CoreEntry → List Function → ModuleDecl → List Function
@@ -73,23 +73,23 @@ type_count ds = length (flat_map func_of ds) + length (flat_map alias_of ds)
 
 -- all that is imported and exported, in order
 abbrev pub entities_of : List ModuleDecl → List EntityType
-entities_of ds = flat_map (λ d. map (λ i. i.2) (import_of d) ++ map (λ x. x.1) (export_of d)) ds
+entities_of ds = flat_map (λ d. map (λ i. i.2) (module_import_of d) ++ map (λ x. x.1) (module_export_of d)) ds
 
 -- Is it of that kind?
 abbrev pub is_of_kind : ExportKind → EntityType → Bool
 is_of_kind k e = kinds.eq (kind_of e) k
 
 -- how many of the imports and exports are of a kind
-abbrev pub count_of : ExportKind → List ModuleDecl → ℕ
-count_of k ds = length (filter (is_of_kind k) (entities_of ds))
+abbrev pub count_of_kind : ExportKind → List ModuleDecl → ℕ
+count_of_kind k ds = length (filter (is_of_kind k) (entities_of ds))
 
 -- the names that are imported from a module
 abbrev pub names_from : List ℕ → List ModuleDecl → List (List ℕ)
-names_from from ds = map (λ i. i.1) (filter (λ i. bytes_eq i.0 from) (flat_map import_of ds))
+names_from from ds = map (λ i. i.1) (filter (λ i. bytes_eq i.0 from) (flat_map module_import_of ds))
 
 -- the names that are exported
 abbrev pub export_names : List ModuleDecl → List (List ℕ)
-export_names ds = map (λ x. x.0) (flat_map export_of ds)
+export_names ds = map (λ x. x.0) (flat_map module_export_of ds)
 
 -- No name is imported twice from a module, and none is exported twice.
 pub record HasNewNames (ds : List ModuleDecl) : Type 0 where
@@ -126,7 +126,7 @@ is_function_of i (Tag t) = false
 
 -- Is it the export by that name of what passes the test?
 abbrev pub is_export : List ℕ → (EntityType → Bool) → ModuleDecl → Bool
-is_export name test d = list_any (λ x. bytes_eq x.0 name && test x.1) (export_of d)
+is_export name test d = list_any (λ x. bytes_eq x.0 name && test x.1) (module_export_of d)
 
 -- the declarations after the export of a memory
 abbrev pub after_memory : List ModuleDecl → List ModuleDecl

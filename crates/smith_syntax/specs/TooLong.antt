@@ -12,16 +12,16 @@ use Rattle.smith_syntax.specs.declared.deftype.ComponentTypeRef.TheVariants as t
 use Rattle.smith_syntax.specs.declared.types.ComponentValType.{ComponentValType}
 use Rattle.smith_syntax.specs.declared.types.ComponentValType.TheVariants.{Primitive, Indexed}
 
-abbrev pub ValTooLong : ComponentValType → Type 0
-ValTooLong (Primitive p) = ⊥
-ValTooLong (Indexed i) = Passes i
+abbrev pub ComponentValTooLong : ComponentValType → Type 0
+ComponentValTooLong (Primitive p) = ⊥
+ComponentValTooLong (Indexed i) = Passes i
 
 abbrev pub MaybeTooLong : Option ComponentValType → Type 0
 MaybeTooLong None = ⊥
-MaybeTooLong (Some v) = ValTooLong v
+MaybeTooLong (Some v) = ComponentValTooLong v
 
 abbrev pub FieldTooLong : Field → Type 0
-FieldTooLong f = NameTooLong f.0 ⊎ ValTooLong f.1
+FieldTooLong f = NameTooLong f.0 ⊎ ComponentValTooLong f.1
 
 abbrev pub CaseTooLong : Case → Type 0
 CaseTooLong c = NameTooLong c.0 ⊎ MaybeTooLong c.1
@@ -30,11 +30,11 @@ abbrev pub DefinedTooLong : DefValType → Type 0
 DefinedTooLong (primitive_type p) = ⊥
 DefinedTooLong (record_type fs) = ListTooLong FieldTooLong fs
 DefinedTooLong (variant_type cs) = ListTooLong CaseTooLong cs
-DefinedTooLong (list_type v) = ValTooLong v
-DefinedTooLong (tuple_type vs) = ListTooLong ValTooLong vs
+DefinedTooLong (list_type v) = ComponentValTooLong v
+DefinedTooLong (tuple_type vs) = ListTooLong ComponentValTooLong vs
 DefinedTooLong (flags_type ns) = ListTooLong NameTooLong ns
 DefinedTooLong (enum_type ns) = ListTooLong NameTooLong ns
-DefinedTooLong (option_type v) = ValTooLong v
+DefinedTooLong (option_type v) = ComponentValTooLong v
 DefinedTooLong (result_type ok err) = MaybeTooLong ok ⊎ MaybeTooLong err
 
 abbrev pub DeclTooLong : ModuleDecl → Type 0
@@ -48,24 +48,24 @@ CoreEntryTooLong (core_func f) = FunctionTooLong f
 CoreEntryTooLong (core_module ds) = ListTooLong DeclTooLong ds
 
 -- the index of what an import or an export is of
-abbrev pub RefTooLong : ComponentTypeRef → Type 0
-RefTooLong (to.Module i) = Passes i
-RefTooLong (to.Func i) = Passes i
-RefTooLong (to.TypeEq i) = Passes i
-RefTooLong (to.Component i) = Passes i
-RefTooLong (to.Instance i) = Passes i
+abbrev pub TypeRefTooLong : ComponentTypeRef → Type 0
+TypeRefTooLong (to.Module i) = Passes i
+TypeRefTooLong (to.Func i) = Passes i
+TypeRefTooLong (to.TypeEq i) = Passes i
+TypeRefTooLong (to.Component i) = Passes i
+TypeRefTooLong (to.Instance i) = Passes i
 
 abbrev pub ExternTooLong : List ℕ → ComponentTypeRef → Type 0
-ExternTooLong name r = NameTooLong name ⊎ RefTooLong r
+ExternTooLong name r = NameTooLong name ⊎ TypeRefTooLong r
 
 -- an import of a component
 abbrev pub ImportEntryTooLong : ImportEntry → Type 0
 ImportEntryTooLong i = ExternTooLong i.name i.to
 
 -- an import of a component type (true), or of an instance type (false), which no type of the program has
-abbrev pub ImportTooLong : Bool → List ℕ → ComponentTypeRef → Type 0
-ImportTooLong true name r = ExternTooLong name r
-ImportTooLong false name r = Unit {0}
+abbrev pub ImportDeclTooLong : Bool → List ℕ → ComponentTypeRef → Type 0
+ImportDeclTooLong true name r = ExternTooLong name r
+ImportDeclTooLong false name r = Unit {0}
 
 -- types, and the declarations of component types (true) and of instance types (false)
 abbrev mutual
@@ -80,7 +80,7 @@ abbrev mutual
   DeclarationTooLong importing (type_decl e) = EntryTooLong e
   DeclarationTooLong importing (type_alias count i k) = Passes count ⊎ Passes i
   DeclarationTooLong importing (core_type_alias count i k) = Passes count ⊎ Passes i
-  DeclarationTooLong importing (import_decl name n r) = ImportTooLong importing name r
+  DeclarationTooLong importing (import_decl name n r) = ImportDeclTooLong importing name r
   DeclarationTooLong importing (export_decl name n r) = ExternTooLong name r
 
   pub DeclarationsTooLong : Bool → Decls → Type 0

@@ -130,13 +130,13 @@ module _ {N K : Type 0} where
   export_of (export_decl name n r) = (name, n) ∷ []
 
   -- all that declarations import, and all that they export
-  abbrev pub imports_in : DeclsOf N K → List (List ℕ × N)
-  imports_in no_decls = []
-  imports_in (then_decls d ds) = import_of d ++ imports_in ds
+  abbrev pub decl_imports : DeclsOf N K → List (List ℕ × N)
+  decl_imports no_decls = []
+  decl_imports (then_decls d ds) = import_of d ++ decl_imports ds
 
-  abbrev pub exports_in : DeclsOf N K → List (List ℕ × N)
-  exports_in no_decls = []
-  exports_in (then_decls d ds) = export_of d ++ exports_in ds
+  abbrev pub decl_exports : DeclsOf N K → List (List ℕ × N)
+  decl_exports no_decls = []
+  decl_exports (then_decls d ds) = export_of d ++ decl_exports ds
 
 -- the names alone
 abbrev pub names : {N : Type 0} → List (List ℕ × N) → List (List ℕ)
@@ -150,8 +150,9 @@ abbrev mutual
   FormedEntry (defined t) own outer = FormedDefined t own
   FormedEntry (function s) own outer =
       Named (map (λ p. p.0) s.params) × AllByRecursion (λ p. FormedVal own p.1) s.params × (length s.params ≤ 16) × FormedMaybe own s.result
-  FormedEntry (component_type ds) own outer = FormedDeclarations ds empty_scope (own ∷ outer) × Named (names (imports_in ds)) × Named (names (exports_in ds))
-  FormedEntry (instance_type ds) own outer = FormedDeclarations ds empty_scope (own ∷ outer) × (imports_in ds ≡ []) × Named (names (exports_in ds))
+  FormedEntry (component_type ds) own outer = FormedDeclarations ds empty_scope (own ∷ outer)
+      × Named (names (decl_imports ds)) × Named (names (decl_exports ds))
+  FormedEntry (instance_type ds) own outer = FormedDeclarations ds empty_scope (own ∷ outer) × (decl_imports ds ≡ []) × Named (names (decl_exports ds))
 
   pub FormedDeclaration : Decl → Scope → List Scope → Type 0
   FormedDeclaration (core_type_decl t k) own outer = FormedCore t own.core_types

@@ -14,8 +14,8 @@ use Rattle.smith_syntax.specs.Entries.{Kept, FullDecl, plain_decl, type_alias, c
 use Rattle.smith_syntax.specs.Scope.{Scope, in_scope}
 use Rattle.smith_syntax.specs.WellFormed.{FormedDeclaration}
 use Rattle.smith_syntax.specs.declared.deftype.ComponentTypeRef.{ComponentTypeRef}
-use Rattle.smith_types.specs.Declarations.{NamedExtern, ReadsMaybeUrl, no_url, a_url, url_names, ReadsNamedExtern, ReadsAlias, NoImport, in_instance}
-use Rattle.smith_types.specs.Declarations.{nothing_there, not_asked, none_fits, ReadsImport, ReadsExport}
+use Rattle.smith_types.specs.Declarations.{NamedExtern, ReadsMaybeUrl, no_url, a_url, url_names, ReadsNamedExtern, ReadsAlias, NoImportDecl, in_instance}
+use Rattle.smith_types.specs.Declarations.{nothing_there, not_asked, none_fits, ReadsImportDecl, ReadsExportDecl}
 use Rattle.smith_types.specs.Offers.{numbered, occupied, aliases_of, declaration_offers, declaration_items, ref_places}
 use Rattle.smith_types.specs.MakingTypes.{HasTarget}
 use Rattle.smith_types.specs.References.{ref_to, ReadsRef}
@@ -43,14 +43,14 @@ pub alias_tail : (scopes : List Scope) (b : List ℕ) (d : FullDecl) (rest : Lis
 alias_tail scopes b d rest r = tail_trans (among_tail r.names) (among_tail r.choice)
 
 module _ (config : Config) (own : Scope) where
-  pub import_tail : (imports : List NamedExtern) (b : List ℕ) (d : FullDecl) (rest : List ℕ) → ReadsImport config own imports b d rest → IsTail rest b
+  pub import_tail : (imports : List NamedExtern) (b : List ℕ) (d : FullDecl) (rest : List ℕ) → ReadsImportDecl config own imports b d rest → IsTail rest b
   import_tail imports b d rest r = tail_trans (extern_tail imports r.low r.named rest r.name)
       (tail_trans (ref_tail config own _ true true r.mid r.to r.low r.of) (reads_tail r.asked))
 
-  pub export_tail : (exports : List NamedExtern) (b : List ℕ) (d : FullDecl) (rest : List ℕ) → ReadsExport config own exports b d rest → IsTail rest b
+  pub export_tail : (exports : List NamedExtern) (b : List ℕ) (d : FullDecl) (rest : List ℕ) → ReadsExportDecl config own exports b d rest → IsTail rest b
   export_tail exports b d rest r = tail_trans (extern_tail exports r.mid r.named rest r.name) (ref_tail config own _ false true b r.to r.mid r.of)
 
-  pub no_import_tail : (importing : Bool) (b rest : List ℕ) → NoImport config importing own b rest → IsTail rest b
+  pub no_import_tail : (importing : Bool) (b rest : List ℕ) → NoImportDecl config importing own b rest → IsTail rest b
   no_import_tail importing b rest (in_instance e) = tail_same b
   no_import_tail importing b rest (nothing_there e f) = tail_same b
   no_import_tail importing b rest (not_asked e f r k) = reads_tail r
@@ -111,13 +111,13 @@ alias_formed own outer b d rest r =
     ]
 
 module _ (config : Config) (own : Scope) (outer : List Scope) where
-  pub import_formed : (imports : List NamedExtern) (b : List ℕ) (d : FullDecl) (rest : List ℕ) → ReadsImport config own imports b d rest
+  pub import_formed : (imports : List NamedExtern) (b : List ℕ) (d : FullDecl) (rest : List ℕ) → ReadsImportDecl config own imports b d rest
       → FormedDeclaration (plain_decl d) own outer
   import_formed imports b d rest r =
       subst (λ z. FormedDeclaration (plain_decl z) own outer) (sym r.is)
       (ref_formed config own _ true true r.mid r.to r.low r.of, import_not_equal config own _ true r.mid r.to r.low r.of)
 
-  pub export_formed : (exports : List NamedExtern) (b : List ℕ) (d : FullDecl) (rest : List ℕ) → ReadsExport config own exports b d rest
+  pub export_formed : (exports : List NamedExtern) (b : List ℕ) (d : FullDecl) (rest : List ℕ) → ReadsExportDecl config own exports b d rest
       → FormedDeclaration (plain_decl d) own outer
   export_formed exports b d rest r = subst (λ z. FormedDeclaration (plain_decl z) own outer) (sym r.is) (ref_formed config own _ false true b r.to r.mid r.of)
 
@@ -171,22 +171,22 @@ alias_same scopes b d e r s p q =
     among_same (subst R u.1 (subst Q scope (subst P u.0 p.names))) q.names
 
 module _ (config : Config) (own : Scope) where
-  pub import_same : (imports : List NamedExtern) (b : List ℕ) (d e : FullDecl) (r s : List ℕ) → ReadsImport config own imports b d r
-      → ReadsImport config own imports b e s → (d ≡ e) × (r ≡ s)
+  pub import_same : (imports : List NamedExtern) (b : List ℕ) (d e : FullDecl) (r s : List ℕ) → ReadsImportDecl config own imports b d r
+      → ReadsImportDecl config own imports b e s → (d ≡ e) × (r ≡ s)
   import_same imports b d e r s p q =
       let a = (reads_unique p.asked q.asked).1 in
       let o = ref_same config own _ true true q.mid p.to q.to p.low q.low (subst (λ z. ReadsRef config own _ true true z p.to p.low) a p.of) q.of in
       let n = extern_same imports q.low p.named q.named r s (subst (λ z. ReadsNamedExtern imports z p.named r) o.1 p.name) q.name in
       (p.is ∙ (λ i. import_decl (n.0 i).0 (n.0 i).1 (o.0 i)) ∙ sym q.is, n.1)
 
-  pub export_same : (exports : List NamedExtern) (b : List ℕ) (d e : FullDecl) (r s : List ℕ) → ReadsExport config own exports b d r
-      → ReadsExport config own exports b e s → (d ≡ e) × (r ≡ s)
+  pub export_same : (exports : List NamedExtern) (b : List ℕ) (d e : FullDecl) (r s : List ℕ) → ReadsExportDecl config own exports b d r
+      → ReadsExportDecl config own exports b e s → (d ≡ e) × (r ≡ s)
   export_same exports b d e r s p q =
       let o = ref_same config own _ false true b p.to q.to p.mid q.mid p.of q.of in
       let n = extern_same exports q.mid p.named q.named r s (subst (λ z. ReadsNamedExtern exports z p.named r) o.1 p.name) q.name in
       (p.is ∙ (λ i. export_decl (n.0 i).0 (n.0 i).1 (o.0 i)) ∙ sym q.is, n.1)
 
-  pub no_import_same : (importing : Bool) (b r s : List ℕ) → NoImport config importing own b r → NoImport config importing own b s → r ≡ s
+  pub no_import_same : (importing : Bool) (b r s : List ℕ) → NoImportDecl config importing own b r → NoImportDecl config importing own b s → r ≡ s
   no_import_same importing b r s (in_instance e) (in_instance f) = refl
   no_import_same importing b r s (in_instance e) (nothing_there f t) = refl
   no_import_same importing b r s (in_instance e) (not_asked f t c k) = absurd (false≢true (sym e ∙ f))
@@ -205,8 +205,9 @@ module _ (config : Config) (own : Scope) where
   no_import_same importing b r s (none_fits e t a n) (none_fits f u c m) = (reads_unique a c).1
 
   -- An import is declared, or none is.
-  pub import_or_none : (importing : Bool) (imports : List NamedExtern) (b r s : List ℕ) (d : FullDecl) → importing ≡ true → ReadsImport config own imports b d r
-      → NoImport config importing own b s → ⊥
+  pub import_or_none : (importing : Bool) (imports : List NamedExtern) (b r s : List ℕ) (d : FullDecl) → importing ≡ true
+      → ReadsImportDecl config own imports b d r
+      → NoImportDecl config importing own b s → ⊥
   import_or_none importing imports b r s d e p (in_instance f) = false≢true (sym f ∙ e)
   import_or_none importing imports b r s d e p (nothing_there f t) = false≢true (sym t ∙ p.there)
   import_or_none importing imports b r s d e p (not_asked f t c k) = omega (arith, k, (reads_unique c p.asked).0)

@@ -8,7 +8,7 @@ use Rattle.smith_input.specs.Script.{offers_of}
 use Rattle.smith_syntax.specs.Entries.{FullDecl, import_decl, export_decl}
 use Rattle.smith_syntax.specs.Scope.{Scope, places, is_core_module}
 use Rattle.smith_syntax.specs.declared.deftype.ComponentTypeRef.{ComponentTypeRef}
-use Rattle.smith_types.specs.Declarations.{NamedExtern, NoImport, not_asked, none_fits, ReadsImport, ReadsExport, ReadsNamedExtern}
+use Rattle.smith_types.specs.Declarations.{NamedExtern, NoImportDecl, not_asked, none_fits, ReadsImportDecl, ReadsExportDecl, ReadsNamedExtern}
 use Rattle.smith_types.specs.Offers.{has_reference, ref_kinds, ref_offers, has_place, uncounted}
 use Rattle.smith_core_types.specs.MadeCore.{indexes}
 use Rattle.smith_types.specs.References.{ReadsRef}
@@ -40,21 +40,21 @@ export_possible config own has none =
     false≢true (sym (either_false _ _ no_own no_module) ∙ has)
 
 module _ (config : Config) (own : Scope) (b mid : List ℕ) (n : ℕ) (has : has_reference own ≡ true) (read : (k : ℕ) × (n ≡ 0 + k) × Reads 4 b k mid) where
-  pub import_not_asked : 0 < n → NoImport config true own b mid
+  pub import_not_asked : 0 < n → NoImportDecl config true own b mid
   import_not_asked h = not_asked refl has read.2 (omega (arith, h, read.1))
 
   asked : n ≡ 0 → Reads 4 b 0 mid
   asked e = subst (λ k. Reads 4 b k mid) (let z : read.0 ≡ 0 = omega (arith, e, read.1) in z) read.2
 
-  pub import_fits_none : n ≡ 0 → ref_kinds config own uncounted true true ≡ [] → NoImport config true own b mid
+  pub import_fits_none : n ≡ 0 → ref_kinds config own uncounted true true ≡ [] → NoImportDecl config true own b mid
   import_fits_none e none = none_fits refl has (asked e) none
 
   pub import_read : (so_far : List NamedExtern) (r : ComponentTypeRef) (x : NamedExtern) (low rest : List ℕ) → n ≡ 0
       → ReadsRef config own uncounted true true mid r low → ReadsNamedExtern so_far low x rest
-      → ReadsImport config own so_far b (import_decl x.0 x.1 r) rest
+      → ReadsImportDecl config own so_far b (import_decl x.0 x.1 r) rest
   import_read so_far r x low rest e of name = record { mid = mid; low = low; to = r; named = x; there = has; asked = asked e; of = of; name = name; is = refl }
 
 pub export_read : (config : Config) (own : Scope) (so_far : List NamedExtern) (r : ComponentTypeRef) (x : NamedExtern) (b mid rest : List ℕ) (d : FullDecl)
     → ReadsRef config own uncounted false true b r mid → ReadsNamedExtern so_far mid x rest → d ≡ export_decl x.0 x.1 r
-    → ReadsExport config own so_far b d rest
+    → ReadsExportDecl config own so_far b d rest
 export_read config own so_far r x b mid rest d of name is = record { mid = mid; to = r; named = x; of = of; name = name; is = is }

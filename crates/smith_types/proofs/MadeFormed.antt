@@ -13,7 +13,7 @@ use Rattle.smith_syntax.specs.Entries.{EntryOf, DeclOf, DeclsOf, defined, functi
 use Rattle.smith_syntax.specs.Entries.{core_type_alias, import_decl, export_decl, no_decls, then_decls}
 use Rattle.smith_syntax.specs.Entries.{FullEntry, FullDecl, FullDecls, plain, plain_decl, plain_decls}
 use Rattle.smith_syntax.specs.Scope.{Scope, with_type, after_decl}
-use Rattle.smith_syntax.specs.WellFormed.{FormedEntry, FormedDeclaration, FormedDeclarations, Named, names, import_of, export_of, imports_in, exports_in}
+use Rattle.smith_syntax.specs.WellFormed.{FormedEntry, FormedDeclaration, FormedDeclarations, Named, names, import_of, export_of, decl_imports, decl_exports}
 use Rattle.smith_types.specs.Declarations.{NamedExtern, SoFar, nothing_so_far, after_one}
 use Rattle.smith_types.specs.Made.{Made, spent_type, made_defined, made_function, made_component, made_instance}
 use Rattle.smith_types.specs.Made.{MadeDeclaration, made_import, made_export, made_alias, made_core_type, made_type, MadeDeclarations, no_more_decls}
@@ -70,17 +70,17 @@ module _ {N K : Type 0} where
   export_plain (import_decl name n r) = refl
   export_plain (export_decl name n r) = refl
 
-  pub imports_plain : (ds : DeclsOf N K) → names (imports_in (plain_decls ds)) ≡ names (imports_in ds)
+  pub imports_plain : (ds : DeclsOf N K) → names (decl_imports (plain_decls ds)) ≡ names (decl_imports ds)
   imports_plain no_decls = refl
   imports_plain (then_decls d ds) =
-      map-append (λ x. x.0) (import_of (plain_decl d)) (imports_in (plain_decls ds))
-      ∙ ((λ i. import_plain d i ++ imports_plain ds i) ∙ sym (map-append (λ x. x.0) (import_of d) (imports_in ds)))
+      map-append (λ x. x.0) (import_of (plain_decl d)) (decl_imports (plain_decls ds))
+      ∙ ((λ i. import_plain d i ++ imports_plain ds i) ∙ sym (map-append (λ x. x.0) (import_of d) (decl_imports ds)))
 
-  pub exports_plain : (ds : DeclsOf N K) → names (exports_in (plain_decls ds)) ≡ names (exports_in ds)
+  pub exports_plain : (ds : DeclsOf N K) → names (decl_exports (plain_decls ds)) ≡ names (decl_exports ds)
   exports_plain no_decls = refl
   exports_plain (then_decls d ds) =
-      map-append (λ x. x.0) (export_of (plain_decl d)) (exports_in (plain_decls ds))
-      ∙ ((λ i. export_plain d i ++ exports_plain ds i) ∙ sym (map-append (λ x. x.0) (export_of d) (exports_in ds)))
+      map-append (λ x. x.0) (export_of (plain_decl d)) (decl_exports (plain_decls ds))
+      ∙ ((λ i. export_plain d i ++ exports_plain ds i) ∙ sym (map-append (λ x. x.0) (export_of d) (decl_exports ds)))
 
 -- A declaration imports or exports one new name, or none.
 abbrev MaybeNew : List NamedExtern → List NamedExtern → Type 0
@@ -137,31 +137,31 @@ at_most_one so_far one (inr (x, is, b, rest, new)) = omega (arith, length-append
 
 pub imports_new : (config : Config) (importing : Bool) (outer : List Scope) (done : ℕ) (s : SoFar) (b : List ℕ) (fuel : ℕ) (ds : FullDecls) (rest : List ℕ)
     (left : ℕ) → length s.imports ≤ done
-    → MadeDeclarations config importing outer done s b fuel ds rest left → NewNames s.imports (imports_in ds)
+    → MadeDeclarations config importing outer done s b fuel ds rest left → NewNames s.imports (decl_imports ds)
 imports_new config importing outer done s b fuel ds rest left few (no_more_decls m l) = (tt, tt)
 imports_new config importing outer done s b fuel ds rest left few (spent_decls m f l) = (tt, tt)
 imports_new config importing outer done s b fuel _ rest left few (one_decl {mid = mid} {low = low} {held = held} {d = d} {ds = ds} m f one later) =
     let new = declaration_imports config importing outer s mid (fuel - 1) d low held one in
     let lt : done < 100 = more_within m in
-    names_more s.imports (import_of d) (imports_in ds) (omega (arith, few, lt)) new
+    names_more s.imports (import_of d) (decl_imports ds) (omega (arith, few, lt)) new
     (imports_new config importing outer (done + 1) (after_one outer s d) low held ds rest left (omega (arith, few, at_most_one s.imports (import_of d) new))
     later)
 
 pub exports_new : (config : Config) (importing : Bool) (outer : List Scope) (done : ℕ) (s : SoFar) (b : List ℕ) (fuel : ℕ) (ds : FullDecls) (rest : List ℕ)
     (left : ℕ) → length s.exports ≤ done
-    → MadeDeclarations config importing outer done s b fuel ds rest left → NewNames s.exports (exports_in ds)
+    → MadeDeclarations config importing outer done s b fuel ds rest left → NewNames s.exports (decl_exports ds)
 exports_new config importing outer done s b fuel ds rest left few (no_more_decls m l) = (tt, tt)
 exports_new config importing outer done s b fuel ds rest left few (spent_decls m f l) = (tt, tt)
 exports_new config importing outer done s b fuel _ rest left few (one_decl {mid = mid} {low = low} {held = held} {d = d} {ds = ds} m f one later) =
     let new = declaration_exports config importing outer s mid (fuel - 1) d low held one in
     let lt : done < 100 = more_within m in
-    names_more s.exports (export_of d) (exports_in ds) (omega (arith, few, lt)) new
+    names_more s.exports (export_of d) (decl_exports ds) (omega (arith, few, lt)) new
     (exports_new config importing outer (done + 1) (after_one outer s d) low held ds rest left (omega (arith, few, at_most_one s.exports (export_of d) new))
     later)
 
 pub no_imports : (config : Config) (importing : Bool) (outer : List Scope) (done : ℕ) (s : SoFar) (b : List ℕ) (fuel : ℕ) (ds : FullDecls) (rest : List ℕ)
     (left : ℕ) → importing ≡ false
-    → MadeDeclarations config importing outer done s b fuel ds rest left → imports_in (plain_decls ds) ≡ []
+    → MadeDeclarations config importing outer done s b fuel ds rest left → decl_imports (plain_decls ds) ≡ []
 no_imports config importing outer done s b fuel ds rest left never (no_more_decls m l) = refl
 no_imports config importing outer done s b fuel ds rest left never (spent_decls m f l) = refl
 no_imports config importing outer done s b fuel _ rest left never (one_decl {mid = mid} {low = low} {held = held} {d = d} {ds = ds} m f one later) =
@@ -186,12 +186,12 @@ named_more xs ys n new =
 module _ (config : Config) (importing : Bool) (outer : List Scope) (done : ℕ) (s : SoFar) (b : List ℕ) (fuel : ℕ) (ds : FullDecls) (rest : List ℕ)
     (left : ℕ) where
   pub imports_named : length s.imports ≤ done → Named (names s.imports) → MadeDeclarations config importing outer done s b fuel ds rest left
-      → Named (names (s.imports ++ imports_in ds))
-  imports_named few n m = named_more s.imports (imports_in ds) n (imports_new config importing outer done s b fuel ds rest left few m)
+      → Named (names (s.imports ++ decl_imports ds))
+  imports_named few n m = named_more s.imports (decl_imports ds) n (imports_new config importing outer done s b fuel ds rest left few m)
 
   pub exports_named : length s.exports ≤ done → Named (names s.exports) → MadeDeclarations config importing outer done s b fuel ds rest left
-      → Named (names (s.exports ++ exports_in ds))
-  exports_named few n m = named_more s.exports (exports_in ds) n (exports_new config importing outer done s b fuel ds rest left few m)
+      → Named (names (s.exports ++ decl_exports ds))
+  exports_named few n m = named_more s.exports (decl_exports ds) n (exports_new config importing outer done s b fuel ds rest left few m)
 
 none_named : Named []
 none_named = (tt, new_distinct [] [] tt)

@@ -7,7 +7,7 @@ use Rattle.smith_format.specs.declared.config.Config.{Config}
 use Rattle.smith_syntax.specs.Entries.{FullEntry, FullDecl, FullDecls, defined, function, component_type, instance_type, core_type_decl, type_decl, then_decls}
 use Rattle.smith_syntax.specs.Entries.{keeps_functions}
 use Rattle.smith_syntax.specs.Scope.{Scope}
-use Rattle.smith_types.specs.Declarations.{SoFar, nothing_so_far, after_one, ReadsAlias, ReadsExport, NoImport}
+use Rattle.smith_types.specs.Declarations.{SoFar, nothing_so_far, after_one, ReadsAlias, ReadsExportDecl, NoImportDecl}
 use Rattle.smith_types.specs.Offers.{declaration_items}
 use Rattle.smith_types.specs.Made.{MadeDefined, MadeFunction, Made, spent_type, made_defined, made_function, made_component, made_instance, MadeDeclaration}
 use Rattle.smith_types.specs.Made.{made_import, made_export, made_alias, made_core_type, made_type, MadeDeclarations, no_more_decls, spent_decls, one_decl}
@@ -22,8 +22,8 @@ use Rattle.smith_core_types.proofs.Same.{Same}
 
 -- a choice of what is declared, where no import is
 items_same : (config : Config) (importing : Bool) (outer : List Scope) (own : Scope) (b mid low m l : List ℕ) (i j : DeclarationItem)
-    → NoImport config importing own b mid
-    → ReadsAmong (declaration_items config outer own) mid i low → NoImport config importing own b m → ReadsAmong (declaration_items config outer own) m j l
+    → NoImportDecl config importing own b mid
+    → ReadsAmong (declaration_items config outer own) mid i low → NoImportDecl config importing own b m → ReadsAmong (declaration_items config outer own) m j l
     → (i ≡ j) × (low ≡ l)
 items_same config importing outer own b mid low m l i j n c o a =
     let P : List ℕ → Type 0 = λ z. ReadsAmong (declaration_items config outer own) z i low in
@@ -88,7 +88,7 @@ mutual
       record { value = v.0; rest = v.1; left = l ∙ sym m }
   declaration_same config importing outer t b fuel d e r s f g (made_export {mid = u} {low = low} n c x l) (made_export {mid = w} {low = after} o a y m) =
       let v = items_same config importing outer t.own b u low w after item.Export item.Export n c o a in
-      let P : List ℕ → Type 0 = λ z. ReadsExport config t.own t.exports z d r in
+      let P : List ℕ → Type 0 = λ z. ReadsExportDecl config t.own t.exports z d r in
       let w = export_same config t.own t.exports after d e r s (subst P v.1 x) y in
       record { value = w.0; rest = w.1; left = l ∙ sym m }
   declaration_same config importing outer t b fuel d e r s f g (made_alias {mid = u} {low = low} n c x l) (made_alias {mid = w} {low = after} o a y m) =

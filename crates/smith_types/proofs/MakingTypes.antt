@@ -4,7 +4,7 @@ use Rattle.smith_format.specs.declared.config.Config.{Config}
 use Rattle.smith_input.specs.Choices.{ReadsAmong}
 use Rattle.smith_syntax.specs.Entries.{FullEntry, FullDecl}
 use Rattle.smith_syntax.specs.Scope.{Scope}
-use Rattle.smith_types.specs.Declarations.{NamedExtern, SoFar, NoImport}
+use Rattle.smith_types.specs.Declarations.{NamedExtern, SoFar, NoImportDecl}
 use Rattle.smith_types.specs.Offers.{declaration_items, type_kinds}
 use Rattle.smith_types.specs.Made.{Made, spent_type, made_defined, made_function, made_component, made_instance, MadeDeclaration, made_export, made_alias}
 use Rattle.smith_types.specs.Made.{made_core_type, made_type}
@@ -17,7 +17,7 @@ use Rattle.smith_types.specs.declared.make.externs.ExternNames.{ExternNames}
 
 -- a declaration of a sort that was chosen
 pub item_made : (config : Config) (importing : Bool) (s : SoFar) (outer : List Scope) (start mid low rest : List ℕ) (i : DeclarationItem) (fuel left : ℕ)
-    (d : FullDecl) → NoImport config importing s.own start mid → ReadsAmong (declaration_items config outer s.own) mid i low
+    (d : FullDecl) → NoImportDecl config importing s.own start mid → ReadsAmong (declaration_items config outer s.own) mid i low
     → MadeItem config s.own outer s.exports i low fuel d rest left → MadeDeclaration config importing outer s start fuel d rest left
 item_made config importing s outer start mid low rest item.Export fuel left d none chosen (r, l) = made_export none chosen r l
 item_made config importing s outer start mid low rest item.Alias fuel left d none chosen (r, l) = made_alias none chosen r l

@@ -23,11 +23,12 @@ use Rattle.smith_syntax.specs.declared.deftype.ComponentTypeRef.{ComponentTypeRe
 use Rattle.smith_syntax.specs.declared.deftype.ComponentTypeRef.TheVariants as to
 use Rattle.smith_scopes.proofs.Places.{get_left, get_right, place_found}
 use Rattle.smith_scopes.proofs.Stack.{length-places}
-use Rattle.smith_types.specs.Declarations.{NamedExtern, ReadsNamedExtern, no_url, ReadsAlias, NoImport, in_instance, nothing_there, not_asked}
+use Rattle.smith_types.specs.Declarations.{NamedExtern, ReadsNamedExtern, no_url, ReadsAlias, NoImportDecl, in_instance, nothing_there, not_asked}
 use Rattle.smith_types.specs.Offers.{IsAllowed, has_reference, is_occupied, occupied, numbered, aliases_of, declaration_offers, declaration_items, ref_offers}
 use Rattle.smith_types.specs.Offers.{ref_kinds, ref_places, has_place, allows_one, allows_equal}
 use Rattle.smith_types.specs.References.{ref_to, ReadsRef}
-use Rattle.smith_types.specs.Script.{kind_in, index_in, script_ref, script_label, script_extern, script_entry, script_alias, script_no_import, script_item, Fit}
+use Rattle.smith_types.specs.Script.{kind_in, index_in, script_ref, script_label, script_extern, script_entry, script_alias, script_no_import}
+use Rattle.smith_types.specs.Script.{script_declaration_item, Fit}
 use Rattle.smith_types.specs.contracts.make.declarations.DeclarationItem.{the_type as item_type}
 use Rattle.smith_types.specs.contracts.make.declarations.DeclarationItemPartialEq.TheImpl.{ghosts as items}
 use Rattle.smith_types.specs.contracts.make.references.RefKind.{the_type as ref_kind_type}
@@ -184,11 +185,11 @@ extern_read so_far name rest k short new =
 -- no import
 
 module _ (config : Config) (own : Scope) where
-  no_import_by : (rest : List ℕ) (b : Bool) → has_reference own ≡ b → NoImport config true own ((if b then pick 4 1 else []) ++ rest) rest
+  no_import_by : (rest : List ℕ) (b : Bool) → has_reference own ≡ b → NoImportDecl config true own ((if b then pick 4 1 else []) ++ rest) rest
   no_import_by rest true e = not_asked refl e (reads-pick 4 1 rest (omega arith) (omega arith)) (omega arith)
   no_import_by rest false e = nothing_there refl e
 
-  pub no_import_read : (importing : Bool) (rest : List ℕ) → NoImport config importing own (script_no_import importing own ++ rest) rest
+  pub no_import_read : (importing : Bool) (rest : List ℕ) → NoImportDecl config importing own (script_no_import importing own ++ rest) rest
   no_import_read true rest = no_import_by rest (has_reference own) refl
   no_import_read false rest = in_instance refl
 
@@ -196,7 +197,7 @@ module _ (config : Config) (own : Scope) where
 
 pub item_read : (config : Config) (outer : List Scope) (own : Scope) (i : DeclarationItem) (k : ℕ) (b : Bool) (rest : List ℕ)
     → slice_get (declaration_offers config outer own) k ≡ Some (b, i) → b ≡ true
-    → ReadsAmong (declaration_items config outer own) (script_item config outer own i ++ rest) i rest
+    → ReadsAmong (declaration_items config outer own) (script_declaration_item config outer own i ++ rest) i rest
 item_read config outer own i k b rest named offered =
     let at = offers_found (declaration_offers config outer own) k b i named offered in
     among_read items.eq item_Decides (declaration_items config outer own) i at.0 rest (let few = offers_few (declaration_offers config outer own) in

@@ -18,19 +18,21 @@ use Rattle.smith_syntax.specs.Entries.{core_type_alias, import_decl, export_decl
 use Rattle.smith_syntax.specs.CoreLimits.{CoreLimits}
 use Rattle.smith_syntax.specs.Scope.{Scope, after_decl, exported_type, type_named, core_type_named}
 use Rattle.smith_syntax.specs.TypeLimits.{EntryLimits, DeclLimits, DeclsLimits}
-use Rattle.smith_syntax.specs.WellFormed.{FormedEntry, FormedDeclaration, FormedDeclarations, names, import_of, export_of, imports_in, exports_in, is_type_eq}
+use Rattle.smith_syntax.specs.WellFormed.{FormedEntry, FormedDeclaration, FormedDeclarations, names, import_of, export_of, decl_imports, decl_exports}
+use Rattle.smith_syntax.specs.WellFormed.{is_type_eq}
 use Rattle.smith_syntax.specs.declared.deftype.ComponentTypeRef.{ComponentTypeRef}
 use Rattle.smith_syntax.specs.declared.deftype.ComponentTypeRef.TheVariants as to
 use Rattle.smith_core_types.specs.MadeCore.{MadeCore, spent_core, named_by_core}
 use Rattle.smith_core_types.proofs.MadeCore.{core_type_read}
 use Rattle.smith_core_types.proofs.Names.{AreNew, distinct_new, none_before}
 use Rattle.smith_scopes.proofs.Plain.{all_back, all_front}
-use Rattle.smith_types.specs.Declarations.{NamedExtern, SoFar, nothing_so_far, after_one, ReadsImport, ReadsExport}
+use Rattle.smith_types.specs.Declarations.{NamedExtern, SoFar, nothing_so_far, after_one, ReadsImportDecl, ReadsExportDecl}
 use Rattle.smith_types.specs.Offers.{uncounted, IsAllowed}
 use Rattle.smith_types.specs.Made.{Made, made_component, made_instance, MadeWith, MadeDeclaration, made_import, made_export, made_alias, made_core_type}
 use Rattle.smith_types.specs.Made.{made_type, MadeDeclarations, no_more_decls, one_decl}
 use Rattle.smith_types.specs.Script.{Fit, IsSayable, Lasts, LastsCore, LastsDecl, LastsDecls, cost, core_cost, decl_cost, decls_cost, script_alias, script_core}
-use Rattle.smith_types.specs.Script.{script_decl, script_decls, script_declares, script_extern, script_item, script_no_import, script_ref, script_type}
+use Rattle.smith_types.specs.Script.{script_decl, script_decls, script_declares, script_extern, script_declaration_item, script_no_import, script_ref}
+use Rattle.smith_types.specs.Script.{script_type}
 use Rattle.smith_types.specs.Script.{script_type_kind}
 use Rattle.smith_types.specs.declared.make.TypeKind.TheVariants.{Component, Instance}
 use Rattle.smith_types.specs.declared.make.declarations.DeclarationItem.{DeclarationItem}
@@ -134,20 +136,20 @@ export_allowed config own (to.Instance i) = refl
 module _ (config : Config) where
   -- what stands behind the choice of what is declared
   declares_read : (importing : Bool) (outer : List Scope) (own : Scope) (i : DeclarationItem) (said rest : List ℕ) (P : List ℕ → Type 0)
-      → P (script_no_import importing own ++ (script_item config outer own i ++ (said ++ rest)))
+      → P (script_no_import importing own ++ (script_declaration_item config outer own i ++ (said ++ rest)))
       → P ((script_declares config importing own outer i ++ said) ++ rest)
   declares_read importing outer own i said rest P made =
       let a : List ℕ = script_no_import importing own in
-      let b : List ℕ = script_item config outer own i in
+      let b : List ℕ = script_declaration_item config outer own i in
       subst P (sym (append_assoc (a ++ b) said rest ∙ append_assoc a b (said ++ rest))) made
 
   export_read : (s : SoFar) (name rest : List ℕ) (r : ComponentTypeRef) → Holding (2 ^ 64) s.own
       → Kebab name × (length name ≤ 100) × AreNew (names s.exports) (name ∷ []) → (u : Unit {0}) → FormedDeclaration (export_decl name u r) s.own []
-      → ReadsExport config s.own s.exports ((script_ref config s.own uncounted false true r ++ script_extern name) ++ rest) (export_decl name None r) rest
+      → ReadsExportDecl config s.own s.exports ((script_ref config s.own uncounted false true r ++ script_extern name) ++ rest) (export_decl name None r) rest
   export_read s name rest r few (k, short, new) u formed =
       let of : List ℕ = script_ref config s.own uncounted false true r in
       let said : List ℕ = script_extern name in
-      subst (λ z. ReadsExport config s.own s.exports z (export_decl name None r) rest) (sym (append_assoc of said rest)) (record {
+      subst (λ z. ReadsExportDecl config s.own s.exports z (export_decl name None r) rest) (sym (append_assoc of said rest)) (record {
         mid = said ++ rest;
         to = r;
         named = (name, None);
@@ -158,14 +160,14 @@ module _ (config : Config) where
 
   import_read : (s : SoFar) (name rest : List ℕ) (r : ComponentTypeRef) → Holding (2 ^ 64) s.own
       → Kebab name × (length name ≤ 100) × AreNew (names s.imports) (name ∷ []) → (u : Unit {0}) → FormedDeclaration (import_decl name u r) s.own []
-      → ReadsImport config s.own s.imports ((pick 4 0 ++ (script_ref config s.own uncounted true true r ++ script_extern name)) ++ rest)
+      → ReadsImportDecl config s.own s.imports ((pick 4 0 ++ (script_ref config s.own uncounted true true r ++ script_extern name)) ++ rest)
       (import_decl name None r) rest
   import_read s name rest r few (k, short, new) u formed =
       let of : List ℕ = script_ref config s.own uncounted true true r in
       let said : List ℕ = script_extern name in
       let whole : (pick 4 0 ++ (of ++ said)) ++ rest ≡ pick 4 0 ++ (of ++ (said ++ rest)) = append_assoc (pick 4 0) (of ++ said) rest
       ∙ ap (λ z. pick 4 0 ++ z) (append_assoc of said rest) in
-      subst (λ z. ReadsImport config s.own s.imports z (import_decl name None r) rest) (sym whole) (record {
+      subst (λ z. ReadsImportDecl config s.own s.imports z (import_decl name None r) rest) (sym whole) (record {
         mid = of ++ (said ++ rest);
         low = said ++ rest;
         to = r;
@@ -188,9 +190,9 @@ module _ (config : Config) where
           (function s, refl, type_function own (let z = fit.each.0 in omega (arith, z)) config outer fuel s rest f l.0 l.1)
       full_read (component_type ds) own outer fuel rest f m l fit few =
           let around : Fit (nothing_so_far.own ∷ (own ∷ outer)) = record { many = omega (arith, few); each = (omega arith, fit.each) } in
-          let said : Sayable true nothing_so_far (imports_in ds) (exports_in ds) = record {
-            imports = (distinct_new [] (names (imports_in ds)) (none_before (names (imports_in ds))) f.1.1, f.1.0);
-            exports = (distinct_new [] (names (exports_in ds)) (none_before (names (exports_in ds))) f.2.1, f.2.0);
+          let said : Sayable true nothing_so_far (decl_imports ds) (decl_exports ds) = record {
+            imports = (distinct_new [] (names (decl_imports ds)) (none_before (names (decl_imports ds))) f.1.1, f.1.0);
+            exports = (distinct_new [] (names (decl_exports ds)) (none_before (names (decl_exports ds))) f.2.1, f.2.0);
             own = λ h. absurd (cc);
           } in
           let r = decls_read ds true (own ∷ outer) nothing_so_far (fuel - 1) 0 rest f.0 m.1 l.1 said (omega (arith, m.0)) (omega arith) around in
@@ -205,10 +207,10 @@ module _ (config : Config) where
           )
       full_read (instance_type ds) own outer fuel rest f m l fit few =
           let around : Fit (nothing_so_far.own ∷ (own ∷ outer)) = record { many = omega (arith, few); each = (omega arith, fit.each) } in
-          let none : imports_in ds ≡ [] = f.1 in
-          let said : Sayable false nothing_so_far (imports_in ds) (exports_in ds) = record {
+          let none : decl_imports ds ≡ [] = f.1 in
+          let said : Sayable false nothing_so_far (decl_imports ds) (decl_exports ds) = record {
             imports = subst (Next []) (sym none) (tt, tt);
-            exports = (distinct_new [] (names (exports_in ds)) (none_before (names (exports_in ds))) f.2.1, f.2.0);
+            exports = (distinct_new [] (names (decl_exports ds)) (none_before (names (decl_exports ds))) f.2.1, f.2.0);
             own = λ h. none;
           } in
           let r = decls_read ds false (own ∷ outer) nothing_so_far (fuel - 1) 0 rest f.0 m.1 l.1 said (omega (arith, m.0)) (omega arith) around in
@@ -304,7 +306,7 @@ module _ (config : Config) where
           )
 
       decls_read : (ds : Decls) (importing : Bool) (outer : List Scope) (s : SoFar) (fuel done : ℕ) (rest : List ℕ) → FormedDeclarations ds s.own outer
-          → DeclsLimits config ds → LastsDecls ds config (length (s.own ∷ outer)) fuel → Sayable importing s (imports_in ds) (exports_in ds)
+          → DeclsLimits config ds → LastsDecls ds config (length (s.own ∷ outer)) fuel → Sayable importing s (decl_imports ds) (decl_exports ds)
           → done + decl_count ds ≤ 100 → Holding done s.own → Fit (s.own ∷ outer)
           → (full : FullDecls) × (ds ≡ plain_decls full) × MadeDeclarations config importing outer done s
           (script_decls ds config importing fuel done s.own outer ++ rest) fuel full rest (fuel - decls_cost ds)
@@ -312,9 +314,9 @@ module _ (config : Config) where
           (no_decls, refl, no_more_decls (end_read 0 100 done rest (omega arith) (omega (arith, few))) (omega arith))
       decls_read (then_decls d ds) importing outer s fuel done rest f m l said few held fit =
           let here : Sayable importing s (import_of d) (export_of d) = record {
-            imports = next_front s.imports (import_of d) (imports_in ds) said.imports;
-            exports = next_front s.exports (export_of d) (exports_in ds) said.exports;
-            own = λ h. none_ahead (import_of d) (imports_in ds) (said.own h);
+            imports = next_front s.imports (import_of d) (decl_imports ds) said.imports;
+            exports = next_front s.exports (export_of d) (decl_exports ds) said.exports;
+            own = λ h. none_ahead (import_of d) (decl_imports ds) (said.own h);
           } in
           let held_next : ℕ = fuel - 1 - decl_cost d in
           let place : Scope = after_decl outer s.own d in
@@ -323,10 +325,10 @@ module _ (config : Config) where
           let next : SoFar = after_one outer s one.0 in
           let same : place ≡ next.own = ap (after_decl outer s.own) one.1 ∙ after_plain outer s.own one.0 in
           let formed : FormedDeclarations ds next.own outer = subst (λ z. FormedDeclarations ds z outer) same f.1 in
-          let behind : Sayable importing next (imports_in ds) (exports_in ds) = record {
-            imports = next_back s.imports (import_of one.0) (import_of d) (imports_in ds) one.2 said.imports;
-            exports = next_back s.exports (export_of one.0) (export_of d) (exports_in ds) one.3 said.exports;
-            own = λ h. none_behind (import_of d) (imports_in ds) (said.own h);
+          let behind : Sayable importing next (decl_imports ds) (decl_exports ds) = record {
+            imports = next_back s.imports (import_of one.0) (import_of d) (decl_imports ds) one.2 said.imports;
+            exports = next_back s.exports (export_of one.0) (export_of d) (decl_exports ds) one.3 said.exports;
+            own = λ h. none_behind (import_of d) (decl_imports ds) (said.own h);
           } in
           let holds : Holding (done + 1) next.own = subst (Holding (done + 1)) same (after_holding outer done s.own d held) in
           let around : Fit (next.own ∷ outer) = record { many = fit.many; each = (omega (arith, holds, few), fit.each.1) } in

@@ -21,7 +21,7 @@ use Rattle.smith_types.specs.Made.{ReadsVal, only_primitive, either_primitive, e
 use Rattle.smith_types.specs.Made.{MadeAs, MadeDefined, MadeFunction, Made, spent_type, made_defined, made_function}
 use Rattle.smith_syntax.specs.Scope.{Scope, defined_places, is_defined}
 use Rattle.smith_types.specs.Script.{script_primitive, script_val, script_maybe, script_label, script_field, script_case, script_members, script_kind}
-use Rattle.smith_types.specs.Script.{script_defined, script_function, script_type_kind, script_type, AreShort, LastsDefined, cost}
+use Rattle.smith_types.specs.Script.{script_defined, script_signature, script_type_kind, script_type, AreShort, LastsDefined, cost}
 use Rattle.smith_syntax.specs.WellFormed.{FormedVal, FormedMaybe, FormedDefined, FormedEntry, Named, size, defined_size}
 use Rattle.smith_types.specs.contracts.make.TypeKind.{the_type as type_kind_type}
 use Rattle.smith_types.specs.contracts.make.TypeKindPartialEq.TheImpl.{ghosts as types}
@@ -210,7 +210,7 @@ module _ (own : Scope) (few : length own.types ≤ 2 ^ 64) where
 
   function_read : (outer : List Scope) (fuel : ℕ) (s : Signature) (rest : List ℕ) → FormedEntry (function s) own outer
       → AreShort (map (λ p. p.0) s.params) × (size (function s) + 2 ≤ fuel + 1)
-      → (left : ℕ) × (left + size (function s) ≡ fuel) × MadeFunction own (script_function own s ++ rest) fuel s rest left
+      → (left : ℕ) × (left + size (function s) ≡ fuel) × MadeFunction own (script_signature own s ++ rest) fuel s rest left
   function_read outer fuel s rest f l =
       let said : List ℕ = script_members (script_field own) 0 16 s.params in
       let gives : List ℕ = script_members (script_val own) 0 1 (option_to_list s.result) in
@@ -266,8 +266,8 @@ module _ (own : Scope) (few : length own.types ≤ 2 ^ 64) where
   type_function config outer fuel s rest f short lasts =
       let m = function_read outer (fuel - 1) s rest f (short, omega (arith, lasts)) in
       let left : m.0 ≡ fuel - cost (function s) = omega (arith, m.1) in
-      let made : MadeFunction own (script_function own s ++ rest) (fuel - 1) s rest (fuel - cost (function s)) =
-      subst (λ n. MadeFunction own (script_function own s ++ rest) (fuel - 1) s rest n) left m.2 in
+      let made : MadeFunction own (script_signature own s ++ rest) (fuel - 1) s rest (fuel - cost (function s)) =
+      subst (λ n. MadeFunction own (script_signature own s ++ rest) (fuel - 1) s rest n) left m.2 in
       let P : List ℕ → Type 0 = λ b. Made config own outer b fuel (function s) rest (fuel - cost (function s)) in
-      subst P (sym (append_assoc (script_type_kind Function) (script_function own s) rest))
-      (made_function (omega (arith, lasts)) (type_kind_read Function 1 (script_function own s ++ rest) refl) made refl)
+      subst P (sym (append_assoc (script_type_kind Function) (script_signature own s) rest))
+      (made_function (omega (arith, lasts)) (type_kind_read Function 1 (script_signature own s ++ rest) refl) made refl)

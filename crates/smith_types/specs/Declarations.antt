@@ -61,16 +61,16 @@ pub record ReadsAlias (scopes : List Scope) (bytes : List ℕ) (d : FullDecl) (r
 
 -- No import is declared: in an instance type; and in a component type where there is nothing to name, where the choice of four does
 -- not ask for an import, and where it does but none can be had.
-pub data NoImport (config : Config) (importing : Bool) (own : Scope) : List ℕ → List ℕ → Type 0 where
-  in_instance : {bytes : List ℕ} → importing ≡ false → NoImport config importing own bytes bytes
-  nothing_there : {bytes : List ℕ} → importing ≡ true → has_reference own ≡ false → NoImport config importing own bytes bytes
+pub data NoImportDecl (config : Config) (importing : Bool) (own : Scope) : List ℕ → List ℕ → Type 0 where
+  in_instance : {bytes : List ℕ} → importing ≡ false → NoImportDecl config importing own bytes bytes
+  nothing_there : {bytes : List ℕ} → importing ≡ true → has_reference own ≡ false → NoImportDecl config importing own bytes bytes
   not_asked : {bytes rest : List ℕ} {k : ℕ} → importing ≡ true → has_reference own ≡ true → Reads 4 bytes k rest → 0 < k
-      → NoImport config importing own bytes rest
+      → NoImportDecl config importing own bytes rest
   none_fits : {bytes rest : List ℕ} → importing ≡ true → has_reference own ≡ true → Reads 4 bytes 0 rest → ref_kinds config own uncounted true true ≡ []
-      → NoImport config importing own bytes rest
+      → NoImportDecl config importing own bytes rest
 
 -- An import: where there is something to name, one of four choices, what it is of, and its name.
-pub record ReadsImport (config : Config) (own : Scope) (imports : List NamedExtern) (bytes : List ℕ) (d : FullDecl) (rest : List ℕ) : Type 0 where
+pub record ReadsImportDecl (config : Config) (own : Scope) (imports : List NamedExtern) (bytes : List ℕ) (d : FullDecl) (rest : List ℕ) : Type 0 where
   pub mid : List ℕ
   pub low : List ℕ
   pub to : ComponentTypeRef
@@ -82,7 +82,7 @@ pub record ReadsImport (config : Config) (own : Scope) (imports : List NamedExte
   pub is : d ≡ import_decl named.0 named.1 to
 
 -- An export: what it is of, and its name.
-pub record ReadsExport (config : Config) (own : Scope) (exports : List NamedExtern) (bytes : List ℕ) (d : FullDecl) (rest : List ℕ) : Type 0 where
+pub record ReadsExportDecl (config : Config) (own : Scope) (exports : List NamedExtern) (bytes : List ℕ) (d : FullDecl) (rest : List ℕ) : Type 0 where
   pub mid : List ℕ
   pub to : ComponentTypeRef
   pub named : NamedExtern

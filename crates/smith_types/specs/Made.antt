@@ -10,7 +10,7 @@ use Rattle.smith_syntax.specs.Entries.{result_type, Signature, Entry, FullEntry,
 use Rattle.smith_syntax.specs.Entries.{core_type_decl, type_decl, no_decls, then_decls, keeps_functions, CoreEntry}
 use Rattle.smith_syntax.specs.Scope.{Scope, defined_places}
 use Rattle.smith_format.specs.declared.config.Config.{Config}
-use Rattle.smith_types.specs.Declarations.{SoFar, nothing_so_far, after_one, ReadsAlias, ReadsExport, ReadsImport, NoImport}
+use Rattle.smith_types.specs.Declarations.{SoFar, nothing_so_far, after_one, ReadsAlias, ReadsExportDecl, ReadsImportDecl, NoImportDecl}
 use Rattle.smith_types.specs.Offers.{declaration_items, primitives, defined_kinds, type_kinds}
 use Rattle.smith_core_types.specs.MadeCore.{MadeCore, named_by_core}
 use Rattle.smith_types.specs.declared.make.declarations.DeclarationItem.TheVariants as item
@@ -127,19 +127,19 @@ mutual
   -- A declaration of a component type (true) or of an instance type (false), after its turn's fuel is taken.
   pub data MadeDeclaration (config : Config) : Bool → List Scope → SoFar → List ℕ → ℕ → FullDecl → List ℕ → ℕ → Type 0 where
     made_import : {importing : Bool} {outer : List Scope} {s : SoFar} {bytes rest : List ℕ} {fuel left : ℕ} {d : FullDecl} → importing ≡ true
-        → ReadsImport config s.own s.imports bytes d rest → left ≡ fuel → MadeDeclaration config importing outer s bytes fuel d rest left
+        → ReadsImportDecl config s.own s.imports bytes d rest → left ≡ fuel → MadeDeclaration config importing outer s bytes fuel d rest left
     made_export : {importing : Bool} {outer : List Scope} {s : SoFar} {bytes mid low rest : List ℕ} {fuel left : ℕ} {d : FullDecl}
-        → NoImport config importing s.own bytes mid → ReadsAmong (declaration_items config outer s.own) mid item.Export low
-        → ReadsExport config s.own s.exports low d rest → left ≡ fuel → MadeDeclaration config importing outer s bytes fuel d rest left
+        → NoImportDecl config importing s.own bytes mid → ReadsAmong (declaration_items config outer s.own) mid item.Export low
+        → ReadsExportDecl config s.own s.exports low d rest → left ≡ fuel → MadeDeclaration config importing outer s bytes fuel d rest left
     made_alias : {importing : Bool} {outer : List Scope} {s : SoFar} {bytes mid low rest : List ℕ} {fuel left : ℕ} {d : FullDecl}
-        → NoImport config importing s.own bytes mid → ReadsAmong (declaration_items config outer s.own) mid item.Alias low
+        → NoImportDecl config importing s.own bytes mid → ReadsAmong (declaration_items config outer s.own) mid item.Alias low
         → ReadsAlias (s.own ∷ outer) low d rest → left ≡ fuel → MadeDeclaration config importing outer s bytes fuel d rest left
     made_core_type : {importing : Bool} {outer : List Scope} {s : SoFar} {bytes mid low rest : List ℕ} {fuel left : ℕ} {c : CoreEntry} {d : FullDecl}
-        → NoImport config importing s.own bytes mid
+        → NoImportDecl config importing s.own bytes mid
         → ReadsAmong (declaration_items config outer s.own) mid item.CoreType low → MadeCore config s.own low fuel c rest left
         → d ≡ core_type_decl c (keeps_functions (named_by_core s.own.core_types c)) → MadeDeclaration config importing outer s bytes fuel d rest left
     made_type : {importing : Bool} {outer : List Scope} {s : SoFar} {bytes mid low rest : List ℕ} {fuel left : ℕ} {e : FullEntry} {d : FullDecl}
-        → NoImport config importing s.own bytes mid → ReadsAmong (declaration_items config outer s.own) mid item.Type low
+        → NoImportDecl config importing s.own bytes mid → ReadsAmong (declaration_items config outer s.own) mid item.Type low
         → Made config s.own outer low fuel e rest left → d ≡ type_decl e → MadeDeclaration config importing outer s bytes fuel d rest left
 
   -- At most 100 declarations, `done` of which were made before. Each turn takes one from the fuel, and the loop ends where none is left

@@ -11,7 +11,7 @@ use Rattle.smith_syntax.specs.WellFormed.{names, import_of, export_of}
 use Rattle.smith_syntax.specs.declared.deftype.ComponentTypeRef.{ComponentTypeRef}
 use Rattle.smith_syntax.specs.declared.deftype.Import.{Import}
 use Rattle.std.specs.Option.{option_to_list}
-use Rattle.smith_types.specs.Declarations.{NamedExtern, SoFar, nothing_so_far, ReadsAlias, ReadsExport, ReadsImport, NoImport, url_names}
+use Rattle.smith_types.specs.Declarations.{NamedExtern, SoFar, nothing_so_far, ReadsAlias, ReadsExportDecl, ReadsImportDecl, NoImportDecl, url_names}
 use Rattle.smith_types.specs.Offers.{has_reference, occupied}
 use Rattle.smith_types.specs.Made.{Made, MadeDefined, MadeFunction, MadeDeclarations}
 use Rattle.smith_core_types.specs.MadeCore.{MadeCore, named_by_core}
@@ -33,7 +33,7 @@ MadeKind config own outer kind.Instance b fuel e rest left = (ds : FullDecls) ×
 
 -- a declaration of a sort
 abbrev pub MadeItem : Config → Scope → List Scope → List NamedExtern → DeclarationItem → List ℕ → ℕ → FullDecl → List ℕ → ℕ → Type 0
-MadeItem config own outer exports item.Export b fuel d rest left = ReadsExport config own exports b d rest × (left ≡ fuel)
+MadeItem config own outer exports item.Export b fuel d rest left = ReadsExportDecl config own exports b d rest × (left ≡ fuel)
 MadeItem config own outer exports item.Alias b fuel d rest left = ReadsAlias (own ∷ outer) b d rest × (left ≡ fuel)
 MadeItem config own outer exports item.CoreType b fuel d rest left = (c : CoreEntry) × MadeCore config own b fuel c rest left
     × (d ≡ core_type_decl c (keeps_functions (named_by_core own.core_types c)))
@@ -48,13 +48,13 @@ HasTarget config own outer item.«Type» = length (own ∷ outer) < config.max_n
 
 -- an import, or none of the sort that no import is declared
 abbrev pub MaybeImport : Config → Scope → List NamedExtern → List ℕ → Option FullDecl → List ℕ → Type 0
-MaybeImport config own imports b None rest = NoImport config true own b rest
-MaybeImport config own imports b (Some d) rest = ReadsImport config own imports b d rest
+MaybeImport config own imports b None rest = NoImportDecl config true own b rest
+MaybeImport config own imports b (Some d) rest = ReadsImportDecl config own imports b d rest
 
 -- the import of the program as a declaration, where there is one
-abbrev pub shown_import : Option Import → Option FullDecl
-shown_import None = None
-shown_import (Some i) = Some (import_decl (string_bytes i.name) (shown_url i.url) i.ty)
+abbrev pub shown_import_decl : Option Import → Option FullDecl
+shown_import_decl None = None
+shown_import_decl (Some i) = Some (import_decl (string_bytes i.name) (shown_url i.url) i.ty)
 
 -- what is imported, where something is
 abbrev pub imported_by : Option FullDecl → List NamedExtern

@@ -80,8 +80,8 @@ script_defined own (option_type v) = script_kind kind.Option ++ script_val own v
 script_defined own (result_type ok err) = script_kind kind.Result ++ (script_maybe own ok ++ script_maybe own err)
 
 -- the parameters, and then the result or none
-abbrev pub script_function : Scope → Signature → List ℕ
-script_function own s = script_members (script_field own) 0 16 s.params ++ script_members (script_val own) 0 1 (option_to_list s.result)
+abbrev pub script_signature : Scope → Signature → List ℕ
+script_signature own s = script_members (script_field own) 0 16 s.params ++ script_members (script_val own) 0 1 (option_to_list s.result)
 
 abbrev pub script_type_kind : TypeKind → List ℕ
 script_type_kind k = script_among types.eq type_kinds k
@@ -163,11 +163,11 @@ abbrev pub script_no_import : Bool → Scope → List ℕ
 script_no_import importing own = if importing && has_reference own then pick 4 1 else []
 
 -- what is declared
-abbrev pub script_item : Config → List Scope → Scope → DeclarationItem → List ℕ
-script_item config outer own chosen = script_among items.eq (declaration_items config outer own) chosen
+abbrev pub script_declaration_item : Config → List Scope → Scope → DeclarationItem → List ℕ
+script_declaration_item config outer own chosen = script_among items.eq (declaration_items config outer own) chosen
 
 abbrev pub script_declares : Config → Bool → Scope → List Scope → DeclarationItem → List ℕ
-script_declares config importing own outer chosen = script_no_import importing own ++ script_item config outer own chosen
+script_declares config importing own outer chosen = script_no_import importing own ++ script_declaration_item config outer own chosen
 
 -- A core type: a function type. Module types have no script, but for the empty one where the fuel does not last.
 abbrev pub script_core : Config → CoreEntry → List ℕ
@@ -179,7 +179,7 @@ script_core config (core_module ds) = []
 abbrev mutual
   pub script_type : Entry → Config → ℕ → Scope → List Scope → List ℕ
   script_type (defined t) config fuel own outer = (if nat_le 2 fuel then script_type_kind Defined else []) ++ script_defined own t
-  script_type (function s) config fuel own outer = script_type_kind Function ++ script_function own s
+  script_type (function s) config fuel own outer = script_type_kind Function ++ script_signature own s
   script_type (component_type ds) config fuel own outer = script_type_kind Component ++ script_decls ds config true (fuel - 1) 0 empty_scope (own ∷ outer)
   script_type (instance_type ds) config fuel own outer = script_type_kind Instance ++ script_decls ds config false (fuel - 1) 0 empty_scope (own ∷ outer)
 

@@ -7,11 +7,11 @@ ghost use Rattle.smith_input.specs.Choices.{ReadsAmong};
 ghost use Rattle.smith_input.specs.Reading.{IsTail};
 ghost use Rattle.smith_syntax.specs.Shown.{full_alias, full_instance_decl};
 ghost use Rattle.smith_syntax.specs.WellFormed.{export_of, import_of, FormedRef};
-ghost use Rattle.smith_types.specs.Declarations.{NamedExtern, ReadsAlias, ReadsExport};
+ghost use Rattle.smith_types.specs.Declarations.{NamedExtern, ReadsAlias, ReadsExportDecl};
 ghost use Rattle.smith_types.specs.Offers.{declaration_items, has_reference, occupied};
 ghost use Rattle.smith_types.specs.MakingTypes.{Declares, HasTarget, HoldsExterns, IsNameless};
 ghost use Rattle.smith_types.specs.MakingTypes.{MadeItem, MaybeImport, SameOuter};
-ghost use Rattle.smith_types.specs.MakingTypes.{imported_by, shown_import, with_aliased, with_exported};
+ghost use Rattle.smith_types.specs.MakingTypes.{imported_by, shown_import_decl, with_aliased, with_exported};
 ghost use Rattle.smith_scopes.specs.Scopes.{inward, own_scope, outer_scopes};
 ghost use Rattle.smith_types.specs.declared.make.declarations.DeclarationItem.TheVariants as item;
 
@@ -112,9 +112,9 @@ pub(super) fn import(
     imports: &mut ExternNames,
 ) -> Result<Option<Import>, Error>
     ensures reads { (so_far : List NamedExtern) → HoldsExterns imports.old so_far
-        → IfOk result (λ i. MaybeImport config.now (own_scope scopes.now) so_far u.old (shown_import i) u.new) }
+        → IfOk result (λ i. MaybeImport config.now (own_scope scopes.now) so_far u.old (shown_import_decl i) u.new) }
     ensures names { (so_far : List NamedExtern) → HoldsExterns imports.old so_far
-        → IfOk result (λ i. HoldsExterns imports.new (so_far ++ imported_by (shown_import i))) }
+        → IfOk result (λ i. HoldsExterns imports.new (so_far ++ imported_by (shown_import_decl i))) }
     ensures memory { IfErr result (λ e. e ≡ Error.OutOfMemory) }
     ensures tail { IsTail u.new u.old }
 {
@@ -155,7 +155,8 @@ pub(super) fn export(
     requires possible { has_reference (own_scope scopes.old) ≡ true }
     requires room { length (own_scope scopes.old).types ≤ 100 }
     ensures reads { (so_far : List NamedExtern) → HoldsExterns exports.old so_far
-        → IfOk result (λ d. ReadsExport config.now (own_scope scopes.old) so_far u.old (full_instance_decl d) u.new) }
+        → IfOk result (λ d. ReadsExportDecl config.now (own_scope scopes.old) so_far u.old
+        (full_instance_decl d) u.new) }
     ensures names { (so_far : List NamedExtern) → HoldsExterns exports.old so_far
         → IfOk result (λ d. HoldsExterns exports.new (so_far ++ export_of (full_instance_decl d))) }
     ensures no_import { IfOk result (λ d. import_of (full_instance_decl d) ≡ []) }

@@ -10,7 +10,7 @@ ghost use Rattle.smith_syntax.specs.Entries.{in_order};
 ghost use Rattle.smith_syntax.specs.Shown.{full_component_decl, full_instance_decl, full_type};
 ghost use Rattle.smith_syntax.specs.Scope.{empty_scope};
 ghost use Rattle.smith_syntax.specs.WellFormed.{export_of, import_of};
-ghost use Rattle.smith_types.specs.Declarations.{NamedExtern, NoImport, nothing_so_far};
+ghost use Rattle.smith_types.specs.Declarations.{NamedExtern, NoImportDecl, nothing_so_far};
 ghost use Rattle.smith_types.specs.Made.{Made, MadeDeclaration, MadeDeclarations};
 ghost use Rattle.smith_types.specs.MakingTypes.{Declares, HasAtMost, HasTarget, HoldsExterns, IsNameless};
 ghost use Rattle.smith_types.specs.MakingTypes.{MadeItem, MadeKind, SameOuter};
@@ -139,7 +139,7 @@ fn declaration(
     requires shallow { length scopes.old ≤ 1002 }
     requires few { HasAtMost 100 (own_scope scopes.old) }
     ensures made { (importing : _) (so_far imports : List NamedExtern) (start : List _)
-        → HoldsExterns exports.old so_far → NoImport config.now importing (own_scope scopes.old) start u.old
+        → HoldsExterns exports.old so_far → NoImportDecl config.now importing (own_scope scopes.old) start u.old
         → IfOk result (λ d. MadeDeclaration config.now importing (outer_scopes scopes.old)
         (record { own = own_scope scopes.old; imports = imports; exports = so_far }) start fuel.old
         (full_instance_decl d) u.new fuel.new) }

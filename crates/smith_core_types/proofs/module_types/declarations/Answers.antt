@@ -2,7 +2,7 @@ use Rattle.std.proofs.Common.{◌≡◌, ℕ, ◌-◌, Bool, true, false, ◌++�
 use Rattle.smith_input.proofs.Loops.{begins, stops, ends_early, ends_full, goes_on}
 use Rattle.smith_input.proofs.ReadingLemmas.{tail_same, tail_trans, more_tail}
 use Rattle.smith_core_types.specs.MadeCore.{no_fuel}
-use Rattle.smith_core_types.specs.MakingCore.{Turns, so_far}
+use Rattle.smith_core_types.specs.MakingCore.{DeclTurn, so_far}
 use Rattle.smith_syntax.specs.Scope.{own_of}
 use Rattle.smith_scopes.specs.Scopes.{inward}
 use Rattle.smith_core_types.proofs.module_types.declarations.Goals as goal
@@ -31,7 +31,7 @@ pub returns-then-not-branch-clause-reads : goal.returns-then-not-branch-clause-r
 returns-then-not-branch-clause-reads c =
     let around = own_of (inward c.args.scopes.now) in
     let fuel = c.loop-done.fuel in
-    let T : Bool → ℕ → Type 0 = λ b n. Turns c.args.config.now around (so_far c.loop-done.declared fuel) c.more.new.self b c.turn.new.u
+    let T : Bool → ℕ → Type 0 = λ b n. DeclTurn c.args.config.now around (so_far c.loop-done.declared fuel) c.more.new.self b c.turn.new.u
     (so_far c.turn.new.declared n) in
     let turned = c.in_ok-turn.ensures.turns fuel (omega (arith, c.burn.ensures, c.if-fuel-eq0.false)) in
     let ends = subst (T false) (sym c.burn.ensures) (subst (λ b. T b (fuel - 1)) c.if-not-branch.true turned) in
@@ -45,7 +45,7 @@ loop-done-preserved c =
     let around = own_of (inward c.args.scopes.now) in
     let fuel = c.loop-done.fuel in
     let v = c.loop-done.invariant in
-    let T : Bool → ℕ → Type 0 = λ b n. Turns c.args.config.now around (so_far c.loop-done.declared fuel) c.more.new.self b c.turn.new.u
+    let T : Bool → ℕ → Type 0 = λ b n. DeclTurn c.args.config.now around (so_far c.loop-done.declared fuel) c.more.new.self b c.turn.new.u
     (so_far c.turn.new.declared n) in
     let turned = c.in_ok-turn.ensures.turns fuel (omega (arith, c.burn.ensures, c.if-fuel-eq0.false)) in
     let one = subst (T true) (sym c.burn.ensures) (subst (λ b. T b (fuel - 1)) c.if-not-branch.false turned) in

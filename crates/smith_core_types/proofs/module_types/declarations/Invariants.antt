@@ -3,7 +3,7 @@ use Rattle.smith_input.specs.Reading.{IsTail}
 use Rattle.smith_input.proofs.Loops.{Onward}
 use Rattle.smith_syntax.specs.Entries.{ModuleDecl}
 use Rattle.smith_core_types.specs.MadeCore.{ModuleEnds, ReadsDecl}
-use Rattle.smith_core_types.specs.MakingCore.{Keeps, so_far}
+use Rattle.smith_core_types.specs.MakingCore.{KeepsDeclared, so_far}
 use Rattle.smith_syntax.specs.Scope.{own_of}
 use Rattle.smith_scopes.specs.Scopes.{inward}
 use Rattle.smith_core_types.proofs.module_types.declarations.Given as goal
@@ -15,7 +15,7 @@ invariant-loop-done l =
     record {
       tail : IsTail l.u l.fn.u;
       few : length l.declared.own.items ≤ 2 + l.done;
-      kept : Keeps around.core_types l.fn.declared → Keeps around.core_types l.declared;
+      kept : KeepsDeclared around.core_types l.fn.declared → KeepsDeclared around.core_types l.declared;
       read : List ModuleDecl;
       onward : Onward (ModuleEnds l.config around) (ReadsDecl l.config around) 0 100 (so_far l.fn.declared l.fn.fuel) l.fn.u read l.done
           (so_far l.declared l.fuel) l.u;
