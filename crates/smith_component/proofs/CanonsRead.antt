@@ -17,7 +17,7 @@ use Rattle.smith_scopes.proofs.Stack.{length-places}
 use Rattle.smith_syntax.specs.Entries.{Entry, function, defined, component_type, instance_type}
 use Rattle.smith_syntax.specs.Scope.{Scope, places, with_type}
 use Rattle.smith_syntax.specs.Shown.{is_of_signature}
-use Rattle.smith_syntax.specs.Signature.{same_signature_Decides}
+use Rattle.smith_syntax.specs.SameSignature.{same_signature_Decides}
 use Rattle.smith_syntax.specs.WellFormed.{FormedTypes, Named}
 use Rattle.smith_types.specs.Script.{AreShort, Lasts, script_lifted}
 use Rattle.smith_component.specs.CanonScript.{canon_item_of, script_canon, script_canon_rest, script_lift}

@@ -10,7 +10,7 @@ use Rattle.smith_input.specs.Kebab.{Kebab}
 use Rattle.smith_input.specs.Loops.{Loop, no_more, by_itself, an_item}
 use Rattle.smith_input.specs.Names.{ReadsNew, is_among}
 use Rattle.smith_input.specs.Reading.{IsTail, More}
-use Rattle.smith_input.specs.Script.{offers_of}
+use Rattle.smith_input.specs.Offers.{offers_of}
 use Rattle.smith_input.proofs.Loops.{loop_all, loop_few, loop_gives, loop_tail}
 use Rattle.smith_input.proofs.NewNames.{new_kebab}
 use Rattle.smith_input.proofs.ReadingLemmas.{more_past, tail_is, tail_trans}

@@ -9,7 +9,7 @@ use Rattle.smith_syntax.specs.Entries.{EntryOf, Entry, Signature, defined, funct
 use Rattle.smith_syntax.specs.Flat.{is_scalar}
 use Rattle.smith_syntax.specs.Scope.{places}
 use Rattle.smith_syntax.specs.Shown.{full_type, has_signature, is_of_signature, shown_type}
-use Rattle.smith_syntax.specs.Signature.{same_signature_Decides}
+use Rattle.smith_syntax.specs.SameSignature.{same_signature_Decides}
 use Rattle.smith_syntax.specs.declared.deftype.DefType.{DefType}
 use Rattle.smith_scopes.specs.Scopes.{Contents, last_of, own_scope}
 use Rattle.smith_scopes.proofs.Places.{get_left, place_stands}

@@ -1,6 +1,6 @@
 -- Components that are open, and what a turn may choose among.
 use Rattle.std.specs.Prelude.{ℕ, ◌+◌, Bool, true, ◌&&◌, List, [], ◌∷◌, length, nat_lt}
-use Rattle.smith_input.specs.Script.{offers_of}
+use Rattle.smith_input.specs.Offers.{offers_of}
 use Rattle.smith_format.specs.declared.config.Config.{Config}
 use Rattle.smith_syntax.specs.Scope.{Scope}
 use Rattle.smith_component.specs.Tree.{Tree, ends, component, add, module_count, component_count}

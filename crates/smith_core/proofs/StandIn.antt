@@ -5,7 +5,7 @@ use Rattle.std.specs.Vec.{vec_len}
 use Rattle.std.specs.declared.vec.Vec.{Vec}
 use Rattle.std.specs.declared.alloc.Global.{Global}
 use Rattle.smith_format.specs.CoreReading.{ReadsFunction}
-use Rattle.smith_format.specs.CoreTypes.{shown_func}
+use Rattle.smith_format.specs.Shown.{shown_func}
 use Rattle.smith_format.specs.Limits.{configured, max_results}
 use Rattle.smith_format.specs.declared.config.Config.{Config}
 use Rattle.smith_format.specs.declared.types.FuncType.{FuncType}

@@ -7,7 +7,8 @@ use Rattle.std.specs.Prelude.{if◌then◌else◌}
 use Rattle.smith_input.specs.Loops.{Loop, Never}
 use Rattle.smith_input.proofs.Loops.{loop_all, loop_same, loop_map}
 use Rattle.smith_format.specs.CoreReading.{ReadsFunction}
-use Rattle.smith_format.specs.CoreTypes.{Function, core_function, shown_func}
+use Rattle.smith_format.specs.CoreTypes.{Function, core_function}
+use Rattle.smith_format.specs.Shown.{shown_func}
 use Rattle.smith_format.specs.Entities.{memory_type}
 use Rattle.smith_format.specs.Limits.{configured, max_results}
 use Rattle.smith_format.specs.Piece.{Piece, ◌⊕◌, bytes, u, each, many, sized}

@@ -7,8 +7,10 @@ use Rattle.std.specs.declared.vec.Vec.{Vec}
 use Rattle.std.specs.declared.alloc.Global.{Global}
 use Rattle.std.specs.declared.string.String.{String}
 use Rattle.std.proofs.lemmas.Bool.{false≢true}
-use Rattle.smith_format.specs.CoreTypes.{core_val, ref_val, shown_func}
-use Rattle.smith_format.specs.Entities.{entity, memory_type, table_type, tag_type, core_import, shown_import}
+use Rattle.smith_format.specs.CoreTypes.{core_val, ref_val}
+use Rattle.smith_format.specs.Shown.{shown_func}
+use Rattle.smith_format.specs.Entities.{entity, memory_type, table_type, tag_type, core_import}
+use Rattle.smith_format.specs.Shown.{shown_import}
 use Rattle.smith_format.specs.Piece.{Piece, ◌⊕◌, byte, bytes, u, raw, framed, text, many}
 use Rattle.smith_format.specs.TooLong.{Passes, NoBytes, ListTooLong, ContentsTooLong, RefTooLong, ValTooLong}
 use Rattle.smith_format.specs.declared.types.ExportKind.{ExportKind}
@@ -25,7 +27,8 @@ use Rattle.smith_format.proofs.TooLong.{memory_none, global_none, tag_none, enti
 use Rattle.smith_core.specs.Module.{binary_order, section_id, is_written, last, start, contents, section, module_text}
 use Rattle.smith_core.specs.Preamble.{core_preamble}
 use Rattle.smith_core.specs.Parts.{Agree, NamesTable}
-use Rattle.smith_core.specs.Segments.{expression, table, named_type, kind_byte, export, offset, functions_front, expressions_front, element, element_of, local}
+use Rattle.smith_core.specs.Segments.{expression, table, named_type, export, offset, functions_front, expressions_front, element, element_of, local}
+use Rattle.smith_format.specs.Entities.{kind_byte}
 use Rattle.smith_core.specs.Segments.{instructions, code_text, data_form, data_segment}
 use Rattle.smith_core.specs.SubTypes.{storage, field, composite, sub_prefix, sub_type, rec_type}
 use Rattle.smith_core.specs.TooLong.{IndexTooLong, StorageTooLong, CompositeTooLong, SubTypeTooLong, CoreImportTooLong, TableTooLong, NamedTooLong}

@@ -1,7 +1,8 @@
 -- Core modules and their bytes (core specification, Binary Format, Modules).
 use Rattle.std.specs.Prelude.{ℕ, ◌-◌, Bool, true, false, ◌&&◌, nat_lt, if◌then◌else◌, List, [], ◌∷◌, length, drop, Option, Some, None}
 use Rattle.std.specs.List.{slice_get, slice_range, zip}
-use Rattle.smith_format.specs.Entities.{memory_type, tag_type, core_import, shown_import}
+use Rattle.smith_format.specs.Entities.{memory_type, tag_type, core_import}
+use Rattle.smith_format.specs.Shown.{shown_import}
 use Rattle.smith_format.specs.Piece.{Piece, ◌⊕◌, bytes, u, each, many, sized}
 use Rattle.smith_core.specs.Preamble.{core_preamble}
 use Rattle.smith_core.specs.Segments.{expression, table, named_type, export, element, code_text, data_segment}

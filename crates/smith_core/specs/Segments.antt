@@ -4,10 +4,9 @@ use Rattle.std.specs.declared.vec.Vec.{Vec}
 use Rattle.std.specs.declared.alloc.Global.{Global}
 use Rattle.std.specs.declared.string.String.{String}
 use Rattle.smith_format.specs.CoreTypes.{core_val, ref_val}
-use Rattle.smith_format.specs.Entities.{global_type, table_type}
+use Rattle.smith_format.specs.Entities.{global_type, kind_byte, table_type}
 use Rattle.smith_format.specs.Piece.{Piece, ◌⊕◌, byte, bytes, u, s, raw, text, many, framed}
 use Rattle.smith_format.specs.declared.types.ExportKind.{ExportKind}
-use Rattle.smith_format.specs.declared.types.ExportKind.TheVariants as kind
 use Rattle.smith_format.specs.declared.types.GlobalType.{GlobalType}
 use Rattle.smith_format.specs.declared.types.RefType.{RefType}
 use Rattle.smith_format.specs.declared.types.TableType.{TableType}
@@ -40,14 +39,7 @@ abbrev pub named_type : Option GlobalType → Piece
 named_type None = None
 named_type (Some g) = global_type g
 
--- what sort of thing is exported (Modules, Export Section)
-abbrev pub kind_byte : ExportKind → ℕ
-kind_byte kind.Func = 0x00
-kind_byte kind.Table = 0x01
-kind_byte kind.Memory = 0x02
-kind_byte kind.Global = 0x03
-kind_byte kind.Tag = 0x04
-
+-- an export (Modules, Export Section)
 abbrev pub export : String Global × ExportKind × ℕ → Piece
 export e = text (string_bytes e.0) ⊕ byte (kind_byte e.1) ⊕ u e.2
 

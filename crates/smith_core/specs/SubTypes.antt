@@ -1,6 +1,7 @@
 -- The types of a core module, and their bytes (core specification, Binary Format, Types, Composite Types and Recursive Types).
 use Rattle.std.specs.Prelude.{ℕ, Bool, true, false, List, [], ◌∷◌, Option, Some, None}
-use Rattle.smith_format.specs.CoreTypes.{core_val, core_function, shown_func}
+use Rattle.smith_format.specs.CoreTypes.{core_val, core_function}
+use Rattle.smith_format.specs.Shown.{shown_func}
 use Rattle.smith_format.specs.Entities.{bit}
 use Rattle.smith_format.specs.Piece.{Piece, ◌⊕◌, byte, bytes, u, many}
 use Rattle.smith_core.specs.declared.module.types.CompositeType.{CompositeType}

@@ -6,7 +6,7 @@ use Rattle.std.specs.List.{Any, slice_get, slice_range, zip}
 use Rattle.std.specs.declared.vec.Vec.{Vec}
 use Rattle.std.specs.declared.alloc.Global.{Global}
 use Rattle.std.specs.declared.string.String.{String}
-use Rattle.smith_format.specs.CoreTypes.{shown_func}
+use Rattle.smith_format.specs.Shown.{shown_func}
 use Rattle.smith_format.specs.Piece.{◌⊕◌, many}
 use Rattle.smith_format.specs.TooLong.{Passes, NameTooLong, NoBytes, ListTooLong, ContentsTooLong, RefTooLong, ValTooLong, FunctionTooLong, EntityTooLong}
 use Rattle.smith_format.specs.declared.types.ExportKind.{ExportKind}

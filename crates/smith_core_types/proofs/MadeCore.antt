@@ -8,7 +8,8 @@ use Rattle.smith_input.specs.Choices.{ReadsAmong}
 use Rattle.smith_input.specs.Loops.{Loop}
 use Rattle.smith_input.specs.Names.{IsMadeUnique, is_among}
 use Rattle.smith_input.specs.Reading.{Reads, Flips, IsTail}
-use Rattle.smith_input.specs.Script.{offered, pick}
+use Rattle.smith_input.specs.Script.{pick}
+use Rattle.smith_input.specs.Offers.{offered}
 use Rattle.smith_input.proofs.Choices.{among_tail, among_same, among_contains}
 use Rattle.smith_input.proofs.Loops.{loop_tail, loop_gives, loop_few, loop_same}
 use Rattle.smith_input.proofs.NewNames.{made_unique_same}

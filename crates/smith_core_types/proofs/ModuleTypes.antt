@@ -8,11 +8,11 @@ use Rattle.std.proofs.lemmas.List.Elements.{filter-append}
 use Rattle.std.proofs.lemmas.Slice.Eq.{bytes_eq-Decides}
 use Rattle.std.specs.List.{AllByRecursion, Contains, filter, flat_map}
 use Rattle.std.specs.Option.{option_to_list}
-use Rattle.std.specs.Prelude.{Option, Some, None, IfSome, codes, if◌then◌else◌}
+use Rattle.std.specs.Prelude.{Option, Some, None, IfSome, codes, nat_eq, if◌then◌else◌}
 use Rattle.smith_input.specs.Names.{is_among}
 use Rattle.smith_format.specs.CoreFormed.{FormedFunction, FormedMemory}
 use Rattle.smith_format.specs.CoreTypes.{Function}
-use Rattle.smith_format.specs.Entities.{kind_of}
+use Rattle.smith_format.specs.Entities.{kind_byte, kind_of}
 use Rattle.smith_format.specs.Limits.{configured, max_results}
 use Rattle.smith_format.specs.declared.config.Config.{Config}
 use Rattle.smith_format.specs.declared.types.EntityType.{EntityType}
@@ -21,7 +21,6 @@ use Rattle.smith_format.specs.declared.types.ExportKind.{ExportKind}
 use Rattle.smith_format.specs.declared.types.ExportKind.TheVariants as kind
 use Rattle.smith_format.specs.declared.types.MemoryType.{MemoryType}
 use Rattle.smith_format.specs.declared.types.ValType.TheVariants.{I32}
-use Rattle.smith_format.specs.contracts.types.ExportKindPartialEq.TheImpl.{ghosts as kinds}
 use Rattle.smith_syntax.specs.CoreLimits.{EntityLimits}
 use Rattle.smith_syntax.specs.Entries.{CoreEntry, ModuleDecl, imports, declares, aliases, exports}
 use Rattle.smith_core_types.specs.MadeCore.{Declared}
@@ -155,7 +154,7 @@ limit_of config kind.Memory = config.max_memories
 limit_of config kind.Global = config.max_globals
 limit_of config kind.Tag = config.max_tags
 
-same_kind : (j k : ExportKind) → kinds.eq j k ≡ true → j ≡ k
+same_kind : (j k : ExportKind) → nat_eq (kind_byte j) (kind_byte k) ≡ true → j ≡ k
 same_kind kind.Func kind.Func e = refl
 same_kind kind.Table kind.Table e = refl
 same_kind kind.Memory kind.Memory e = refl
@@ -195,7 +194,7 @@ module _ (config : Config) where
     counts : (k : ExportKind) → count_of_kind k ds + length (filter (is_of_kind k) (entities_in d)) ≤ limit_of config k
 
   count_cases : (e : EntityType) (ds : List ModuleDecl) (k : ExportKind) → count_of_kind (kind_of e) ds < limit_of config (kind_of e)
-      → count_of_kind k ds ≤ limit_of config k → (b : Bool) → kinds.eq (kind_of e) k ≡ b
+      → count_of_kind k ds ≤ limit_of config k → (b : Bool) → is_of_kind k e ≡ b
       → count_of_kind k ds + length (if b then e ∷ [] else []) ≤ limit_of config k
   count_cases e ds k room few true same =
       let here = subst (λ z. count_of_kind z ds < limit_of config z) (same_kind (kind_of e) k same) room in omega (arith, here)
@@ -210,7 +209,7 @@ module _ (config : Config) where
       types = omega (arith, ap length no_func, ap length no_adds, ap length no_alias);
       few = omega (arith, w.few, ap length no_adds);
       counts = λ k. subst (λ es. count_of_kind k ds + length (filter (is_of_kind k) es) ≤ limit_of config k) (sym one)
-          (count_cases e ds k fits.1 (w.counts k) (kinds.eq (kind_of e) k) refl);
+          (count_cases e ds k fits.1 (w.counts k) (is_of_kind k e) refl);
     }
 
     decl_adds : (d : ModuleDecl) → DeclFits config around own ds d → Adds around own ds d

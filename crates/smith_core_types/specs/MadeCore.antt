@@ -6,7 +6,7 @@ use Rattle.smith_input.specs.Choices.{ReadsAmong}
 use Rattle.smith_input.specs.Loops.{Loop}
 use Rattle.smith_input.specs.Names.{IsMadeUnique, is_among}
 use Rattle.smith_input.specs.Reading.{Reads, Flips}
-use Rattle.smith_input.specs.Script.{offers_of}
+use Rattle.smith_input.specs.Offers.{offers_of}
 use Rattle.smith_input.specs.Texts.{ReadsText}
 use Rattle.smith_format.specs.CoreReading.{ReadsFunction, ReadsMemory, ReadsTable, ReadsTag}
 use Rattle.smith_format.specs.CoreTypes.{Function}

@@ -3,7 +3,7 @@
 ghost use Rattle.std.specs.Prelude.{◌≡◌, IfOk, IfErr};
 ghost use Rattle.smith_input.specs.Reading.{IsTail};
 ghost use Rattle.smith_format.specs.CoreReading.{ReadsFunction};
-ghost use Rattle.smith_format.specs.CoreTypes.{shown_func};
+ghost use Rattle.smith_format.specs.Shown.{shown_func};
 ghost use Rattle.smith_format.specs.Limits.{configured};
 ghost use Rattle.smith_format.specs.Limits.{max_results};
 

@@ -3,7 +3,7 @@
 ghost use Rattle.std.specs.Prelude.{◌≡◌, ◌+◌, ◌<◌, [], ◌∷◌, ◌++◌, map, length, nat_lt};
 ghost use Rattle.std.specs.Prelude.{if◌then◌else◌};
 ghost use Rattle.std.specs.Prelude.{OnOk, IfOk, IfErr};
-ghost use Rattle.smith_format.specs.CoreTypes.{shown_func};
+ghost use Rattle.smith_format.specs.Shown.{shown_func};
 ghost use Rattle.smith_syntax.specs.Entries.{declares};
 ghost use Rattle.smith_core_types.specs.MakingCore.{KeepsDeclared, shown_funcs};
 ghost use Rattle.smith_syntax.specs.ModuleTypes.{count_of_kind, is_tag_type};

@@ -3,7 +3,7 @@
 ghost use Rattle.std.specs.Prelude.{◌≡◌, ◌+◌, ◌<◌, ◌≤◌, ◌&&◌, ℕ, length, nat_lt, OnOk, IfOk};
 ghost use Rattle.std.specs.Prelude.{IfErr};
 ghost use Rattle.smith_input.specs.Reading.{IsTail};
-ghost use Rattle.smith_format.specs.CoreTypes.{shown_func};
+ghost use Rattle.smith_format.specs.Shown.{shown_func};
 ghost use Rattle.smith_core_types.specs.MadeCore.{allows_function, allows_type, MemoryLine};
 ghost use Rattle.smith_core_types.specs.MadeCore.{ReadsFront, ReadsFunctionLine, ReadsLine};
 ghost use Rattle.smith_core_types.specs.MakingCore.{KeepsDeclared, so_far};

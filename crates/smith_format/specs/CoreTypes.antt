@@ -1,7 +1,6 @@
 -- Value types and function types of the core specification, and their bytes (Binary Format, Types).
 use Rattle.std.specs.Prelude.{true, false, List}
 use Rattle.smith_format.specs.Piece.{Piece, ◌⊕◌, byte, s_index, many}
-use Rattle.smith_format.specs.declared.types.FuncType.{FuncType}
 use Rattle.smith_format.specs.declared.types.RefType.{RefType}
 use Rattle.smith_format.specs.declared.types.RefType.TheVariants.{FuncRef, ExternRef, Concrete}
 use Rattle.smith_format.specs.declared.types.ValType.{ValType}
@@ -26,9 +25,6 @@ core_val (Ref r) = ref_val r
 -- a function type: its parameters, and its results
 abbrev pub Function : Type 0
 Function = List ValType × List ValType
-
-abbrev pub shown_func : FuncType → Function
-shown_func t = (t.params.items, t.results.items)
 
 -- a function type (Types, Result Types and Composite Types)
 abbrev pub core_function : Function → Piece

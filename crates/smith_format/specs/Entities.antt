@@ -1,5 +1,5 @@
 -- What a core module imports or exports, and its bytes (core specification, Binary Format, Types and Modules).
-use Rattle.std.specs.Prelude.{ℕ, ◌+◌, Bool, true, false, List, [], Option, Some, None, string_bytes}
+use Rattle.std.specs.Prelude.{ℕ, ◌+◌, Bool, true, false, List, [], Option, Some, None}
 use Rattle.smith_format.specs.Piece.{Piece, ◌⊕◌, byte, bytes, u, number, text}
 use Rattle.smith_format.specs.CoreTypes.{core_val, ref_val}
 use Rattle.smith_format.specs.declared.types.EntityType.{EntityType}
@@ -7,7 +7,6 @@ use Rattle.smith_format.specs.declared.types.EntityType.TheVariants.{Func, Table
 use Rattle.smith_format.specs.declared.types.ExportKind.{ExportKind}
 use Rattle.smith_format.specs.declared.types.ExportKind.TheVariants as kind
 use Rattle.smith_format.specs.declared.types.GlobalType.{GlobalType}
-use Rattle.smith_format.specs.declared.types.Import.{Import}
 use Rattle.smith_format.specs.declared.types.MemoryType.{MemoryType}
 use Rattle.smith_format.specs.declared.types.TableType.{TableType}
 use Rattle.smith_format.specs.declared.types.TagType.{TagType}
@@ -58,9 +57,6 @@ entity (Tag t) = byte 0x04 ⊕ tag_type t
 abbrev pub CoreImport : Type 0
 CoreImport = List ℕ × List ℕ × EntityType
 
-abbrev pub shown_import : Import → CoreImport
-shown_import i = (string_bytes i.module, string_bytes i.name, i.entity_type)
-
 -- an import (Modules, Import Section)
 abbrev pub core_import : CoreImport → Piece
 core_import i = text i.0 ⊕ text i.1 ⊕ entity i.2
@@ -72,3 +68,11 @@ kind_of (Table t) = kind.Table
 kind_of (Memory m) = kind.Memory
 kind_of (Global g) = kind.Global
 kind_of (Tag t) = kind.Tag
+
+-- its byte where it is exported (Modules, Export Section)
+abbrev pub kind_byte : ExportKind → ℕ
+kind_byte kind.Func = 0x00
+kind_byte kind.Table = 0x01
+kind_byte kind.Memory = 0x02
+kind_byte kind.Global = 0x03
+kind_byte kind.Tag = 0x04

@@ -2,6 +2,7 @@ pub mod Numbers
 pub mod Piece
 pub mod CoreTypes
 pub mod Entities
+pub mod Shown
 pub mod Limits
 pub mod CoreFormed
 pub mod CoreReading

@@ -1,6 +1,6 @@
 -- The limits of what is built: which fit together, which hold where none are given, and which core value types they allow.
 use Rattle.std.specs.Prelude.{◌≡◌, ℕ, ◌≤◌, true, List, [], ◌∷◌, ◌++◌, if◌then◌else◌}
-use Rattle.smith_input.specs.Script.{offered}
+use Rattle.smith_input.specs.Offers.{offered}
 use Rattle.smith_format.specs.declared.config.Config.{Config}
 use Rattle.smith_format.specs.declared.types.RefType.TheVariants.{FuncRef, ExternRef}
 use Rattle.smith_format.specs.declared.types.ValType.{ValType}

@@ -4,7 +4,8 @@
 #![tactic(auto, using(crate::proofs::Steps::writing, crate::proofs::Sizes::measuring))]
 
 ghost use Rattle.std.specs.Prelude.{◌≤◌};
-ghost use Rattle.smith_format.specs.CoreTypes.{core_val, ref_val, core_function, shown_func};
+ghost use Rattle.smith_format.specs.CoreTypes.{core_val, ref_val, core_function};
+ghost use Rattle.smith_format.specs.Shown.{shown_func};
 ghost use Rattle.smith_format.specs.Writing.{Puts, Appends, Takes, IsLengthOf};
 
 use crate::buffer::{CoreFormat, Spelled, write_byte, write_spelled};

@@ -6,7 +6,8 @@
 ghost use Rattle.std.specs.Prelude.{◌≡◌, ◌≤◌, Bool};
 ghost use Rattle.smith_format.specs.Entities.{bit, maximum, limits, table_type, memory_type, global_type, tag_type};
 ghost use Rattle.smith_format.specs.Entities.{entity};
-ghost use Rattle.smith_format.specs.Entities.{shown_import, core_import};
+ghost use Rattle.smith_format.specs.Entities.{core_import};
+ghost use Rattle.smith_format.specs.Shown.{shown_import};
 ghost use Rattle.smith_format.specs.Writing.{Puts, Appends, Takes, IsLengthOf};
 
 use crate::buffer::{CoreFormat, Spelled, write_byte, write_spelled};

@@ -6,7 +6,8 @@ ghost use Rattle.smith_format.specs.CoreFormed.{FormedMemory, FormedTable, Forme
 ghost use Rattle.smith_format.specs.CoreReading.{ReadsLimits, ReadsMemory, ReadsElement, ReadsTable, ReadsTag};
 ghost use Rattle.smith_format.specs.CoreReading.{ReadsValues, ReadsFunction};
 ghost use Rattle.smith_format.specs.CoreScript.{script_function};
-ghost use Rattle.smith_format.specs.CoreTypes.{Function, shown_func};
+ghost use Rattle.smith_format.specs.CoreTypes.{Function};
+ghost use Rattle.smith_format.specs.Shown.{shown_func};
 ghost use Rattle.smith_format.specs.Limits.{configured, max_results};
 
 use crate::config::Config;

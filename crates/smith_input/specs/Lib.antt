@@ -1,4 +1,5 @@
 pub mod Kebab
+pub mod Offers
 pub mod Script
 pub mod Reading
 pub mod Choices

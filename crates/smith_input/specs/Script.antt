@@ -1,15 +1,6 @@
 -- How choices, loops, bytes, texts and names are spelled, so that they are read as themselves.
 use Rattle.std.specs.Prelude.{ℕ, zero, suc, ◌+◌, ◌-◌, ◌/◌, ◌^◌, ◌%◌, Bool, List, [], ◌∷◌, ◌++◌, length, nat_le, nat_lt, if◌then◌else◌}
 
--- these, where the condition holds
-abbrev pub offered : {A : Type 0} → Bool → List A → List A
-offered condition xs = if condition then xs else []
-
--- What a choice is among: each item whose condition holds, in order.
-abbrev pub offers_of : {A : Type 0} → List (Bool × A) → List A
-offers_of [] = []
-offers_of (o ∷ os) = if o.0 then o.1 ∷ offers_of os else offers_of os
-
 -- k in w bytes, most significant first, k being below 256 ^ w
 abbrev pub big_endian : ℕ → ℕ → List ℕ
 big_endian zero k = []

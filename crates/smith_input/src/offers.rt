@@ -2,7 +2,7 @@
 
 ghost use Rattle.std.specs.Prelude.{◌≡◌, [], length, slice_get, MatchOption};
 ghost use Rattle.smith_input.specs.Choices.{ReadsAmong};
-ghost use Rattle.smith_input.specs.Script.{offers_of};
+ghost use Rattle.smith_input.specs.Offers.{offers_of};
 
 use crate::unstructured::Unstructured;
 

@@ -12,7 +12,7 @@ use Rattle.smith_syntax.specs.Scope.{places, is_defined, is_func, is_component, 
 use Rattle.smith_syntax.specs.Shown.{full_type, has_signature, is_of_signature}
 use Rattle.smith_scopes.specs.Scopes.{row_in, row_of, Notes, SameRows, values_of, IsTied, IsCoreTied}
 use Rattle.smith_syntax.specs.Shown.{shown_type, shown_core}
-use Rattle.smith_syntax.specs.Signature.{same_signature, same_signature_Decides, same_signature_equiv}
+use Rattle.smith_syntax.specs.SameSignature.{same_signature, same_signature_Decides, same_signature_equiv}
 use Rattle.smith_syntax.specs.declared.func.FuncType.{FuncType}
 use Rattle.smith_syntax.specs.declared.core_types.CoreType.{CoreType}
 use Rattle.smith_syntax.specs.declared.core_types.CoreType.TheVariants as core

@@ -8,7 +8,7 @@ use Rattle.smith_syntax.specs.Entries.{Signature}
 use Rattle.smith_syntax.specs.Scope.{ScopeOf, Scope, empty_scope, with_type, with_core_type, own_of, outer_of, places, is_defined, is_func, is_component}
 use Rattle.smith_syntax.specs.Scope.{is_instance, is_core_func, is_core_module}
 use Rattle.smith_syntax.specs.Shown.{shown_type, shown_core, has_signature}
-use Rattle.smith_syntax.specs.Signature.{same_signature}
+use Rattle.smith_syntax.specs.SameSignature.{same_signature}
 use Rattle.smith_syntax.specs.declared.core_types.CoreType.{CoreType}
 use Rattle.smith_scopes.specs.declared.scopes.Kind.{Kind}
 use Rattle.smith_scopes.specs.declared.scopes.Kind.TheVariants as kind

@@ -8,6 +8,7 @@ pub mod WellFormed
 pub mod CoreLimits
 pub mod TypeLimits
 pub mod Signature
+pub mod SameSignature
 pub mod Flat
 pub mod Shown
 pub mod SameDecl

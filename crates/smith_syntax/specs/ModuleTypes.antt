@@ -1,19 +1,18 @@
 -- What stands in a module type (Explainer.md, core type definitions): its own types, what it imports and exports, and what it
 -- begins with for the canonical ABI.
-use Rattle.std.specs.Prelude.{ℕ, zero, suc, ◌+◌, Bool, false, ◌&&◌, List, [], ◌∷◌, ◌++◌, map, length, Option, Some, None, slice_get, nat_eq, nat_lt, bytes_eq}
+use Rattle.std.specs.Prelude.{ℕ, zero, suc, ◌+◌, Bool, true, false, ◌&&◌, List, [], ◌∷◌, ◌++◌, map, length, Option, Some, None, slice_get, nat_eq, nat_lt, bytes_eq}
 use Rattle.std.specs.Prelude.{codes, if◌then◌else◌}
 use Rattle.std.specs.Cmp.Lexicographic.{pointwise}
 use Rattle.std.specs.List.{filter, flat_map, list_any, IsDistinct}
 use Rattle.std.specs.Option.{option_to_list}
 use Rattle.smith_format.specs.CoreTypes.{Function}
-use Rattle.smith_format.specs.Entities.{CoreImport, kind_of}
-use Rattle.smith_format.specs.Equality.{same_val}
+use Rattle.smith_format.specs.Entities.{CoreImport, kind_byte, kind_of}
 use Rattle.smith_format.specs.declared.types.EntityType.{EntityType}
 use Rattle.smith_format.specs.declared.types.EntityType.TheVariants.{Func, Table, Memory, Global, Tag}
 use Rattle.smith_format.specs.declared.types.ExportKind.{ExportKind}
 use Rattle.smith_format.specs.declared.types.ExportKind.TheVariants as kind
-use Rattle.smith_format.specs.declared.types.ValType.TheVariants.{I32}
-use Rattle.smith_format.specs.contracts.types.ExportKindPartialEq.TheImpl.{ghosts as kinds}
+use Rattle.smith_format.specs.declared.types.ValType.{ValType}
+use Rattle.smith_format.specs.declared.types.ValType.TheVariants.{I32, I64, F32, F64, V128, Ref}
 use Rattle.smith_syntax.specs.Entries.{CoreEntry, ModuleDecl, core_func, core_module, imports, declares, aliases, exports}
 
 -- a core function type, where it is one
@@ -77,7 +76,7 @@ entities_of ds = flat_map (λ d. map (λ i. i.2) (module_import_of d) ++ map (λ
 
 -- Is it of that kind?
 abbrev pub is_of_kind : ExportKind → EntityType → Bool
-is_of_kind k e = kinds.eq (kind_of e) k
+is_of_kind k e = nat_eq (kind_byte (kind_of e)) (kind_byte k)
 
 -- how many of the imports and exports are of a kind
 abbrev pub count_of_kind : ExportKind → List ModuleDecl → ℕ
@@ -109,12 +108,21 @@ realloc = (I32 ∷ I32 ∷ I32 ∷ I32 ∷ [], I32 ∷ [])
 abbrev pub free : Function
 free = (I32 ∷ I32 ∷ I32 ∷ [], [])
 
-abbrev pub same_function : Function → Function → Bool
-same_function f g = pointwise same_val f.0 g.0 && pointwise same_val f.1 g.1
+abbrev pub is_i32 : ValType → Bool
+is_i32 I32 = true
+is_i32 I64 = false
+is_i32 F32 = false
+is_i32 F64 = false
+is_i32 V128 = false
+is_i32 (Ref r) = false
 
--- Does it declare that function type?
+-- Are there as many values in both, and is each of them an i32?
+abbrev pub same_i32s : List ValType → List ValType → Bool
+same_i32s = pointwise (λ x y. is_i32 x && is_i32 y)
+
+-- Does it declare that function type, which has no values but i32?
 abbrev pub is_type : Function → ModuleDecl → Bool
-is_type f d = list_any (same_function f) (func_of d)
+is_type f d = list_any (λ g. same_i32s f.0 g.0 && same_i32s f.1 g.1) (func_of d)
 
 -- Is it a function of the type i?
 abbrev pub is_function_of : ℕ → EntityType → Bool

@@ -3,7 +3,8 @@ use Rattle.std.specs.Prelude.{ℕ, Bool, false, List, [], ◌∷◌, Option, Som
 use Rattle.std.specs.List.{flat_map}
 use Rattle.std.specs.declared.alloc.Global.{Global}
 use Rattle.std.specs.declared.rc.Rc.{Rc}
-use Rattle.smith_format.specs.CoreTypes.{Function, shown_func}
+use Rattle.smith_format.specs.CoreTypes.{Function}
+use Rattle.smith_format.specs.Shown.{shown_func}
 use Rattle.smith_syntax.specs.Entries.{DefValType, primitive_type, record_type, variant_type, list_type, tuple_type, flags_type, enum_type, option_type}
 use Rattle.smith_syntax.specs.Entries.{result_type}
 use Rattle.smith_syntax.specs.Entries.{EntryOf, FullEntry, FullDecl, FullDecls, component_type, instance_type, core_type_decl, type_decl, type_alias}
@@ -11,7 +12,8 @@ use Rattle.smith_syntax.specs.Entries.{core_type_alias, import_decl, export_decl
 use Rattle.smith_syntax.specs.Entries.{keeps_type, keeps_core_type, keeps_functions, in_order, plain, plain_decl}
 use Rattle.smith_syntax.specs.Entries.{Signature, Entry, ImportEntry, Decl, defined, function, CoreEntry, core_func, core_module, ModuleDecl, declares, imports}
 use Rattle.smith_syntax.specs.Entries.{aliases, exports}
-use Rattle.smith_syntax.specs.Signature.{named, same_signature}
+use Rattle.smith_syntax.specs.Signature.{named}
+use Rattle.smith_syntax.specs.SameSignature.{same_signature}
 use Rattle.smith_syntax.specs.declared.core_types.CoreType.{CoreType}
 use Rattle.smith_syntax.specs.declared.core_types.CoreType.TheVariants as core
 use Rattle.smith_syntax.specs.declared.core_types.ModuleTypeDef.{ModuleTypeDef}

@@ -29,7 +29,7 @@ impl Model for FuncType {
 
 /// Two function types are equal exactly where their signatures are.
 impl PartialEq for FuncType {
-    ghost use Rattle.smith_syntax.specs.Signature.{same_signature, same_signature_per};
+    ghost use Rattle.smith_syntax.specs.SameSignature.{same_signature, same_signature_per};
 
     ghost eq = { same_signature };
 
@@ -41,13 +41,13 @@ impl PartialEq for FuncType {
 }
 
 impl Eq for FuncType {
-    ghost use Rattle.smith_syntax.specs.Signature.{same_signature_equiv};
+    ghost use Rattle.smith_syntax.specs.SameSignature.{same_signature_equiv};
 
     ghost laws = { same_signature_equiv };
 }
 
 impl Hash for FuncType {
-    ghost use Rattle.smith_syntax.specs.Signature.{signature_input, signature_input_respects};
+    ghost use Rattle.smith_syntax.specs.SameSignature.{signature_input, signature_input_respects};
 
     ghost hash_input = { signature_input };
 

@@ -5,7 +5,7 @@ ghost use Rattle.smith_format.specs.Clear.{IsClear};
 ghost use Rattle.smith_syntax.specs.Entries.{Signature, Entry, function, CoreEntry};
 ghost use Rattle.smith_syntax.specs.Grammar.{valtype, maybe_valtype, entry, core_entry, named_extern};
 ghost use Rattle.smith_syntax.specs.Shown.{shown_type, has_signature};
-ghost use Rattle.smith_syntax.specs.Signature.{same_signature};
+ghost use Rattle.smith_syntax.specs.SameSignature.{same_signature};
 ghost use Rattle.smith_syntax.specs.TooLong.{EntryTooLong, CoreEntryTooLong, ExternTooLong};
 ghost use Rattle.smith_syntax.specs.declared.deftype.ComponentTypeRef.{ComponentTypeRef};
 ghost use Rattle.smith_syntax.specs.declared.deftype.DefType.{DefType};

@@ -4,7 +4,7 @@ use Rattle.std.proofs.lemmas.Bool.{false≢true}
 use Rattle.std.specs.Prelude.{nat_lt, drop}
 use Rattle.smith_format.specs.declared.config.Config.{Config}
 use Rattle.smith_input.specs.Reading.{Reads}
-use Rattle.smith_input.specs.Script.{offers_of}
+use Rattle.smith_input.specs.Offers.{offers_of}
 use Rattle.smith_syntax.specs.Entries.{FullDecl, import_decl, export_decl}
 use Rattle.smith_syntax.specs.Scope.{Scope, places, is_core_module}
 use Rattle.smith_syntax.specs.declared.deftype.ComponentTypeRef.{ComponentTypeRef}

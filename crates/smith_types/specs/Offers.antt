@@ -1,7 +1,7 @@
 -- What choices are among where types are read: of a type, of what an import or an export is of, of a declaration, and of a primitive that
 -- flattens to a core value type.
 use Rattle.std.specs.Prelude.{◌≡◌, ℕ, ◌+◌, Bool, true, ◌&&◌, ◌||◌, not, List, [], ◌∷◌, ◌++◌, length, nat_lt}
-use Rattle.smith_input.specs.Script.{offers_of}
+use Rattle.smith_input.specs.Offers.{offers_of}
 use Rattle.smith_format.specs.declared.config.Config.{Config}
 use Rattle.smith_format.specs.declared.types.ValType.{ValType}
 use Rattle.smith_format.specs.declared.types.ValType.TheVariants.{I32, I64, F32, F64, V128, Ref}

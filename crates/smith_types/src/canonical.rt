@@ -3,7 +3,7 @@
 ghost use Rattle.std.specs.Prelude.{◌≡◌, ◌++◌, ℕ, List, true, [], map, Some, IfOk, IfErr};
 ghost use Rattle.std.specs.List.{AllByRecursion, list_all};
 ghost use Rattle.std.specs.Option.{is_some};
-ghost use Rattle.smith_format.specs.CoreTypes.{shown_func};
+ghost use Rattle.smith_format.specs.Shown.{shown_func};
 ghost use Rattle.smith_input.specs.Choices.{ReadsAmong};
 ghost use Rattle.smith_input.specs.Reading.{IsTail};
 ghost use Rattle.smith_syntax.specs.Entries.{Signature};

@@ -6,7 +6,8 @@ ghost use Rattle.std.specs.Prelude.{◌≡◌, ◌<◌, length};
 ghost use Rattle.std.specs.List.{AllByRecursion, slice_get, zip};
 ghost use Rattle.smith_format.specs.Piece.{◌⊕◌, many};
 ghost use Rattle.smith_format.specs.Writing.{Puts, IsLengthOf};
-ghost use Rattle.smith_core.specs.Segments.{export, expression, kind_byte, named_type, table};
+ghost use Rattle.smith_core.specs.Segments.{export, expression, named_type, table};
+ghost use Rattle.smith_format.specs.Entities.{kind_byte};
 
 use crate::module::encode::ModuleFormat;
 use smith_format::{

@@ -1,5 +1,5 @@
 use Rattle.std.proofs.Common.{◌≡◌, List, Some, subst, ◌++◌, [], ◌∷◌, ap, sym, ◌∙◌, refl, ◌-◌}
-use Rattle.smith_format.specs.CoreTypes.{shown_func}
+use Rattle.smith_format.specs.Shown.{shown_func}
 use Rattle.smith_input.specs.Choices.{ReadsAmong}
 use Rattle.smith_syntax.specs.Entries.{aliases}
 use Rattle.smith_core_types.specs.MakingCore.{choices_among, shown_funcs}

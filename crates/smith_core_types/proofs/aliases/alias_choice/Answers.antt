@@ -2,7 +2,7 @@ use Rattle.std.proofs.Common.{◌≡◌, ℕ, ◌+◌, ◌-◌, length, ap, sym,
 use Rattle.std.specs.Prelude.{option_map}
 use Rattle.std.proofs.lemmas.List.{length-map}
 use Rattle.std.proofs.lemmas.Option.{slice_get-map, slice_get_read}
-use Rattle.smith_format.specs.CoreTypes.{shown_func}
+use Rattle.smith_format.specs.Shown.{shown_func}
 use Rattle.smith_input.specs.Reading.{Reads}
 use Rattle.smith_core_types.specs.MakingCore.{shown_funcs}
 use Rattle.smith_syntax.specs.Scope.{own_of}

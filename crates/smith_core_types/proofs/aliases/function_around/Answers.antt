@@ -1,5 +1,5 @@
 use Rattle.std.proofs.Common.{ap, sym, ◌∙◌, Some}
-use Rattle.smith_format.specs.CoreTypes.{shown_func}
+use Rattle.smith_format.specs.Shown.{shown_func}
 use Rattle.smith_syntax.specs.ModuleTypes.{func_in}
 use Rattle.smith_syntax.specs.Shown.{shown_core}
 use Rattle.smith_core_types.proofs.MakingCore.{around_at, no_module, same_item, shown_at}

@@ -1,5 +1,5 @@
 use Rattle.std.proofs.Common.{◌++◌, [], ◌∷◌, ap, ◌∙◌}
-use Rattle.smith_format.specs.CoreTypes.{shown_func}
+use Rattle.smith_format.specs.Shown.{shown_func}
 use Rattle.smith_core_types.specs.MakingCore.{shown_funcs}
 use Rattle.smith_syntax.specs.declared.core_types.ModuleTypeDef.TheVariants as decl
 use Rattle.smith_core_types.proofs.KeptAliases.{keep_more}

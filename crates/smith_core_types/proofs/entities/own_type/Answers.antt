@@ -1,6 +1,6 @@
 use Rattle.std.proofs.Common.{ℕ, sym, subst, ◌∙◌, arith}
 use Rattle.std.proofs.lemmas.List.{length-map}
-use Rattle.smith_format.specs.CoreTypes.{shown_func}
+use Rattle.smith_format.specs.Shown.{shown_func}
 use Rattle.smith_input.specs.Reading.{Reads}
 use Rattle.smith_core_types.specs.MakingCore.{shown_funcs}
 use Rattle.smith_core_types.proofs.MakingCore.{length-indexes, own_at}

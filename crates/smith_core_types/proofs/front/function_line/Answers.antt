@@ -1,6 +1,7 @@
 use Rattle.std.proofs.Common.{◌≡◌, ◌++◌, [], ◌∷◌, arith, refl, map, length, sym, ap, ◌∙◌, append-nil, append_assoc}
 use Rattle.std.proofs.lemmas.List.{length-map}
-use Rattle.smith_format.specs.CoreTypes.{Function, shown_func}
+use Rattle.smith_format.specs.CoreTypes.{Function}
+use Rattle.smith_format.specs.Shown.{shown_func}
 use Rattle.smith_format.specs.declared.types.EntityType.TheVariants.{Func}
 use Rattle.smith_syntax.specs.Entries.{declares, exports}
 use Rattle.smith_core_types.specs.MakingCore.{shown_funcs}

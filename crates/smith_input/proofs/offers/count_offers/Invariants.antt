@@ -1,6 +1,6 @@
 use Rattle.std.proofs.Common.{◌≡◌, length, ◌+◌, ◌≤◌}
 use Rattle.std.proofs.Math.ListN.{drop}
-use Rattle.smith_input.specs.Script.{offers_of}
+use Rattle.smith_input.specs.Offers.{offers_of}
 use Rattle.smith_input.proofs.offers.count_offers.Given as goal
 
 abbrev pub invariant-loop-offer : goal.invariant-loop-offer

@@ -1,6 +1,6 @@
 use Rattle.std.proofs.Common.{◌+◌, slice_get, ap, sym, ◌∙◌, arith}
 use Rattle.std.proofs.Math.ListN.{drop}
-use Rattle.smith_input.specs.Script.{offers_of}
+use Rattle.smith_input.specs.Offers.{offers_of}
 use Rattle.smith_input.proofs.Offered.{offered_next, not_offered, no_more_offers, first_of, later_of}
 use Rattle.smith_input.proofs.offers.offer_at.Goals as goal
 use Rattle.smith_input.proofs.offers.offer_at.Goals.{then-offer+else-left-eq0, else-offer}

@@ -1,6 +1,6 @@
 use Rattle.std.proofs.Common.{◌≡◌, slice_get}
 use Rattle.std.proofs.Math.ListN.{drop}
-use Rattle.smith_input.specs.Script.{offers_of}
+use Rattle.smith_input.specs.Offers.{offers_of}
 use Rattle.smith_input.proofs.offers.offer_at.Given as goal
 
 abbrev pub invariant-loop-offer : goal.invariant-loop-offer

@@ -3,7 +3,7 @@ use Rattle.std.proofs.lemmas.Result.{err_from_is_err_and}
 use Rattle.std.specs.HashMap.{get}
 use Rattle.std.specs.Prelude.{Some}
 use Rattle.smith_scopes.specs.Scopes.{row_in}
-use Rattle.smith_syntax.specs.Signature.{same_signature}
+use Rattle.smith_syntax.specs.SameSignature.{same_signature}
 use Rattle.smith_syntax.specs.Entries.{Signature}
 use Rattle.smith_scopes.proofs.Tied.{notes_put, same_rows_put}
 use Rattle.smith_scopes.proofs.scopes.note.Goals as goal

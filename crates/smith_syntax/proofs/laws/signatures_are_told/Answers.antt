@@ -1,4 +1,4 @@
-use Rattle.smith_syntax.specs.Signature.{same_signature_Decides}
+use Rattle.smith_syntax.specs.SameSignature.{same_signature_Decides}
 use Rattle.smith_syntax.proofs.Signature.{signature_shown, shown_signature}
 use Rattle.smith_syntax.proofs.laws.signatures_are_told.Goals as goal
 

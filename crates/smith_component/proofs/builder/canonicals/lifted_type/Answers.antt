@@ -1,6 +1,7 @@
 use Rattle.std.proofs.Common.{sym, subst, ap, ◌∙◌}
 use Rattle.std.proofs.lemmas.Result.{IfOk-weaker}
-use Rattle.smith_format.specs.CoreTypes.{Function, shown_func}
+use Rattle.smith_format.specs.CoreTypes.{Function}
+use Rattle.smith_format.specs.Shown.{shown_func}
 use Rattle.smith_syntax.specs.Flat.{Flattens, is_scalar}
 use Rattle.smith_types.specs.Lifting.{ReadsLifted}
 use Rattle.smith_scopes.specs.Scopes.{own_scope}

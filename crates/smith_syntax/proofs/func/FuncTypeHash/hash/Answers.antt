@@ -1,6 +1,7 @@
 use Rattle.std.specs.Hash.{fed_along, fed_then, slice, option}
 use Rattle.smith_syntax.specs.contracts.types.ComponentValTypeHash.TheImpl.{ghosts as val_hash}
-use Rattle.smith_syntax.specs.Signature.{named, field_input}
+use Rattle.smith_syntax.specs.Signature.{named}
+use Rattle.smith_syntax.specs.SameSignature.{field_input}
 use Rattle.smith_syntax.proofs.Signature.{input-named}
 use Rattle.smith_syntax.proofs.func.FuncTypeHash.hash.Goals as goal
 
