@@ -6,17 +6,21 @@ use Rattle.smith_format.specs.declared.types.RefType.TheVariants.{FuncRef, Exter
 use Rattle.smith_format.specs.declared.types.ValType.{ValType}
 use Rattle.smith_format.specs.declared.types.ValType.TheVariants.{I32, I64, F32, F64, V128, Ref}
 
+-- the most that 32 bits hold
+abbrev pub max_u32 : ℕ
+max_u32 = 4294967295
+
 -- No minimum passes its maximum, what is counted in the written bytes fits 32 bits, and components nest at most 1000 deep.
 pub record IsConsistent (config : Config) : Type 0 where
   pub types_cross : config.min_types ≤ config.max_types
   pub imports_cross : config.min_imports ≤ config.max_imports
   pub funcs_cross : config.min_funcs ≤ config.max_funcs
-  pub types : config.max_types ≤ 4294967295
-  pub imports : config.max_imports ≤ 4294967295
-  pub funcs : config.max_funcs ≤ 4294967295
-  pub modules : config.max_modules ≤ 4294967295
-  pub components : config.max_components ≤ 4294967295
-  pub instances : config.max_instances ≤ 4294967295
+  pub types : config.max_types ≤ max_u32
+  pub imports : config.max_imports ≤ max_u32
+  pub funcs : config.max_funcs ≤ max_u32
+  pub modules : config.max_modules ≤ max_u32
+  pub components : config.max_components ≤ max_u32
+  pub instances : config.max_instances ≤ max_u32
   pub nesting : config.max_nesting_depth ≤ 1000
 
 -- the limits that hold where none are given

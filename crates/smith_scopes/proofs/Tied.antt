@@ -7,6 +7,7 @@ use Rattle.std.specs.declared.alloc.Global.{Global}
 use Rattle.std.specs.declared.rc.Rc.{Rc}
 use Rattle.std.specs.declared.vec.Vec.{Vec}
 use Rattle.smith_format.specs.declared.types.FuncType.{FuncType as CoreFuncType}
+use Rattle.smith_format.specs.Limits.{max_u32}
 use Rattle.smith_syntax.specs.Entries.{Signature, plain}
 use Rattle.smith_syntax.specs.Scope.{places, is_defined, is_func, is_component, is_instance, is_core_func, is_core_module}
 use Rattle.smith_syntax.specs.Shown.{full_type, has_signature, is_of_signature}
@@ -70,7 +71,7 @@ types_are : {X : Type 0} (entries new : List (Rc X Global)) (entry : Rc X Global
 types_are {X} entries new entry to = ap values_of to ∙ map-append (λ (e : Rc X Global). e.value) entries (entry ∷ [])
 
 -- an index has 32 bits where there was room for one more
-few_are : {X : Type 0} (xs : List X) (x : X) (ys : List X) → ys ≡ xs ++ x ∷ [] → length xs < 4294967295 → length ys ≤ 4294967295
+few_are : {X : Type 0} (xs : List X) (x : X) (ys : List X) → ys ≡ xs ++ x ∷ [] → length xs < max_u32 → length ys ≤ max_u32
 few_are xs x ys e h = let l = ap length e ∙ length-append xs (x ∷ []) in omega arith
 
 module _ {X E : Type 0} (shown : X → E) (entries : List (Rc X Global)) (i : ℕ) (at : i ≡ length entries) (entry : Rc X Global) (new : List (Rc X Global))
@@ -89,9 +90,9 @@ module _ {X E : Type 0} (shown : X → E) (entries : List (Rc X Global)) (i : �
   as_before is e = e ∙ sym (kind_are false is ∙ append-nil row)
 
 module _ {Z S : Type 0} (entries : List (Rc DefType Global)) {defined funcs components instances : List ℕ} {equal : HashMap Signature (Vec ℕ Z) S}
-    (tied : IsTied (values_of entries) defined funcs components instances equal) (small : length (values_of entries) < 4294967295) (i : ℕ)
+    (tied : IsTied (values_of entries) defined funcs components instances equal) (small : length (values_of entries) < max_u32) (i : ℕ)
     (at : i ≡ length entries) (entry : Rc DefType Global) (new : List (Rc DefType Global)) (to : new ≡ entries ++ entry ∷ []) where
-  now_few : length (values_of new) ≤ 4294967295
+  now_few : length (values_of new) ≤ max_u32
   now_few = few_are (values_of entries) entry.value (values_of new) (types_are entries new entry to) small
 
   rows_are : (s : Signature) (b : Bool) → has_signature s entry.value ≡ b → places (has_signature s) 0 (values_of new) ≡ row_of equal s ++ cond b (i ∷ []) []
@@ -165,7 +166,7 @@ module _ {Z S : Type 0} (entries : List (Rc DefType Global)) {defined funcs comp
 -- One core type more.
 
 module _ (entries : List (Rc CoreType Global)) {funcs modules : List ℕ} (tied : IsCoreTied (values_of entries) funcs modules)
-    (small : length (values_of entries) < 4294967295) (i : ℕ) (at : i ≡ length entries) (entry : Rc CoreType Global) (new : List (Rc CoreType Global))
+    (small : length (values_of entries) < max_u32) (i : ℕ) (at : i ≡ length entries) (entry : Rc CoreType Global) (new : List (Rc CoreType Global))
     (to : new ≡ entries ++ entry ∷ []) where
   pub pushed_core_func : (f : Rc CoreFuncType Global) {fs ms : List ℕ} → entry.value ≡ core.Func f → fs ≡ funcs ++ i ∷ [] → ms ≡ modules
       → IsCoreTied (values_of new) fs ms
@@ -185,7 +186,7 @@ module _ (entries : List (Rc CoreType Global)) {funcs modules : List ℕ} (tied 
 
 -- a kind has no more entries than there are
 pub few_places : {X E : Type 0} (shown : X → E) (p : E → Bool) (types : List X) (row found : List ℕ) → row ≡ places p 0 (map shown types)
-    → length types ≤ 4294967295 → found ≡ row → length found ≤ 4294967295
+    → length types ≤ max_u32 → found ≡ row → length found ≤ max_u32
 few_places shown p types row found e h is = omega (arith, ap length (is ∙ e), length-places p 0 (map shown types), length-map types shown, h)
 
 -- what a push leaves as it was

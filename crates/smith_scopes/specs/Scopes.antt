@@ -4,6 +4,7 @@ use Rattle.std.specs.HashMap.{HashMap, get}
 use Rattle.std.specs.declared.alloc.Global.{Global}
 use Rattle.std.specs.declared.rc.Rc.{Rc}
 use Rattle.std.specs.declared.vec.Vec.{Vec}
+use Rattle.smith_format.specs.Limits.{max_u32}
 use Rattle.smith_syntax.specs.Entries.{Signature}
 use Rattle.smith_syntax.specs.Scope.{ScopeOf, Scope, empty_scope, with_type, with_core_type, own_of, outer_of, places, is_defined, is_func, is_component}
 use Rattle.smith_syntax.specs.Scope.{is_instance, is_core_func, is_core_module}
@@ -91,10 +92,10 @@ pub record IsTied {Z S : Type 0} (types : List DefType) (defined funcs component
   pub components_are : components ≡ places is_component 0 (map shown_type types)
   pub instances_are : instances ≡ places is_instance 0 (map shown_type types)
   pub equal_are : (s : Signature) → row_of equal s ≡ places (has_signature s) 0 types
-  pub few : length types ≤ 4294967295
+  pub few : length types ≤ max_u32
 
 -- the indexes of each kind of core type
 pub record IsCoreTied (types : List CoreType) (funcs modules : List ℕ) : Type 0 where
   pub funcs_are : funcs ≡ places is_core_func 0 (map shown_core types)
   pub modules_are : modules ≡ places is_core_module 0 (map shown_core types)
-  pub few : length types ≤ 4294967295
+  pub few : length types ≤ max_u32

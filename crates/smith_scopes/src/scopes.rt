@@ -2,6 +2,7 @@
 
 ghost use Rattle.std.specs.Prelude.{◌≡◌, ◌+◌, ◌<◌, ◌≤◌, [], ◌∷◌, ◌++◌, length, Some};
 ghost use Rattle.std.specs.Prelude.{OnOk, IfOk, OnErr, IfErr};
+ghost use Rattle.smith_format.specs.Limits.{max_u32};
 ghost use Rattle.smith_syntax.specs.Scope.{empty_scope, with_type, with_core_type, places};
 ghost use Rattle.smith_scopes.specs.Scopes.{shown_scope, kind_places, last_of};
 ghost use Rattle.smith_syntax.specs.Shown.{has_signature};
@@ -160,7 +161,7 @@ impl Scope {
 
     // Adds a type at the end. Each list has room before one of them grows.
     fn push_type(&mut self, alloc: Global, entry: Rc<DefType>) -> Result<u32, Error>
-        requires { length self.old.types < 4294967295 }
+        requires { length self.old.types < max_u32 }
         ensures ok { OnOk result (self.new ≡ with_type self.old entry.value) }
         ensures index { IfOk result (λ i. i ≡ length self.old.types) }
         ensures err { OnErr result (self.new ≡ self.old) }
@@ -184,7 +185,7 @@ impl Scope {
 
     // Adds a core type at the end. Each list has room before one of them grows.
     fn push_core_type(&mut self, entry: Rc<CoreType>) -> Result<u32, Error>
-        requires { length self.old.core_types < 4294967295 }
+        requires { length self.old.core_types < max_u32 }
         ensures ok { OnOk result (self.new ≡ with_core_type self.old entry.value) }
         ensures index { IfOk result (λ i. i ≡ length self.old.core_types) }
         ensures err { OnErr result (self.new ≡ self.old) }
@@ -203,7 +204,7 @@ impl Scope {
     // The indexes of the entries of that kind.
     fn places(&self, kind: Kind) -> &[u32]
         ensures places { result.now ≡ kind_places kind (shown_scope self.now) }
-        ensures few { length result.now ≤ 4294967295 }
+        ensures few { length result.now ≤ max_u32 }
         ensures small { length result.now < 9223372036854775808 }
     {
         match kind {
@@ -264,7 +265,7 @@ impl Scopes {
     /// Adds a type to the last scope, and answers its index there. It refuses for want of memory alone, and all is
     /// as it was then.
     pub fn push_type(&mut self, entry: Rc<DefType>) -> Result<u32, Error>
-        requires { length (last_of self.old).types < 4294967295 }
+        requires { length (last_of self.old).types < max_u32 }
         ensures ok { OnOk result (AddsType self.old entry.value self.new) }
         ensures index { IfOk result (λ i. i ≡ length (last_of self.old).types) }
         ensures err { OnErr result (self.new ≡ self.old) }
@@ -276,7 +277,7 @@ impl Scopes {
     /// Adds a core type to the last scope, and answers its index there. It refuses for want of memory alone, and all is
     /// as it was then.
     pub fn push_core_type(&mut self, entry: Rc<CoreType>) -> Result<u32, Error>
-        requires { length (last_of self.old).core_types < 4294967295 }
+        requires { length (last_of self.old).core_types < max_u32 }
         ensures ok { OnOk result (AddsCoreType self.old entry.value self.new) }
         ensures index { IfOk result (λ i. i ≡ length (last_of self.old).core_types) }
         ensures err { OnErr result (self.new ≡ self.old) }

@@ -1,6 +1,7 @@
 //! What stands in scopes: how much, and at which index.
 
 ghost use Rattle.std.specs.Prelude.{◌≡◌, ◌<◌, ◌≤◌, length, Some, slice_get};
+ghost use Rattle.smith_format.specs.Limits.{max_u32};
 ghost use Rattle.smith_syntax.specs.Scope.{places};
 ghost use Rattle.smith_syntax.specs.Shown.{has_signature};
 ghost use Rattle.smith_scopes.specs.Scopes.{own_scope, kind_places, last_of, scope_at};
@@ -34,7 +35,7 @@ impl Scopes {
     pub fn len(&self, count: u32) -> usize
         requires { count < length self.now }
         ensures count { result ≡ length (scope_at self.now count).types }
-        ensures few { result ≤ 4294967295 }
+        ensures few { result ≤ max_u32 }
     {
         self.scope(count).types.len()
     }
@@ -43,7 +44,7 @@ impl Scopes {
     pub fn len_core(&self, count: u32) -> usize
         requires { count < length self.now }
         ensures count { result ≡ length (scope_at self.now count).core_types }
-        ensures few { result ≤ 4294967295 }
+        ensures few { result ≤ max_u32 }
     {
         self.scope(count).core_types.len()
     }
@@ -69,7 +70,7 @@ impl Scopes {
     /// How many types the last scope has.
     pub fn own_len(&self) -> usize
         ensures count { result ≡ length (own_scope self.now).types }
-        ensures few { result ≤ 4294967295 }
+        ensures few { result ≤ max_u32 }
     {
         self.inner.types.len()
     }
@@ -77,7 +78,7 @@ impl Scopes {
     /// How many entries of the last scope are of that kind.
     pub fn kind_len(&self, kind: Kind) -> usize
         ensures count { result ≡ length (kind_places kind (own_scope self.now)) }
-        ensures few { result ≤ 4294967295 }
+        ensures few { result ≤ max_u32 }
         ensures small { result < 9223372036854775808 }
     {
         self.inner.places(kind).len()

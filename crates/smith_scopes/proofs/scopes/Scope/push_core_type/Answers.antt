@@ -1,4 +1,5 @@
 use Rattle.std.proofs.Common.{◌<◌, ◌∷◌, [], ◌++◌, length, sym, ap, ◌∙◌}
+use Rattle.smith_format.specs.Limits.{max_u32}
 use Rattle.smith_scopes.specs.Scopes.{values_of}
 use Rattle.smith_scopes.proofs.Tied.{pushed_core_func, pushed_module, types_kept}
 use Rattle.smith_scopes.proofs.scopes.Scope.push_core_type.Goals as goal
@@ -7,7 +8,7 @@ use Rattle.smith_scopes.proofs.scopes.Scope.push_core_type.Goals.{in-Func+in_ok-
 pub invariant_of-self-2 : goal.invariant_of-self-2
 invariant_of-self-2 c =
     let at = c.len-index.ensures ∙ c.self.inside.core_types.ok.0 in
-    let few : length (values_of c.self.inside.core_types.items) < 4294967295 = rw (← c.self.view_is) at c.requires in
+    let few : length (values_of c.self.inside.core_types.items) < max_u32 = rw (← c.self.view_is) at c.requires in
     elim c.match-deref.branch [
       | in-Func+in_ok-push-in-Func w ↦
           let listed = c.push_reserved.ensures.items ∙ ap (λ s. s.core_types.items ++ c.args.entry ∷ []) w.self-inside-is

@@ -1,4 +1,5 @@
 use Rattle.std.proofs.Common.{◌<◌, ◌∷◌, [], ◌++◌, length, sym, ap, ◌∙◌}
+use Rattle.smith_format.specs.Limits.{max_u32}
 use Rattle.smith_scopes.specs.Scopes.{row_of, values_of}
 use Rattle.smith_scopes.proofs.Tied.{pushed_defined, pushed_function, pushed_component, pushed_instance, core_kept}
 use Rattle.smith_scopes.proofs.scopes.Scope.push_type.Goals as goal
@@ -8,7 +9,7 @@ use Rattle.smith_scopes.proofs.scopes.Scope.push_type.Goals.{in-Component+in_ok-
 pub invariant_of-self-2 : goal.invariant_of-self-2
 invariant_of-self-2 c =
     let at = c.len-index.ensures ∙ c.self.inside.types.ok.0 in
-    let few : length (values_of c.self.inside.types.items) < 4294967295 = rw (← c.self.view_is) at c.requires in
+    let few : length (values_of c.self.inside.types.items) < max_u32 = rw (← c.self.view_is) at c.requires in
     elim c.match-deref.branch [
       | in-Defined+in_ok-push-in-Defined w ↦
           let listed = c.push_reserved-2.ensures.items ∙ ap (λ s. s.types.items ++ c.args.entry ∷ []) w.self-inside-is

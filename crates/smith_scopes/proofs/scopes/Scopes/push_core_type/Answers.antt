@@ -1,5 +1,6 @@
 use Rattle.std.proofs.Common.{◌≡◌, ◌<◌, sym, ap, ◌∙◌, subst, length}
 use Rattle.std.specs.Prelude.{IfOk}
+use Rattle.smith_format.specs.Limits.{max_u32}
 use Rattle.smith_scopes.specs.Scopes.{last_of}
 use Rattle.smith_scopes.specs.Scopes.{Contents}
 use Rattle.smith_scopes.proofs.Stack.{last_of-snoc}
@@ -7,7 +8,7 @@ use Rattle.smith_scopes.proofs.scopes.Scopes.push_core_type.Goals as goal
 
 pub push_core_type-requires : goal.push_core_type-requires
 push_core_type-requires c =
-    let P : Contents → Type 0 = λ s. length s.core_types < 4294967295 in
+    let P : Contents → Type 0 = λ s. length s.core_types < max_u32 in
     subst P (ap last_of (sym c.self.view_is) ∙ last_of-snoc c.self.inside.outer.items c.self.inside.inner) c.requires
 
 pub returns-clause-index : goal.returns-clause-index
