@@ -44,11 +44,6 @@ module _ {A : Type 0} (f : A → Piece) where
       → IsDue e a (each f xs)
   each_due xs i x e {a} {b} p h is d = subst (λ (q : Piece). IsDue e a q) (sym (each_at xs i x h is)) (due_right p.is (due_left _ d))
 
-  -- A writer of each leaves its loop by a `?`, and is done.
-  pub each_exit : {T : Type 0} (r : Result T Error) (e : Error) (xs : List A) (i : ℕ) (x : A) {a c : Vec ℕ Global} → IsErrAnd r (λ y. y ≡ e)
-      → (b : Vec ℕ Global) → Put xs i a b → i < length xs → x ≡ get_or xs i x → Begins b c × IsDue e b (f x) → Puts r a c (each f xs)
-  each_exit r e xs i x is b p h at d = exits r e is (gains_begins p.is d.0) (each_due xs i x e p h at d.1)
-
   -- the same after a prefix, as the count
   pub front_exit : {T : Type 0} (r : Result T Error) (e : Error) (xs : List A) (i : ℕ) (x : A) {a b c : Vec ℕ Global} {front : Piece} → IsErrAnd r (λ y. y ≡ e)
       → Gains a b front → (h : Vec ℕ Global) → Put xs i b h → i < length xs → x ≡ get_or xs i x → Begins h c × IsDue e h (f x) → Puts r a c (front ⊕ each f xs)

@@ -46,9 +46,6 @@ too_much_left {p} q t = record { is = elim t.is [ inl e ↦ inl (ap (λ x. x ⊕
 pub too_much_right : (p : Piece) {q : Piece} → TakesTooMuch q → TakesTooMuch (p ⊕ q)
 too_much_right p {q} t = record { is = elim t.is [ inl e ↦ inl (ap (λ x. p ⊕ x) e ∙ right_none p) | inr h ↦ too_much_join p q (omega arith) ] }
 
-pub too_much_u : (n : ℕ) → 2 ^ 32 ≤ n → TakesTooMuch (u n)
-too_much_u n h = too_much_none (u_none n h)
-
 -- a length that may pass what 32 bits hold
 pub length_is : (r : Option ℕ) {k n : ℕ} {p : Piece} → SomeIff r (k < 2 ^ 32) k → Takes n p → k ≡ n → IsLengthOf r p
 length_is (Some m) {k} {n} {p} s t e = (subst (λ (l : ℕ). Takes l p) (sym (s.1 ∙ e)) t, let f = s.1 in omega (arith, s.0))

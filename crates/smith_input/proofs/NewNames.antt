@@ -15,10 +15,6 @@ use Rattle.smith_input.specs.Names.{IsMadeUnique, GainsName, appended, is_among,
 use Rattle.smith_input.specs.Script.{script_name}
 use Rattle.smith_input.proofs.Kebabs.{kebab_is_read, kebab_is_kept, kebab_tail, kebab_unique, name_read}
 
--- an empty set has no names
-pub holds_none : {A : Type 0} (set : BTreeSet (String A)) → IsEmpty set → btree_set_len set ≡ 0 → Holds set []
-holds_none set e n = record { has = λ q. ap (λ ks. list_any (is_at (λ k. slice_cmp nat_cmp q (string_bytes k))) ks) e; size = n }
-
 or_turned : (a b c : Bool) → (a || (b || c)) ≡ (b || (a || c))
 or_turned true true c = refl
 or_turned true false c = refl
