@@ -16,6 +16,7 @@ ghost use Rattle.smith_syntax.specs.WellFormed.{FormedCore, core_size};
 
 use crate::core_functions::core_function;
 use crate::fuel::burn;
+use crate::making::Making;
 use crate::module_types::module_type;
 use smith_format::{Config, ValType};
 use smith_input::{Error, Unstructured};
@@ -26,30 +27,27 @@ use std::rc::Rc;
 
 // A core type, by the rules of `arbitrary_core_type`.
 fn made_core_type(
-    alloc: Global,
+    making: &Making,
     u: &mut Unstructured,
-    config: &Config,
-    valtypes: &[ValType],
     scopes: &Scopes,
     fuel: &mut u32,
 ) -> Result<CoreType, Error>
-    requires { valtypes.now ≡ configured config.now }
-    ensures made { IfOk result (λ t. MadeCore config.now (own_scope scopes.now) u.old fuel.old (shown_core t)
-        u.new fuel.new) }
+    ensures made { IfOk result (λ t. MadeCore making.now.config.now (own_scope scopes.now) u.old fuel.old
+        (shown_core t) u.new fuel.new) }
     ensures kept { IfOk result (λ t. KeepsAliased (own_scope scopes.now).core_types t) }
     ensures memory { IfErr result (λ e. e ≡ Error.OutOfMemory) }
     ensures tail { IsTail u.new u.old }
 {
     burn(fuel);
     if *fuel == 0 {
-        let defs = Vec::new(alloc);
-        return Ok(CoreType::Module(Rc::new(alloc, ModuleType { defs })?));
+        let defs = Vec::new(making.alloc);
+        return Ok(CoreType::Module(Rc::new(making.alloc, ModuleType { defs })?));
     }
     if u.choose_index(2) == 0 {
-        return Ok(CoreType::Func(core_function(alloc, u, config, valtypes)?));
+        return Ok(CoreType::Func(core_function(making, u)?));
     }
-    let defs = module_type(alloc, u, config, valtypes, scopes, fuel)?;
-    Ok(CoreType::Module(Rc::new(alloc, ModuleType { defs })?))
+    let defs = module_type(making, u, scopes, fuel)?;
+    Ok(CoreType::Module(Rc::new(making.alloc, ModuleType { defs })?))
 }
 
 /// A core type for these scopes, which takes fuel: one for itself, and one for each declaration of a module type. Where
@@ -82,7 +80,12 @@ pub fn arbitrary_core_type(
     ensures memory { IfErr result (λ e. e ≡ Error.OutOfMemory) }
     ensures tail { IsTail u.new u.old }
 {
-    let made = made_core_type(alloc, u, config, valtypes, scopes, fuel)?;
+    let making = Making {
+        alloc,
+        config,
+        valtypes,
+    };
+    let made = made_core_type(&making, u, scopes, fuel)?;
     let shared = Rc::new(alloc, made)?;
     Ok(shared)
 }

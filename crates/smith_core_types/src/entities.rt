@@ -4,7 +4,6 @@ ghost use Rattle.std.specs.Prelude.{◌≡◌, ℕ, ◌<◌, ◌&&◌, List, [],
 ghost use Rattle.std.specs.Prelude.{IfSome, IfOk, IfErr};
 ghost use Rattle.smith_input.specs.Choices.{ReadsAmong};
 ghost use Rattle.smith_input.specs.Reading.{IsTail, Flips};
-ghost use Rattle.smith_format.specs.Limits.{configured};
 ghost use Rattle.smith_format.specs.declared.types.ExportKind.TheVariants as kind;
 ghost use Rattle.smith_core_types.specs.MadeCore.{ReadsEntityOf, entity_kinds, indexes};
 ghost use Rattle.smith_core_types.specs.MakingCore.{HasTypeFor, MaybeEntity, shown_funcs, so_far};
@@ -13,12 +12,12 @@ ghost use Rattle.smith_syntax.specs.Scope.{places};
 ghost use Rattle.smith_syntax.specs.Shown.{shown_decl};
 
 use crate::declared::{Declared, allows, has_tag_type, tag_types};
+use crate::making::Making;
 use smith_format::{
     Config, EntityType, ExportKind, FuncType, GlobalType, ValType, arbitrary_memtype,
     arbitrary_table_type, arbitrary_tag_type,
 };
 use smith_input::{Error, Unstructured, choose_offered};
-use std::alloc::Global;
 use std::rc::Rc;
 
 // A global type: one of the value types, and a boolean for whether it may change.
@@ -84,27 +83,24 @@ fn entity_kind(u: &mut Unstructured, config: &Config, declared: &Declared) -> Op
 
 // An entity of a kind.
 fn entity_of(
-    alloc: Global,
+    making: &Making,
     u: &mut Unstructured,
-    config: &Config,
-    valtypes: &[ValType],
     declared: &Declared,
     kind: ExportKind,
 ) -> Result<EntityType, Error>
-    requires valtypes { valtypes.now ≡ configured config.now }
     requires few { length declared.now.own.items < 1000 }
     requires possible { HasTypeFor (shown_funcs declared.now.own.items) kind }
     ensures reads { IfOk result
-        (λ e. (fuel : ℕ) → ReadsEntityOf config.now (so_far declared.now fuel) kind u.old e u.new) }
+        (λ e. (fuel : ℕ) → ReadsEntityOf making.now.config.now (so_far declared.now fuel) kind u.old e u.new) }
     ensures memory { IfErr result (λ e. e ≡ Error.OutOfMemory) }
     ensures tail { IsTail u.new u.old }
 {
     match kind {
-        ExportKind::Global => Ok(EntityType::Global(global_type(u, valtypes))),
-        ExportKind::Table => Ok(EntityType::Table(arbitrary_table_type(u, config))),
-        ExportKind::Memory => Ok(EntityType::Memory(arbitrary_memtype(u, config))),
+        ExportKind::Global => Ok(EntityType::Global(global_type(u, making.valtypes))),
+        ExportKind::Table => Ok(EntityType::Table(arbitrary_table_type(u, making.config))),
+        ExportKind::Memory => Ok(EntityType::Memory(arbitrary_memtype(u, making.config))),
         ExportKind::Tag => {
-            let tag_types = tag_types(alloc, &declared.own)?;
+            let tag_types = tag_types(making.alloc, &declared.own)?;
             Ok(EntityType::Tag(arbitrary_tag_type(u, &tag_types)))
         }
         ExportKind::Func => Ok(EntityType::Func(own_type(u, &declared.own))),
@@ -113,22 +109,19 @@ fn entity_of(
 
 // An entity, or none where nothing can be imported or exported.
 pub(crate) fn entity(
-    alloc: Global,
+    making: &Making,
     u: &mut Unstructured,
-    config: &Config,
-    valtypes: &[ValType],
     declared: &Declared,
 ) -> Result<Option<EntityType>, Error>
-    requires valtypes { valtypes.now ≡ configured config.now }
     requires few { length declared.now.own.items < 1000 }
     ensures reads { IfOk result (λ e. (fuel : ℕ) →
-        MaybeEntity config.now (so_far declared.now fuel) u.old e u.new) }
+        MaybeEntity making.now.config.now (so_far declared.now fuel) u.old e u.new) }
     ensures memory { IfErr result (λ e. e ≡ Error.OutOfMemory) }
     ensures tail { IsTail u.new u.old }
 {
-    let Some(kind) = entity_kind(u, config, declared) else {
+    let Some(kind) = entity_kind(u, making.config, declared) else {
         return Ok(None);
     };
-    let entity = entity_of(alloc, u, config, valtypes, declared, kind)?;
+    let entity = entity_of(making, u, declared, kind)?;
     Ok(Some(entity))
 }

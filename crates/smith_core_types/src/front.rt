@@ -10,6 +10,7 @@ ghost use Rattle.smith_core_types.specs.MakingCore.{KeepsDeclared, so_far};
 ghost use Rattle.smith_syntax.specs.ModuleTypes.{realloc, free};
 
 use crate::declared::{Declared, allows, declare};
+use crate::making::Making;
 use smith_format::{Config, EntityType, ExportKind, FuncType, ValType, arbitrary_memtype};
 use smith_input::{Error, Unstructured};
 use smith_syntax::ModuleTypeDef;
@@ -25,27 +26,22 @@ static ONE: [ValType; 1] = [ValType::I32];
 static NONE: [ValType; 0] = [];
 
 // The export of a memory, where one is allowed.
-fn memory_line(
-    alloc: Global,
-    u: &mut Unstructured,
-    config: &Config,
-    declared: &mut Declared,
-) -> Result<(), Error>
-    ensures reads { (fuel : ℕ) → OnOk result (ReadsLine (nat_lt 0 config.now.max_memories) MemoryLine
-        (so_far declared.old fuel) u.old (so_far declared.new fuel) u.new) }
+fn memory_line(making: &Making, u: &mut Unstructured, declared: &mut Declared) -> Result<(), Error>
+    ensures reads { (fuel : ℕ) → OnOk result (ReadsLine (nat_lt 0 making.now.config.now.max_memories)
+        MemoryLine (so_far declared.old fuel) u.old (so_far declared.new fuel) u.new) }
     ensures own { OnOk result (declared.new.own.items ≡ declared.old.own.items) }
     ensures kept { (around : _) → KeepsDeclared around declared.old → OnOk result (KeepsDeclared around declared.new) }
     ensures memory { IfErr result (λ e. e ≡ Error.OutOfMemory) }
     ensures tail { IsTail u.new u.old }
 {
-    if config.max_memories == 0 {
+    if making.config.max_memories == 0 {
         return Ok(());
     }
     if !u.ratio(99, 100) {
         return Ok(());
     }
-    let name = String::from_str(alloc, "memory")?;
-    let memory = EntityType::Memory(arbitrary_memtype(u, config));
+    let name = String::from_str(making.alloc, "memory")?;
+    let memory = EntityType::Memory(arbitrary_memtype(u, making.config));
     declared.defs.push(ModuleTypeDef::Export(name, memory))?;
     Ok(())
 }
@@ -79,31 +75,30 @@ fn allows_line(config: &Config, declared: &Declared) -> bool
 
 // A function type and the export of a function of it, where both are allowed.
 fn function_line(
-    alloc: Global,
+    making: &Making,
     u: &mut Unstructured,
-    config: &Config,
     declared: &mut Declared,
     name: &str,
     params: &[ValType],
     results: &[ValType],
 ) -> Result<(), Error>
     requires { length declared.old.own.items < 1000 }
-    ensures reads { (fuel : ℕ) → OnOk result (ReadsFunctionLine config.now name.now (params.now, results.now)
-        (so_far declared.old fuel) u.old (so_far declared.new fuel) u.new) }
+    ensures reads { (fuel : ℕ) → OnOk result (ReadsFunctionLine making.now.config.now name.now
+        (params.now, results.now) (so_far declared.old fuel) u.old (so_far declared.new fuel) u.new) }
     ensures own { OnOk result (length declared.new.own.items ≤ length declared.old.own.items + 1) }
     ensures kept { (around : _) → KeepsDeclared around declared.old → OnOk result (KeepsDeclared around declared.new) }
     ensures memory { IfErr result (λ e. e ≡ Error.OutOfMemory) }
     ensures tail { IsTail u.new u.old }
 {
-    if !allows_line(config, declared) {
+    if !allows_line(making.config, declared) {
         return Ok(());
     }
     if !u.ratio(99, 100) {
         return Ok(());
     }
     let index = declared.own.len() as u32;
-    declare(declared, function_of(alloc, params, results)?)?;
-    let name = String::from_str(alloc, name)?;
+    declare(declared, function_of(making.alloc, params, results)?)?;
+    let name = String::from_str(making.alloc, name)?;
     declared
         .defs
         .push(ModuleTypeDef::Export(name, EntityType::Func(index)))?;
@@ -111,31 +106,29 @@ fn function_line(
 }
 
 // What the canonical ABI asks, in its three lines.
-pub(crate) fn front(alloc: Global, u: &mut Unstructured, config: &Config) -> Result<Declared, Error>
-    ensures reads { IfOk result (λ d. (fuel : ℕ) → ReadsFront config.now u.old fuel (so_far d fuel) u.new) }
+pub(crate) fn front(making: &Making, u: &mut Unstructured) -> Result<Declared, Error>
+    ensures reads { IfOk result (λ d. (fuel : ℕ) → ReadsFront making.now.config.now u.old fuel (so_far d fuel) u.new) }
     ensures few { IfOk result (λ d. length d.own.items ≤ 2) }
     ensures kept { IfOk result (λ d. (around : _) → KeepsDeclared around d) }
     ensures memory { IfErr result (λ e. e ≡ Error.OutOfMemory) }
     ensures tail { IsTail u.new u.old }
 {
     let mut declared = Declared {
-        own: Vec::new(alloc),
-        defs: Vec::new(alloc),
+        own: Vec::new(making.alloc),
+        defs: Vec::new(making.alloc),
     };
-    memory_line(alloc, u, config, &mut declared)?;
+    memory_line(making, u, &mut declared)?;
     function_line(
-        alloc,
+        making,
         u,
-        config,
         &mut declared,
         "canonical_abi_realloc",
         &FOUR,
         &ONE,
     )?;
     function_line(
-        alloc,
+        making,
         u,
-        config,
         &mut declared,
         "canonical_abi_free",
         &THREE,

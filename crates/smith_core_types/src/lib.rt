@@ -9,6 +9,7 @@ mod entities;
 mod front;
 mod fuel;
 pub mod laws;
+mod making;
 mod module_names;
 mod module_types;
 

@@ -5,7 +5,6 @@ ghost use Rattle.std.specs.Prelude.{map, length, nat_lt, OnOk, IfOk, IfErr};
 ghost use Rattle.smith_input.specs.Choices.{ReadsAmong};
 ghost use Rattle.smith_input.specs.Loops.{Loop};
 ghost use Rattle.smith_input.specs.Reading.{IsTail};
-ghost use Rattle.smith_format.specs.Limits.{configured};
 ghost use Rattle.smith_syntax.specs.Entries.{ModuleDecl};
 ghost use Rattle.smith_core_types.specs.MadeCore.{MadeModule, ModuleEnds, ReadsDecl};
 ghost use Rattle.smith_core_types.specs.MadeCore.{allows_type, alias_choices, module_items};
@@ -21,12 +20,12 @@ use crate::declared::{Declared, declare};
 use crate::entities::entity;
 use crate::front::front;
 use crate::fuel::burn;
+use crate::making::Making;
 use crate::module_names::{export_name, import_names};
-use smith_format::{Config, Import, ValType};
+use smith_format::{Config, Import};
 use smith_input::{Error, Unstructured, choose_offered};
 use smith_scopes::Scopes;
 use smith_syntax::ModuleTypeDef;
-use std::alloc::Global;
 
 /// What a declaration of a module type is among. Public since contracts speak of it.
 #[derive(Debug, Clone, Copy, PartialEq, Eq)]
@@ -75,25 +74,18 @@ fn module_item(
 }
 
 // An import, or false where nothing can be imported.
-fn import(
-    alloc: Global,
-    u: &mut Unstructured,
-    config: &Config,
-    valtypes: &[ValType],
-    declared: &mut Declared,
-) -> Result<bool, Error>
-    requires valtypes { valtypes.now ≡ configured config.now }
+fn import(making: &Making, u: &mut Unstructured, declared: &mut Declared) -> Result<bool, Error>
     requires few { length declared.old.own.items < 1000 }
     ensures adds { (around : _) (fuel : ℕ) → IfOk result (λ b.
-        AddsDecl config.now around (so_far declared.old fuel) item.Import u.old b u.new
+        AddsDecl making.now.config.now around (so_far declared.old fuel) item.Import u.old b u.new
         (so_far declared.new (fuel - 1))) }
     ensures own { OnOk result (length declared.new.own.items ≤ length declared.old.own.items + 1) }
     ensures kept { (around : _) → KeepsDeclared around declared.old → OnOk result (KeepsDeclared around declared.new) }
     ensures memory { IfErr result (λ e. e ≡ Error.OutOfMemory) }
     ensures tail { IsTail u.new u.old }
 {
-    let (module, name) = import_names(alloc, u, &declared.defs)?;
-    match entity(alloc, u, config, valtypes, declared)? {
+    let (module, name) = import_names(making.alloc, u, &declared.defs)?;
+    match entity(making, u, declared)? {
         None => Ok(false),
         Some(entity_type) => {
             let import = Import {
@@ -108,25 +100,18 @@ fn import(
 }
 
 // An export, or false where nothing can be exported.
-fn export(
-    alloc: Global,
-    u: &mut Unstructured,
-    config: &Config,
-    valtypes: &[ValType],
-    declared: &mut Declared,
-) -> Result<bool, Error>
-    requires valtypes { valtypes.now ≡ configured config.now }
+fn export(making: &Making, u: &mut Unstructured, declared: &mut Declared) -> Result<bool, Error>
     requires few { length declared.old.own.items < 1000 }
     ensures adds { (around : _) (fuel : ℕ) → IfOk result (λ b.
-        AddsDecl config.now around (so_far declared.old fuel) item.Export u.old b u.new
+        AddsDecl making.now.config.now around (so_far declared.old fuel) item.Export u.old b u.new
         (so_far declared.new (fuel - 1))) }
     ensures own { OnOk result (length declared.new.own.items ≤ length declared.old.own.items + 1) }
     ensures kept { (around : _) → KeepsDeclared around declared.old → OnOk result (KeepsDeclared around declared.new) }
     ensures memory { IfErr result (λ e. e ≡ Error.OutOfMemory) }
     ensures tail { IsTail u.new u.old }
 {
-    let name = export_name(alloc, u, &declared.defs)?;
-    match entity(alloc, u, config, valtypes, declared)? {
+    let name = export_name(making.alloc, u, &declared.defs)?;
+    match entity(making, u, declared)? {
         None => Ok(false),
         Some(entity) => {
             declared.defs.push(ModuleTypeDef::Export(name, entity))?;
@@ -137,19 +122,16 @@ fn export(
 
 // A declaration of a sort, or false where nothing can be imported or exported.
 fn add_of(
-    alloc: Global,
+    making: &Making,
     u: &mut Unstructured,
-    config: &Config,
-    valtypes: &[ValType],
     scopes: &Scopes,
     declared: &mut Declared,
     item: ModuleItem,
 ) -> Result<bool, Error>
-    requires valtypes { valtypes.now ≡ configured config.now }
     requires few { length declared.old.own.items < 1000 }
     requires possible { HasChoiceFor (own_scope scopes.now) (so_far declared.old 0) item }
-    ensures adds { (fuel : ℕ) → IfOk result (λ b. AddsDecl config.now (own_scope scopes.now) (so_far declared.old fuel)
-        item u.old b u.new (so_far declared.new (fuel - 1))) }
+    ensures adds { (fuel : ℕ) → IfOk result (λ b. AddsDecl making.now.config.now (own_scope scopes.now)
+        (so_far declared.old fuel) item u.old b u.new (so_far declared.new (fuel - 1))) }
     ensures own { OnOk result (length declared.new.own.items ≤ length declared.old.own.items + 1) }
     ensures kept { KeepsDeclared (own_scope scopes.now).core_types declared.old
         → OnOk result (KeepsDeclared (own_scope scopes.now).core_types declared.new) }
@@ -157,10 +139,10 @@ fn add_of(
     ensures tail { IsTail u.new u.old }
 {
     match item {
-        ModuleItem::Import => import(alloc, u, config, valtypes, declared),
-        ModuleItem::Export => export(alloc, u, config, valtypes, declared),
+        ModuleItem::Import => import(making, u, declared),
+        ModuleItem::Export => export(making, u, declared),
         ModuleItem::Type => {
-            declare(declared, core_function(alloc, u, config, valtypes)?)?;
+            declare(declared, core_function(making, u)?)?;
             Ok(true)
         }
         ModuleItem::Alias => {
@@ -172,42 +154,37 @@ fn add_of(
 
 // A turn of the loop over the declarations, after its fuel is taken: a declaration, or false where it ends the loop.
 fn turn(
-    alloc: Global,
+    making: &Making,
     u: &mut Unstructured,
-    config: &Config,
-    valtypes: &[ValType],
     scopes: &Scopes,
     declared: &mut Declared,
 ) -> Result<bool, Error>
-    requires valtypes { valtypes.now ≡ configured config.now }
     requires few { length declared.old.own.items < 1000 }
-    ensures turns { (fuel : ℕ) → 0 < fuel - 1 → IfOk result (λ b. DeclTurn config.now (own_scope scopes.now)
-        (so_far declared.old fuel) u.old b u.new (so_far declared.new (fuel - 1))) }
+    ensures turns { (fuel : ℕ) → 0 < fuel - 1 → IfOk result (λ b. DeclTurn making.now.config.now
+        (own_scope scopes.now) (so_far declared.old fuel) u.old b u.new (so_far declared.new (fuel - 1))) }
     ensures own { OnOk result (length declared.new.own.items ≤ length declared.old.own.items + 1) }
     ensures kept { KeepsDeclared (own_scope scopes.now).core_types declared.old
         → OnOk result (KeepsDeclared (own_scope scopes.now).core_types declared.new) }
     ensures memory { IfErr result (λ e. e ≡ Error.OutOfMemory) }
     ensures tail { IsTail u.new u.old }
 {
-    let item = module_item(u, config, scopes, declared);
-    add_of(alloc, u, config, valtypes, scopes, declared, item)
+    let item = module_item(u, making.config, scopes, declared);
+    add_of(making, u, scopes, declared, item)
 }
 
 // The declarations after what the canonical ABI asks.
 fn declarations(
-    alloc: Global,
+    making: &Making,
     u: &mut Unstructured,
-    config: &Config,
-    valtypes: &[ValType],
     scopes: &Scopes,
     fuel: &mut u32,
     declared: &mut Declared,
 ) -> Result<(), Error>
-    requires valtypes { valtypes.now ≡ configured config.now }
     requires few { length declared.old.own.items ≤ 2 }
-    ensures reads { OnOk result ((more : List ModuleDecl) × Loop (ModuleEnds config.now (own_scope scopes.now))
-        (ReadsDecl config.now (own_scope scopes.now)) 0 100 0 (so_far declared.old fuel.old) u.old more u.new
-        (so_far declared.new fuel.new)) }
+    ensures reads { OnOk result ((more : List ModuleDecl) ×
+        Loop (ModuleEnds making.now.config.now (own_scope scopes.now))
+        (ReadsDecl making.now.config.now (own_scope scopes.now)) 0 100 0 (so_far declared.old fuel.old)
+        u.old more u.new (so_far declared.new fuel.new)) }
     ensures kept { KeepsDeclared (own_scope scopes.now).core_types declared.old
         → OnOk result (KeepsDeclared (own_scope scopes.now).core_types declared.new) }
     ensures memory { IfErr result (λ e. e ≡ Error.OutOfMemory) }
@@ -221,7 +198,7 @@ fn declarations(
         if *fuel == 0 {
             return Ok(());
         }
-        if !turn(alloc, u, config, valtypes, scopes, declared)? {
+        if !turn(making, u, scopes, declared)? {
             return Ok(());
         }
     }
@@ -230,22 +207,19 @@ fn declarations(
 
 // The declarations of a module type: what the canonical ABI asks, and then at most 100 that take fuel.
 pub(crate) fn module_type(
-    alloc: Global,
+    making: &Making,
     u: &mut Unstructured,
-    config: &Config,
-    valtypes: &[ValType],
     scopes: &Scopes,
     fuel: &mut u32,
 ) -> Result<Vec<ModuleTypeDef>, Error>
-    requires { valtypes.now ≡ configured config.now }
-    ensures made { IfOk result (λ defs. MadeModule config.now (own_scope scopes.now) u.old fuel.old
+    ensures made { IfOk result (λ defs. MadeModule making.now.config.now (own_scope scopes.now) u.old fuel.old
         (map shown_decl defs.items) u.new fuel.new) }
     ensures kept { IfOk result (λ defs. KeepEach (own_scope scopes.now).core_types [] defs.items) }
     ensures memory { IfErr result (λ e. e ≡ Error.OutOfMemory) }
     ensures tail { IsTail u.new u.old }
 {
-    let mut declared = front(alloc, u, config)?;
-    declarations(alloc, u, config, valtypes, scopes, fuel, &mut declared)?;
+    let mut declared = front(making, u)?;
+    declarations(making, u, scopes, fuel, &mut declared)?;
     let Declared { own: _, defs } = declared;
     Ok(defs)
 }

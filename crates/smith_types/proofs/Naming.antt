@@ -26,7 +26,7 @@ use Rattle.smith_scopes.proofs.Places.{get_left, get_right, place_found}
 use Rattle.smith_scopes.proofs.Stack.{length-places}
 use Rattle.smith_types.specs.Declarations.{NamedExtern, ReadsNamedExtern, no_url, ReadsAlias, NoImportDecl, in_instance, nothing_there, not_asked}
 use Rattle.smith_types.specs.Offers.{IsAllowed, has_reference, is_occupied, occupied, numbered, aliases_of, declaration_offers, declaration_items, ref_offers}
-use Rattle.smith_types.specs.Offers.{ref_kinds, ref_places, has_place, allows_one, allows_equal}
+use Rattle.smith_types.specs.Offers.{ref_kinds, ref_places, has_place, allows_one}
 use Rattle.smith_types.specs.References.{ref_to, ReadsRef}
 use Rattle.smith_types.specs.Script.{kind_in, index_in, script_ref, script_label, script_extern, script_entry, script_alias, script_no_import}
 use Rattle.smith_types.specs.Script.{script_declaration_item, Fit}

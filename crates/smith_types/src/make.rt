@@ -4,6 +4,9 @@ mod declarations;
 mod defined;
 mod externs;
 mod function;
+mod items;
+mod kinds;
+mod making;
 mod members;
 mod references;
 mod scoped;
@@ -23,8 +26,9 @@ ghost use Rattle.smith_syntax.specs.WellFormed.{FormedEntry, size};
 pub use declarations::DeclarationItem;
 pub use defined::DefinedKind;
 pub use externs::{ExternNames, named_extern};
+use kinds::made_type;
+use making::Making;
 pub use references::{RefKind, RefTotals, arbitrary_type_ref};
-use scoped::made_type;
 use smith_format::{Config, ValType};
 use smith_input::{Error, Unstructured};
 use smith_scopes::Scopes;
@@ -85,6 +89,11 @@ pub fn arbitrary_type(
     ensures memory { IfErr result (λ e. e ≡ Error.OutOfMemory) }
     ensures tail { IsTail u.new u.old }
 {
-    let made = made_type(alloc, u, config, valtypes, scopes, fuel)?;
+    let making = Making {
+        alloc,
+        config,
+        valtypes,
+    };
+    let made = made_type(&making, u, scopes, fuel)?;
     Ok(made)
 }

@@ -2,7 +2,6 @@
 
 ghost use Rattle.std.specs.Prelude.{◌≡◌, ◌<◌, ◌≤◌, List, [], ◌∷◌, ◌++◌, true, length, nat_lt};
 ghost use Rattle.std.specs.Prelude.{IfOk, OnOk, IfErr};
-ghost use Rattle.smith_format.specs.Limits.{configured};
 ghost use Rattle.smith_input.specs.Choices.{ReadsAmong};
 ghost use Rattle.smith_input.specs.Reading.{IsTail};
 ghost use Rattle.smith_syntax.specs.Shown.{full_alias, full_instance_decl};
@@ -16,9 +15,10 @@ ghost use Rattle.smith_scopes.specs.Scopes.{inward, own_scope, outer_scopes};
 ghost use Rattle.smith_types.specs.declared.make.declarations.DeclarationItem.TheVariants as item;
 
 use super::externs::{ExternNames, named_extern};
+use super::making::Making;
 use super::references::{RefTotals, arbitrary_type_ref};
 use smith_core_types::arbitrary_core_type;
-use smith_format::{Config, ValType};
+use smith_format::Config;
 use smith_input::{Error, Unstructured, choose_offered};
 use smith_scopes::{Kind, Scopes};
 use smith_syntax::{Alias, ComponentTypeRef, Import, InstanceTypeDecl, OuterAliasKind};
@@ -105,14 +105,14 @@ pub(super) fn declaration_item(
 
 // An import, or none where it is not asked for or nothing can be imported.
 pub(super) fn import(
-    alloc: Global,
+    making: &Making,
     u: &mut Unstructured,
-    config: &Config,
     scopes: &Scopes,
     imports: &mut ExternNames,
 ) -> Result<Option<Import>, Error>
     ensures reads { (so_far : List NamedExtern) → HoldsExterns imports.old so_far
-        → IfOk result (λ i. MaybeImport config.now (own_scope scopes.now) so_far u.old (shown_import_decl i) u.new) }
+        → IfOk result (λ i. MaybeImport making.now.config.now (own_scope scopes.now) so_far u.old
+        (shown_import_decl i) u.new) }
     ensures names { (so_far : List NamedExtern) → HoldsExterns imports.old so_far
         → IfOk result (λ i. HoldsExterns imports.new (so_far ++ imported_by (shown_import_decl i))) }
     ensures memory { IfErr result (λ e. e ≡ Error.OutOfMemory) }
@@ -121,10 +121,10 @@ pub(super) fn import(
     if !has_reference(scopes) || u.int_in_range(0, 3) != 0 {
         return Ok(None);
     }
-    let Some(ty) = arbitrary_type_ref(u, config, scopes, UNCOUNTED, true, true) else {
+    let Some(ty) = arbitrary_type_ref(u, making.config, scopes, UNCOUNTED, true, true) else {
         return Ok(None);
     };
-    let (name, url) = named_extern(alloc, u, imports)?;
+    let (name, url) = named_extern(making.alloc, u, imports)?;
     Ok(Some(Import { name, url, ty }))
 }
 
@@ -146,16 +146,15 @@ fn add_exported(scopes: &mut Scopes, ty: ComponentTypeRef) -> Result<(), Error>
 
 // An export. A type that it is equal to is added to the scope before the name is read.
 pub(super) fn export(
-    alloc: Global,
+    making: &Making,
     u: &mut Unstructured,
-    config: &Config,
     scopes: &mut Scopes,
     exports: &mut ExternNames,
 ) -> Result<InstanceTypeDecl, Error>
     requires possible { has_reference (own_scope scopes.old) ≡ true }
     requires room { length (own_scope scopes.old).types ≤ 100 }
     ensures reads { (so_far : List NamedExtern) → HoldsExterns exports.old so_far
-        → IfOk result (λ d. ReadsExportDecl config.now (own_scope scopes.old) so_far u.old
+        → IfOk result (λ d. ReadsExportDecl making.now.config.now (own_scope scopes.old) so_far u.old
         (full_instance_decl d) u.new) }
     ensures names { (so_far : List NamedExtern) → HoldsExterns exports.old so_far
         → IfOk result (λ d. HoldsExterns exports.new (so_far ++ export_of (full_instance_decl d))) }
@@ -165,11 +164,11 @@ pub(super) fn export(
     ensures memory { IfErr result (λ e. e ≡ Error.OutOfMemory) }
     ensures tail { IsTail u.new u.old }
 {
-    let Some(ty) = arbitrary_type_ref(u, config, scopes, UNCOUNTED, false, true) else {
+    let Some(ty) = arbitrary_type_ref(u, making.config, scopes, UNCOUNTED, false, true) else {
         unreachable!();
     };
     add_exported(scopes, ty)?;
-    let (name, url) = named_extern(alloc, u, exports)?;
+    let (name, url) = named_extern(making.alloc, u, exports)?;
     Ok(InstanceTypeDecl::Export { name, url, ty })
 }
 
@@ -241,24 +240,29 @@ pub(super) fn outer_alias(
 
 // A core type, with what is left of the fuel.
 pub(super) fn core_type_decl(
-    alloc: Global,
+    making: &Making,
     u: &mut Unstructured,
-    config: &Config,
-    valtypes: &[ValType],
     scopes: &mut Scopes,
     fuel: &mut u32,
 ) -> Result<InstanceTypeDecl, Error>
-    requires valtypes { valtypes.now ≡ configured config.now }
     requires room { length (own_scope scopes.old).core_types ≤ 100 }
-    ensures made { (exports : List NamedExtern) → IfOk result (λ d. MadeItem config.now (own_scope scopes.old)
-        (outer_scopes scopes.old) exports item.CoreType u.old fuel.old (full_instance_decl d) u.new fuel.new) }
+    ensures made { (exports : List NamedExtern) → IfOk result (λ d. MadeItem making.now.config.now
+        (own_scope scopes.old) (outer_scopes scopes.old) exports item.CoreType u.old fuel.old
+        (full_instance_decl d) u.new fuel.new) }
     ensures nameless { IfOk result (λ d. IsNameless (full_instance_decl d)) }
     ensures declares { IfOk result (λ d. Declares scopes.old scopes.new (full_instance_decl d)) }
     ensures outer { SameOuter scopes.old scopes.new }
     ensures memory { IfErr result (λ e. e ≡ Error.OutOfMemory) }
     ensures tail { IsTail u.new u.old }
 {
-    let ty = arbitrary_core_type(alloc, u, config, valtypes, scopes, fuel)?;
+    let ty = arbitrary_core_type(
+        making.alloc,
+        u,
+        making.config,
+        making.valtypes,
+        scopes,
+        fuel,
+    )?;
     let entry = ty.clone()?;
     scopes.push_core_type(entry)?;
     Ok(InstanceTypeDecl::CoreTypeDecl(ty))

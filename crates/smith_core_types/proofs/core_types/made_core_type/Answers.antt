@@ -25,7 +25,7 @@ pub returns-clause-made : goal.returns-clause-made
 returns-clause-made c =
     let P : ℕ → Type 0 = λ k. Reads 2 c.args.u.now k c.choose_index.new.self in
     let one : c.choose_index.result ≡ 1 = omega (arith, c.choose_index.ensures.below, c.if-choose_index-eq0.false) in
-    let M : ℕ → Type 0 = λ n. MadeModule c.args.config.now (own_of (inward c.args.scopes.now)) c.choose_index.new.self n
+    let M : ℕ → Type 0 = λ n. MadeModule c.args.making.now.config.now (own_of (inward c.args.scopes.now)) c.choose_index.new.self n
     (map shown_decl c.in_ok-defs.defs.items) c.module_type.new.u c.module_type.new.fuel in
     of_module
     (omega (arith, c.burn.ensures, c.if-fuel-eq0.false))

@@ -11,7 +11,7 @@ use Rattle.smith_core_types.proofs.front.front.Goals as goal
 pub returns-clause-reads : goal.returns-clause-reads
 returns-clause-reads c fuel =
     let first = so_far c.memory_line.new.declared fuel in
-    let L : SoFar → Type 0 = λ s. ReadsLine (nat_lt 0 c.args.config.now.max_memories) MemoryLine s c.args.u.now first c.memory_line.new.u in
+    let L : SoFar → Type 0 = λ s. ReadsLine (nat_lt 0 c.args.making.now.config.now.max_memories) MemoryLine s c.args.u.now first c.memory_line.new.u in
     record {
       with_memory = first;
       after_memory = c.memory_line.new.u;

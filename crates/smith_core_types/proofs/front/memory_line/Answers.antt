@@ -10,19 +10,19 @@ use Rattle.smith_scopes.proofs.Plain.{pushed}
 use Rattle.smith_core_types.proofs.MakingCore.{ratio_false, ratio_true, same_state}
 use Rattle.smith_core_types.proofs.front.memory_line.Goals as goal
 
-pub returns-then-config-eq0-clause-reads : goal.returns-then-config-eq0-clause-reads
-returns-then-config-eq0-clause-reads c fuel =
-    let no : nat_lt 0 c.args.config.now.max_memories ≡ false = grind (arith, nat_tests, c.if-config-eq0.true) in
+pub returns-then-making-eq0-clause-reads : goal.returns-then-making-eq0-clause-reads
+returns-then-making-eq0-clause-reads c fuel =
+    let no : nat_lt 0 c.args.making.now.config.now.max_memories ≡ false = grind (arith, nat_tests, c.if-making-eq0.true) in
     not_allowed no refl
 
 pub returns-then-not-ratio-clause-reads : goal.returns-then-not-ratio-clause-reads
 returns-then-not-ratio-clause-reads c fuel =
-    let may : nat_lt 0 c.args.config.now.max_memories ≡ true = grind (arith, nat_tests, c.if-config-eq0.false) in
+    let may : nat_lt 0 c.args.making.now.config.now.max_memories ≡ true = grind (arith, nat_tests, c.if-making-eq0.false) in
     declined may c.ratio.ensures.1 (ratio_false c.ratio.result c.ratio.ensures.0 c.ratio.ensures.2 c.if-not-ratio.true) refl
 
 pub returns-clause-reads : goal.returns-clause-reads
 returns-clause-reads c fuel =
-    let may : nat_lt 0 c.args.config.now.max_memories ≡ true = grind (arith, nat_tests, c.if-config-eq0.false) in
+    let may : nat_lt 0 c.args.making.now.config.now.max_memories ≡ true = grind (arith, nat_tests, c.if-making-eq0.false) in
     let old = c.args.declared.now in
     let m = c.arbitrary_memtype.result in
     let before = map shown_decl old.defs.items in

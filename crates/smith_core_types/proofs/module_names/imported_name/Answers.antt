@@ -1,4 +1,4 @@
-use Rattle.std.proofs.Common.{◌≡◌, true, false, cond, List, [], ◌∷◌, map, ap, sym, ◌∙◌, string_bytes, bytes_eq}
+use Rattle.std.proofs.Common.{◌≡◌, true, cond, List, [], ◌∷◌, map, ap, sym, ◌∙◌, string_bytes, bytes_eq}
 use Rattle.smith_format.specs.Entities.{CoreImport}
 use Rattle.smith_syntax.specs.ModuleTypes.{names_from}
 use Rattle.smith_syntax.specs.Shown.{shown_decl}

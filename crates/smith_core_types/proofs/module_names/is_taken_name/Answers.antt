@@ -1,4 +1,4 @@
-use Rattle.std.proofs.Common.{◌≡◌, true, false, Bool, ◌||◌, [], ◌∷◌, ap, sym, ◌∙◌, refl, bytes_eq}
+use Rattle.std.proofs.Common.{◌≡◌, true, false, Bool, ◌||◌, ap, sym, ◌∙◌, refl}
 use Rattle.smith_input.specs.Names.{is_among}
 use Rattle.smith_core_types.proofs.module_names.is_taken_name.Goals as goal
 

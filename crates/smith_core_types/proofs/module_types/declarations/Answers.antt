@@ -31,7 +31,7 @@ pub returns-then-not-branch-clause-reads : goal.returns-then-not-branch-clause-r
 returns-then-not-branch-clause-reads c =
     let around = own_of (inward c.args.scopes.now) in
     let fuel = c.loop-done.fuel in
-    let T : Bool → ℕ → Type 0 = λ b n. DeclTurn c.args.config.now around (so_far c.loop-done.declared fuel) c.more.new.self b c.turn.new.u
+    let T : Bool → ℕ → Type 0 = λ b n. DeclTurn c.args.making.now.config.now around (so_far c.loop-done.declared fuel) c.more.new.self b c.turn.new.u
     (so_far c.turn.new.declared n) in
     let turned = c.in_ok-turn.ensures.turns fuel (omega (arith, c.burn.ensures, c.if-fuel-eq0.false)) in
     let ends = subst (T false) (sym c.burn.ensures) (subst (λ b. T b (fuel - 1)) c.if-not-branch.true turned) in
@@ -45,7 +45,7 @@ loop-done-preserved c =
     let around = own_of (inward c.args.scopes.now) in
     let fuel = c.loop-done.fuel in
     let v = c.loop-done.invariant in
-    let T : Bool → ℕ → Type 0 = λ b n. DeclTurn c.args.config.now around (so_far c.loop-done.declared fuel) c.more.new.self b c.turn.new.u
+    let T : Bool → ℕ → Type 0 = λ b n. DeclTurn c.args.making.now.config.now around (so_far c.loop-done.declared fuel) c.more.new.self b c.turn.new.u
     (so_far c.turn.new.declared n) in
     let turned = c.in_ok-turn.ensures.turns fuel (omega (arith, c.burn.ensures, c.if-fuel-eq0.false)) in
     let one = subst (T true) (sym c.burn.ensures) (subst (λ b. T b (fuel - 1)) c.if-not-branch.false turned) in

@@ -12,7 +12,7 @@ use Rattle.smith_core_types.proofs.module_types.export.Goals as goal
 pub returns-in-None-clause-adds : goal.returns-in-None-clause-adds
 returns-in-None-clause-adds c around fuel =
     let s = so_far c.args.declared.now fuel in
-    let none = subst (λ e. MaybeEntity c.args.config.now s c.export_name.new.u e c.entity.new.u) c.in-None.is (c.in_ok-entity.ensures.reads fuel) in
+    let none = subst (λ e. MaybeEntity c.args.making.now.config.now s c.export_name.new.u e c.entity.new.u) c.in-None.is (c.in_ok-entity.ensures.reads fuel) in
     let N : List _ → Type 0 = λ ds. ReadsNewText (export_names (map shown_decl ds)) c.args.u.now (string_bytes c.in_ok-name.name) c.export_name.new.u in
     let R : List ℕ → Type 0 = λ r. ReadsExportName s c.args.u.now (string_bytes c.in_ok-name.name) r in
     ((string_bytes c.in_ok-name.name, subst R (sym none.1) (subst N c.deref.ensures.value c.in_ok-name.ensures.reads), none.0), refl)
@@ -20,7 +20,7 @@ returns-in-None-clause-adds c around fuel =
 pub returns-in_ok-push-in-Some-clause-adds : goal.returns-in_ok-push-in-Some-clause-adds
 returns-in_ok-push-in-Some-clause-adds c around fuel =
     let old = c.args.declared.now in
-    let some = subst (λ e. MaybeEntity c.args.config.now (so_far old fuel) c.export_name.new.u e c.entity.new.u) c.in-Some.is
+    let some = subst (λ e. MaybeEntity c.args.making.now.config.now (so_far old fuel) c.export_name.new.u e c.entity.new.u) c.in-Some.is
     (c.in_ok-entity.ensures.reads fuel) in
     let name = string_bytes c.in_ok-name.name in
     let N : List _ → Type 0 = λ ds. ReadsNewText (export_names (map shown_decl ds)) c.args.u.now name c.export_name.new.u in

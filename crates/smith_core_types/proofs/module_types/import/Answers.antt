@@ -14,7 +14,7 @@ use Rattle.smith_core_types.proofs.module_types.import.Goals as goal
 pub returns-in-None-clause-adds : goal.returns-in-None-clause-adds
 returns-in-None-clause-adds c around fuel =
     let s = so_far c.args.declared.now fuel in
-    let none = subst (λ e. MaybeEntity c.args.config.now s c.import_names.new.u e c.entity.new.u) c.in-None.is (c.in_ok-entity.ensures.reads fuel) in
+    let none = subst (λ e. MaybeEntity c.args.making.now.config.now s c.import_names.new.u e c.entity.new.u) c.in-None.is (c.in_ok-entity.ensures.reads fuel) in
     let from = string_bytes c.in_ok-module.module in
     let name = string_bytes c.in_ok-module.name in
     let N : List _ → Type 0 = λ ds. (mid : List ℕ) × ReadsText 100 c.args.u.now from mid
@@ -28,7 +28,7 @@ returns-in-None-clause-tail c = tail_trans c.in_ok-entity.ensures.tail c.in_ok-m
 pub returns-in_ok-push-in-Some-clause-adds : goal.returns-in_ok-push-in-Some-clause-adds
 returns-in_ok-push-in-Some-clause-adds c around fuel =
     let old = c.args.declared.now in
-    let some = subst (λ e. MaybeEntity c.args.config.now (so_far old fuel) c.import_names.new.u e c.entity.new.u) c.in-Some.is
+    let some = subst (λ e. MaybeEntity c.args.making.now.config.now (so_far old fuel) c.import_names.new.u e c.entity.new.u) c.in-Some.is
     (c.in_ok-entity.ensures.reads fuel) in
     let from = string_bytes c.in_ok-module.module in
     let name = string_bytes c.in_ok-module.name in

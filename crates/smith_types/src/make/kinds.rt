@@ -1,0 +1,84 @@
+//! A type of each kind, from the input.
+
+ghost use Rattle.std.specs.Prelude.{◌≡◌, ◌≤◌, ◌<◌};
+ghost use Rattle.std.specs.Prelude.{length, IfOk, IfErr};
+ghost use Rattle.smith_input.specs.Choices.{ReadsAmong};
+ghost use Rattle.smith_input.specs.Reading.{IsTail};
+ghost use Rattle.smith_syntax.specs.Shown.{full_type};
+ghost use Rattle.smith_types.specs.Made.{Made};
+ghost use Rattle.smith_types.specs.MakingTypes.{MadeKind};
+ghost use Rattle.smith_types.specs.Offers.{type_kinds};
+ghost use Rattle.smith_scopes.specs.Scopes.{own_scope, outer_scopes};
+ghost use Rattle.smith_types.specs.declared.make.TypeKind.TheVariants as kind;
+
+use super::defined::defined_type;
+use super::function::function_type;
+use super::making::Making;
+use super::scoped::{component_type, instance_type};
+use super::{TYPE_KINDS, TypeKind};
+use smith_core_types::burn;
+use smith_input::{Error, Unstructured};
+use smith_scopes::Scopes;
+use smith_syntax::DefType;
+use std::rc::Rc;
+
+// What kind of type is read: a defined type where no fuel is left, else one of four.
+fn type_kind(u: &mut Unstructured, fuel: u32) -> TypeKind
+    ensures spent { fuel ≡ 0 → (result ≡ kind.Defined) × (u.new ≡ u.old) }
+    ensures chosen { 0 < fuel → ReadsAmong type_kinds u.old result u.new }
+    ensures tail { IsTail u.new u.old }
+{
+    if fuel == 0 {
+        return TypeKind::Defined;
+    }
+    *u.choose(&TYPE_KINDS)
+}
+
+// A type of one kind.
+#[cycle(making)]
+fn type_of(
+    making: &Making,
+    u: &mut Unstructured,
+    scopes: &mut Scopes,
+    fuel: &mut u32,
+    kind: TypeKind,
+) -> Result<DefType, Error>
+    requires shallow { length scopes.old ≤ 1001 }
+    ensures made { IfOk result (λ t. MadeKind making.now.config.now (own_scope scopes.old) (outer_scopes scopes.old)
+        kind u.old fuel.old (full_type t) u.new fuel.new) }
+    ensures scopes { scopes.new ≡ scopes.old }
+    ensures memory { IfErr result (λ e. e ≡ Error.OutOfMemory) }
+    ensures tail { IsTail u.new u.old }
+{
+    match kind {
+        TypeKind::Defined => Ok(DefType::Defined(defined_type(making.alloc, u, scopes, fuel)?)),
+        TypeKind::Function => {
+            let func = function_type(making.alloc, u, scopes, fuel)?;
+            Ok(DefType::Func(Rc::new(making.alloc, func)?))
+        }
+        TypeKind::Component => component_type(making, u, scopes, fuel),
+        TypeKind::Instance => instance_type(making, u, scopes, fuel),
+    }
+}
+
+// A type, by the rules of `arbitrary_type`.
+#[cycle(making)]
+pub(super) fn made_type(
+    making: &Making,
+    u: &mut Unstructured,
+    scopes: &mut Scopes,
+    fuel: &mut u32,
+) -> Result<Rc<DefType>, Error>
+    requires shallow { length scopes.old ≤ 1001 }
+    ensures made { IfOk result (λ t. Made making.now.config.now (own_scope scopes.old) (outer_scopes scopes.old)
+        u.old fuel.old (full_type t.value) u.new fuel.new) }
+    ensures scopes { scopes.new ≡ scopes.old }
+    ensures memory { IfErr result (λ e. e ≡ Error.OutOfMemory) }
+    ensures tail { IsTail u.new u.old }
+{
+    burn(fuel);
+    let kind = type_kind(u, *fuel);
+    let made = type_of(making, u, scopes, fuel, kind)?;
+    let shared = Rc::new(making.alloc, made)?;
+    Ok(shared)
+}
