@@ -4,6 +4,7 @@ ghost use Rattle.std.specs.Prelude.{◌≡◌, ◌<◌, ◌≤◌, ◌&&◌, ◌
 ghost use Rattle.std.specs.Prelude.{slice_get, Some, MatchOption};
 ghost use Rattle.smith_input.specs.Choices.{ReadsAmong};
 ghost use Rattle.smith_input.specs.Reading.{IsTail};
+ghost use Rattle.smith_format.specs.Limits.{max_u32};
 ghost use Rattle.smith_syntax.specs.WellFormed.{FormedRef};
 ghost use Rattle.smith_types.specs.Offers.{IsAllowed, allows_equal, allows_one, has_place, ref_kinds, ref_places};
 ghost use Rattle.smith_types.specs.References.{MaybeRef, ref_to};
@@ -38,7 +39,7 @@ pub struct RefTotals {
 // How many entries of a kind there are.
 fn place_count(scopes: &Scopes, kind: RefKind) -> usize
     ensures count { result ≡ length (ref_places (own_scope scopes.now) kind) }
-    ensures few { result ≤ 4294967295 }
+    ensures few { result ≤ max_u32 }
 {
     match kind {
         RefKind::Module => scopes.kind_len(Kind::CoreModule),
@@ -52,7 +53,7 @@ fn place_count(scopes: &Scopes, kind: RefKind) -> usize
 // The index of the entry of a kind that has so many earlier ones.
 fn place_at(scopes: &Scopes, kind: RefKind, rank: usize) -> u32
     requires within { rank < length (ref_places (own_scope scopes.now) kind) }
-    requires few { rank < 4294967295 }
+    requires few { rank < max_u32 }
     ensures { slice_get (ref_places (own_scope scopes.now) kind) rank ≡ Some result }
 {
     match kind {
