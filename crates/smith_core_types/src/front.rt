@@ -56,8 +56,8 @@ fn function_of(
     ensures memory { IfErr result (λ e. e ≡ Error.OutOfMemory) }
 {
     let mut ty = FuncType {
-        params: Vec::new(alloc),
-        results: Vec::new(alloc),
+        params: Vec::with_capacity(alloc, params.len())?,
+        results: Vec::with_capacity(alloc, results.len())?,
     };
     ty.params.extend_from_slice(params)?;
     ty.results.extend_from_slice(results)?;
@@ -113,9 +113,10 @@ pub(crate) fn front(making: &Making, u: &mut Unstructured) -> Result<Declared, E
     ensures memory { IfErr result (λ e. e ≡ Error.OutOfMemory) }
     ensures tail { IsTail u.new u.old }
 {
+    // The three lines add two function types and five declarations at most.
     let mut declared = Declared {
-        own: Vec::new(making.alloc),
-        defs: Vec::new(making.alloc),
+        own: Vec::with_capacity(making.alloc, 2)?,
+        defs: Vec::with_capacity(making.alloc, 5)?,
     };
     memory_line(making, u, &mut declared)?;
     function_line(
