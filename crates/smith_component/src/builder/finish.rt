@@ -2,13 +2,11 @@
 
 ghost use Rattle.std.specs.Prelude.{◌≡◌, ◌≤◌, ℕ, List, [], IfOk, IfErr, OnOk};
 ghost use Rattle.smith_input.specs.Reading.{IsTail};
-ghost use Rattle.smith_component.specs.BuilderView.{building_of, stack_of, IsSound};
+ghost use Rattle.smith_component.specs.BuilderView.{stack_of, IsSound};
 ghost use Rattle.smith_component.specs.Counted.{count_of, minimum_of};
 ghost use Rattle.smith_component.specs.Limits.{Minima};
 ghost use Rattle.smith_component.specs.Refusals.{IsAnswered, IsFillRefusal, IsMinimum};
-ghost use Rattle.smith_component.specs.Steps.{next_of, step_of, AddsSections, ClosesSections, KeepsSections};
-ghost use Rattle.smith_component.specs.Steps.{SoundUnlessDone, StaysSound};
-ghost use Rattle.smith_component.specs.Turn.{Next, Closes, Does};
+ghost use Rattle.smith_component.specs.Steps.{ClosesInner, DoesItem, Grows};
 ghost use Rattle.smith_component.specs.Fills.{Fills, FillsAll};
 ghost use Rattle.smith_component.specs.declared.item.Item.TheVariants.{Finish};
 
@@ -47,9 +45,7 @@ impl Progress {
         requires sound { IsSound self.old }
         ensures filled { OnOk result
             (Fills what self.old.config (stack_of self.old) u.old (stack_of self.new).inner u.new) }
-        ensures sound { OnOk result (IsSound self.new) }
-        ensures keeps { OnOk result (self.new.config ≡ self.old.config) }
-        ensures sections { OnOk result (AddsSections (building_of self.old) (building_of self.new)) }
+        ensures grows { OnOk result (Grows self.old self.new) }
         ensures memory { IfErr result (λ e. e ≡ Error.OutOfMemory) }
         ensures nothing { minimum_of what self.old.config ≤ count_of what (stack_of self.old).inner
             → IsAnswered result }
@@ -80,9 +76,7 @@ impl Progress {
         ensures filled { OnOk result
             (FillsAll self.old.config (stack_of self.old) u.old (stack_of self.new).inner u.new) }
         ensures minima { OnOk result (Minima self.old.config (stack_of self.new).inner) }
-        ensures sound { OnOk result (IsSound self.new) }
-        ensures keeps { OnOk result (self.new.config ≡ self.old.config) }
-        ensures sections { OnOk result (AddsSections (building_of self.old) (building_of self.new)) }
+        ensures grows { OnOk result (Grows self.old self.new) }
         ensures refuses { IfErr result (IsFillRefusal self.old.config (stack_of self.old) u.old) }
         ensures nothing { Minima self.old.config (stack_of self.old).inner → IsAnswered result }
         ensures tail { IsTail u.new u.old }
@@ -99,10 +93,7 @@ impl Progress {
     fn close(&mut self) -> Result<Option<Component>, Error>
         requires sound { IsSound self.old }
         requires minima { Minima self.old.config (stack_of self.old).inner }
-        ensures closes { IfOk result (λ c. Closes (stack_of self.old) (next_of (step_of self.new c))) }
-        ensures sound { IfOk result (λ c. SoundUnlessDone self.new c) }
-        ensures keeps { IfOk result (λ c. StaysSound self.old.config (step_of self.new c)) }
-        ensures sections { IfOk result (λ c. ClosesSections (building_of self.old) (step_of self.new c)) }
+        ensures closes { IfOk result (λ c. ClosesInner self.old self.new c) }
         ensures memory { IfErr result (λ e. e ≡ Error.OutOfMemory) }
         ensures alone { (stack_of self.old).outer ≡ [] → IsAnswered result }
     {
@@ -124,11 +115,7 @@ impl Progress {
     // What lacks is added, and then the inner component is finished.
     pub(crate) fn finish(&mut self, u: &mut Unstructured) -> Result<Option<Component>, Error>
         requires sound { IsSound self.old }
-        ensures done { IfOk result
-            (λ c. Does self.old.config Finish (stack_of self.old) u.old (next_of (step_of self.new c)) u.new) }
-        ensures sound { IfOk result (λ c. SoundUnlessDone self.new c) }
-        ensures keeps { IfOk result (λ c. StaysSound self.old.config (step_of self.new c)) }
-        ensures sections { IfOk result (λ c. KeepsSections (building_of self.old) (step_of self.new c)) }
+        ensures does { IfOk result (λ c. DoesItem Finish self.old u.old self.new c u.new) }
         ensures refuses { IfErr result (IsFillRefusal self.old.config (stack_of self.old) u.old) }
         ensures alone { (stack_of self.old).outer ≡ [] → Minima self.old.config (stack_of self.old).inner
             → IsAnswered result }

@@ -1,10 +1,10 @@
 //! Components are opened.
 
-ghost use Rattle.std.specs.Prelude.{◌≡◌, IfErr, OnOk, IsTrue};
-ghost use Rattle.smith_component.specs.BuilderView.{building_of, stack_of, IsSound};
-ghost use Rattle.smith_component.specs.Steps.{OpensComponent};
-ghost use Rattle.smith_component.specs.Turn.{building, with_open};
+ghost use Rattle.std.specs.Prelude.{◌≡◌, ℕ, List, IfErr, IsTrue, None, OnOk};
+ghost use Rattle.smith_component.specs.BuilderView.{stack_of, IsSound};
+ghost use Rattle.smith_component.specs.Steps.{DoesItem};
 ghost use Rattle.smith_component.specs.Open.{is_component_offered};
+ghost use Rattle.smith_component.specs.declared.item.Item.TheVariants as item;
 
 use crate::builder::Progress;
 use crate::builder::open::OpenComponent;
@@ -16,10 +16,7 @@ impl Progress {
     pub(crate) fn open_component(&mut self) -> Result<(), Error>
         requires sound { IsSound self.old }
         requires offered { IsTrue (is_component_offered self.old.config (stack_of self.old)) }
-        ensures opened { OnOk result (building (stack_of self.new) ≡ with_open (stack_of self.old)) }
-        ensures sound { OnOk result (IsSound self.new) }
-        ensures keeps { OnOk result (self.new.config ≡ self.old.config) }
-        ensures sections { OnOk result (OpensComponent (building_of self.old) (building_of self.new)) }
+        ensures does { OnOk result ((b : List ℕ) → DoesItem item.Component self.old b self.new None b) }
         ensures memory { IfErr result (λ e. e ≡ Error.OutOfMemory) }
     {
         let opened = OpenComponent::new(self.alloc);

@@ -1,12 +1,11 @@
 //! Sections of what has a minimum.
 
-ghost use Rattle.std.specs.Prelude.{◌≡◌, ℕ, List, ◌+◌, ◌≤◌, IfErr, OnOk};
+ghost use Rattle.std.specs.Prelude.{◌≡◌, ℕ, List, ◌+◌, ◌≤◌, IfErr, None, OnOk};
 ghost use Rattle.smith_input.specs.Reading.{IsTail};
 ghost use Rattle.smith_component.specs.BuilderView.{building_of, stack_of, IsSound};
 ghost use Rattle.smith_component.specs.Counted.{count_of, item_for, maximum_of};
-ghost use Rattle.smith_component.specs.Steps.{AddsSections};
+ghost use Rattle.smith_component.specs.Steps.{DoesItem, Grows};
 ghost use Rattle.smith_component.specs.SectionValues.{AddsSection};
-ghost use Rattle.smith_component.specs.Turn.{building, AddsAny};
 
 use crate::builder::Progress;
 use crate::item::Counted;
@@ -24,9 +23,7 @@ impl Progress {
         requires room { count_of what (stack_of self.old).inner + min ≤ maximum_of what self.old.config }
         ensures added { OnOk result
             (AddsSection what self.old.config min (building_of self.old) u.old (building_of self.new) u.new) }
-        ensures sound { OnOk result (IsSound self.new) }
-        ensures keeps { OnOk result (self.new.config ≡ self.old.config) }
-        ensures sections { OnOk result (AddsSections (building_of self.old) (building_of self.new)) }
+        ensures grows { OnOk result (Grows self.old self.new) }
         ensures memory { IfErr result (λ e. e ≡ Error.OutOfMemory) }
         ensures tail { IsTail u.new u.old }
     {
@@ -40,13 +37,7 @@ impl Progress {
     // A turn that adds any number.
     pub(crate) fn section_turn(&mut self, what: Counted, u: &mut Unstructured) -> Result<(), Error>
         requires sound { IsSound self.old }
-        ensures added { OnOk result
-            (AddsAny what self.old.config (stack_of self.old) u.old (building (stack_of self.new)) u.new) }
-        ensures values { OnOk result
-            (AddsSection what self.old.config 0 (building_of self.old) u.old (building_of self.new) u.new) }
-        ensures sound { OnOk result (IsSound self.new) }
-        ensures keeps { OnOk result (self.new.config ≡ self.old.config) }
-        ensures sections { OnOk result (AddsSections (building_of self.old) (building_of self.new)) }
+        ensures does { OnOk result (DoesItem (item_for what) self.old u.old self.new None u.new) }
         ensures memory { IfErr result (λ e. e ≡ Error.OutOfMemory) }
         ensures tail { IsTail u.new u.old }
     {
