@@ -19,15 +19,15 @@ ghost use Rattle.smith_component.specs.declared.item.Item.TheVariants.{Finish, M
 
 mod canonicals;
 mod choose;
+mod counted;
 mod entries;
 mod finish;
 mod imports;
 mod nest;
 mod open;
-mod parts;
+mod sections;
 mod tables;
 mod totals;
-mod turns;
 
 use crate::component::Component;
 use crate::item::{Counted, Item};

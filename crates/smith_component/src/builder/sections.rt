@@ -1,4 +1,4 @@
-//! Parts that are added to the inner component.
+//! Sections that are added to the inner component.
 
 ghost use Rattle.std.specs.Prelude.{◌≡◌, ℕ, ◌+◌, ◌≤◌, List, length, IfErr, IsTrue, None, OnOk};
 ghost use Rattle.smith_input.specs.Reading.{IsTail};
