@@ -27,18 +27,19 @@ use Rattle.smith_syntax.specs.declared.types.DefinedType.{DefinedType}
 use Rattle.smith_syntax.proofs.Shown.{full_defined, full_func, full_component, full_instance}
 use Rattle.smith_types.specs.Lifting.{ReadsLifted}
 use Rattle.smith_types.specs.MakingTypes.{HoldsExterns}
-use Rattle.smith_scopes.specs.Scopes.{AddsType, Contents, last_of, own_scope}
+use Rattle.smith_scopes.specs.Scopes.{AddsType, Contents, last_of, outer_scopes, own_scope}
 use Rattle.smith_types.proofs.Declaring.{equal_shown}
 use Rattle.smith_scopes.proofs.Stack.{grown as scopes_grown, length-last}
 use Rattle.smith_component.specs.Canonicals.{CanonTurn, Growing, NoCanon, ReadsCanons, empty_section, equal_types, grown, spaces_at, with_canon, with_defined}
 use Rattle.smith_component.specs.Canonicals.{LiftsTo, to_equal, to_defined, given_up, ReadsLift, ReadsLower}
-use Rattle.smith_component.specs.CanonicalsState.{CanonicalsState, IsDrafted, IsLowered, KeepsFront, LiftsAs, growing}
+use Rattle.smith_component.specs.CanonicalsState.{CanonicalsState, DraftsOn, IsDraft, IsDrafted, IsLowered, KeepsFront, LiftsAs, SameLoans, growing}
 use Rattle.smith_component.specs.SectionValues.{externs_in, externs_of}
 use Rattle.smith_component.specs.Shown.{shown_canon, shown_sections}
 use Rattle.smith_component.specs.Tables.{AddsCoreFunction, AddsFunction, IsLowerable, Tabled}
 use Rattle.smith_component.specs.Spaces.{core_functions_of, function_count}
 use Rattle.smith_component.specs.Tree.{Tree, Canon, add, canons, types, lift, lower}
 use Rattle.smith_component.specs.WellFormed.{scope_of}
+use Rattle.smith_component.specs.declared.builder.canonicals.CanonicalDraft.{CanonicalDraft}
 use Rattle.smith_component.specs.declared.builder.open.OpenComponent.{OpenComponent}
 use Rattle.smith_component.specs.declared.builder.tables.Tables.{Tables}
 use Rattle.smith_component.specs.declared.component.Func.{Func}
@@ -96,19 +97,19 @@ module _ (old new : OpenComponent) (fs gs : List Func) (items b rest : List ℕ)
   pub lower_reads : ReadsLower (growing old fs) b rest (growing new gs)
   lower_reads = (f, subst (λ xs. ReadsAmong xs b f rest) (are ∙ tabled.scalars) (among chosen), growing_more old new fs gs (CanonLower f) same more)
 
-  pub lower_tabled : AddsCoreFunction old.tables f new.tables → Tabled new.tables (grown (growing new gs))
+  lower_tabled : AddsCoreFunction old.tables f new.tables → Tabled new.tables (grown (growing new gs))
   lower_tabled adds =
       let s : Growing = growing old fs in
       let scalar = scalar_at (grown s) chosen.0 f (ap (λ xs. slice_get xs chosen.0) (sym (are ∙ tabled.scalars)) ∙ chosen.2) in
       subst (λ z. Tabled new.tables (grown z)) (sym (growing_more old new fs gs (CanonLower f) same more)) (tabled_lower s f scalar tabled adds)
 
--- A component stays a draft where a function is lowered.
-pub lower_draft : (old new : OpenComponent) (fs gs : List Func) (scopes : List Contents) (b rest : List ℕ) → CanonicalsState scopes old fs
-    → ReadsLower (growing old fs) b rest (growing new gs) → Tabled new.tables (grown (growing new gs)) → CanonicalsState scopes new gs
-lower_draft old new fs gs scopes b rest d (f, among, e) tabled = record {
-  scope_is = d.scope_is ∙ sym (ap (λ z. scope_of (grown z)) e ∙ scope_canon (growing old fs) (lower f));
-  tabled = tabled;
-}
+  pub lower_draft : (scopes : List Contents) → CanonicalsState scopes old fs → AddsCoreFunction old.tables f new.tables → CanonicalsState scopes new gs
+  lower_draft scopes d adds =
+      let e = growing_more old new fs gs (CanonLower f) same more in
+      record {
+        scope_is = d.scope_is ∙ sym (ap (λ z. scope_of (grown z)) e ∙ scope_canon (growing old fs) (lower f));
+        tabled = lower_tabled adds;
+      }
 
 -- The function type of the component function that a core function lowers.
 
@@ -368,6 +369,34 @@ pub front_push : (old mid new : OpenComponent) (section : Section) → KeepsFron
     → externs_in section ≡ [] → new.tables.imports ≡ mid.tables.imports → KeepsFront old new
 front_push old mid new section f e none names =
     front_then old mid new f (record { more = section ∷ []; sections = e; no_imports = ap (λ xs. xs ++ []) none; names = names })
+
+-- A draft that goes on, and on again.
+
+pub drafts_none : (d : CanonicalDraft) → IsDraft d → DraftsOn d d
+drafts_none d draft = record { draft = draft; front = front_same d.component.now d.component.now refl refl; outer = refl; depth = refl }
+
+pub loans_then : {a b c : CanonicalDraft} → SameLoans a b → SameLoans b c → SameLoans a c
+loans_then f g = record {
+  config = g.config ∙ f.config;
+  scopes = g.scopes ∙ f.scopes;
+  component = g.component ∙ f.component;
+  funcs = g.funcs ∙ f.funcs;
+}
+
+pub drafts_then : {a b c : CanonicalDraft} → DraftsOn a b → DraftsOn b c → DraftsOn a c
+drafts_then {a} {b} {c} f g = record {
+  draft = g.draft;
+  front = front_then a.component.now b.component.now c.component.now f.front g.front;
+  outer = g.outer ∙ f.outer;
+  depth = g.depth ∙ f.depth;
+}
+
+-- A type more leaves the scopes around the last one as they are.
+pub scopes_around : (old new : List Contents) (ty : DefType) → AddsType old ty new → (outer_scopes new ≡ outer_scopes old) × (length new ≡ length old)
+scopes_around old new ty a = (
+  (scopes_grown old new ty a).outer,
+  omega (arith, ap length a.before, ap length a.after, length-append a.outer (a.own ∷ []), length-append a.outer (_ ∷ [])),
+)
 
 -- A draft's names are those of its imports then.
 pub front_externs : (old new : OpenComponent) → KeepsFront old new → HoldsExterns old.tables.imports (externs_of old.sections.items)

@@ -1,5 +1,5 @@
 -- Imports as they are counted: each finds room, and the counts grow with the section.
-use Rattle.std.proofs.Common.{◌≡◌, ℕ, ◌+◌, ◌≤◌, ◌&&◌, max, Bool, true, false, List, [], ◌∷◌, ◌++◌, length, arith, sym, ap, subst, length-append, nat_lt}
+use Rattle.std.proofs.Common.{◌≡◌, ℕ, ◌+◌, ◌≤◌, ◌&&◌, max, Bool, true, false, List, [], ◌∷◌, ◌++◌, length, arith, sym, ap, subst, ◌∙◌, length-append, nat_lt}
 use Rattle.std.specs.List.{flat_map}
 use Rattle.std.proofs.lemmas.Bool.{false≢true}
 use Rattle.std.proofs.lemmas.Bool.Decides.{nat_tests}
@@ -84,32 +84,25 @@ module _ (stack : Open) (s : List ImportEntry) (x : ImportEntry) where
   abbrev more : List ImportEntry
   more = s ++ x ∷ []
 
+  length_more : (of : ComponentTypeRef → List ℕ)
+      → length (flat_map (λ (i : ImportEntry). of i.to) more) ≡ length (flat_map (λ (i : ImportEntry). of i.to) s) + length (of x.to)
+  length_more of =
+      ap length (flat_map_more (λ (i : ImportEntry). of i.to) s x) ∙ length-append (flat_map (λ (i : ImportEntry). of i.to) s) (of x.to)
+
   pub modules_more : (totals_of (with_imports stack more)).modules ≡ (totals_of (with_imports stack s)).modules + length (module_of x.to)
-  modules_more = omega (
-    arith,
-    module_count-so_far stack.outer stack.inner (imports s),
-    module_count-so_far stack.outer stack.inner (imports more),
-    ap length (flat_map_more (λ (i : ImportEntry). module_of i.to) s x),
-    length-append (flat_map (λ (i : ImportEntry). module_of i.to) s) (module_of x.to),
-  )
+  modules_more =
+      let count = module_count-so_far stack.outer stack.inner in
+      omega (arith, count (imports s), count (imports more), length_more module_of)
 
   pub components_more : (totals_of (with_imports stack more)).components ≡ (totals_of (with_imports stack s)).components + length (component_of x.to)
-  components_more = omega (
-    arith,
-    component_count-so_far stack.outer stack.inner (imports s),
-    component_count-so_far stack.outer stack.inner (imports more),
-    ap length (flat_map_more (λ (i : ImportEntry). component_of i.to) s x),
-    length-append (flat_map (λ (i : ImportEntry). component_of i.to) s) (component_of x.to),
-  )
+  components_more =
+      let count = component_count-so_far stack.outer stack.inner in
+      omega (arith, count (imports s), count (imports more), length_more component_of)
 
   pub instances_more : (totals_of (with_imports stack more)).instances ≡ (totals_of (with_imports stack s)).instances + length (instance_of x.to)
-  instances_more = omega (
-    arith,
-    instance_count-so_far stack.outer stack.inner (imports s),
-    instance_count-so_far stack.outer stack.inner (imports more),
-    ap length (flat_map_more (λ (i : ImportEntry). instance_of i.to) s x),
-    length-append (flat_map (λ (i : ImportEntry). instance_of i.to) s) (instance_of x.to),
-  )
+  instances_more =
+      let count = instance_count-so_far stack.outer stack.inner in
+      omega (arith, count (imports s), count (imports more), length_more instance_of)
 
   pub funcs_more : (totals_of (with_imports stack more)).funcs ≡ (totals_of (with_imports stack s)).funcs + length (function_of x.to)
   funcs_more = omega (

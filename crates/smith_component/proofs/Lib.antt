@@ -12,6 +12,7 @@ pub mod Growth
 pub mod ImportsState
 pub mod ImportsRead
 pub mod ImportsSame
+pub mod Items
 pub mod MadeWith
 pub mod PartsRead
 pub mod Plans

@@ -1,14 +1,14 @@
 -- What a step leads to.
-use Rattle.std.specs.Prelude.{◌≡◌, ℕ, ◌⊎◌, List, [], ◌∷◌, ◌++◌, Option, Some, None}
+use Rattle.std.specs.Prelude.{◌≡◌, ℕ, ◌⊎◌, List, [], ◌∷◌, ◌++◌, Option, Some, None, IsTrue}
 use Rattle.smith_input.specs.Choices.{ReadsAmong}
 use Rattle.smith_format.specs.declared.config.Config.{Config}
-use Rattle.smith_component.specs.Open.{items}
+use Rattle.smith_component.specs.Open.{Open, is_component_offered, is_module_offered, items}
 use Rattle.smith_component.specs.SectionValues.{AddsCoreTypeSection, AddsImportSection, AddsModule, AddsTypeSection}
-use Rattle.smith_component.specs.Turn.{Next, building, answered}
+use Rattle.smith_component.specs.Turn.{Next, building, answered, Closes, Does}
 use Rattle.smith_component.specs.WellFormed.{WellFormed}
 use Rattle.smith_component.specs.Limits.{Limits, Sized}
 use Rattle.smith_component.specs.Building.{Building, open_of}
-use Rattle.smith_component.specs.BuilderView.{building_of, IsSound}
+use Rattle.smith_component.specs.BuilderView.{building_of, stack_of, IsSound}
 use Rattle.smith_component.specs.Shown.{shown_sections}
 use Rattle.smith_component.specs.Tree.{Tree}
 use Rattle.smith_component.specs.declared.builder.Progress.{Progress}
@@ -84,3 +84,34 @@ step_of b (Some c) = Finished c
 abbrev pub SoundUnlessDone : Progress → Option Tree → Type 0
 SoundUnlessDone b None = IsSound b
 SoundUnlessDone b (Some c) = Unit {0}
+
+-- The inner component alone has grown, by sections after those that it had.
+pub record Grows (old new : Progress) : Type 0 where
+  pub sound : IsSound new
+  pub keeps : new.config ≡ old.config
+  pub sections : AddsSections (building_of old) (building_of new)
+
+-- It has grown by this section.
+pub record GrowsBy (section : Section) (old new : Progress) : Type 0 where
+  pub grows : Grows old new
+  pub last : new.inner.sections.items ≡ old.inner.sections.items ++ section ∷ []
+
+-- The inner component was closed, and c is the root, if it was that.
+pub record ClosesInner (old new : Progress) (c : Option Tree) : Type 0 where
+  pub closes : Closes (stack_of old) (next_of (step_of new c))
+  pub sound : SoundUnlessDone new c
+  pub keeps : StaysSound old.config (step_of new c)
+  pub sections : ClosesSections (building_of old) (step_of new c)
+
+-- An item was done on the bytes b, and c is the component that it finished, if any.
+pub record DoesItem (item : Item) (old : Progress) (b : List ℕ) (new : Progress) (c : Option Tree) (rest : List ℕ) : Type 0 where
+  pub does : Does old.config item (stack_of old) b (next_of (step_of new c)) rest
+  pub values : AddsValues old.config item (building_of old) b (step_of new c) rest
+  pub sound : SoundUnlessDone new c
+  pub keeps : StaysSound old.config (step_of new c)
+  pub sections : KeepsSections (building_of old) (step_of new c)
+
+-- Core modules and components are offered where the limits leave room for one.
+abbrev pub IsOffered : Config → Open → Item → Type 0
+IsOffered config stack chosen =
+    (chosen ≡ item.Module → IsTrue (is_module_offered config stack)) × (chosen ≡ item.Component → IsTrue (is_component_offered config stack))

@@ -1,32 +1,33 @@
 //! The builder, turn by turn.
 
-ghost use Rattle.std.specs.Prelude.{◌≡◌, ℕ, List, ◌+◌, ◌≤◌, length, IfOk, IfErr};
+ghost use Rattle.std.specs.Prelude.{◌≡◌, ℕ, List, [], ◌+◌, ◌≤◌, length, IfOk, IfErr};
 ghost use Rattle.smith_input.specs.Reading.{IsTail};
 ghost use Rattle.smith_format.specs.Limits.{IsConsistent};
 ghost use Rattle.smith_component.specs.Building.{open_of};
 ghost use Rattle.smith_component.specs.BuilderView.{building_of, stack_of, IsSound};
 ghost use Rattle.smith_component.specs.Filling.{CanFill};
-ghost use Rattle.smith_component.specs.Limits.{max_depth};
+ghost use Rattle.smith_component.specs.Limits.{max_depth, Minima};
 ghost use Rattle.smith_component.specs.Refusals.{IsAnswered, IsChosen, IsNewRefusal, IsReady, IsStepRefusal};
 ghost use Rattle.smith_component.specs.Shown.{shown_sections};
-ghost use Rattle.smith_component.specs.Steps.{next_of, step_of, KeepsSections, SoundUnlessDone, StaysSound, TurnAdds};
+ghost use Rattle.smith_component.specs.Steps.{next_of, step_of, DoesItem, IsOffered, KeepsSections, SoundUnlessDone};
+ghost use Rattle.smith_component.specs.Steps.{StaysSound, TurnAdds};
 ghost use Rattle.smith_component.specs.Tree.{ends};
 ghost use Rattle.smith_component.specs.Turn.{Next, Turn};
 ghost use Rattle.smith_component.specs.Runs.{Falls};
 ghost use Rattle.smith_component.specs.Open.{root};
-ghost use Rattle.smith_component.specs.declared.item.Item.TheVariants.{Module};
+ghost use Rattle.smith_component.specs.declared.item.Item.TheVariants.{Finish, Module};
 
 mod canonicals;
 mod choose;
+mod counted;
 mod entries;
 mod finish;
 mod imports;
 mod nest;
 mod open;
-mod parts;
+mod sections;
 mod tables;
 mod totals;
-mod turns;
 
 use crate::component::Component;
 use crate::item::{Counted, Item};
@@ -120,37 +121,33 @@ impl Progress {
         ensures alone { IsReady self.old.config (stack_of self.old) u.old → IsAnswered result }
         ensures tail { IsTail u.new u.old }
     {
-        match self.choose_item(u) {
-            Item::Finish => self.finish(u),
-            Item::Custom => {
-                self.add_custom(u)?;
-                Ok(None)
-            }
-            Item::CoreTypes => {
-                self.add_core_types(u)?;
-                Ok(None)
-            }
-            Item::Types => {
-                self.section_turn(Counted::Types, u)?;
-                Ok(None)
-            }
-            Item::Imports => {
-                self.section_turn(Counted::Imports, u)?;
-                Ok(None)
-            }
-            Item::Canonical => {
-                self.section_turn(Counted::Functions, u)?;
-                Ok(None)
-            }
-            Item::Module => {
-                self.add_module(u)?;
-                Ok(None)
-            }
-            Item::Component => {
-                self.open_component()?;
-                Ok(None)
-            }
+        let item = self.choose_item(u);
+        self.do_item(item, u)
+    }
+
+    // What was chosen is done. It answers the component, if that is finished.
+    fn do_item(&mut self, item: Item, u: &mut Unstructured) -> Result<Option<Component>, Error>
+        requires sound { IsSound self.old }
+        requires offered { IsOffered self.old.config (stack_of self.old) item }
+        ensures does { IfOk result (λ c. DoesItem item self.old u.old self.new c u.new) }
+        ensures refuses { (left : List ℕ) → IsChosen self.old.config (stack_of self.old) left item u.old
+            → IfErr result (IsStepRefusal self.old.config (stack_of self.old) left) }
+        ensures unread { IfErr result (λ e. e ≡ Error.ModuleRefused → (item ≡ Module) × (u.new ≡ u.old)) }
+        ensures alone { item ≡ Finish → (stack_of self.old).outer ≡ []
+            → Minima self.old.config (stack_of self.old).inner → IsAnswered result }
+        ensures tail { IsTail u.new u.old }
+    {
+        match item {
+            Item::Finish => return self.finish(u),
+            Item::Custom => self.add_custom(u)?,
+            Item::CoreTypes => self.add_core_types(u)?,
+            Item::Types => self.section_turn(Counted::Types, u)?,
+            Item::Imports => self.section_turn(Counted::Imports, u)?,
+            Item::Canonical => self.section_turn(Counted::Functions, u)?,
+            Item::Module => self.add_module(u)?,
+            Item::Component => self.open_component()?,
         }
+        Ok(None)
     }
 }
 

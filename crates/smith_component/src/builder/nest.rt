@@ -1,13 +1,16 @@
-//! Components are opened.
+//! Components are opened and closed.
 
-ghost use Rattle.std.specs.Prelude.{◌≡◌, IfErr, OnOk, IsTrue};
-ghost use Rattle.smith_component.specs.BuilderView.{building_of, stack_of, IsSound};
-ghost use Rattle.smith_component.specs.Steps.{OpensComponent};
-ghost use Rattle.smith_component.specs.Turn.{building, with_open};
+ghost use Rattle.std.specs.Prelude.{◌≡◌, ℕ, List, [], IfErr, IfOk, IsTrue, None, OnOk};
+ghost use Rattle.smith_component.specs.BuilderView.{stack_of, IsSound};
+ghost use Rattle.smith_component.specs.Limits.{Minima};
 ghost use Rattle.smith_component.specs.Open.{is_component_offered};
+ghost use Rattle.smith_component.specs.Refusals.{IsAnswered};
+ghost use Rattle.smith_component.specs.Steps.{ClosesInner, DoesItem};
+ghost use Rattle.smith_component.specs.declared.item.Item.TheVariants as item;
 
 use crate::builder::Progress;
 use crate::builder::open::OpenComponent;
+use crate::component::{Component, Section};
 use smith_input::Error;
 use std::mem;
 
@@ -16,10 +19,7 @@ impl Progress {
     pub(crate) fn open_component(&mut self) -> Result<(), Error>
         requires sound { IsSound self.old }
         requires offered { IsTrue (is_component_offered self.old.config (stack_of self.old)) }
-        ensures opened { OnOk result (building (stack_of self.new) ≡ with_open (stack_of self.old)) }
-        ensures sound { OnOk result (IsSound self.new) }
-        ensures keeps { OnOk result (self.new.config ≡ self.old.config) }
-        ensures sections { OnOk result (OpensComponent (building_of self.old) (building_of self.new)) }
+        ensures does { OnOk result ((b : List ℕ) → DoesItem item.Component self.old b self.new None b) }
         ensures memory { IfErr result (λ e. e ≡ Error.OutOfMemory) }
     {
         let opened = OpenComponent::new(self.alloc);
@@ -28,5 +28,28 @@ impl Progress {
         self.outer.push(around)?;
         self.totals.components += 1;
         Ok(())
+    }
+
+    // The inner component becomes a section of the one around it, and the root is the answer.
+    pub(super) fn close(&mut self) -> Result<Option<Component>, Error>
+        requires sound { IsSound self.old }
+        requires minima { Minima self.old.config (stack_of self.old).inner }
+        ensures closes { IfOk result (λ c. ClosesInner self.old self.new c) }
+        ensures memory { IfErr result (λ e. e ≡ Error.OutOfMemory) }
+        ensures alone { (stack_of self.old).outer ≡ [] → IsAnswered result }
+    {
+        match self.outer.pop() {
+            None => {
+                let root = mem::replace(&mut self.inner.sections, Vec::new(self.alloc));
+                Ok(Some(Component::of(root)))
+            }
+            Some(parent) => {
+                let finished = mem::replace(&mut self.inner, parent);
+                let component = Component::of(finished.sections);
+                self.inner.push(Section::Component(component))?;
+                self.scopes.close_scope();
+                Ok(None)
+            }
+        }
     }
 }

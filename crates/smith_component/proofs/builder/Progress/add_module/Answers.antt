@@ -1,6 +1,9 @@
 use Rattle.std.proofs.Common.{refl}
-use Rattle.std.proofs.lemmas.Result.{IfOk-weaker}
-use Rattle.smith_component.specs.BuilderView.{stack_of}
+use Rattle.std.proofs.lemmas.Result.{on_ok_weaker}
+use Rattle.smith_component.specs.BuilderView.{building_of, stack_of}
+use Rattle.smith_component.specs.declared.builder.Progress.{Progress}
+use Rattle.smith_component.specs.declared.item.Item.TheVariants.{Module}
+use Rattle.smith_component.proofs.Items.{grown_does, part_added}
 use Rattle.smith_component.proofs.Sound.{addable_module, module_offered_is}
 use Rattle.smith_component.proofs.builder.Progress.add_module.Goals as goal
 
@@ -12,11 +15,11 @@ add_section-requires c =
       addable = addable_module _ _ _ (module_offered_is c.args.self.now.config (stack_of c.args.self.now) c.requires.offered);
     }
 
-pub returns-clause-added : goal.returns-clause-added
-returns-clause-added c =
-    IfOk-weaker c.add_section.result _ _ (λ s h. (c.in_ok-module.module, c.in_ok-module.ensures.reads, h)) c.add_section.ensures.added
-
-pub returns-clause-values : goal.returns-clause-values
-returns-clause-values c =
-    IfOk-weaker c.add_section.result _ _ (λ s h. record { parts = c.in_ok-module.module; added = h; reads = c.in_ok-module.ensures.reads })
-    c.add_section.ensures.last
+pub returns-clause-does : goal.returns-clause-does
+returns-clause-does c =
+    let new : Progress = c.add_section.new.self in
+    let made = c.in_ok-module.module in
+    let reads = c.in_ok-module.ensures.reads in
+    on_ok_weaker c.add_section.result (λ g. grown_does Module c.args.self.now new c.args.u.now c.new_internal.new.u g.grows
+    (made, reads, part_added _ _ _ g) (building_of new, refl, record { parts = made; added = g.last; reads = reads }))
+    c.add_section.ensures.grows

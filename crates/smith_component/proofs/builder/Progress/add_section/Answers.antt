@@ -1,4 +1,4 @@
-use Rattle.std.proofs.Common.{◌∷◌, sym, subst, ap, ◌∙◌, arith, length}
+use Rattle.std.proofs.Common.{[], ◌∷◌, sym, subst, ap, ◌∙◌, refl, arith, length}
 use Rattle.smith_component.specs.BuilderView.{stack_of}
 use Rattle.smith_component.specs.Open.{scopes_in, with_inner}
 use Rattle.smith_component.specs.Shown.{shown_section}
@@ -21,8 +21,8 @@ overflow_add-self c =
     let few = a.modules i.sound.maxima.modules in
     omega (arith, few, i.totalled.modules, c.module_count-modules.ensures, i.sound.consistent.modules)
 
-pub returns-clause-sound : goal.returns-clause-sound
-returns-clause-sound c =
+pub returns-clause-grows : goal.returns-clause-grows
+returns-clause-grows c =
     let b = c.args.self.now in
     let stack = stack_of b in
     let p = shown_section c.args.section in
@@ -31,19 +31,28 @@ returns-clause-sound c =
     let i = c.requires.sound in
     let new = c.in_ok-push.ensures.ok in
     let same = q.spaces (spaces_of stack.inner) in
-    let none = none_imported p q.imports in (
-      record {
-        sound = subst (λ t. Sound b.config (with_inner stack t)) (sym new) (part_sound b.config stack p a i.0.sound);
-        valtypes_are = i.0.valtypes_are;
-        scopes_are = i.0.scopes_are ∙ ap (λ s. s ∷ scopes_in stack.outer) (sym (ap scope_of new ∙ (scope-add stack.inner p ∙ ap scope_at same)));
-        totalled =
-            totalled_part b.config stack.outer stack.inner _ b.totals _ p a.no_component new (omega (arith, c.module_count-modules.ensures, ap length none.0))
-            (omega (arith, ap length none.1)) (omega (arith, ap length none.2))
-            i.0.totalled;
-      },
-      (
-        is_tabled_added b.inner c.push.new.self c.args.section c.in_ok-push.ensures.items c.push.ensures.tables (ap (λ s. s.functions) same)
-            (ap (λ s. s.core_functions) same) q.imports i.1.0,
-        i.1.1,
-      ),
-    )
+    let none = none_imported p q.imports in
+    record {
+      grows = record {
+        sound = (
+          record {
+            sound = subst (λ t. Sound b.config (with_inner stack t)) (sym new) (part_sound b.config stack p a i.0.sound);
+            valtypes_are = i.0.valtypes_are;
+            scopes_are = i.0.scopes_are ∙ ap (λ s. s ∷ scopes_in stack.outer) (sym (ap scope_of new ∙ (scope-add stack.inner p ∙ ap scope_at same)));
+            totalled =
+                totalled_part b.config stack.outer stack.inner _ b.totals _ p a.no_component new
+                (omega (arith, c.module_count-modules.ensures, ap length none.0))
+                (omega (arith, ap length none.1)) (omega (arith, ap length none.2))
+                i.0.totalled;
+          },
+          (
+            is_tabled_added b.inner c.push.new.self c.args.section c.in_ok-push.ensures.items c.push.ensures.tables (ap (λ s. s.functions) same)
+                (ap (λ s. s.core_functions) same) q.imports i.1.0,
+            i.1.1,
+          ),
+        );
+        keeps = refl;
+        sections = record { more = c.args.section ∷ []; outer = refl; inner = c.in_ok-push.ensures.items };
+      };
+      last = c.in_ok-push.ensures.items;
+    }

@@ -44,8 +44,8 @@ close_scope-requires c =
       length-append (trees_of c.pop.new.self.items) (shown_sections c.in-Some.parent.sections.items ∷ []),
     )
 
-pub returns-in_ok-push-in-Some-clause-sound : goal.returns-in_ok-push-in-Some-clause-sound
-returns-in_ok-push-in-Some-clause-sound c =
+pub returns-in_ok-push-in-Some-clause-closes : goal.returns-in_ok-push-in-Some-clause-closes
+returns-in_ok-push-in-Some-clause-closes c =
     let b = c.args.self.now in
     let i = c.requires.sound in
     let outers : List Tree = trees_of c.pop.new.self.items in
@@ -62,57 +62,42 @@ returns-in_ok-push-in-Some-clause-sound c =
     let last = all_back IsTabled c.pop.new.self.items (c.in-Some.parent ∷ []) all in
     let tables = c.push.ensures.tables ∙ ap (λ (o : OpenComponent). o.tables) c.replace-finished.ensures.after in
     let items = c.in_ok-push-in-Some.ensures.items ∙ ap (λ (o : OpenComponent). o.sections.items ++ inner_section c.of-component.result ∷ [])
-    c.replace-finished.ensures.after in (
-      record {
-        sound = subst (λ t. Sound b.config (record { outer = outers; inner = t })) (sym new)
-            (sound_close b.config outers parent inner enough (subst (λ us. Sound b.config (record { outer = us; inner = inner })) around i.0.sound));
-        valtypes_are = i.0.valtypes_are;
-        scopes_are = rest ∙ (scopes_from-snoc outers parent [] ∙ ap (λ s. s ∷ scopes_in outers) (sym (ap scope_of new ∙ scope-add parent (component inner))));
-        totalled = totalled_close outers _ parent inner _ b.totals around new i.0.totalled;
-      },
-      (
-        is_tabled_added c.in-Some.parent c.push.new.self _ items tables refl refl refl last.0,
-        all_front IsTabled c.pop.new.self.items (c.in-Some.parent ∷ []) all,
-      ),
-    )
-
-pub returns-in_ok-push-in-Some-clause-closes : goal.returns-in_ok-push-in-Some-clause-closes
-returns-in_ok-push-in-Some-clause-closes c =
-    let parent : Tree = shown_sections c.in-Some.parent.sections.items in
-    let finished = c.of-component.ensures ∙ ap (λ (o : OpenComponent). shown_sections o.sections.items) c.replace-finished.ensures.value in
-    let new = around_grown _ _ _ _ c.replace-finished.ensures.after c.in_ok-push-in-Some.ensures.ok ∙ ap (λ t. add parent (component t)) finished in
-    (closes _ _ _ _ _ (outer_popped _ _ _ c.in-Some.ensures.items) new)
-
-pub returns-in-None-clause-keeps : goal.returns-in-None-clause-keeps
-returns-in-None-clause-keeps c =
-    let b = c.args.self.now in
-    let is = c.of.ensures ∙ ap (λ v. shown_sections v.items) c.replace-root.ensures.value in
-    root_kept _ _ _ c.of.result (none_open _ (omega (arith, b.outer.ok.0, c.in-None.ensures.cases.0))) (sym is) c.requires.minima c.requires.sound.0.sound
+    c.replace-finished.ensures.after in
+    let sections : OpenComponent → List Section = λ o. o.sections.items in
+    let under = ap (map sections) c.in-Some.ensures.items ∙ map-append sections c.pop.new.self.items (c.in-Some.parent ∷ []) in
+    let whole = finished ∙ ap shown_sections (sym (append-nil b.inner.sections.items)) in
+    record {
+      closes = closes _ _ _ _ _ around new;
+      sound = (
+        record {
+          sound = subst (λ t. Sound b.config (record { outer = outers; inner = t })) (sym new)
+              (sound_close b.config outers parent inner enough (subst (λ us. Sound b.config (record { outer = us; inner = inner })) around i.0.sound));
+          valtypes_are = i.0.valtypes_are;
+          scopes_are = rest ∙ (scopes_from-snoc outers parent [] ∙ ap (λ s. s ∷ scopes_in outers) (sym (ap scope_of new ∙ scope-add parent (component inner))));
+          totalled = totalled_close outers _ parent inner _ b.totals around new i.0.totalled;
+        },
+        (
+          is_tabled_added c.in-Some.parent c.push.new.self _ items tables refl refl refl last.0,
+          all_front IsTabled c.pop.new.self.items (c.in-Some.parent ∷ []) all,
+        ),
+      );
+      keeps = refl;
+      sections = record {
+        parent = sections c.in-Some.parent;
+        more = [];
+        outer = under;
+        inner = items ∙ ap (λ t. sections c.in-Some.parent ++ inner_section t ∷ []) whole;
+      };
+    }
 
 pub returns-in-None-clause-closes : goal.returns-in-None-clause-closes
 returns-in-None-clause-closes c =
     let b = c.args.self.now in
     let is = c.of.ensures ∙ ap (λ v. shown_sections v.items) c.replace-root.ensures.value in
-    inl (none_open _ (omega (arith, b.outer.ok.0, c.in-None.ensures.cases.0)), ap answered is)
-
-pub returns-in-None-clause-sections : goal.returns-in-None-clause-sections
-returns-in-None-clause-sections c =
-    let b = c.args.self.now in
-    let is = c.of.ensures ∙ ap (λ v. shown_sections v.items) c.replace-root.ensures.value in
-    (none_around b.outer.items (omega (arith, b.outer.ok.0, c.in-None.ensures.cases.0)), [], is ∙ ap shown_sections (sym (append-nil b.inner.sections.items)))
-
-pub returns-in_ok-push-in-Some-clause-sections : goal.returns-in_ok-push-in-Some-clause-sections
-returns-in_ok-push-in-Some-clause-sections c =
-    let b = c.args.self.now in
-    let sections : OpenComponent → List Section = λ o. o.sections.items in
-    let around = ap (map sections) c.in-Some.ensures.items ∙ map-append sections c.pop.new.self.items (c.in-Some.parent ∷ []) in
-    let finished = c.of-component.ensures ∙ (ap (λ (o : OpenComponent). shown_sections o.sections.items) c.replace-finished.ensures.value
-    ∙ ap shown_sections (sym (append-nil b.inner.sections.items))) in
-    let grown = c.in_ok-push-in-Some.ensures.items ∙ ap (λ (o : OpenComponent). o.sections.items ++ inner_section c.of-component.result ∷ [])
-    c.replace-finished.ensures.after in
-    (record {
-      parent = sections c.in-Some.parent;
-      more = [];
-      outer = around;
-      inner = grown ∙ ap (λ t. sections c.in-Some.parent ++ inner_section t ∷ []) finished;
-    })
+    let alone : length b.outer.items ≡ 0 = omega (arith, b.outer.ok.0, c.in-None.ensures.cases.0) in
+    record {
+      closes = inl (none_open _ alone, ap answered is);
+      sound = tt;
+      keeps = root_kept _ _ _ c.of.result (none_open _ alone) (sym is) c.requires.minima c.requires.sound.0.sound;
+      sections = (none_around b.outer.items alone, [], is ∙ ap shown_sections (sym (append-nil b.inner.sections.items)));
+    }

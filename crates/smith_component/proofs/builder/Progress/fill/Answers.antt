@@ -10,7 +10,8 @@ use Rattle.smith_component.specs.Tree.{Tree, imports_of}
 use Rattle.smith_component.specs.Fills.{Fills, FillsAll, of_imports, of_functions}
 use Rattle.smith_component.specs.declared.item.Counted.{Counted}
 use Rattle.smith_component.specs.declared.item.Counted.TheVariants as counted
-use Rattle.smith_component.proofs.Finishing.{refused, adds_trans, moved, filled_minima}
+use Rattle.smith_component.proofs.Finishing.{refused, moved, filled_minima}
+use Rattle.smith_component.proofs.Items.{grows_trans}
 use Rattle.smith_component.proofs.builder.Progress.fill.Goals as goal
 
 -- What is filled, in the terms of the builder that all began with.
@@ -26,8 +27,8 @@ returns-in_err-check_minimum-clause-refuses c =
     let t = c.in_ok-fill_one.ensures in
     let i = c.in_ok-fill_one-2.ensures in
     let e = c.in_err-check_minimum.ensures in
-    let filled = from_first counted.Imports v typed t.keeps t.sections.outer i.filled in
-    let few = subst (λ (k : Config). length (imports_of (open_of imported).inner) < k.min_imports) (i.keeps ∙ t.keeps) e.1 in
+    let filled = from_first counted.Imports v typed t.grows.keeps t.grows.sections.outer i.filled in
+    let few = subst (λ (k : Config). length (imports_of (open_of imported).inner) < k.min_imports) (i.grows.keeps ∙ t.grows.keeps) e.1 in
     refused _ _ (IsFillRefusal v.config (open_of v) c.args.u.now) c.from_residual-in_err-check_minimum.ensures.1
     (subst (IsFillRefusal v.config (open_of v) c.args.u.now) (sym e.0) (of_imports t.filled filled few))
 
@@ -47,10 +48,11 @@ returns-in_err-check_minimum-2-clause-refuses c =
     let i = c.in_ok-fill_one-2.ensures in
     let f = c.in_ok-fill_one-3.ensures in
     let e = c.in_err-check_minimum-2.ensures in
-    let is = from_first counted.Imports v typed t.keeps t.sections.outer i.filled in
-    let fs = from_first counted.Functions v imported (i.keeps ∙ t.keeps) (i.sections.outer ∙ t.sections.outer) f.filled in
-    let enough = subst (λ (k : Config). k.min_imports ≤ length (imports_of (open_of imported).inner)) (i.keeps ∙ t.keeps) c.in_ok-check_minimum.ensures in
-    let few = subst (λ (k : Config). function_count (open_of full).inner < k.min_funcs) (f.keeps ∙ (i.keeps ∙ t.keeps)) e.1 in
+    let is = from_first counted.Imports v typed t.grows.keeps t.grows.sections.outer i.filled in
+    let fs = from_first counted.Functions v imported (i.grows.keeps ∙ t.grows.keeps) (i.grows.sections.outer ∙ t.grows.sections.outer) f.filled in
+    let enough = subst (λ (k : Config). k.min_imports ≤ length (imports_of (open_of imported).inner)) (i.grows.keeps ∙ t.grows.keeps)
+    c.in_ok-check_minimum.ensures in
+    let few = subst (λ (k : Config). function_count (open_of full).inner < k.min_funcs) (f.grows.keeps ∙ (i.grows.keeps ∙ t.grows.keeps)) e.1 in
     refused _ _ (IsFillRefusal v.config (open_of v) c.args.u.now) c.from_residual-in_err-check_minimum-2.ensures.1
     (subst (IsFillRefusal v.config (open_of v) c.args.u.now) (sym e.0) (of_functions t.filled is enough fs few))
 
@@ -69,8 +71,8 @@ all_filled c =
     let t = c.in_ok-fill_one.ensures in
     let i = c.in_ok-fill_one-2.ensures in
     let f = c.in_ok-fill_one-3.ensures in
-    let is = from_first counted.Imports v typed t.keeps t.sections.outer i.filled in
-    let fs = from_first counted.Functions v imported (i.keeps ∙ t.keeps) (i.sections.outer ∙ t.sections.outer) f.filled in
+    let is = from_first counted.Imports v typed t.grows.keeps t.grows.sections.outer i.filled in
+    let fs = from_first counted.Functions v imported (i.grows.keeps ∙ t.grows.keeps) (i.grows.sections.outer ∙ t.grows.sections.outer) f.filled in
     record {
       typed = (open_of typed).inner;
       mid = c.fill_one.new.u;
@@ -78,9 +80,10 @@ all_filled c =
       low = c.fill_one-2.new.u;
       types = t.filled;
       imports = is;
-      enough_imports = subst (λ (k : Config). k.min_imports ≤ length (imports_of (open_of imported).inner)) (i.keeps ∙ t.keeps) c.in_ok-check_minimum.ensures;
+      enough_imports = subst (λ (k : Config). k.min_imports ≤ length (imports_of (open_of imported).inner)) (i.grows.keeps ∙ t.grows.keeps)
+          c.in_ok-check_minimum.ensures;
       functions = fs;
-      enough_functions = subst (λ (k : Config). k.min_funcs ≤ function_count (open_of full).inner) (f.keeps ∙ (i.keeps ∙ t.keeps))
+      enough_functions = subst (λ (k : Config). k.min_funcs ≤ function_count (open_of full).inner) (f.grows.keeps ∙ (i.grows.keeps ∙ t.grows.keeps))
           c.in_ok-check_minimum-2.ensures;
     }
 
@@ -91,8 +94,8 @@ pub returns-clause-minima : goal.returns-clause-minima
 unfolding all_filled
 returns-clause-minima c = filled_minima _ _ _ _ _ c.requires.sound.0.sound.consistent (all_filled c)
 
-pub returns-clause-sections : goal.returns-clause-sections
-returns-clause-sections c = adds_trans c.in_ok-fill_one.ensures.sections (adds_trans c.in_ok-fill_one-2.ensures.sections c.in_ok-fill_one-3.ensures.sections)
+pub returns-clause-grows : goal.returns-clause-grows
+returns-clause-grows c = grows_trans c.in_ok-fill_one.ensures.grows (grows_trans c.in_ok-fill_one-2.ensures.grows c.in_ok-fill_one-3.ensures.grows)
 
 pub returns-clause-tail : goal.returns-clause-tail
 returns-clause-tail c = tail_trans c.in_ok-fill_one-3.ensures.tail (tail_trans c.in_ok-fill_one-2.ensures.tail c.in_ok-fill_one.ensures.tail)

@@ -3,6 +3,7 @@ use Rattle.std.proofs.lemmas.Result.{on_ok_weaker}
 use Rattle.smith_component.specs.BuilderView.{building_of, stack_of}
 use Rattle.smith_component.specs.Counted.{count_of, minimum_of}
 use Rattle.smith_component.specs.SectionValues.{AddsSection}
+use Rattle.smith_component.proofs.Items.{grows_none}
 use Rattle.smith_component.proofs.SectionValues.{section_shown}
 use Rattle.smith_component.proofs.builder.Progress.fill_one.Goals as goal
 
@@ -21,3 +22,6 @@ returns-clause-filled c =
       section_shown what b.config _ (building_of b) (building_of c.add.new.self) c.args.u.now c.add.new.u
           (subst A (sym lacks) a),
     )) c.add.ensures.added
+
+pub returns-then-minimum-count-clause-grows : goal.returns-then-minimum-count-clause-grows
+returns-then-minimum-count-clause-grows c = grows_none c.args.self.now c.requires.sound

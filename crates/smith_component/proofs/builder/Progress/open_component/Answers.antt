@@ -1,4 +1,4 @@
-use Rattle.std.proofs.Common.{sym, ap, subst, refl, ◌∙◌, ◌++◌, ◌∷◌, [], List, map, arith}
+use Rattle.std.proofs.Common.{sym, ap, subst, refl, ◌∙◌, ◌++◌, ◌∷◌, [], List, map, arith, inl, inr}
 use Rattle.std.proofs.lemmas.List.{map-append}
 use Rattle.std.specs.List.{AllByRecursion}
 use Rattle.smith_syntax.specs.Scope.{empty_scope}
@@ -8,6 +8,7 @@ use Rattle.smith_component.specs.Open.{scopes_in}
 use Rattle.smith_component.specs.Shown.{shown_sections}
 use Rattle.smith_component.specs.Sound.{Sound}
 use Rattle.smith_component.specs.Tables.{IsTabled}
+use Rattle.smith_component.specs.Turn.{building}
 use Rattle.smith_component.specs.WellFormed.{scope_of}
 use Rattle.smith_component.specs.declared.builder.open.OpenComponent.{OpenComponent}
 use Rattle.smith_component.specs.declared.component.Section.{Section}
@@ -23,8 +24,8 @@ overflow_add-self c =
     let o = component_offered_is b.config stack c.requires.offered in
     omega (arith, o.1, c.requires.sound.0.totalled.components, c.requires.sound.0.sound.consistent.components)
 
-pub returns-clause-sound : goal.returns-clause-sound
-returns-clause-sound c =
+pub returns-clause-does : goal.returns-clause-does
+returns-clause-does c bytes =
     let b = c.args.self.now in
     let i = c.requires.sound in
     let stack = stack_of b in
@@ -35,29 +36,29 @@ returns-clause-sound c =
     let fresh = c.replace-around.ensures.after in
     let inner = ap (λ x. shown_sections x.sections.items) fresh ∙ ap shown_sections c.new-opened.ensures.items in
     let around = c.in_ok-push.ensures.items ∙ ap (λ x. b.outer.items ++ x ∷ []) c.replace-around.ensures.value in
-    let tables : IsTabled new = c.new-opened.ensures.tabled in (
-      record {
-        sound = subst (λ us. Sound b.config (record { outer = us; inner = shown_sections c.replace-around.new.dest.sections.items })) (sym outer)
-            (subst (λ t. Sound b.config (record { outer = stack.outer ++ stack.inner ∷ []; inner = t })) (sym inner)
-            (sound_open b.config stack.outer stack.inner o.0 o.1 i.0.sound));
-        valtypes_are = i.0.valtypes_are;
-        scopes_are =
-            opened_scope _ _ c.in_ok-open_scope.ensures.ok
-            ∙ (ap (λ ss. empty_scope ∷ ss) (i.0.scopes_are ∙ (sym (scopes_from-snoc stack.outer stack.inner []) ∙ ap scopes_in (sym outer)))
-            ∙ ap (λ s. s ∷ scopes_in (trees_of c.push.new.self.items)) (sym (ap scope_of inner)));
-        totalled = totalled_open stack.outer _ stack.inner _ b.totals _ outer inner refl refl refl i.0.totalled;
-      },
-      (
-        subst IsTabled (sym fresh) tables,
-        subst (AllByRecursion IsTabled) (sym around) (all_both IsTabled b.outer.items (b.inner ∷ []) i.1.1 (i.1.0, tt)),
-      ),
-    )
-
-pub returns-clause-sections : goal.returns-clause-sections
-returns-clause-sections c =
-    let sections : OpenComponent → List Section = λ o. o.sections.items in
-    let around = ap (map sections) c.in_ok-push.ensures.items ∙ map-append sections c.args.self.now.outer.items (_ ∷ []) in
+    let sections : OpenComponent → List Section = λ x. x.sections.items in
+    let below = ap (map sections) around ∙ map-append sections b.outer.items (b.inner ∷ []) in
+    let tables : IsTabled new = c.new-opened.ensures.tabled in
     record {
-      outer = around ∙ ap (λ x. map sections c.args.self.now.outer.items ++ sections x ∷ []) c.replace-around.ensures.value;
-      inner = ap sections c.replace-around.ensures.after ∙ c.new-opened.ensures.items;
+      does = (refl, λ j. building (record { outer = outer j; inner = inner j }));
+      values = tt;
+      sound = (
+        record {
+          sound = subst (λ us. Sound b.config (record { outer = us; inner = shown_sections c.replace-around.new.dest.sections.items })) (sym outer)
+              (subst (λ t. Sound b.config (record { outer = stack.outer ++ stack.inner ∷ []; inner = t })) (sym inner)
+              (sound_open b.config stack.outer stack.inner o.0 o.1 i.0.sound));
+          valtypes_are = i.0.valtypes_are;
+          scopes_are =
+              opened_scope _ _ c.in_ok-open_scope.ensures.ok
+              ∙ (ap (λ ss. empty_scope ∷ ss) (i.0.scopes_are ∙ (sym (scopes_from-snoc stack.outer stack.inner []) ∙ ap scopes_in (sym outer)))
+              ∙ ap (λ s. s ∷ scopes_in (trees_of c.push.new.self.items)) (sym (ap scope_of inner)));
+          totalled = totalled_open stack.outer _ stack.inner _ b.totals _ outer inner refl refl refl i.0.totalled;
+        },
+        (
+          subst IsTabled (sym fresh) tables,
+          subst (AllByRecursion IsTabled) (sym around) (all_both IsTabled b.outer.items (b.inner ∷ []) i.1.1 (i.1.0, tt)),
+        ),
+      );
+      keeps = refl;
+      sections = inr (inl (record { outer = below; inner = ap sections fresh ∙ c.new-opened.ensures.items }));
     }

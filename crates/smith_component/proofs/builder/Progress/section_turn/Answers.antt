@@ -1,14 +1,13 @@
 use Rattle.std.proofs.Common.{◌+◌, ◌≤◌, arith}
 use Rattle.smith_format.specs.declared.config.Config.{Config}
-use Rattle.smith_component.specs.BuilderView.{building_of, stack_of}
+use Rattle.smith_component.specs.BuilderView.{stack_of}
 use Rattle.smith_component.specs.Counted.{count_of, maximum_of}
 use Rattle.smith_component.specs.Limits.{OwnLimits}
 use Rattle.smith_component.specs.Tree.{Tree}
 use Rattle.smith_component.specs.declared.item.Counted.{Counted}
 use Rattle.smith_component.specs.declared.item.Counted.TheVariants.{Types, Imports, Functions}
+use Rattle.smith_component.proofs.Items.{counted_does}
 use Rattle.smith_component.proofs.Sound.{own_limits_of}
-use Rattle.smith_component.proofs.SectionValues.{section_shown}
-use Rattle.smith_component.proofs.Turn.{still_building}
 use Rattle.smith_component.proofs.builder.Progress.section_turn.Goals as goal
 
 -- There is room for none.
@@ -22,11 +21,6 @@ add-requires c =
     let b = c.args.self.now in
     record { sound = c.requires.sound; room = none_fit c.args.what b.config (stack_of b).inner (own_limits_of b.config (stack_of b) c.requires.sound.0.sound) }
 
-pub returns-clause-added : goal.returns-clause-added
-returns-clause-added c =
-    let a = c.in_ok-add.ensures in (
-      (stack_of c.add.new.self).inner,
-      section_shown c.args.what c.args.self.now.config 0 (building_of c.args.self.now) (building_of c.add.new.self) c.args.u.now
-          c.add.new.u a.added,
-      still_building (building_of c.args.self.now) (building_of c.add.new.self) a.sections,
-    )
+pub returns-clause-does : goal.returns-clause-does
+returns-clause-does c =
+    counted_does c.args.self.now c.add.new.self c.args.u.now c.add.new.u c.in_ok-add.ensures.grows c.args.what c.in_ok-add.ensures.added

@@ -1,75 +1,63 @@
-use Rattle.std.proofs.Common.{refl}
-use Rattle.std.proofs.lemmas.Result.{IfErr-weaker}
-use Rattle.smith_input.proofs.ReadingLemmas.{tail_trans}
-use Rattle.smith_component.specs.BuilderView.{building_of, stack_of}
-use Rattle.smith_component.specs.declared.item.Item.TheVariants as item
-use Rattle.smith_component.proofs.Refusals.{finish_refused}
-use Rattle.smith_component.proofs.Turn.{chosen}
+use Rattle.std.proofs.Common.{◌≡◌, ℕ, List, [], ◌∷◌, sym, subst}
+use Rattle.std.proofs.lemmas.Result.{IfErr-weaker, IfOk-weaker}
+use Rattle.smith_input.specs.Choices.{ReadsAmong}
+use Rattle.smith_format.specs.declared.config.Config.{Config}
+use Rattle.smith_component.specs.BuilderView.{stack_of}
+use Rattle.smith_component.specs.Open.{Open, items}
+use Rattle.smith_component.specs.declared.item.Item.{Item}
+use Rattle.smith_component.specs.declared.item.Item.TheVariants.{Finish, Module}
+use Rattle.smith_component.proofs.Turn.{chosen, only_finish}
 use Rattle.smith_component.proofs.builder.Progress.turn.Goals as goal
 
-pub add_module-requires : goal.add_module-requires
-add_module-requires c = record {
+pub do_item-requires : goal.do_item-requires
+do_item-requires c = record {
   sound = c.requires.sound;
-  offered =
-      (chosen c.args.self.now.config (stack_of c.args.self.now) _ _ _ c.in-Module.ensures.chooses).0 refl;
+  offered = chosen c.args.self.now.config (stack_of c.args.self.now) _ _ _ c.choose_item-item.ensures.chooses;
 }
 
-pub open_component-requires : goal.open_component-requires
-open_component-requires c = record {
-  sound = c.requires.sound;
-  offered = (chosen c.args.self.now.config (stack_of c.args.self.now) _ _ _ c.in-Component.ensures.chooses).1 refl;
-}
+pub returns-clause-turn : goal.returns-clause-turn
+returns-clause-turn c = IfOk-weaker c.do_item.result _ _ (λ r d. record {
+  item = c.choose_item-item.result;
+  after = c.choose_item-item.new.u;
+  chooses = c.choose_item-item.ensures.chooses;
+  does = d.does;
+}) c.do_item.ensures.does
 
-pub returns-in-Finish-clause-refuses : goal.returns-in-Finish-clause-refuses
-returns-in-Finish-clause-refuses c = IfErr-weaker c.finish.result _ _ (finish_refused _ _ _ _ c.in-Finish.ensures.chooses) c.finish.ensures.refuses
+pub returns-clause-values : goal.returns-clause-values
+returns-clause-values c = IfOk-weaker c.do_item.result _ _ (λ r d. record {
+  item = c.choose_item-item.result;
+  after = c.choose_item-item.new.u;
+  chooses = c.choose_item-item.ensures.chooses;
+  adds = d.values;
+}) c.do_item.ensures.does
 
-pub returns-in_ok-add_core_types-in-CoreTypes-clause-tail : goal.returns-in_ok-add_core_types-in-CoreTypes-clause-tail
-returns-in_ok-add_core_types-in-CoreTypes-clause-tail c = tail_trans c.add_core_types.ensures.tail c.in-CoreTypes.ensures.tail
+pub returns-clause-sound : goal.returns-clause-sound
+returns-clause-sound c = IfOk-weaker c.do_item.result _ _ (λ r d. d.sound) c.do_item.ensures.does
 
-pub returns-in_ok-section_turn-in-Types-clause-tail : goal.returns-in_ok-section_turn-in-Types-clause-tail
-returns-in_ok-section_turn-in-Types-clause-tail c = tail_trans c.section_turn.ensures.tail c.in-Types.ensures.tail
+pub returns-clause-keeps : goal.returns-clause-keeps
+returns-clause-keeps c = IfOk-weaker c.do_item.result _ _ (λ r d. d.keeps) c.do_item.ensures.does
 
-pub returns-in_ok-section_turn-in-Imports-clause-tail : goal.returns-in_ok-section_turn-in-Imports-clause-tail
-returns-in_ok-section_turn-in-Imports-clause-tail c = tail_trans c.section_turn-in-Imports.ensures.tail c.in-Imports.ensures.tail
+pub returns-clause-sections : goal.returns-clause-sections
+returns-clause-sections c = IfOk-weaker c.do_item.result _ _ (λ r d. d.sections) c.do_item.ensures.does
 
-pub returns-in_ok-section_turn-in-Canonical-clause-tail : goal.returns-in_ok-section_turn-in-Canonical-clause-tail
-returns-in_ok-section_turn-in-Canonical-clause-tail c = tail_trans c.section_turn-in-Canonical.ensures.tail c.in-Canonical.ensures.tail
+pub returns-clause-refuses : goal.returns-clause-refuses
+returns-clause-refuses c = c.do_item.ensures.refuses c.args.u.now c.choose_item-item.ensures.chooses
 
-pub returns-in_ok-add_module-in-Module-clause-tail : goal.returns-in_ok-add_module-in-Module-clause-tail
-returns-in_ok-add_module-in-Module-clause-tail c = tail_trans c.add_module.ensures.tail c.in-Module.ensures.tail
+pub returns-clause-unread : goal.returns-clause-unread
+returns-clause-unread c =
+    let Chosen : Item → List ℕ → Type 0 = λ i after. ReadsAmong (items c.args.self.now.config (stack_of c.args.self.now) c.args.u.now) c.args.u.now i after in
+    let chooses = c.choose_item-item.ensures.chooses in
+    IfErr-weaker c.do_item.result _ _
+    (λ e h refused. subst (Chosen Module) (sym (h refused).1) (subst (λ i. Chosen i c.choose_item-item.new.u) (h refused).0 chooses))
+    c.do_item.ensures.unread
 
-pub returns-in_ok-add_core_types-in-CoreTypes-clause-values : goal.returns-in_ok-add_core_types-in-CoreTypes-clause-values
-returns-in_ok-add_core_types-in-CoreTypes-clause-values c =
-    record {
-      item = item.CoreTypes;
-      after = c.choose_item.new.u;
-      chooses = c.in-CoreTypes.ensures.chooses;
-      adds = (building_of c.add_core_types.new.self, refl, c.in_ok-add_core_types-in-CoreTypes.ensures.values);
-    }
+-- Where no input is left, the choice is to finish.
+finish_chosen : (config : Config) (stack : Open) (left after : List ℕ) (item : Item) → left ≡ [] → ReadsAmong (items config stack left) left item after
+    → item ≡ Finish
+finish_chosen config stack [] after item e r = only_finish r.place item r.named
+finish_chosen config stack (x ∷ xs) after item e r = absurd (cc)
 
-pub returns-in_ok-section_turn-in-Types-clause-values : goal.returns-in_ok-section_turn-in-Types-clause-values
-returns-in_ok-section_turn-in-Types-clause-values c =
-    record {
-      item = item.Types;
-      after = c.choose_item.new.u;
-      chooses = c.in-Types.ensures.chooses;
-      adds = (building_of c.section_turn.new.self, refl, c.in_ok-section_turn-in-Types.ensures.values);
-    }
-
-pub returns-in_ok-section_turn-in-Imports-clause-values : goal.returns-in_ok-section_turn-in-Imports-clause-values
-returns-in_ok-section_turn-in-Imports-clause-values c =
-    record {
-      item = item.Imports;
-      after = c.choose_item.new.u;
-      chooses = c.in-Imports.ensures.chooses;
-      adds = (building_of c.section_turn-in-Imports.new.self, refl, c.in_ok-section_turn-in-Imports.ensures.values);
-    }
-
-pub returns-in_ok-add_module-in-Module-clause-values : goal.returns-in_ok-add_module-in-Module-clause-values
-returns-in_ok-add_module-in-Module-clause-values c =
-    record {
-      item = item.Module;
-      after = c.choose_item.new.u;
-      chooses = c.in-Module.ensures.chooses;
-      adds = (building_of c.add_module.new.self, refl, c.in_ok-add_module-in-Module.ensures.values);
-    }
+pub returns-clause-alone : goal.returns-clause-alone
+returns-clause-alone c ready =
+    let chooses = c.choose_item-item.ensures.chooses in
+    c.do_item.ensures.alone (finish_chosen c.args.self.now.config (stack_of c.args.self.now) _ _ _ ready.empty chooses) ready.alone ready.enough

@@ -1,21 +1,17 @@
-//! Parts that are added to the inner component.
+//! Sections that are added to the inner component.
 
-ghost use Rattle.std.specs.Prelude.{◌≡◌, ℕ, ◌+◌, ◌≤◌, List, [], ◌∷◌, ◌++◌, length, IfErr};
-ghost use Rattle.std.specs.Prelude.{OnOk, IsTrue};
+ghost use Rattle.std.specs.Prelude.{◌≡◌, ℕ, ◌+◌, ◌≤◌, List, length, IfErr, IsTrue, None, OnOk};
 ghost use Rattle.smith_input.specs.Reading.{IsTail};
 ghost use Rattle.smith_core.specs.StandIn.{IsStandInRefusal};
 ghost use Rattle.smith_component.specs.Sound.{IsAddable, IsQuiet};
 ghost use Rattle.smith_component.specs.BuilderView.{building_of, stack_of, IsSound};
 ghost use Rattle.smith_component.specs.Shown.{shown_section};
-ghost use Rattle.smith_component.specs.Steps.{AddsSections};
-ghost use Rattle.smith_component.specs.SectionValues.{AddsCoreTypeSection, AddsImportSection, AddsModule};
-ghost use Rattle.smith_component.specs.SectionValues.{AddsTypeSection};
+ghost use Rattle.smith_component.specs.Steps.{DoesItem, Grows, GrowsBy};
+ghost use Rattle.smith_component.specs.SectionValues.{AddsImportSection, AddsTypeSection};
 ghost use Rattle.smith_component.specs.Spaces.{function_count, types_of};
 ghost use Rattle.smith_component.specs.Tree.{imports_of};
-ghost use Rattle.smith_component.specs.Turn.{building, Does, with_part};
 ghost use Rattle.smith_component.specs.AddedSections.{AddsCanons};
 ghost use Rattle.smith_component.specs.Open.{is_module_offered};
-ghost use Rattle.smith_component.specs.declared.item.Item.TheVariants.{Custom, CoreTypes};
 ghost use Rattle.smith_component.specs.declared.item.Item.TheVariants as item;
 
 use crate::builder::Progress;
@@ -34,13 +30,7 @@ impl Progress {
         requires sound { IsSound self.old }
         requires quiet { IsQuiet (shown_section section) }
         requires addable { IsAddable self.old.config (stack_of self.old) (shown_section section) }
-        ensures added { OnOk result
-            (building (stack_of self.new) ≡ with_part (stack_of self.old) (shown_section section)) }
-        ensures sound { OnOk result (IsSound self.new) }
-        ensures keeps { OnOk result (self.new.config ≡ self.old.config) }
-        ensures sections { OnOk result (AddsSections (building_of self.old) (building_of self.new)) }
-        ensures last { OnOk result
-            ((building_of self.new).inner ≡ (building_of self.old).inner ++ section ∷ []) }
+        ensures grows { OnOk result (GrowsBy section self.old self.new) }
         ensures memory { IfErr result (λ e. e ≡ Error.OutOfMemory) }
     {
         let modules = section.module_count();
@@ -52,11 +42,7 @@ impl Progress {
     // A custom section that is read.
     pub(crate) fn add_custom(&mut self, u: &mut Unstructured) -> Result<(), Error>
         requires sound { IsSound self.old }
-        ensures added { OnOk result
-            (Does self.old.config Custom (stack_of self.old) u.old (building (stack_of self.new)) u.new) }
-        ensures sound { OnOk result (IsSound self.new) }
-        ensures keeps { OnOk result (self.new.config ≡ self.old.config) }
-        ensures sections { OnOk result (AddsSections (building_of self.old) (building_of self.new)) }
+        ensures does { OnOk result (DoesItem item.Custom self.old u.old self.new None u.new) }
         ensures memory { IfErr result (λ e. e ≡ Error.OutOfMemory) }
         ensures tail { IsTail u.new u.old }
     {
@@ -68,13 +54,7 @@ impl Progress {
     pub(crate) fn add_module(&mut self, u: &mut Unstructured) -> Result<(), Error>
         requires sound { IsSound self.old }
         requires offered { IsTrue (is_module_offered self.old.config (stack_of self.old)) }
-        ensures added { OnOk result
-            (Does self.old.config item.Module (stack_of self.old) u.old (building (stack_of self.new)) u.new) }
-        ensures values { OnOk result
-            (AddsModule self.old.config (building_of self.old) u.old (building_of self.new) u.new) }
-        ensures sound { OnOk result (IsSound self.new) }
-        ensures keeps { OnOk result (self.new.config ≡ self.old.config) }
-        ensures sections { OnOk result (AddsSections (building_of self.old) (building_of self.new)) }
+        ensures does { OnOk result (DoesItem item.Module self.old u.old self.new None u.new) }
         ensures refuses { IfErr result (IsStandInRefusal self.old.config) }
         ensures unread { IfErr result (λ e. e ≡ Error.ModuleRefused → u.new ≡ u.old) }
         ensures tail { IsTail u.new u.old }
@@ -86,13 +66,7 @@ impl Progress {
     // A core type section, with as many core types as the component may still have.
     pub(crate) fn add_core_types(&mut self, u: &mut Unstructured) -> Result<(), Error>
         requires sound { IsSound self.old }
-        ensures added { OnOk result
-            (Does self.old.config CoreTypes (stack_of self.old) u.old (building (stack_of self.new)) u.new) }
-        ensures values { OnOk result
-            (AddsCoreTypeSection self.old.config (building_of self.old) u.old (building_of self.new) u.new) }
-        ensures sound { OnOk result (IsSound self.new) }
-        ensures keeps { OnOk result (self.new.config ≡ self.old.config) }
-        ensures sections { OnOk result (AddsSections (building_of self.old) (building_of self.new)) }
+        ensures does { OnOk result (DoesItem item.CoreTypes self.old u.old self.new None u.new) }
         ensures memory { IfErr result (λ e. e ≡ Error.OutOfMemory) }
         ensures tail { IsTail u.new u.old }
     {
@@ -117,9 +91,7 @@ impl Progress {
         requires room { length (types_of (stack_of self.old).inner) + min ≤ self.old.config.max_types }
         ensures added { OnOk result
             (AddsTypeSection self.old.config min (building_of self.old) u.old (building_of self.new) u.new) }
-        ensures sound { OnOk result (IsSound self.new) }
-        ensures keeps { OnOk result (self.new.config ≡ self.old.config) }
-        ensures sections { OnOk result (AddsSections (building_of self.old) (building_of self.new)) }
+        ensures grows { OnOk result (Grows self.old self.new) }
         ensures memory { IfErr result (λ e. e ≡ Error.OutOfMemory) }
         ensures tail { IsTail u.new u.old }
     {
@@ -144,9 +116,7 @@ impl Progress {
         requires room { length (imports_of (stack_of self.old).inner) + min ≤ self.old.config.max_imports }
         ensures added { OnOk result
             (AddsImportSection self.old.config min (building_of self.old) u.old (building_of self.new) u.new) }
-        ensures sound { OnOk result (IsSound self.new) }
-        ensures keeps { OnOk result (self.new.config ≡ self.old.config) }
-        ensures sections { OnOk result (AddsSections (building_of self.old) (building_of self.new)) }
+        ensures grows { OnOk result (Grows self.old self.new) }
         ensures memory { IfErr result (λ e. e ≡ Error.OutOfMemory) }
         ensures tail { IsTail u.new u.old }
     {
@@ -173,9 +143,7 @@ impl Progress {
         requires room { function_count (stack_of self.old).inner + min ≤ self.old.config.max_funcs }
         ensures added { OnOk result
             (AddsCanons self.old.config min (stack_of self.old) u.old (stack_of self.new).inner u.new) }
-        ensures sound { OnOk result (IsSound self.new) }
-        ensures keeps { OnOk result (self.new.config ≡ self.old.config) }
-        ensures sections { OnOk result (AddsSections (building_of self.old) (building_of self.new)) }
+        ensures grows { OnOk result (Grows self.old self.new) }
         ensures memory { IfErr result (λ e. e ≡ Error.OutOfMemory) }
         ensures tail { IsTail u.new u.old }
     {

@@ -1,0 +1,71 @@
+-- What the items do, where the inner component grows.
+use Rattle.std.proofs.Common.{◌≡◌, ℕ, List, [], ap, sym, subst, ◌∙◌, refl, append-nil, inl}
+use Rattle.std.specs.Prelude.{Option, None}
+use Rattle.smith_format.specs.declared.config.Config.{Config}
+use Rattle.smith_component.specs.BuilderView.{building_of, stack_of, IsSound}
+use Rattle.smith_component.specs.Counted.{item_for}
+use Rattle.smith_component.specs.Fills.{FillsAll}
+use Rattle.smith_component.specs.Open.{with_inner}
+use Rattle.smith_component.specs.SectionValues.{AddsSection}
+use Rattle.smith_component.specs.Shown.{shown_section, shown_sections}
+use Rattle.smith_component.specs.Steps.{next_of, step_of, AddsValues, ClosesInner, DoesItem, Grows, GrowsBy, StaysSound}
+use Rattle.smith_component.specs.Tree.{Tree}
+use Rattle.smith_component.specs.Turn.{building, with_part, AddsAny, Does}
+use Rattle.smith_component.specs.declared.builder.Progress.{Progress}
+use Rattle.smith_component.specs.declared.builder.Step.TheVariants.{StillBuilding}
+use Rattle.smith_component.specs.declared.component.Section.{Section}
+use Rattle.smith_component.specs.declared.item.Counted.{Counted}
+use Rattle.smith_component.specs.declared.item.Counted.TheVariants.{Types, Imports, Functions}
+use Rattle.smith_component.specs.declared.item.Item.{Item}
+use Rattle.smith_component.specs.declared.item.Item.TheVariants as item
+use Rattle.smith_component.proofs.Finishing.{adds_trans, closes_after, closes_filled}
+use Rattle.smith_component.proofs.SectionValues.{section_shown}
+use Rattle.smith_component.proofs.Shown.{shown_push}
+use Rattle.smith_component.proofs.Turn.{still_building}
+
+pub grows_none : (b : Progress) → IsSound b → Grows b b
+grows_none b sound = record {
+  sound = sound;
+  keeps = refl;
+  sections = record { more = []; outer = refl; inner = sym (append-nil b.inner.sections.items) };
+}
+
+pub grows_trans : {a b c : Progress} → Grows a b → Grows b c → Grows a c
+grows_trans f g = record { sound = g.sound; keeps = g.keeps ∙ f.keeps; sections = adds_trans f.sections g.sections }
+
+-- a section more, as a part
+pub part_added : (old new : Progress) (s : Section) → GrowsBy s old new → building (stack_of new) ≡ with_part (stack_of old) (shown_section s)
+part_added old new s g =
+    still_building (building_of old) (building_of new) g.grows.sections
+    ∙ ap (λ t. building (with_inner (stack_of old) t)) (ap shown_sections g.last ∙ shown_push old.inner.sections.items s)
+
+-- an item by which the inner component grows
+pub grown_does : (i : Item) (old new : Progress) (b rest : List ℕ) → Grows old new → Does old.config i (stack_of old) b (building (stack_of new)) rest
+    → AddsValues old.config i (building_of old) b (StillBuilding (building_of new)) rest → DoesItem i old b new None rest
+grown_does i old new b rest g does values = record { does = does; values = values; sound = g.sound; keeps = g.keeps; sections = inl g.sections }
+
+-- one that adds what has a minimum
+module _ (old new : Progress) (b rest : List ℕ) (g : Grows old new) where
+  adds_any : (what : Counted) → AddsSection what old.config 0 (building_of old) b (building_of new) rest
+      → AddsAny what old.config (stack_of old) b (building (stack_of new)) rest
+  adds_any what a = (
+    (stack_of new).inner,
+    section_shown what old.config 0 (building_of old) (building_of new) b rest a,
+    still_building (building_of old) (building_of new) g.sections,
+  )
+
+  pub counted_does : (what : Counted) → AddsSection what old.config 0 (building_of old) b (building_of new) rest → DoesItem (item_for what) old b new None rest
+  counted_does Types a = grown_does item.Types old new b rest g (adds_any Types a) (building_of new, refl, a)
+  counted_does Imports a = grown_does item.Imports old new b rest g (adds_any Imports a) (building_of new, refl, a)
+  counted_does Functions a = grown_does item.Canonical old new b rest g (adds_any Functions a) tt
+
+-- the finish: the inner component is filled, and then closed
+pub finish_does : (old full new : Progress) (b rest : List ℕ) (c : Option Tree) → FillsAll old.config (stack_of old) b (stack_of full).inner rest
+    → Grows old full → ClosesInner full new c → DoesItem item.Finish old b new c rest
+finish_does old full new b rest c fills g h = record {
+  does = ((stack_of full).inner, fills, closes_filled (building_of old) (building_of full) (next_of (step_of new c)) g.sections.outer h.closes);
+  values = tt;
+  sound = h.sound;
+  keeps = subst (λ (k : Config). StaysSound k (step_of new c)) g.keeps h.keeps;
+  sections = closes_after (building_of old) (building_of full) (step_of new c) g.sections h.sections;
+}

@@ -1,0 +1,97 @@
+//! What a component has a minimum of: how many there are, and the sections that add more.
+
+ghost use Rattle.std.specs.Prelude.{◌≡◌, ℕ, List, ◌+◌, ◌≤◌, IfErr, None, OnOk};
+ghost use Rattle.smith_input.specs.Reading.{IsTail};
+ghost use Rattle.smith_component.specs.BuilderView.{building_of, stack_of, IsSound};
+ghost use Rattle.smith_component.specs.Counted.{count_of, item_for, maximum_of, minimum_of};
+ghost use Rattle.smith_component.specs.Fills.{Fills};
+ghost use Rattle.smith_component.specs.Refusals.{IsAnswered, IsMinimum};
+ghost use Rattle.smith_component.specs.Steps.{DoesItem, Grows};
+ghost use Rattle.smith_component.specs.SectionValues.{AddsSection};
+
+use crate::builder::Progress;
+use crate::item::Counted;
+use smith_input::{Error, Unstructured};
+
+impl Progress {
+    // How many the inner component has.
+    fn count(&self, what: Counted) -> usize
+        requires { IsSound self.now }
+        ensures { result ≡ count_of what (stack_of self.now).inner }
+    {
+        match what {
+            Counted::Types => self.scopes.own_len(),
+            Counted::Imports => self.inner.tables.imports.len(),
+            Counted::Functions => self.inner.tables.function_count(),
+        }
+    }
+
+    // How many it must have. The limits fit together.
+    fn minimum(&self, what: Counted) -> usize
+        ensures { result ≡ minimum_of what self.now.config }
+    {
+        match what {
+            Counted::Types => self.config.min_types,
+            Counted::Imports => self.config.min_imports,
+            Counted::Functions => self.config.min_funcs,
+        }
+    }
+
+    // Is that minimum met?
+    pub(super) fn check_minimum(&self, what: Counted) -> Result<(), Error>
+        requires { IsSound self.now }
+        ensures { IsMinimum result (minimum_of what self.now.config) (count_of what (stack_of self.now).inner) }
+    {
+        if self.count(what) < self.minimum(what) {
+            return Err(Error::MinimumNotMet);
+        }
+        Ok(())
+    }
+
+    // Adds what lacks of a minimum, as far as it can be added.
+    pub(super) fn fill_one(&mut self, what: Counted, u: &mut Unstructured) -> Result<(), Error>
+        requires sound { IsSound self.old }
+        ensures filled { OnOk result
+            (Fills what self.old.config (stack_of self.old) u.old (stack_of self.new).inner u.new) }
+        ensures grows { OnOk result (Grows self.old self.new) }
+        ensures memory { IfErr result (λ e. e ≡ Error.OutOfMemory) }
+        ensures nothing { minimum_of what self.old.config ≤ count_of what (stack_of self.old).inner
+            → IsAnswered result }
+        ensures tail { IsTail u.new u.old }
+    {
+        let count = self.count(what);
+        let minimum = self.minimum(what);
+        if minimum <= count {
+            return Ok(());
+        }
+        self.add(what, minimum - count, u)
+    }
+
+    // Adds at least so many, as far as they can be added.
+    fn add(&mut self, what: Counted, min: usize, u: &mut Unstructured) -> Result<(), Error>
+        requires sound { IsSound self.old }
+        requires room { count_of what (stack_of self.old).inner + min ≤ maximum_of what self.old.config }
+        ensures added { OnOk result
+            (AddsSection what self.old.config min (building_of self.old) u.old (building_of self.new) u.new) }
+        ensures grows { OnOk result (Grows self.old self.new) }
+        ensures memory { IfErr result (λ e. e ≡ Error.OutOfMemory) }
+        ensures tail { IsTail u.new u.old }
+    {
+        match what {
+            Counted::Types => self.add_types(min, u),
+            Counted::Imports => self.add_imports(min, u),
+            Counted::Functions => self.add_canonicals(min, u),
+        }
+    }
+
+    // A turn that adds any number.
+    pub(crate) fn section_turn(&mut self, what: Counted, u: &mut Unstructured) -> Result<(), Error>
+        requires sound { IsSound self.old }
+        ensures does { OnOk result (DoesItem (item_for what) self.old u.old self.new None u.new) }
+        ensures memory { IfErr result (λ e. e ≡ Error.OutOfMemory) }
+        ensures tail { IsTail u.new u.old }
+    {
+        self.add(what, 0, u)?;
+        Ok(())
+    }
+}
