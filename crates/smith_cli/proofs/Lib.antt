@@ -1,1 +1,1 @@
-pub mod PageLemmas
+pub mod Page

@@ -5,7 +5,7 @@ use Rattle.std.proofs.lemmas.Bool.Decides.{nat_tests}
 use Rattle.smith_input.specs.Loops.{Loop, no_more, by_itself, an_item}
 use Rattle.smith_input.specs.Reading.{More}
 use Rattle.smith_input.specs.Offers.{offers_of}
-use Rattle.smith_input.proofs.ReadingLemmas.{more_within, more_past}
+use Rattle.smith_input.proofs.Reading.{more_within, more_past}
 use Rattle.smith_format.specs.declared.config.Config.{Config}
 use Rattle.smith_syntax.specs.Entries.{Entry, Signature, function}
 use Rattle.smith_component.specs.Canonicals.{Growing, grown, spaces_at, with_canon, with_defined, NoCanon, empty_section, ReadsCanons}

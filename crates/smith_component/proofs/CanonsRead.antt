@@ -32,7 +32,7 @@ use Rattle.smith_component.specs.declared.item.CanonItem.{CanonItem}
 use Rattle.smith_component.specs.declared.item.CanonItem.TheVariants.{Lower, Lift}
 use Rattle.smith_input.proofs.Offered.{offers_few, offers_found}
 use Rattle.smith_scopes.proofs.Places.{place_found}
-use Rattle.smith_types.proofs.LiftedRead.{lifted_read}
+use Rattle.smith_types.proofs.LiftingRead.{lifted_read}
 use Rattle.smith_component.proofs.Growth.{canon_keeps, functions_at, functions_after, spaces_canon}
 use Rattle.smith_component.proofs.Spaces.{all_at}
 

@@ -3,13 +3,13 @@ use Rattle.std.proofs.Common.{◌≡◌, ℕ, List, sym, ap, ◌∙◌, subst, S
 use Rattle.std.specs.Prelude.{slice_get}
 use Rattle.smith_input.proofs.Choices.{among_same, among_none}
 use Rattle.smith_input.proofs.Loops.{loop_same}
-use Rattle.smith_input.proofs.ReadingLemmas.{reads_unique}
+use Rattle.smith_input.proofs.Reading.{reads_unique}
 use Rattle.smith_format.specs.CoreTypes.{Function}
 use Rattle.smith_format.specs.declared.config.Config.{Config}
 use Rattle.smith_syntax.specs.Entries.{Signature, function}
 use Rattle.smith_syntax.specs.Flat.{Flattens}
 use Rattle.smith_syntax.proofs.Flat.{flattens_same}
-use Rattle.smith_types.proofs.LiftedSame.{lifted_same}
+use Rattle.smith_types.proofs.LiftingSame.{lifted_same}
 use Rattle.smith_types.specs.Lifting.{ReadsLifted}
 use Rattle.smith_component.specs.Canonicals.{Growing, spaces_at, with_canon, LiftsTo, to_equal, to_defined, given_up, ReadsLift, ReadsCanon, CanonTurn, NoCanon}
 use Rattle.smith_component.specs.Canonicals.{empty_section, ReadsCanons}

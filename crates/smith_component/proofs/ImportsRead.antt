@@ -10,7 +10,7 @@ use Rattle.smith_input.specs.Names.{is_among}
 use Rattle.smith_input.specs.Script.{script_name}
 use Rattle.smith_input.proofs.Loops.{loop_read}
 use Rattle.smith_input.proofs.NewNames.{new_read}
-use Rattle.smith_input.proofs.ReadingLemmas.{flips_zero}
+use Rattle.smith_input.proofs.Reading.{flips_zero}
 use Rattle.smith_format.specs.declared.config.Config.{Config}
 use Rattle.smith_syntax.specs.Entries.{ImportEntry}
 use Rattle.smith_syntax.specs.WellFormed.{Named, names, is_type_eq}
@@ -20,7 +20,7 @@ use Rattle.smith_core_types.proofs.Names.{AreNew, distinct_new, none_before}
 use Rattle.smith_types.specs.Declarations.{NamedExtern, no_url}
 use Rattle.smith_types.specs.Script.{script_ref}
 use Rattle.smith_types.specs.declared.make.references.RefTotals.{RefTotals}
-use Rattle.smith_types.proofs.Naming.{ref_read}
+use Rattle.smith_types.proofs.ReferencesRead.{ref_read}
 use Rattle.smith_types.specs.Offers.{IsAllowed}
 use Rattle.smith_component.specs.Imports.{NoImport, ReadsImport, ReadsImports}
 use Rattle.smith_component.specs.Offers.{totals_of, with_imports}

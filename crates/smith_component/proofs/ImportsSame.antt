@@ -2,14 +2,14 @@
 use Rattle.std.proofs.Common.{◌≡◌, ℕ, true, false, List, [], ◌∷◌, ◌++◌, sym, ap, ◌∙◌, subst, Option}
 use Rattle.smith_input.proofs.Choices.{among_none}
 use Rattle.smith_input.specs.Names.{ReadsNew}
-use Rattle.smith_input.proofs.Kebabs.{kebab_unique}
+use Rattle.smith_input.proofs.Kebab.{kebab_unique}
 use Rattle.smith_input.proofs.Loops.{loop_same}
 use Rattle.smith_input.proofs.NewNames.{new_unique}
-use Rattle.smith_input.proofs.ReadingLemmas.{flips_unique}
+use Rattle.smith_input.proofs.Reading.{flips_unique}
 use Rattle.smith_format.specs.declared.config.Config.{Config}
 use Rattle.smith_syntax.specs.Entries.{ImportEntry}
 use Rattle.smith_types.specs.Declarations.{ReadsMaybeUrl, no_url, a_url, url_names}
-use Rattle.smith_types.proofs.DeclarationsRead.{ref_same}
+use Rattle.smith_types.proofs.ReadsDeclarations.{ref_same}
 use Rattle.smith_component.specs.Imports.{NoImport, ReadsImport, ReadsImports}
 use Rattle.smith_component.specs.Offers.{totals_of, with_imports}
 use Rattle.smith_component.specs.Open.{Open}

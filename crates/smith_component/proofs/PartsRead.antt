@@ -4,8 +4,8 @@ use Rattle.std.proofs.Common.{length-append}
 use Rattle.std.specs.List.{AllByRecursion}
 use Rattle.std.specs.Str.{IsUtf8}
 use Rattle.smith_input.specs.Script.{script_text, script_bytes}
-use Rattle.smith_input.proofs.TextsLemmas.{text_read, bytes_read}
-use Rattle.smith_format.specs.Limits.{IsConsistent}
+use Rattle.smith_input.proofs.Texts.{text_read, bytes_read}
+use Rattle.smith_format.specs.Limits.{IsConsistent, max_u32}
 use Rattle.smith_format.specs.declared.config.Config.{Config}
 use Rattle.smith_syntax.specs.Scope.{Scope}
 use Rattle.smith_component.specs.CanonScript.{canon_item_of}
@@ -136,7 +136,7 @@ module _ (config : Config) (stack : Open) (rest : List ℕ) where
       let inner : Tree = stack.inner in
       let count : function_count inner + length fs ≤ config.max_funcs =
       omega (arith, limits.functions, ap functions_at (spaces-add inner (canons fs)), functions_behind (spaces_of inner) fs) in
-      let many : length (types_of inner) ≤ 4294967295 = omega (arith, (own_limits-front config inner (canons fs) limits).types, consistent.types) in
+      let many : length (types_of inner) ≤ max_u32 = omega (arith, (own_limits-front config inner (canons fs) limits).types, consistent.types) in
       let read =
       canons_from fs config (config.max_funcs - function_count inner) 0 (empty_section inner) (spaces_of inner) rest (spaces-add inner (canons [])) formed
       spoken (omega (arith, many)) (omega (arith, count, consistent.funcs)) (omega (arith, count)) in

@@ -8,7 +8,7 @@ use Rattle.smith_input.specs.Loops.{Loop, no_more, by_itself, an_item}
 use Rattle.smith_input.specs.Reading.{IsTail}
 use Rattle.smith_input.proofs.Choices.{among_tail}
 use Rattle.smith_input.proofs.Loops.{loop_tail}
-use Rattle.smith_input.proofs.ReadingLemmas.{tail_is, tail_trans, reads_tail, more_within}
+use Rattle.smith_input.proofs.Reading.{tail_is, tail_trans, reads_tail, more_within}
 use Rattle.smith_format.specs.CoreTypes.{Function}
 use Rattle.smith_format.specs.declared.config.Config.{Config}
 use Rattle.smith_format.specs.declared.types.ValType.{ValType}

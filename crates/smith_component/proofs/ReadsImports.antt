@@ -13,15 +13,16 @@ use Rattle.smith_input.specs.Reading.{IsTail, More}
 use Rattle.smith_input.specs.Offers.{offers_of}
 use Rattle.smith_input.proofs.Loops.{loop_all, loop_few, loop_gives, loop_tail}
 use Rattle.smith_input.proofs.NewNames.{new_kebab}
-use Rattle.smith_input.proofs.ReadingLemmas.{more_past, tail_is, tail_trans}
+use Rattle.smith_input.proofs.Reading.{more_past, tail_is, tail_trans}
 use Rattle.smith_format.specs.declared.config.Config.{Config}
+use Rattle.smith_format.specs.Limits.{max_u32}
 use Rattle.smith_syntax.specs.Entries.{ImportEntry}
 use Rattle.smith_syntax.specs.Scope.{Scope, is_func, places}
 use Rattle.smith_syntax.specs.WellFormed.{Named}
 use Rattle.smith_syntax.specs.declared.deftype.ComponentTypeRef.{ComponentTypeRef}
 use Rattle.smith_syntax.specs.declared.deftype.ComponentTypeRef.TheVariants as to
 use Rattle.smith_types.specs.Offers.{ref_offers}
-use Rattle.smith_types.proofs.DeclarationsRead.{extern_tail, ref_tail}
+use Rattle.smith_types.proofs.ReadsDeclarations.{extern_tail, ref_tail}
 use Rattle.smith_core_types.proofs.Names.{distinct_new, new_distinct, new_more, none_before}
 use Rattle.smith_types.proofs.References.{import_not_equal, ref_formed}
 use Rattle.smith_component.specs.Imports.{NoImport, ReadsImport, ReadsImports}
@@ -154,14 +155,14 @@ module _ (config : Config) (stack : Open) where
 
   -- The names stay distinct and in kebab case, where there are few.
   abbrev KeepsNames : List ImportEntry → List ImportEntry → List ImportEntry → Type 0
-  KeepsNames s xs t = length (imports_of stack.inner) + (length s + length xs) ≤ 4294967295 → Named (names_with s) → Named (names_with t)
+  KeepsNames s xs t = length (imports_of stack.inner) + (length s + length xs) ≤ max_u32 → Named (names_with s) → Named (names_with t)
 
   keeps_names : (s t u : List ImportEntry) (b : List ℕ) (x : ImportEntry) (r : List ℕ) (xs : List ImportEntry) → ReadsImport config stack s b x r t
       → KeepsNames t xs u → KeepsNames s (x ∷ xs) u
   keeps_names s t u b x r xs i rest few h =
       rest (omega (arith, few, ap length i.next_is, length-append s (x ∷ []))) (one_named s b x r t (omega (arith, few)) i h)
 
-  pub imports_named : {min : ℕ} {b rest : List ℕ} {is : List ImportEntry} → length (imports_of stack.inner) + length is ≤ 4294967295
+  pub imports_named : {min : ℕ} {b rest : List ℕ} {is : List ImportEntry} → length (imports_of stack.inner) + length is ≤ max_u32
       → Named (import_names (imports_of stack.inner)) → ReadsImports config min stack b is rest → Named (names_with is)
   imports_named {b = b} {rest = rest} {is = is} few h r =
       loop_gives KeepsNames (λ s k n. n) (λ s c q t e k n. subst (λ z. Named (names_with z)) (sym e.2) n) keeps_names 0 [] b is rest is r (omega (arith, few))

@@ -2,7 +2,7 @@
 use Rattle.std.proofs.Common.{ℕ, List}
 use Rattle.smith_input.specs.Reading.{IsTail}
 use Rattle.smith_input.proofs.Loops.{loop_tail}
-use Rattle.smith_input.proofs.ReadingLemmas.{tail_trans}
+use Rattle.smith_input.proofs.Reading.{tail_trans}
 use Rattle.smith_format.specs.declared.config.Config.{Config}
 use Rattle.smith_format.proofs.CoreReading.{function_tail, limits_tail}
 use Rattle.smith_core.specs.StandIn.{ReadsStandIn}

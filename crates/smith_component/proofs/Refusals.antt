@@ -25,20 +25,6 @@ module _ (config : Config) (stack : Open) (left : List ℕ) where
   finish_refused after choice OutOfMemory h = tt
   finish_refused after choice PartsDisagree h = absurd h
 
-  -- A core module that is refused is one that was chosen.
-  pub module_refused : (after : List ℕ) → ReadsAmong (items config stack left) left Module after → (e : Error) → IsStandInRefusal config e
-      → IsStepRefusal config stack left e
-  module_refused after choice InconsistentLimits h = absurd h
-  module_refused after choice MinimumNotMet h = absurd h
-  module_refused after choice ModuleRefused h = (after, choice, h)
-  module_refused after choice TooLong h = absurd h
-  module_refused after choice OutOfMemory h = tt
-  module_refused after choice PartsDisagree h = absurd h
-
-  -- For want of memory a step is refused.
-  pub memory_refused : (e : Error) → e ≡ OutOfMemory → IsStepRefusal config stack left e
-  memory_refused e h = subst (IsStepRefusal config stack left) (sym h) tt
-
   -- What refuses a step refuses the run that leads to it.
   pub step_refused : (input : List ℕ) → IsConsistent config → (LacksAt config stack left → LacksOn config input)
       → (RefusesModuleAt config stack left → RefusesModuleOn config input) → (e : Error) → IsStepRefusal config stack left e → IsRefusal config input e
@@ -57,24 +43,6 @@ never_minimum config stack left consistent grounded can e h m =
     filled_surely config stack lacks.0 consistent grounded can lacks.2
 
 module _ (config : Config) where
-  -- What refuses a builder refuses the run.
-  pub new_refused : (input : List ℕ) (e : Error) → IsNewRefusal config e → IsRefusal config input e
-  new_refused input InconsistentLimits h = h
-  new_refused input MinimumNotMet h = absurd h
-  new_refused input ModuleRefused h = absurd h
-  new_refused input TooLong h = absurd h
-  new_refused input OutOfMemory h = h
-  new_refused input PartsDisagree h = absurd h
-
-  -- Where limits fit together, memory is wanting.
-  pub new_accepted : IsConsistent config → (e : Error) → IsNewRefusal config e → e ≡ OutOfMemory
-  new_accepted consistent InconsistentLimits h = absurd (h consistent)
-  new_accepted consistent MinimumNotMet h = absurd h
-  new_accepted consistent ModuleRefused h = absurd h
-  new_accepted consistent TooLong h = absurd h
-  new_accepted consistent OutOfMemory h = refl
-  new_accepted consistent PartsDisagree h = absurd h
-
   pub refused_accepted : (input : List ℕ) → IsConsistent config → (LacksOn config input → ⊥) → (RefusesModuleOn config input → ⊥) → (e : Error)
       → IsRefusal config input e → e ≡ OutOfMemory
   refused_accepted input consistent never left InconsistentLimits h = absurd (h consistent)
@@ -83,12 +51,3 @@ module _ (config : Config) where
   refused_accepted input consistent never left TooLong h = absurd h
   refused_accepted input consistent never left OutOfMemory h = refl
   refused_accepted input consistent never left PartsDisagree h = absurd h
-
-  -- What refuses a component refuses what is generated.
-  pub generate_refused : (input : List ℕ) (e : Error) → IsRefusal config input e → IsGenerateRefusal config input e
-  generate_refused input InconsistentLimits h = h
-  generate_refused input MinimumNotMet h = h
-  generate_refused input ModuleRefused h = h
-  generate_refused input TooLong h = absurd h
-  generate_refused input OutOfMemory h = h
-  generate_refused input PartsDisagree h = absurd h

@@ -21,10 +21,6 @@ use Rattle.smith_component.specs.declared.builder.tables.Tables.{Tables}
 use Rattle.smith_component.proofs.Tree.{own-add}
 use Rattle.smith_scopes.proofs.Plain.{all_both}
 
--- What a component has grows as its last part does.
-pub own_grown : {A : Type 0} (f : Part → List A) (t : Tree) (p q : Part) (more : List A) → f q ≡ f p ++ more → own f (add t q) ≡ own f (add t p) ++ more
-own_grown f t p q more e = own-add f t q ∙ (ap (λ z. own f t ++ z) e ∙ (sym (append_assoc (own f t) (f p) more) ∙ ap (λ z. z ++ more) (sym (own-add f t p))))
-
 -- the same of a part that adds nothing
 pub own_bare : {A : Type 0} (f : Part → List A) (t : Tree) (p : Part) → f p ≡ [] → own f (add t p) ≡ own f t
 own_bare f t p e = own-add f t p ∙ (ap (λ z. own f t ++ z) e ∙ append-nil (own f t))

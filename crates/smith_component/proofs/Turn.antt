@@ -6,7 +6,7 @@ use Rattle.std.specs.Prelude.{slice_get, Some}
 use Rattle.smith_input.specs.Choices.{ReadsAmong}
 use Rattle.smith_input.specs.Reading.{IsWidth, Reads, IsTail}
 use Rattle.smith_input.proofs.Offered.{offer_holds}
-use Rattle.smith_input.proofs.ReadingLemmas.{width_unique, tail_is, tail_trans}
+use Rattle.smith_input.proofs.Reading.{width_unique, tail_is, tail_trans}
 use Rattle.smith_format.specs.declared.config.Config.{Config}
 use Rattle.smith_component.specs.Tree.{Tree, ends, Part, custom, core_module, core_types, component, add}
 use Rattle.smith_component.specs.Building.{Building, open_of}

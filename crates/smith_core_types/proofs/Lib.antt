@@ -4,4 +4,4 @@ pub mod MakingCore
 pub mod ModuleFronts
 pub mod ModuleTypes
 pub mod Names
-pub mod Same
+pub mod MadeCoreSame

@@ -15,8 +15,8 @@ use Rattle.smith_input.proofs.Loops.{loop_tail, loop_gives, loop_few, loop_same}
 use Rattle.smith_input.proofs.NewNames.{made_unique_same}
 use Rattle.smith_input.proofs.Offered.{offer_holds}
 use Rattle.smith_input.proofs.Picks.{reads-pick}
-use Rattle.smith_input.proofs.ReadingLemmas.{tail_same, tail_is, tail_trans, reads_tail, reads_unique, flips_unique}
-use Rattle.smith_input.proofs.TextsLemmas.{text_tail, text_unique}
+use Rattle.smith_input.proofs.Reading.{tail_same, tail_is, tail_trans, reads_tail, reads_unique, flips_unique}
+use Rattle.smith_input.proofs.Texts.{text_tail, text_unique}
 use Rattle.smith_format.specs.CoreFormed.{FormedFunction, FormedMemory}
 use Rattle.smith_format.specs.CoreScript as core
 use Rattle.smith_format.specs.CoreReading.{ReadsElement, only_functions, either, ReadsFunction}
@@ -46,7 +46,7 @@ use Rattle.smith_core_types.specs.Script.{script_core_type}
 use Rattle.smith_syntax.specs.WellFormed.{FormedEntity, FormedDecl, FormedCore, core_size}
 use Rattle.smith_core_types.specs.declared.module_types.ModuleItem.{ModuleItem}
 use Rattle.smith_core_types.specs.declared.module_types.ModuleItem.TheVariants as item
-use Rattle.smith_core_types.proofs.Same.{Same}
+use Rattle.smith_core_types.proofs.MadeCoreSame.{Same}
 use Rattle.smith_core_types.proofs.ModuleFronts.{memory_formed, front_is, front_size}
 use Rattle.smith_core_types.proofs.ModuleTypes.{HasNewName, Judged, judged_more, judged_names, judged_front, limit_of, EntityFits, DeclFits, Within}
 use Rattle.smith_core_types.proofs.ModuleTypes.{within_more, within_none, within_front}

@@ -5,7 +5,7 @@ use Rattle.std.specs.Prelude.{Option, Some, None, IfSome, slice_get}
 use Rattle.smith_input.specs.Reading.{Reads, IsTail}
 use Rattle.smith_input.proofs.Choices.{among_tail, among_same, among_contains}
 use Rattle.smith_input.proofs.Loops.{loop_tail, loop_few, loop_all, loop_same}
-use Rattle.smith_input.proofs.ReadingLemmas.{tail_same, tail_trans, reads_tail, reads_unique, flips_unique}
+use Rattle.smith_input.proofs.Reading.{tail_same, tail_trans, reads_tail, reads_unique, flips_unique}
 use Rattle.smith_format.specs.CoreFormed.{FormedLimits, FormedFunction}
 use Rattle.smith_format.specs.CoreReading.{ReadsBetween, ReadsMaximum, unbounded, bounded, ReadsLimits, ReadsMemory, ReadsElement, only_functions, either}
 use Rattle.smith_format.specs.CoreReading.{ReadsTable, ReadsTag, ReadsValues, ReadsFunction}

@@ -9,7 +9,7 @@ use Rattle.smith_input.specs.Choices.{ReadsAmong}
 use Rattle.smith_input.specs.Script.{rank_of, script_among}
 use Rattle.smith_input.specs.Reading.{Reads, IsTail}
 use Rattle.smith_input.proofs.Picks.{reads-pick}
-use Rattle.smith_input.proofs.ReadingLemmas.{reads_tail, reads_unique}
+use Rattle.smith_input.proofs.Reading.{reads_tail, reads_unique}
 
 -- what a call for one of the items answers
 pub among : {A : Type 0} {xs : List A} {bytes : List ℕ} {x : A} {rest : List ℕ} → (k : ℕ) × Reads (length xs) bytes k rest × (slice_get xs k ≡ Some x)

@@ -1,11 +1,11 @@
 pub mod Choices
-pub mod Kebabs
+pub mod Kebab
 pub mod Loops
 pub mod NameSets
 pub mod NewNames
 pub mod Offered
 pub mod Picks
-pub mod ReadingLemmas
+pub mod Reading
 pub mod Rests
-pub mod TextsLemmas
+pub mod Texts
 pub mod Widths

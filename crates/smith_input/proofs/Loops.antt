@@ -7,7 +7,7 @@ use Rattle.std.proofs.lemmas.Bool.Decides.{nat_tests}
 use Rattle.smith_input.specs.Loops.{Loop, no_more, by_itself, an_item, after_all, Along}
 use Rattle.smith_input.specs.Script.{script_end, script_more, script_loop}
 use Rattle.smith_input.specs.Reading.{More, IsTail}
-use Rattle.smith_input.proofs.ReadingLemmas.{tail_trans, more_tail, more_unique, more_full, more_within, more_past, more_one, more_zero, more_first}
+use Rattle.smith_input.proofs.Reading.{tail_trans, more_tail, more_unique, more_full, more_within, more_past, more_one, more_zero, more_first}
 
 module _ {S A : Type 0} {Ends : S → List ℕ → List ℕ → S → Type 0} {Item : S → List ℕ → A → List ℕ → S → Type 0} {min max : ℕ} where
   -- What a loop leaves is a tail, where its items and its own end leave tails.

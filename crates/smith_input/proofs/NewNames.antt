@@ -13,7 +13,7 @@ use Rattle.smith_input.specs.Reading.{IsTail}
 use Rattle.smith_input.specs.Kebab.{Kebab}
 use Rattle.smith_input.specs.Names.{IsMadeUnique, GainsName, appended, is_among, Holds, ReadsKebab, ReadsNew}
 use Rattle.smith_input.specs.Script.{script_name}
-use Rattle.smith_input.proofs.Kebabs.{kebab_is_read, kebab_is_kept, kebab_tail, kebab_unique, name_read}
+use Rattle.smith_input.proofs.Kebab.{kebab_is_read, kebab_is_kept, kebab_tail, kebab_unique, name_read}
 
 or_turned : (a b c : Bool) → (a || (b || c)) ≡ (b || (a || c))
 or_turned true true c = refl

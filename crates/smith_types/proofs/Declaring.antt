@@ -25,7 +25,7 @@ use Rattle.smith_types.specs.Declarations.{ReadsAlias}
 use Rattle.smith_types.specs.Offers.{is_occupied, occupied, numbered, aliases_of}
 use Rattle.smith_types.specs.MakingTypes.{Declares, SameOuter, with_aliased, with_exported}
 use Rattle.smith_scopes.specs.Scopes.{Contents, shown_scope, inward, last_of, scope_at, AddsType, AddsCoreType}
-use Rattle.smith_types.proofs.DeclarationsRead.{named_in, numbered_stands}
+use Rattle.smith_types.proofs.ReadsDeclarations.{named_in, numbered_stands}
 use Rattle.smith_input.proofs.Rests.{drop_past}
 use Rattle.smith_scopes.proofs.Places.{place_stands, get_either, get_left, get_right}
 use Rattle.smith_scopes.proofs.Plain.{rest_from}

@@ -1,10 +1,10 @@
-pub mod DeclarationsRead
+pub mod ReadsDeclarations
 pub mod Declaring
 pub mod Exact
 pub mod Externs
 pub mod Importing
-pub mod LiftedRead
-pub mod LiftedSame
+pub mod LiftingRead
+pub mod LiftingSame
 pub mod Lifting
 pub mod Made
 pub mod MadeFormed
@@ -12,7 +12,7 @@ pub mod MadeSame
 pub mod MadeTypes
 pub mod MakingTypes
 pub mod Members
-pub mod Naming
+pub mod ReferencesRead
 pub mod Needs
 pub mod Progressing
 pub mod References

@@ -15,7 +15,7 @@ use Rattle.smith_input.specs.Names.{ReadsNew}
 use Rattle.smith_input.specs.Reading.{IsTail}
 use Rattle.smith_input.proofs.Choices.{among_tail}
 use Rattle.smith_input.proofs.NewNames.{new_tail, new_kebab}
-use Rattle.smith_input.proofs.ReadingLemmas.{tail_same, tail_trans}
+use Rattle.smith_input.proofs.Reading.{tail_same, tail_trans}
 use Rattle.smith_syntax.specs.Entries.{Field, Signature, function}
 use Rattle.smith_syntax.specs.Flat.{flat_primitive, flat_value, Flattens}
 use Rattle.smith_syntax.specs.Scope.{Scope}

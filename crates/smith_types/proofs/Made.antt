@@ -8,7 +8,7 @@ use Rattle.smith_input.specs.Choices.{ReadsAmong}
 use Rattle.smith_input.specs.Reading.{IsTail}
 use Rattle.smith_input.proofs.Choices.{among_tail, among_same}
 use Rattle.smith_input.proofs.NewNames.{new_tail, new_unique}
-use Rattle.smith_input.proofs.ReadingLemmas.{tail_trans, reads_tail, reads_unique, flips_unique}
+use Rattle.smith_input.proofs.Reading.{tail_trans, reads_tail, reads_unique, flips_unique}
 use Rattle.smith_syntax.specs.Entries.{DefValType, primitive_type, record_type, variant_type, list_type, tuple_type, flags_type, enum_type, option_type}
 use Rattle.smith_syntax.specs.Entries.{result_type, Signature, function}
 use Rattle.smith_types.specs.Offers.{primitives}
@@ -21,7 +21,7 @@ use Rattle.smith_types.specs.declared.make.defined.DefinedKind.TheVariants as ki
 use Rattle.smith_syntax.specs.declared.types.ComponentValType.{ComponentValType}
 use Rattle.smith_syntax.specs.declared.types.ComponentValType.TheVariants.{Primitive, Indexed}
 use Rattle.smith_scopes.proofs.Places.{place_stands}
-use Rattle.smith_core_types.proofs.Same.{Same}
+use Rattle.smith_core_types.proofs.MadeCoreSame.{Same}
 use Rattle.smith_types.proofs.Members.{members_tail, named_tail, members_few, members_size, members_all, members_named, named_name, labels_named, members_same}
 use Rattle.smith_types.proofs.Members.{named_same}
 

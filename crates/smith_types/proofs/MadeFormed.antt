@@ -7,7 +7,7 @@ use Rattle.std.specs.List.{AllByRecursion}
 use Rattle.smith_input.specs.Kebab.{Kebab}
 use Rattle.smith_input.specs.Names.{ReadsNew}
 use Rattle.smith_input.proofs.NewNames.{new_kebab}
-use Rattle.smith_input.proofs.ReadingLemmas.{more_within}
+use Rattle.smith_input.proofs.Reading.{more_within}
 use Rattle.smith_format.specs.declared.config.Config.{Config}
 use Rattle.smith_syntax.specs.Entries.{EntryOf, DeclOf, DeclsOf, defined, function, component_type, instance_type, core_type_decl, type_decl, type_alias}
 use Rattle.smith_syntax.specs.Entries.{core_type_alias, import_decl, export_decl, no_decls, then_decls}
@@ -18,7 +18,7 @@ use Rattle.smith_types.specs.Declarations.{NamedExtern, SoFar, nothing_so_far, a
 use Rattle.smith_types.specs.Made.{Made, spent_type, made_defined, made_function, made_component, made_instance}
 use Rattle.smith_types.specs.Made.{MadeDeclaration, made_import, made_export, made_alias, made_core_type, made_type, MadeDeclarations, no_more_decls}
 use Rattle.smith_types.specs.Made.{spent_decls, one_decl}
-use Rattle.smith_types.proofs.DeclarationsRead.{alias_holds, alias_formed, import_formed, export_formed}
+use Rattle.smith_types.proofs.ReadsDeclarations.{alias_holds, alias_formed, import_formed, export_formed}
 use Rattle.smith_types.proofs.Made.{defined_formed, function_formed}
 use Rattle.smith_core_types.proofs.MadeCore.{made_core_formed}
 use Rattle.smith_core_types.proofs.Names.{AreNew, new_distinct, distinct_new, none_before}

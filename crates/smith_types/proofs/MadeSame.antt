@@ -2,7 +2,7 @@
 use Rattle.std.proofs.Common.{◌≡◌, ℕ, ◌+◌, ◌-◌, Bool, true, false, List, ◌∷◌, refl, sym, ap, ◌∙◌, subst, arith}
 use Rattle.smith_input.specs.Choices.{ReadsAmong}
 use Rattle.smith_input.proofs.Choices.{among_same}
-use Rattle.smith_input.proofs.ReadingLemmas.{more_unique}
+use Rattle.smith_input.proofs.Reading.{more_unique}
 use Rattle.smith_format.specs.declared.config.Config.{Config}
 use Rattle.smith_syntax.specs.Entries.{FullEntry, FullDecl, FullDecls, defined, function, component_type, instance_type, core_type_decl, type_decl, then_decls}
 use Rattle.smith_syntax.specs.Entries.{keeps_functions}
@@ -15,10 +15,10 @@ use Rattle.smith_core_types.specs.MadeCore.{MadeCore, named_by_core}
 use Rattle.smith_types.specs.declared.make.TypeKind.TheVariants.{Defined, Function, Component, Instance}
 use Rattle.smith_types.specs.declared.make.declarations.DeclarationItem.{DeclarationItem}
 use Rattle.smith_types.specs.declared.make.declarations.DeclarationItem.TheVariants as item
-use Rattle.smith_types.proofs.DeclarationsRead.{import_same, export_same, alias_same, no_import_same, import_or_none}
+use Rattle.smith_types.proofs.ReadsDeclarations.{import_same, export_same, alias_same, no_import_same, import_or_none}
 use Rattle.smith_types.proofs.Made.{defined_same, function_same}
 use Rattle.smith_core_types.proofs.MadeCore.{made_core_same}
-use Rattle.smith_core_types.proofs.Same.{Same}
+use Rattle.smith_core_types.proofs.MadeCoreSame.{Same}
 
 -- a choice of what is declared, where no import is
 items_same : (config : Config) (importing : Bool) (outer : List Scope) (own : Scope) (b mid low m l : List ℕ) (i j : DeclarationItem)

@@ -5,7 +5,7 @@ use Rattle.std.proofs.Math.Nat.{le-max_left, le-max_right, max-le, max-eq_right}
 use Rattle.std.specs.Prelude.{max}
 use Rattle.smith_input.specs.Reading.{IsTail}
 use Rattle.smith_input.proofs.Choices.{among_tail}
-use Rattle.smith_input.proofs.ReadingLemmas.{tail_trans, more_tail, more_within}
+use Rattle.smith_input.proofs.Reading.{tail_trans, more_tail, more_within}
 use Rattle.smith_format.specs.declared.config.Config.{Config}
 use Rattle.smith_syntax.specs.Entries.{FullEntry, FullDecl, FullDecls, plain, plain_decl, plain_decls, decl_count}
 use Rattle.smith_syntax.specs.Scope.{Scope, own_of, outer_of}
@@ -16,7 +16,7 @@ use Rattle.smith_types.specs.Made.{Made, spent_type, made_defined, made_function
 use Rattle.smith_types.specs.Made.{MadeDeclaration, made_import, made_export, made_alias, made_core_type, made_type, MadeDeclarations, no_more_decls}
 use Rattle.smith_types.specs.Made.{spent_decls, one_decl}
 use Rattle.smith_types.specs.declared.make.declarations.DeclarationItem.TheVariants as item
-use Rattle.smith_types.proofs.DeclarationsRead.{import_tail, export_tail, alias_tail, no_import_tail, alias_holds, item_offered}
+use Rattle.smith_types.proofs.ReadsDeclarations.{import_tail, export_tail, alias_tail, no_import_tail, alias_holds, item_offered}
 use Rattle.smith_types.proofs.Made.{defined_tail, function_tail, defined_within, function_within}
 use Rattle.smith_core_types.proofs.MadeCore.{made_core_tail, made_core_size, made_core_limits}
 

@@ -12,12 +12,12 @@ use Rattle.smith_input.specs.Names.{ReadsNew, is_among}
 use Rattle.smith_input.specs.Reading.{IsTail}
 use Rattle.smith_input.proofs.Loops.{loop_tail, loop_gives, loop_all, loop_few, loop_same, loop_read}
 use Rattle.smith_input.proofs.NewNames.{new_tail, new_unique, new_kebab, new_read}
-use Rattle.smith_input.proofs.ReadingLemmas.{tail_trans, tail_is}
+use Rattle.smith_input.proofs.Reading.{tail_trans, tail_is}
 use Rattle.smith_types.specs.Made.{IsSpent, ReadsMember, ReadsMembers, ReadsNamed}
 use Rattle.smith_types.specs.Script.{script_members, script_label, AreShort}
 use Rattle.smith_syntax.specs.Signature.{named}
 use Rattle.smith_syntax.specs.WellFormed.{Named}
-use Rattle.smith_core_types.proofs.Same.{Same}
+use Rattle.smith_core_types.proofs.MadeCoreSame.{Same}
 use Rattle.smith_core_types.proofs.Names.{AreNew, new_distinct, distinct_new, none_before}
 
 -- tails

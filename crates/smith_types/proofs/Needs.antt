@@ -23,7 +23,7 @@ use Rattle.smith_types.specs.Script.{cost, core_cost, decl_cost, decls_cost}
 use Rattle.smith_types.specs.declared.make.declarations.DeclarationItem.TheVariants as item
 use Rattle.smith_types.specs.declared.make.defined.DefinedKind.{DefinedKind}
 use Rattle.smith_types.specs.declared.make.defined.DefinedKind.TheVariants as kind
-use Rattle.smith_types.proofs.DeclarationsRead.{alias_holds, item_offered}
+use Rattle.smith_types.proofs.ReadsDeclarations.{alias_holds, item_offered}
 use Rattle.smith_types.proofs.Made.{defined_within, function_within}
 use Rattle.smith_types.proofs.Members.{members_size}
 

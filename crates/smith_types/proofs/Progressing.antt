@@ -5,7 +5,7 @@ use Rattle.std.specs.Option.{option_to_list}
 use Rattle.std.specs.Prelude.{Option, Some, None}
 use Rattle.smith_format.specs.declared.config.Config.{Config}
 use Rattle.smith_input.specs.Reading.{More}
-use Rattle.smith_input.proofs.ReadingLemmas.{more_full}
+use Rattle.smith_input.proofs.Reading.{more_full}
 use Rattle.smith_syntax.specs.Entries.{FullDecl, FullDecls, in_order, no_decls, then_decls, core_type_decl, type_decl, type_alias, core_type_alias, import_decl}
 use Rattle.smith_syntax.specs.Entries.{export_decl}
 use Rattle.smith_syntax.specs.Scope.{Scope, empty_scope, after_decl, type_named, core_type_named, exported_type}

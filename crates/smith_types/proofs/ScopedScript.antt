@@ -9,7 +9,7 @@ use Rattle.std.specs.Prelude.{Option}
 use Rattle.smith_input.specs.Kebab.{Kebab}
 use Rattle.smith_input.proofs.Loops.{end_read}
 use Rattle.smith_input.proofs.Picks.{reads-pick}
-use Rattle.smith_input.proofs.ReadingLemmas.{more_one}
+use Rattle.smith_input.proofs.Reading.{more_one}
 use Rattle.smith_input.specs.Script.{pick}
 use Rattle.smith_format.specs.declared.config.Config.{Config}
 use Rattle.smith_syntax.specs.Entries.{Entry, Decl, Decls, FullEntry, FullDecl, FullDecls, defined, function, component_type, instance_type, core_func}
@@ -39,7 +39,7 @@ use Rattle.smith_types.specs.declared.make.declarations.DeclarationItem.{Declara
 use Rattle.smith_types.specs.declared.make.declarations.DeclarationItem.TheVariants as item
 use Rattle.smith_types.proofs.MadeFormed.{after_plain}
 use Rattle.smith_types.proofs.MadeSame.{made_same}
-use Rattle.smith_types.proofs.Naming.{type_alias_read, core_alias_read, alias_there, item_read, no_import_read, extern_read, ref_read, ref_there}
+use Rattle.smith_types.proofs.ReferencesRead.{type_alias_read, core_alias_read, alias_there, item_read, no_import_read, extern_read, ref_read, ref_there}
 use Rattle.smith_types.proofs.Script.{type_function, type_values, type_kind_read}
 
 -- core types

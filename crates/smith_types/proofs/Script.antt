@@ -12,7 +12,7 @@ use Rattle.smith_input.specs.Script.{script_among, pick}
 use Rattle.smith_input.specs.Names.{ReadsNew}
 use Rattle.smith_input.proofs.Choices.{among_read}
 use Rattle.smith_input.proofs.Picks.{reads-pick}
-use Rattle.smith_input.proofs.ReadingLemmas.{flips_one, flips_zero}
+use Rattle.smith_input.proofs.Reading.{flips_one, flips_zero}
 use Rattle.smith_format.specs.declared.config.Config.{Config}
 use Rattle.smith_syntax.specs.Entries.{DefValType, primitive_type, record_type, variant_type, list_type, tuple_type, flags_type, enum_type, option_type}
 use Rattle.smith_syntax.specs.Entries.{result_type, Field, Case, Signature, defined, function}

@@ -5,7 +5,7 @@ ghost use Rattle.std.specs.Prelude.{IfErr, MatchOption};
 ghost use Rattle.smith_input.specs.Choices.{ReadsAmong};
 ghost use Rattle.smith_input.specs.Loops.{Loop};
 ghost use Rattle.smith_input.specs.Reading.{IsTail};
-ghost use Rattle.smith_format.specs.Limits.{IsConsistent};
+ghost use Rattle.smith_format.specs.Limits.{IsConsistent, max_u32};
 ghost use Rattle.smith_scopes.specs.Scopes.{own_scope, outer_scopes};
 ghost use Rattle.smith_component.specs.Canonicals.{CanonTurn, Growing, NoCanon, ReadsCanons, ReadsLift, ReadsLower};
 ghost use Rattle.smith_component.specs.Canonicals.{grown, with_defined};
@@ -90,8 +90,8 @@ impl<'a> CanonicalDraft<'a> {
     // Ends the canonical section, defines the type in a section of its own, and begins another with the lift.
     fn define(&mut self, core_func_index: u32, ty: FuncType) -> Result<(), Error>
         requires draft { IsDraft self.old }
-        requires types { length (own_scope self.old.scopes.now).types < 4294967295 }
-        requires room { function_count (grown (draft_of self.old)) < 4294967295 }
+        requires types { length (own_scope self.old.scopes.now).types < max_u32 }
+        requires room { function_count (grown (draft_of self.old)) < max_u32 }
         ensures loans { SameLoans self.old self.new }
         ensures defines { OnOk result (draft_of self.new ≡ with_defined (draft_of self.old) core_func_index ty) }
         ensures drafts { OnOk result (DraftsOn self.old self.new) }
@@ -119,7 +119,7 @@ impl<'a> CanonicalDraft<'a> {
         requires consistent { IsConsistent self.old.config.now }
         requires draft { IsDraft self.old }
         requires some { 0 < length self.old.component.now.tables.core_functions.items }
-        requires room { function_count (grown (draft_of self.old)) < 4294967295 }
+        requires room { function_count (grown (draft_of self.old)) < max_u32 }
         ensures loans { SameLoans self.old self.new }
         ensures reads { OnOk result
             (ReadsLift self.old.config.now (draft_of self.old) u.old u.new (draft_of self.new)) }
@@ -149,7 +149,7 @@ impl<'a> CanonicalDraft<'a> {
     fn turn(&mut self, u: &mut Unstructured) -> Result<bool, Error>
         requires consistent { IsConsistent self.old.config.now }
         requires draft { IsDraft self.old }
-        requires room { function_count (grown (draft_of self.old)) < 4294967295 }
+        requires room { function_count (grown (draft_of self.old)) < max_u32 }
         ensures loans { SameLoans self.old self.new }
         ensures reads { IfOk result (λ made.
             IsDrafted self.old.config.now (draft_of self.old) u.old made u.new (draft_of self.new)) }
@@ -172,7 +172,7 @@ impl<'a> CanonicalDraft<'a> {
         requires consistent { IsConsistent self.old.config.now }
         requires ordered { min ≤ max }
         requires draft { IsDraft self.old }
-        requires room { function_count (grown (draft_of self.old)) + max ≤ 4294967295 }
+        requires room { function_count (grown (draft_of self.old)) + max ≤ max_u32 }
         ensures loans { SameLoans self.old self.new }
         ensures reads { OnOk result ((turns : List CanonItem) × Loop NoCanon (CanonTurn self.old.config.now) min max 0
             (draft_of self.old) u.old turns u.new (draft_of self.new)) }

@@ -3,7 +3,7 @@
 ghost use Rattle.std.specs.Prelude.{◌≡◌, ℕ, ◌+◌, ◌<◌, ◌≤◌, List, length, IfOk, IfErr};
 ghost use Rattle.smith_input.specs.Loops.{Loop, Never};
 ghost use Rattle.smith_input.specs.Reading.{IsTail};
-ghost use Rattle.smith_format.specs.Limits.{configured, IsConsistent};
+ghost use Rattle.smith_format.specs.Limits.{configured, IsConsistent, max_u32};
 ghost use Rattle.smith_format.specs.declared.config.Config.{Config};
 ghost use Rattle.smith_scopes.specs.Scopes.{own_scope, outer_scopes};
 ghost use Rattle.smith_syntax.specs.Scope.{Scope};
@@ -28,7 +28,7 @@ pub(super) trait SectionEntry: Drop {
         scopes: &mut Scopes,
         u: &mut Unstructured,
     ) -> Result<Self, Error>
-        requires room { count (own_scope scopes.old) < 4294967295 }
+        requires room { count (own_scope scopes.old) < max_u32 }
         requires configured { valtypes.now ≡ configured config.now }
         requires consistent { IsConsistent config.now }
         requires shallow { length scopes.old ≤ 1001 }
@@ -52,7 +52,7 @@ pub(super) fn read_entries<E: SectionEntry>(
     u: &mut Unstructured,
 ) -> Result<Vec<E>, Error>
     requires ordered { min ≤ max }
-    requires room { E.count (own_scope scopes.old) + max ≤ 4294967295 }
+    requires room { E.count (own_scope scopes.old) + max ≤ max_u32 }
     requires configured { valtypes.now ≡ configured config.now }
     requires consistent { IsConsistent config.now }
     requires shallow { length scopes.old ≤ 1001 }

@@ -1,6 +1,7 @@
 //! What is kept of a component beside its sections, so that no turn searches them.
 
 ghost use Rattle.std.specs.Prelude.{◌≡◌, ◌+◌, ◌<◌, [], length, OnOk, IfErr};
+ghost use Rattle.smith_format.specs.Limits.{max_u32};
 ghost use Rattle.smith_types.specs.MakingTypes.{HoldsExterns};
 ghost use Rattle.smith_scopes.specs.Scopes.{own_scope};
 ghost use Rattle.smith_component.specs.Offers.{is_scalar_type};
@@ -55,7 +56,7 @@ impl Tables {
     // Adds a component function of the type with that index.
     pub(super) fn add_function(&mut self, scopes: &Scopes, ty: u32) -> Result<(), Error>
         requires known { ty < length (own_scope scopes.now).types }
-        requires room { length self.old.functions.items < 4294967295 }
+        requires room { length self.old.functions.items < max_u32 }
         ensures ok { OnOk result (AddsFunction (own_scope scopes.now) self.old ty self.new) }
         ensures memory { IfErr result (λ e. e ≡ Error.OutOfMemory) }
     {

@@ -1,6 +1,6 @@
 use Rattle.std.proofs.Common.{◌≡◌, ℕ, ◌-◌, Bool, true, false, ◌++◌, ◌∷◌, [], ap, sym, ◌∙◌, refl, subst, arith}
 use Rattle.smith_input.proofs.Loops.{begins, stops, ends_early, ends_full, goes_on}
-use Rattle.smith_input.proofs.ReadingLemmas.{tail_same, tail_trans, more_tail}
+use Rattle.smith_input.proofs.Reading.{tail_same, tail_trans, more_tail}
 use Rattle.smith_core_types.specs.MadeCore.{no_fuel}
 use Rattle.smith_core_types.specs.MakingCore.{DeclTurn, so_far}
 use Rattle.smith_syntax.specs.Scope.{own_of}

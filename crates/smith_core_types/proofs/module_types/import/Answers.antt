@@ -1,6 +1,6 @@
 use Rattle.std.proofs.Common.{ℕ, ◌-◌, List, refl, sym, subst, append-nil, string_bytes, map}
 use Rattle.smith_input.specs.Texts.{ReadsText}
-use Rattle.smith_input.proofs.ReadingLemmas.{tail_trans}
+use Rattle.smith_input.proofs.Reading.{tail_trans}
 use Rattle.smith_syntax.specs.Entries.{imports}
 use Rattle.smith_core_types.specs.MadeCore.{ReadsImportNames, ReadsNewText}
 use Rattle.smith_core_types.specs.MakingCore.{MaybeEntity, shown_funcs, so_far}

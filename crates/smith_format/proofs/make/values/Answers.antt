@@ -1,6 +1,6 @@
 use Rattle.smith_input.proofs.Choices.{among}
 use Rattle.smith_input.proofs.Loops.{begins, stops, ends_full, goes_on}
-use Rattle.smith_input.proofs.ReadingLemmas.{tail_same, tail_trans, reads_tail, more_tail}
+use Rattle.smith_input.proofs.Reading.{tail_same, tail_trans, reads_tail, more_tail}
 use Rattle.smith_format.proofs.make.values.Goals as goal
 
 pub loop-done-init : goal.loop-done-init

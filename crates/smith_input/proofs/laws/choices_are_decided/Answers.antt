@@ -1,4 +1,4 @@
-use Rattle.smith_input.proofs.ReadingLemmas.{reads_unique}
+use Rattle.smith_input.proofs.Reading.{reads_unique}
 use Rattle.smith_input.proofs.laws.choices_are_decided.Goals as goal
 
 pub returns : goal.returns

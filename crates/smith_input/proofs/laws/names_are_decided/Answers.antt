@@ -1,4 +1,4 @@
-use Rattle.smith_input.proofs.Kebabs.{kebab_unique}
+use Rattle.smith_input.proofs.Kebab.{kebab_unique}
 use Rattle.smith_input.proofs.laws.names_are_decided.Goals as goal
 
 pub returns : goal.returns

@@ -1,4 +1,4 @@
-use Rattle.smith_input.proofs.Kebabs.{kebab_is_read}
+use Rattle.smith_input.proofs.Kebab.{kebab_is_read}
 use Rattle.smith_input.proofs.laws.names_are_kebab.Goals as goal
 
 pub returns : goal.returns

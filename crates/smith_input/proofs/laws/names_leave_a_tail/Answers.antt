@@ -1,4 +1,4 @@
-use Rattle.smith_input.proofs.Kebabs.{kebab_tail}
+use Rattle.smith_input.proofs.Kebab.{kebab_tail}
 use Rattle.smith_input.proofs.laws.names_leave_a_tail.Goals as goal
 
 pub returns : goal.returns

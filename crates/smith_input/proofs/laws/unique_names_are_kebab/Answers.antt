@@ -1,4 +1,4 @@
-use Rattle.smith_input.proofs.Kebabs.{kebab_is_kept}
+use Rattle.smith_input.proofs.Kebab.{kebab_is_kept}
 use Rattle.smith_input.proofs.laws.unique_names_are_kebab.Goals as goal
 
 pub returns : goal.returns

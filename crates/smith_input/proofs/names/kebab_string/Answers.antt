@@ -1,8 +1,8 @@
 use Rattle.std.proofs.Common.{◌≡◌, if◌then◌else◌, Bool, [], ◌∷◌, ◌++◌, sym, ap, ◌∙◌, arith, append-nil, string_bytes, rules}
 use Rattle.std.proofs.lemmas.Grind.{common_steps}
 use Rattle.smith_input.specs.Names.{none, next}
-use Rattle.smith_input.proofs.ReadingLemmas.{tail_trans, reads_tail}
-use Rattle.smith_input.proofs.Kebabs.{spelt_pushed, kebab_counted}
+use Rattle.smith_input.proofs.Reading.{tail_trans, reads_tail}
+use Rattle.smith_input.proofs.Kebab.{spelt_pushed, kebab_counted}
 use Rattle.smith_input.proofs.names.kebab_string.Goals as goal
 use Rattle.smith_input.proofs.names.kebab_string.Goals.{then-begins+in_ok-push-2, else-begins}
 

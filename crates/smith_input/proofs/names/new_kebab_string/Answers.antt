@@ -1,6 +1,6 @@
 use Rattle.std.proofs.Common.{string_bytes}
 use Rattle.std.proofs.lemmas.Result.{IfOk-weaker}
-use Rattle.smith_input.proofs.Kebabs.{kebab_is_read}
+use Rattle.smith_input.proofs.Kebab.{kebab_is_read}
 use Rattle.smith_input.proofs.names.new_kebab_string.Goals as goal
 
 pub returns-clause-read : goal.returns-clause-read

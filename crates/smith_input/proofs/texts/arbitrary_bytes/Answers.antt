@@ -2,7 +2,7 @@ use Rattle.std.proofs.Common.{◌≡◌, [], ◌∷◌, ◌++◌, true, subst, a
 use Rattle.std.proofs.lemmas.Grind.{common_steps}
 use Rattle.smith_input.specs.Reading.{Flips}
 use Rattle.smith_input.specs.Texts.{ReadsByte, ends, follows}
-use Rattle.smith_input.proofs.ReadingLemmas.{tail_trans}
+use Rattle.smith_input.proofs.Reading.{tail_trans}
 use Rattle.smith_input.proofs.texts.arbitrary_bytes.Goals as goal
 
 pub loop-bytes-preserved : goal.loop-bytes-preserved

@@ -1,6 +1,6 @@
 use Rattle.std.proofs.Common.{ap, arith, length}
 use Rattle.smith_format.specs.Shown.{shown_func}
-use Rattle.smith_types.proofs.LiftedRead.{lifted_scripted}
+use Rattle.smith_types.proofs.LiftingRead.{lifted_scripted}
 use Rattle.smith_types.proofs.Lifting.{all_lifted, lifted_flattens, params_named}
 use Rattle.smith_types.proofs.canonical.inverse_scalar_canonical_abi_for.Goals as goal
 

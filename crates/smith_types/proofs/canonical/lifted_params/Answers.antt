@@ -2,7 +2,7 @@ use Rattle.std.proofs.Common.{map, refl}
 use Rattle.std.specs.Prelude.{String}
 use Rattle.std.specs.declared.alloc.Global.{Global}
 use Rattle.smith_format.specs.declared.types.ValType.TheVariants.{I32}
-use Rattle.smith_input.proofs.ReadingLemmas.{tail_trans}
+use Rattle.smith_input.proofs.Reading.{tail_trans}
 use Rattle.smith_syntax.specs.Signature.{named}
 use Rattle.smith_syntax.specs.declared.types.ComponentValType.{ComponentValType}
 use Rattle.smith_syntax.specs.declared.types.ComponentValType.TheVariants.{Primitive}

@@ -2,7 +2,7 @@ use Rattle.std.proofs.Common.{List, [], ◌∷◌, map, refl, sym, ap, ◌∙◌
 use Rattle.std.proofs.lemmas.Bool.{false≢true}
 use Rattle.std.proofs.lemmas.List.{map-append}
 use Rattle.std.proofs.lemmas.Result.{IfOk-weaker}
-use Rattle.smith_input.proofs.ReadingLemmas.{tail_trans, more_tail}
+use Rattle.smith_input.proofs.Reading.{tail_trans, more_tail}
 use Rattle.smith_syntax.specs.Entries.{FullDecl, in_order, component_type, instance_type}
 use Rattle.smith_syntax.specs.Scope.{Scope, after_decl, with_type}
 use Rattle.smith_syntax.specs.Shown.{full_component_decl, full_instance_decl, full_type, shown_type}

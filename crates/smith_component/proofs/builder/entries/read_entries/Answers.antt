@@ -1,6 +1,6 @@
 use Rattle.std.proofs.Common.{List, ◌∷◌, [], length, length-append, subst, ap, ◌∙◌, refl, arith}
 use Rattle.smith_input.proofs.Loops.{begins, stops, ends_full, goes_on}
-use Rattle.smith_input.proofs.ReadingLemmas.{tail_same, tail_trans, more_tail}
+use Rattle.smith_input.proofs.Reading.{tail_same, tail_trans, more_tail}
 use Rattle.smith_syntax.specs.Scope.{Scope}
 use Rattle.smith_scopes.specs.Scopes.{own_scope}
 use Rattle.smith_component.proofs.builder.entries.read_entries.Goals as goal

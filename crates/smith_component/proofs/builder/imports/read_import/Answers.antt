@@ -4,8 +4,9 @@ use Rattle.std.proofs.lemmas.List.{map-append}
 use Rattle.std.specs.List.{AllByRecursion}
 use Rattle.std.specs.Prelude.{if◌then◌else◌}
 use Rattle.std.proofs.lemmas.Option.{slice_get_within}
-use Rattle.smith_input.proofs.ReadingLemmas.{tail_trans}
+use Rattle.smith_input.proofs.Reading.{tail_trans}
 use Rattle.smith_format.specs.declared.config.Config.{Config}
+use Rattle.smith_format.specs.Limits.{max_u32}
 use Rattle.smith_syntax.specs.Entries.{ImportEntry}
 use Rattle.smith_syntax.specs.Scope.{Scope, places}
 use Rattle.smith_syntax.specs.Shown.{import_shown}
@@ -157,7 +158,7 @@ module _ (config : Config) (stack : Open) (before : List NamedExtern) (is : List
         }
 
 -- what is counted finds room
-counts_fit : (old more count most : ℕ) → count ≡ old → count + more ≤ max count most → most ≤ 4294967295 → 0 < more → old + 1 < 18446744073709551616
+counts_fit : (old more count most : ℕ) → count ≡ old → count + more ≤ max count most → most ≤ max_u32 → 0 < more → old + 1 < 18446744073709551616
 counts_fit old more count most e room few some = omega (arith, e, room, few, some)
 
 pub count-requires-clause-modules : goal.count-requires-clause-modules

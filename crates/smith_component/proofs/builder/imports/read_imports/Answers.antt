@@ -1,7 +1,7 @@
 use Rattle.std.proofs.Common.{◌≡◌, List, [], ◌∷◌, ◌++◌, length, length-append, sym, subst, ap, ◌∙◌, arith}
 use Rattle.std.specs.Prelude.{Option}
 use Rattle.smith_input.proofs.Loops.{ends_early, ends_full, goes_on, stops}
-use Rattle.smith_input.proofs.ReadingLemmas.{more_tail, tail_trans}
+use Rattle.smith_input.proofs.Reading.{more_tail, tail_trans}
 use Rattle.smith_syntax.specs.declared.deftype.Import.{Import}
 use Rattle.smith_types.specs.Declarations.{NamedExtern}
 use Rattle.smith_scopes.specs.Scopes.{own_scope}

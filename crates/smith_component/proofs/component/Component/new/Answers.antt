@@ -1,5 +1,5 @@
 use Rattle.std.proofs.Common.{◌≡◌, ◌+◌, ◌≤◌, arith, ap, ◌∙◌, subst, sym}
-use Rattle.smith_input.proofs.ReadingLemmas.{tail_same, tail_trans}
+use Rattle.smith_input.proofs.Reading.{tail_same, tail_trans}
 use Rattle.smith_format.specs.Limits.{IsConsistent}
 use Rattle.smith_format.specs.declared.config.Config.{Config}
 use Rattle.smith_component.specs.BuilderView.{stack_of}

@@ -1,5 +1,5 @@
 use Rattle.smith_input.proofs.Loops.{begins, stops, ends_full, goes_on}
-use Rattle.smith_input.proofs.ReadingLemmas.{tail_same, tail_trans, more_tail}
+use Rattle.smith_input.proofs.Reading.{tail_same, tail_trans, more_tail}
 use Rattle.smith_core.proofs.StandIn.{reads_sub_type}
 use Rattle.smith_core.proofs.module.stand_in.function_types.Goals as goal
 

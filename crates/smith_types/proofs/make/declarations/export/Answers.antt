@@ -1,5 +1,5 @@
 use Rattle.std.proofs.Common.{◌++◌, sym, subst}
-use Rattle.smith_input.proofs.ReadingLemmas.{tail_trans}
+use Rattle.smith_input.proofs.Reading.{tail_trans}
 use Rattle.smith_syntax.specs.Entries.{FullDecl}
 use Rattle.smith_syntax.specs.WellFormed.{export_of}
 use Rattle.smith_syntax.proofs.Shown.{instance_export}

@@ -1,5 +1,5 @@
 use Rattle.std.proofs.Common.{sym, ◌∙◌, refl, arith}
-use Rattle.smith_input.proofs.ReadingLemmas.{reads_tail, tail_trans}
+use Rattle.smith_input.proofs.Reading.{reads_tail, tail_trans}
 use Rattle.smith_types.specs.Declarations.{nothing_there}
 use Rattle.smith_types.proofs.Importing.{import_not_asked, import_fits_none, import_read}
 use Rattle.smith_types.proofs.make.declarations.import.Goals as goal

@@ -1,6 +1,6 @@
 use Rattle.std.proofs.Common.{Bool, subst}
 use Rattle.smith_input.specs.Reading.{Flips}
-use Rattle.smith_input.proofs.ReadingLemmas.{tail_trans}
+use Rattle.smith_input.proofs.Reading.{tail_trans}
 use Rattle.smith_types.specs.Declarations.{no_url}
 use Rattle.smith_types.proofs.Externs.{url_read}
 use Rattle.smith_types.proofs.make.externs.maybe_url.Goals as goal

@@ -1,5 +1,5 @@
 use Rattle.smith_input.proofs.Loops.{none_more, none_early, one_more}
-use Rattle.smith_input.proofs.ReadingLemmas.{tail_trans, more_tail}
+use Rattle.smith_input.proofs.Reading.{tail_trans, more_tail}
 use Rattle.smith_types.proofs.Members.{spends, has_read}
 use Rattle.smith_types.proofs.make.function.result_of.Goals as goal
 

@@ -1,6 +1,6 @@
 use Rattle.std.proofs.Common.{map, ap}
 use Rattle.smith_input.proofs.Loops.{stops, ends_early, goes_on, ends_full}
-use Rattle.smith_input.proofs.ReadingLemmas.{tail_same, tail_trans, more_tail}
+use Rattle.smith_input.proofs.Reading.{tail_same, tail_trans, more_tail}
 use Rattle.smith_scopes.proofs.Plain.{pushed}
 use Rattle.smith_types.proofs.Members.{starts, spends, has_read_as}
 use Rattle.smith_types.proofs.make.members.members.Goals as goal

@@ -10,7 +10,7 @@ use Rattle.smith_scopes.specs.Scopes.{own_scope}
 use Rattle.smith_types.specs.declared.make.references.RefKind.{RefKind}
 use Rattle.smith_types.specs.declared.make.references.RefTotals.{RefTotals}
 use Rattle.smith_scopes.proofs.Plain.{both_true}
-use Rattle.smith_types.proofs.Naming.{ref_not_none, ref_scripted}
+use Rattle.smith_types.proofs.ReferencesRead.{ref_not_none, ref_scripted}
 use Rattle.smith_types.proofs.make.references.arbitrary_type_ref.Goals as goal
 
 placed : (n : ℕ) (allowed : Bool) → (nat_lt 0 n && allowed) ≡ true → 0 < n

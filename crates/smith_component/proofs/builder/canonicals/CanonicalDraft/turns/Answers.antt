@@ -1,6 +1,6 @@
 use Rattle.std.proofs.Common.{[], ◌∷◌, ◌++◌, refl, sym, subst, arith}
 use Rattle.smith_input.proofs.Loops.{begins, ends_early, ends_full, goes_on, stops}
-use Rattle.smith_input.proofs.ReadingLemmas.{more_tail, tail_same, tail_trans}
+use Rattle.smith_input.proofs.Reading.{more_tail, tail_same, tail_trans}
 use Rattle.smith_format.specs.Limits.{IsConsistent}
 use Rattle.smith_format.specs.declared.config.Config.{Config}
 use Rattle.smith_component.specs.CanonicalsState.{IsDrafted, draft_of}

@@ -10,7 +10,7 @@ use Rattle.smith_input.specs.Reading.{Reads, Flips, IsTail}
 use Rattle.smith_input.specs.Script.{pick, script_bytes, script_text}
 use Rattle.smith_input.specs.Texts.{ReadsBytes, ends, follows, IsLongestText, ReadsText}
 use Rattle.smith_input.proofs.Picks.{reads-pick}
-use Rattle.smith_input.proofs.ReadingLemmas.{tail_trans, reads_tail, reads_unique, flips_unique, flips_one, flips_zero}
+use Rattle.smith_input.proofs.Reading.{tail_trans, reads_tail, reads_unique, flips_unique, flips_one, flips_zero}
 
 pub bytes_tail : {bytes values rest : List ℕ} → ReadsBytes bytes values rest → IsTail rest bytes
 bytes_tail (ends f) = (1, f.left)

@@ -25,7 +25,7 @@ use Rattle.smith_syntax.specs.declared.types.PrimitiveValType.TheVariants as pri
 use Rattle.smith_core_types.proofs.Names.{AreNew, distinct_new, none_before}
 use Rattle.smith_types.specs.Lifting.{ReadsParams, no_params, a_param, ReadsLifted}
 use Rattle.smith_types.specs.Offers.{lifted}
-use Rattle.smith_types.proofs.LiftedSame.{lifted_same}
+use Rattle.smith_types.proofs.LiftingSame.{lifted_same}
 use Rattle.smith_types.specs.Script.{AreShort, script_scalar, script_params, script_result, script_lifted}
 
 primitive_Decides : (a b : PrimitiveValType) → Decides (prims.eq a b) (a ≡ b)

@@ -8,7 +8,7 @@ use Rattle.smith_input.specs.Reading.{IsTail}
 use Rattle.smith_input.proofs.Choices.{among_tail, among_same}
 use Rattle.smith_input.proofs.NewNames.{new_tail, new_unique}
 use Rattle.smith_input.proofs.Offered.{offer_holds}
-use Rattle.smith_input.proofs.ReadingLemmas.{tail_same, tail_trans, reads_tail, reads_unique, flips_unique}
+use Rattle.smith_input.proofs.Reading.{tail_same, tail_trans, reads_tail, reads_unique, flips_unique}
 use Rattle.smith_format.specs.declared.config.Config.{Config}
 use Rattle.smith_syntax.specs.Entries.{Kept, FullDecl, plain_decl, type_alias, core_type_alias, import_decl, export_decl, keeps_type, keeps_core_type}
 use Rattle.smith_syntax.specs.Scope.{Scope, in_scope}

@@ -15,7 +15,7 @@ use Rattle.smith_input.proofs.Choices.{among_none, among_read, among_same}
 use Rattle.smith_input.proofs.NewNames.{new_read}
 use Rattle.smith_input.proofs.Offered.{offers_few, offers_found}
 use Rattle.smith_input.proofs.Picks.{reads-pick}
-use Rattle.smith_input.proofs.ReadingLemmas.{flips_zero}
+use Rattle.smith_input.proofs.Reading.{flips_zero}
 use Rattle.smith_format.specs.declared.config.Config.{Config}
 use Rattle.smith_syntax.specs.Entries.{Entry, CoreEntry, FullDecl, type_alias, core_type_alias, keeps_type, keeps_core_type}
 use Rattle.smith_syntax.specs.Scope.{Scope, places, is_func, is_component, is_instance, is_core_module, in_scope, type_named, core_type_named}

@@ -11,7 +11,7 @@ use Rattle.smith_input.specs.Script.{pick, code, script_characters, script_name}
 use Rattle.smith_input.specs.Kebab.{IsLetter, IsDigit, AreInWord, IsWord, Kebab, word, hyphen}
 use Rattle.smith_input.specs.Names.{character, characters, ReadsEach, none, next, ReadsKebab, appended, IsMadeUnique}
 use Rattle.smith_input.proofs.Picks.{reads-pick}
-use Rattle.smith_input.proofs.ReadingLemmas.{tail_same, tail_trans, reads_tail, reads_unique}
+use Rattle.smith_input.proofs.Reading.{tail_same, tail_trans, reads_tail, reads_unique}
 
 -- what may follow a prefix of a name, where a word must begin or goes on
 abbrev pub Follows : Bool → List ℕ → Type 0
