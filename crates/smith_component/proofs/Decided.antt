@@ -2,7 +2,7 @@
 use Rattle.std.proofs.Common.{◌≡◌, ℕ, zero, suc, List, length, sym, ap, ◌∙◌, subst, arith, inl, inr}
 use Rattle.smith_input.specs.Choices.{ReadsAmong}
 use Rattle.smith_input.proofs.Choices.{among_same}
-use Rattle.smith_input.proofs.Texts.{bytes_unique, text_unique}
+use Rattle.smith_input.proofs.ReadsTexts.{bytes_unique, text_unique}
 use Rattle.smith_format.specs.declared.config.Config.{Config}
 use Rattle.smith_core.proofs.StandInSame.{stand_in_same}
 use Rattle.smith_component.specs.Canonicals.{grown}

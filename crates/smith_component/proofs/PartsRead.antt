@@ -4,7 +4,7 @@ use Rattle.std.proofs.Common.{length-append}
 use Rattle.std.specs.List.{AllByRecursion}
 use Rattle.std.specs.Str.{IsUtf8}
 use Rattle.smith_input.specs.Script.{script_text, script_bytes}
-use Rattle.smith_input.proofs.Texts.{text_read, bytes_read}
+use Rattle.smith_input.proofs.ReadsTexts.{text_read, bytes_read}
 use Rattle.smith_format.specs.Limits.{IsConsistent, max_u32}
 use Rattle.smith_format.specs.declared.config.Config.{Config}
 use Rattle.smith_syntax.specs.Scope.{Scope}

@@ -3,7 +3,7 @@ use Rattle.std.proofs.Common.{ℕ, ◌≤◌, List, length, take, arith, ap}
 use Rattle.std.proofs.lemmas.List.{length-take}
 use Rattle.smith_input.specs.Reading.{IsTail}
 use Rattle.smith_input.proofs.Reading.{tail_trans}
-use Rattle.smith_input.proofs.Texts.{text_tail, bytes_tail}
+use Rattle.smith_input.proofs.ReadsTexts.{text_tail, bytes_tail}
 use Rattle.smith_component.specs.AddedSections.{ReadsCustom}
 
 pub custom_short : (b name contents rest : List ℕ) → ReadsCustom b name contents rest → length name ≤ 1000

@@ -16,7 +16,7 @@ use Rattle.smith_input.proofs.NewNames.{made_unique_same}
 use Rattle.smith_input.proofs.Offered.{offer_holds}
 use Rattle.smith_input.proofs.Picks.{reads-pick}
 use Rattle.smith_input.proofs.Reading.{tail_same, tail_is, tail_trans, reads_tail, reads_unique, flips_unique}
-use Rattle.smith_input.proofs.Texts.{text_tail, text_unique}
+use Rattle.smith_input.proofs.ReadsTexts.{text_tail, text_unique}
 use Rattle.smith_format.specs.CoreFormed.{FormedFunction, FormedMemory}
 use Rattle.smith_format.specs.CoreScript as core
 use Rattle.smith_format.specs.CoreReading.{ReadsElement, only_functions, either, ReadsFunction}

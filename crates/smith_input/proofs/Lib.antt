@@ -7,5 +7,5 @@ pub mod Offered
 pub mod Picks
 pub mod Reading
 pub mod Rests
-pub mod Texts
+pub mod ReadsTexts
 pub mod Widths

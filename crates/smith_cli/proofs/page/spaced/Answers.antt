@@ -1,6 +1,6 @@
 use Rattle.std.proofs.Common.{arith, ap, ◌∙◌, ◌++◌, ◌∷◌, [], get_or}
 use Rattle.smith_cli.specs.Page.{two_digits}
-use Rattle.smith_cli.proofs.Page.{parted_first, parted_more}
+use Rattle.smith_cli.proofs.Pages.{parted_first, parted_more}
 use Rattle.smith_cli.proofs.page.spaced.Goals as goal
 use Rattle.smith_cli.proofs.page.spaced.Goals.{then-not-is_first+in_ok-push, else-not-is_first}
 

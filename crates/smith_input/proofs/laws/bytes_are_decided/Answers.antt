@@ -1,5 +1,5 @@
 use Rattle.std.proofs.Common.{refl}
-use Rattle.smith_input.proofs.Texts.{bytes_unique}
+use Rattle.smith_input.proofs.ReadsTexts.{bytes_unique}
 use Rattle.smith_input.proofs.laws.bytes_are_decided.Goals as goal
 
 pub returns : goal.returns

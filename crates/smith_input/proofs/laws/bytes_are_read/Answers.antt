@@ -1,4 +1,4 @@
-use Rattle.smith_input.proofs.Texts.{bytes_read}
+use Rattle.smith_input.proofs.ReadsTexts.{bytes_read}
 use Rattle.smith_input.proofs.laws.bytes_are_read.Goals as goal
 
 pub returns : goal.returns

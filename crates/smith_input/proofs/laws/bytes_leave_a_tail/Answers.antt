@@ -1,4 +1,4 @@
-use Rattle.smith_input.proofs.Texts.{bytes_tail}
+use Rattle.smith_input.proofs.ReadsTexts.{bytes_tail}
 use Rattle.smith_input.proofs.laws.bytes_leave_a_tail.Goals as goal
 
 pub returns : goal.returns

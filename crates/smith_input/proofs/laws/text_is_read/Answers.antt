@@ -1,4 +1,4 @@
-use Rattle.smith_input.proofs.Texts.{text_read}
+use Rattle.smith_input.proofs.ReadsTexts.{text_read}
 use Rattle.smith_input.proofs.laws.text_is_read.Goals as goal
 
 pub returns : goal.returns

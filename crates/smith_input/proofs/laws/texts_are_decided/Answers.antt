@@ -1,4 +1,4 @@
-use Rattle.smith_input.proofs.Texts.{text_unique}
+use Rattle.smith_input.proofs.ReadsTexts.{text_unique}
 use Rattle.smith_input.proofs.laws.texts_are_decided.Goals as goal
 
 pub returns : goal.returns

@@ -1,4 +1,4 @@
-use Rattle.smith_input.proofs.Texts.{text_cut}
+use Rattle.smith_input.proofs.ReadsTexts.{text_cut}
 use Rattle.smith_input.proofs.texts.limited_string.Goals as goal
 
 pub returns-clause-read : goal.returns-clause-read

@@ -1,6 +1,6 @@
 use Rattle.std.proofs.Common.{sym, subst}
 use Rattle.std.specs.Str.{IsValidUpTo}
-use Rattle.smith_input.proofs.Texts.{tested_front, longest_front}
+use Rattle.smith_input.proofs.ReadsTexts.{tested_front, longest_front}
 use Rattle.smith_input.proofs.texts.longest_text.Goals as goal
 
 pub returns-in-Err : goal.returns-in-Err
