@@ -2,7 +2,7 @@ use Rattle.std.proofs.Common.{◌∷◌, ◌++◌, [], map, subst, ap, ◌∙◌
 use Rattle.smith_syntax.specs.Entries.{function}
 use Rattle.smith_syntax.specs.Shown.{shown_type}
 use Rattle.smith_scopes.specs.Scopes.{own_scope}
-use Rattle.smith_scopes.proofs.Stack.{length-last}
+use Rattle.smith_scopes.proofs.Stack.{grown as scopes_grown, length-last}
 use Rattle.smith_types.specs.declared.make.externs.ExternNames.{ExternNames}
 use Rattle.smith_component.specs.CanonicalsState.{growing}
 use Rattle.smith_component.specs.Shown.{shown_canon, shown_sections}
@@ -11,7 +11,7 @@ use Rattle.smith_component.specs.declared.builder.open.OpenComponent.{OpenCompon
 use Rattle.smith_component.specs.declared.builder.tables.Tables.{Tables}
 use Rattle.smith_component.specs.declared.component.Func.{Func}
 use Rattle.smith_component.specs.declared.component.Func.TheVariants.{CanonLift}
-use Rattle.smith_component.proofs.CanonicalsState.{define_draft, defines, front_push, front_same, scopes_around, shown_function, type_index}
+use Rattle.smith_component.proofs.CanonicalsState.{define_draft, defines, front_push, front_same, length-changed, shown_function, type_index}
 use Rattle.smith_component.proofs.builder.canonicals.CanonicalDraft.define.Goals as goal
 
 pub push_type-requires : goal.push_type-requires
@@ -25,7 +25,7 @@ returns-clause-defines c =
     let entries = c.in_ok-push.ensures.items ∙ ap (λ xs. xs ++ c.in_ok-shared.shared ∷ []) c.new-types.ensures.items in
     let empty = ap (λ v. v.items) c.replace-ended.ensures.after ∙ c.new-3.ensures.items in
     let made = c.in_ok-push-4.ensures.items ∙ ap (λ xs. xs ++ lift ∷ []) empty in
-    let index = type_index c.args.self.now.scopes.now c.args.self.now.component.now c.args.self.now.funcs.now.items c.requires.draft t c.in_ok-func_ty.ensures.index in
+    let index = type_index c.args.self.now c.requires.draft t c.in_ok-func_ty.ensures.index in
     defines (growing c.args.self.now.component.now c.args.self.now.funcs.now.items) c.args.core_func_index t c.args.ty
     (shown_sections c.push-2.new.self.sections.items) (shown_sections c.push-3.new.self.sections.items) c.replace-ended.result.items c.push-4.new.self.items
     c.push.new.self.items c.in_ok-shared.shared
@@ -43,14 +43,13 @@ returns-clause-drafts c =
     ∙ (shown_function c.in_ok-new.field-0 ∙ ap function c.in_ok-new.ensures.ok) in
     let adds = subst T (c.push-3.ensures.tables ∙ c.push-2.ensures.tables) c.in_ok-add_function.ensures.ok in
     let ended = front_push old old mid _ (front_same old old refl refl) c.in_ok-push-2.ensures.items refl (ap names c.push-2.ensures.tables) in
-    let around = scopes_around d.scopes.now c.push_type.new.self c.in_ok-clone.field-0.value c.in_ok-func_ty.ensures.ok in
     record {
-      draft = define_draft d.scopes.now old d.funcs.now.items c.requires.draft c.push_type.new.self new c.push-4.new.self.items
+      draft = define_draft d c.requires.draft c.push_type.new.self new c.push-4.new.self.items
           c.args.core_func_index c.in_ok-func_ty.func_ty c.args.ty c.in_ok-clone.field-0.value
           shows c.in_ok-func_ty.ensures.ok (returns-clause-defines c) c.in_ok-func_ty.ensures.index
           adds;
       front = front_push old mid new _ ended c.in_ok-push-3.ensures.items refl
           (c.in_ok-add_function.ensures.ok.imports ∙ ap names c.push-3.ensures.tables);
-      outer = around.0;
-      depth = around.1;
+      outer = (scopes_grown d.scopes.now c.push_type.new.self c.in_ok-clone.field-0.value c.in_ok-func_ty.ensures.ok).outer;
+      depth = length-changed _ _ _ c.in_ok-func_ty.ensures.ok;
     }

@@ -1,2 +1,0 @@
-use Rattle.smith_component.proofs.CanonicalsState.{drafts_none}
-use Rattle.smith_component.proofs.builder.canonicals.CanonicalDraft.turn.Goals as goal
