@@ -27,18 +27,20 @@ use Rattle.smith_syntax.specs.declared.types.DefinedType.{DefinedType}
 use Rattle.smith_syntax.proofs.Shown.{full_defined, full_func, full_component, full_instance}
 use Rattle.smith_types.specs.Lifting.{ReadsLifted}
 use Rattle.smith_types.specs.MakingTypes.{HoldsExterns}
-use Rattle.smith_scopes.specs.Scopes.{AddsType, Contents, last_of, own_scope}
+use Rattle.smith_scopes.specs.Scopes.{AddsType, Changes, Contents, last_of, own_scope}
 use Rattle.smith_types.proofs.Declaring.{equal_shown}
 use Rattle.smith_scopes.proofs.Stack.{grown as scopes_grown, length-last}
 use Rattle.smith_component.specs.Canonicals.{CanonTurn, Growing, NoCanon, ReadsCanons, empty_section, equal_types, grown, spaces_at, with_canon, with_defined}
 use Rattle.smith_component.specs.Canonicals.{LiftsTo, to_equal, to_defined, given_up, ReadsLift, ReadsLower}
-use Rattle.smith_component.specs.CanonicalsState.{CanonicalsState, IsDrafted, IsLowered, KeepsFront, LiftsAs, growing}
+use Rattle.smith_component.specs.CanonicalsState.{CanonicalsState, DraftsOn, IsDraft, IsDrafted, IsLowered, KeepsFront, LiftsAs, SameLoans}
+use Rattle.smith_component.specs.CanonicalsState.{draft_of, growing}
 use Rattle.smith_component.specs.SectionValues.{externs_in, externs_of}
 use Rattle.smith_component.specs.Shown.{shown_canon, shown_sections}
 use Rattle.smith_component.specs.Tables.{AddsCoreFunction, AddsFunction, IsLowerable, Tabled}
 use Rattle.smith_component.specs.Spaces.{core_functions_of, function_count}
 use Rattle.smith_component.specs.Tree.{Tree, Canon, add, canons, types, lift, lower}
 use Rattle.smith_component.specs.WellFormed.{scope_of}
+use Rattle.smith_component.specs.declared.builder.canonicals.CanonicalDraft.{CanonicalDraft}
 use Rattle.smith_component.specs.declared.builder.open.OpenComponent.{OpenComponent}
 use Rattle.smith_component.specs.declared.builder.tables.Tables.{Tables}
 use Rattle.smith_component.specs.declared.component.Func.{Func}
@@ -47,7 +49,7 @@ use Rattle.smith_component.specs.declared.component.Section.{Section}
 use Rattle.smith_component.specs.declared.item.CanonItem.{CanonItem}
 use Rattle.smith_component.proofs.ReadsCanons.{with_signature, spaces_signature}
 use Rattle.smith_component.proofs.Growth.{functions_at, scope_at, spaces-add, spaces_canon}
-use Rattle.smith_component.proofs.Spaces.{IsScalarFunction, all_at, equal_at, equal_own, imports_canons, imports_types, scope_canons}
+use Rattle.smith_component.proofs.Spaces.{IsScalarFunction, all_at, equal_at, equal_own, scope_canons}
 use Rattle.smith_component.proofs.Tables.{scalar_at, tabled_core_function, tabled_function, tabled_quiet, tabled_types}
 
 -- one function more in the section
@@ -96,19 +98,19 @@ module _ (old new : OpenComponent) (fs gs : List Func) (items b rest : List ℕ)
   pub lower_reads : ReadsLower (growing old fs) b rest (growing new gs)
   lower_reads = (f, subst (λ xs. ReadsAmong xs b f rest) (are ∙ tabled.scalars) (among chosen), growing_more old new fs gs (CanonLower f) same more)
 
-  pub lower_tabled : AddsCoreFunction old.tables f new.tables → Tabled new.tables (grown (growing new gs))
+  lower_tabled : AddsCoreFunction old.tables f new.tables → Tabled new.tables (grown (growing new gs))
   lower_tabled adds =
       let s : Growing = growing old fs in
       let scalar = scalar_at (grown s) chosen.0 f (ap (λ xs. slice_get xs chosen.0) (sym (are ∙ tabled.scalars)) ∙ chosen.2) in
       subst (λ z. Tabled new.tables (grown z)) (sym (growing_more old new fs gs (CanonLower f) same more)) (tabled_lower s f scalar tabled adds)
 
--- A component stays a draft where a function is lowered.
-pub lower_draft : (old new : OpenComponent) (fs gs : List Func) (scopes : List Contents) (b rest : List ℕ) → CanonicalsState scopes old fs
-    → ReadsLower (growing old fs) b rest (growing new gs) → Tabled new.tables (grown (growing new gs)) → CanonicalsState scopes new gs
-lower_draft old new fs gs scopes b rest d (f, among, e) tabled = record {
-  scope_is = d.scope_is ∙ sym (ap (λ z. scope_of (grown z)) e ∙ scope_canon (growing old fs) (lower f));
-  tabled = tabled;
-}
+  pub lower_draft : (scopes : List Contents) → CanonicalsState scopes old fs → AddsCoreFunction old.tables f new.tables → CanonicalsState scopes new gs
+  lower_draft scopes d adds =
+      let e = growing_more old new fs gs (CanonLower f) same more in
+      record {
+        scope_is = d.scope_is ∙ sym (ap (λ z. scope_of (grown z)) e ∙ scope_canon (growing old fs) (lower f));
+        tabled = lower_tabled adds;
+      }
 
 -- The function type of the component function that a core function lowers.
 
@@ -184,14 +186,20 @@ module _ (scopes : List Contents) (tables : Tables) (c i t : ℕ) (known : IsLow
       }
 
 -- What is known of a draft.
-module _ (scopes : List Contents) (component : OpenComponent) (funcs : List Func) (d : CanonicalsState scopes component funcs) where
+module _ (draft : CanonicalDraft) (d : IsDraft draft) where
   abbrev s : Growing
-  s = growing component funcs
+  s = draft_of draft
+
+  abbrev scopes : List Contents
+  scopes = draft.scopes.now
+
+  abbrev tables : Tables
+  tables = draft.component.now.tables
 
   -- A core function lowers one that can be lowered.
-  pub draft_lowered : (c : ℕ) → c < length component.tables.core_functions.items → IsLowered (own_scope scopes) component.tables c
+  pub draft_lowered : (c : ℕ) → c < length tables.core_functions.items → IsLowered (own_scope scopes) tables c
   draft_lowered c h =
-      let items : List ℕ = component.tables.core_functions.items in
+      let items : List ℕ = tables.core_functions.items in
       let f : ℕ = get_or items c 0 in
       let at : slice_get items c ≡ Some f = slice_get-get_or items c 0 h in
       let l : IsLowerable (grown s) f = all_at (IsLowerable (grown s)) (core_functions_of (grown s)) c f d.tabled.grounded.lowered
@@ -223,8 +231,8 @@ module _ (scopes : List Contents) (component : OpenComponent) (funcs : List Func
 
   -- A lift is read by where it leads.
   module _ (config : Config) (n c : ℕ) (signature : Signature) (b mid low rest : List ℕ) (next : Growing)
-      (count : n ≡ length component.tables.core_functions.items) (chosen : Reads n b c mid)
-      (lifts : LiftsAs (own_scope scopes) component.tables c mid signature low) where
+      (count : n ≡ length tables.core_functions.items) (chosen : Reads n b c mid)
+      (lifts : LiftsAs (own_scope scopes) tables c mid signature low) where
     pub lift_reads : LiftsTo config s c signature low rest next → ReadsLift config s b rest next
     lift_reads to = record {
       c = c;
@@ -269,7 +277,7 @@ module _ (scopes : List Contents) (component : OpenComponent) (funcs : List Func
 
   -- It stays a draft where a core function is lifted to a type that is there.
   pub lift_draft : (new : OpenComponent) (more : List Func) (c t : ℕ) → t < length (own_scope scopes).types
-      → AddsFunction (own_scope scopes) component.tables t new.tables → growing new more ≡ with_canon s (lift c t) → CanonicalsState scopes new more
+      → AddsFunction (own_scope scopes) tables t new.tables → growing new more ≡ with_canon s (lift c t) → CanonicalsState scopes new more
   lift_draft new more c t known adds e = record {
     scope_is = d.scope_is ∙ sym (ap (λ z. scope_of (grown z)) e ∙ scope_canon s (lift c t));
     tabled = subst (λ z. Tabled new.tables (grown z)) (sym e) (tabled_lift s c t d.scope_is known d.tabled adds);
@@ -282,7 +290,7 @@ module _ (scopes : List Contents) (component : OpenComponent) (funcs : List Func
     scope_after = (scopes_grown scopes after ty grows).own ∙ (ap (with_type (own_scope scopes)) shows
         ∙ (ap (λ z. with_type z (function signature)) d.scope_is ∙ sym (scope_signature s signature)))
 
-    pub define_draft : t ≡ length (last_of scopes).types → AddsFunction (own_scope after) component.tables t new.tables → CanonicalsState after new more
+    pub define_draft : t ≡ length (last_of scopes).types → AddsFunction (own_scope after) tables t new.tables → CanonicalsState after new more
     define_draft index adds =
         let u : Growing = with_signature s signature in
         let at : t ≡ length (spaces_at s).types = omega (arith, index, length-last scopes, ap (λ z. length z.types) d.scope_is) in
@@ -368,6 +376,32 @@ pub front_push : (old mid new : OpenComponent) (section : Section) → KeepsFron
     → externs_in section ≡ [] → new.tables.imports ≡ mid.tables.imports → KeepsFront old new
 front_push old mid new section f e none names =
     front_then old mid new f (record { more = section ∷ []; sections = e; no_imports = ap (λ xs. xs ++ []) none; names = names })
+
+-- A draft that goes on, and on again.
+
+pub drafts_none : (d : CanonicalDraft) → IsDraft d → DraftsOn d d
+drafts_none d draft = record { draft = draft; front = front_same d.component.now d.component.now refl refl; outer = refl; depth = refl }
+
+pub loans_then : {a b c : CanonicalDraft} → SameLoans a b → SameLoans b c → SameLoans a c
+loans_then f g = record {
+  config = g.config ∙ f.config;
+  scopes = g.scopes ∙ f.scopes;
+  component = g.component ∙ f.component;
+  funcs = g.funcs ∙ f.funcs;
+}
+
+pub drafts_then : {a b c : CanonicalDraft} → DraftsOn a b → DraftsOn b c → DraftsOn a c
+drafts_then {a} {b} {c} f g = record {
+  draft = g.draft;
+  front = front_then a.component.now b.component.now c.component.now f.front g.front;
+  outer = g.outer ∙ f.outer;
+  depth = g.depth ∙ f.depth;
+}
+
+-- There are as many scopes where the last one is changed.
+pub length-changed : (f : Contents → Contents) (old new : List Contents) → Changes f old new → length new ≡ length old
+length-changed f old new a =
+    omega (arith, ap length a.before, ap length a.after, length-append a.outer (a.own ∷ []), length-append a.outer (f a.own ∷ []))
 
 -- A draft's names are those of its imports then.
 pub front_externs : (old new : OpenComponent) → KeepsFront old new → HoldsExterns old.tables.imports (externs_of old.sections.items)

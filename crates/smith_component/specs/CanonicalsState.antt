@@ -7,12 +7,13 @@ use Rattle.smith_syntax.specs.Entries.{Signature, function}
 use Rattle.smith_syntax.specs.Flat.{Flattens, is_scalar}
 use Rattle.smith_syntax.specs.Scope.{Scope}
 use Rattle.smith_types.specs.Lifting.{ReadsLifted}
-use Rattle.smith_scopes.specs.Scopes.{Contents, own_scope}
+use Rattle.smith_scopes.specs.Scopes.{Contents, outer_scopes, own_scope}
 use Rattle.smith_component.specs.Canonicals.{CanonTurn, Growing, NoCanon, grown}
 use Rattle.smith_component.specs.SectionValues.{externs_of}
 use Rattle.smith_component.specs.Shown.{shown_canon, shown_sections}
 use Rattle.smith_component.specs.Tables.{Tabled}
 use Rattle.smith_component.specs.WellFormed.{scope_of}
+use Rattle.smith_component.specs.declared.builder.canonicals.CanonicalDraft.{CanonicalDraft}
 use Rattle.smith_component.specs.declared.builder.open.OpenComponent.{OpenComponent}
 use Rattle.smith_component.specs.declared.builder.tables.Tables.{Tables}
 use Rattle.smith_component.specs.declared.component.Func.{Func}
@@ -35,6 +36,27 @@ pub record KeepsFront (old new : OpenComponent) : Type 0 where
   pub sections : new.sections.items ≡ old.sections.items ++ more
   pub no_imports : externs_of more ≡ []
   pub names : new.tables.imports ≡ old.tables.imports
+
+-- the same of what the program has under construction
+abbrev pub draft_of : CanonicalDraft → Growing
+draft_of d = growing d.component.now d.funcs.now.items
+
+abbrev pub IsDraft : CanonicalDraft → Type 0
+IsDraft d = CanonicalsState d.scopes.now d.component.now d.funcs.now.items
+
+-- It still borrows what it borrowed.
+pub record SameLoans (old new : CanonicalDraft) : Type 0 where
+  pub config : new.config.now ≡ old.config.now
+  pub scopes : new.scopes.ghost_name ≡ old.scopes.ghost_name
+  pub component : new.component.ghost_name ≡ old.component.ghost_name
+  pub funcs : new.funcs.ghost_name ≡ old.funcs.ghost_name
+
+-- It goes on behind what stood before, in the same scopes.
+pub record DraftsOn (old new : CanonicalDraft) : Type 0 where
+  pub draft : IsDraft new
+  pub front : KeepsFront old.component.now new.component.now
+  pub outer : outer_scopes new.scopes.now ≡ outer_scopes old.scopes.now
+  pub depth : length new.scopes.now ≡ length old.scopes.now
 
 -- what a turn is among, by the tables
 abbrev pub canon_items_of : Tables → List CanonItem

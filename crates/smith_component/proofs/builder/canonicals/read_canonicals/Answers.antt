@@ -1,17 +1,18 @@
-use Rattle.std.proofs.Common.{refl, sym, subst, ap, ◌∙◌, arith}
+use Rattle.std.proofs.Common.{◌≡◌, [], ◌∷◌, ◌++◌, OnOk, refl, sym, subst, ap, ◌∙◌, arith, rules}
 use Rattle.std.proofs.lemmas.Result.{on_ok_weaker}
-use Rattle.smith_component.specs.Canonicals.{Growing, grown}
-use Rattle.smith_component.specs.CanonicalsState.{growing}
+use Rattle.smith_component.specs.Canonicals.{grown}
+use Rattle.smith_scopes.specs.Scopes.{own_scope}
+use Rattle.smith_component.specs.CanonicalsState.{draft_of, growing}
 use Rattle.smith_component.specs.Shown.{shown_sections}
 use Rattle.smith_component.specs.Tables.{Tabled}
-use Rattle.smith_component.specs.Tree.{Tree}
 use Rattle.smith_component.specs.WellFormed.{scope_of}
 use Rattle.smith_component.specs.declared.builder.tables.Tables.{Tables}
+use Rattle.smith_component.specs.declared.component.Section.TheVariants.{Canonical}
 use Rattle.smith_component.proofs.CanonicalsState.{all_read, first_count, first_draft, first_growing, front_push}
 use Rattle.smith_component.proofs.builder.canonicals.read_canonicals.Goals as goal
 
-pub canon_turns-requires : goal.canon_turns-requires
-canon_turns-requires c = record {
+pub turns-requires : goal.turns-requires
+turns-requires c = record {
   consistent = c.requires.consistent;
   ordered = c.requires.ordered;
   draft = first_draft c.args.scopes.now c.args.component.now c.new-funcs.result.items c.new-funcs.ensures.items c.requires.stands c.requires.tabled;
@@ -24,27 +25,42 @@ canon_turns-requires c = record {
   );
 }
 
+-- What the draft borrowed is as it left it.
+
+ended : (c : goal.After-push) → OnOk c.push.result (shown_sections c.push.new.self.sections.items ≡ grown (draft_of c.turns.new.self))
+ended c = search rules
+
+tables : (c : goal.After-push) → c.push.new.self.tables ≡ c.turns.new.self.component.now.tables
+tables c = search rules
+
+last : (c : goal.After-push) → OnOk c.push.result (c.push.new.self.sections.items
+    ≡ c.turns.new.self.component.now.sections.items ++ Canonical (record { funcs = c.turns.new.self.funcs.now }) ∷ [])
+last c = search rules
+
 pub returns-clause-reads : goal.returns-clause-reads
 returns-clause-reads c =
     let old = c.args.component.now in
     let funcs = c.new-funcs.result.items in
     on_ok_weaker c.push.result
-    (λ e. all_read c.args.config.now c.args.min c.args.max (shown_sections old.sections.items) (growing old funcs)
-    (growing c.canon_turns.new.component c.canon_turns.new.funcs.items) c.args.u.now c.canon_turns.new.u
-    (first_growing old funcs c.new-funcs.ensures.items) c.requires.room c.in_ok-canon_turns.ensures.reads (shown_sections c.push.new.self.sections.items) e)
-    c.push.ensures.ok
+    (λ e. all_read c.args.config.now c.args.min c.args.max (shown_sections old.sections.items) (growing old funcs) (draft_of c.turns.new.self) c.args.u.now
+    c.turns.new.u (first_growing old funcs c.new-funcs.ensures.items) c.requires.room c.in_ok-turns.ensures.reads
+    (shown_sections c.push.new.self.sections.items) e)
+    (ended c)
 
 pub returns-clause-stands : goal.returns-clause-stands
-returns-clause-stands c = on_ok_weaker c.push.result (λ e. c.in_ok-canon_turns.ensures.draft.scope_is ∙ ap scope_of (sym e)) c.push.ensures.ok
+returns-clause-stands c =
+    let is = c.in_ok-turns.ensures.drafts.draft.scope_is in
+    on_ok_weaker c.push.result
+    (λ e. let s : own_scope c.turns.new.self.scopes.now ≡ scope_of (shown_sections c.push.new.self.sections.items) = is ∙ ap scope_of (sym e) in search rules)
+    (ended c)
 
 pub returns-clause-tabled : goal.returns-clause-tabled
 returns-clause-tabled c =
-    let next : Growing = growing c.canon_turns.new.component c.canon_turns.new.funcs.items in
-    let P : Tables → Type 0 = λ z. Tabled z (grown next) in
-    let Q : Tree → Type 0 = λ z. Tabled c.push.new.self.tables z in
-    on_ok_weaker c.push.result (λ e. subst Q (sym e) (subst P (sym c.push.ensures.tables) c.in_ok-canon_turns.ensures.draft.tabled)) c.push.ensures.ok
+    let P : Tables → Type 0 = λ z. Tabled z (grown (draft_of c.turns.new.self)) in
+    let tabled = subst P (sym (tables c)) c.in_ok-turns.ensures.drafts.draft.tabled in
+    on_ok_weaker c.push.result (λ e. subst (Tabled c.push.new.self.tables) (sym e) tabled) (ended c)
 
 pub returns-clause-front : goal.returns-clause-front
 returns-clause-front c =
-    on_ok_weaker c.push.result (λ e. front_push c.args.component.now c.canon_turns.new.component c.push.new.self _ c.in_ok-canon_turns.ensures.front e refl
-    (ap (λ (t : Tables). t.imports) c.push.ensures.tables)) c.push.ensures.items
+    on_ok_weaker c.push.result (λ e. front_push c.args.component.now c.turns.new.self.component.now c.push.new.self _ c.in_ok-turns.ensures.drafts.front e refl
+    (ap (λ (t : Tables). t.imports) (tables c))) (last c)

@@ -7,20 +7,25 @@ use Rattle.smith_scopes.specs.Scopes.{own_scope}
 use Rattle.smith_types.proofs.Lifting.{flattens_liftable}
 use Rattle.smith_component.specs.CanonicalsState.{LiftsAs}
 use Rattle.smith_component.proofs.CanonicalsState.{lifts_as, lowered_other, lowered_scalar, lowered_within}
-use Rattle.smith_component.proofs.builder.canonicals.lifted_type.Goals as goal
+use Rattle.smith_component.proofs.builder.canonicals.CanonicalDraft.lifted_type.Goals as goal
 
 pub get-requires-clause-entry : goal.get-requires-clause-entry
-get-requires-clause-entry c = lowered_within c.args.scopes.now c.args.tables.now c.args.core_func_index c.index-func_index.result.now c.index-ty.result.now
+get-requires-clause-entry c =
+    let d = c.args.self.now in
+    lowered_within d.scopes.now d.component.now.tables c.args.core_func_index c.index-func_index.result.now c.index-ty.result.now
     c.requires.known c.index-func_index.ensures c.index-ty.ensures
 
 pub unreachable-requires : goal.unreachable-requires
-unreachable-requires c = lowered_other c.args.scopes.now c.args.tables.now c.args.core_func_index c.index-func_index.result.now c.index-ty.result.now
+unreachable-requires c =
+    let d = c.args.self.now in
+    lowered_other d.scopes.now d.component.now.tables c.args.core_func_index c.index-func_index.result.now c.index-ty.result.now
     c.requires.known c.index-func_index.ensures c.index-ty.ensures c.get.result.now.value c.get.ensures c.deref.result.now c.deref.ensures c.in-Defined.is
 
 pub canonical_abi_for-requires : goal.canonical_abi_for-requires
 canonical_abi_for-requires c =
+    let d = c.args.self.now in
     ap is_scalar c.deref-2.ensures
-    ∙ lowered_scalar c.args.scopes.now c.args.tables.now c.args.core_func_index c.index-func_index.result.now c.index-ty.result.now c.requires.known
+    ∙ lowered_scalar d.scopes.now d.component.now.tables c.args.core_func_index c.index-func_index.result.now c.index-ty.result.now c.requires.known
     c.index-func_index.ensures c.index-ty.ensures c.get.result.now.value c.get.ensures c.in-Func.func (sym c.deref.ensures ∙ c.in-Func.is)
 
 pub inverse_scalar_canonical_abi_for-requires : goal.inverse_scalar_canonical_abi_for-requires
@@ -34,11 +39,12 @@ returns-clause-reads c =
     let core : Function = shown_func c.deref-3.result.now in
     let flat : Flattens c.deref-2.result.now core = subst (λ f. Flattens c.deref-2.result.now (shown_func f)) (sym c.deref-3.ensures)
     c.in_ok-core.ensures.flattens in
-    let own = own_scope c.args.scopes.now in
+    let d = c.args.self.now in
+    let own = own_scope d.scopes.now in
     let low = c.inverse_scalar_canonical_abi_for.new.u in
     IfOk-weaker c.inverse_scalar_canonical_abi_for.result
-    (λ f. ReadsLifted core c.args.u.now f low) (λ f. LiftsAs own c.args.tables.now c.args.core_func_index c.args.u.now f low)
-    (λ f reads. lifts_as c.args.scopes.now c.args.tables.now c.args.core_func_index c.index-func_index.result.now c.index-ty.result.now c.requires.known
+    (λ f. ReadsLifted core c.args.u.now f low) (λ f. LiftsAs own d.component.now.tables c.args.core_func_index c.args.u.now f low)
+    (λ f reads. lifts_as d.scopes.now d.component.now.tables c.args.core_func_index c.index-func_index.result.now c.index-ty.result.now c.requires.known
     c.index-func_index.ensures c.index-ty.ensures c.get.result.now.value c.get.ensures c.in-Func.func (sym c.deref.ensures ∙ c.in-Func.is) core
     c.deref-2.result.now f c.args.u.now low c.deref-2.ensures flat reads)
     c.inverse_scalar_canonical_abi_for.ensures.reads

@@ -1,0 +1,67 @@
+use Rattle.std.proofs.Common.{refl, arith}
+use Rattle.std.proofs.lemmas.Result.{on_ok_weaker}
+use Rattle.smith_component.specs.declared.builder.open.OpenComponent.{OpenComponent}
+use Rattle.smith_component.specs.declared.component.Func.TheVariants.{CanonLift}
+use Rattle.smith_component.proofs.CanonicalsState.{draft_lowered, drafts_none, equal_within, front_same, growing_more}
+use Rattle.smith_component.proofs.CanonicalsState.{lift_defined, lift_draft, lift_equal, lift_given_up}
+use Rattle.smith_component.proofs.builder.canonicals.CanonicalDraft.lift.Goals as goal
+
+pub lifted_type-requires : goal.lifted_type-requires
+lifted_type-requires c = record {
+  known = draft_lowered c.args.self.now c.requires.draft c.choose_index-core_func_index.result
+      (omega (arith, c.choose_index-core_func_index.ensures.below, c.len.ensures));
+}
+
+pub add_function-requires-clause-known : goal.add_function-requires-clause-known
+add_function-requires-clause-known c =
+    equal_within c.args.self.now c.requires.draft c.in_ok-ty.ty c.choose_index.result c.equal_at-func_ty.result
+    c.equal_at-func_ty.ensures
+
+pub returns-then-equal-gt0-clause-reads : goal.returns-then-equal-gt0-clause-reads
+returns-then-equal-gt0-clause-reads c =
+    let old : OpenComponent = c.args.self.now.component.now in
+    let new : OpenComponent = record { sections = old.sections; tables = c.add_function.new.self } in
+    lift_equal c.args.self.now c.requires.draft c.args.self.now.config.now c.len.result c.choose_index-core_func_index.result c.in_ok-ty.ty
+    c.args.u.now c.choose_index-core_func_index.new.self c.lifted_type.new.u c.choose_index.new.self _ (omega (arith, c.len.ensures))
+    c.choose_index-core_func_index.ensures c.in_ok-ty.ensures.reads
+    c.equal_len-equal.result c.choose_index.result c.equal_at-func_ty.result c.equal_len-equal.ensures c.choose_index.ensures c.equal_at-func_ty.ensures
+    (growing_more old new c.args.self.now.funcs.now.items c.push.new.self.items (CanonLift c.equal_at-func_ty.result c.choose_index-core_func_index.result)
+    refl c.in_ok-push.ensures.items)
+
+pub returns-then-equal-gt0-clause-drafts : goal.returns-then-equal-gt0-clause-drafts
+returns-then-equal-gt0-clause-drafts c =
+    let d = c.args.self.now in
+    let old : OpenComponent = d.component.now in
+    let new : OpenComponent = record { sections = old.sections; tables = c.add_function.new.self } in
+    let t = c.equal_at-func_ty.result in
+    record {
+      draft = lift_draft d c.requires.draft new c.push.new.self.items c.choose_index-core_func_index.result t
+          (equal_within d c.requires.draft c.in_ok-ty.ty c.choose_index.result t c.equal_at-func_ty.ensures)
+          c.in_ok-add_function.ensures.ok
+          (growing_more old new d.funcs.now.items c.push.new.self.items (CanonLift t c.choose_index-core_func_index.result) refl
+          c.in_ok-push.ensures.items);
+      front = front_same old new refl c.in_ok-add_function.ensures.ok.imports;
+      outer = refl;
+      depth = refl;
+    }
+
+pub returns-clause-drafts : goal.returns-clause-drafts
+returns-clause-drafts c = drafts_none c.args.self.now c.requires.draft
+
+pub returns-then-own_len-self-clause-reads : goal.returns-then-own_len-self-clause-reads
+returns-then-own_len-self-clause-reads c =
+    on_ok_weaker c.define.result
+    (λ e. lift_defined c.args.self.now c.requires.draft c.args.self.now.config.now c.len.result
+    c.choose_index-core_func_index.result c.in_ok-ty.ty
+    c.args.u.now c.choose_index-core_func_index.new.self c.lifted_type.new.u c.lifted_type.new.u _ (omega (arith, c.len.ensures))
+    c.choose_index-core_func_index.ensures c.in_ok-ty.ensures.reads
+    c.equal_len-equal.result c.equal_len-equal.ensures c.if-equal-gt0.false (omega (arith, c.own_len.ensures.count, c.if-own_len-self.true)) refl e)
+    c.define.ensures.defines
+
+pub returns-clause-reads : goal.returns-clause-reads
+returns-clause-reads c =
+    lift_given_up c.args.self.now c.requires.draft c.args.self.now.config.now c.len.result
+    c.choose_index-core_func_index.result c.in_ok-ty.ty
+    c.args.u.now c.choose_index-core_func_index.new.self c.lifted_type.new.u c.lifted_type.new.u _ (omega (arith, c.len.ensures))
+    c.choose_index-core_func_index.ensures c.in_ok-ty.ensures.reads
+    c.equal_len-equal.result c.equal_len-equal.ensures c.if-equal-gt0.false (omega (arith, c.own_len.ensures.count, c.if-own_len-self.false)) refl refl
