@@ -1,5 +1,6 @@
 -- What a scope keeps beside its types: rows of its map, and one type more.
-use Rattle.std.proofs.Common.{◌≡◌, ℕ, ◌+◌, ◌<◌, ◌≤◌, Bool, true, false, cond, List, [], ◌∷◌, ◌++◌, length, map, Some, refl, sym, ap, ◌∙◌, arith, append-nil}
+use Rattle.std.proofs.Common.{◌≡◌, ℕ, ◌+◌, ◌<◌, ◌≤◌, Bool, true, false, cond, List, [], ◌∷◌, ◌++◌, length, map, Option, None, Some, refl, sym, ap, ◌∙◌}
+use Rattle.std.proofs.Common.{arith, append-nil, unwrap_or}
 use Rattle.std.proofs.Common.{length-append}
 use Rattle.std.proofs.lemmas.List.{map-append, length-map}
 use Rattle.std.specs.HashMap.{HashMap, get}
@@ -46,6 +47,12 @@ module _ {Z S : Type 0} (m n : HashMap Signature (Vec ℕ Z) S) (f : Signature) 
   -- the row was put back as it was
   pub same_rows_put : w.items ≡ row_of m f → SameRows m n
   same_rows_put h s = as_was s (same_signature f s) refl (put s) h
+
+-- a row that was there, or else one of nothing
+pub row_or : {Z : Type 0} (there is : Option (Vec ℕ Z)) (none row : Vec ℕ Z) → row ≡ unwrap_or there none → there ≡ is → none.items ≡ []
+    → row.items ≡ row_in is
+row_or None is none row lent same e = ap (λ r. r.items) lent ∙ e ∙ ap row_in same
+row_or (Some w) is none row lent same e = ap (λ r. r.items) lent ∙ ap row_in same
 
 -- one item more at the end
 pushed : {A : Type 0} (p : A → Bool) (xs : List A) (x : A) (b : Bool) → p x ≡ b → places p 0 (xs ++ x ∷ []) ≡ places p 0 xs ++ cond b (length xs ∷ []) []

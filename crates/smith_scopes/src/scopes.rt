@@ -131,14 +131,9 @@ fn note(equal: &mut Equals, alloc: Global, func: &FuncType, index: u32) -> Resul
     ensures err { OnErr result (SameRows equal.old equal.new) }
     ensures memory { IfErr result (λ e. e ≡ Error.OutOfMemory) }
 {
-    if let Some(row) = equal.get_mut(func) {
-        row.push(index)?;
-        return Ok(());
-    }
-    let mut row = Vec::with_capacity(alloc, 1)?;
-    row.push_reserved(index);
     let key = func.copied(alloc)?;
-    equal.insert(key, row)?;
+    let row = equal.entry(key)?.or_insert(Vec::new(alloc));
+    row.push(index)?;
     Ok(())
 }
 
