@@ -12,3 +12,6 @@ returns-clause-script c f rest h many e =
       params = c.in_ok-params.ensures.reads;
       results = c.in_ok-results.ensures.reads;
     })
+
+pub returns-clause-reads : goal.returns-clause-reads
+returns-clause-reads c = record { mid = c.values.new.u; params = c.in_ok-params.ensures.reads; results = c.in_ok-results.ensures.reads }

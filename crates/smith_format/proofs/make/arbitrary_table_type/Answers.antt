@@ -8,3 +8,11 @@ returns-clause-formed c = record {
   limits = limits_formed c.limits-minimum.ensures.reads;
   table64 = refl;
 }
+
+pub returns-clause-reads : goal.returns-clause-reads
+returns-clause-reads c = record {
+  mid = c.element_type-element_type.new.u;
+  element = c.element_type-element_type.ensures.reads;
+  limits = c.limits-minimum.ensures.reads;
+  table64 = refl;
+}

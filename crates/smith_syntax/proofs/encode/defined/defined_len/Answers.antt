@@ -1,8 +1,9 @@
-use Rattle.std.proofs.Common.{string_bytes}
+use Rattle.std.proofs.Common.{string_bytes, arith, refl}
 use Rattle.smith_format.specs.Piece.{text}
 use Rattle.smith_format.proofs.Many.{many-map}
 use Rattle.smith_syntax.specs.Grammar.{labelvaltype, case}
 use Rattle.smith_syntax.specs.Signature.{named}
+use Rattle.smith_format.proofs.Sizes.{takes_bytes, takes_then}
 use Rattle.smith_syntax.proofs.encode.defined.defined_len.Goals as goal
 
 pub returns-in-Record : goal.returns-in-Record
@@ -19,3 +20,6 @@ returns-in-Flags c = rw (c.in-Flags.is, many-map text string_bytes _) (rw c.dere
 
 pub returns-in-Enum : goal.returns-in-Enum
 returns-in-Enum c = rw (c.in-Enum.is, many-map text string_bytes _) (rw c.deref-in-Enum.ensures.value at (c.tagged_len-in-Enum.ensures 0x6d))
+
+pub returns-in-List : goal.returns-in-List
+returns-in-List c = (rw c.in-List.is (takes_then (takes_bytes 1 _ refl) c.val_len.ensures.length), omega (arith, c.val_len.ensures.most))

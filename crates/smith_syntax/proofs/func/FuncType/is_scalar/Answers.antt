@@ -1,4 +1,4 @@
-use Rattle.std.proofs.Common.{◌≡◌, ℕ, ◌<◌, false, ◌&&◌, List, map, length, ap, sym, ◌∙◌, subst, Bool}
+use Rattle.std.proofs.Common.{◌≡◌, ℕ, ◌<◌, false, ◌&&◌, List, map, length, ap, sym, ◌∙◌, subst, Bool, rules}
 use Rattle.std.proofs.lemmas.List.Folds.{list_all_at, list_all-map}
 use Rattle.std.specs.List.{list_all}
 use Rattle.std.specs.Option.{is_some}
@@ -29,3 +29,6 @@ returns-then-not-is_scalar_value c =
     (subst (λ ys. i < length ys) items c.loop-ty-test.true)
     (subst (λ ys. p ≡ get_or ys i p) items c.loop-ty-item.is)
     (sym c.is_scalar_value.ensures ∙ c.if-not-is_scalar_value.true)
+
+pub returns-in-None : goal.returns-in-None
+returns-in-None c = search rules

@@ -1,0 +1,5 @@
+use Rattle.std.proofs.Common.{refl}
+use Rattle.smith_core.proofs.module.Module.from_parts.Goals as goal
+
+pub returns-clause-same : goal.returns-clause-same
+returns-clause-same c = refl
