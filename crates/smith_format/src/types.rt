@@ -33,7 +33,7 @@ pub fn configured_valtypes(alloc: Global, config: &Config) -> Result<Vec<ValType
     ensures list { IfOk result (λ v. v.items ≡ configured config.now) }
     ensures memory { IfErr result (λ e. e ≡ Error.OutOfMemory) }
 {
-    let mut types = Vec::new(alloc);
+    let mut types = Vec::with_capacity(alloc, 7)?;
     types.extend_from_slice(&[ValType::I32, ValType::I64])?;
     if config.allow_floats {
         types.extend_from_slice(&[ValType::F32, ValType::F64])?;

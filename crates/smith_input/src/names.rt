@@ -39,14 +39,17 @@ fn kebab_string(alloc: Global, max: usize, u: &mut Unstructured) -> Result<Strin
     let count = u.int_in_range(0, max as u64);
     let mut name = String::with_capacity(alloc, (count as usize).saturating_add(1))?;
     let mut begins = true;
+    // A reader of its own stays in registers from one character to the next.
+    let mut reader = Unstructured::new(u.left());
     for _place in 0..count {
-        let character = kebab_character(u.choose_index(37) as u8, begins);
+        let character = kebab_character(reader.choose_index(37) as u8, begins);
         begins = character == b'-';
         name.push(char::from(character))?;
     }
     if begins {
         name.push('a')?;
     }
+    *u = reader;
     Ok(name)
 }
 

@@ -1,6 +1,6 @@
-use Rattle.std.proofs.Common.{◌≡◌, if◌then◌else◌, Bool, [], ◌∷◌, ◌++◌, sym, ap, ◌∙◌, arith, append-nil, string_bytes, rules}
+use Rattle.std.proofs.Common.{◌≡◌, if◌then◌else◌, Bool, [], ◌∷◌, ◌++◌, sym, ap, ◌∙◌, subst, arith, append-nil, string_bytes, rules}
 use Rattle.std.proofs.lemmas.Grind.{common_steps}
-use Rattle.smith_input.specs.Names.{none, next}
+use Rattle.smith_input.specs.Names.{ReadsEach, none, next}
 use Rattle.smith_input.proofs.Reading.{tail_trans, reads_tail}
 use Rattle.smith_input.proofs.Kebab.{spelt_pushed, kebab_counted}
 use Rattle.smith_input.proofs.names.kebab_string.Goals as goal
@@ -22,7 +22,7 @@ loop-place-preserved c =
 
 pub returns-clause-read : goal.returns-clause-read
 returns-clause-read c =
-    let known = c.loop-place.invariant.more [] c.loop-place.u none in
+    let known = c.loop-place.invariant.more [] c.loop-place.reader none in
     let all : c.loop-place._place ≡ c.int_in_range-count.result = omega arith in
     let at_end = λ (b : Bool). string_bytes c.loop-place.name ++ (if b then 97 ∷ [] else []) in
     kebab_counted
@@ -30,7 +30,7 @@ returns-clause-read c =
     c.int_in_range-count.ensures.2
     known.1
     all
-    known.2
+    (subst (λ bytes. ReadsEach 37 bytes known.0 c.loop-place.reader) (c.new-reader.ensures ∙ c.left.ensures) known.2)
     (elim c.if-begins.branch [
       | then-begins+in_ok-push-2 w ↦
           let added : string_bytes w.push-then-begins.new.self ≡ string_bytes c.loop-place.name ++ 97 ∷ [] = search (rules, common_steps) in

@@ -6,7 +6,7 @@ use Rattle.smith_input.proofs.names.kebab_string.Given as goal
 -- what follows completes the name
 abbrev pub invariant-loop-place : goal.invariant-loop-place
 invariant-loop-place l = record {
-  more : (ks rest : List ℕ) → ReadsEach 37 l.u ks rest → (choices : List ℕ) × (length choices ≡ l._place + length ks) × ReadsEach 37 l.initial.u choices rest
-      × (characters true choices ≡ string_bytes l.name ++ characters l.begins ks);
-  tail : IsTail l.u l.fn.u;
+  more : (ks rest : List ℕ) → ReadsEach 37 l.reader ks rest → (choices : List ℕ) × (length choices ≡ l._place + length ks)
+      × ReadsEach 37 l.initial.reader choices rest × (characters true choices ≡ string_bytes l.name ++ characters l.begins ks);
+  tail : IsTail l.reader l.fn.u;
 }
