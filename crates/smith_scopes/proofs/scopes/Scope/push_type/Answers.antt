@@ -1,4 +1,4 @@
-use Rattle.std.proofs.Common.{◌<◌, ◌∷◌, [], ◌++◌, length, sym, ap, ◌∙◌}
+use Rattle.std.proofs.Common.{◌<◌, ◌∷◌, [], ◌++◌, length, sym, ap, ◌∙◌, rules}
 use Rattle.smith_format.specs.Limits.{max_u32}
 use Rattle.smith_scopes.specs.Scopes.{row_of, values_of}
 use Rattle.smith_scopes.proofs.Tied.{pushed_defined, pushed_function, pushed_component, pushed_instance, core_kept}
@@ -54,3 +54,6 @@ invariant_of-self-2 c =
                 (ap (λ s. s.core_funcs.items) w.self-inside-is) (ap (λ s. s.core_modules.items) w.self-inside-is),
           )
     ]
+
+pub invariant_of-self-in_err-note-in-Func : goal.invariant_of-self-in_err-note-in-Func
+invariant_of-self-in_err-note-in-Func c = search rules

@@ -1,4 +1,4 @@
-use Rattle.std.proofs.Common.{◌≡◌, ◌<◌, sym, ap, ◌∙◌, subst, length}
+use Rattle.std.proofs.Common.{◌≡◌, ◌<◌, sym, ap, ◌∙◌, subst, length, rules}
 use Rattle.std.specs.Prelude.{IfOk}
 use Rattle.smith_format.specs.Limits.{max_u32}
 use Rattle.smith_scopes.specs.Scopes.{last_of}
@@ -15,3 +15,9 @@ pub returns-clause-index : goal.returns-clause-index
 returns-clause-index c =
     let P : Contents → Type 0 = λ s. IfOk c.push_core_type.result (λ i. i ≡ length s.core_types) in
     subst P (sym (ap last_of (sym c.self.view_is) ∙ last_of-snoc c.self.inside.outer.items c.self.inside.inner)) c.push_core_type.ensures.index
+
+pub returns-clause-ok : goal.returns-clause-ok
+returns-clause-ok c = search rules
+
+pub returns-clause-err : goal.returns-clause-err
+returns-clause-err c = search rules
