@@ -190,14 +190,14 @@ module _ (draft : CanonicalDraft) (d : IsDraft draft) where
   abbrev s : Growing
   s = draft_of draft
 
-  abbrev scopes : List Contents
-  scopes = draft.scopes.now
+  abbrev held : List Contents
+  held = draft.scopes.now
 
   abbrev tables : Tables
   tables = draft.component.now.tables
 
   -- A core function lowers one that can be lowered.
-  pub draft_lowered : (c : ℕ) → c < length tables.core_functions.items → IsLowered (own_scope scopes) tables c
+  pub draft_lowered : (c : ℕ) → c < length tables.core_functions.items → IsLowered (own_scope held) tables c
   draft_lowered c h =
       let items : List ℕ = tables.core_functions.items in
       let f : ℕ = get_or items c 0 in
@@ -215,12 +215,12 @@ module _ (draft : CanonicalDraft) (d : IsDraft draft) where
         l.2,
       )
 
-  equal_are : (signature : Signature) → places (has_signature signature) 0 (last_of scopes).types ≡ equal_types s signature
-  equal_are signature = equal_own scopes signature ∙ ap (λ z. places (is_of_signature signature) 0 z.types) d.scope_is
+  equal_are : (signature : Signature) → places (has_signature signature) 0 (last_of held).types ≡ equal_types s signature
+  equal_are signature = equal_own held signature ∙ ap (λ z. places (is_of_signature signature) 0 z.types) d.scope_is
 
   -- One of the types that are equal is there.
-  pub equal_within : (signature : Signature) (k t : ℕ) → slice_get (places (has_signature signature) 0 (last_of scopes).types) k ≡ Some t
-      → t < length (own_scope scopes).types
+  pub equal_within : (signature : Signature) (k t : ℕ) → slice_get (places (has_signature signature) 0 (last_of held).types) k ≡ Some t
+      → t < length (own_scope held).types
   equal_within signature k t h =
       let e : slice_get (equal_types s signature) k ≡ Some t = ap (λ xs. slice_get xs k) (sym (equal_are signature)) ∙ h in
       omega (
@@ -232,7 +232,7 @@ module _ (draft : CanonicalDraft) (d : IsDraft draft) where
   -- A lift is read by where it leads.
   module _ (config : Config) (n c : ℕ) (signature : Signature) (b mid low rest : List ℕ) (next : Growing)
       (count : n ≡ length tables.core_functions.items) (chosen : Reads n b c mid)
-      (lifts : LiftsAs (own_scope scopes) tables c mid signature low) where
+      (lifts : LiftsAs (own_scope held) tables c mid signature low) where
     pub lift_reads : LiftsTo config s c signature low rest next → ReadsLift config s b rest next
     lift_reads to = record {
       c = c;
@@ -255,29 +255,29 @@ module _ (draft : CanonicalDraft) (d : IsDraft draft) where
     }
 
     -- to one of the types that are equal
-    pub lift_equal : (m k t : ℕ) → m ≡ length (places (has_signature signature) 0 (last_of scopes).types) → Reads m low k rest
-        → slice_get (places (has_signature signature) 0 (last_of scopes).types) k ≡ Some t → next ≡ with_canon s (lift c t) → ReadsLift config s b rest next
+    pub lift_equal : (m k t : ℕ) → m ≡ length (places (has_signature signature) 0 (last_of held).types) → Reads m low k rest
+        → slice_get (places (has_signature signature) 0 (last_of held).types) k ≡ Some t → next ≡ with_canon s (lift c t) → ReadsLift config s b rest next
     lift_equal m k t many read at e =
-        let r : ReadsAmong (places (has_signature signature) 0 (last_of scopes).types) low t rest =
+        let r : ReadsAmong (places (has_signature signature) 0 (last_of held).types) low t rest =
         record { place = k; reads = subst (λ z. Reads z low k rest) many read; named = at } in
         lift_reads (to_equal (subst (λ xs. ReadsAmong xs low t rest) (equal_are signature) r) e)
 
-    none_equal : (m : ℕ) → m ≡ length (places (has_signature signature) 0 (last_of scopes).types) → m ≤ 0 → equal_types s signature ≡ []
-    none_equal m many none = sym (equal_are signature) ∙ nil_from_length (places (has_signature signature) 0 (last_of scopes).types) (omega (arith, many, none))
+    none_equal : (m : ℕ) → m ≡ length (places (has_signature signature) 0 (last_of held).types) → m ≤ 0 → equal_types s signature ≡ []
+    none_equal m many none = sym (equal_are signature) ∙ nil_from_length (places (has_signature signature) 0 (last_of held).types) (omega (arith, many, none))
 
     -- to one that it defines
-    pub lift_defined : (m : ℕ) → m ≡ length (places (has_signature signature) 0 (last_of scopes).types) → m ≤ 0
-        → length (own_scope scopes).types < config.max_types → rest ≡ low → next ≡ with_defined s c signature → ReadsLift config s b rest next
+    pub lift_defined : (m : ℕ) → m ≡ length (places (has_signature signature) 0 (last_of held).types) → m ≤ 0
+        → length (own_scope held).types < config.max_types → rest ≡ low → next ≡ with_defined s c signature → ReadsLift config s b rest next
     lift_defined m many none room left e = lift_reads (to_defined (none_equal m many none) (omega (arith, room, ap (λ z. length z.types) d.scope_is)) left e)
 
     -- or not at all
-    pub lift_given_up : (m : ℕ) → m ≡ length (places (has_signature signature) 0 (last_of scopes).types) → m ≤ 0
-        → config.max_types ≤ length (own_scope scopes).types → rest ≡ low → next ≡ s → ReadsLift config s b rest next
+    pub lift_given_up : (m : ℕ) → m ≡ length (places (has_signature signature) 0 (last_of held).types) → m ≤ 0
+        → config.max_types ≤ length (own_scope held).types → rest ≡ low → next ≡ s → ReadsLift config s b rest next
     lift_given_up m many none full left e = lift_reads (given_up (none_equal m many none) (omega (arith, full, ap (λ z. length z.types) d.scope_is)) left e)
 
   -- It stays a draft where a core function is lifted to a type that is there.
-  pub lift_draft : (new : OpenComponent) (more : List Func) (c t : ℕ) → t < length (own_scope scopes).types
-      → AddsFunction (own_scope scopes) tables t new.tables → growing new more ≡ with_canon s (lift c t) → CanonicalsState scopes new more
+  pub lift_draft : (new : OpenComponent) (more : List Func) (c t : ℕ) → t < length (own_scope held).types
+      → AddsFunction (own_scope held) tables t new.tables → growing new more ≡ with_canon s (lift c t) → CanonicalsState held new more
   lift_draft new more c t known adds e = record {
     scope_is = d.scope_is ∙ sym (ap (λ z. scope_of (grown z)) e ∙ scope_canon s (lift c t));
     tabled = subst (λ z. Tabled new.tables (grown z)) (sym e) (tabled_lift s c t d.scope_is known d.tabled adds);
@@ -285,15 +285,15 @@ module _ (draft : CanonicalDraft) (d : IsDraft draft) where
 
   -- It stays one where the type is defined.
   module _ (after : List Contents) (new : OpenComponent) (more : List Func) (c t : ℕ) (signature : Signature) (ty : DefType)
-      (shows : shown_type ty ≡ function signature) (grows : AddsType scopes ty after) (e : growing new more ≡ with_defined s c signature) where
+      (shows : shown_type ty ≡ function signature) (grows : AddsType held ty after) (e : growing new more ≡ with_defined s c signature) where
     scope_after : own_scope after ≡ scope_of (grown (with_signature s signature))
-    scope_after = (scopes_grown scopes after ty grows).own ∙ (ap (with_type (own_scope scopes)) shows
+    scope_after = (scopes_grown held after ty grows).own ∙ (ap (with_type (own_scope held)) shows
         ∙ (ap (λ z. with_type z (function signature)) d.scope_is ∙ sym (scope_signature s signature)))
 
-    pub define_draft : t ≡ length (last_of scopes).types → AddsFunction (own_scope after) tables t new.tables → CanonicalsState after new more
+    pub define_draft : t ≡ length (last_of held).types → AddsFunction (own_scope after) tables t new.tables → CanonicalsState after new more
     define_draft index adds =
         let u : Growing = with_signature s signature in
-        let at : t ≡ length (spaces_at s).types = omega (arith, index, length-last scopes, ap (λ z. length z.types) d.scope_is) in
+        let at : t ≡ length (spaces_at s).types = omega (arith, index, length-last held, ap (λ z. length z.types) d.scope_is) in
         let known : t < length (own_scope after).types = omega (
           arith,
           at,
@@ -308,8 +308,8 @@ module _ (draft : CanonicalDraft) (d : IsDraft draft) where
           tabled = subst (λ z. Tabled new.tables (grown z)) (sym same) tabled;
         }
 
-  pub type_index : (t : ℕ) → t ≡ length (last_of scopes).types → t ≡ length (spaces_at s).types
-  type_index t index = omega (arith, index, length-last scopes, ap (λ z. length z.types) d.scope_is)
+  pub type_index : (t : ℕ) → t ≡ length (last_of held).types → t ≡ length (spaces_at s).types
+  type_index t index = omega (arith, index, length-last held, ap (λ z. length z.types) d.scope_is)
 
 -- The section ends, the type is defined, and another section begins.
 pub defines : (s : Growing) (c t : ℕ) (signature : Signature) (middle last : Tree) (ended made : List Func) (entries : List (Rc DefType Global))

@@ -4,7 +4,6 @@ use Rattle.std.proofs.Common.{IfErr}
 use Rattle.std.proofs.lemmas.Result.{err_from_is_err_and}
 use Rattle.std.specs.Result.{IsErrAnd}
 use Rattle.smith_input.specs.declared.error.Error.{Error}
-use Rattle.smith_input.specs.declared.error.Error.TheVariants.{OutOfMemory}
 use Rattle.smith_format.specs.Limits.{IsConsistent}
 use Rattle.smith_format.specs.declared.config.Config.{Config}
 use Rattle.smith_component.specs.Building.{Building, open_of}
@@ -14,7 +13,6 @@ use Rattle.smith_component.specs.Shown.{shown_sections}
 use Rattle.smith_component.specs.Steps.{AddsSections, ClosesSections, KeepsSections}
 use Rattle.smith_component.specs.Spaces.{spaces_of, types_of}
 use Rattle.smith_component.specs.Tree.{Tree, types, imports, imports_of}
-use Rattle.smith_component.specs.Refusals.{IsFillRefusal}
 use Rattle.smith_component.specs.Turn.{Closes, Next}
 use Rattle.smith_component.specs.Fills.{Fills, FillsAll}
 use Rattle.smith_component.specs.declared.builder.Step.{Step}
@@ -99,6 +97,3 @@ pub closes_filled : (a b : Building) (n : Next) → b.outer ≡ a.outer → Clos
 closes_filled a b n e h =
     let C : List (List Section) → Type 0 = λ us. Closes (record { outer = map shown_sections us; inner = shown_sections b.inner }) n in
     subst C e h
-
-pub memory_fill : (config : Config) (stack : Open) (b : List ℕ) (e : Error) → e ≡ OutOfMemory → IsFillRefusal config stack b e
-memory_fill config stack b e h = subst (IsFillRefusal config stack b) (sym h) tt

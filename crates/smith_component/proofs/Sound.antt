@@ -13,6 +13,7 @@ use Rattle.smith_component.specs.Tree.{Tree, ends, Part, custom, core_module, co
 use Rattle.smith_component.specs.Tree.{components_in}
 use Rattle.smith_component.specs.Tree.{modules_in, imported_modules_in, imported_components_in, imported_instances_in, anywhere_in, depth_in, no_depth}
 use Rattle.smith_component.specs.Tree.{most_nested, scope_depth_in, module_count, component_count, instance_count}
+use Rattle.smith_component.specs.Counted.{count_of, maximum_of}
 use Rattle.smith_component.specs.ImportsState.{Totalled}
 use Rattle.smith_component.specs.Open.{Open, tree_so_far, is_module_offered, is_component_offered, scopes_in, scopes_from, with_inner}
 use Rattle.smith_component.specs.Turn.{building, Closes}
@@ -20,6 +21,8 @@ use Rattle.smith_component.specs.WellFormed.{FormedPart, WellFormed, scope_of}
 use Rattle.smith_component.specs.Limits.{SmallTypes, SmallCoreTypes, OwnSizes, Sized, OwnLimits, Maxima, Minima, Limits}
 use Rattle.smith_component.specs.Sound.{IsAddable, IsQuiet, Sound, finished_in}
 use Rattle.smith_component.specs.declared.builder.totals.TreeTotals.{TreeTotals}
+use Rattle.smith_component.specs.declared.item.Counted.{Counted}
+use Rattle.smith_component.specs.declared.item.Counted.TheVariants.{Types, Imports, Functions}
 use Rattle.smith_component.proofs.Fits.{Fits, IsSized, Short, fits_of, own_limits-add, own_limits-component, own_limits_swap, own_sizes-add, own_sizes_swap}
 use Rattle.smith_component.proofs.WellFormed.{formed_so_far}
 use Rattle.smith_component.proofs.Tree.{tree_so_far-close, depth-so_far, length-anywhere-so_far, anywhere-add, depth-outer, all_so_far, all_inner}
@@ -67,6 +70,12 @@ own_sizes_of config stack s = all_inner (OwnSizes config) stack.outer stack.inne
 -- The inner component keeps its own limits.
 pub own_limits_of : (config : Config) (stack : Open) → Sound config stack → OwnLimits config stack.inner
 own_limits_of config stack s = all_inner (OwnLimits config) stack.outer stack.inner s.maxima.each
+
+-- A component has at most as many as it may.
+pub counted_within : (what : Counted) (config : Config) (t : Tree) → OwnLimits config t → count_of what t ≤ maximum_of what config
+counted_within Types config t limits = limits.types
+counted_within Imports config t limits = limits.imports
+counted_within Functions config t limits = limits.functions
 
 -- A part that may be added keeps all that is true.
 pub part_sound : (config : Config) (stack : Open) (p : Part) → IsAddable config stack p → Sound config stack

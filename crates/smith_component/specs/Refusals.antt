@@ -92,5 +92,5 @@ pub record IsReady (config : Config) (stack : Open) (left : List ℕ) : Type 0 w
   pub enough : Minima config stack.inner
 
 -- There is no refusal.
-abbrev pub IsAnswered : {T : Type 0} → Result T Error → Type 0
+abbrev pub IsAnswered : {T E : Type 0} → Result T E → Type 0
 IsAnswered result = IfErr result (λ e. ⊥)

@@ -23,7 +23,7 @@ use crate::item::CanonItem;
 use smith_format::Config;
 use smith_input::{Error, Unstructured, choose_offered};
 use smith_types::{DefType, FuncType, Scopes, canonical_abi_for, inverse_scalar_canonical_abi_for};
-use std::alloc::Global;
+use std::alloc::{AllocError, Global};
 use std::mem;
 use std::rc::Rc;
 
@@ -54,13 +54,12 @@ impl<'a> CanonicalDraft<'a> {
     }
 
     // Lowers a function that can be lowered, by a choice.
-    fn lower(&mut self, u: &mut Unstructured) -> Result<(), Error>
+    fn lower(&mut self, u: &mut Unstructured) -> Result<(), AllocError>
         requires draft { IsDraft self.old }
         requires some { 0 < length self.old.component.now.tables.scalars.items }
         ensures loans { SameLoans self.old self.new }
         ensures reads { OnOk result (ReadsLower (draft_of self.old) u.old u.new (draft_of self.new)) }
         ensures drafts { OnOk result (DraftsOn self.old self.new) }
-        ensures memory { IfErr result (λ e. e ≡ Error.OutOfMemory) }
         ensures tail { IsTail u.new u.old }
     {
         let func_index = *u.choose(&self.component.tables.scalars);
@@ -228,5 +227,6 @@ pub(super) fn read_canonicals(
         funcs: &mut funcs,
     };
     draft.turns(min, max, u)?;
-    component.push(Section::Canonical(CanonicalSection { funcs }))
+    component.push(Section::Canonical(CanonicalSection { funcs }))?;
+    Ok(())
 }

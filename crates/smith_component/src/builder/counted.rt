@@ -1,6 +1,6 @@
 //! What a component has a minimum of: how many there are, and the sections that add more.
 
-ghost use Rattle.std.specs.Prelude.{◌≡◌, ℕ, List, ◌+◌, ◌≤◌, IfErr, None, OnOk};
+ghost use Rattle.std.specs.Prelude.{◌≡◌, ℕ, List, ◌+◌, ◌-◌, ◌≤◌, IfErr, None, OnOk};
 ghost use Rattle.smith_input.specs.Reading.{IsTail};
 ghost use Rattle.smith_component.specs.BuilderView.{building_of, stack_of, IsSound};
 ghost use Rattle.smith_component.specs.Counted.{count_of, item_for, maximum_of, minimum_of};
@@ -35,6 +35,25 @@ impl Progress {
             Counted::Imports => self.config.min_imports,
             Counted::Functions => self.config.min_funcs,
         }
+    }
+
+    // How many it may have.
+    fn maximum(&self, what: Counted) -> usize
+        ensures { result ≡ maximum_of what self.now.config }
+    {
+        match what {
+            Counted::Types => self.config.max_types,
+            Counted::Imports => self.config.max_imports,
+            Counted::Functions => self.config.max_funcs,
+        }
+    }
+
+    // How many more it may have.
+    pub(super) fn room(&self, what: Counted) -> usize
+        requires { IsSound self.now }
+        ensures { result ≡ maximum_of what self.now.config - count_of what (stack_of self.now).inner }
+    {
+        self.maximum(what) - self.count(what)
     }
 
     // Is that minimum met?

@@ -44,6 +44,6 @@ impl Progress {
         ensures tail { IsTail u.new u.old }
     {
         self.fill(u)?;
-        self.close()
+        Ok(self.close()?)
     }
 }

@@ -12,6 +12,7 @@ use crate::builder::Progress;
 use crate::builder::open::OpenComponent;
 use crate::component::{Component, Section};
 use smith_input::Error;
+use std::alloc::AllocError;
 use std::mem;
 
 impl Progress {
@@ -31,11 +32,10 @@ impl Progress {
     }
 
     // The inner component becomes a section of the one around it, and the root is the answer.
-    pub(super) fn close(&mut self) -> Result<Option<Component>, Error>
+    pub(super) fn close(&mut self) -> Result<Option<Component>, AllocError>
         requires sound { IsSound self.old }
         requires minima { Minima self.old.config (stack_of self.old).inner }
         ensures closes { IfOk result (λ c. ClosesInner self.old self.new c) }
-        ensures memory { IfErr result (λ e. e ≡ Error.OutOfMemory) }
         ensures alone { (stack_of self.old).outer ≡ [] → IsAnswered result }
     {
         match self.outer.pop() {

@@ -1,14 +1,13 @@
 //! A component that is not finished yet.
 
-ghost use Rattle.std.specs.Prelude.{◌≡◌, ◌∷◌, ◌++◌, [], OnOk, IfErr};
+ghost use Rattle.std.specs.Prelude.{◌≡◌, ◌∷◌, ◌++◌, [], OnOk};
 ghost use Rattle.smith_component.specs.Shown.{shown_section, shown_sections};
 ghost use Rattle.smith_component.specs.Tables.{IsTabled};
 ghost use Rattle.smith_component.specs.Tree.{add};
 
 use crate::builder::tables::Tables;
 use crate::component::Section;
-use smith_input::Error;
-use std::alloc::Global;
+use std::alloc::{AllocError, Global};
 
 /// A component that is not finished yet, and what is kept beside its sections.
 #[derive(Drop)]
@@ -29,12 +28,11 @@ impl OpenComponent {
     }
 
     // Adds a section at the end.
-    pub(crate) fn push(&mut self, section: Section) -> Result<(), Error>
+    pub(crate) fn push(&mut self, section: Section) -> Result<(), AllocError>
         ensures items { OnOk result (self.new.sections.items ≡ self.old.sections.items ++ section ∷ []) }
         ensures ok { OnOk result (shown_sections self.new.sections.items
             ≡ add (shown_sections self.old.sections.items) (shown_section section)) }
         ensures tables { self.new.tables ≡ self.old.tables }
-        ensures memory { IfErr result (λ e. e ≡ Error.OutOfMemory) }
     {
         self.sections.push(section)?;
         Ok(())

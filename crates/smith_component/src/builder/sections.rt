@@ -19,19 +19,20 @@ use crate::builder::canonicals::read_canonicals;
 use crate::builder::entries::read_entries;
 use crate::builder::imports::read_imports;
 use crate::component::{CoreTypeSection, CustomSection, ImportSection, Section, TypeSection};
+use crate::item::Counted;
 use smith_core::Module;
 use smith_input::{Error, Unstructured};
 use smith_types::{CoreType, DefType};
+use std::alloc::AllocError;
 use std::rc::Rc;
 
 impl Progress {
     // A section without types, functions and imports is added to the inner component.
-    fn add_section(&mut self, section: Section) -> Result<(), Error>
+    fn add_section(&mut self, section: Section) -> Result<(), AllocError>
         requires sound { IsSound self.old }
         requires quiet { IsQuiet (shown_section section) }
         requires addable { IsAddable self.old.config (stack_of self.old) (shown_section section) }
-        ensures grows { OnOk result (GrowsBy section self.old self.new) }
-        ensures memory { IfErr result (λ e. e ≡ Error.OutOfMemory) }
+        ensures { OnOk result (GrowsBy section self.old self.new) }
     {
         let modules = section.module_count();
         self.inner.push(section)?;
@@ -47,7 +48,8 @@ impl Progress {
         ensures tail { IsTail u.new u.old }
     {
         let section = CustomSection::arbitrary(self.alloc, u)?;
-        self.add_section(Section::Custom(section))
+        self.add_section(Section::Custom(section))?;
+        Ok(())
     }
 
     // A core module that stands for a generated one.
@@ -60,7 +62,8 @@ impl Progress {
         ensures tail { IsTail u.new u.old }
     {
         let module = Module::new_internal(self.alloc, self.config, u)?;
-        self.add_section(Section::CoreModule(module))
+        self.add_section(Section::CoreModule(module))?;
+        Ok(())
     }
 
     // A core type section, with as many core types as the component may still have.
@@ -95,7 +98,7 @@ impl Progress {
         ensures memory { IfErr result (λ e. e ≡ Error.OutOfMemory) }
         ensures tail { IsTail u.new u.old }
     {
-        let room = self.config.max_types - self.scopes.own_len();
+        let room = self.room(Counted::Types);
         let types = read_entries::<Rc<DefType>>(
             self.alloc,
             &self.config,
@@ -120,7 +123,7 @@ impl Progress {
         ensures memory { IfErr result (λ e. e ≡ Error.OutOfMemory) }
         ensures tail { IsTail u.new u.old }
     {
-        let room = self.config.max_imports - self.inner.tables.imports.len();
+        let room = self.room(Counted::Imports);
         let imports = read_imports(
             self.alloc,
             &self.config,
@@ -147,7 +150,7 @@ impl Progress {
         ensures memory { IfErr result (λ e. e ≡ Error.OutOfMemory) }
         ensures tail { IsTail u.new u.old }
     {
-        let room = self.config.max_funcs - self.inner.tables.function_count();
+        let room = self.room(Counted::Functions);
         read_canonicals(
             self.alloc,
             &self.config,

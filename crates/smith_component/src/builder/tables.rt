@@ -1,15 +1,14 @@
 //! What is kept of a component beside its sections, so that no turn searches them.
 
-ghost use Rattle.std.specs.Prelude.{◌≡◌, ◌+◌, ◌<◌, [], length, OnOk, IfErr};
+ghost use Rattle.std.specs.Prelude.{◌≡◌, ◌+◌, ◌<◌, [], length, OnOk};
 ghost use Rattle.smith_types.specs.MakingTypes.{HoldsExterns};
 ghost use Rattle.smith_scopes.specs.Scopes.{own_scope};
 ghost use Rattle.smith_component.specs.Offers.{is_scalar_type};
 ghost use Rattle.smith_component.specs.Tables.{Tabled, AddsFunction, AddsCoreFunction};
 ghost use Rattle.smith_component.specs.Tree.{ends};
 
-use smith_input::Error;
 use smith_types::{DefType, ExternNames, Scopes};
-use std::alloc::Global;
+use std::alloc::{AllocError, Global};
 
 // The component functions by the indexes of their types, the core functions by those of the component functions that
 // they lower, the component functions that can be lowered, and the names of the imports.
@@ -53,11 +52,10 @@ impl Tables {
     }
 
     // Adds a component function of the type with that index.
-    pub(super) fn add_function(&mut self, scopes: &Scopes, ty: u32) -> Result<(), Error>
+    pub(super) fn add_function(&mut self, scopes: &Scopes, ty: u32) -> Result<(), AllocError>
         requires known { ty < length (own_scope scopes.now).types }
         requires room { length self.old.functions.items < 4294967295 }
         ensures ok { OnOk result (AddsFunction (own_scope scopes.now) self.old ty self.new) }
-        ensures memory { IfErr result (λ e. e ≡ Error.OutOfMemory) }
     {
         if is_scalar_type(scopes, ty) {
             self.scalars.push(self.functions.len() as u32)?;
@@ -67,9 +65,8 @@ impl Tables {
     }
 
     // Adds a core function that lowers the component function with that index.
-    pub(super) fn add_core_function(&mut self, func_index: u32) -> Result<(), Error>
+    pub(super) fn add_core_function(&mut self, func_index: u32) -> Result<(), AllocError>
         ensures ok { OnOk result (AddsCoreFunction self.old func_index self.new) }
-        ensures memory { IfErr result (λ e. e ≡ Error.OutOfMemory) }
     {
         self.core_functions.push(func_index)?;
         Ok(())

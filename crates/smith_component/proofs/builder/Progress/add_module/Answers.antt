@@ -1,5 +1,4 @@
 use Rattle.std.proofs.Common.{refl}
-use Rattle.std.proofs.lemmas.Result.{on_ok_weaker}
 use Rattle.smith_component.specs.BuilderView.{building_of, stack_of}
 use Rattle.smith_component.specs.declared.builder.Progress.{Progress}
 use Rattle.smith_component.specs.declared.item.Item.TheVariants.{Module}
@@ -20,6 +19,6 @@ returns-clause-does c =
     let new : Progress = c.add_section.new.self in
     let made = c.in_ok-module.module in
     let reads = c.in_ok-module.ensures.reads in
-    on_ok_weaker c.add_section.result (λ g. grown_does Module c.args.self.now new c.args.u.now c.new_internal.new.u g.grows
-    (made, reads, part_added _ _ _ g) (building_of new, refl, record { parts = made; added = g.last; reads = reads }))
-    c.add_section.ensures.grows
+    let g = c.in_ok-add_section.ensures in
+    grown_does Module c.args.self.now new c.args.u.now c.new_internal.new.u g.grows
+    (made, reads, part_added _ _ _ g) (building_of new, refl, record { parts = made; added = g.last; reads = reads })

@@ -21,8 +21,8 @@ overflow_add-self c =
     let few = a.modules i.sound.maxima.modules in
     omega (arith, few, i.totalled.modules, c.module_count-modules.ensures, i.sound.consistent.modules)
 
-pub returns-clause-grows : goal.returns-clause-grows
-returns-clause-grows c =
+pub returns : goal.returns
+returns c =
     let b = c.args.self.now in
     let stack = stack_of b in
     let p = shown_section c.args.section in

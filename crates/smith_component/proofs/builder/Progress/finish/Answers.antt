@@ -1,9 +1,7 @@
 use Rattle.std.proofs.Common.{sym, subst}
-use Rattle.std.proofs.lemmas.Result.{IfOk-weaker, IfErr-weaker}
 use Rattle.smith_format.specs.declared.config.Config.{Config}
 use Rattle.smith_component.specs.BuilderView.{stack_of}
 use Rattle.smith_component.specs.Limits.{Minima}
-use Rattle.smith_component.proofs.Finishing.{memory_fill}
 use Rattle.smith_component.proofs.Items.{finish_does}
 use Rattle.smith_component.proofs.builder.Progress.finish.Goals as goal
 
@@ -15,8 +13,4 @@ close-requires c =
 pub returns-clause-does : goal.returns-clause-does
 returns-clause-does c =
     let f = c.in_ok-fill.ensures in
-    IfOk-weaker c.close.result _ _ (λ r h. finish_does c.args.self.now c.fill.new.self c.close.new.self c.args.u.now c.fill.new.u r f.filled f.grows h)
-    c.close.ensures.closes
-
-pub returns-clause-refuses : goal.returns-clause-refuses
-returns-clause-refuses c = IfErr-weaker c.close.result _ _ (λ e h. memory_fill _ _ _ e h) c.close.ensures.memory
+    finish_does c.args.self.now c.fill.new.self c.close.new.self c.args.u.now c.fill.new.u _ f.filled f.grows c.in_ok-close.ensures.closes
