@@ -3,6 +3,8 @@
 #![tactic(auto)]
 
 #[cfg(test)]
+mod calls;
+#[cfg(test)]
 mod common;
 #[cfg(test)]
 mod components;
@@ -24,6 +26,8 @@ mod functions;
 mod hashes;
 #[cfg(test)]
 mod limits;
+#[cfg(test)]
+mod limits_at_ends;
 #[cfg(test)]
 mod module_parts;
 #[cfg(test)]
