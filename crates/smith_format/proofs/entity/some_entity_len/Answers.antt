@@ -1,4 +1,4 @@
-use Rattle.std.proofs.Common.{refl, false, rules, arith, ◌<◌, ◌^◌}
+use Rattle.std.proofs.Common.{refl, false, arith, ◌<◌, ◌^◌}
 use Rattle.smith_format.proofs.Sizes.{takes_bytes, takes_then, takes_u}
 use Rattle.std.proofs.lemmas.Grind.{common_steps}
 use Rattle.smith_format.proofs.entity.some_entity_len.Goals as goal
