@@ -3,8 +3,6 @@
 #![tactic(auto)]
 
 #[cfg(test)]
-mod calls;
-#[cfg(test)]
 mod common;
 #[cfg(test)]
 mod components;
@@ -26,8 +24,6 @@ mod functions;
 mod hashes;
 #[cfg(test)]
 mod limits;
-#[cfg(test)]
-mod limits_at_ends;
 #[cfg(test)]
 mod module_parts;
 #[cfg(test)]
