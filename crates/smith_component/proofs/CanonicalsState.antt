@@ -36,9 +36,9 @@ use Rattle.smith_component.specs.CanonicalsState.{CanonicalsState, DraftsOn, IsD
 use Rattle.smith_component.specs.CanonicalsState.{draft_of, growing}
 use Rattle.smith_component.specs.SectionValues.{externs_in, externs_of}
 use Rattle.smith_component.specs.Shown.{shown_canon, shown_sections}
-use Rattle.smith_component.specs.Tables.{AddsCoreFunction, AddsFunction, IsLowerable, Tabled}
-use Rattle.smith_component.specs.Spaces.{core_functions_of, function_count}
-use Rattle.smith_component.specs.Tree.{Tree, Canon, add, canons, types, lift, lower}
+use Rattle.smith_component.specs.Tables.{AddsCoreFunction, AddsFunction, IsLowerable, Tabled, functions_at}
+use Rattle.smith_component.specs.Spaces.{core_functions_of, spaces_of}
+use Rattle.smith_component.specs.Tree.{Tree, Canon, add, canons, exports_of, types, lift, lower, function_count}
 use Rattle.smith_component.specs.WellFormed.{scope_of}
 use Rattle.smith_component.specs.declared.builder.canonicals.CanonicalDraft.{CanonicalDraft}
 use Rattle.smith_component.specs.declared.builder.open.OpenComponent.{OpenComponent}
@@ -47,9 +47,9 @@ use Rattle.smith_component.specs.declared.component.Func.{Func}
 use Rattle.smith_component.specs.declared.component.Func.TheVariants.{CanonLift, CanonLower}
 use Rattle.smith_component.specs.declared.component.Section.{Section}
 use Rattle.smith_component.specs.declared.item.CanonItem.{CanonItem}
-use Rattle.smith_component.proofs.ReadsCanons.{with_signature, spaces_signature}
-use Rattle.smith_component.proofs.Growth.{functions_at, scope_at, spaces-add, spaces_canon}
-use Rattle.smith_component.proofs.Spaces.{IsScalarFunction, all_at, equal_at, equal_own, scope_canons}
+use Rattle.smith_component.proofs.ReadsCanons.{canon_count, empty_count, signature_count, spaces_signature, with_signature}
+use Rattle.smith_component.proofs.Growth.{scope_at, spaces-add, spaces_canon}
+use Rattle.smith_component.proofs.Spaces.{IsScalarFunction, all_at, equal_at, equal_own, exports_canons, exports_types, scope_canons}
 use Rattle.smith_component.proofs.Tables.{scalar_at, tabled_core_function, tabled_function, tabled_quiet, tabled_types}
 
 -- one function more in the section
@@ -63,6 +63,10 @@ growing_more old new fs gs f e more =
     let funcs = funcs_more fs gs f more in
     λ i. record { before = parts i; funcs = funcs i }
 
+-- The exports stay as they are.
+exports_canon : (s : Growing) (c : Canon) → exports_of (grown (with_canon s c)) ≡ exports_of (grown s)
+exports_canon s c = exports_canons s.before (s.funcs ++ c ∷ []) ∙ sym (exports_canons s.before s.funcs)
+
 -- The tables, where the section has one function more.
 
 tabled_lower : {old new : Tables} (s : Growing) (f : ℕ) → IsScalarFunction (spaces_at s) f → Tabled old (grown s) → AddsCoreFunction old f new
@@ -70,20 +74,21 @@ tabled_lower : {old new : Tables} (s : Growing) (f : ℕ) → IsScalarFunction (
 tabled_lower s f scalar tabled adds =
     let e = spaces_canon s.before s.funcs (lower f) in
     tabled_core_function (grown s) (grown (with_canon s (lower f))) scalar tabled adds
-    (ap (λ z. z.types) e) (ap (λ z. z.functions) e) (ap (λ z. z.core_functions) e)
+    (ap (λ z. z.types) e) (ap (λ z. z.functions) e) (ap (λ z. z.core_functions) e) (canon_count s (lower f)) (exports_canon s (lower f))
 
 tabled_lift : {own : Scope} {old new : Tables} (s : Growing) (c t : ℕ) → own ≡ scope_of (grown s) → t < length own.types → Tabled old (grown s)
-    → AddsFunction own old t new → Tabled new (grown (with_canon s (lift c t)))
+    → AddsFunction own 1 old t new → Tabled new (grown (with_canon s (lift c t)))
 tabled_lift {own} s c t is known tabled adds =
     let e = spaces_canon s.before s.funcs (lift c t) in
     tabled_function (grown s) (grown (with_canon s (lift c t))) is (omega (arith, known, ap (λ z. length z.types) is)) tabled adds
-    (ap (λ z. z.types) e) (ap (λ z. z.functions) e) (ap (λ z. z.core_functions) e)
+    (ap (λ z. z.types) e) (ap (λ z. z.functions) e) (ap (λ z. z.core_functions) e) (canon_count s (lift c t)) (exports_canon s (lift c t))
 
 tabled_signature : {tables : Tables} (s : Growing) (signature : Signature) → Tabled tables (grown s) → Tabled tables (grown (with_signature s signature))
 tabled_signature s signature tabled =
     let es : List Entry = function signature ∷ [] in
     let e = spaces_signature s signature in
     tabled_types (grown s) (grown (with_signature s signature)) es tabled (ap (λ z. z.types) e) (ap (λ z. z.functions) e) (ap (λ z. z.core_functions) e)
+    (signature_count s signature) (exports_canons (add (grown s) (types es)) [] ∙ exports_types (grown s) es)
 
 scope_canon : (s : Growing) (c : Canon) → scope_of (grown (with_canon s c)) ≡ scope_of (grown s)
 scope_canon s c = scope_canons s.before (s.funcs ++ c ∷ []) ∙ sym (scope_canons s.before s.funcs)
@@ -277,7 +282,7 @@ module _ (draft : CanonicalDraft) (d : IsDraft draft) where
 
   -- It stays a draft where a core function is lifted to a type that is there.
   pub lift_draft : (new : OpenComponent) (more : List Func) (c t : ℕ) → t < length (own_scope held).types
-      → AddsFunction (own_scope held) tables t new.tables → growing new more ≡ with_canon s (lift c t) → CanonicalsState held new more
+      → AddsFunction (own_scope held) 1 tables t new.tables → growing new more ≡ with_canon s (lift c t) → CanonicalsState held new more
   lift_draft new more c t known adds e = record {
     scope_is = d.scope_is ∙ sym (ap (λ z. scope_of (grown z)) e ∙ scope_canon s (lift c t));
     tabled = subst (λ z. Tabled new.tables (grown z)) (sym e) (tabled_lift s c t d.scope_is known d.tabled adds);
@@ -290,7 +295,7 @@ module _ (draft : CanonicalDraft) (d : IsDraft draft) where
     scope_after = (scopes_grown held after ty grows).own ∙ (ap (with_type (own_scope held)) shows
         ∙ (ap (λ z. with_type z (function signature)) d.scope_is ∙ sym (scope_signature s signature)))
 
-    pub define_draft : t ≡ length (last_of held).types → AddsFunction (own_scope after) tables t new.tables → CanonicalsState after new more
+    pub define_draft : t ≡ length (last_of held).types → AddsFunction (own_scope after) 1 tables t new.tables → CanonicalsState after new more
     define_draft index adds =
         let u : Growing = with_signature s signature in
         let at : t ≡ length (spaces_at s).types = omega (arith, index, length-last held, ap (λ z. length z.types) d.scope_is) in
@@ -340,14 +345,15 @@ first_draft scopes component funcs none is tabled =
     record {
       scope_is = is ∙ sym (ap (λ z. scope_of (grown z)) same ∙ scope_canons t []);
       tabled = subst (λ z. Tabled component.tables (grown z)) (sym same)
-          (tabled_quiet t (add t (canons [])) tabled (ap (λ z. z.types) e) (ap (λ z. z.functions) e) (ap (λ z. z.core_functions) e));
+          (tabled_quiet t (add t (canons [])) tabled (ap (λ z. z.types) e) (ap (λ z. z.functions) e) (ap (λ z. z.core_functions) e) (empty_count t)
+          (exports_canons t []));
     }
 
 pub first_count : (component : OpenComponent) (funcs : List Func) → funcs ≡ []
-    → function_count (grown (growing component funcs)) ≡ function_count (shown_sections component.sections.items)
+    → functions_at (spaces_at (growing component funcs)) ≡ functions_at (spaces_of (shown_sections component.sections.items))
 first_count component funcs none =
     let t : Tree = shown_sections component.sections.items in
-    ap (λ z. function_count (grown z)) (first_growing component funcs none) ∙ ap functions_at (spaces-add t (canons []))
+    ap (λ z. functions_at (spaces_at z)) (first_growing component funcs none) ∙ ap functions_at (spaces-add t (canons []))
 
 -- All turns together.
 pub all_read : (config : Config) (least most : ℕ) (t : Tree) (first next : Growing) (b rest : List ℕ) → first ≡ empty_section t

@@ -11,8 +11,8 @@ use Rattle.smith_syntax.specs.Entries.{Entry, Signature, function}
 use Rattle.smith_component.specs.Canonicals.{Growing, grown, spaces_at, with_canon, with_defined, NoCanon, empty_section, ReadsCanons}
 use Rattle.smith_component.specs.Offers.{scalar_functions}
 use Rattle.smith_component.specs.Tables.{IsGrounded}
-use Rattle.smith_component.specs.Spaces.{function_count, spaces_of, types_of}
-use Rattle.smith_component.specs.Tree.{Canon, lift, Tree, types, canons}
+use Rattle.smith_component.specs.Spaces.{spaces_of, types_of}
+use Rattle.smith_component.specs.Tree.{Canon, lift, Tree, canons, function_count}
 use Rattle.smith_component.specs.WellFormed.{FormedCanon}
 use Rattle.smith_component.specs.declared.item.CanonItem.{CanonItem}
 use Rattle.smith_component.specs.declared.item.CanonItem.TheVariants.{Lower, Lift}

@@ -25,6 +25,7 @@ use Rattle.smith_component.specs.Canonicals.{CanonTurn, Growing, NoCanon, ReadsC
 use Rattle.smith_component.specs.Offers.{canon_items, canon_offers, is_scalar_entry, is_scalar_type, scalar_functions}
 use Rattle.smith_component.specs.Tree.{Canon, lift, lower}
 use Rattle.smith_component.specs.Spaces.{Spaces, after_canon}
+use Rattle.smith_component.specs.Tables.{functions_at}
 use Rattle.smith_component.specs.WellFormed.{FormedCanon, FormedCanons}
 use Rattle.smith_component.specs.contracts.item.CanonItem.{the_type as canon_item_type}
 use Rattle.smith_component.specs.contracts.item.CanonItemPartialEq.TheImpl.{ghosts as equal}
@@ -33,7 +34,7 @@ use Rattle.smith_component.specs.declared.item.CanonItem.TheVariants.{Lower, Lif
 use Rattle.smith_input.proofs.Offered.{offers_few, offers_found}
 use Rattle.smith_scopes.proofs.Places.{place_found}
 use Rattle.smith_types.proofs.LiftingRead.{lifted_read}
-use Rattle.smith_component.proofs.Growth.{canon_keeps, functions_at, functions_after, spaces_canon}
+use Rattle.smith_component.proofs.Growth.{canon_keeps, functions_after, spaces_canon}
 use Rattle.smith_component.proofs.Spaces.{all_at}
 
 item_Decides : (a b : CanonItem) → Decides (equal.eq a b) (a ≡ b)

@@ -10,8 +10,8 @@ use Rattle.smith_format.proofs.Piece.{raw_whole}
 use Rattle.smith_syntax.specs.Grammar.{entry, core_entry, import_entry}
 use Rattle.smith_syntax.proofs.Clear.{clear_core_entry}
 use Rattle.smith_syntax.proofs.ClearTypes.{clear_entry, clear_import_entry}
-use Rattle.smith_component.specs.Grammar.{preamble, embedded, canon, part, parts, Spells}
-use Rattle.smith_component.specs.Tree.{Canon, lift, lower, Part, Tree, ends, first, custom, core_module, core_types, component, types, canons, imports}
+use Rattle.smith_component.specs.Grammar.{preamble, embedded, canon, export_entry, part, parts, Spells}
+use Rattle.smith_component.specs.Tree.{Canon, ExportEntry, lift, lower, Part, Tree, ends, first, custom, core_module, core_types, component, types, canons, imports, exports}
 
 -- the first byte of a canonical function
 abbrev canon_tag : Canon → ℕ
@@ -37,6 +37,17 @@ canon_law x y p q b e h = let c = clash _ _ b (canon_tagged x p b e) (canon_tagg
 clear_canon : IsClear canon
 clear_canon = record { law = canon_law }
 
+export_law : (x y : ExportEntry) (p q : Piece) (b : List ℕ) → export_entry x ⊕ p ≡ Some b → export_entry y ⊕ q ≡ Some b → Agree x y p q
+export_law x y p q b e h =
+    let a = then_tail (0x00 ∷ []) (text x.name ⊕ byte 0x01 ⊕ u x.func ⊕ byte 0x00) (text y.name ⊕ byte 0x01 ⊕ u y.func ⊕ byte 0x00) p q b e h in
+    let n = then_agree text clear_text x.name y.name (byte 0x01 ⊕ u x.func ⊕ byte 0x00) (byte 0x01 ⊕ u y.func ⊕ byte 0x00) p q a.rest a.first a.second in
+    let c = then_tail (0x01 ∷ []) (u x.func ⊕ byte 0x00) (u y.func ⊕ byte 0x00) p q n.rests.rest n.rests.first n.rests.second in
+    let f = then_agree u clear_u x.func y.func (byte 0x00) (byte 0x00) p q c.rest c.first c.second in
+    record { same = λ i. record { name = n.same i; func = f.same i }; rests = tail (0x00 ∷ []) p q f.rests.rest f.rests.first f.rests.second }
+
+clear_export : IsClear export_entry
+clear_export = record { law = export_law }
+
 guard : (x : Bool) (t b : List ℕ) → cond x (raw t) None ≡ Some b → t ≡ b
 guard true t b e = raw_whole t b e
 guard false t b e = cc
@@ -57,6 +68,7 @@ part_tag (component t) = 4
 part_tag (types ts) = 7
 part_tag (canons fs) = 8
 part_tag (imports is) = 10
+part_tag (exports es) = 11
 
 part_tagged : (x : Part) (p : Piece) (b : List ℕ) → part x ⊕ p ≡ Some b → (t : List ℕ) × (b ≡ part_tag x ∷ t)
 part_tagged (custom n c) p b e = section_head 0 (text n ⊕ raw c) p b e
@@ -66,6 +78,7 @@ part_tagged (component t) p b e = section_head 4 (bytes preamble ⊕ parts t) p 
 part_tagged (types ts) p b e = section_head 7 (many entry ts) p b e
 part_tagged (canons fs) p b e = section_head 8 (many canon fs) p b e
 part_tagged (imports is) p b e = section_head 10 (many import_entry is) p b e
+part_tagged (exports es) p b e = section_head 11 (many export_entry es) p b e
 
 same_part_tag : (x y : Part) (p q : Piece) (b : List ℕ) → part x ⊕ p ≡ Some b → part y ⊕ q ≡ Some b → part_tag x ≡ part_tag y
 same_part_tag x y p q b e h = clash _ _ b (part_tagged x p b e) (part_tagged y q b h)
@@ -99,6 +112,12 @@ mutual
       let t = same_section 10 (many import_entry is) (many import_entry js) p q b e h in
       record {
         same = ap imports ((exact (many import_entry) (clear_many import_entry clear_import_entry)).law is js t.contents t.first t.second);
+        rests = t.rests;
+      }
+  part_law (exports es) (exports fs) p q b e h =
+      let t = same_section 11 (many export_entry es) (many export_entry fs) p q b e h in
+      record {
+        same = ap exports ((exact (many export_entry) (clear_many export_entry clear_export)).law es fs t.contents t.first t.second);
         rests = t.rests;
       }
   part_law x y p q b e h = let c = same_part_tag x y p q b e h in absurd (omega arith)

@@ -9,8 +9,7 @@ use Rattle.smith_component.specs.Canonicals.{grown}
 use Rattle.smith_component.specs.Open.{Open, items, root, scopes_in, with_inner}
 use Rattle.smith_component.specs.Refusals.{Comes, LacksOn, RefusesModuleOn}
 use Rattle.smith_component.specs.Shown.{bytes_of}
-use Rattle.smith_component.specs.Spaces.{function_count}
-use Rattle.smith_component.specs.Tree.{Tree, custom, core_module, core_types, types, imports, add, imports_of}
+use Rattle.smith_component.specs.Tree.{Tree, custom, core_module, core_types, types, imports, exports, add, imports_of, function_count}
 use Rattle.smith_component.specs.Turn.{Next, building, answered, Closes, Does, Turn, LacksAt, RefusesModuleAt, with_part}
 use Rattle.smith_component.specs.AddedSections.{ReadsCustom, Adds}
 use Rattle.smith_component.specs.Fills.{Fills, FillsAll, Lacks, of_imports, of_functions}
@@ -18,8 +17,9 @@ use Rattle.smith_component.specs.Runs.{Turns, RunsTo}
 use Rattle.smith_component.specs.declared.item.Counted.{Counted}
 use Rattle.smith_component.specs.declared.item.Counted.TheVariants as counted
 use Rattle.smith_component.specs.declared.item.Item.{Item}
-use Rattle.smith_component.specs.declared.item.Item.TheVariants.{Finish, Custom, CoreTypes, Types, Imports, Canonical, Module, Component}
+use Rattle.smith_component.specs.declared.item.Item.TheVariants.{Finish, Custom, CoreTypes, Types, Imports, Canonical, Module, Component, Exports}
 use Rattle.smith_component.proofs.CanonsSame.{canons_same}
+use Rattle.smith_component.proofs.ExportsSame.{exports_same}
 use Rattle.smith_component.proofs.ImportsSame.{imports_same}
 use Rattle.smith_component.proofs.ReadsCoreTypes.{core_types_same}
 use Rattle.smith_component.proofs.ReadsTypes.{types_same}
@@ -106,6 +106,9 @@ does_same config Module stack b n m r q (x, reads, e) (y, read, f) =
     let d = stand_in_same reads read in
     (e ∙ (ap (λ z. with_part stack (core_module (bytes_of z))) d.0 ∙ sym f), d.1)
 does_same config Component stack b n m r q (l, e) (k, f) = (e ∙ sym f, l ∙ sym k)
+does_same config Exports stack b n m r q (es, reads, e) (fs, read, f) =
+    let d = exports_same stack.inner config reads read in
+    (e ∙ (ap (λ z. with_part stack (exports z)) d.0 ∙ sym f), d.1)
 
 -- what was chosen does the same for both
 does_at : {config : Config} {stack : Open} {left : List ℕ} {item : Item} {after : List ℕ} {next : Next} {rest : List ℕ}

@@ -10,15 +10,15 @@ use Rattle.smith_component.specs.Counted.{count_of, minimum_of}
 use Rattle.smith_component.specs.Filling.{CanFill}
 use Rattle.smith_component.specs.Open.{Open, with_inner}
 use Rattle.smith_component.specs.Tables.{IsGrounded}
-use Rattle.smith_component.specs.Spaces.{function_count, spaces_of, types_of}
-use Rattle.smith_component.specs.Tree.{Tree, types, imports, add, imports_of, imports_in}
+use Rattle.smith_component.specs.Spaces.{spaces_of, types_of}
+use Rattle.smith_component.specs.Tree.{Tree, types, imports, add, imports_of, imports_in, function_count}
 use Rattle.smith_component.specs.Fills.{Fills, Lacks, of_imports, of_functions}
 use Rattle.smith_component.specs.declared.item.Counted.{Counted}
 use Rattle.smith_component.specs.declared.item.Counted.TheVariants as counted
 use Rattle.smith_component.proofs.CanonsEnough.{canons_enough}
 use Rattle.smith_component.proofs.ReadsImports.{imports_enough}
-use Rattle.smith_component.proofs.Growth.{extends-add, functions_at, functions_grow, spaces-add}
-use Rattle.smith_component.proofs.Tree.{length-own-add}
+use Rattle.smith_component.proofs.Growth.{spaces-add}
+use Rattle.smith_component.proofs.Tree.{function_count-add, length-own-add}
 
 -- where there are enough, nothing is filled
 fill_none : (what : Counted) (config : Config) (stack : Open) (b : List ℕ) (t : Tree) (rest : List ℕ) → minimum_of what config ≤ count_of what stack.inner
@@ -59,14 +59,14 @@ with_types old new xs e =
     let both = length-append (places is_func 0 (types_of old)) (places is_func (0 + length (types_of old)) xs) in
     record {
       imports = omega (arith, ap (λ t. length (imports_of t)) e, length-own-add imports_in old (types xs));
-      functions = ap (λ t. function_count t) e ∙ ap functions_at (spaces-add old (types xs));
+      functions = omega (arith, ap (λ t. function_count t) e, function_count-add old (types xs));
       types = omega (arith, ap (λ t. func_types t) e, split, both);
     }
 
 with_imports : (old new : Tree) (is : List ImportEntry) → new ≡ add old (imports is) → IsImported old new
 with_imports old new is e = record {
   imports = omega (arith, ap (λ t. length (imports_of t)) e, length-own-add imports_in old (imports is));
-  functions = omega (arith, ap (λ t. function_count t) e, functions_grow (spaces_of old) (spaces_of (add old (imports is))) (extends-add old (imports is)));
+  functions = omega (arith, ap (λ t. function_count t) e, function_count-add old (imports is));
 }
 
 module _ (config : Config) where

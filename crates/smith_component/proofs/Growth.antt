@@ -1,14 +1,18 @@
 -- How index spaces grow: what stands in them stays where it is.
 use Rattle.std.proofs.Common.{◌≡◌, ℕ, ◌+◌, ◌≤◌, List, [], ◌∷◌, ◌++◌, fold, length, refl, sym, ap, ◌∙◌, subst, arith, append-nil, append_assoc, length-append}
-use Rattle.std.specs.List.{AllByRecursion}
+use Rattle.std.specs.List.{AllByRecursion, flat_map}
+use Rattle.std.specs.Option.{option_to_list}
+use Rattle.std.specs.Prelude.{Option, None, Some, slice_get}
 use Rattle.std.proofs.lemmas.List.Sums.{fold-append}
 use Rattle.smith_scopes.proofs.Plain.{all_both}
 use Rattle.smith_syntax.specs.Entries.{Entry, ImportEntry}
 use Rattle.smith_syntax.specs.Scope.{Scope}
-use Rattle.smith_component.specs.Spaces.{Spaces, no_spaces, after_canon, after_import, after_part, core_types_of, spaces_of, types_of}
-use Rattle.smith_component.specs.Tree.{Canon, lift, lower, Tree, ends, first, Part, custom, core_module, core_types, component, types, canons, imports}
-use Rattle.smith_component.specs.Tree.{add, parts_of, function_of}
+use Rattle.smith_component.specs.Spaces.{Spaces, no_spaces, after_canon, after_export, after_import, after_part, core_types_of, spaces_of, types_of}
+use Rattle.smith_component.specs.Tables.{functions_at}
+use Rattle.smith_component.specs.Tree.{Canon, lift, lower, Tree, ends, first, Part, custom, core_module, core_types, component, types, canons, imports, exports}
+use Rattle.smith_component.specs.Tree.{ExportEntry, add, canons_in, exports_in, exports_of, function_count, function_of, imported_functions_in, own, parts_of}
 use Rattle.smith_component.specs.WellFormed.{scope_of}
+use Rattle.smith_component.proofs.Tree.{functions_in}
 
 behind-add : (s : Spaces) (t : Tree) (p : Part) → fold after_part s (parts_of (add t p)) ≡ after_part (fold after_part s (parts_of t)) p
 behind-add s ends p = refl
@@ -31,14 +35,78 @@ spaces_import t is i =
     spaces-add t (imports (is ++ i ∷ []))
     ∙ (fold-append after_import (spaces_of t) is (i ∷ []) ∙ ap (λ s. after_import s i) (sym (spaces-add t (imports is))))
 
--- how many functions there are
+-- one export more
+pub spaces_export : (t : Tree) (es : List ExportEntry) (e : ExportEntry)
+    → spaces_of (add t (exports (es ++ e ∷ []))) ≡ after_export (spaces_of (add t (exports es))) e
+spaces_export t es e =
+    spaces-add t (exports (es ++ e ∷ []))
+    ∙ (fold-append after_export (spaces_of t) es (e ∷ []) ∙ ap (λ s. after_export s e) (sym (spaces-add t (exports es))))
 
-abbrev pub functions_at : Spaces → ℕ
-functions_at s = length s.functions + length s.core_functions
+-- how many functions there are
 
 pub functions_after : (s : Spaces) (c : Canon) → functions_at (after_canon s c) ≡ functions_at s + 1
 functions_after s (lift c t) = omega (arith, length-append s.functions (t ∷ []))
 functions_after s (lower f) = omega (arith, length-append s.core_functions (f ∷ []))
+
+pub functions_behind : (s : Spaces) (cs : List Canon) → functions_at (fold after_canon s cs) ≡ functions_at s + length cs
+functions_behind s [] = omega arith
+functions_behind s (c ∷ cs) = omega (arith, functions_behind (after_canon s c) cs, functions_after s c)
+
+functions_imported : (s : Spaces) (is : List ImportEntry)
+    → functions_at (fold after_import s is) ≡ functions_at s + length (flat_map (λ (i : ImportEntry). function_of i.to) is)
+functions_imported s [] = omega arith
+functions_imported s (i ∷ is) = omega (
+  arith,
+  functions_imported (after_import s i) is,
+  length-append s.functions (function_of i.to),
+  length-append (function_of i.to) (flat_map (λ (i : ImportEntry). function_of i.to) is),
+)
+
+one_at_most : {A : Type 0} (o : Option A) → length (option_to_list o) ≤ 1
+one_at_most None = omega arith
+one_at_most (Some x) = omega arith
+
+-- Between two places so many functions are counted, and so many exported.
+pub record Counts (s u : Spaces) (counted exported : ℕ) : Type 0 where
+  pub least : functions_at s + counted ≤ functions_at u
+  pub most : functions_at u ≤ functions_at s + (counted + exported)
+
+functions_exported : (s : Spaces) (es : List ExportEntry) → Counts s (fold after_export s es) 0 (length es)
+functions_exported s [] = record { least = omega arith; most = omega arith }
+functions_exported s (e ∷ es) =
+    let more = functions_exported (after_export s e) es in
+    let one = one_at_most (slice_get s.functions e.func) in
+    let grown = length-append s.functions (option_to_list (slice_get s.functions e.func)) in
+    record { least = omega (arith, more.least, grown); most = omega (arith, more.most, grown, one) }
+
+part_counts : (s : Spaces) (p : Part) → Counts s (after_part s p) (functions_in p) (length (exports_in p))
+part_counts s (custom name contents) = record { least = omega arith; most = omega arith }
+part_counts s (core_module text) = record { least = omega arith; most = omega arith }
+part_counts s (core_types ts) = record { least = omega arith; most = omega arith }
+part_counts s (component t) = record { least = omega arith; most = omega arith }
+part_counts s (types ts) = record { least = omega arith; most = omega arith }
+part_counts s (canons fs) = record { least = omega (arith, functions_behind s fs); most = omega (arith, functions_behind s fs) }
+part_counts s (imports is) = record { least = omega (arith, functions_imported s is); most = omega (arith, functions_imported s is) }
+part_counts s (exports es) =
+    let c = functions_exported s es in
+    record { least = omega (arith, c.least); most = omega (arith, c.most) }
+
+parts_count : (s : Spaces) (t : Tree) → Counts s (fold after_part s (parts_of t)) (function_count t) (length (exports_of t))
+parts_count s ends = record { least = omega arith; most = omega arith }
+parts_count s (first p t) =
+    let one = part_counts s p in
+    let more = parts_count (after_part s p) t in
+    let imported = length-append (imported_functions_in p) (own imported_functions_in t) in
+    let canonical = length-append (canons_in p) (own canons_in t) in
+    let exported = length-append (exports_in p) (exports_of t) in
+    record {
+      least = omega (arith, one.least, more.least, imported, canonical);
+      most = omega (arith, one.most, more.most, imported, canonical, exported);
+    }
+
+-- All functions that are counted stand in the index spaces, and beside them only those that are exported.
+pub functions_counted : (t : Tree) → Counts no_spaces (spaces_of t) (function_count t) (length (exports_of t))
+functions_counted t = parts_count no_spaces t
 
 -- The types and the core types stay as they are.
 pub record KeepsTypes (s u : Spaces) : Type 0 where
@@ -65,6 +133,12 @@ pub imports_keep : (s : Spaces) (is : List ImportEntry) → KeepsTypes s (fold a
 imports_keep s is = record {
   types = fold_keeps (λ z. z.types) after_import (λ z i. refl) s is;
   core_types = fold_keeps (λ z. z.core_types) after_import (λ z i. refl) s is;
+}
+
+pub exports_keep : (s : Spaces) (es : List ExportEntry) → KeepsTypes s (fold after_export s es)
+exports_keep s es = record {
+  types = fold_keeps (λ z. z.types) after_export (λ z e. refl) s es;
+  core_types = fold_keeps (λ z. z.core_types) after_export (λ z e. refl) s es;
 }
 
 -- The scope of a component, where it grows.
@@ -94,6 +168,7 @@ types_past P t p h new = subst (λ (s : Spaces). AllByRecursion P s.types) (sym 
     by_part (types ts) more = all_both P (types_of t) ts h (more ts refl)
     by_part (canons fs) more = subst (AllByRecursion P) (sym (canons_keep (spaces_of t) fs).types) h
     by_part (imports is) more = subst (AllByRecursion P) (sym (imports_keep (spaces_of t) is).types) h
+    by_part (exports es) more = subst (AllByRecursion P) (sym (exports_keep (spaces_of t) es).types) h
 
 -- Some list stands at the beginning of another.
 
@@ -151,6 +226,14 @@ extends_import s i = record {
   core_functions = prefix_same s.core_functions;
 }
 
+extends_export : (s : Spaces) (e : ExportEntry) → Extends s (after_export s e)
+extends_export s e = record {
+  types = prefix_same s.types;
+  core_types = prefix_same s.core_types;
+  functions = (option_to_list (slice_get s.functions e.func), refl);
+  core_functions = prefix_same s.core_functions;
+}
+
 extends_fold : {A : Type 0} (after : Spaces → A → Spaces) → ((s : Spaces) (x : A) → Extends s (after s x)) → (s : Spaces) (xs : List A)
     → Extends s (fold after s xs)
 extends_fold after one s [] = extends_same s
@@ -174,12 +257,10 @@ extends_part s (types ts) = record {
 }
 extends_part s (canons fs) = extends_fold after_canon extends_canon s fs
 extends_part s (imports is) = extends_fold after_import extends_import s is
+extends_part s (exports es) = extends_fold after_export extends_export s es
 
 pub extends-add : (t : Tree) (p : Part) → Extends (spaces_of t) (spaces_of (add t p))
 extends-add t p = subst (Extends (spaces_of t)) (sym (spaces-add t p)) (extends_part (spaces_of t) p)
 
 pub prefix_longer : {A : Type 0} (xs ys : List A) → IsPrefix xs ys → length xs ≤ length ys
 prefix_longer xs ys (more, e) = omega (arith, ap length e, length-append xs more)
-
-pub functions_grow : (s u : Spaces) → Extends s u → functions_at s ≤ functions_at u
-functions_grow s u e = omega (arith, prefix_longer s.functions u.functions e.functions, prefix_longer s.core_functions u.core_functions e.core_functions)

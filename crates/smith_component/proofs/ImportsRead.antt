@@ -41,11 +41,11 @@ plain_names_are [] = refl
 plain_names_are (n ∷ ns) = λ i. n ∷ plain_names_are ns i
 
 -- of new names those behind some are new behind them
-new_back : (before front back : List (List ℕ)) → AreNew before (front ++ back) → AreNew (before ++ front) back
+pub new_back : (before front back : List (List ℕ)) → AreNew before (front ++ back) → AreNew (before ++ front) back
 new_back before [] back h = subst (λ z. AreNew z back) (sym (append-nil before)) h
 new_back before (n ∷ ns) back h = subst (λ z. AreNew z back) (append_assoc before (n ∷ []) ns) (new_back (before ++ n ∷ []) ns back h.1)
 
-all_behind : {A : Type 0} (P : A → Type 0) (xs ys : List A) → AllByRecursion P (xs ++ ys) → AllByRecursion P ys
+pub all_behind : {A : Type 0} (P : A → Type 0) (xs ys : List A) → AllByRecursion P (xs ++ ys) → AllByRecursion P ys
 all_behind P [] ys h = h
 all_behind P (x ∷ xs) ys h = all_behind P xs ys h.1
 

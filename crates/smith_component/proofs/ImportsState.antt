@@ -15,11 +15,10 @@ use Rattle.smith_types.specs.declared.make.references.RefTotals.{RefTotals}
 use Rattle.smith_scopes.proofs.Plain.{both_true}
 use Rattle.smith_component.specs.Offers.{totals_of, with_imports}
 use Rattle.smith_component.specs.Open.{Open}
-use Rattle.smith_component.specs.Spaces.{functions_of}
-use Rattle.smith_component.specs.Tree.{imports, add, function_of, module_of, component_of, instance_of}
-use Rattle.smith_component.proofs.Growth.{functions_at, spaces_import}
+use Rattle.smith_component.specs.Tree.{imports, function_of, module_of, component_of, instance_of}
 use Rattle.smith_component.proofs.Sound.{component_count-so_far, instance_count-so_far, module_count-so_far}
 use Rattle.smith_component.proofs.Tables.{flat_map_more}
+use Rattle.smith_component.proofs.Tree.{function_count-add}
 
 -- Room for what is imported: where one more is counted, it finds room.
 pub record RefRoom (config : Config) (totals : RefTotals) (r : ComponentTypeRef) : Type 0 where
@@ -105,8 +104,6 @@ module _ (stack : Open) (s : List ImportEntry) (x : ImportEntry) where
       omega (arith, count (imports s), count (imports more), length_more instance_of)
 
   pub funcs_more : (totals_of (with_imports stack more)).funcs ≡ (totals_of (with_imports stack s)).funcs + length (function_of x.to)
-  funcs_more = omega (
-    arith,
-    ap functions_at (spaces_import stack.inner s x),
-    length-append (functions_of (add stack.inner (imports s))) (function_of x.to),
-  )
+  funcs_more =
+      let count = function_count-add stack.inner in
+      omega (arith, count (imports s), count (imports more), length_more function_of)

@@ -3,6 +3,9 @@ pub mod CanonsRead
 pub mod CanonsSame
 pub mod Clear
 pub mod Decided
+pub mod ExportsRead
+pub mod ExportsSame
+pub mod ExportsState
 pub mod CanonicalsState
 pub mod Filling
 pub mod Finishing
@@ -14,11 +17,13 @@ pub mod ImportsRead
 pub mod ImportsSame
 pub mod Items
 pub mod MadeWith
+pub mod Named
 pub mod PartsRead
 pub mod Plans
 pub mod ReadsCanons
 pub mod ReadsCoreTypes
 pub mod ReadsCustom
+pub mod ReadsExports
 pub mod ReadsImports
 pub mod ReadsModule
 pub mod ReadsTypes

@@ -1,5 +1,5 @@
 -- The script of a part of a plan is read as that part, and a component that lacks nothing is finished as it is.
-use Rattle.std.proofs.Common.{◌≡◌, ℕ, suc, ◌+◌, ◌-◌, ◌≤◌, ◌^◌, List, [], ◌∷◌, ◌++◌, fold, map, length, arith, refl, sym, ap, subst, inl, append_assoc}
+use Rattle.std.proofs.Common.{◌≡◌, ℕ, suc, ◌+◌, ◌-◌, ◌≤◌, ◌^◌, List, [], ◌∷◌, ◌++◌, map, length, arith, refl, sym, subst, inl, append_assoc}
 use Rattle.std.proofs.Common.{length-append}
 use Rattle.std.specs.List.{AllByRecursion}
 use Rattle.std.specs.Str.{IsUtf8}
@@ -18,21 +18,22 @@ use Rattle.smith_syntax.specs.TypeLimits.{EntryLimits}
 use Rattle.smith_types.specs.Script.{Lasts}
 use Rattle.smith_component.specs.Open.{Open, scopes_from, scopes_in, tree_so_far}
 use Rattle.smith_component.specs.Script.{item_of, script_part, IsPlanPart}
-use Rattle.smith_component.specs.Spaces.{Spaces, after_canon, after_part, core_types_of, function_count, spaces_of, types_of}
-use Rattle.smith_component.specs.Tree.{Canon, Tree, Part, custom, core_types, component, types, canons, imports, add, own, inside, components_in, no_depth}
-use Rattle.smith_component.specs.Tree.{names_in, imports_of, imports_in}
+use Rattle.smith_component.specs.Spaces.{after_part, core_types_of, spaces_of, types_of}
+use Rattle.smith_component.specs.Tree.{Canon, Tree, Part, custom, core_types, component, types, canons, imports, exports, add, own, inside, components_in, no_depth}
+use Rattle.smith_component.specs.Tree.{ExportEntry, exports_in, exports_of, names_in, imports_of, imports_in, function_count}
 use Rattle.smith_component.specs.Turn.{Does, with_part}
 use Rattle.smith_component.specs.AddedSections.{ReadsCustom}
 use Rattle.smith_component.specs.Fills.{FillsAll}
 use Rattle.smith_component.specs.WellFormed.{FormedPart, scope_of}
 use Rattle.smith_component.proofs.CanonsRead.{Spoken, canons_from, types_spoken}
+use Rattle.smith_component.proofs.ExportsRead.{exports_read}
 use Rattle.smith_component.proofs.ImportsRead.{imports_read, Room}
 use Rattle.smith_component.proofs.ReadsCoreTypes.{core_types_read}
 use Rattle.smith_component.proofs.ReadsTypes.{types_read}
 use Rattle.smith_component.proofs.Fits.{Fits, Short, fits_behind, own_limits-front}
-use Rattle.smith_component.proofs.Growth.{functions_after, functions_at, spaces-add, types_past}
+use Rattle.smith_component.proofs.Growth.{functions_counted, spaces-add, types_past}
 use Rattle.smith_component.proofs.Sound.{length-scopes_from}
-use Rattle.smith_component.proofs.Tree.{all_of, anywhere-add, depth-outer, own-add, length-own-add}
+use Rattle.smith_component.proofs.Tree.{all_of, anywhere-add, depth-outer, function_count-add, own-add, length-own-add}
 use Rattle.smith_scopes.proofs.Plain.{all_back}
 
 -- nothing is filled where nothing lacks
@@ -54,10 +55,6 @@ pub custom_read : (name contents rest : List ℕ) → IsUtf8 name → length nam
 custom_read name contents rest utf8 short =
     subst (λ z. ReadsCustom z name contents rest) (sym (append_assoc (script_text 1000 name) (script_bytes contents) rest))
     (script_bytes contents ++ rest, text_read 1000 name (script_bytes contents ++ rest) (omega arith) utf8 short, bytes_read contents rest)
-
-functions_behind : (s : Spaces) (cs : List Canon) → functions_at (fold after_canon s cs) ≡ functions_at s + length cs
-functions_behind s [] = omega arith
-functions_behind s (c ∷ cs) = omega (arith, functions_behind (after_canon s c) cs, functions_after s c)
 
 -- No more stand in the scope of each component around a place than a choice can be spelled of, and they are few.
 pub record Around (outer : List Tree) : Type 0 where
@@ -135,12 +132,22 @@ module _ (config : Config) (stack : Open) (rest : List ℕ) where
   canons_part consistent spoken fs plan formed limits =
       let inner : Tree = stack.inner in
       let count : function_count inner + length fs ≤ config.max_funcs =
-      omega (arith, limits.functions, ap functions_at (spaces-add inner (canons fs)), functions_behind (spaces_of inner) fs) in
-      let many : length (types_of inner) ≤ max_u32 = omega (arith, (own_limits-front config inner (canons fs) limits).types, consistent.types) in
+      omega (arith, limits.functions, function_count-add inner (canons fs)) in
+      let before : OwnLimits config inner = own_limits-front config inner (canons fs) limits in
+      let many : length (types_of inner) ≤ max_u32 = omega (arith, before.types, consistent.types) in
+      let spaces = functions_counted inner in
       let read =
       canons_from fs config (config.max_funcs - function_count inner) 0 (empty_section inner) (spaces_of inner) rest (spaces-add inner (canons [])) formed
-      spoken (omega (arith, many)) (omega (arith, count, consistent.funcs)) (omega (arith, count)) in
+      spoken (omega (arith, many)) (omega (arith, count, spaces.most, before.exports, consistent.funcs)) (omega (arith, count)) in
       (add inner (canons fs), (map canon_item_of fs, record { before = inner; funcs = fs }, read, refl), refl)
+
+  pub exports_part : IsConsistent config → (es : List ExportEntry) → IsRead (exports es)
+  exports_part consistent es plan formed limits =
+      let inner : Tree = stack.inner in
+      let most : length (exports_of inner) + length es ≤ config.max_exports =
+      omega (arith, limits.exports, length-own-add exports_in inner (exports es)) in
+      let before : OwnLimits config inner = own_limits-front config inner (exports es) limits in
+      (es, exports_read inner config es rest plan.1 formed.0 formed.1 (omega (arith, most)) (omega (arith, most, before.functions, consistent.funcs)), refl)
 
 -- The types of a plan can be said behind one part more.
 pub spoken_past : (config : Config) (p : Part) (outer : List Scope) (before : Tree) (scopes : ℕ) → IsPlanPart config scopes p → FormedPart p outer before

@@ -23,19 +23,20 @@ use Rattle.smith_component.specs.Canonicals.{Growing, grown, spaces_at, with_can
 use Rattle.smith_component.specs.Canonicals.{empty_section, ReadsCanons}
 use Rattle.smith_component.specs.Open.{Open, scopes_in, tree_so_far, with_inner}
 use Rattle.smith_component.specs.Sound.{Sound}
-use Rattle.smith_component.specs.Spaces.{Spaces, after_part, core_types_of, function_count, spaces_of, types_of}
-use Rattle.smith_component.specs.Tree.{Canon, lift, lower, Tree, Part, ends, first, component, types, canons, add, join, imports_of}
+use Rattle.smith_component.specs.Spaces.{Spaces, after_part, core_types_of, spaces_of, types_of}
+use Rattle.smith_component.specs.Tables.{functions_at}
+use Rattle.smith_component.specs.Tree.{Canon, lift, lower, Tree, Part, ends, first, component, types, canons, add, join, imports_of, function_count}
 use Rattle.smith_component.specs.WellFormed.{scope_of, HasSignature, FormedCanon, FormedCanons, Formed, FormedPart}
 use Rattle.smith_component.specs.declared.item.CanonItem.{CanonItem}
 use Rattle.smith_component.specs.declared.item.CanonItem.TheVariants.{Lower, Lift}
-use Rattle.smith_component.proofs.Fits.{fits_functions, fits_of, own_limits-add, own_sizes-add, sizes_keep}
-use Rattle.smith_component.proofs.Growth.{KeepsTypes, canon_keeps, canons_keep, extends_part, functions_after, functions_at, spaces-add, spaces_canon}
+use Rattle.smith_component.proofs.Fits.{fits_kept, fits_of, own_limits-add, own_sizes-add, sizes_keep}
+use Rattle.smith_component.proofs.Growth.{KeepsTypes, canon_keeps, canons_keep, extends_part, functions_after, spaces-add, spaces_canon}
 use Rattle.smith_component.proofs.Growth.{types_past}
 use Rattle.smith_component.proofs.Sound.{addable_types, own_limits_of, own_sizes_of, part_sound}
 use Rattle.smith_component.proofs.Spaces.{all_at, get_last, imports_canons, imports_types, with_entries, has_signature_stays}
 use Rattle.smith_component.proofs.Spaces.{equal_at, formed_canons-snoc}
 use Rattle.smith_component.proofs.Tables.{scalar_at}
-use Rattle.smith_component.proofs.Tree.{join-add, join-ends}
+use Rattle.smith_component.proofs.Tree.{function_count-add, join-add, join-ends}
 use Rattle.smith_component.proofs.WellFormed.{formed_front}
 
 -- What turns keep, a loop keeps.
@@ -148,10 +149,17 @@ spaces_signature s signature =
     spaces-add (add (grown s) (types es)) (canons []) ∙ spaces-add (grown s) (types es)
 
 pub canon_count : (s : Growing) (c : Canon) → function_count (grown (with_canon s c)) ≡ function_count (grown s) + 1
-canon_count s c = ap functions_at (spaces_canon s.before s.funcs c) ∙ functions_after (spaces_at s) c
+canon_count s c = omega (
+  arith,
+  function_count-add s.before (canons (s.funcs ++ c ∷ [])),
+  function_count-add s.before (canons s.funcs),
+  length-append s.funcs (c ∷ []),
+)
 
 pub signature_count : (s : Growing) (signature : Signature) → function_count (grown (with_signature s signature)) ≡ function_count (grown s)
-signature_count s signature = ap functions_at (spaces_signature s signature)
+signature_count s signature =
+    let es : List Entry = function signature ∷ [] in
+    omega (arith, function_count-add (add (grown s) (types es)) (canons []), function_count-add (grown s) (types es))
 
 signature_types : (s : Growing) (signature : Signature) (n : ℕ) → n ≤ length (types_of (grown s)) → n ≤ length (types_of (grown (with_signature s signature)))
 signature_types s signature n h = omega (
@@ -162,7 +170,7 @@ signature_types s signature n h = omega (
 )
 
 pub empty_count : (t : Tree) → function_count (grown (empty_section t)) ≡ function_count t
-empty_count t = ap functions_at (spaces-add t (canons []))
+empty_count t = omega (arith, function_count-add t (canons []))
 
 -- The lift to the type that is defined is formed behind it.
 pub defined_canon : {config : Config} {s : Growing} {c : ℕ} {signature : Signature} → Defines config s c signature
@@ -183,12 +191,13 @@ turn_keeps P config n s next canon type none p (defines c signature d e) =
     subst (P (n + 1)) (sym e) (canon (with_signature s signature) (lift c (length (spaces_at s).types)) (defined_canon d) (type c signature d p))
 turn_keeps P config n s next canon type none p (gives_up full e) = subst (P (n + 1)) (sym e) (none full p)
 
--- A turn adds at most one function.
-pub turn_count : (config : Config) (s : Growing) (b : List ℕ) (item : CanonItem) (rest : List ℕ) (next : Growing) → CanonTurn config s b item rest next
-    → function_count (grown next) ≤ function_count (grown s) + 1
-turn_count config s b item rest next i =
-    let P : ℕ → Growing → Type 0 = λ n u. function_count (grown u) ≤ function_count (grown s) + n in
-    turn_keeps P config 0 s next (λ v c h p. omega (arith, p, canon_count v c)) (λ c signature d p. omega (arith, p, signature_count s signature))
+-- A turn adds at most one function to the index spaces.
+pub turn_functions : (config : Config) (s : Growing) (b : List ℕ) (item : CanonItem) (rest : List ℕ) (next : Growing) → CanonTurn config s b item rest next
+    → functions_at (spaces_at next) ≤ functions_at (spaces_at s) + 1
+turn_functions config s b item rest next i =
+    let P : ℕ → Growing → Type 0 = λ n u. functions_at (spaces_at u) ≤ functions_at (spaces_at s) + n in
+    turn_keeps P config 0 s next (λ v c h p. omega (arith, p, ap functions_at (spaces_canon v.before v.funcs c), functions_after (spaces_at v) c))
+    (λ c signature d p. omega (arith, p, ap functions_at (spaces_signature s signature)))
     (λ full p. omega (arith, p)) (omega arith) (turned config s b item rest next i)
 
 module _ (config : Config) (least : ℕ) (t : Tree) {b : List ℕ} {turns : List CanonItem} {rest : List ℕ} {next : Growing}
@@ -240,12 +249,13 @@ module _ (config : Config) (stack : Open) (fits : function_count stack.inner ≤
   section_sound n s h g =
       let spaces : Spaces = after_part (spaces_of s.before) (canons s.funcs) in
       let same : KeepsTypes (spaces_of s.before) spaces = canons_keep (spaces_of s.before) s.funcs in
-      let room : functions_at spaces ≤ config.max_funcs = omega (arith, g.few, h, fits, ap functions_at (spaces-add s.before (canons s.funcs))) in
+      let count : function_count s.before + length s.funcs ≤ config.max_funcs =
+      omega (arith, g.few, h, fits, function_count-add s.before (canons s.funcs)) in
       part_sound config (with_inner stack s.before) (canons s.funcs) (record {
         formed = g.formed;
         own = λ o.
-            own_limits-add config s.before (canons s.funcs) o (fits_functions config (spaces_of s.before) spaces same room (fits_of config s.before o))
-            (omega (arith, o.imports)) tt;
+            own_limits-add config s.before (canons s.funcs) o (fits_kept config (spaces_of s.before) spaces same (fits_of config s.before o))
+            (record { imports = omega (arith, o.imports); functions = omega (arith, count); exports = omega (arith, o.exports) }) tt;
         sizes = λ o. own_sizes-add config s.before (canons s.funcs) (sizes_keep config (spaces_of s.before) spaces same o);
         modules = λ h. omega (arith, h);
         components = λ h. omega (arith, h);

@@ -1,14 +1,14 @@
 -- What an import section reads: well formed imports under names that are new, within the limits, and a tail of the bytes.
 use Rattle.std.proofs.Common.{◌≡◌, ℕ, ◌+◌, ◌-◌, ◌<◌, ◌≤◌, ◌^◌, ◌&&◌, Bool, true, false, List, [], ◌∷◌, ◌++◌, length, arith, refl, sym, ap, ◌∙◌, subst}
 use Rattle.std.proofs.Common.{append_assoc, length-append, nat_lt, append-nil}
-use Rattle.std.specs.List.{AllByRecursion, IsDistinct}
+use Rattle.std.specs.List.{AllByRecursion}
 use Rattle.std.specs.Prelude.{if◌then◌else◌}
 use Rattle.std.proofs.lemmas.Bool.{false≢true}
 use Rattle.std.proofs.lemmas.Bool.Decides.{nat_tests}
 use Rattle.std.proofs.lemmas.List.{length-map}
 use Rattle.smith_input.specs.Kebab.{Kebab}
 use Rattle.smith_input.specs.Loops.{Loop, no_more, by_itself, an_item}
-use Rattle.smith_input.specs.Names.{ReadsNew, is_among}
+use Rattle.smith_input.specs.Names.{ReadsNew}
 use Rattle.smith_input.specs.Reading.{IsTail, More}
 use Rattle.smith_input.specs.Offers.{offers_of}
 use Rattle.smith_input.proofs.Loops.{loop_all, loop_few, loop_gives, loop_tail}
@@ -23,62 +23,35 @@ use Rattle.smith_syntax.specs.declared.deftype.ComponentTypeRef.{ComponentTypeRe
 use Rattle.smith_syntax.specs.declared.deftype.ComponentTypeRef.TheVariants as to
 use Rattle.smith_types.specs.Offers.{ref_offers}
 use Rattle.smith_types.proofs.ReadsDeclarations.{extern_tail, ref_tail}
-use Rattle.smith_core_types.proofs.Names.{distinct_new, new_distinct, new_more, none_before}
 use Rattle.smith_types.proofs.References.{import_not_equal, ref_formed}
 use Rattle.smith_component.specs.Imports.{NoImport, ReadsImport, ReadsImports}
 use Rattle.smith_component.specs.Offers.{import_kinds, totals_of, with_imports}
 use Rattle.smith_component.specs.Limits.{OwnLimits}
 use Rattle.smith_component.specs.Open.{Open, tree_so_far}
 use Rattle.smith_component.specs.Sound.{IsAddable, Sound}
-use Rattle.smith_component.specs.Spaces.{Spaces, after_part, function_count, spaces_of, types_of}
-use Rattle.smith_component.specs.Tree.{Tree, Part, ends, first, custom, core_module, core_types, component, types, canons, imports, add, join}
+use Rattle.smith_component.specs.Spaces.{Spaces, after_part, spaces_of, types_of}
+use Rattle.smith_component.specs.Tree.{Tree, Part, custom, core_module, core_types, component, types, canons, imports, exports, add, function_count}
 use Rattle.smith_component.specs.Tree.{imports_of, module_count, component_count, instance_count, imports_in, function_of}
-use Rattle.smith_component.specs.WellFormed.{Formed, FormedImport, FormedPart, import_names, scope_of}
-use Rattle.smith_component.proofs.Fits.{fits_functions, fits_of, own_limits-add, own_sizes-add, sizes_keep}
-use Rattle.smith_component.proofs.Growth.{KeepsTypes, functions_at, imports_keep, spaces-add}
+use Rattle.smith_component.specs.WellFormed.{FormedImport, FormedPart, import_names, scope_of}
+use Rattle.smith_component.proofs.Fits.{fits_kept, fits_of, own_limits-add, own_sizes-add, sizes_keep}
+use Rattle.smith_component.proofs.Growth.{KeepsTypes, imports_keep}
 use Rattle.smith_component.proofs.ImportsState.{RefRoom, components_more, funcs_more, import_room, instances_more, modules_more}
+use Rattle.smith_component.proofs.Named.{IsNamed, named_more, quiet_named, sound_named}
 use Rattle.smith_component.proofs.Sound.{component_count-so_far, instance_count-so_far, module_count-so_far, own_limits_of}
-use Rattle.smith_component.proofs.Tables.{import_names_more, own_bare}
-use Rattle.smith_component.proofs.Tree.{join-add, join-ends, own-add}
-use Rattle.smith_scopes.proofs.Plain.{all_both}
-use Rattle.smith_component.proofs.WellFormed.{formed_front}
+use Rattle.smith_component.proofs.Tables.{import_names_more}
+use Rattle.smith_component.proofs.Tree.{function_count-add, functions_in, own-add}
 
--- Names in kebab case, none of them twice, and one more that is none of them.
-named_more : (ns : List (List ℕ)) (n : List ℕ) → Named ns → Kebab n → is_among ns n ≡ false → Named (ns ++ n ∷ [])
-named_more ns n h kebab new = (
-  all_both Kebab ns (n ∷ []) h.0 (kebab, tt),
-  new_distinct [] (ns ++ n ∷ []) (new_more [] ns n (distinct_new [] ns (none_before ns) h.1) new),
-)
-
--- The imports of a well formed component are named.
-named_parts : (t : Tree) (outer : List Scope) (before : Tree) → Formed t outer before → Named (import_names (imports_of before))
-    → Named (import_names (imports_of (join before t)))
-named_parts ends outer before f h = subst (λ z. Named (import_names (imports_of z))) (sym (join-ends before)) h
-named_parts (first p t) outer before f h = subst (λ z. Named (import_names (imports_of z))) (join-add before p t)
-    (named_parts t outer (add before p) f.1 (by_part p f.0))
-  where
-    quiet : (q : Part) → imports_in q ≡ [] → Named (import_names (imports_of (add before q)))
-    quiet q e = subst (λ z. Named (import_names z)) (sym (own_bare imports_in before q e)) h
-
-    by_part : (q : Part) → FormedPart q outer before → Named (import_names (imports_of (add before q)))
-    by_part (custom n c) g = quiet (custom n c) refl
-    by_part (core_module m) g = quiet (core_module m) refl
-    by_part (core_types ts) g = quiet (core_types ts) refl
-    by_part (component u) g = quiet (component u) refl
-    by_part (types ts) g = quiet (types ts) refl
-    by_part (canons fs) g = quiet (canons fs) refl
-    by_part (imports is) g = subst (λ z. Named (import_names z)) (sym (own-add imports_in before (imports is))) g.1
-
-formed_inner : (us : List Tree) (outer : List Scope) (t : Tree) → Formed (tree_so_far us t) outer ends → (around : List Scope) × Formed t around ends
-formed_inner [] outer t f = (outer, f)
-formed_inner (u ∷ us) outer t f = formed_inner us (scope_of u ∷ outer) t (formed_front u (component (tree_so_far us t)) outer ends f).1
-
--- The imports that a component has so far are named.
-pub sound_named : (config : Config) (stack : Open) → Sound config stack → Named (import_names (imports_of stack.inner))
-unfolding IsDistinct
-sound_named config stack s =
-    let f = formed_inner stack.outer [] stack.inner s.formed in
-    named_parts stack.inner f.0 ends f.1 (tt, tt)
+-- A part keeps the names of imports in kebab case and apart from one another.
+import_names_kept : (q : Part) (outer : List Scope) (before : Tree) → FormedPart q outer before → IsNamed (λ i. i.name) imports_in before
+    → IsNamed (λ i. i.name) imports_in (add before q)
+import_names_kept (custom n c) outer before g h = quiet_named _ imports_in before (custom n c) refl h
+import_names_kept (core_module m) outer before g h = quiet_named _ imports_in before (core_module m) refl h
+import_names_kept (core_types ts) outer before g h = quiet_named _ imports_in before (core_types ts) refl h
+import_names_kept (component u) outer before g h = quiet_named _ imports_in before (component u) refl h
+import_names_kept (types ts) outer before g h = quiet_named _ imports_in before (types ts) refl h
+import_names_kept (canons fs) outer before g h = quiet_named _ imports_in before (canons fs) refl h
+import_names_kept (imports is) outer before g h = subst (λ z. Named (import_names z)) (sym (own-add imports_in before (imports is))) g.1
+import_names_kept (exports es) outer before g h = quiet_named _ imports_in before (exports es) refl h
 
 -- where nothing is offered, no condition holds
 not_offered : {A : Type 0} (o : Bool × A) (os : List (Bool × A)) → (offers_of os ≡ [] → AllByRecursion (λ q. q.0 ≡ false) os) → (b : Bool) → o.0 ≡ b
@@ -215,12 +188,14 @@ module _ (config : Config) (stack : Open) where
       let outer : List Tree = stack.outer in
       let inner : Tree = stack.inner in
       record {
-        formed = (imports_formed r, imports_named (omega (arith, few, sound.consistent.imports)) (sound_named config stack sound) r);
+        formed = (imports_formed r, imports_named (omega (arith, few, sound.consistent.imports)) (sound_named _ imports_in import_names_kept config stack sound) r);
         own = λ o.
             let start : function_count (add inner (imports [])) ≤ config.max_funcs =
-            omega (arith, o.functions, ap functions_at (spaces-add inner (imports []))) in
-            let fits : functions_at spaces ≤ config.max_funcs = omega (arith, keep.funcs start, ap functions_at (spaces-add inner (imports is))) in
-            own_limits-add config inner (imports is) o (fits_functions config (spaces_of inner) spaces same fits (fits_of config inner o)) few tt;
+            omega (arith, o.functions, function_count-add inner (imports [])) in
+            let fits : function_count inner + functions_in (imports is) ≤ config.max_funcs =
+            omega (arith, keep.funcs start, function_count-add inner (imports is)) in
+            own_limits-add config inner (imports is) o (fits_kept config (spaces_of inner) spaces same (fits_of config inner o))
+            (record { imports = few; functions = fits; exports = omega (arith, o.exports) }) tt;
         sizes = λ o. own_sizes-add config inner (imports is) (sizes_keep config (spaces_of inner) spaces same o);
         modules = λ h.
             let start : module_count (tree_so_far outer (add inner (imports []))) ≤ config.max_modules =
@@ -284,6 +259,6 @@ module _ (config : Config) (stack : Open) where
       → ReadsImports config min stack b is rest → min ≤ length is
   imports_enough {min = min} {b = b} {rest = rest} {is = is} has fits ordered r =
       let start : (totals_of (with_imports stack [])).funcs ≤ function_count stack.inner + 0 =
-      omega (arith, ap functions_at (spaces-add stack.inner (imports []))) in
+      omega (arith, function_count-add stack.inner (imports [])) in
       let enough : min ≤ 0 + length is = enough_from min room ordered has fits 0 [] b is rest is start r in
       omega (arith, enough)

@@ -1,16 +1,15 @@
 -- Which refusals follow from which.
-use Rattle.std.proofs.Common.{◌≡◌, ℕ, List, refl, sym, subst}
+use Rattle.std.proofs.Common.{◌≡◌, ℕ, List, refl, subst}
 use Rattle.smith_input.specs.Choices.{ReadsAmong}
 use Rattle.smith_input.specs.declared.error.Error.{Error}
 use Rattle.smith_input.specs.declared.error.Error.TheVariants.{InconsistentLimits, MinimumNotMet, ModuleRefused, TooLong, OutOfMemory, PartsDisagree}
 use Rattle.smith_format.specs.Limits.{IsConsistent}
 use Rattle.smith_format.specs.declared.config.Config.{Config}
-use Rattle.smith_core.specs.StandIn.{IsStandInRefusal}
 use Rattle.smith_component.specs.Filling.{CanFill}
 use Rattle.smith_component.specs.Open.{Open, items}
-use Rattle.smith_component.specs.Refusals.{IsNewRefusal, IsFillRefusal, IsStepRefusal, LacksOn, RefusesModuleOn, IsRefusal, IsGenerateRefusal}
+use Rattle.smith_component.specs.Refusals.{IsFillRefusal, IsStepRefusal, LacksOn, RefusesModuleOn, IsRefusal}
 use Rattle.smith_component.specs.Turn.{LacksAt, RefusesModuleAt}
-use Rattle.smith_component.specs.declared.item.Item.TheVariants.{Finish, Module}
+use Rattle.smith_component.specs.declared.item.Item.TheVariants.{Finish}
 use Rattle.smith_component.specs.Tables.{IsGrounded}
 use Rattle.smith_component.proofs.Filling.{filled_surely}
 

@@ -1,5 +1,5 @@
 -- The script of a plan is read as that plan.
-use Rattle.std.proofs.Common.{◌≡◌, ℕ, zero, suc, ◌+◌, ◌<◌, List, [], ◌∷◌, ◌++◌, length, arith, ap, sym, subst, ◌∙◌, refl, true, false, Bool, inl, inr}
+use Rattle.std.proofs.Common.{◌≡◌, ℕ, zero, suc, ◌+◌, ◌<◌, List, [], ◌∷◌, ◌++◌, length, arith, ap, sym, subst, ◌∙◌, refl, true, inl, inr}
 use Rattle.std.proofs.Common.{append_assoc, length-append}
 use Rattle.std.specs.Bool.{Decides}
 use Rattle.std.specs.List.{AllByRecursion}
@@ -10,27 +10,30 @@ use denote.Enum.Bare.{same_true, true_same}
 use Rattle.smith_input.specs.Choices.{ReadsAmong}
 use Rattle.smith_input.specs.Script.{rank_of, pick}
 use Rattle.smith_input.proofs.Choices.{rank_found, among_read}
+use Rattle.smith_input.proofs.Offered.{offers_found}
 use Rattle.smith_input.proofs.Picks.{pick-byte}
 use Rattle.smith_format.specs.Limits.{IsConsistent}
 use Rattle.smith_format.specs.declared.config.Config.{Config}
 use Rattle.smith_syntax.specs.Scope.{Scope}
 use Rattle.smith_component.specs.Spaces.{types_of}
-use Rattle.smith_component.specs.Tree.{Tree, ends, first, Part, custom, core_module, core_types, component, types, canons, imports, add, join, inside}
+use Rattle.smith_component.specs.Tree.{Tree, ends, first, Part, custom, core_module, core_types, component, types, canons, imports, exports, add, join, inside}
 use Rattle.smith_component.specs.Tree.{component_count, no_depth, most_nested}
 use Rattle.smith_component.specs.WellFormed.{Formed, FormedPart}
 use Rattle.smith_component.specs.Limits.{OwnLimits, Maxima, Minima}
-use Rattle.smith_component.specs.Open.{Open, root, more_items, items, items_with_input, is_module_offered, is_component_offered, tree_so_far, scopes_in}
+use Rattle.smith_component.specs.Open.{Open, root, items, items_with_input, offers, is_module_offered, is_component_offered, is_export_offered, tree_so_far}
+use Rattle.smith_component.specs.Open.{scopes_in}
 use Rattle.smith_component.specs.Turn.{Next, building, answered, Closes, Does, Turn, with_open, with_part}
 use Rattle.smith_component.specs.Runs.{Turns}
 use Rattle.smith_component.specs.Script.{Continues, item_of, script_item, script_part, script_from, script, IsPlan, IsPlanPart, Within}
 use Rattle.smith_component.specs.contracts.item.Item.{the_type}
 use Rattle.smith_component.specs.contracts.item.ItemPartialEq.TheImpl.{ghosts as equal}
 use Rattle.smith_component.specs.declared.item.Item.{Item}
-use Rattle.smith_component.specs.declared.item.Item.TheVariants.{Finish, Custom, CoreTypes, Types, Imports, Canonical, Component}
+use Rattle.smith_component.specs.declared.item.Item.TheVariants.{Finish, Custom, CoreTypes, Types, Imports, Canonical, Component, Exports}
 use Rattle.smith_component.proofs.Tree.{all_before, all_inner, depth-outer, depth-so_far, join-add, join-ends, tree_so_far-close}
 use Rattle.smith_scopes.proofs.Plain.{all_front, all_back}
 use Rattle.smith_component.proofs.CanonsRead.{Spoken}
 use Rattle.smith_component.proofs.PartsRead.{fills_nothing, spoken_past, custom_part, core_types_part, types_part, imports_part, canons_part}
+use Rattle.smith_component.proofs.PartsRead.{exports_part}
 use Rattle.smith_component.proofs.Fits.{own_limits-front, own_limits_swap}
 use Rattle.smith_component.proofs.Sound.{module_count-so_far, component_count-so_far, instance_count-so_far, scopes_from-snoc}
 use Rattle.smith_component.proofs.Turn.{items_some, not_empty, last_same}
@@ -47,7 +50,7 @@ pub item_read : (config : Config) (outer : List Tree) (inner : Tree) (item : Ite
 item_read config outer inner item place rest e =
     let stack : Open = record { outer = outer; inner = inner } in
     let xs : List Item = items_with_input config stack in
-    let some = items_some (is_module_offered config stack) (is_component_offered config stack) in
+    let some = items_some (is_module_offered config stack) (is_component_offered config stack) (is_export_offered config) in
     let at : ℕ = rank_of equal.eq xs item in
     let below : at < length xs = slice_get_within xs at item (rank_found equal.eq item_Decides xs item place e) in
     let byte : pick (length xs) at ≡ at ∷ [] = pick-byte (length xs) at (omega (arith, some.0)) (omega (arith, some.1)) in
@@ -61,10 +64,18 @@ front : (config : Config) (outer : List Tree) (before : Tree) → let xs = items
     × (slice_get xs 4 ≡ Some Imports) × (slice_get xs 5 ≡ Some Canonical)
 front config outer before = (refl, refl, refl, refl, refl, refl)
 
-last_item : (m c : Bool) → c ≡ true → (place : ℕ) × (slice_get (more_items m c) place ≡ Some Component)
-last_item true true e = (7, refl)
-last_item false true e = (6, refl)
-last_item m false e = absurd (cc)
+-- where the items with a condition stand, where it holds
+component_item : (config : Config) (stack : Open) → is_component_offered config stack ≡ true
+    → (place : ℕ) × (slice_get (items_with_input config stack) place ≡ Some Component)
+component_item config stack offered =
+    offers_found (offers (is_module_offered config stack) (is_component_offered config stack) (is_export_offered config)) 7
+    (is_component_offered config stack) Component refl offered
+
+exports_item : (config : Config) (stack : Open) → 0 < config.max_exports → (place : ℕ) × (slice_get (items_with_input config stack) place ≡ Some Exports)
+exports_item config stack some =
+    let offered : is_export_offered config ≡ true = grind (arith, nat_tests, some) in
+    offers_found (offers (is_module_offered config stack) (is_component_offered config stack) (is_export_offered config)) 8
+    (is_export_offered config) Exports refl offered
 
 -- What has at most what it may have has so in front.
 limits_front : (t : Tree) (config : Config) (outer : List Tree) (a : Tree) → Maxima config (tree_so_far outer (join a t)) → Maxima config (tree_so_far outer a)
@@ -211,6 +222,15 @@ reach_from (first (canons fs) t) config consistent outer before spoken rest next
     (reach_from t config consistent outer (add before p) (spoken_past config p (scopes_in outer) before (suc (length outer)) plan.0 formed.0 spoken) rest next
     left k plan.1 formed.1 (limits_past p t config outer before l) each (enough_past p t config before enough)
     (after_past p t config outer before next left k rest after))
+reach_from (first (exports es) t) config consistent outer before spoken rest next left k plan formed l each enough after =
+    let p : Part = exports es in
+    let last = exports_item config (record { outer = outer; inner = before }) plan.0.0 in
+    adds config outer before next left p last.0 (script_from t config outer (add before p)) rest last.1
+    (exports_part config (record { outer = outer; inner = before }) (script_from t config outer (add before p) ++ rest) consistent es plan.0 formed.0
+    (part_limits p t config outer before l))
+    (reach_from t config consistent outer (add before p) (spoken_past config p (scopes_in outer) before (suc (length outer)) plan.0 formed.0 spoken) rest next
+    left k plan.1 formed.1 (limits_past p t config outer before l) each (enough_past p t config before enough)
+    (after_past p t config outer before next left k rest after))
 reach_from (first (core_module text) t) config consistent outer before spoken rest next left k plan formed l each enough after = absurd plan.0
 reach_from (first (component u) t) config consistent outer before spoken rest next left k plan formed l each enough after =
     let p : Part = component u in
@@ -238,8 +258,7 @@ reach_from (first (component u) t) config consistent outer before spoken rest ne
           m.1
     ] in
     let i = reach_from u config consistent (outer ++ before ∷ []) ends tt (st ++ rest) next left m.0 deeper inner there in_it.1 in_it.0 back in
-    let last = last_item (is_module_offered config (record { outer = outer; inner = before }))
-    (is_component_offered config (record { outer = outer; inner = before })) (offered_from config outer before u here) in
+    let last = component_item config (record { outer = outer; inner = before }) (offered_from config outer before u here) in
     let now : Next = building (record { outer = outer; inner = before }) in
     let R : List ℕ → Type 0 = λ z. Turns config now z next left (suc i.0) in
     let whole : ((choice ++ su) ++ st) ++ rest ≡ choice ++ (su ++ (st ++ rest)) = append_assoc (choice ++ su) st rest ∙ append_assoc choice su (st ++ rest) in (
@@ -318,11 +337,14 @@ module _ (config : Config) (consistent : IsConsistent config) (stack : Open) whe
           (canons_part config stack rest consistent spoken fs plan formed own)
       does (imports is) flat m plan formed own spoken = turn_of config stack Imports 4 _ rest _ (at config stack).3
           (imports_part config stack rest consistent is m plan formed own)
+      does (exports es) flat m plan formed own spoken =
+          let last = exports_item config stack plan.0 in
+          turn_of config stack Exports last.0 _ rest _ last.1 (exports_part config stack rest consistent es plan formed own)
 
 pub opening_turn : (config : Config) (stack : Open) (rest : List ℕ) → is_component_offered config stack ≡ true
     → Turn config stack (script_item config stack.outer stack.inner Component ++ rest) (with_open stack) rest
 opening_turn config stack rest offered =
-    let last = last_item (is_module_offered config stack) (is_component_offered config stack) offered in
+    let last = component_item config stack offered in
     record { item = Component; after = rest; chooses = item_read config stack.outer stack.inner Component last.0 rest last.1; does = (refl, refl) }
 
 pub closing_turn : (config : Config) (stack : Open) (next : Next) (rest : List ℕ) → Minima config stack.inner → Closes stack next

@@ -1,5 +1,5 @@
 -- What the sections that a turn adds hold, and what they show.
-use Rattle.std.proofs.Common.{◌≡◌, ℕ, ◌+◌, ◌-◌, List, [], ◌∷◌, ◌++◌, map, length, refl, sym, ap, ◌∙◌, subst, append-nil}
+use Rattle.std.proofs.Common.{◌≡◌, ℕ, ◌+◌, List, [], ◌∷◌, ◌++◌, map, length, refl, sym, ap, ◌∙◌, subst, append-nil}
 use Rattle.std.proofs.lemmas.List.{length-map, map-append}
 use Rattle.std.specs.declared.alloc.Global.{Global}
 use Rattle.std.specs.declared.rc.Rc.{Rc}
@@ -18,23 +18,24 @@ use Rattle.smith_types.specs.MakingTypes.{HoldsExterns}
 use Rattle.smith_component.specs.Building.{Building, open_of}
 use Rattle.smith_component.specs.Imports.{NoImport, ReadsImport, ReadsImports}
 use Rattle.smith_component.specs.Open.{Open}
-use Rattle.smith_component.specs.SectionValues.{AddsImportSection, AddsSection, AddsTypeSection, NoImportValue, ReadsCoreTypeValue, ReadsImportValue}
+use Rattle.smith_component.specs.SectionValues.{AddsSection, NoImportValue, ReadsCoreTypeValue, ReadsImportValue}
 use Rattle.smith_component.specs.SectionValues.{ReadsTypeValue, extern_of, externs_in, externs_of}
 use Rattle.smith_component.specs.Shown.{shown_section, shown_sections}
 use Rattle.smith_component.specs.Tables.{IsTabled, Tabled}
 use Rattle.smith_component.specs.Spaces.{after_part, core_functions_of, functions_of, spaces_of}
-use Rattle.smith_component.specs.Tree.{imports_in, imports_of}
+use Rattle.smith_component.specs.Tree.{canons_in, exports_in, imports_in, imports_of}
 use Rattle.smith_component.specs.AddedSections.{Adds, ReadsCoreTypes, ReadsTypes}
 use Rattle.smith_component.specs.WellFormed.{import_names}
 use Rattle.smith_component.specs.declared.builder.open.OpenComponent.{OpenComponent}
 use Rattle.smith_component.specs.declared.builder.tables.Tables.{Tables}
 use Rattle.smith_component.specs.declared.component.Section.{Section}
-use Rattle.smith_component.specs.declared.component.Section.TheVariants.{Custom, CoreModule, CoreTypes, Types, Canonical, Imports, Component}
+use Rattle.smith_component.specs.declared.component.Section.TheVariants.{Custom, CoreModule, CoreTypes, Types, Canonical, Imports, Exports, Component}
 use Rattle.smith_component.specs.declared.item.Counted.{Counted}
 use Rattle.smith_component.specs.declared.item.Counted.TheVariants as counted
 use Rattle.smith_component.proofs.Shown.{shown_push}
 use Rattle.smith_component.proofs.Standing.{tabled_added}
 use Rattle.smith_component.proofs.Tables.{flat_map_more}
+use Rattle.smith_component.proofs.Tree.{no_functions_in}
 
 -- What is read of types and core types is read of what they show.
 
@@ -72,6 +73,7 @@ names_in_section (Component t) = refl
 names_in_section (Types s) = refl
 names_in_section (Canonical s) = refl
 names_in_section (Imports s) = names_shown s.imports.items
+names_in_section (Exports s) = refl
 
 names_both : (xs ys : List NamedExtern) → names (xs ++ ys) ≡ names xs ++ names ys
 names_both xs ys = map-append (λ (x : NamedExtern). x.0) xs ys
@@ -148,6 +150,7 @@ no_externs (Component t) e = refl
 no_externs (Types s) e = refl
 no_externs (Canonical s) e = refl
 no_externs (Imports s) e = no_extern s.imports.items e
+no_externs (Exports s) e = refl
 
 -- with those that another section imports
 pub externs_push : (ss : List Section) (s : Section) → externs_of (ss ++ s ∷ []) ≡ externs_of ss ++ externs_in s
@@ -156,8 +159,8 @@ externs_push ss s = flat_map_more externs_in ss s
 pub is_tabled_added : (old new : OpenComponent) (s : Section) → new.sections.items ≡ old.sections.items ++ s ∷ [] → new.tables ≡ old.tables
     → (after_part (spaces_of (shown_sections old.sections.items)) (shown_section s)).functions ≡ functions_of (shown_sections old.sections.items)
     → (after_part (spaces_of (shown_sections old.sections.items)) (shown_section s)).core_functions ≡ core_functions_of (shown_sections old.sections.items)
-    → imports_in (shown_section s) ≡ [] → IsTabled old → IsTabled new
-is_tabled_added old new s e tables fs cs is i =
+    → imports_in (shown_section s) ≡ [] → canons_in (shown_section s) ≡ [] → exports_in (shown_section s) ≡ [] → IsTabled old → IsTabled new
+is_tabled_added old new s e tables fs cs is ks xs i =
     let shown = ap shown_sections e ∙ shown_push old.sections.items s in
     let same : externs_of new.sections.items ≡ externs_of old.sections.items =
     ap externs_of e ∙ (externs_push old.sections.items s ∙ (ap (λ z. externs_of old.sections.items ++ z) (no_externs s is)
@@ -165,6 +168,7 @@ is_tabled_added old new s e tables fs cs is i =
     let P : Tables → Type 0 = λ z. HoldsExterns z.imports (externs_of new.sections.items) in
     record {
       tabled = tabled_added (shown_sections old.sections.items) (shown_sections new.sections.items) (shown_section s) shown fs cs
+          (no_functions_in (shown_section s) is ks) xs
           (subst (λ z. Tabled z (shown_sections old.sections.items)) (sym tables) i.tabled);
       externs = subst P (sym tables) (subst (HoldsExterns old.tables.imports) (sym same) i.externs);
     }

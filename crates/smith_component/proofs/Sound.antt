@@ -9,7 +9,7 @@ use Rattle.smith_syntax.specs.Entries.{Entry, CoreEntry}
 use Rattle.smith_syntax.specs.Scope.{Scope}
 use Rattle.smith_syntax.specs.TypeLimits.{EntryLimits}
 use Rattle.smith_component.specs.Spaces.{core_types_of, spaces_of, types_of}
-use Rattle.smith_component.specs.Tree.{Tree, ends, Part, custom, core_module, core_types, component, types, canons, imports, add, inside, names_in}
+use Rattle.smith_component.specs.Tree.{Tree, ends, Part, custom, core_module, core_types, component, types, canons, imports, exports, add, inside, names_in}
 use Rattle.smith_component.specs.Tree.{components_in}
 use Rattle.smith_component.specs.Tree.{modules_in, imported_modules_in, imported_components_in, imported_instances_in, anywhere_in, depth_in, no_depth}
 use Rattle.smith_component.specs.Tree.{most_nested, scope_depth_in, module_count, component_count, instance_count}
@@ -23,7 +23,7 @@ use Rattle.smith_component.specs.Sound.{IsAddable, IsQuiet, Sound, finished_in}
 use Rattle.smith_component.specs.declared.builder.totals.TreeTotals.{TreeTotals}
 use Rattle.smith_component.specs.declared.item.Counted.{Counted}
 use Rattle.smith_component.specs.declared.item.Counted.TheVariants.{Types, Imports, Functions}
-use Rattle.smith_component.proofs.Fits.{Fits, IsSized, Short, fits_of, own_limits-add, own_limits-component, own_limits_swap, own_sizes-add, own_sizes_swap}
+use Rattle.smith_component.proofs.Fits.{Fits, IsSized, Short, fits_of, no_counted, own_limits-add, own_limits-component, own_limits_swap, own_sizes-add, own_sizes_swap}
 use Rattle.smith_component.proofs.WellFormed.{formed_so_far}
 use Rattle.smith_component.proofs.Tree.{tree_so_far-close, depth-so_far, length-anywhere-so_far, anywhere-add, depth-outer, all_so_far, all_inner}
 use Rattle.smith_scopes.proofs.Plain.{all_both, all_front, all_back}
@@ -63,6 +63,7 @@ in_own f (component t) e = absurd (let z : (t ∷ inside t) ≡ [] = e in cc)
 in_own f (types ts) e = refl
 in_own f (canons fs) e = refl
 in_own f (imports is) e = refl
+in_own f (exports es) e = refl
 
 pub own_sizes_of : (config : Config) (stack : Open) → Sound config stack → OwnSizes config stack.inner
 own_sizes_of config stack s = all_inner (OwnSizes config) stack.outer stack.inner s.sized
@@ -163,6 +164,7 @@ sound_open config outer inner deep few s =
               core_types = omega arith;
               imports = omega arith;
               functions = omega arith;
+              exports = omega arith;
               within_types = tt;
               within_core_types = tt;
               names = tt;
@@ -195,7 +197,7 @@ pub addable_bare : (config : Config) (stack : Open) (p : Part) → FormedPart p 
 addable_bare config stack p f q ns ms cs is none flat low = record {
   formed = f;
   own = λ o. own_limits-add config stack.inner p o (subst (Fits config) (sym (q.spaces (spaces_of stack.inner))) (fits_of config stack.inner o))
-      (omega (arith, o.imports, ap length q.imports)) ns;
+      (no_counted config stack.inner p q.imports q.canons q.exports o) ns;
   sizes = λ o. own_sizes-add config stack.inner p (subst (IsSized config) (sym (q.spaces (spaces_of stack.inner))) o);
   modules = ms;
   components = λ h. omega (arith, h, ap length cs);
@@ -207,13 +209,13 @@ addable_bare config stack p f q ns ms cs is none flat low = record {
 
 pub addable_custom : (config : Config) (stack : Open) (name contents : List ℕ) → length name ≤ 1000 → IsAddable config stack (custom name contents)
 addable_custom config stack name contents short =
-    addable_bare config stack (custom name contents) tt (record { spaces = λ s. refl; imports = refl }) (short, tt) (λ h. omega (arith, h))
+    addable_bare config stack (custom name contents) tt (record { spaces = λ s. refl; imports = refl; canons = refl; exports = refl }) (short, tt) (λ h. omega (arith, h))
     refl refl refl refl refl
 
 pub addable_module : (config : Config) (stack : Open) (text : List ℕ) → module_count (tree_so_far stack.outer stack.inner) < config.max_modules
     → IsAddable config stack (core_module text)
 addable_module config stack text few =
-    addable_bare config stack (core_module text) tt (record { spaces = λ s. refl; imports = refl }) tt (λ h. omega (arith, few)) refl refl refl refl refl
+    addable_bare config stack (core_module text) tt (record { spaces = λ s. refl; imports = refl; canons = refl; exports = refl }) tt (λ h. omega (arith, few)) refl refl refl refl refl
 
 -- Types that find room.
 pub addable_types : (config : Config) (stack : Open) (es : List Entry) → FormedPart (types es) (scopes_in stack.outer) stack.inner
@@ -226,10 +228,9 @@ addable_types config stack es f room limited nested small = record {
       own_limits-add config stack.inner (types es) o (record {
         types = omega (arith, room, length-append (types_of stack.inner) es);
         core_types = o.core_types;
-        functions = o.functions;
         within_types = all_both _ (types_of stack.inner) es o.within_types limited;
         within_core_types = o.within_core_types;
-      }) (omega (arith, o.imports)) tt;
+      }) (no_counted config stack.inner (types es) refl refl refl o) tt;
   sizes = λ o. own_sizes-add config stack.inner (types es) (all_both _ (types_of stack.inner) es o.0 small, o.1);
   modules = λ h. omega (arith, h);
   components = λ h. omega (arith, h);
@@ -249,10 +250,9 @@ addable_core_types config stack es f room limited small = record {
       own_limits-add config stack.inner (core_types es) o (record {
         types = o.types;
         core_types = omega (arith, room, length-append (core_types_of stack.inner) es);
-        functions = o.functions;
         within_types = o.within_types;
         within_core_types = all_both _ (core_types_of stack.inner) es o.within_core_types limited;
-      }) (omega (arith, o.imports)) tt;
+      }) (no_counted config stack.inner (core_types es) refl refl refl o) tt;
   sizes = λ o. own_sizes-add config stack.inner (core_types es) (o.0, all_both _ (core_types_of stack.inner) es o.1 small);
   modules = λ h. omega (arith, h);
   components = λ h. omega (arith, h);

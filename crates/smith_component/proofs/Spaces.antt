@@ -17,7 +17,7 @@ use Rattle.smith_scopes.proofs.Stack.{own_last, places-append}
 use Rattle.smith_component.specs.Offers.{is_scalar_entry, is_scalar_type, scalar_functions}
 use Rattle.smith_component.specs.Tables.{IsGrounded}
 use Rattle.smith_component.specs.Spaces.{Spaces, after_canon, spaces_of}
-use Rattle.smith_component.specs.Tree.{Tree, Canon, lift, lower, types, canons, add, imports_in, imports_of}
+use Rattle.smith_component.specs.Tree.{Tree, Canon, lift, lower, types, canons, add, exports_in, exports_of, imports_in, imports_of}
 use Rattle.smith_component.specs.WellFormed.{scope_of, HasSignature, FormedCanon, FormedCanons}
 use Rattle.smith_component.proofs.Growth.{Extends, canons_keep, extends_canon, extends_part, scope_bare}
 use Rattle.smith_component.proofs.Tables.{all_weaker, get_longer, places_agree}
@@ -47,6 +47,12 @@ with_entries s es = record { types = s.types ++ es; core_types = s.core_types; f
 
 pub imports_types : (t : Tree) (es : List Entry) → imports_of (add t (types es)) ≡ imports_of t
 imports_types t es = own-add imports_in t (types es) ∙ append-nil (imports_of t)
+
+pub exports_canons : (t : Tree) (cs : List Canon) → exports_of (add t (canons cs)) ≡ exports_of t
+exports_canons t cs = own-add exports_in t (canons cs) ∙ append-nil (exports_of t)
+
+pub exports_types : (t : Tree) (es : List Entry) → exports_of (add t (types es)) ≡ exports_of t
+exports_types t es = own-add exports_in t (types es) ∙ append-nil (exports_of t)
 
 -- a component function whose type flattens
 abbrev pub IsScalarFunction : Spaces → ℕ → Type 0

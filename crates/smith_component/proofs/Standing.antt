@@ -1,5 +1,5 @@
 -- What is kept of a component where a part is added to it.
-use Rattle.std.proofs.Common.{◌≡◌, ℕ, List, [], ◌∷◌, length, arith, ap, sym, subst, ◌∙◌, refl}
+use Rattle.std.proofs.Common.{◌≡◌, ℕ, List, [], ◌∷◌, arith, ap, sym, subst, ◌∙◌, refl}
 use Rattle.std.specs.List.{flat_map}
 use Rattle.smith_input.proofs.Loops.{loop_gives}
 use Rattle.smith_format.specs.declared.config.Config.{Config}
@@ -8,6 +8,7 @@ use Rattle.smith_component.specs.Canonicals.{CanonTurn, Growing, LiftsTo, ReadsC
 use Rattle.smith_component.specs.ImportsState.{Totalled}
 use Rattle.smith_component.specs.Spaces.{after_part, core_functions_of, functions_of, spaces_of, types_of}
 use Rattle.smith_component.specs.Tree.{Tree, Part, types, canons, add, module_of, component_of, instance_of}
+use Rattle.smith_component.specs.Tree.{exports_in, exports_of, function_count}
 use Rattle.smith_component.specs.Tree.{imports_in, imported_modules_in, imported_components_in, imported_instances_in}
 use Rattle.smith_component.specs.Tables.{Tabled}
 use Rattle.smith_component.specs.declared.builder.tables.Tables.{Tables}
@@ -16,15 +17,17 @@ use Rattle.smith_component.specs.declared.item.CanonItem.{CanonItem}
 use Rattle.smith_component.specs.declared.item.CanonItem.TheVariants.{Lower, Lift}
 use Rattle.smith_component.proofs.Growth.{extends-add, spaces-add}
 use Rattle.smith_component.proofs.Sound.{totalled_part}
-use Rattle.smith_component.proofs.Tables.{tabled_types}
+use Rattle.smith_component.proofs.Tables.{own_bare, tabled_types}
+use Rattle.smith_component.proofs.Tree.{function_count-add, functions_in}
 
 -- A part without functions leaves the tables as they are.
 pub tabled_added : {tables : Tables} (t new : Tree) (p : Part) → new ≡ add t p → (after_part (spaces_of t) p).functions ≡ functions_of t
-    → (after_part (spaces_of t) p).core_functions ≡ core_functions_of t → Tabled tables t → Tabled tables new
-tabled_added t new p e fs cs tabled =
+    → (after_part (spaces_of t) p).core_functions ≡ core_functions_of t → functions_in p ≡ 0 → exports_in p ≡ [] → Tabled tables t → Tabled tables new
+tabled_added t new p e fs cs none xs tabled =
     let grows = (extends-add t p).types in
     tabled_types t new grows.0 tabled (ap types_of e ∙ grows.1) (ap functions_of e ∙ (ap (λ s. s.functions) (spaces-add t p) ∙ fs))
     (ap core_functions_of e ∙ (ap (λ s. s.core_functions) (spaces-add t p) ∙ cs))
+    (omega (arith, ap (λ t. function_count t) e, function_count-add t p, none)) (ap exports_of e ∙ own_bare exports_in t p xs)
 
 -- A part without imports imports nothing of any kind.
 pub none_imported : (p : Part) → imports_in p ≡ [] → (imported_modules_in p ≡ []) × (imported_components_in p ≡ []) × (imported_instances_in p ≡ [])

@@ -1,5 +1,5 @@
 -- How what is kept of a component grows with it.
-use Rattle.std.proofs.Common.{◌≡◌, ℕ, ◌+◌, ◌<◌, Bool, true, false, List, [], ◌∷◌, ◌++◌, length, arith, ap, sym, subst, ◌∙◌, refl, append-nil, append_assoc}
+use Rattle.std.proofs.Common.{◌≡◌, ℕ, ◌+◌, ◌<◌, Bool, true, false, List, [], ◌∷◌, ◌++◌, length, arith, ap, sym, subst, ◌∙◌, refl, append-nil}
 use Rattle.std.proofs.Common.{length-append}
 use Rattle.std.specs.List.{AllByRecursion, flat_map}
 use Rattle.std.specs.Prelude.{Option, Some, None, slice_get, if◌then◌else◌}
@@ -7,6 +7,7 @@ use Rattle.std.proofs.lemmas.Bool.{false≢true}
 use Rattle.std.proofs.lemmas.List.{map-append}
 use Rattle.std.proofs.lemmas.List.Concat.{flat_map-append}
 use Rattle.std.proofs.lemmas.Option.{slice_get_within}
+use Rattle.smith_input.specs.Names.{Holds}
 use Rattle.smith_syntax.specs.Entries.{Entry, defined, function, component_type, instance_type, ImportEntry, Signature}
 use Rattle.smith_syntax.specs.Flat.{is_scalar}
 use Rattle.smith_syntax.specs.Scope.{Scope, places}
@@ -15,8 +16,8 @@ use Rattle.smith_scopes.proofs.Stack.{places-append}
 use Rattle.smith_component.specs.Offers.{is_scalar_entry, is_scalar_type, scalar_functions}
 use Rattle.smith_component.specs.Tables.{AddsCoreFunction, AddsFunction, IsGrounded, IsLowerable, Tabled}
 use Rattle.smith_component.specs.Spaces.{core_functions_of, functions_of, spaces_of, types_of}
-use Rattle.smith_component.specs.Tree.{Tree, Part, add, own}
-use Rattle.smith_component.specs.WellFormed.{import_names, scope_of}
+use Rattle.smith_component.specs.Tree.{ExportEntry, Tree, Part, add, exports_of, function_count, own}
+use Rattle.smith_component.specs.WellFormed.{export_names, import_names, scope_of}
 use Rattle.smith_component.specs.declared.builder.tables.Tables.{Tables}
 use Rattle.smith_component.proofs.Tree.{own-add}
 use Rattle.smith_scopes.proofs.Plain.{all_both}
@@ -63,7 +64,14 @@ lowerable_more t u es fs e g f (signature, has, scalar) = (
   scalar,
 )
 
--- The tables of a component that has more types, functions and core functions, and its imports by name.
+-- The names of exports stay where there are no more of them.
+pub held_exports : (old new : Tables) (t u : Tree) → Tabled old t → exports_of u ≡ exports_of t → new.exports ≡ old.exports
+    → Holds new.exports (export_names (exports_of u))
+held_exports old new t u tabled e same =
+    let held : Holds old.exports (export_names (exports_of u)) = subst (λ es. Holds old.exports (export_names es)) (sym e) tabled.exports in
+    subst (λ set. Holds set (export_names (exports_of u))) (sym same) held
+
+-- The tables of a component that has more types, functions and core functions, and its exports by name.
 module _ (old new : Tables) (t u : Tree) (es : List Entry) (fs cs : List ℕ) (tabled : Tabled old t) (types : types_of u ≡ types_of t ++ es)
     (functions : functions_of u ≡ functions_of t ++ fs) (core_functions : core_functions_of u ≡ core_functions_of t ++ cs) where
   grounded_more : AllByRecursion (λ ty. ty < length (types_of u)) fs → AllByRecursion (IsLowerable u) cs → IsGrounded u
@@ -89,10 +97,11 @@ module _ (old new : Tables) (t u : Tree) (es : List Entry) (fs cs : List ℕ) (t
       (functions_of t) tabled.grounded.known) in
       ap (places test 0) functions ∙ (places-append test 0 (functions_of t) fs ∙ ap (λ z. z ++ places test (0 + length (functions_of t)) fs) agree)
 
-  pub tabled_more : AllByRecursion (λ ty. ty < length (types_of u)) fs → AllByRecursion (IsLowerable u) cs → new.functions.items ≡ old.functions.items ++ fs
+  pub tabled_more : (n : ℕ) → function_count u ≡ function_count t + n → new.counted ≡ old.counted + n → Holds new.exports (export_names (exports_of u))
+      → AllByRecursion (λ ty. ty < length (types_of u)) fs → AllByRecursion (IsLowerable u) cs → new.functions.items ≡ old.functions.items ++ fs
       → new.core_functions.items ≡ old.core_functions.items ++ cs
       → new.scalars.items ≡ old.scalars.items ++ places (is_scalar_type (types_of u)) (length old.functions.items) fs → Tabled new u
-  tabled_more known lowered fnew cnew snew =
+  tabled_more n count counted exports known lowered fnew cnew snew =
       let test : ℕ → Bool = is_scalar_type (types_of u) in
       let at : length old.functions.items ≡ 0 + length (functions_of t) = omega (arith, ap length tabled.functions) in
       record {
@@ -100,6 +109,8 @@ module _ (old new : Tables) (t u : Tree) (es : List Entry) (fs cs : List ℕ) (t
         core_functions = cnew ∙ (ap (λ z. z ++ cs) tabled.core_functions ∙ sym core_functions);
         scalars = snew ∙ (ap (λ n. old.scalars.items ++ places test n fs) at
             ∙ (ap (λ z. z ++ places test (0 + length (functions_of t)) fs) tabled.scalars ∙ sym scalars_more));
+        counts = omega (arith, counted, tabled.counts, count);
+        exports = exports;
         grounded = grounded_more known lowered;
       }
 
@@ -109,37 +120,47 @@ same_more xs ys e = e ∙ sym (append-nil xs)
 
 -- A component function more, of a type that is there.
 pub tabled_function : {own : Scope} {old new : Tables} {ty : ℕ} (t u : Tree) → own ≡ scope_of t → ty < length (types_of t) → Tabled old t
-    → AddsFunction own old ty new
-    → types_of u ≡ types_of t → functions_of u ≡ functions_of t ++ ty ∷ [] → core_functions_of u ≡ core_functions_of t → Tabled new u
-tabled_function {own} {old} {new} {ty} t u scope known tabled adds types functions core_functions =
+    → AddsFunction own 1 old ty new
+    → types_of u ≡ types_of t → functions_of u ≡ functions_of t ++ ty ∷ [] → core_functions_of u ≡ core_functions_of t
+    → function_count u ≡ function_count t + 1 → exports_of u ≡ exports_of t → Tabled new u
+tabled_function {own} {old} {new} {ty} t u scope known tabled adds types functions core_functions count exports =
     let same : own.types ≡ types_of u = ap (λ s. s.types) scope ∙ sym types in
-    tabled_more old new t u [] (ty ∷ []) [] tabled (same_more _ _ types) functions (same_more _ _ core_functions) (omega (arith, known, ap length types), tt) tt
+    tabled_more old new t u [] (ty ∷ []) [] tabled (same_more _ _ types) functions (same_more _ _ core_functions) 1 count adds.counted
+    (held_exports old new t u tabled exports adds.exports) (omega (arith, known, ap length types), tt) tt
     adds.functions (same_more _ _ adds.core_functions)
     (adds.scalars ∙ ap (λ ts. old.scalars.items ++ (if is_scalar_type ts ty then length old.functions.items ∷ [] else [])) same)
 
 -- A core function more, which lowers one that can be lowered.
 pub tabled_core_function : {old new : Tables} {f : ℕ} (t u : Tree) → IsLowerable t f → Tabled old t → AddsCoreFunction old f new
-    → types_of u ≡ types_of t → functions_of u ≡ functions_of t → core_functions_of u ≡ core_functions_of t ++ f ∷ [] → Tabled new u
-tabled_core_function {old} {new} {f} t u lowerable tabled adds types functions core_functions =
-    tabled_more old new t u [] [] (f ∷ []) tabled (same_more _ _ types) (same_more _ _ functions) core_functions tt
+    → types_of u ≡ types_of t → functions_of u ≡ functions_of t → core_functions_of u ≡ core_functions_of t ++ f ∷ []
+    → function_count u ≡ function_count t + 1 → exports_of u ≡ exports_of t → Tabled new u
+tabled_core_function {old} {new} {f} t u lowerable tabled adds types functions core_functions count exports =
+    tabled_more old new t u [] [] (f ∷ []) tabled (same_more _ _ types) (same_more _ _ functions) core_functions 1 count adds.counted
+    (held_exports old new t u tabled exports adds.exports) tt
     (lowerable_more t u [] [] (same_more _ _ types) (same_more _ _ functions) f lowerable, tt)
     (same_more _ _ adds.functions) adds.core_functions (same_more _ _ adds.scalars)
 
 -- Types more leave the tables as they are.
 pub tabled_types : {tables : Tables} (t u : Tree) (es : List Entry) → Tabled tables t → types_of u ≡ types_of t ++ es → functions_of u ≡ functions_of t
-    → core_functions_of u ≡ core_functions_of t → Tabled tables u
-tabled_types {tables} t u es tabled types functions core_functions =
-    tabled_more tables tables t u es [] [] tabled types (same_more _ _ functions) (same_more _ _ core_functions) tt tt
+    → core_functions_of u ≡ core_functions_of t → function_count u ≡ function_count t → exports_of u ≡ exports_of t → Tabled tables u
+tabled_types {tables} t u es tabled types functions core_functions count exports =
+    tabled_more tables tables t u es [] [] tabled types (same_more _ _ functions) (same_more _ _ core_functions) 0 (omega (arith, count)) (omega arith)
+    (held_exports tables tables t u tabled exports refl) tt tt
     (same_more _ _ refl) (same_more _ _ refl) (same_more _ _ refl)
 
 -- So does what adds none of all these.
 pub tabled_quiet : {tables : Tables} (t u : Tree) → Tabled tables t → types_of u ≡ types_of t → functions_of u ≡ functions_of t
-    → core_functions_of u ≡ core_functions_of t → Tabled tables u
-tabled_quiet t u tabled types functions core_functions = tabled_types t u [] tabled (same_more _ _ types) functions core_functions
+    → core_functions_of u ≡ core_functions_of t → function_count u ≡ function_count t → exports_of u ≡ exports_of t → Tabled tables u
+tabled_quiet t u tabled types functions core_functions count exports =
+    tabled_types t u [] tabled (same_more _ _ types) functions core_functions count exports
 
 -- the names of imports with one more
 pub import_names_more : (is : List ImportEntry) (x : ImportEntry) → import_names (is ++ x ∷ []) ≡ import_names is ++ x.name ∷ []
 import_names_more is x = map-append (λ (i : ImportEntry). i.name) is (x ∷ [])
+
+-- the names of exports with one more
+pub export_names_more : (es : List ExportEntry) (x : ExportEntry) → export_names (es ++ x ∷ []) ≡ export_names es ++ x.name ∷ []
+export_names_more es x = map-append (λ (e : ExportEntry). e.name) es (x ∷ [])
 
 scalar_entry_is : (e : Entry) → is_scalar_entry e ≡ true → (signature : Signature) × (e ≡ function signature) × (is_scalar signature ≡ true)
 scalar_entry_is (defined t) h = absurd (false≢true h)

@@ -1,10 +1,11 @@
 -- How trees grow at the inner component.
 use Rattle.std.proofs.Common.{◌≡◌, ℕ, ◌+◌, ◌≤◌, max, List, [], ◌∷◌, ◌++◌, length, arith, ap, sym, ◌∙◌, refl, subst, length-append, append_assoc, append-nil}
-use Rattle.std.specs.List.{AllByRecursion}
+use Rattle.std.specs.List.{AllByRecursion, flat_map}
 use Rattle.smith_scopes.proofs.Plain.{all_back, all_both, all_front}
-use Rattle.smith_syntax.specs.Entries.{Entry}
-use Rattle.smith_component.specs.Tree.{Tree, ends, first, Part, custom, core_module, core_types, component, types, canons, imports, add, join, own, anywhere}
+use Rattle.smith_syntax.specs.Entries.{Entry, ImportEntry}
+use Rattle.smith_component.specs.Tree.{Tree, ends, first, Part, custom, core_module, core_types, component, types, canons, imports, exports, add, join, own, anywhere}
 use Rattle.smith_component.specs.Tree.{anywhere_in, inside, components_in, depth_by, depth_by_in}
+use Rattle.smith_component.specs.Tree.{canons_in, function_count, function_of, imported_functions_in, imports_in}
 use Rattle.smith_component.specs.Open.{tree_so_far}
 
 -- What is open is closed.
@@ -22,6 +23,7 @@ module _ (below : List Entry → ℕ) where
   depth_in_some (types ts) = omega arith
   depth_in_some (canons fs) = omega arith
   depth_in_some (imports is) = omega arith
+  depth_in_some (exports es) = omega arith
 
   pub depth-add : (t : Tree) (p : Part) → depth_by below (add t p) ≡ max (depth_by below t) (depth_by_in below p)
   depth-add ends p = omega (arith, depth_in_some p)
@@ -77,6 +79,17 @@ module _ {A : Type 0} (f : Part → List A) where
         length-append (f (component y)) (anywhere f y),
         s.same x y,
       )
+
+-- how many functions a part imports, lifts and lowers
+abbrev pub functions_in : Part → ℕ
+functions_in p = length (imported_functions_in p) + length (canons_in p)
+
+-- none without imports and canonical functions
+pub no_functions_in : (p : Part) → imports_in p ≡ [] → canons_in p ≡ [] → functions_in p ≡ 0
+no_functions_in p is fs = omega (arith, ap (λ xs. length (flat_map (λ (i : ImportEntry). function_of i.to) xs)) is, ap length fs)
+
+pub function_count-add : (t : Tree) (p : Part) → function_count (add t p) ≡ function_count t + functions_in p
+function_count-add t p = omega (arith, length-own-add imported_functions_in t p, length-own-add canons_in t p)
 
 -- a component and those inside
 abbrev pub all_of : Tree → List Tree

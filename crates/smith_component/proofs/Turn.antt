@@ -1,17 +1,17 @@
 -- What a turn chooses, and that it lowers what is left to do.
-use Rattle.std.proofs.Common.{◌≡◌, ℕ, zero, suc, ◌+◌, ◌^◌, ◌≤◌, List, [], ◌∷◌, ◌++◌, length, drop, arith, ap, sym, subst, ◌∙◌, refl, true, false, Bool, inl}
+use Rattle.std.proofs.Common.{◌≡◌, ℕ, zero, suc, ◌+◌, ◌^◌, ◌≤◌, List, [], ◌∷◌, ◌++◌, length, drop, arith, ap, sym, subst, ◌∙◌, refl, true, Bool, inl}
 use Rattle.std.proofs.Common.{inr, map, length-append, length-drop}
 use Rattle.std.specs.List.{AllByRecursion}
 use Rattle.std.specs.Prelude.{slice_get, Some}
 use Rattle.smith_input.specs.Choices.{ReadsAmong}
 use Rattle.smith_input.specs.Reading.{IsWidth, Reads, IsTail}
-use Rattle.smith_input.proofs.Offered.{offer_holds}
+use Rattle.smith_input.proofs.Offered.{offer_holds, offers_few}
 use Rattle.smith_input.proofs.Reading.{width_unique, tail_is, tail_trans}
 use Rattle.smith_format.specs.declared.config.Config.{Config}
-use Rattle.smith_component.specs.Tree.{Tree, ends, Part, custom, core_module, core_types, component, add}
+use Rattle.smith_component.specs.Tree.{Tree, ends, Part, custom, core_module, core_types, component, exports, add}
 use Rattle.smith_component.specs.Building.{Building, open_of}
 use Rattle.smith_component.specs.Limits.{max_depth}
-use Rattle.smith_component.specs.Open.{Open, more_items, is_module_offered, is_component_offered, items, offers, with_inner}
+use Rattle.smith_component.specs.Open.{Open, more_items, is_component_offered, is_export_offered, is_module_offered, items, offers, with_inner}
 use Rattle.smith_component.specs.Shown.{shown_module, shown_sections}
 use Rattle.smith_component.specs.Steps.{AddsSections}
 use Rattle.smith_component.specs.Turn.{Next, building, answered, Turn, Closes, Does, with_part}
@@ -21,11 +21,12 @@ use Rattle.smith_component.specs.Runs.{todo, Falls}
 use Rattle.smith_component.specs.declared.item.Counted.{Counted}
 use Rattle.smith_component.specs.declared.item.Counted.TheVariants as counted
 use Rattle.smith_component.specs.declared.item.Item.{Item}
-use Rattle.smith_component.specs.declared.item.Item.TheVariants.{Finish, Custom, CoreTypes, Types, Imports, Canonical, Module, Component}
+use Rattle.smith_component.specs.declared.item.Item.TheVariants.{Finish, Custom, CoreTypes, Types, Imports, Canonical, Module, Component, Exports}
 use Rattle.smith_component.proofs.ReadsCustom.{custom_tail}
 use Rattle.smith_component.proofs.ReadsCoreTypes.{core_types_read_tail}
 use Rattle.smith_component.proofs.ReadsModule.{stand_in_tail}
 use Rattle.smith_component.proofs.ReadsCanons.{canons_tail}
+use Rattle.smith_component.proofs.ReadsExports.{exports_tail}
 use Rattle.smith_component.proofs.ReadsImports.{imports_tail}
 use Rattle.smith_component.proofs.ReadsTypes.{types_read_tail}
 use Rattle.smith_component.proofs.Sound.{component_offered_is}
@@ -35,11 +36,8 @@ only_finish zero item e = cc
 only_finish (suc place) item e = absurd (cc)
 
 -- how many items there are where input is left
-pub items_some : (m c : Bool) → (6 ≤ length (more_items m c)) × (length (more_items m c) ≤ 8)
-items_some true true = (omega arith, omega arith)
-items_some true false = (omega arith, omega arith)
-items_some false true = (omega arith, omega arith)
-items_some false false = (omega arith, omega arith)
+pub items_some : (m c e : Bool) → (6 ≤ length (more_items m c e)) × (length (more_items m c e) ≤ 9)
+items_some m c e = (omega arith, offers_few (offers m c e))
 
 -- One byte tells from 2 to 256 things apart.
 pub one_byte : (n : ℕ) → 2 ≤ n → n ≤ 256 → IsWidth n 1
@@ -126,6 +124,8 @@ does_length config Component stack next b r e m (d, c) =
     let f : next ≡ record { outer = stack.outer ++ stack.inner ∷ []; inner = ends } = cc in
     let o = component_offered_is config stack (e refl) in
     (omega (arith, o.0, length-append stack.outer (stack.inner ∷ []), ap (λ n. length n.outer) f), omega (arith, ap length d))
+does_length config Exports stack next b r e m (es, read, c) =
+    (omega (arith, part_length config stack next (exports es) c), tail_length r b (exports_tail config stack.inner read))
 
 -- What is chosen was offered.
 pub chosen : (config : Config) (stack : Open) (left after : List ℕ) (item : Item) → ReadsAmong (items config stack left) left item after
@@ -134,7 +134,7 @@ chosen config stack [] after item r = let f = only_finish r.place item r.named i
 chosen config stack (x ∷ xs) after item r =
     let P : Item → Type 0 = λ i. (i ≡ Module → is_module_offered config stack ≡ true) × (i ≡ Component → is_component_offered config stack ≡ true) in
     let other : (i : Item) → (i ≡ Module → ⊥) → (i ≡ Component → ⊥) → P i = λ i m c. (λ e. absurd (m e), λ e. absurd (c e)) in
-    let all : AllByRecursion (λ o. o.0 ≡ true → P o.1) (offers (is_module_offered config stack) (is_component_offered config stack)) = (
+    let all : AllByRecursion (λ o. o.0 ≡ true → P o.1) (offers (is_module_offered config stack) (is_component_offered config stack) (is_export_offered config)) = (
       λ h. other Finish (λ e. cc) (λ e. cc),
       (
         λ h. other Custom (λ e. cc) (λ e. cc),
@@ -146,14 +146,14 @@ chosen config stack (x ∷ xs) after item r =
               λ h. other Imports (λ e. cc) (λ e. cc),
               (
                 λ h. other Canonical (λ e. cc) (λ e. cc),
-                (λ h. (λ e. h, λ e. absurd (cc)), (λ h. (λ e. absurd (cc), λ e. h), tt)),
+                (λ h. (λ e. h, λ e. absurd (cc)), (λ h. (λ e. absurd (cc), λ e. h), (λ h. other Exports (λ e. cc) (λ e. cc), tt))),
               ),
             ),
           ),
         ),
       ),
     ) in
-    offer_holds P (offers (is_module_offered config stack) (is_component_offered config stack)) all r.place item r.named
+    offer_holds P (offers (is_module_offered config stack) (is_component_offered config stack) (is_export_offered config)) all r.place item r.named
 
 does_finish : (config : Config) (stack : Open) (item : Item) (b r : List ℕ) (next : Next) → item ≡ Finish → Does config item stack b next r
     → (full : Tree) × FillsAll config stack b full r × Closes (with_inner stack full) next
@@ -173,7 +173,7 @@ turn_falls config stack next [] left2 m t =
     let e : left2 ≡ [] = tail.1 ∙ (ap (drop tail.0) none ∙ drop_none tail.0) in
     subst (λ l. todo config l next + 1 ≤ length stack.outer + 1) (sym e) (omega (arith, closes_length (with_inner stack f.0) next f.2))
 turn_falls config stack next (x ∷ xs) left2 m t =
-    let some = items_some (is_module_offered config stack) (is_component_offered config stack) in
+    let some = items_some (is_module_offered config stack) (is_component_offered config stack) (is_export_offered config) in
     let d = does_length config t.item stack next t.after left2 (chosen config stack (x ∷ xs) t.after t.item t.chooses).1 m t.does in
     let a : t.after ≡ xs = after_one _ x xs t.chooses.place t.after (omega (arith, some.0)) (omega (arith, some.1)) t.chooses.reads in
     omega (arith, todo_bound config left2 next (length xs) d.0 (omega (arith, d.1, ap length a)))

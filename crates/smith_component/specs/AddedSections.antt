@@ -8,7 +8,7 @@ use Rattle.smith_types.specs.Made.{MadeWith}
 use Rattle.smith_core_types.specs.MadeCore.{MadeCore}
 use Rattle.smith_syntax.specs.Scope.{Scope, with_type, with_core_type}
 use Rattle.smith_component.specs.Spaces.{types_of}
-use Rattle.smith_component.specs.Tree.{Tree, custom, component, types, imports, add}
+use Rattle.smith_component.specs.Tree.{Tree, types, imports, add}
 use Rattle.smith_component.specs.Canonicals.{Growing, ReadsCanons, grown}
 use Rattle.smith_component.specs.Imports.{ReadsImports}
 use Rattle.smith_component.specs.Open.{Open, scopes_in}

@@ -10,8 +10,8 @@ use Rattle.smith_syntax.specs.Flat.{Flattens}
 use Rattle.smith_syntax.specs.Scope.{places}
 use Rattle.smith_syntax.specs.Shown.{is_of_signature}
 use Rattle.smith_types.specs.Lifting.{ReadsLifted}
-use Rattle.smith_component.specs.Spaces.{Spaces, function_count, spaces_of}
-use Rattle.smith_component.specs.Tree.{Canon, lift, lower, Tree, types, canons, add}
+use Rattle.smith_component.specs.Spaces.{Spaces, spaces_of}
+use Rattle.smith_component.specs.Tree.{Canon, lift, lower, Tree, types, canons, add, function_count}
 use Rattle.smith_component.specs.WellFormed.{HasSignature}
 use Rattle.smith_component.specs.declared.item.CanonItem.{CanonItem}
 use Rattle.smith_component.specs.declared.item.CanonItem.TheVariants.{Lower, Lift}

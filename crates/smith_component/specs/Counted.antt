@@ -1,8 +1,8 @@
 -- What a component has a minimum of: its types, its imports and its functions.
 use Rattle.std.specs.Prelude.{ℕ, length}
 use Rattle.smith_format.specs.declared.config.Config.{Config}
-use Rattle.smith_component.specs.Spaces.{function_count, types_of}
-use Rattle.smith_component.specs.Tree.{Tree, imports_of}
+use Rattle.smith_component.specs.Spaces.{types_of}
+use Rattle.smith_component.specs.Tree.{Tree, imports_of, function_count}
 use Rattle.smith_component.specs.declared.item.Counted.{Counted}
 use Rattle.smith_component.specs.declared.item.Counted.TheVariants.{Types, Imports, Functions}
 use Rattle.smith_component.specs.declared.item.Item.{Item}

@@ -6,8 +6,9 @@ use Rattle.smith_syntax.specs.CoreLimits.{CoreLimits}
 use Rattle.smith_syntax.specs.Entries.{Entry, CoreEntry}
 use Rattle.smith_syntax.specs.TypeLimits.{EntryLimits}
 use Rattle.smith_syntax.specs.WellFormed.{core_size, size}
-use Rattle.smith_component.specs.Spaces.{core_types_of, function_count, types_of}
-use Rattle.smith_component.specs.Tree.{Tree, own, inside, module_count, component_count, instance_count, depth, scope_depth, imports_of, names_in}
+use Rattle.smith_component.specs.Spaces.{core_types_of, types_of}
+use Rattle.smith_component.specs.Tree.{Tree, own, inside, module_count, component_count, instance_count, depth, scope_depth, names_in}
+use Rattle.smith_component.specs.Tree.{exports_of, function_count, imports_of}
 
 -- how deep components may stand, the root at 1
 abbrev pub max_depth : Config → ℕ
@@ -19,6 +20,7 @@ pub record OwnLimits (config : Config) (tree : Tree) : Type 0 where
   pub core_types : length (core_types_of tree) ≤ config.max_types
   pub imports : length (imports_of tree) ≤ config.max_imports
   pub functions : function_count tree ≤ config.max_funcs
+  pub exports : length (exports_of tree) ≤ config.max_exports
   pub within_types : AllByRecursion (EntryLimits config) (types_of tree)
   pub within_core_types : AllByRecursion (CoreLimits config) (core_types_of tree)
   pub names : AllByRecursion (λ name. length name ≤ 1000) (own names_in tree)

@@ -9,8 +9,8 @@ use Rattle.smith_types.specs.Offers.{ref_kinds}
 use Rattle.smith_types.specs.declared.make.references.RefKind.{RefKind}
 use Rattle.smith_types.specs.declared.make.references.RefTotals.{RefTotals}
 use Rattle.smith_component.specs.Open.{Open, tree_so_far, with_inner}
-use Rattle.smith_component.specs.Spaces.{Spaces, function_count}
-use Rattle.smith_component.specs.Tree.{imports, add, module_count, component_count, instance_count}
+use Rattle.smith_component.specs.Spaces.{Spaces}
+use Rattle.smith_component.specs.Tree.{ExportEntry, Tree, imports, exports, add, function_count, module_count, component_count, instance_count}
 use Rattle.smith_component.specs.WellFormed.{scope_of}
 use Rattle.smith_component.specs.declared.item.CanonItem.{CanonItem}
 use Rattle.smith_component.specs.declared.item.CanonItem.TheVariants.{Lower, Lift}
@@ -18,6 +18,10 @@ use Rattle.smith_component.specs.declared.item.CanonItem.TheVariants.{Lower, Lif
 -- the open components, where the inner one has these imports more in a section of their own
 abbrev pub with_imports : Open → List ImportEntry → Open
 with_imports stack is = with_inner stack (add stack.inner (imports is))
+
+-- a component that has these exports more in a section of their own
+abbrev pub with_exports : Tree → List ExportEntry → Tree
+with_exports t es = add t (exports es)
 
 -- how many modules, components and instances the tree has so far, and how many functions the inner component
 abbrev pub totals_of : Open → RefTotals

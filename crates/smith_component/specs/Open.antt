@@ -6,7 +6,7 @@ use Rattle.smith_syntax.specs.Scope.{Scope}
 use Rattle.smith_component.specs.Tree.{Tree, ends, component, add, module_count, component_count}
 use Rattle.smith_component.specs.WellFormed.{scope_of}
 use Rattle.smith_component.specs.declared.item.Item.{Item}
-use Rattle.smith_component.specs.declared.item.Item.TheVariants.{Finish, Custom, CoreTypes, Types, Imports, Canonical, Module, Component}
+use Rattle.smith_component.specs.declared.item.Item.TheVariants.{Finish, Custom, CoreTypes, Types, Imports, Canonical, Module, Component, Exports}
 
 -- The open components: those around the inner one, outermost first, and the inner one, each as its parts so far.
 pub record Open : Type 0 where
@@ -43,9 +43,13 @@ abbrev pub is_component_offered : Config → Open → Bool
 is_component_offered config stack =
     nat_lt (length stack.outer + 1) config.max_nesting_depth && nat_lt (component_count (tree_so_far stack.outer stack.inner)) config.max_components
 
+-- may functions be exported?
+abbrev pub is_export_offered : Config → Bool
+is_export_offered config = nat_lt 0 config.max_exports
+
 -- the items where input is left, in order, and whether each is offered
-abbrev pub offers : Bool → Bool → List (Bool × Item)
-offers with_module with_component =
+abbrev pub offers : Bool → Bool → Bool → List (Bool × Item)
+offers with_module with_component with_exports =
     (true, Finish)
     ∷ (true, Custom)
     ∷ (true, CoreTypes)
@@ -54,14 +58,15 @@ offers with_module with_component =
     ∷ (true, Canonical)
     ∷ (with_module, Module)
     ∷ (with_component, Component)
+    ∷ (with_exports, Exports)
     ∷ []
 
 -- what a turn chooses among where input is left
-abbrev pub more_items : Bool → Bool → List Item
-more_items with_module with_component = offers_of (offers with_module with_component)
+abbrev pub more_items : Bool → Bool → Bool → List Item
+more_items with_module with_component with_exports = offers_of (offers with_module with_component with_exports)
 
 abbrev pub items_with_input : Config → Open → List Item
-items_with_input config stack = more_items (is_module_offered config stack) (is_component_offered config stack)
+items_with_input config stack = more_items (is_module_offered config stack) (is_component_offered config stack) (is_export_offered config)
 
 -- what a turn chooses among
 abbrev pub items : Config → Open → List ℕ → List Item

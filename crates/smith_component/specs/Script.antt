@@ -1,17 +1,18 @@
 -- The input that a plan is read from.
-use Rattle.std.specs.Prelude.{◌≤◌, ℕ, suc, ◌-◌, true, false, List, [], ◌∷◌, ◌++◌, length}
+use Rattle.std.specs.Prelude.{◌<◌, ◌≤◌, ℕ, suc, ◌-◌, true, false, List, [], ◌∷◌, ◌++◌, length}
 use Rattle.std.specs.List.{AllByRecursion}
 use Rattle.std.specs.Str.{IsUtf8}
-use Rattle.smith_input.specs.Script.{script_among, script_loop, script_text, script_bytes}
+use Rattle.smith_input.specs.Script.{pick, script_among, script_loop, script_name, script_text, script_bytes}
 use Rattle.smith_format.specs.declared.config.Config.{Config}
 use Rattle.smith_syntax.specs.Entries.{Entry, CoreEntry, ImportEntry}
 use Rattle.smith_syntax.specs.Scope.{Scope, with_type, with_core_type}
 use Rattle.smith_types.specs.Script.{script_type, script_core, script_ref, script_extern, Lasts, LastsCore}
-use Rattle.smith_component.specs.Spaces.{core_types_of, function_count, spaces_of, types_of}
-use Rattle.smith_component.specs.Tree.{Tree, ends, first, Part, custom, core_module, core_types, component, types, canons, imports, add, imports_of}
+use Rattle.smith_component.specs.Spaces.{core_types_of, functions_of, spaces_of, types_of}
+use Rattle.smith_component.specs.Tree.{Tree, ends, first, Part, custom, core_module, core_types, component, types, canons, imports, exports, add}
+use Rattle.smith_component.specs.Tree.{ExportEntry, exports_of, function_count, imports_of}
 use Rattle.smith_component.specs.CanonScript.{script_canons}
 use Rattle.smith_component.specs.Grammar.{Spells}
-use Rattle.smith_component.specs.Offers.{totals_of, with_imports}
+use Rattle.smith_component.specs.Offers.{totals_of, with_exports, with_imports}
 use Rattle.smith_component.specs.Open.{Open, items_with_input, scopes_in, tree_so_far}
 use Rattle.smith_component.specs.WellFormed.{Formed, WellFormed, scope_of}
 use Rattle.smith_component.specs.Limits.{Limits, Maxima}
@@ -28,6 +29,7 @@ item_of (component t) = item.Component
 item_of (types ts) = item.Types
 item_of (canons fs) = item.Canonical
 item_of (imports is) = item.Imports
+item_of (exports es) = item.Exports
 
 -- the choice of an item
 abbrev pub script_item : Config → List Tree → Tree → Item → List ℕ
@@ -48,6 +50,13 @@ script_import config stack is x = script_ref config (scope_of stack.inner) (tota
 abbrev pub script_imports : Config → Open → List ImportEntry → List ℕ
 script_imports config stack is = script_loop (script_import config stack) (λ s x. s ++ x ∷ []) 0 (config.max_imports - length (imports_of stack.inner)) 0 [] is
 
+-- an export where the section has these: a choice among the component functions, and its name
+abbrev pub script_export : Tree → List ExportEntry → ExportEntry → List ℕ
+script_export t es x = pick (length (functions_of (with_exports t es))) x.func ++ script_name 100 x.name
+
+abbrev pub script_exports : Config → Tree → List ExportEntry → List ℕ
+script_exports config t es = script_loop (script_export t) (λ s x. s ++ x ∷ []) 0 (config.max_exports - length (exports_of t)) 0 [] es
+
 -- The rest of a component, where these components are open around it and these parts stand before it; and what follows the choice
 -- of its item in the script of a part.
 abbrev mutual
@@ -64,6 +73,7 @@ abbrev mutual
   script_part (types ts) config outer before = script_types config (config.max_types - length (types_of before)) (scope_of before) (scopes_in outer) ts
   script_part (canons fs) config outer before = script_canons (config.max_funcs - function_count before) (spaces_of before) fs
   script_part (imports is) config outer before = script_imports config (record { outer = outer; inner = before }) is
+  script_part (exports es) config outer before = script_exports config before es
 
 abbrev pub script : Config → Tree → List ℕ
 script config plan = script_from plan config [] ends
@@ -72,9 +82,13 @@ script config plan = script_from plan config [] ends
 abbrev pub IsPlanImport : ImportEntry → Type 0
 IsPlanImport x = length x.name ≤ 100
 
+-- an export whose name can be read
+abbrev pub IsPlanExport : ExportEntry → Type 0
+IsPlanExport x = length x.name ≤ 100
+
 -- A plan that scripts can say, where so many scopes are on the stack: custom sections, core type sections of function types, type
--- sections for which the fuel lasts, imports, canonical functions, and components of these. No lift of a script defines its type: each is
--- to one that stands there.
+-- sections for which the fuel lasts, imports, canonical functions, exports where there may be some, and components of these. No lift of a
+-- script defines its type: each is to one that stands there.
 abbrev mutual
   pub IsPlan : Config → ℕ → Tree → Type 0
   IsPlan config scopes ends = Unit {0}
@@ -88,6 +102,7 @@ abbrev mutual
   IsPlanPart config scopes (types ts) = AllByRecursion (λ e. Lasts e config scopes config.max_type_size) ts
   IsPlanPart config scopes (canons fs) = Unit {0}
   IsPlanPart config scopes (imports is) = AllByRecursion IsPlanImport is
+  IsPlanPart config scopes (exports es) = (0 < config.max_exports) × AllByRecursion IsPlanExport es
 
 -- a plan within the limits of a config, which has a spelling
 pub record Within (config : Config) (plan : Tree) : Type 0 where

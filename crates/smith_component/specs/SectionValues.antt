@@ -27,7 +27,7 @@ use Rattle.smith_component.specs.WellFormed.{scope_of}
 use Rattle.smith_component.specs.declared.component.CoreTypeSection.{CoreTypeSection}
 use Rattle.smith_component.specs.declared.component.ImportSection.{ImportSection}
 use Rattle.smith_component.specs.declared.component.Section.{Section}
-use Rattle.smith_component.specs.declared.component.Section.TheVariants.{Custom, CoreModule, CoreTypes, Types, Canonical, Imports, Component}
+use Rattle.smith_component.specs.declared.component.Section.TheVariants.{Custom, CoreModule, CoreTypes, Types, Canonical, Imports, Exports, Component}
 use Rattle.smith_component.specs.declared.component.TypeSection.{TypeSection}
 use Rattle.smith_component.specs.declared.item.Counted.{Counted}
 use Rattle.smith_component.specs.declared.item.Counted.TheVariants as counted
@@ -54,6 +54,7 @@ externs_in (Component t) = []
 externs_in (Types s) = []
 externs_in (Canonical s) = []
 externs_in (Imports s) = map extern_of s.imports.items
+externs_in (Exports s) = []
 
 -- those of the imports of a component
 abbrev pub externs_of : List Section → List NamedExtern

@@ -10,7 +10,7 @@ use Rattle.smith_component.specs.Limits.{max_depth, OwnLimits, OwnSizes, Maxima,
 use Rattle.smith_component.specs.Open.{Open, tree_so_far, scopes_in}
 use Rattle.smith_component.specs.Spaces.{Spaces, after_part}
 use Rattle.smith_component.specs.Tree.{Tree, Part, add, inside, module_count, component_count, instance_count, imports_in, modules_in, imported_modules_in}
-use Rattle.smith_component.specs.Tree.{imported_components_in, imported_instances_in, anywhere_in, components_in, depth_in, scope_depth_in}
+use Rattle.smith_component.specs.Tree.{imported_components_in, imported_instances_in, anywhere_in, canons_in, components_in, depth_in, exports_in, scope_depth_in}
 use Rattle.smith_component.specs.WellFormed.{WellFormed, FormedPart, scope_of}
 use Rattle.smith_component.specs.declared.builder.totals.TreeTotals.{TreeTotals}
 
@@ -54,7 +54,9 @@ pub record IsAddable (config : Config) (stack : Open) (p : Part) : Type 0 where
   pub flat : depth_in p ≡ 1
   pub scopes : length stack.outer + 1 ≤ max_depth config → length stack.outer + scope_depth_in p ≤ max_depth config + 1
 
--- A part that leaves the index spaces as they are, and adds no import.
+-- A part that leaves the index spaces as they are, and adds nothing that is counted in its component.
 pub record IsQuiet (p : Part) : Type 0 where
   pub spaces : (s : Spaces) → after_part s p ≡ s
   pub imports : imports_in p ≡ []
+  pub canons : canons_in p ≡ []
+  pub exports : exports_in p ≡ []

@@ -1,8 +1,9 @@
 -- Index spaces: what stands before a place in a component (Explainer.md, index spaces).
-use Rattle.std.specs.Prelude.{ℕ, ◌+◌, List, [], ◌∷◌, ◌++◌, fold, length}
+use Rattle.std.specs.Prelude.{ℕ, List, [], ◌∷◌, ◌++◌, fold, slice_get}
+use Rattle.std.specs.Option.{option_to_list}
 use Rattle.smith_syntax.specs.Entries.{Entry, CoreEntry, ImportEntry}
-use Rattle.smith_component.specs.Tree.{Canon, lift, lower, Tree, Part, custom, core_module, core_types, component, types, canons, imports, parts_of}
-use Rattle.smith_component.specs.Tree.{function_of}
+use Rattle.smith_component.specs.Tree.{Canon, lift, lower, Tree, Part, custom, core_module, core_types, component, types, canons, imports, exports}
+use Rattle.smith_component.specs.Tree.{ExportEntry, function_of, parts_of}
 
 -- The types and the core types, the component functions, each by the index of its type, and the core functions, each by the index of the
 -- component function that it lowers.
@@ -24,6 +25,10 @@ after_canon s (lower f) = record s { core_functions = s.core_functions ++ f ∷ 
 abbrev pub after_import : Spaces → ImportEntry → Spaces
 after_import s i = record s { functions = s.functions ++ function_of i.to }
 
+-- behind an export, which is a component function of the type of the one that it names
+abbrev pub after_export : Spaces → ExportEntry → Spaces
+after_export s e = record s { functions = s.functions ++ option_to_list (slice_get s.functions e.func) }
+
 -- behind a part
 abbrev pub after_part : Spaces → Part → Spaces
 after_part s (custom name contents) = s
@@ -33,6 +38,7 @@ after_part s (component t) = s
 after_part s (types ts) = record s { types = s.types ++ ts }
 after_part s (canons fs) = fold after_canon s fs
 after_part s (imports is) = fold after_import s is
+after_part s (exports es) = fold after_export s es
 
 -- those of a component that has these parts
 abbrev pub spaces_of : Tree → Spaces
@@ -49,7 +55,3 @@ functions_of t = (spaces_of t).functions
 
 abbrev pub core_functions_of : Tree → List ℕ
 core_functions_of t = (spaces_of t).core_functions
-
--- how many functions a component imports, lifts and lowers
-abbrev pub function_count : Tree → ℕ
-function_count t = length (functions_of t) + length (core_functions_of t)

@@ -61,6 +61,7 @@ AddsValues config item.Imports old b step rest = (new : Building) × (step ≡ S
 AddsValues config item.Canonical old b step rest = Unit {0}
 AddsValues config item.Module old b step rest = (new : Building) × (step ≡ StillBuilding new) × AddsModule config old b new rest
 AddsValues config item.Component old b step rest = Unit {0}
+AddsValues config item.Exports old b step rest = Unit {0}
 
 -- One turn by the sections that it adds: a choice names an item, and what that adds is what the bytes behind the choice give, URLs, what
 -- outer aliases keep, and the parts of a core module included.

@@ -1,16 +1,17 @@
 -- What the builder keeps of a component beside its sections.
-use Rattle.std.specs.Prelude.{◌≡◌, ℕ, ◌<◌, true, List, [], ◌∷◌, ◌++◌, length, if◌then◌else◌}
+use Rattle.std.specs.Prelude.{◌≡◌, ℕ, ◌+◌, ◌<◌, true, [], ◌∷◌, ◌++◌, length, if◌then◌else◌}
 use Rattle.std.specs.List.{AllByRecursion}
 use Rattle.smith_syntax.specs.Entries.{Signature}
 use Rattle.smith_syntax.specs.Flat.{is_scalar}
 use Rattle.smith_syntax.specs.Scope.{Scope}
+use Rattle.smith_input.specs.Names.{Holds}
 use Rattle.smith_types.specs.MakingTypes.{HoldsExterns}
 use Rattle.smith_component.specs.Offers.{is_scalar_type, scalar_functions}
 use Rattle.smith_component.specs.SectionValues.{externs_of}
 use Rattle.smith_component.specs.Shown.{shown_sections}
-use Rattle.smith_component.specs.Spaces.{core_functions_of, functions_of, spaces_of, types_of}
-use Rattle.smith_component.specs.Tree.{Tree}
-use Rattle.smith_component.specs.WellFormed.{HasSignature}
+use Rattle.smith_component.specs.Spaces.{Spaces, core_functions_of, functions_of, spaces_of, types_of}
+use Rattle.smith_component.specs.Tree.{Tree, exports_of, function_count}
+use Rattle.smith_component.specs.WellFormed.{HasSignature, export_names}
 use Rattle.smith_component.specs.declared.builder.open.OpenComponent.{OpenComponent}
 use Rattle.smith_component.specs.declared.builder.tables.Tables.{Tables}
 
@@ -28,6 +29,8 @@ pub record Tabled (tables : Tables) (t : Tree) : Type 0 where
   pub functions : tables.functions.items ≡ functions_of t
   pub core_functions : tables.core_functions.items ≡ core_functions_of t
   pub scalars : tables.scalars.items ≡ scalar_functions (spaces_of t)
+  pub counts : tables.counted ≡ function_count t
+  pub exports : Holds tables.exports (export_names (exports_of t))
   pub grounded : IsGrounded t
 
 -- An open component's tables are those of its sections, and its sets of names those of its imports and of their URLs.
@@ -35,16 +38,28 @@ pub record IsTabled (c : OpenComponent) : Type 0 where
   pub tabled : Tabled c.tables (shown_sections c.sections.items)
   pub externs : HoldsExterns c.tables.imports (externs_of c.sections.items)
 
--- new is old with a component function of the type with that index
-pub record AddsFunction (own : Scope) (old : Tables) (ty : ℕ) (new : Tables) : Type 0 where
+-- how many functions stand in index spaces
+abbrev pub functions_at : Spaces → ℕ
+functions_at s = length s.functions + length s.core_functions
+
+-- The types of the component functions are there.
+abbrev pub IsKnown : Scope → Tables → Type 0
+IsKnown own tables = AllByRecursion (λ ty. ty < length own.types) tables.functions.items
+
+-- new is old with a component function of the type with that index, and counts so many more
+pub record AddsFunction (own : Scope) (more : ℕ) (old : Tables) (ty : ℕ) (new : Tables) : Type 0 where
   pub functions : new.functions.items ≡ old.functions.items ++ ty ∷ []
   pub scalars : new.scalars.items ≡ old.scalars.items ++ (if is_scalar_type own.types ty then length old.functions.items ∷ [] else [])
   pub core_functions : new.core_functions.items ≡ old.core_functions.items
+  pub counted : new.counted ≡ old.counted + more
   pub imports : new.imports ≡ old.imports
+  pub exports : new.exports ≡ old.exports
 
 -- new is old with a core function that lowers the component function with that index
 pub record AddsCoreFunction (old : Tables) (f : ℕ) (new : Tables) : Type 0 where
   pub functions : new.functions.items ≡ old.functions.items
   pub scalars : new.scalars.items ≡ old.scalars.items
   pub core_functions : new.core_functions.items ≡ old.core_functions.items ++ f ∷ []
+  pub counted : new.counted ≡ old.counted + 1
   pub imports : new.imports ≡ old.imports
+  pub exports : new.exports ≡ old.exports

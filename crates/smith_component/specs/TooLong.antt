@@ -4,13 +4,17 @@ use Rattle.smith_format.specs.Piece.{◌⊕◌, raw, text, many}
 use Rattle.smith_format.specs.TooLong.{Passes, NameTooLong, NoBytes, ListTooLong, ContentsTooLong}
 use Rattle.smith_syntax.specs.Grammar.{entry, core_entry, import_entry}
 use Rattle.smith_syntax.specs.TooLong.{EntryTooLong, CoreEntryTooLong, ImportEntryTooLong}
-use Rattle.smith_component.specs.Grammar.{embedded, canon, component_text}
-use Rattle.smith_component.specs.Tree.{Canon, lift, lower, Part, Tree, ends, first, custom, core_module, core_types, component, types, canons, imports}
+use Rattle.smith_component.specs.Grammar.{embedded, canon, export_entry, component_text}
+use Rattle.smith_component.specs.Tree.{Canon, ExportEntry, lift, lower, Part, Tree, ends, first, custom, core_module, core_types, component, types, canons, imports, exports}
 
 -- an index in a canonical function
 abbrev pub CanonTooLong : Canon → Type 0
 CanonTooLong (lift c t) = Passes c ⊎ Passes t
 CanonTooLong (lower f) = Passes f
+
+-- the name of an export, or its index
+abbrev pub ExportEntryTooLong : ExportEntry → Type 0
+ExportEntryTooLong e = NameTooLong e.name ⊎ Passes e.func
 
 -- Bytes that are no bytes stand in no component of the program, and bytes that are no core module only where a module is too long itself.
 abbrev mutual
@@ -26,3 +30,4 @@ abbrev mutual
   PartTooLong (types ts) = ListTooLong EntryTooLong ts ⊎ ContentsTooLong (many entry ts)
   PartTooLong (canons fs) = ListTooLong CanonTooLong fs ⊎ ContentsTooLong (many canon fs)
   PartTooLong (imports is) = ListTooLong ImportEntryTooLong is ⊎ ContentsTooLong (many import_entry is)
+  PartTooLong (exports es) = ListTooLong ExportEntryTooLong es ⊎ ContentsTooLong (many export_entry es)

@@ -12,6 +12,11 @@ pub data Canon : Type 0 where
   lift : ℕ → ℕ → Canon
   lower : ℕ → Canon
 
+-- An export of the component function with that index (Explainer.md, export definitions).
+pub record ExportEntry : Type 0 where
+  pub name : List ℕ
+  pub func : ℕ
+
 -- A list of parts, and the parts. There are no URLs, no shared nodes and no caches.
 mutual
   pub data Tree : Type 0 where
@@ -26,6 +31,7 @@ mutual
     types : List Entry → Part
     canons : List Canon → Part
     imports : List ImportEntry → Part
+    exports : List ExportEntry → Part
 
 abbrev pub tree_of : List Part → Tree
 tree_of [] = ends
@@ -87,6 +93,7 @@ names_in (component t) = []
 names_in (types ts) = []
 names_in (canons fs) = []
 names_in (imports is) = []
+names_in (exports es) = []
 
 -- the core modules that are embedded
 abbrev pub modules_in : Part → List (List ℕ)
@@ -97,6 +104,7 @@ modules_in (component t) = []
 modules_in (types ts) = []
 modules_in (canons fs) = []
 modules_in (imports is) = []
+modules_in (exports es) = []
 
 abbrev pub components_in : Part → List Tree
 components_in (custom name contents) = []
@@ -106,6 +114,7 @@ components_in (component t) = t ∷ []
 components_in (types ts) = []
 components_in (canons fs) = []
 components_in (imports is) = []
+components_in (exports es) = []
 
 abbrev pub imports_in : Part → List ImportEntry
 imports_in (custom name contents) = []
@@ -115,6 +124,30 @@ imports_in (component t) = []
 imports_in (types ts) = []
 imports_in (canons fs) = []
 imports_in (imports is) = is
+imports_in (exports es) = []
+
+abbrev pub canons_in : Part → List Canon
+canons_in (custom name contents) = []
+canons_in (core_module text) = []
+canons_in (core_types ts) = []
+canons_in (component t) = []
+canons_in (types ts) = []
+canons_in (canons fs) = fs
+canons_in (imports is) = []
+canons_in (exports es) = []
+
+abbrev pub exports_in : Part → List ExportEntry
+exports_in (custom name contents) = []
+exports_in (core_module text) = []
+exports_in (core_types ts) = []
+exports_in (component t) = []
+exports_in (types ts) = []
+exports_in (canons fs) = []
+exports_in (imports is) = []
+exports_in (exports es) = es
+
+abbrev pub imported_functions_in : Part → List ℕ
+imported_functions_in p = flat_map (λ i. function_of i.to) (imports_in p)
 
 abbrev pub imported_modules_in : Part → List ℕ
 imported_modules_in p = flat_map (λ i. module_of i.to) (imports_in p)
@@ -133,6 +166,13 @@ own f t = flat_map f (parts_of t)
 abbrev pub imports_of : Tree → List ImportEntry
 imports_of t = own imports_in t
 
+abbrev pub exports_of : Tree → List ExportEntry
+exports_of t = own exports_in t
+
+-- how many functions a component imports, lifts and lowers
+abbrev pub function_count : Tree → ℕ
+function_count t = length (own imported_functions_in t) + length (own canons_in t)
+
 -- what stands anywhere in a tree, in the components at every depth
 
 abbrev mutual
@@ -148,6 +188,7 @@ abbrev mutual
   anywhere_in f (types ts) = f (types ts)
   anywhere_in f (canons fs) = f (canons fs)
   anywhere_in f (imports is) = f (imports is)
+  anywhere_in f (exports es) = f (exports es)
 
 -- the components below the root, and the core modules
 abbrev pub inside : Tree → List Tree
@@ -181,6 +222,7 @@ abbrev mutual
   depth_by_in below (types ts) = below ts + 1
   depth_by_in below (canons fs) = 1
   depth_by_in below (imports is) = 1
+  depth_by_in below (exports es) = 1
 
 -- components alone
 abbrev pub no_depth : List Entry → ℕ

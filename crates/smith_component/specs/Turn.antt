@@ -1,5 +1,5 @@
 -- A turn of the builder.
-use Rattle.std.specs.Prelude.{◌≡◌, ℕ, ◌+◌, ◌-◌, ◌<◌, List, [], ◌∷◌, ◌++◌, length, ◌⊎◌}
+use Rattle.std.specs.Prelude.{◌≡◌, ℕ, ◌-◌, ◌<◌, List, [], ◌∷◌, ◌++◌, length, ◌⊎◌}
 use Rattle.smith_input.specs.Choices.{ReadsAmong}
 use Rattle.smith_core.specs.StandIn.{ReadsStandIn}
 use Rattle.smith_core.specs.declared.module.parts.ModuleParts.{ModuleParts}
@@ -7,15 +7,17 @@ use Rattle.smith_format.specs.declared.config.Config.{Config}
 use Rattle.smith_syntax.specs.Entries.{CoreEntry}
 use Rattle.smith_syntax.specs.Scope.{Scope}
 use Rattle.smith_component.specs.Spaces.{core_types_of}
-use Rattle.smith_component.specs.Tree.{Tree, Part, ends, custom, core_module, core_types, component, imports, add}
-use Rattle.smith_component.specs.Open.{Open, root, items, with_inner}
+use Rattle.smith_component.specs.Tree.{Tree, Part, ends, custom, core_module, core_types, component, exports, add}
+use Rattle.smith_component.specs.Tree.{ExportEntry}
+use Rattle.smith_component.specs.Open.{Open, items, with_inner}
 use Rattle.smith_component.specs.Shown.{shown_module}
 use Rattle.smith_component.specs.WellFormed.{scope_of}
 use Rattle.smith_component.specs.declared.item.Counted.{Counted}
 use Rattle.smith_component.specs.declared.item.Counted.TheVariants as counted
 use Rattle.smith_component.specs.declared.item.Item.{Item}
-use Rattle.smith_component.specs.declared.item.Item.TheVariants.{Finish, Custom, CoreTypes, Types, Imports, Canonical, Module, Component}
+use Rattle.smith_component.specs.declared.item.Item.TheVariants.{Finish, Custom, CoreTypes, Types, Imports, Canonical, Module, Component, Exports}
 use Rattle.smith_component.specs.AddedSections.{ReadsCustom, ReadsCoreTypes, Adds}
+use Rattle.smith_component.specs.Exports.{ReadsExports}
 use Rattle.smith_component.specs.Fills.{FillsAll, Lacks}
 
 -- what a turn leads to
@@ -54,6 +56,7 @@ Does config Imports stack b next rest = AddsAny counted.Imports config stack b n
 Does config Canonical stack b next rest = AddsAny counted.Functions config stack b next rest
 Does config Module stack b next rest = (m : ModuleParts) × ReadsStandIn config b m rest × (next ≡ with_part stack (core_module (shown_module m)))
 Does config Component stack b next rest = (rest ≡ b) × (next ≡ with_open stack)
+Does config Exports stack b next rest = (es : List ExportEntry) × ReadsExports config stack.inner b es rest × (next ≡ with_part stack (exports es))
 
 -- One turn leads from the open components and the bytes left to what comes next and the bytes left then: a choice names an item, and
 -- that is done.

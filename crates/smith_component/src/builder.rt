@@ -21,6 +21,7 @@ mod canonicals;
 mod choose;
 mod counted;
 mod entries;
+mod exports;
 mod finish;
 mod imports;
 mod nest;
@@ -146,6 +147,7 @@ impl Progress {
             Item::Canonical => self.section_turn(Counted::Functions, u)?,
             Item::Module => self.add_module(u)?,
             Item::Component => self.open_component()?,
+            Item::Exports => self.add_exports(u)?,
         }
         Ok(None)
     }

@@ -11,6 +11,7 @@ pub enum Item {
     Canonical,
     Module,
     Component,
+    Exports,
 }
 
 /// What a turn of a canonical section is. Public since contracts speak of it.

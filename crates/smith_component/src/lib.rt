@@ -11,8 +11,8 @@ mod make;
 
 pub use builder::{Builder, Step};
 pub use component::{
-    CanonicalSection, Component, CoreTypeSection, CustomSection, Func, ImportSection, Section,
-    TypeSection,
+    CanonicalSection, Component, CoreTypeSection, CustomSection, Export, ExportSection, Func,
+    ImportSection, Section, TypeSection,
 };
 pub use generation::{Generated, generate};
 pub use smith_format::Config;

@@ -1,5 +1,5 @@
 -- The limits of what is built: which fit together, which hold where none are given, and which core value types they allow.
-use Rattle.std.specs.Prelude.{◌≡◌, ℕ, ◌≤◌, true, List, [], ◌∷◌, ◌++◌, if◌then◌else◌}
+use Rattle.std.specs.Prelude.{◌≡◌, ℕ, ◌+◌, ◌≤◌, true, List, [], ◌∷◌, ◌++◌, if◌then◌else◌}
 use Rattle.smith_input.specs.Offers.{offered}
 use Rattle.smith_format.specs.declared.config.Config.{Config}
 use Rattle.smith_format.specs.declared.types.RefType.TheVariants.{FuncRef, ExternRef}
@@ -17,7 +17,7 @@ pub record IsConsistent (config : Config) : Type 0 where
   pub funcs_cross : config.min_funcs ≤ config.max_funcs
   pub types : config.max_types ≤ max_u32
   pub imports : config.max_imports ≤ max_u32
-  pub funcs : config.max_funcs ≤ max_u32
+  pub funcs : config.max_funcs + config.max_exports ≤ max_u32
   pub modules : config.max_modules ≤ max_u32
   pub components : config.max_components ≤ max_u32
   pub instances : config.max_instances ≤ max_u32
@@ -35,6 +35,7 @@ IsDefault c =
       max_types = 100;
       max_imports = 100;
       max_funcs = 100;
+      max_exports = 0;
       max_globals = 100;
       max_tables = 100;
       max_tags = 100;

@@ -25,6 +25,8 @@ pub struct Config {
     pub max_imports: usize,
     /// The most functions of a component: imported ones, lifts and lowers together.
     pub max_funcs: usize,
+    /// The most exports of a component. They are functions of it too, and are not counted against `max_funcs`.
+    pub max_exports: usize,
     /// The most globals that a module type imports and exports.
     pub max_globals: usize,
     /// The most tables that a module type imports and exports.
@@ -62,8 +64,8 @@ impl Default for Config {
 
     ghost is_default = { IsDefault };
 
-    /// Minima of 0, counts of 100 within a component and of 10 over the tree, one memory, a depth of 10, a
-    /// fuel of 1000, and every feature on.
+    /// Minima of 0, counts of 100 within a component and of 10 over the tree, no exports, one memory, a depth of
+    /// 10, a fuel of 1000, and every feature on.
     fn default() -> Config {
         Config {
             min_types: 0,
@@ -73,6 +75,7 @@ impl Default for Config {
             max_types: 100,
             max_imports: 100,
             max_funcs: 100,
+            max_exports: 0,
             max_globals: 100,
             max_tables: 100,
             max_tags: 100,
@@ -96,7 +99,8 @@ impl Config {
     ghost use Rattle.smith_format.specs.Limits.{IsConsistent};
 
     /// Accepts limits that fit together: no minimum passes its maximum, counts that are written are at most
-    /// 4,294,967,295, and the nesting depth is at most 1000. Others are refused with `InconsistentLimits`.
+    /// 4,294,967,295, those of functions and of exports together, and the nesting depth is at most 1000. Others are
+    /// refused with `InconsistentLimits`.
     pub fn check(&self) -> Result<(), Error>
         ensures accepts { IsOk result ↔ IsConsistent self.now }
         ensures refuses { IfErr result (λ e. e ≡ Error.InconsistentLimits) }
@@ -106,7 +110,7 @@ impl Config {
             || self.min_funcs > self.max_funcs;
         let wide = self.max_types > 0xffff_ffff
             || self.max_imports > 0xffff_ffff
-            || self.max_funcs > 0xffff_ffff
+            || self.max_funcs.saturating_add(self.max_exports) > 0xffff_ffff
             || self.max_modules > 0xffff_ffff
             || self.max_components > 0xffff_ffff
             || self.max_instances > 0xffff_ffff;

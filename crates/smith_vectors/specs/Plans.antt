@@ -19,6 +19,7 @@ small_limits = record {
   max_types = 10;
   max_imports = 10;
   max_funcs = 10;
+  max_exports = 0;
   max_globals = 100;
   max_tables = 100;
   max_tags = 100;

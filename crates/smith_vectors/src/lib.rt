@@ -19,6 +19,8 @@ mod deep;
 #[cfg(test)]
 mod equal_inputs;
 #[cfg(test)]
+mod exports;
+#[cfg(test)]
 mod functions;
 #[cfg(test)]
 mod hashes;

@@ -7,13 +7,14 @@ ghost use Rattle.smith_input.specs.Loops.{Loop};
 ghost use Rattle.smith_input.specs.Reading.{IsTail};
 ghost use Rattle.smith_format.specs.Limits.{IsConsistent, max_u32};
 ghost use Rattle.smith_scopes.specs.Scopes.{own_scope, outer_scopes};
+ghost use Rattle.smith_component.specs.Tree.{function_count};
 ghost use Rattle.smith_component.specs.Canonicals.{CanonTurn, Growing, NoCanon, ReadsCanons, ReadsLift, ReadsLower};
-ghost use Rattle.smith_component.specs.Canonicals.{grown, with_defined};
+ghost use Rattle.smith_component.specs.Canonicals.{grown, spaces_at, with_defined};
 ghost use Rattle.smith_component.specs.CanonicalsState.{DraftsOn, IsDraft, IsDrafted, IsLowered, KeepsFront, LiftsAs};
 ghost use Rattle.smith_component.specs.CanonicalsState.{SameLoans, canon_items_of, draft_of};
 ghost use Rattle.smith_component.specs.Shown.{shown_sections};
-ghost use Rattle.smith_component.specs.Spaces.{function_count};
-ghost use Rattle.smith_component.specs.Tables.{Tabled};
+ghost use Rattle.smith_component.specs.Spaces.{spaces_of};
+ghost use Rattle.smith_component.specs.Tables.{Tabled, functions_at};
 ghost use Rattle.smith_component.specs.WellFormed.{scope_of};
 ghost use Rattle.smith_component.specs.declared.item.CanonItem.{CanonItem};
 
@@ -57,6 +58,7 @@ impl<'a> CanonicalDraft<'a> {
     fn lower(&mut self, u: &mut Unstructured) -> Result<(), AllocError>
         requires draft { IsDraft self.old }
         requires some { 0 < length self.old.component.now.tables.scalars.items }
+        requires room { functions_at (spaces_at (draft_of self.old)) < max_u32 }
         ensures loans { SameLoans self.old self.new }
         ensures reads { OnOk result (ReadsLower (draft_of self.old) u.old u.new (draft_of self.new)) }
         ensures drafts { OnOk result (DraftsOn self.old self.new) }
@@ -90,7 +92,7 @@ impl<'a> CanonicalDraft<'a> {
     fn define(&mut self, core_func_index: u32, ty: FuncType) -> Result<(), Error>
         requires draft { IsDraft self.old }
         requires types { length (own_scope self.old.scopes.now).types < max_u32 }
-        requires room { function_count (grown (draft_of self.old)) < max_u32 }
+        requires room { functions_at (spaces_at (draft_of self.old)) < max_u32 }
         ensures loans { SameLoans self.old self.new }
         ensures defines { OnOk result (draft_of self.new ≡ with_defined (draft_of self.old) core_func_index ty) }
         ensures drafts { OnOk result (DraftsOn self.old self.new) }
@@ -118,7 +120,7 @@ impl<'a> CanonicalDraft<'a> {
         requires consistent { IsConsistent self.old.config.now }
         requires draft { IsDraft self.old }
         requires some { 0 < length self.old.component.now.tables.core_functions.items }
-        requires room { function_count (grown (draft_of self.old)) < max_u32 }
+        requires room { functions_at (spaces_at (draft_of self.old)) < max_u32 }
         ensures loans { SameLoans self.old self.new }
         ensures reads { OnOk result
             (ReadsLift self.old.config.now (draft_of self.old) u.old u.new (draft_of self.new)) }
@@ -148,7 +150,7 @@ impl<'a> CanonicalDraft<'a> {
     fn turn(&mut self, u: &mut Unstructured) -> Result<bool, Error>
         requires consistent { IsConsistent self.old.config.now }
         requires draft { IsDraft self.old }
-        requires room { function_count (grown (draft_of self.old)) < max_u32 }
+        requires room { functions_at (spaces_at (draft_of self.old)) < max_u32 }
         ensures loans { SameLoans self.old self.new }
         ensures reads { IfOk result (λ made.
             IsDrafted self.old.config.now (draft_of self.old) u.old made u.new (draft_of self.new)) }
@@ -171,7 +173,7 @@ impl<'a> CanonicalDraft<'a> {
         requires consistent { IsConsistent self.old.config.now }
         requires ordered { min ≤ max }
         requires draft { IsDraft self.old }
-        requires room { function_count (grown (draft_of self.old)) + max ≤ max_u32 }
+        requires room { functions_at (spaces_at (draft_of self.old)) + max ≤ max_u32 }
         ensures loans { SameLoans self.old self.new }
         ensures reads { OnOk result ((turns : List CanonItem) × Loop NoCanon (CanonTurn self.old.config.now) min max 0
             (draft_of self.old) u.old turns u.new (draft_of self.new)) }
@@ -204,7 +206,7 @@ pub(super) fn read_canonicals(
     requires consistent { IsConsistent config.now }
     requires ordered { min ≤ max }
     requires room { max ≡ config.now.max_funcs - function_count (shown_sections component.old.sections.items) }
-    requires few { function_count (shown_sections component.old.sections.items) ≤ config.now.max_funcs }
+    requires space { functions_at (spaces_of (shown_sections component.old.sections.items)) + max ≤ max_u32 }
     requires stands { own_scope scopes.old ≡ scope_of (shown_sections component.old.sections.items) }
     requires tabled { Tabled component.old.tables (shown_sections component.old.sections.items) }
     ensures reads { OnOk result ((turns : List CanonItem) × (next : Growing)

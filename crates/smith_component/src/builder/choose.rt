@@ -3,7 +3,7 @@
 ghost use Rattle.std.specs.Prelude.{◌≡◌, ℕ, List, ◌+◌, ◌≤◌, length};
 ghost use Rattle.smith_input.specs.Reading.{IsTail};
 ghost use Rattle.smith_component.specs.BuilderView.{stack_of, IsSound};
-ghost use Rattle.smith_component.specs.Open.{is_module_offered, is_component_offered, items};
+ghost use Rattle.smith_component.specs.Open.{is_component_offered, is_export_offered, is_module_offered, items};
 ghost use Rattle.smith_input.specs.Choices.{ReadsAmong};
 
 use crate::builder::Progress;
@@ -28,6 +28,13 @@ impl Progress {
             && self.totals.components < self.config.max_components
     }
 
+    // May functions be exported?
+    fn offers_exports(&self) -> bool
+        ensures { result ≡ is_export_offered self.now.config }
+    {
+        self.config.max_exports > 0
+    }
+
     // The choice that begins a turn: where no input is left, the inner component is finished.
     pub(crate) fn choose_item(&self, u: &mut Unstructured) -> Item
         requires sound { IsSound self.now }
@@ -36,6 +43,7 @@ impl Progress {
     {
         let with_module = self.offers_module();
         let with_component = self.offers_component();
+        let with_exports = self.offers_exports();
         if u.is_empty() {
             return Item::Finish;
         }
@@ -48,6 +56,7 @@ impl Progress {
             (true, Item::Canonical),
             (with_module, Item::Module),
             (with_component, Item::Component),
+            (with_exports, Item::Exports),
         ];
         choose_offered(u, &offers).unwrap_or(Item::Finish)
     }

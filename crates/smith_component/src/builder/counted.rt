@@ -22,7 +22,7 @@ impl Progress {
         match what {
             Counted::Types => self.scopes.own_len(),
             Counted::Imports => self.inner.tables.imports.len(),
-            Counted::Functions => self.inner.tables.function_count(),
+            Counted::Functions => self.inner.tables.counted,
         }
     }
 

@@ -1,6 +1,6 @@
 //! The imports of a section.
 
-ghost use Rattle.std.specs.Prelude.{◌≡◌, ◌≤◌, [], List, IfOk, IfErr};
+ghost use Rattle.std.specs.Prelude.{◌≡◌, ◌+◌, ◌≤◌, [], List, length, IfOk, IfErr, OnOk};
 ghost use Rattle.smith_input.specs.Reading.{IsTail};
 ghost use Rattle.smith_input.specs.Loops.{Loop};
 ghost use Rattle.smith_format.specs.Limits.{IsConsistent};
@@ -27,6 +27,8 @@ fn read_import(
     u: &mut Unstructured,
 ) -> Result<Option<Import>, Error>
     requires consistent { IsConsistent config.now }
+    requires within { length tables.old.functions.items ≤ tables.old.counted + config.now.max_exports }
+    ensures within { OnOk result (length tables.new.functions.items ≤ tables.new.counted + config.now.max_exports) }
     ensures imports { (stack : Open) (before : List NamedExtern) (is : List _)
         → ImportsState stack before is (own_scope scopes.now) totals.old tables.old
         → IfOk result (λ i.
@@ -34,7 +36,7 @@ fn read_import(
     ensures memory { IfErr result (λ e. e ≡ Error.OutOfMemory) }
     ensures tail { IsTail u.new u.old }
 {
-    let counts = totals.with_functions(tables.function_count());
+    let counts = totals.with_functions(tables.counted);
     let Some(ty) = arbitrary_type_ref(u, config, scopes, counts, true, false) else {
         return Ok(None);
     };
@@ -59,6 +61,7 @@ pub(super) fn read_imports(
 ) -> Result<Vec<Import>, Error>
     requires consistent { IsConsistent config.now }
     requires ordered { min ≤ max }
+    requires within { length tables.old.functions.items ≤ tables.old.counted + config.now.max_exports }
     ensures reads { (stack : Open) (before : List NamedExtern)
         → ImportsState stack before [] (own_scope scopes.now) totals.old tables.old
         → IfOk result (λ v. Loop (NoImportValue config.now stack) (ReadsImportValue config.now stack before)

@@ -8,8 +8,8 @@ ghost use Rattle.smith_component.specs.BuilderView.{building_of, stack_of, IsSou
 ghost use Rattle.smith_component.specs.Shown.{shown_section};
 ghost use Rattle.smith_component.specs.Steps.{DoesItem, Grows, GrowsBy};
 ghost use Rattle.smith_component.specs.SectionValues.{AddsImportSection, AddsTypeSection};
-ghost use Rattle.smith_component.specs.Spaces.{function_count, types_of};
-ghost use Rattle.smith_component.specs.Tree.{imports_of};
+ghost use Rattle.smith_component.specs.Spaces.{types_of};
+ghost use Rattle.smith_component.specs.Tree.{imports_of, function_count};
 ghost use Rattle.smith_component.specs.AddedSections.{AddsCanons};
 ghost use Rattle.smith_component.specs.Open.{is_module_offered};
 ghost use Rattle.smith_component.specs.declared.item.Item.TheVariants as item;
@@ -17,8 +17,11 @@ ghost use Rattle.smith_component.specs.declared.item.Item.TheVariants as item;
 use crate::builder::Progress;
 use crate::builder::canonicals::read_canonicals;
 use crate::builder::entries::read_entries;
+use crate::builder::exports::read_exports;
 use crate::builder::imports::read_imports;
-use crate::component::{CoreTypeSection, CustomSection, ImportSection, Section, TypeSection};
+use crate::component::{
+    CoreTypeSection, CustomSection, ExportSection, ImportSection, Section, TypeSection,
+};
 use crate::item::Counted;
 use smith_core::Module;
 use smith_input::{Error, Unstructured};
@@ -85,6 +88,20 @@ impl Progress {
         )?;
         self.inner
             .push(Section::CoreTypes(CoreTypeSection { types }))?;
+        Ok(())
+    }
+
+    // An export section, with as many exports as the component may still have.
+    pub(crate) fn add_exports(&mut self, u: &mut Unstructured) -> Result<(), Error>
+        requires sound { IsSound self.old }
+        ensures does { OnOk result (DoesItem item.Exports self.old u.old self.new None u.new) }
+        ensures memory { IfErr result (λ e. e ≡ Error.OutOfMemory) }
+        ensures tail { IsTail u.new u.old }
+    {
+        let room = self.config.max_exports - self.inner.tables.exports.len();
+        let exports = read_exports(self.alloc, &self.scopes, &mut self.inner.tables, room, u)?;
+        self.inner
+            .push(Section::Exports(ExportSection { exports }))?;
         Ok(())
     }
 

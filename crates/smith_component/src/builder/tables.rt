@@ -10,15 +10,19 @@ ghost use Rattle.smith_component.specs.Tree.{ends};
 
 use smith_types::{DefType, ExternNames, Scopes};
 use std::alloc::{AllocError, Global};
+use std::collections::BTreeSet;
 
 // The component functions by the indexes of their types, the core functions by those of the component functions that
-// they lower, the component functions that can be lowered, and the names of the imports.
+// they lower, the component functions that can be lowered, how many functions are imported, lifted and lowered, the
+// names of the imports, and those of the exports.
 #[derive(Drop)]
 pub(super) struct Tables {
     pub(super) functions: Vec<u32>,
     pub(super) core_functions: Vec<u32>,
     pub(super) scalars: Vec<u32>,
+    pub(super) counted: usize,
     pub(super) imports: ExternNames,
+    pub(super) exports: BTreeSet<String>,
 }
 
 // Is the type of the last scope with that index a function type that flattens?
@@ -41,22 +45,29 @@ impl Tables {
             functions: Vec::new(alloc),
             core_functions: Vec::new(alloc),
             scalars: Vec::new(alloc),
+            counted: 0,
             imports: ExternNames::new(alloc),
+            exports: BTreeSet::new(alloc),
         }
     }
 
-    // How many functions there are, component functions and core functions together.
-    pub(super) fn function_count(&self) -> usize
-        ensures { result ≡ length self.now.functions.items + length self.now.core_functions.items }
-    {
-        self.functions.len() + self.core_functions.len()
-    }
-
-    // Adds a component function of the type with that index.
+    // Adds a component function of the type with that index, one that is imported or lifted.
     pub(super) fn add_function(&mut self, scopes: &Scopes, ty: u32) -> Result<(), AllocError>
         requires known { ty < length (own_scope scopes.now).types }
         requires room { length self.old.functions.items < max_u32 }
-        ensures ok { OnOk result (AddsFunction (own_scope scopes.now) self.old ty self.new) }
+        requires few { self.old.counted < max_u32 }
+        ensures ok { OnOk result (AddsFunction (own_scope scopes.now) 1 self.old ty self.new) }
+    {
+        self.add_exported(scopes, ty)?;
+        self.counted += 1;
+        Ok(())
+    }
+
+    // Adds one that is exported. It counts against no maximum of functions.
+    pub(super) fn add_exported(&mut self, scopes: &Scopes, ty: u32) -> Result<(), AllocError>
+        requires known { ty < length (own_scope scopes.now).types }
+        requires room { length self.old.functions.items < max_u32 }
+        ensures ok { OnOk result (AddsFunction (own_scope scopes.now) 0 self.old ty self.new) }
     {
         if is_scalar_type(scopes, ty) {
             self.scalars.push(self.functions.len() as u32)?;
@@ -67,9 +78,11 @@ impl Tables {
 
     // Adds a core function that lowers the component function with that index.
     pub(super) fn add_core_function(&mut self, func_index: u32) -> Result<(), AllocError>
+        requires few { self.old.counted < max_u32 }
         ensures ok { OnOk result (AddsCoreFunction self.old func_index self.new) }
     {
         self.core_functions.push(func_index)?;
+        self.counted += 1;
         Ok(())
     }
 }

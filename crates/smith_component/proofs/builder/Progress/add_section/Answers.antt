@@ -47,7 +47,7 @@ returns c =
           },
           (
             is_tabled_added b.inner c.push.new.self c.args.section c.in_ok-push.ensures.items c.push.ensures.tables (ap (λ s. s.functions) same)
-                (ap (λ s. s.core_functions) same) q.imports i.1.0,
+                (ap (λ s. s.core_functions) same) q.imports q.canons q.exports i.1.0,
             i.1.1,
           ),
         );

@@ -77,7 +77,7 @@ returns-in_ok-push-in-Some-clause-closes c =
           totalled = totalled_close outers _ parent inner _ b.totals around new i.0.totalled;
         },
         (
-          is_tabled_added c.in-Some.parent c.push.new.self _ items tables refl refl refl last.0,
+          is_tabled_added c.in-Some.parent c.push.new.self _ items tables refl refl refl refl refl last.0,
           all_front IsTabled c.pop.new.self.items (c.in-Some.parent ∷ []) all,
         ),
       );

@@ -12,7 +12,7 @@ use Rattle.smith_component.proofs.builder.Progress.do_item.Goals as goal
 use Rattle.smith_component.proofs.builder.Progress.do_item.Goals.{in-Custom+in_ok-add_custom-in-Custom, in-CoreTypes+in_ok-add_core_types-in-CoreTypes}
 use Rattle.smith_component.proofs.builder.Progress.do_item.Goals.{in-Types+in_ok-section_turn-in-Types, in-Imports+in_ok-section_turn-in-Imports}
 use Rattle.smith_component.proofs.builder.Progress.do_item.Goals.{in-Canonical+in_ok-section_turn-in-Canonical, in-Module+in_ok-add_module-in-Module}
-use Rattle.smith_component.proofs.builder.Progress.do_item.Goals.{in-Component+in_ok-open_component-in-Component}
+use Rattle.smith_component.proofs.builder.Progress.do_item.Goals.{in-Component+in_ok-open_component-in-Component, in-Exports+in_ok-add_exports-in-Exports}
 
 pub returns-in-Finish-clause-refuses : goal.returns-in-Finish-clause-refuses
 returns-in-Finish-clause-refuses c left chosen =
@@ -44,4 +44,6 @@ returns-clause-does c =
           done _ _ _ _ _ _ _ _ w.in-Module.is w.self-is w.u-is w.in_ok-add_module-in-Module.ensures.does
       | in-Component+in_ok-open_component-in-Component w ↦
           done _ _ _ _ _ _ _ _ w.in-Component.is w.self-is w.u-is (w.in_ok-open_component-in-Component.ensures.does c.args.u.now)
+      | in-Exports+in_ok-add_exports-in-Exports w ↦
+          done _ _ _ _ _ _ _ _ w.in-Exports.is w.self-is w.u-is w.in_ok-add_exports-in-Exports.ensures.does
     ]

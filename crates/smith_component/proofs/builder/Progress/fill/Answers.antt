@@ -5,8 +5,7 @@ use Rattle.smith_component.specs.BuilderView.{building_of, stack_of}
 use Rattle.smith_component.specs.Building.{Building, open_of}
 use Rattle.smith_component.specs.Open.{with_inner}
 use Rattle.smith_component.specs.Refusals.{IsFillRefusal}
-use Rattle.smith_component.specs.Spaces.{function_count}
-use Rattle.smith_component.specs.Tree.{Tree, imports_of}
+use Rattle.smith_component.specs.Tree.{Tree, imports_of, function_count}
 use Rattle.smith_component.specs.Fills.{Fills, FillsAll, of_imports, of_functions}
 use Rattle.smith_component.specs.declared.item.Counted.{Counted}
 use Rattle.smith_component.specs.declared.item.Counted.TheVariants as counted

@@ -18,9 +18,7 @@ turns-requires c = record {
   room = omega (
     arith,
     first_count c.args.component.now c.new-funcs.result.items c.new-funcs.ensures.items,
-    c.requires.room,
-    c.requires.few,
-    c.requires.consistent.funcs,
+    c.requires.space,
   );
 }
 

@@ -27,13 +27,13 @@ use Rattle.smith_component.specs.Open.{Open}
 use Rattle.smith_component.specs.SectionValues.{ReadsImportValue, extern_of}
 use Rattle.smith_component.specs.Tables.{AddsFunction, Tabled}
 use Rattle.smith_component.specs.Spaces.{spaces_of, types_of}
-use Rattle.smith_component.specs.Tree.{Tree, add, component_of, function_of, imports, instance_of, module_of}
+use Rattle.smith_component.specs.Tree.{Tree, add, component_of, exports_in, function_of, imports, instance_of, module_of}
 use Rattle.smith_component.specs.WellFormed.{scope_of}
 use Rattle.smith_component.specs.declared.builder.tables.Tables.{Tables}
 use Rattle.smith_component.specs.declared.builder.totals.TreeTotals.{TreeTotals}
 use Rattle.smith_component.proofs.Growth.{imports_keep, scope_bare, spaces_import}
-use Rattle.smith_component.proofs.ImportsState.{components_more, import_room, instances_more, modules_more}
-use Rattle.smith_component.proofs.Tables.{same_more, tabled_more}
+use Rattle.smith_component.proofs.ImportsState.{components_more, funcs_more, import_room, instances_more, modules_more}
+use Rattle.smith_component.proofs.Tables.{held_exports, own_bare, same_more, tabled_more}
 use Rattle.smith_component.proofs.builder.imports.read_import.Goals as goal
 use Rattle.smith_component.proofs.builder.imports.read_import.Goals.{in-Func+in_ok-add_function, in_default-ty}
 
@@ -42,13 +42,15 @@ record Takes (own : Scope) (old : Tables) (r : ComponentTypeRef) (externs : Exte
   pub functions : new.functions.items ≡ old.functions.items ++ function_of r
   pub scalars : new.scalars.items ≡ old.scalars.items ++ places (is_scalar_type own.types) (length old.functions.items) (function_of r)
   pub core_functions : new.core_functions.items ≡ old.core_functions.items
+  pub counted : new.counted ≡ old.counted + length (function_of r)
   pub imports : new.imports ≡ externs
+  pub exports : new.exports ≡ old.exports
 
 -- a function
 takes_function : (own : Scope) (old mid new : Tables) (r : ComponentTypeRef) (i : ℕ) → r ≡ to.Func i → mid.functions.items ≡ old.functions.items
-    → mid.scalars.items ≡ old.scalars.items → mid.core_functions.items ≡ old.core_functions.items → AddsFunction own mid i new
-    → Takes own old r mid.imports new
-takes_function own old mid new r i e fs ss cs adds =
+    → mid.scalars.items ≡ old.scalars.items → mid.core_functions.items ≡ old.core_functions.items → mid.counted ≡ old.counted
+    → mid.exports ≡ old.exports → AddsFunction own 1 mid i new → Takes own old r mid.imports new
+takes_function own old mid new r i e fs ss cs ns xs adds =
     subst (λ z. Takes own old z mid.imports new) (sym e) (record {
       functions = adds.functions ∙ ap (λ z. z ++ i ∷ []) fs;
       scalars =
@@ -56,7 +58,9 @@ takes_function own old mid new r i e fs ss cs adds =
           ∙ (ap (λ z. z ++ (if is_scalar_type own.types i then length mid.functions.items ∷ [] else [])) ss
           ∙ ap (λ z. old.scalars.items ++ (if is_scalar_type own.types i then length z ∷ [] else [])) fs);
       core_functions = adds.core_functions ∙ cs;
+      counted = omega (arith, adds.counted, ns);
       imports = adds.imports;
+      exports = adds.exports ∙ xs;
     })
 
 no_function : (r : ComponentTypeRef) → ((i : ℕ) → r ≡ to.Func i → ⊥) → function_of r ≡ []
@@ -68,13 +72,15 @@ no_function (to.Instance i) h = refl
 
 -- none
 takes_none : (own : Scope) (old new : Tables) (r : ComponentTypeRef) (externs : ExternNames) → function_of r ≡ [] → new.functions.items ≡ old.functions.items
-    → new.scalars.items ≡ old.scalars.items → new.core_functions.items ≡ old.core_functions.items → new.imports ≡ externs
-    → Takes own old r externs new
-takes_none own old new r externs e fs ss cs is = record {
+    → new.scalars.items ≡ old.scalars.items → new.core_functions.items ≡ old.core_functions.items → new.counted ≡ old.counted → new.imports ≡ externs
+    → new.exports ≡ old.exports → Takes own old r externs new
+takes_none own old new r externs e fs ss cs ns is xs = record {
   functions = fs ∙ sym (ap (λ z. old.functions.items ++ z) e ∙ append-nil old.functions.items);
   scalars = ss ∙ sym (ap (λ z. old.scalars.items ++ places (is_scalar_type own.types) (length old.functions.items) z) e ∙ append-nil old.scalars.items);
   core_functions = cs;
+  counted = omega (arith, ns, ap length e);
   imports = is;
+  exports = xs;
 }
 
 function_within : (own : Scope) (r : ComponentTypeRef) → FormedRef own r → AllByRecursion (λ ty. ty < length own.types) (function_of r)
@@ -89,13 +95,12 @@ module _ (config : Config) (stack : Open) (before : List NamedExtern) (is : List
   abbrev entries : List ImportEntry
   entries = map import_shown is
 
-  counts_are : (counts : RefTotals) → counts.modules ≡ totals.modules → counts.funcs ≡ length tables.functions.items + length tables.core_functions.items
+  counts_are : (counts : RefTotals) → counts.modules ≡ totals.modules → counts.funcs ≡ tables.counted
       → counts.components ≡ totals.components → counts.instances ≡ totals.instances
       → counts ≡ totals_of (with_imports stack entries)
   counts_are counts ms fs cs ns =
       let m = ms ∙ importing.totalled.modules in
-      let f : counts.funcs ≡ (totals_of (with_imports stack entries)).funcs =
-      omega (arith, fs, ap length importing.tabled.functions, ap length importing.tabled.core_functions) in
+      let f = fs ∙ importing.tabled.counts in
       let c = cs ∙ importing.totalled.components in
       let n = ns ∙ importing.totalled.instances in
       λ i. record { modules = m i; funcs = f i; components = c i; instances = n i }
@@ -125,12 +130,14 @@ module _ (config : Config) (stack : Open) (before : List NamedExtern) (is : List
     import_is_kept externs new formed takes =
         let tabled : Tabled tables old_tree = importing.tabled in
         let behind = spaces_import stack.inner entries entry in
+        let exports = own_bare exports_in stack.inner (imports (entries ++ entry ∷ [])) refl ∙ sym (own_bare exports_in stack.inner (imports entries) refl) in
         let scope = scope_bare stack.inner (imports (entries ++ entry ∷ [])) (imports_keep (spaces_of stack.inner) (entries ++ entry ∷ [])) in
         let same : own.types ≡ types_of new_tree = ap (λ s. s.types) importing.scope_is ∙ sym (ap (λ s. s.types) scope) in
         tabled_more tables new old_tree new_tree [] (function_of x.ty) [] tabled
         (same_more _ _ (ap (λ s. s.types) behind))
         (ap (λ s. s.functions) behind)
         (same_more _ _ (ap (λ s. s.core_functions) behind))
+        (length (function_of x.ty)) (funcs_more stack entries entry) takes.counted (held_exports tables new old_tree new_tree tabled exports takes.exports)
         (subst (λ ts. AllByRecursion (λ ty. ty < length ts) (function_of x.ty)) same (function_within own x.ty formed))
         tt
         takes.functions
@@ -200,7 +207,14 @@ add_function-requires-clause-room c =
     let counts = c.with_functions-counts in
     let room = import_room c.args.config.now (own_scope c.args.scopes.now) counts.result c.args.u.now c.in-Some.ty c.arbitrary_type_ref.new.u
     c.in-Some.ensures.reads in
-    omega (arith, room.funcs, ap (λ r. length (function_of r)) c.in-Func.is, counts.ensures.funcs, c.function_count.ensures, c.requires.consistent.funcs)
+    omega (arith, room.funcs, ap (λ r. length (function_of r)) c.in-Func.is, counts.ensures.funcs, c.requires.within, c.requires.consistent.funcs)
+
+pub add_function-requires-clause-few : goal.add_function-requires-clause-few
+add_function-requires-clause-few c =
+    let counts = c.with_functions-counts in
+    let room = import_room c.args.config.now (own_scope c.args.scopes.now) counts.result c.args.u.now c.in-Some.ty c.arbitrary_type_ref.new.u
+    c.in-Some.ensures.reads in
+    omega (arith, room.funcs, ap (λ r. length (function_of r)) c.in-Func.is, counts.ensures.funcs, c.requires.consistent.funcs)
 
 -- The import is read and counted, whatever it is of.
 imported : (c : goal.Joined-ty) (new : Tables) (ty : ComponentTypeRef) → ty ≡ c.in-Some.ty
@@ -218,7 +232,7 @@ imported c new ty same takes stack before is importing =
     let i : Import = record { name = c.in_ok-name.name; url = c.in_ok-name.url; ty = r } in
     let counts = c.with_functions-counts in
     let e = counts_are config stack before is own c.args.totals.now c.args.tables.now importing counts.result counts.ensures.modules
-    (counts.ensures.funcs ∙ c.function_count.ensures) counts.ensures.components counts.ensures.instances in
+    counts.ensures.funcs counts.ensures.components counts.ensures.instances in
     let reads = import_is_read config stack before is own c.args.totals.now c.args.tables.now importing c.args.u.now c.arbitrary_type_ref.new.u
     c.named_extern.new.u i counts.result e c.in-Some.ensures.reads c.in_ok-name.ensures.reads in
     let formed = ref_formed config own counts.result true false c.args.u.now r c.arbitrary_type_ref.new.u c.in-Some.ensures.reads in
@@ -237,17 +251,17 @@ pub returns-clause-imports : goal.returns-clause-imports
 returns-clause-imports c =
     let own = own_scope c.args.scopes.now in
     let old : Tables = c.args.tables.now in
-    let mid : Tables = record { functions = old.functions; core_functions = old.core_functions; scalars = old.scalars; imports = c.named_extern.new.externs } in
+    let mid : Tables = record old { imports = c.named_extern.new.externs } in
     let Kept : Tables → Type 0 = λ new. Takes own old c.in-Some.ty c.named_extern.new.externs new in
     elim c.match-ty.branch [
       | in-Func+in_ok-add_function w ↦
           imported c c.match-ty.tables c.match-ty.ty (w.ty-is ∙ sym w.in-Func.is)
           (subst Kept (sym w.tables-is) (takes_function own old mid w.add_function.new.self c.in-Some.ty w.in-Func.i w.in-Func.is refl refl refl
-          w.in_ok-add_function.ensures.ok))
+          refl refl w.in_ok-add_function.ensures.ok))
       | in_default-ty w ↦
           imported c c.match-ty.tables c.match-ty.ty w.ty-is
           (subst Kept (sym w.tables-is) (takes_none own old mid c.in-Some.ty c.named_extern.new.externs (no_function c.in-Some.ty w.in_default-ty.not-Func)
-          refl refl refl refl))
+          refl refl refl refl refl refl))
     ]
 
 pub returns-clause-tail : goal.returns-clause-tail

@@ -1,4 +1,4 @@
-use Rattle.std.proofs.Common.{◌≡◌, List, [], ◌∷◌, ◌++◌, length, length-append, sym, subst, ap, ◌∙◌, arith}
+use Rattle.std.proofs.Common.{List, [], ◌∷◌, length, length-append, sym, subst, ap, arith}
 use Rattle.std.specs.Prelude.{Option}
 use Rattle.smith_input.proofs.Loops.{ends_early, ends_full, goes_on, stops}
 use Rattle.smith_input.proofs.Reading.{more_tail, tail_trans}
@@ -50,6 +50,7 @@ loop-done-preserved c =
     record {
       tail = tail_trans c.in_ok-import.ensures.tail (tail_trans (more_tail c.more.ensures) l.invariant.tail);
       few = omega (arith, ap length all, length-append so_far (x ∷ []), l.invariant.few);
+      within = c.in_ok-import.ensures.within;
       onward = λ stack before h.
           let R : List Import → Type 0 = λ z. ReadsImportValue c.args.config.now stack before so_far c.more.new.self x c.read_import.new.u z in
           goes_on _ _ _ _ _ _ _ _ _ _ _ _ _ _ _ _ c.if-not-more.false c.more.ensures (subst R (sym all) (one stack before h).0) all

@@ -1,4 +1,4 @@
-use Rattle.std.proofs.Common.{◌≡◌, List, [], length}
+use Rattle.std.proofs.Common.{◌≡◌, ◌+◌, ◌≤◌, List, [], length}
 use Rattle.smith_input.specs.Reading.{IsTail}
 use Rattle.smith_input.proofs.Loops.{Onward}
 use Rattle.smith_types.specs.Declarations.{NamedExtern}
@@ -14,6 +14,7 @@ invariant-loop-done l =
     record {
       tail : IsTail l.u l.fn.u;
       few : length l.imports.items ≡ l.done;
+      within : length l.tables.functions.items ≤ l.tables.counted + l.config.max_exports;
       onward : (stack : Open) (before : List NamedExtern) → ImportsState stack before [] (own_scope l.scopes) l.fn.totals l.fn.tables
           → Onward (NoImportValue l.config stack) (ReadsImportValue l.config stack before) l.min l.max [] l.fn.u l.imports.items l.done l.imports.items l.u;
       importing : (stack : Open) (before : List NamedExtern) → ImportsState stack before [] (own_scope l.scopes) l.fn.totals l.fn.tables

@@ -4,7 +4,8 @@ use Rattle.smith_syntax.specs.Shown.{shown_type}
 use Rattle.smith_scopes.specs.Scopes.{own_scope}
 use Rattle.smith_scopes.proofs.Stack.{grown as scopes_grown, length-last}
 use Rattle.smith_types.specs.declared.make.externs.ExternNames.{ExternNames}
-use Rattle.smith_component.specs.CanonicalsState.{growing}
+use Rattle.smith_component.specs.Canonicals.{grown}
+use Rattle.smith_component.specs.CanonicalsState.{draft_of, growing}
 use Rattle.smith_component.specs.Shown.{shown_canon, shown_sections}
 use Rattle.smith_component.specs.Tables.{AddsFunction}
 use Rattle.smith_component.specs.declared.builder.open.OpenComponent.{OpenComponent}
@@ -12,10 +13,16 @@ use Rattle.smith_component.specs.declared.builder.tables.Tables.{Tables}
 use Rattle.smith_component.specs.declared.component.Func.{Func}
 use Rattle.smith_component.specs.declared.component.Func.TheVariants.{CanonLift}
 use Rattle.smith_component.proofs.CanonicalsState.{define_draft, defines, front_push, front_same, length-changed, shown_function, type_index}
+use Rattle.smith_component.proofs.Growth.{functions_counted}
 use Rattle.smith_component.proofs.builder.canonicals.CanonicalDraft.define.Goals as goal
 
 pub push_type-requires : goal.push_type-requires
 push_type-requires c = omega (arith, length-last c.args.self.now.scopes.now, c.requires.types)
+
+pub add_function-requires-clause-few : goal.add_function-requires-clause-few
+add_function-requires-clause-few c =
+    let same = ap (λ (t : Tables). t.counted) (c.in_ok-push-3.ensures.tables ∙ c.in_ok-push-2.ensures.tables) in
+    omega (arith, same, c.requires.draft.tabled.counts, (functions_counted (grown (draft_of c.args.self.now))).least, c.requires.room)
 
 pub returns-clause-defines : goal.returns-clause-defines
 returns-clause-defines c =
@@ -37,7 +44,7 @@ returns-clause-drafts c =
     let old : OpenComponent = d.component.now in
     let mid : OpenComponent = c.push-2.new.self in
     let new : OpenComponent = record { sections = c.push-3.new.self.sections; tables = c.add_function.new.self } in
-    let T : Tables → Type 0 = λ z. AddsFunction (own_scope c.push_type.new.self) z c.in_ok-func_ty.func_ty c.add_function.new.self in
+    let T : Tables → Type 0 = λ z. AddsFunction (own_scope c.push_type.new.self) 1 z c.in_ok-func_ty.func_ty c.add_function.new.self in
     let names : Tables → ExternNames = λ t. t.imports in
     let shows = ap shown_type (c.in_ok-clone.ensures.cases ∙ c.in_ok-shared.ensures.ok)
     ∙ (shown_function c.in_ok-new.field-0 ∙ ap function c.in_ok-new.ensures.ok) in

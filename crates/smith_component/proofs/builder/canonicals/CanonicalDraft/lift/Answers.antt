@@ -1,9 +1,12 @@
 use Rattle.std.proofs.Common.{refl, arith}
 use Rattle.std.proofs.lemmas.Result.{on_ok_weaker}
+use Rattle.smith_component.specs.Canonicals.{grown}
+use Rattle.smith_component.specs.CanonicalsState.{draft_of}
 use Rattle.smith_component.specs.declared.builder.open.OpenComponent.{OpenComponent}
 use Rattle.smith_component.specs.declared.component.Func.TheVariants.{CanonLift}
 use Rattle.smith_component.proofs.CanonicalsState.{draft_lowered, drafts_none, equal_within, front_same, growing_more}
 use Rattle.smith_component.proofs.CanonicalsState.{lift_defined, lift_draft, lift_equal, lift_given_up}
+use Rattle.smith_component.proofs.Growth.{functions_counted}
 use Rattle.smith_component.proofs.builder.canonicals.CanonicalDraft.lift.Goals as goal
 
 pub lifted_type-requires : goal.lifted_type-requires
@@ -16,6 +19,10 @@ pub add_function-requires-clause-known : goal.add_function-requires-clause-known
 add_function-requires-clause-known c =
     equal_within c.args.self.now c.requires.draft c.in_ok-ty.ty c.choose_index.result c.equal_at-func_ty.result
     c.equal_at-func_ty.ensures
+
+pub add_function-requires-clause-few : goal.add_function-requires-clause-few
+add_function-requires-clause-few c =
+    omega (arith, c.requires.draft.tabled.counts, (functions_counted (grown (draft_of c.args.self.now))).least, c.requires.room)
 
 pub returns-then-equal-gt0-clause-reads : goal.returns-then-equal-gt0-clause-reads
 returns-then-equal-gt0-clause-reads c =

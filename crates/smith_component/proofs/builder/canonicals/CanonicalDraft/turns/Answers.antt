@@ -5,7 +5,7 @@ use Rattle.smith_format.specs.Limits.{IsConsistent}
 use Rattle.smith_format.specs.declared.config.Config.{Config}
 use Rattle.smith_component.specs.CanonicalsState.{IsDrafted, draft_of}
 use Rattle.smith_component.proofs.CanonicalsState.{drafted_ends, drafted_turn, drafts_none, drafts_then, loans_then}
-use Rattle.smith_component.proofs.ReadsCanons.{turn_count}
+use Rattle.smith_component.proofs.ReadsCanons.{turn_functions}
 use Rattle.smith_component.proofs.builder.canonicals.CanonicalDraft.turns.Goals as goal
 
 pub loop-done-init : goal.loop-done-init
@@ -70,6 +70,6 @@ loop-done-preserved c =
       tail = tail_trans c.turn.ensures.tail (tail_trans (more_tail c.more.ensures) i.tail);
       loans = loans_then i.loans c.turn.ensures.loans;
       drafts = drafts_then i.drafts e.drafts;
-      few = omega (arith, i.few, turn_count c.args.self.now.config.now s c.more.new.self turn.0 c.turn.new.u next turn.1);
+      few = omega (arith, i.few, turn_functions c.args.self.now.config.now s c.more.new.self turn.0 c.turn.new.u next turn.1);
       onward = (o.0 ++ turn.0 ∷ [], goes_on _ _ _ _ _ _ o.0 (o.0 ++ turn.0 ∷ []) turn.0 _ s next _ _ _ _ c.if-not-more.false c.more.ensures turn.1 refl o.1);
     }

@@ -1,0 +1,49 @@
+-- Names of a sort in a component: they are in kebab case, and no two of them are the same.
+use Rattle.std.proofs.Common.{◌≡◌, ℕ, false, List, [], ◌∷◌, ◌++◌, map, sym, subst}
+use Rattle.std.specs.List.{IsDistinct}
+use Rattle.smith_input.specs.Kebab.{Kebab}
+use Rattle.smith_input.specs.Names.{is_among}
+use Rattle.smith_format.specs.declared.config.Config.{Config}
+use Rattle.smith_syntax.specs.Scope.{Scope}
+use Rattle.smith_syntax.specs.WellFormed.{Named}
+use Rattle.smith_core_types.proofs.Names.{distinct_new, new_distinct, new_more, none_before}
+use Rattle.smith_component.specs.Open.{Open, tree_so_far}
+use Rattle.smith_component.specs.Sound.{Sound}
+use Rattle.smith_component.specs.Tree.{Tree, Part, ends, first, component, add, join, own}
+use Rattle.smith_component.specs.WellFormed.{Formed, FormedPart, scope_of}
+use Rattle.smith_component.proofs.Tables.{own_bare}
+use Rattle.smith_component.proofs.Tree.{join-add, join-ends}
+use Rattle.smith_component.proofs.WellFormed.{formed_front}
+use Rattle.smith_scopes.proofs.Plain.{all_both}
+
+-- Names in kebab case, none of them twice, and one more that is none of them.
+pub named_more : (ns : List (List ℕ)) (n : List ℕ) → Named ns → Kebab n → is_among ns n ≡ false → Named (ns ++ n ∷ [])
+named_more ns n h kebab new = (
+  all_both Kebab ns (n ∷ []) h.0 (kebab, tt),
+  new_distinct [] (ns ++ n ∷ []) (new_more [] ns n (distinct_new [] ns (none_before ns) h.1) new),
+)
+
+formed_inner : (us : List Tree) (outer : List Scope) (t : Tree) → Formed (tree_so_far us t) outer ends → (around : List Scope) × Formed t around ends
+formed_inner [] outer t f = (outer, f)
+formed_inner (u ∷ us) outer t f = formed_inner us (scope_of u ∷ outer) t (formed_front u (component (tree_so_far us t)) outer ends f).1
+
+module _ {A : Type 0} (name : A → List ℕ) (f : Part → List A) where
+  -- those that the parts of a component have of a sort
+  abbrev pub IsNamed : Tree → Type 0
+  IsNamed t = Named (map name (own f t))
+
+  -- A part that has none leaves them so.
+  pub quiet_named : (before : Tree) (q : Part) → f q ≡ [] → IsNamed before → IsNamed (add before q)
+  quiet_named before q e h = subst (λ z. Named (map name z)) (sym (own_bare f before q e)) h
+
+  module _ (keeps : (q : Part) (outer : List Scope) (before : Tree) → FormedPart q outer before → IsNamed before → IsNamed (add before q)) where
+    named_parts : (t : Tree) (outer : List Scope) (before : Tree) → Formed t outer before → IsNamed before → IsNamed (join before t)
+    named_parts ends outer before g h = subst IsNamed (sym (join-ends before)) h
+    named_parts (first p t) outer before g h = subst IsNamed (join-add before p t) (named_parts t outer (add before p) g.1 (keeps p outer before g.0 h))
+
+    -- Those that a component has so far are named, where each part keeps them so.
+    pub sound_named : (config : Config) (stack : Open) → Sound config stack → IsNamed stack.inner
+    unfolding IsDistinct
+    sound_named config stack s =
+        let g = formed_inner stack.outer [] stack.inner s.formed in
+        named_parts stack.inner g.0 ends g.1 (tt, tt)

@@ -1,0 +1,119 @@
+use Rattle.std.proofs.Common.{◌≡◌, ℕ, ◌-◌, ◌∷◌, [], refl, sym, subst, ap, ◌∙◌, arith, length, map, List, append-nil, ◌<◌}
+use Rattle.std.proofs.lemmas.List.{length-map}
+use Rattle.std.specs.BTreeSet.{btree_set_len}
+use Rattle.std.specs.List.{AllByRecursion}
+use Rattle.smith_input.specs.Loops.{Loop}
+use Rattle.smith_syntax.specs.Scope.{Scope, own_of}
+use Rattle.smith_types.specs.MakingTypes.{HoldsExterns}
+use Rattle.smith_scopes.specs.Scopes.{own_scope}
+use Rattle.smith_component.specs.BuilderView.{IsSound, stack_of}
+use Rattle.smith_component.specs.Exports.{NoExport, ReadsExport, ReadsExports}
+use Rattle.smith_component.specs.ExportsState.{ExportsState}
+use Rattle.smith_component.specs.Open.{Open, scopes_in, with_inner}
+use Rattle.smith_component.specs.SectionValues.{externs_of}
+use Rattle.smith_component.specs.Shown.{shown_export, shown_sections}
+use Rattle.smith_component.specs.Sound.{Sound}
+use Rattle.smith_component.specs.Spaces.{spaces_of, types_of}
+use Rattle.smith_component.specs.Tables.{Tabled}
+use Rattle.smith_component.specs.Tree.{ExportEntry, Tree, exports, exports_in, exports_of}
+use Rattle.smith_component.specs.Offers.{with_exports}
+use Rattle.smith_component.specs.Steps.{Grows}
+use Rattle.smith_component.specs.declared.component.Section.{Section}
+use Rattle.smith_component.specs.WellFormed.{scope_of}
+use Rattle.smith_component.specs.declared.builder.Progress.{Progress}
+use Rattle.smith_component.specs.declared.builder.tables.Tables.{Tables}
+use Rattle.smith_component.specs.declared.component.Section.TheVariants.{Exports}
+use Rattle.smith_component.specs.declared.item.Item.TheVariants as item
+use Rattle.smith_component.proofs.Growth.{exports_keep, functions_counted, scope_bare, spaces-add}
+use Rattle.smith_component.proofs.Items.{grown_does, part_added}
+use Rattle.smith_component.proofs.ReadsExports.{exports_addable}
+use Rattle.smith_component.proofs.SectionValues.{externs_push}
+use Rattle.smith_component.proofs.Sound.{own_limits_of, part_sound, totalled_part}
+use Rattle.smith_component.proofs.Tables.{own_bare, tabled_quiet}
+use Rattle.smith_component.proofs.Tree.{function_count-add}
+use Rattle.smith_component.proofs.builder.Progress.add_exports.Goals as goal
+
+-- there are as many names as exports
+names_held : (b : Progress) → IsSound b → btree_set_len b.inner.tables.exports ≡ length (exports_of (stack_of b).inner)
+names_held b i = i.1.0.tabled.exports.size ∙ length-map (exports_of (stack_of b).inner) (λ (e : ExportEntry). e.name)
+
+-- before the first export
+first : (b : Progress) → IsSound b → ExportsState (stack_of b).inner [] (own_scope b.scopes) b.inner.tables
+first b i =
+    let inner : Tree = (stack_of b).inner in
+    let e = spaces-add inner (exports []) in
+    record {
+      scope_is = ap own_of i.0.scopes_are;
+      tabled =
+          tabled_quiet inner (with_exports inner []) i.1.0.tabled (ap (λ z. z.types) e) (ap (λ z. z.functions) e) (ap (λ z. z.core_functions) e)
+          (omega (arith, function_count-add inner (exports []))) (own_bare exports_in inner (exports []) refl);
+    }
+
+pub overflow_sub-room : goal.overflow_sub-room
+overflow_sub-room c =
+    let b = c.args.self.now in
+    let i = c.requires.sound in
+    let o = own_limits_of b.config (stack_of b) i.0.sound in
+    omega (arith, c.len.ensures, names_held b i, o.exports)
+
+pub read_exports-requires : goal.read_exports-requires
+read_exports-requires c =
+    let b = c.args.self.now in
+    let i = c.requires.sound in
+    let inner : Tree = (stack_of b).inner in
+    let o = own_limits_of b.config (stack_of b) i.0.sound in
+    let spaces = functions_counted inner in
+    let tabled = i.1.0.tabled in
+    let known : AllByRecursion (λ ty. ty < length (types_of inner)) b.inner.tables.functions.items =
+    subst (AllByRecursion (λ ty. ty < length (types_of inner))) (sym tabled.functions) tabled.grounded.known in
+    record {
+      known = subst (λ (s : Scope). AllByRecursion (λ ty. ty < length s.types) b.inner.tables.functions.items) (sym (ap own_of i.0.scopes_are)) known;
+      room = omega (arith, ap length tabled.functions, spaces.most, o.functions, o.exports, c.len.ensures, names_held b i, i.0.sound.consistent.funcs);
+    }
+
+pub returns-clause-does : goal.returns-clause-does
+returns-clause-does c =
+    let b = c.args.self.now in
+    let stack : Open = stack_of b in
+    let i = c.requires.sound in
+    let es : List ExportEntry = map shown_export c.in_ok-exports.exports.items in
+    let section : Section = Exports (record { exports = c.in_ok-exports.exports }) in
+    let new = c.in_ok-push.ensures.ok in
+    let R : ℕ → Type 0 = λ n. Loop (NoExport stack.inner) (ReadsExport stack.inner) 0 n 0 [] c.args.u.now es c.read_exports.new.u es in
+    let count : c.len.result ≡ length (exports_of stack.inner) = omega (arith, c.len.ensures, names_held b i) in
+    let room : b.config.max_exports - c.len.result ≡ b.config.max_exports - length (exports_of stack.inner) =
+    ap (λ n. b.config.max_exports - n) count in
+    let reads : ReadsExports b.config stack.inner c.args.u.now es c.read_exports.new.u =
+    subst R room (c.in_ok-exports.ensures.reads stack.inner (first b i)) in
+    let after = c.in_ok-exports.ensures.holds stack.inner (first b i) in
+    let items = ap externs_of c.in_ok-push.ensures.items ∙ externs_push b.inner.sections.items section in
+    let same : externs_of c.push.new.self.sections.items ≡ externs_of b.inner.sections.items = items ∙ append-nil (externs_of b.inner.sections.items) in
+    let held : HoldsExterns c.read_exports.new.tables.imports (externs_of b.inner.sections.items) =
+    subst (λ ns. HoldsExterns ns (externs_of b.inner.sections.items)) (sym c.in_ok-exports.ensures.imports) i.1.0.externs in
+    let made : Progress = record b { inner = c.push.new.self } in
+    let keep = exports_keep (spaces_of stack.inner) es in
+    let grows : Grows b made = record {
+      sound = (
+        record {
+          sound = subst (λ t. Sound b.config (with_inner stack t)) (sym new)
+              (part_sound b.config stack (exports es) (exports_addable b.config stack i.0.sound reads) i.0.sound);
+          valtypes_are = i.0.valtypes_are;
+          scopes_are = i.0.scopes_are ∙ ap (λ s. s ∷ scopes_in stack.outer) (sym (ap scope_of new ∙ scope_bare stack.inner (exports es) keep));
+          totalled = totalled_part b.config stack.outer stack.inner _ b.totals b.totals (exports es) refl new (omega arith) (omega arith) (omega arith)
+              i.0.totalled;
+        },
+        (
+          record {
+            tabled = subst (λ tb. Tabled tb (shown_sections c.push.new.self.sections.items)) (sym c.push.ensures.tables)
+                (subst (Tabled c.read_exports.new.tables) (sym new) after.tabled);
+            externs = subst (λ (tb : Tables). HoldsExterns tb.imports (externs_of c.push.new.self.sections.items)) (sym c.push.ensures.tables)
+                (subst (HoldsExterns c.read_exports.new.tables.imports) (sym same) held);
+          },
+          i.1.1,
+        ),
+      );
+      keeps = refl;
+      sections = record { more = section ∷ []; outer = refl; inner = c.in_ok-push.ensures.items };
+    } in
+    grown_does item.Exports b made c.args.u.now c.read_exports.new.u grows
+    (es, reads, part_added b made section (record { grows = grows; last = c.in_ok-push.ensures.items })) tt

@@ -1,0 +1,26 @@
+use Rattle.std.proofs.Common.{◌≡◌, ◌+◌, ◌-◌, ◌≤◌, [], length, map}
+use Rattle.smith_input.specs.Reading.{IsTail}
+use Rattle.smith_input.proofs.Loops.{Onward}
+use Rattle.smith_format.specs.Limits.{max_u32}
+use Rattle.smith_scopes.specs.Scopes.{own_scope}
+use Rattle.smith_component.specs.Exports.{NoExport, ReadsExport}
+use Rattle.smith_component.specs.ExportsState.{ExportsState}
+use Rattle.smith_component.specs.Shown.{shown_export}
+use Rattle.smith_component.specs.Tables.{IsKnown}
+use Rattle.smith_component.specs.Tree.{Tree}
+use Rattle.smith_component.proofs.builder.exports.read_exports.Given as goal
+
+-- The scope and the tables are those where the section has what was read.
+abbrev pub invariant-loop-done : goal.invariant-loop-done
+invariant-loop-done l =
+    record {
+      tail : IsTail l.u l.fn.u;
+      few : length l.exports.items ≡ l.done;
+      imports : l.tables.imports ≡ l.fn.tables.imports;
+      known : IsKnown (own_scope l.scopes) l.tables;
+      room : length l.tables.functions.items + (l.max - l.done) ≤ max_u32;
+      onward : (t : Tree) → ExportsState t [] (own_scope l.scopes) l.fn.tables
+          → Onward (NoExport t) (ReadsExport t) 0 l.max [] l.fn.u (map shown_export l.exports.items) l.done (map shown_export l.exports.items) l.u;
+      exporting : (t : Tree) → ExportsState t [] (own_scope l.scopes) l.fn.tables
+          → ExportsState t (map shown_export l.exports.items) (own_scope l.scopes) l.tables;
+    }

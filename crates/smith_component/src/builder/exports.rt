@@ -1,0 +1,77 @@
+//! The exports of a section.
+
+ghost use Rattle.std.specs.Prelude.{◌≡◌, ◌+◌, ◌<◌, ◌≤◌, [], List, length, map, IfOk, IfErr, OnOk};
+ghost use Rattle.smith_input.specs.Reading.{IsTail};
+ghost use Rattle.smith_input.specs.Loops.{Loop};
+ghost use Rattle.smith_format.specs.Limits.{max_u32};
+ghost use Rattle.smith_scopes.specs.Scopes.{own_scope};
+ghost use Rattle.smith_component.specs.Exports.{NoExport, ReadsExport};
+ghost use Rattle.smith_component.specs.ExportsState.{ExportsOne, ExportsState};
+ghost use Rattle.smith_component.specs.Shown.{shown_export};
+ghost use Rattle.smith_component.specs.Tables.{IsKnown};
+ghost use Rattle.smith_component.specs.Tree.{ExportEntry, Tree};
+
+use crate::builder::tables::Tables;
+use crate::component::Export;
+use smith_input::{Error, Unstructured, unique_kebab_string};
+use smith_types::Scopes;
+use std::alloc::Global;
+
+// An export, or none where there is no component function. It is one itself then.
+fn read_export(
+    alloc: Global,
+    scopes: &Scopes,
+    tables: &mut Tables,
+    u: &mut Unstructured,
+) -> Result<Option<Export>, Error>
+    requires known { IsKnown (own_scope scopes.now) tables.old }
+    requires room { length tables.old.functions.items < max_u32 }
+    ensures known { OnOk result (IsKnown (own_scope scopes.now) tables.new) }
+    ensures imports { OnOk result (tables.new.imports ≡ tables.old.imports) }
+    ensures most { OnOk result (length tables.new.functions.items ≤ length tables.old.functions.items + 1) }
+    ensures exports { (t : Tree) (es : List ExportEntry) → ExportsState t es (own_scope scopes.now) tables.old
+        → IfOk result (λ e. ExportsOne t es (own_scope scopes.now) tables.new u.old e u.new) }
+    ensures memory { IfErr result (λ e. e ≡ Error.OutOfMemory) }
+    ensures tail { IsTail u.new u.old }
+{
+    if tables.functions.is_empty() {
+        return Ok(None);
+    }
+    let func_index = u.choose_index(tables.functions.len()) as u32;
+    let name = unique_kebab_string(alloc, 100, &mut tables.exports, u)?;
+    let ty = tables.functions[func_index as usize];
+    tables.add_exported(scopes, ty)?;
+    Ok(Some(Export { name, func_index }))
+}
+
+// The exports of a section, at most so many, unless there is no component function.
+pub(super) fn read_exports(
+    alloc: Global,
+    scopes: &Scopes,
+    tables: &mut Tables,
+    max: usize,
+    u: &mut Unstructured,
+) -> Result<Vec<Export>, Error>
+    requires known { IsKnown (own_scope scopes.now) tables.old }
+    requires room { length tables.old.functions.items + max ≤ max_u32 }
+    ensures reads { (t : Tree) → ExportsState t [] (own_scope scopes.now) tables.old
+        → IfOk result (λ v. Loop (NoExport t) (ReadsExport t) 0 max 0 [] u.old (map shown_export v.items) u.new
+        (map shown_export v.items)) }
+    ensures imports { OnOk result (tables.new.imports ≡ tables.old.imports) }
+    ensures holds { (t : Tree) → ExportsState t [] (own_scope scopes.now) tables.old
+        → IfOk result (λ v. ExportsState t (map shown_export v.items) (own_scope scopes.now) tables.new) }
+    ensures memory { IfErr result (λ e. e ≡ Error.OutOfMemory) }
+    ensures tail { IsTail u.new u.old }
+{
+    let mut exports = Vec::new(alloc);
+    for done in 0..max {
+        if !u.more(done, 0, max) {
+            return Ok(exports);
+        }
+        let Some(export) = read_export(alloc, scopes, tables, u)? else {
+            return Ok(exports);
+        };
+        exports.push(export)?;
+    }
+    Ok(exports)
+}
