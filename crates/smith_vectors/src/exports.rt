@@ -129,10 +129,11 @@ fn functions_and_exports_together_fit_32_bits(rt: HostRuntime) -> Result<(), Fai
         max_exports: 1,
         ..full
     };
-    let mut u = Unstructured::new(b"\x03");
+    let input = b"\x03" as &[u8];
+    let mut u = Unstructured::new(input);
     let refused = generate(rt.alloc(), past, &mut u);
     assert!(rt; matches!(refused, Err(Error::InconsistentLimits)));
-    assert_eq!(rt; u.left(), b"\x03");
+    assert_eq!(rt; u.left(), input);
     let generated = generate(rt.alloc(), full, &mut u)?;
     assert_eq!(rt; generated.component.sections().len(), 1);
     Ok(())
