@@ -9,7 +9,6 @@ use Rattle.smith_input.proofs.NewNames.{new_kebab, new_tail}
 use Rattle.smith_input.proofs.Reading.{reads_tail, tail_is, tail_trans}
 use Rattle.smith_format.specs.Limits.{max_u32}
 use Rattle.smith_format.specs.declared.config.Config.{Config}
-use Rattle.smith_syntax.specs.Scope.{Scope}
 use Rattle.smith_syntax.specs.WellFormed.{Named}
 use Rattle.smith_component.specs.Exports.{NoExport, ReadsExport, ReadsExports}
 use Rattle.smith_component.specs.Limits.{OwnLimits}
@@ -17,27 +16,14 @@ use Rattle.smith_component.specs.Offers.{with_exports}
 use Rattle.smith_component.specs.Open.{Open}
 use Rattle.smith_component.specs.Sound.{IsAddable, Sound}
 use Rattle.smith_component.specs.Spaces.{Spaces, after_part, spaces_of}
-use Rattle.smith_component.specs.Tree.{ExportEntry, Tree, Part, custom, core_module, core_types, component, types, canons, imports, exports, add}
-use Rattle.smith_component.specs.Tree.{exports_in, exports_of}
-use Rattle.smith_component.specs.WellFormed.{FormedExports, FormedPart, export_names}
+use Rattle.smith_component.specs.Tree.{ExportEntry, Tree, exports}
+use Rattle.smith_component.specs.Tree.{exports_of}
+use Rattle.smith_component.specs.WellFormed.{FormedExports, export_names}
 use Rattle.smith_component.proofs.Fits.{fits_kept, fits_of, own_limits-add, own_sizes-add, sizes_keep}
 use Rattle.smith_component.proofs.Growth.{KeepsTypes, exports_keep, spaces-add, spaces_export}
-use Rattle.smith_component.proofs.Named.{IsNamed, named_more, quiet_named, sound_named}
+use Rattle.smith_component.proofs.Named.{exports_are_named, named_more}
 use Rattle.smith_component.proofs.Sound.{own_limits_of}
 use Rattle.smith_component.proofs.Tables.{export_names_more}
-use Rattle.smith_component.proofs.Tree.{own-add}
-
--- A part keeps the names of exports in kebab case and apart from one another.
-export_names_kept : (q : Part) (outer : List Scope) (before : Tree) → FormedPart q outer before → IsNamed (λ e. e.name) exports_in before
-    → IsNamed (λ e. e.name) exports_in (add before q)
-export_names_kept (custom n c) outer before g h = quiet_named _ exports_in before (custom n c) refl h
-export_names_kept (core_module m) outer before g h = quiet_named _ exports_in before (core_module m) refl h
-export_names_kept (core_types ts) outer before g h = quiet_named _ exports_in before (core_types ts) refl h
-export_names_kept (component u) outer before g h = quiet_named _ exports_in before (component u) refl h
-export_names_kept (types ts) outer before g h = quiet_named _ exports_in before (types ts) refl h
-export_names_kept (canons fs) outer before g h = quiet_named _ exports_in before (canons fs) refl h
-export_names_kept (imports is) outer before g h = quiet_named _ exports_in before (imports is) refl h
-export_names_kept (exports es) outer before g h = subst (λ z. Named (export_names z)) (sym (own-add exports_in before (exports es))) g.1
 
 module _ (config : Config) (t : Tree) where
   no_export_tail : (s : List ExportEntry) (b r : List ℕ) (u : List ExportEntry) → NoExport t s b r u → IsTail r b
@@ -111,7 +97,7 @@ exports_addable config stack {es = es} sound r =
     record {
       formed = (
         exports_formed config inner r,
-        exports_named config inner (omega (arith, few, sound.consistent.funcs)) (sound_named _ exports_in export_names_kept config stack sound) r,
+        exports_named config inner (omega (arith, few, sound.consistent.funcs)) (exports_are_named config stack sound) r,
       );
       own = λ o.
           own_limits-add config inner (exports es) o (fits_kept config (spaces_of inner) spaces same (fits_of config inner o))

@@ -17,7 +17,7 @@ use Rattle.smith_input.proofs.Reading.{more_past, tail_is, tail_trans}
 use Rattle.smith_format.specs.declared.config.Config.{Config}
 use Rattle.smith_format.specs.Limits.{max_u32}
 use Rattle.smith_syntax.specs.Entries.{ImportEntry}
-use Rattle.smith_syntax.specs.Scope.{Scope, is_func, places}
+use Rattle.smith_syntax.specs.Scope.{is_func, places}
 use Rattle.smith_syntax.specs.WellFormed.{Named}
 use Rattle.smith_syntax.specs.declared.deftype.ComponentTypeRef.{ComponentTypeRef}
 use Rattle.smith_syntax.specs.declared.deftype.ComponentTypeRef.TheVariants as to
@@ -30,28 +30,16 @@ use Rattle.smith_component.specs.Limits.{OwnLimits}
 use Rattle.smith_component.specs.Open.{Open, tree_so_far}
 use Rattle.smith_component.specs.Sound.{IsAddable, Sound}
 use Rattle.smith_component.specs.Spaces.{Spaces, after_part, spaces_of, types_of}
-use Rattle.smith_component.specs.Tree.{Tree, Part, custom, core_module, core_types, component, types, canons, imports, exports, add, function_count}
-use Rattle.smith_component.specs.Tree.{imports_of, module_count, component_count, instance_count, imports_in, function_of}
-use Rattle.smith_component.specs.WellFormed.{FormedImport, FormedPart, import_names, scope_of}
+use Rattle.smith_component.specs.Tree.{Tree, imports, add, function_count}
+use Rattle.smith_component.specs.Tree.{imports_of, module_count, component_count, instance_count, function_of}
+use Rattle.smith_component.specs.WellFormed.{FormedImport, import_names, scope_of}
 use Rattle.smith_component.proofs.Fits.{fits_kept, fits_of, own_limits-add, own_sizes-add, sizes_keep}
 use Rattle.smith_component.proofs.Growth.{KeepsTypes, imports_keep}
 use Rattle.smith_component.proofs.ImportsState.{RefRoom, components_more, funcs_more, import_room, instances_more, modules_more}
-use Rattle.smith_component.proofs.Named.{IsNamed, named_more, quiet_named, sound_named}
+use Rattle.smith_component.proofs.Named.{imports_are_named, named_more}
 use Rattle.smith_component.proofs.Sound.{component_count-so_far, instance_count-so_far, module_count-so_far, own_limits_of}
 use Rattle.smith_component.proofs.Tables.{import_names_more}
-use Rattle.smith_component.proofs.Tree.{function_count-add, functions_in, own-add}
-
--- A part keeps the names of imports in kebab case and apart from one another.
-import_names_kept : (q : Part) (outer : List Scope) (before : Tree) → FormedPart q outer before → IsNamed (λ i. i.name) imports_in before
-    → IsNamed (λ i. i.name) imports_in (add before q)
-import_names_kept (custom n c) outer before g h = quiet_named _ imports_in before (custom n c) refl h
-import_names_kept (core_module m) outer before g h = quiet_named _ imports_in before (core_module m) refl h
-import_names_kept (core_types ts) outer before g h = quiet_named _ imports_in before (core_types ts) refl h
-import_names_kept (component u) outer before g h = quiet_named _ imports_in before (component u) refl h
-import_names_kept (types ts) outer before g h = quiet_named _ imports_in before (types ts) refl h
-import_names_kept (canons fs) outer before g h = quiet_named _ imports_in before (canons fs) refl h
-import_names_kept (imports is) outer before g h = subst (λ z. Named (import_names z)) (sym (own-add imports_in before (imports is))) g.1
-import_names_kept (exports es) outer before g h = quiet_named _ imports_in before (exports es) refl h
+use Rattle.smith_component.proofs.Tree.{function_count-add, functions_in}
 
 -- where nothing is offered, no condition holds
 not_offered : {A : Type 0} (o : Bool × A) (os : List (Bool × A)) → (offers_of os ≡ [] → AllByRecursion (λ q. q.0 ≡ false) os) → (b : Bool) → o.0 ≡ b
@@ -188,7 +176,7 @@ module _ (config : Config) (stack : Open) where
       let outer : List Tree = stack.outer in
       let inner : Tree = stack.inner in
       record {
-        formed = (imports_formed r, imports_named (omega (arith, few, sound.consistent.imports)) (sound_named _ imports_in import_names_kept config stack sound) r);
+        formed = (imports_formed r, imports_named (omega (arith, few, sound.consistent.imports)) (imports_are_named config stack sound) r);
         own = λ o.
             let start : function_count (add inner (imports [])) ≤ config.max_funcs =
             omega (arith, o.functions, function_count-add inner (imports [])) in

@@ -7,7 +7,7 @@ use Rattle.smith_syntax.specs.declared.deftype.ComponentTypeRef.TheVariants as t
 use Rattle.smith_syntax.specs.declared.types.ComponentValType.{ComponentValType}
 use Rattle.smith_syntax.specs.declared.types.ComponentValType.TheVariants.{Primitive}
 use Rattle.smith_syntax.specs.declared.types.PrimitiveValType.TheVariants as prim
-use Rattle.smith_component.specs.Tree.{Tree, Part, ends, first, component, types, canons, imports, lift, lower}
+use Rattle.smith_component.specs.Tree.{Tree, Part, ends, first, component, types, canons, imports, exports, lift, lower}
 
 -- one module, one component and one instance, a depth of 2, 10 of everything else, and what the default limits say
 abbrev pub small_limits : Config
@@ -37,6 +37,10 @@ small_limits = record {
   max_type_size = 10;
 }
 
+-- the same, and 10 exports
+abbrev pub limits_with_exports : Config
+limits_with_exports = record small_limits { max_exports = 10 }
+
 abbrev import_of_type : List ℕ → ℕ → ImportEntry
 import_of_type name t = record { name = name; to = to.Func t }
 
@@ -61,6 +65,12 @@ lower_and_lift = first (types (u32_to_bool ∷ [])) (first (imports (import_of_t
 abbrev pub lower_of_a_lift : Tree
 lower_of_a_lift = first (types (u32_to_bool ∷ [])) (first (imports (import_of_type (codes "b") 0 ∷ []))
     (first (canons (lower 0 ∷ lift 0 0 ∷ lower 1 ∷ [])) ends))
+
+-- a lower of an export
+abbrev pub lower_of_an_export : Tree
+lower_of_an_export =
+    first (types (u32_to_bool ∷ [])) (first (imports (import_of_type (codes "b") 0 ∷ []))
+    (first (exports (record { name = codes "c"; func = 0 } ∷ [])) (first (canons (lower 1 ∷ [])) ends)))
 
 -- a component type that imports a function, exports a type and has outer aliases
 abbrev scoping_type : Entry

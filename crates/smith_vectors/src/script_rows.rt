@@ -3,6 +3,7 @@
 use crate::common::small_limits;
 use crate::parts::{Parts, check_parts};
 use crate::scripts;
+use smith_component::Config;
 use std::test::Fail;
 
 const U32_TO_BOOL: &[u8] = b"\x07\x08\x01\x40\x01\x01a\x79\x00\x7f";
@@ -22,6 +23,13 @@ const LOWER_OF_A_LIFT: &[&[u8]] = &[
     U32_TO_BOOL,
     b"\x0a\x06\x01\x00\x01b\x01\x00",
     b"\x08\x0e\x03\x01\x00\x00\x00\x00\x00\x00\x00\x00\x01\x00\x01\x00",
+];
+
+const LOWER_OF_AN_EXPORT: &[&[u8]] = &[
+    U32_TO_BOOL,
+    b"\x0a\x06\x01\x00\x01b\x01\x00",
+    b"\x0b\x07\x01\x00\x01c\x01\x00\x00",
+    b"\x08\x05\x01\x01\x00\x01\x00",
 ];
 
 const NESTED: &[&[u8]] = &[
@@ -59,4 +67,25 @@ fn scripts_of_plans_give_the_plans(rt: HostRuntime) -> Result<(), Fail> {
         check_parts(&rt, small_limits(), &[parts])?;
     }
     Ok(())
+}
+
+#[test]
+fn the_script_of_a_plan_with_an_export(rt: HostRuntime) -> Result<(), Fail> {
+    let config = Config {
+        max_exports: 10,
+        ..small_limits()
+    };
+    let parts = Parts {
+        name: "a lower of an export",
+        input: &[scripts::lower_of_an_export()],
+        gives: LOWER_OF_AN_EXPORT,
+    };
+    check_parts(&rt, config, &[parts])?;
+    // The script of a plan without exports is the same where there may be some.
+    let parts = Parts {
+        name: "a component where exports are offered",
+        input: &[scripts::nested()],
+        gives: NESTED,
+    };
+    check_parts(&rt, config, &[parts])
 }

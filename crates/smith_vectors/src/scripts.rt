@@ -4,7 +4,7 @@
 ghost use Rattle.std.specs.Prelude.{◌≡◌};
 ghost use Rattle.smith_component.specs.Script.{script};
 ghost use Rattle.smith_vectors.specs.Plans.{lower_and_lift, lower_of_a_lift, nested, scoped_type};
-ghost use Rattle.smith_vectors.specs.Plans.{second_of_equal_types};
+ghost use Rattle.smith_vectors.specs.Plans.{limits_with_exports, lower_of_an_export, second_of_equal_types};
 ghost use Rattle.smith_vectors.specs.Plans.{small_limits};
 
 /// Two types `() to string`, and an import of the second.
@@ -33,6 +33,17 @@ pub fn lower_of_a_lift() -> &'static [u8]
     b"\x03\x01\x01\x01\x01\x00\x06\x00\x01\x00\x00\
         \x04\x01\x01\x01\x00\x00\
         \x05\x01\x01\x01\x01\x00\x07\x01\x01\x00\x01\x00\
+        \x00"
+}
+
+/// A type `(a: u32) to bool`, an import of it, an export of that, and a lower of the export.
+pub fn lower_of_an_export() -> &'static [u8]
+    ensures { result.now ≡ script limits_with_exports lower_of_an_export }
+{
+    b"\x03\x01\x01\x01\x01\x00\x06\x00\x01\x00\x00\
+        \x04\x01\x01\x01\x00\x00\
+        \x08\x01\x01\x02\x00\
+        \x05\x01\x01\x00\
         \x00"
 }
 
