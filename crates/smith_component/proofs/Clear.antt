@@ -11,7 +11,8 @@ use Rattle.smith_syntax.specs.Grammar.{entry, core_entry, import_entry}
 use Rattle.smith_syntax.proofs.Clear.{clear_core_entry}
 use Rattle.smith_syntax.proofs.ClearTypes.{clear_entry, clear_import_entry}
 use Rattle.smith_component.specs.Grammar.{preamble, embedded, canon, export_entry, part, parts, Spells}
-use Rattle.smith_component.specs.Tree.{Canon, ExportEntry, lift, lower, Part, Tree, ends, first, custom, core_module, core_types, component, types, canons, imports, exports}
+use Rattle.smith_component.specs.Tree.{Canon, ExportEntry, lift, lower, Part, Tree, ends, first, custom, core_module, core_types, component, types}
+use Rattle.smith_component.specs.Tree.{canons, imports, exports}
 
 -- the first byte of a canonical function
 abbrev canon_tag : Canon → ℕ

@@ -49,7 +49,8 @@ module _ (t : Tree) (es : List ExportEntry) (own : Scope) (tables : Tables) (h :
   names_are = ap export_names (own-add exports_in t (exports es))
 
   -- An export is read of what stands there.
-  pub export_is_read : (n : ℕ) (b mid rest : List ℕ) (set : BTreeSet (String Global)) (x : Export) → n ≡ length tables.functions.items → Reads n b x.func_index mid
+  pub export_is_read : (n : ℕ) (b mid rest : List ℕ) (set : BTreeSet (String Global)) (x : Export) → n ≡ length tables.functions.items
+      → Reads n b x.func_index mid
       → set ≡ tables.exports → ReadsUnique (ReadsKebab 100) set mid (shown_export x).name rest
       → ReadsExport t es b (shown_export x) rest (es ++ shown_export x ∷ [])
   export_is_read n b mid rest set x count reads same (text, read, unique) =

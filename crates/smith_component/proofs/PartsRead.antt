@@ -19,7 +19,8 @@ use Rattle.smith_types.specs.Script.{Lasts}
 use Rattle.smith_component.specs.Open.{Open, scopes_from, scopes_in, tree_so_far}
 use Rattle.smith_component.specs.Script.{item_of, script_part, IsPlanPart}
 use Rattle.smith_component.specs.Spaces.{after_part, core_types_of, spaces_of, types_of}
-use Rattle.smith_component.specs.Tree.{Canon, Tree, Part, custom, core_types, component, types, canons, imports, exports, add, own, inside, components_in, no_depth}
+use Rattle.smith_component.specs.Tree.{Canon, Tree, Part, custom, core_types, component, types, canons, imports, exports, add, own, inside}
+use Rattle.smith_component.specs.Tree.{components_in, no_depth}
 use Rattle.smith_component.specs.Tree.{ExportEntry, exports_in, exports_of, names_in, imports_of, imports_in, function_count}
 use Rattle.smith_component.specs.Turn.{Does, with_part}
 use Rattle.smith_component.specs.AddedSections.{ReadsCustom}

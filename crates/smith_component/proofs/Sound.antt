@@ -23,7 +23,8 @@ use Rattle.smith_component.specs.Sound.{IsAddable, IsQuiet, Sound, finished_in}
 use Rattle.smith_component.specs.declared.builder.totals.TreeTotals.{TreeTotals}
 use Rattle.smith_component.specs.declared.item.Counted.{Counted}
 use Rattle.smith_component.specs.declared.item.Counted.TheVariants.{Types, Imports, Functions}
-use Rattle.smith_component.proofs.Fits.{Fits, IsSized, Short, fits_of, no_counted, own_limits-add, own_limits-component, own_limits_swap, own_sizes-add, own_sizes_swap}
+use Rattle.smith_component.proofs.Fits.{Fits, IsSized, Short, fits_of, no_counted, own_limits-add, own_limits-component, own_limits_swap}
+use Rattle.smith_component.proofs.Fits.{own_sizes-add, own_sizes_swap}
 use Rattle.smith_component.proofs.WellFormed.{formed_so_far}
 use Rattle.smith_component.proofs.Tree.{tree_so_far-close, depth-so_far, length-anywhere-so_far, anywhere-add, depth-outer, all_so_far, all_inner}
 use Rattle.smith_scopes.proofs.Plain.{all_both, all_front, all_back}
@@ -209,13 +210,15 @@ addable_bare config stack p f q ns ms cs is none flat low = record {
 
 pub addable_custom : (config : Config) (stack : Open) (name contents : List ℕ) → length name ≤ 1000 → IsAddable config stack (custom name contents)
 addable_custom config stack name contents short =
-    addable_bare config stack (custom name contents) tt (record { spaces = λ s. refl; imports = refl; canons = refl; exports = refl }) (short, tt) (λ h. omega (arith, h))
+    addable_bare config stack (custom name contents) tt
+    (record { spaces = λ s. refl; imports = refl; canons = refl; exports = refl }) (short, tt) (λ h. omega (arith, h))
     refl refl refl refl refl
 
 pub addable_module : (config : Config) (stack : Open) (text : List ℕ) → module_count (tree_so_far stack.outer stack.inner) < config.max_modules
     → IsAddable config stack (core_module text)
 addable_module config stack text few =
-    addable_bare config stack (core_module text) tt (record { spaces = λ s. refl; imports = refl; canons = refl; exports = refl }) tt (λ h. omega (arith, few)) refl refl refl refl refl
+    addable_bare config stack (core_module text) tt
+    (record { spaces = λ s. refl; imports = refl; canons = refl; exports = refl }) tt (λ h. omega (arith, few)) refl refl refl refl refl
 
 -- Types that find room.
 pub addable_types : (config : Config) (stack : Open) (es : List Entry) → FormedPart (types es) (scopes_in stack.outer) stack.inner

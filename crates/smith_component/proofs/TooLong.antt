@@ -14,7 +14,8 @@ use Rattle.smith_syntax.proofs.TooLong.{entry_none, core_entry_none, import_entr
 use Rattle.smith_component.specs.Grammar.{embedded, canon, export_entry, preamble, part, parts, component_text}
 use Rattle.smith_component.specs.Shown.{shown_module}
 use Rattle.smith_component.specs.TooLong.{CanonTooLong, ExportEntryTooLong, TreeTooLong, PartTooLong}
-use Rattle.smith_component.specs.Tree.{Canon, ExportEntry, lift, lower, Part, Tree, ends, first, custom, core_module, core_types, component, types, canons, imports, exports}
+use Rattle.smith_component.specs.Tree.{Canon, ExportEntry, lift, lower, Part, Tree, ends, first, custom, core_module, core_types, component, types}
+use Rattle.smith_component.specs.Tree.{canons, imports, exports}
 use Rattle.smith_component.proofs.Grammar.{embedded_text}
 
 canon_none : (f : Canon) → (canon f ≡ None) ↔ CanonTooLong f

@@ -134,7 +134,8 @@ chosen config stack [] after item r = let f = only_finish r.place item r.named i
 chosen config stack (x ∷ xs) after item r =
     let P : Item → Type 0 = λ i. (i ≡ Module → is_module_offered config stack ≡ true) × (i ≡ Component → is_component_offered config stack ≡ true) in
     let other : (i : Item) → (i ≡ Module → ⊥) → (i ≡ Component → ⊥) → P i = λ i m c. (λ e. absurd (m e), λ e. absurd (c e)) in
-    let all : AllByRecursion (λ o. o.0 ≡ true → P o.1) (offers (is_module_offered config stack) (is_component_offered config stack) (is_export_offered config)) = (
+    let all : AllByRecursion (λ o. o.0 ≡ true → P o.1) (offers
+    (is_module_offered config stack) (is_component_offered config stack) (is_export_offered config)) = (
       λ h. other Finish (λ e. cc) (λ e. cc),
       (
         λ h. other Custom (λ e. cc) (λ e. cc),

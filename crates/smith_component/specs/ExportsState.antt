@@ -18,4 +18,5 @@ pub record ExportsState (t : Tree) (es : List ExportEntry) (own : Scope) (tables
 -- an export that is read and added, or none
 abbrev pub ExportsOne : Tree → List ExportEntry → Scope → Tables → List ℕ → Option Export → List ℕ → Type 0
 ExportsOne t es own tables b None rest = NoExport t es b rest es × ExportsState t es own tables
-ExportsOne t es own tables b (Some e) rest = ReadsExport t es b (shown_export e) rest (es ++ shown_export e ∷ []) × ExportsState t (es ++ shown_export e ∷ []) own tables
+ExportsOne t es own tables b (Some e) rest =
+    ReadsExport t es b (shown_export e) rest (es ++ shown_export e ∷ []) × ExportsState t (es ++ shown_export e ∷ []) own tables

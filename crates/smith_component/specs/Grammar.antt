@@ -4,7 +4,8 @@ use Rattle.std.specs.List.{starts_with}
 use Rattle.smith_format.specs.Piece.{Piece, ◌⊕◌, byte, bytes, raw, text, many, sized, u}
 use Rattle.smith_core.specs.Preamble.{core_preamble}
 use Rattle.smith_syntax.specs.Grammar.{entry, core_entry, import_entry}
-use Rattle.smith_component.specs.Tree.{Canon, ExportEntry, lift, lower, Part, Tree, ends, first, custom, core_module, core_types, component, types, canons, imports, exports}
+use Rattle.smith_component.specs.Tree.{Canon, ExportEntry, lift, lower, Part, Tree, ends, first, custom, core_module, core_types, component, types}
+use Rattle.smith_component.specs.Tree.{canons, imports, exports}
 
 abbrev pub preamble : List ℕ
 preamble = 0x00 ∷ 0x61 ∷ 0x73 ∷ 0x6d ∷ 0x0d ∷ 0x00 ∷ 0x01 ∷ 0x00 ∷ []

@@ -10,7 +10,8 @@ use Rattle.smith_component.specs.Limits.{max_depth, OwnLimits, OwnSizes, Maxima,
 use Rattle.smith_component.specs.Open.{Open, tree_so_far, scopes_in}
 use Rattle.smith_component.specs.Spaces.{Spaces, after_part}
 use Rattle.smith_component.specs.Tree.{Tree, Part, add, inside, module_count, component_count, instance_count, imports_in, modules_in, imported_modules_in}
-use Rattle.smith_component.specs.Tree.{imported_components_in, imported_instances_in, anywhere_in, canons_in, components_in, depth_in, exports_in, scope_depth_in}
+use Rattle.smith_component.specs.Tree.{imported_components_in, imported_instances_in, anywhere_in, canons_in, components_in, depth_in, exports_in}
+use Rattle.smith_component.specs.Tree.{scope_depth_in}
 use Rattle.smith_component.specs.WellFormed.{WellFormed, FormedPart, scope_of}
 use Rattle.smith_component.specs.declared.builder.totals.TreeTotals.{TreeTotals}
 

@@ -5,7 +5,8 @@ use Rattle.smith_format.specs.TooLong.{Passes, NameTooLong, NoBytes, ListTooLong
 use Rattle.smith_syntax.specs.Grammar.{entry, core_entry, import_entry}
 use Rattle.smith_syntax.specs.TooLong.{EntryTooLong, CoreEntryTooLong, ImportEntryTooLong}
 use Rattle.smith_component.specs.Grammar.{embedded, canon, export_entry, component_text}
-use Rattle.smith_component.specs.Tree.{Canon, ExportEntry, lift, lower, Part, Tree, ends, first, custom, core_module, core_types, component, types, canons, imports, exports}
+use Rattle.smith_component.specs.Tree.{Canon, ExportEntry, lift, lower, Part, Tree, ends, first, custom, core_module, core_types, component, types}
+use Rattle.smith_component.specs.Tree.{canons, imports, exports}
 
 -- an index in a canonical function
 abbrev pub CanonTooLong : Canon → Type 0

@@ -6,7 +6,8 @@ use Rattle.smith_syntax.specs.Flat.{Flat, is_scalar}
 use Rattle.smith_syntax.specs.Scope.{Scope}
 use Rattle.smith_syntax.specs.WellFormed.{FormedCores, FormedRef, FormedTypes, Named, is_type_eq}
 use Rattle.smith_component.specs.Spaces.{Spaces, after_canon, after_export, core_types_of, spaces_of, types_of}
-use Rattle.smith_component.specs.Tree.{Canon, lift, lower, Tree, Part, ends, first, custom, core_module, core_types, component, types, canons, imports, exports, add}
+use Rattle.smith_component.specs.Tree.{Canon, lift, lower, Tree, Part, ends, first, custom, core_module, core_types, component, types, canons}
+use Rattle.smith_component.specs.Tree.{imports, exports, add}
 use Rattle.smith_component.specs.Tree.{ExportEntry, exports_of, imports_of}
 
 -- the types and core types of a component that has these parts

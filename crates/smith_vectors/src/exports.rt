@@ -14,8 +14,8 @@ fn with_exports(max_exports: usize) -> Config {
 #[test]
 fn exports_within_small_limits(rt: HostRuntime) -> Result<(), Fail> {
     let rows = [
-        // Types: more, a function of nothing (1, 0, 0); no more. Imports: more, `a`, no URL; no more. Exports (8): more,
-        // of the only function, `c`; no more. Finish.
+        // Types: more, a function of nothing (1, 0, 0); no more. Imports: more, `a`, no URL; no more. Exports (8):
+        // more, of the only function, `c`; no more. Finish.
         Row {
             name: "an import is exported",
             input: b"\x03\x01\x01\x00\x00\x00\x04\x01\x01\x00\x00\x00\x08\x01\x01\x02\x00\x00",
@@ -35,9 +35,9 @@ fn exports_within_small_limits(rt: HostRuntime) -> Result<(), Fail> {
             ],
             leaves: b"",
         },
-        // Types: more, a function (1), a parameter (1), `a`, u32 (6), no more, a result (1), bool (0); no more. Imports:
-        // more, `b`, no URL; no more. Exports: more, `c`; no more. Canonical (5): more, a lower alone, of the second
-        // function (1); no more. Finish.
+        // Types: more, a function (1), a parameter (1), `a`, u32 (6), no more, a result (1), bool (0); no more.
+        // Imports: more, `b`, no URL; no more. Exports: more, `c`; no more. Canonical (5): more, a lower alone, of the
+        // second function (1); no more. Finish.
         Row {
             name: "an export is lowered",
             input: b"\x03\x01\x01\x01\x01\x00\x06\x00\x01\x00\x00\x04\x01\x01\x01\x00\x00\x08\x01\
