@@ -5,8 +5,17 @@ use Rattle.smith_scopes.specs.Scopes.{own_scope}
 use Rattle.smith_component.specs.Shown.{shown_export}
 use Rattle.smith_component.specs.declared.builder.tables.Tables.{Tables}
 use Rattle.smith_component.specs.declared.component.Export.{Export}
-use Rattle.smith_component.proofs.ExportsState.{export_is_kept, export_is_read, known_at}
+use Rattle.smith_component.proofs.ExportsState.{export_is_kept, export_is_read, known_at, known_more}
 use Rattle.smith_component.proofs.builder.exports.read_export.Goals as goal
+
+-- The type of the function that was chosen is there.
+type_known : (c : goal.In_ok-add_exported) → c.index-ty.result.now < length (own_scope c.args.scopes.now).types
+type_known c =
+    known_at (own_scope c.args.scopes.now) c.args.tables.now c.choose_index-func_index.result c.index-ty.result.now c.requires.known
+    (omega (arith, c.len.ensures, c.choose_index-func_index.ensures.below)) c.index-ty.ensures
+
+pub returns-clause-known : goal.returns-clause-known
+returns-clause-known c = known_more (type_known c) c.in_ok-add_exported.ensures.ok c.requires.known
 
 pub returns-clause-exports : goal.returns-clause-exports
 returns-clause-exports c t es h =
@@ -22,6 +31,6 @@ returns-clause-exports c t es h =
       export_is_read t es own old h c.len.result c.args.u.now c.choose_index-func_index.new.self c.unique_kebab_string.new.u old.exports x count
           c.choose_index-func_index.ensures refl c.in_ok-name.ensures.read,
       export_is_kept t es own old h (shown_export x) ty mid c.add_exported.new.self at
-          (known_at own old f ty c.requires.known below c.index-ty.ensures)
+          (type_known c)
           refl refl refl refl c.in_ok-name.ensures.gained c.in_ok-add_exported.ensures.ok,
     )
