@@ -6,13 +6,15 @@ mod run;
 #[cfg(test)]
 mod tests;
 
+use smith_component::Config;
 use std::process::ExitCode;
 
 fn main(rt: HostRuntime) -> ExitCode {
-    ExitCode::from(run::run_by_default(
+    let answer = run::run(
         rt.alloc(),
         &mut rt.stdin(),
         &mut rt.stdout(),
-        &mut rt.stderr(),
-    ))
+        Config::default(),
+    );
+    ExitCode::from(run::report(&mut rt.stderr(), answer))
 }

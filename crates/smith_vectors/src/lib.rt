@@ -3,8 +3,6 @@
 #![tactic(auto)]
 
 #[cfg(test)]
-mod calls;
-#[cfg(test)]
 mod common;
 #[cfg(test)]
 mod components;
@@ -29,8 +27,6 @@ mod hashes;
 #[cfg(test)]
 mod limits;
 #[cfg(test)]
-mod limits_at_ends;
-#[cfg(test)]
 mod module_parts;
 #[cfg(test)]
 mod module_sections;
@@ -47,15 +43,9 @@ mod plan_types;
 #[cfg(test)]
 mod plans;
 #[cfg(test)]
-mod positions;
-#[cfg(test)]
 mod reader;
 #[cfg(test)]
 mod references;
-#[cfg(test)]
-mod refused_growth;
-#[cfg(test)]
-mod scarcity;
 #[cfg(test)]
 mod scoped_types;
 #[cfg(test)]
