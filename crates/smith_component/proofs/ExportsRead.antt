@@ -1,10 +1,9 @@
 -- The script of exports is read as them.
-use Rattle.std.proofs.Common.{◌≡◌, ℕ, ◌+◌, ◌-◌, ◌<◌, ◌≤◌, ◌^◌, false, List, [], ◌∷◌, ◌++◌, length, arith, refl, sym, ap, ◌∙◌, subst, append_assoc, append-nil}
+use Rattle.std.proofs.Common.{◌≡◌, ℕ, ◌+◌, ◌-◌, ◌<◌, ◌≤◌, ◌^◌, false, List, [], ◌∷◌, ◌++◌, length, arith, refl, sym, subst, append_assoc}
 use Rattle.std.proofs.Common.{length-append}
-use Rattle.std.proofs.lemmas.List.{map-append}
 use Rattle.std.specs.List.{AllByRecursion}
 use Rattle.smith_input.specs.Kebab.{Kebab}
-use Rattle.smith_input.specs.Loops.{Along, Loop, after_all}
+use Rattle.smith_input.specs.Loops.{Along, Loop}
 use Rattle.smith_input.specs.Names.{is_among}
 use Rattle.smith_input.specs.Script.{pick, script_name}
 use Rattle.smith_input.proofs.Loops.{loop_read}
@@ -12,7 +11,7 @@ use Rattle.smith_input.proofs.NewNames.{new_read}
 use Rattle.smith_input.proofs.Picks.{reads-pick}
 use Rattle.smith_format.specs.declared.config.Config.{Config}
 use Rattle.smith_syntax.specs.WellFormed.{Named}
-use Rattle.smith_core_types.proofs.Names.{AreNew, distinct_new, none_before}
+use Rattle.smith_core_types.proofs.Names.{AreNew}
 use Rattle.smith_component.specs.Exports.{NoExport, ReadsExport, ReadsExports}
 use Rattle.smith_component.specs.Offers.{with_exports}
 use Rattle.smith_component.specs.Script.{IsPlanExport, script_export, script_exports}
@@ -20,16 +19,14 @@ use Rattle.smith_component.specs.Spaces.{functions_of, spaces_of}
 use Rattle.smith_component.specs.Tree.{ExportEntry, Tree, exports, exports_in, exports_of, function_count}
 use Rattle.smith_component.specs.WellFormed.{FormedExports, export_names}
 use Rattle.smith_component.proofs.Growth.{functions_counted, spaces-add, spaces_export}
-use Rattle.smith_component.proofs.ImportsRead.{all_behind, new_back}
-use Rattle.smith_component.proofs.Tables.{export_names_more}
+use Rattle.smith_component.proofs.ImportsRead.{all_of_them}
+use Rattle.smith_component.proofs.Named.{named_behind, names_with_more}
 use Rattle.smith_component.proofs.Tree.{function_count-add, length-own-add}
 
 module _ (t : Tree) where
-  abbrev names_with : List ExportEntry → List (List ℕ)
-  names_with s = export_names (exports_of t ++ s)
-
-  names_with_more : (s : List ExportEntry) (x : ExportEntry) → names_with (s ++ x ∷ []) ≡ names_with s ++ x.name ∷ []
-  names_with_more s x = ap export_names (sym (append_assoc (exports_of t) s (x ∷ []))) ∙ export_names_more (exports_of t ++ s) x
+  -- the names of the component's exports and of these
+  abbrev names_at : List ExportEntry → List (List ℕ)
+  names_at s = export_names (exports_of t ++ s)
 
   -- an export that can be said behind others
   record Sayable (s : List ExportEntry) (x : ExportEntry) : Type 0 where
@@ -37,7 +34,7 @@ module _ (t : Tree) where
     stands : x.func < length (functions_of (with_exports t s))
     few : length (functions_of (with_exports t s)) ≤ 2 ^ 64
     kebab : Kebab x.name
-    new : is_among (names_with s) x.name ≡ false
+    new : is_among (names_at s) x.name ≡ false
 
   export_read : (s : List ExportEntry) (x : ExportEntry) (rest : List ℕ) → Sayable s x
       → ReadsExport t s (script_export t s x ++ rest) x rest (s ++ x ∷ [])
@@ -47,7 +44,7 @@ module _ (t : Tree) where
       subst (λ z. ReadsExport t s z x rest (s ++ x ∷ [])) (sym (append_assoc p n rest)) (record {
         mid = n ++ rest;
         of = reads-pick (length (functions_of (with_exports t s))) x.func (n ++ rest) h.few h.stands;
-        named = new_read 100 (names_with s) x.name rest (omega arith) h.kebab h.planned h.new;
+        named = new_read 100 (names_at s) x.name rest (omega arith) h.kebab h.planned h.new;
         next_is = refl;
       })
 
@@ -58,33 +55,24 @@ module _ (t : Tree) where
       omega (arith, h, (functions_counted (with_exports t s)).most, function_count-add t (exports s), length-own-add exports_in t (exports s))
 
   all_sayable : (s xs : List ExportEntry) → AllByRecursion IsPlanExport xs → FormedExports xs (spaces_of (with_exports t s))
-      → AllByRecursion Kebab (export_names xs) → AreNew (names_with s) (export_names xs)
+      → AllByRecursion Kebab (export_names xs) → AreNew (names_at s) (export_names xs)
       → function_count t + (length (exports_of t) + (length s + length xs)) ≤ 2 ^ 64 → Along Sayable (λ u x. u ++ x ∷ []) s xs
   all_sayable s [] p f k n h = tt
   all_sayable s (x ∷ xs) p f k n h = (
     record { planned = p.0; stands = f.0; few = few_functions s (omega (arith, h)); kebab = k.0; new = n.0 },
     all_sayable (s ++ x ∷ []) xs p.1 (subst (FormedExports xs) (sym (spaces_export t s x)) f.1) k.1
-        (subst (λ z. AreNew z (export_names xs)) (sym (names_with_more s x)) n.1) (omega (arith, h, length-append s (x ∷ []))),
+        (subst (λ z. AreNew z (export_names xs))
+        (sym (names_with_more (λ (e : ExportEntry). e.name) (exports_of t) s x)) n.1) (omega (arith, h, length-append s (x ∷ []))),
   )
-
-  all_of_them : (s xs : List ExportEntry) → after_all (λ u x. u ++ x ∷ []) s xs ≡ s ++ xs
-  all_of_them s [] = sym (append-nil s)
-  all_of_them s (x ∷ xs) = all_of_them (s ++ x ∷ []) xs ∙ append_assoc s (x ∷ []) xs
 
   -- The script of the exports of a plan is read as them.
   pub exports_read : (config : Config) (es : List ExportEntry) (rest : List ℕ) → AllByRecursion IsPlanExport es → FormedExports es (spaces_of t)
       → Named (export_names (exports_of t ++ es)) → length es ≤ config.max_exports - length (exports_of t)
       → function_count t + (length (exports_of t) + length es) ≤ 2 ^ 64 → ReadsExports config t (script_exports config t es ++ rest) es rest
   exports_read config es rest planned formed named fits few =
-      let parts : export_names (exports_of t ++ es) ≡ export_names (exports_of t) ++ export_names es = map-append (λ e. e.name) (exports_of t) es in
-      let both : Named (export_names (exports_of t) ++ export_names es) = subst Named parts named in
-      let kebab : AllByRecursion Kebab (export_names es) = all_behind Kebab (export_names (exports_of t)) (export_names es) both.0 in
-      let new : AreNew (export_names (exports_of t)) (export_names es) =
-      new_back [] (export_names (exports_of t)) (export_names es) (distinct_new [] _ (none_before _) both.1) in
-      let first : AreNew (names_with []) (export_names es) =
-      subst (λ z. AreNew (export_names z) (export_names es)) (sym (append-nil (exports_of t))) new in
+      let behind = named_behind (λ (e : ExportEntry). e.name) (exports_of t) es named in
       let start : FormedExports es (spaces_of (with_exports t [])) = subst (FormedExports es) (sym (spaces-add t (exports []))) formed in
-      let all = all_sayable [] es planned start kebab first (omega (arith, few)) in
+      let all = all_sayable [] es planned start behind.0 behind.1 (omega (arith, few)) in
       let B : List ℕ = script_exports config t es ++ rest in
       let L : List ExportEntry → Type 0 = λ u. Loop (NoExport t) (ReadsExport t) 0 (config.max_exports - length (exports_of t)) 0 [] B es rest u in
       subst L (all_of_them [] es) (loop_read (script_export t) (λ u x. u ++ x ∷ []) Sayable export_read es 0 [] rest all (omega arith) (omega (arith, fits)))

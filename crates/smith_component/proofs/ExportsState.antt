@@ -1,5 +1,5 @@
 -- Exports as they are added: the tables grow with the section.
-use Rattle.std.proofs.Common.{◌≡◌, ℕ, ◌+◌, ◌<◌, List, [], ◌∷◌, ◌++◌, length, arith, refl, sym, ap, ◌∙◌, subst, append_assoc, get_or}
+use Rattle.std.proofs.Common.{◌≡◌, ℕ, ◌+◌, ◌<◌, List, [], ◌∷◌, ◌++◌, length, arith, refl, sym, ap, ◌∙◌, subst, get_or}
 use Rattle.std.proofs.lemmas.Option.{slice_get-get_or}
 use Rattle.std.specs.List.{AllByRecursion}
 use Rattle.std.specs.Option.{option_to_list}
@@ -24,8 +24,9 @@ use Rattle.smith_component.specs.WellFormed.{export_names}
 use Rattle.smith_component.specs.declared.builder.tables.Tables.{Tables}
 use Rattle.smith_component.specs.declared.component.Export.{Export}
 use Rattle.smith_component.proofs.Growth.{exports_keep, scope_bare, spaces_export}
+use Rattle.smith_component.proofs.Named.{names_with_more}
 use Rattle.smith_component.proofs.Spaces.{all_at}
-use Rattle.smith_component.proofs.Tables.{export_names_more, same_more, tabled_more}
+use Rattle.smith_component.proofs.Tables.{same_more, tabled_more}
 use Rattle.smith_component.proofs.Tree.{function_count-add, own-add}
 
 -- The types of all functions are there with one more.
@@ -78,7 +79,7 @@ module _ (t : Tree) (es : List ExportEntry) (own : Scope) (tables : Tables) (h :
       let scope = scope_bare t (exports more) (exports_keep (spaces_of t) more) in
       let same : own.types ≡ types_of next = ap (λ s. s.types) h.scope_is ∙ sym (ap (λ s. s.types) scope) in
       let names : export_names (exports_of next) ≡ export_names (exports_of now) ++ x.name ∷ [] =
-      ap export_names (own-add exports_in t (exports more) ∙ sym (append_assoc (exports_of t) es (x ∷ []))) ∙ (export_names_more (exports_of t ++ es) x
+      ap export_names (own-add exports_in t (exports more)) ∙ (names_with_more (λ (e : ExportEntry). e.name) (exports_of t) es x
       ∙ ap (λ z. z ++ x.name ∷ []) (sym names_are)) in
       let held : Holds mid.exports (export_names (exports_of next)) = subst (Holds mid.exports) (sym names) (holds_more h.tabled.exports gains) in
       let count : function_count next ≡ function_count now + 0 = omega (arith, function_count-add t (exports more), function_count-add t (exports es)) in

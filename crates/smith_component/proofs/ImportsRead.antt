@@ -2,7 +2,6 @@
 use Rattle.std.proofs.Common.{◌≡◌, ℕ, ◌+◌, ◌-◌, ◌<◌, ◌≤◌, ◌^◌, true, false, List, [], ◌∷◌, ◌++◌, map, length, arith, refl, sym, ap, ◌∙◌, subst, append_assoc}
 use Rattle.std.proofs.Common.{append-nil, nat_lt, None}
 use Rattle.std.proofs.lemmas.Bool.Decides.{nat_tests}
-use Rattle.std.proofs.lemmas.List.{map-append}
 use Rattle.std.specs.List.{AllByRecursion}
 use Rattle.smith_input.specs.Kebab.{Kebab}
 use Rattle.smith_input.specs.Loops.{Along, Loop, after_all}
@@ -16,7 +15,7 @@ use Rattle.smith_syntax.specs.Entries.{ImportEntry}
 use Rattle.smith_syntax.specs.WellFormed.{Named, names, is_type_eq}
 use Rattle.smith_syntax.specs.declared.deftype.ComponentTypeRef.{ComponentTypeRef}
 use Rattle.smith_syntax.specs.declared.deftype.ComponentTypeRef.TheVariants as to
-use Rattle.smith_core_types.proofs.Names.{AreNew, distinct_new, none_before}
+use Rattle.smith_core_types.proofs.Names.{AreNew}
 use Rattle.smith_types.specs.Declarations.{NamedExtern, no_url}
 use Rattle.smith_types.specs.Script.{script_ref}
 use Rattle.smith_types.specs.declared.make.references.RefTotals.{RefTotals}
@@ -30,7 +29,7 @@ use Rattle.smith_component.specs.Spaces.{core_types_of, types_of}
 use Rattle.smith_component.specs.Tree.{module_of, function_of, component_of, instance_of, imports_of}
 use Rattle.smith_component.specs.WellFormed.{FormedImport, import_names, scope_of}
 use Rattle.smith_component.proofs.ImportsState.{modules_more, funcs_more, components_more, instances_more}
-use Rattle.smith_component.proofs.Tables.{import_names_more}
+use Rattle.smith_component.proofs.Named.{named_behind, names_with_more}
 
 -- names with no URLs
 abbrev plain_names : List (List ℕ) → List NamedExtern
@@ -40,14 +39,10 @@ plain_names_are : (ns : List (List ℕ)) → names (plain_names ns) ≡ ns
 plain_names_are [] = refl
 plain_names_are (n ∷ ns) = λ i. n ∷ plain_names_are ns i
 
--- of new names those behind some are new behind them
-pub new_back : (before front back : List (List ℕ)) → AreNew before (front ++ back) → AreNew (before ++ front) back
-new_back before [] back h = subst (λ z. AreNew z back) (sym (append-nil before)) h
-new_back before (n ∷ ns) back h = subst (λ z. AreNew z back) (append_assoc before (n ∷ []) ns) (new_back (before ++ n ∷ []) ns back h.1)
-
-pub all_behind : {A : Type 0} (P : A → Type 0) (xs ys : List A) → AllByRecursion P (xs ++ ys) → AllByRecursion P ys
-all_behind P [] ys h = h
-all_behind P (x ∷ xs) ys h = all_behind P xs ys h.1
+-- each entry is one more of the state, so that the last state is all of them
+pub all_of_them : {A : Type 0} (s xs : List A) → after_all (λ t x. t ++ x ∷ []) s xs ≡ s ++ xs
+all_of_them s [] = sym (append-nil s)
+all_of_them s (x ∷ xs) = all_of_them (s ++ x ∷ []) xs ∙ append_assoc s (x ∷ []) xs
 
 -- that no more is counted than may be
 pub record Room (config : Config) (t : RefTotals) : Type 0 where
@@ -57,11 +52,9 @@ pub record Room (config : Config) (t : RefTotals) : Type 0 where
   pub instances : t.instances ≤ config.max_instances
 
 module _ (config : Config) (stack : Open) (few : length (types_of stack.inner) + length (core_types_of stack.inner) ≤ 2 ^ 64) where
-  abbrev names_with : List ImportEntry → List (List ℕ)
-  names_with s = import_names (imports_of stack.inner ++ s)
-
-  names_with_more : (s : List ImportEntry) (x : ImportEntry) → names_with (s ++ x ∷ []) ≡ names_with s ++ x.name ∷ []
-  names_with_more s x = ap import_names (sym (append_assoc (imports_of stack.inner) s (x ∷ []))) ∙ import_names_more (imports_of stack.inner ++ s) x
+  -- the names of the component's imports and of these
+  abbrev names_at : List ImportEntry → List (List ℕ)
+  names_at s = import_names (imports_of stack.inner ++ s)
 
   abbrev totals_at : List ImportEntry → RefTotals
   totals_at s = totals_of (with_imports stack s)
@@ -71,7 +64,7 @@ module _ (config : Config) (stack : Open) (few : length (types_of stack.inner) +
     planned : IsPlanImport x
     formed : FormedImport (scope_of stack.inner) x
     kebab : Kebab x.name
-    new : is_among (names_with s) x.name ≡ false
+    new : is_among (names_at s) x.name ≡ false
     room : IsAllowed config (scope_of stack.inner) (totals_at s) true false x.to
 
   import_read : (s : List ImportEntry) (x : ImportEntry) (rest : List ℕ) → Sayable s x
@@ -80,8 +73,8 @@ module _ (config : Config) (stack : Open) (few : length (types_of stack.inner) +
       let a : List ℕ = script_ref config (scope_of stack.inner) (totals_at s) true false x.to in
       let n : List ℕ = script_name 100 x.name in
       let whole : (a ++ (n ++ 0 ∷ [])) ++ rest ≡ a ++ (n ++ (0 ∷ rest)) = append_assoc a (n ++ 0 ∷ []) rest ∙ ap (λ z. a ++ z) (append_assoc n (0 ∷ []) rest) in
-      let so_far : List NamedExtern = plain_names (names_with s) in
-      let same : names so_far ≡ names_with s = plain_names_are (names_with s) in
+      let so_far : List NamedExtern = plain_names (names_at s) in
+      let same : names so_far ≡ names_at s = plain_names_are (names_at s) in
       subst (λ z. ReadsImport config stack s z x rest (s ++ x ∷ [])) (sym whole) (record {
         mid = n ++ (0 ∷ rest);
         so_far = so_far;
@@ -121,34 +114,24 @@ module _ (config : Config) (stack : Open) (few : length (types_of stack.inner) +
   one_allowed s x (to.Instance i) e f r = below _ _ (omega (arith, r.instances, instances_more stack s x, ap (λ z. length (instance_of z)) e))
 
   all_sayable : (s xs : List ImportEntry) → AllByRecursion IsPlanImport xs → AllByRecursion (FormedImport (scope_of stack.inner)) xs
-      → AllByRecursion Kebab (import_names xs) → AreNew (names_with s) (import_names xs)
+      → AllByRecursion Kebab (import_names xs) → AreNew (names_at s) (import_names xs)
       → Room config (totals_at (s ++ xs)) → Along Sayable (λ t x. t ++ x ∷ []) s xs
   all_sayable s [] p f k n h = tt
   all_sayable s (x ∷ xs) p f k n h =
       let next : List ImportEntry = s ++ x ∷ [] in
       let all : Room config (totals_at (next ++ xs)) = subst (λ z. Room config (totals_at z)) (sym (append_assoc s (x ∷ []) xs)) h in (
         record { planned = p.0; formed = f.0; kebab = k.0; new = n.0; room = one_allowed s x x.to refl f.0.1 (room_before next xs all) },
-        all_sayable next xs p.1 f.1 k.1 (subst (λ z. AreNew z (import_names xs)) (sym (names_with_more s x)) n.1) all,
+        all_sayable next xs p.1 f.1 k.1
+            (subst (λ z. AreNew z (import_names xs)) (sym (names_with_more (λ (i : ImportEntry). i.name) (imports_of stack.inner) s x)) n.1) all,
       )
-
-  all_of_them : (s xs : List ImportEntry) → after_all (λ t x. t ++ x ∷ []) s xs ≡ s ++ xs
-  all_of_them s [] = sym (append-nil s)
-  all_of_them s (x ∷ xs) = all_of_them (s ++ x ∷ []) xs ∙ append_assoc s (x ∷ []) xs
 
   -- The script of the imports of a plan is read as them.
   pub imports_read : (is : List ImportEntry) (rest : List ℕ) → AllByRecursion IsPlanImport is → AllByRecursion (FormedImport (scope_of stack.inner)) is
       → Named (import_names (imports_of stack.inner ++ is)) → Room config (totals_at is)
       → length is ≤ config.max_imports - length (imports_of stack.inner) → ReadsImports config 0 stack (script_imports config stack is ++ rest) is rest
   imports_read is rest planned formed named room fits =
-      let parts : import_names (imports_of stack.inner ++ is) ≡ import_names (imports_of stack.inner) ++ import_names is =
-      map-append (λ i. i.name) (imports_of stack.inner) is in
-      let both : Named (import_names (imports_of stack.inner) ++ import_names is) = subst Named parts named in
-      let kebab : AllByRecursion Kebab (import_names is) = all_behind Kebab (import_names (imports_of stack.inner)) (import_names is) both.0 in
-      let new : AreNew (import_names (imports_of stack.inner)) (import_names is) =
-      new_back [] (import_names (imports_of stack.inner)) (import_names is) (distinct_new [] _ (none_before _) both.1) in
-      let first : AreNew (names_with []) (import_names is) =
-      subst (λ z. AreNew (import_names z) (import_names is)) (sym (append-nil (imports_of stack.inner))) new in
-      let all = all_sayable [] is planned formed kebab first room in
+      let behind = named_behind (λ (i : ImportEntry). i.name) (imports_of stack.inner) is named in
+      let all = all_sayable [] is planned formed behind.0 behind.1 room in
       let B : List ℕ = script_imports config stack is ++ rest in
       let L : List ImportEntry → Type 0 = λ t. Loop (NoImport config stack) (ReadsImport config stack) 0 (config.max_imports - length (imports_of stack.inner))
       0 [] B is rest t in

@@ -1,12 +1,18 @@
 -- Names of a sort in a component: they are in kebab case, and no two of them are the same.
-use Rattle.std.proofs.Common.{◌≡◌, ℕ, false, List, [], ◌∷◌, ◌++◌, map, refl, sym, subst}
-use Rattle.std.specs.List.{IsDistinct}
+use Rattle.std.proofs.Common.{◌≡◌, ℕ, ◌+◌, ◌≤◌, false, List, [], ◌∷◌, ◌++◌, map, length, arith, refl, sym, ap, ◌∙◌, subst, append_assoc, append-nil}
+use Rattle.std.proofs.Common.{length-append}
+use Rattle.std.proofs.lemmas.List.{length-map, map-append}
+use Rattle.std.specs.List.{AllByRecursion, IsDistinct}
 use Rattle.smith_input.specs.Kebab.{Kebab}
-use Rattle.smith_input.specs.Names.{is_among}
+use Rattle.smith_input.specs.Loops.{Loop}
+use Rattle.smith_input.specs.Names.{ReadsNew, is_among}
+use Rattle.smith_input.proofs.Loops.{loop_gives}
+use Rattle.smith_input.proofs.NewNames.{new_kebab}
 use Rattle.smith_format.specs.declared.config.Config.{Config}
+use Rattle.smith_format.specs.Limits.{max_u32}
 use Rattle.smith_syntax.specs.Scope.{Scope}
 use Rattle.smith_syntax.specs.WellFormed.{Named}
-use Rattle.smith_core_types.proofs.Names.{distinct_new, new_distinct, new_more, none_before}
+use Rattle.smith_core_types.proofs.Names.{AreNew, distinct_new, new_back, new_distinct, new_more, none_before}
 use Rattle.smith_component.specs.Open.{Open, tree_so_far}
 use Rattle.smith_component.specs.Sound.{Sound}
 use Rattle.smith_component.specs.Tree.{Tree, Part, ends, first, custom, core_module, core_types, component, types, canons, imports, exports, add, join, own}
@@ -15,14 +21,64 @@ use Rattle.smith_component.specs.WellFormed.{Formed, FormedPart, export_names, i
 use Rattle.smith_component.proofs.Tables.{own_bare}
 use Rattle.smith_component.proofs.Tree.{join-add, join-ends, own-add}
 use Rattle.smith_component.proofs.WellFormed.{formed_front}
-use Rattle.smith_scopes.proofs.Plain.{all_both}
+use Rattle.smith_scopes.proofs.Plain.{all_back, all_both}
 
 -- Names in kebab case, none of them twice, and one more that is none of them.
-pub named_more : (ns : List (List ℕ)) (n : List ℕ) → Named ns → Kebab n → is_among ns n ≡ false → Named (ns ++ n ∷ [])
+named_more : (ns : List (List ℕ)) (n : List ℕ) → Named ns → Kebab n → is_among ns n ≡ false → Named (ns ++ n ∷ [])
 named_more ns n h kebab new = (
   all_both Kebab ns (n ∷ []) h.0 (kebab, tt),
   new_distinct [] (ns ++ n ∷ []) (new_more [] ns n (distinct_new [] ns (none_before ns) h.1) new),
 )
+
+-- Entries with names, behind those that stand before them.
+module _ {A : Type 0} (name : A → List ℕ) (before : List A) where
+  -- the names of them all
+  abbrev pub names_with : List A → List (List ℕ)
+  names_with s = map name (before ++ s)
+
+  pub names_with_more : (s : List A) (x : A) → names_with (s ++ x ∷ []) ≡ names_with s ++ name x ∷ []
+  names_with_more s x = ap (map name) (sym (append_assoc before s (x ∷ []))) ∙ map-append name (before ++ s) (x ∷ [])
+
+  length-names_with : (s : List A) → length (names_with s) ≡ length before + length s
+  length-names_with s = length-map (before ++ s) name ∙ length-append before s
+
+  -- Where all are named, the later ones are in kebab case and new behind those before.
+  pub named_behind : (s : List A) → Named (names_with s) → AllByRecursion Kebab (map name s) × AreNew (names_with []) (map name s)
+  named_behind s named =
+      let both : Named (map name before ++ map name s) = subst Named (map-append name before s) named in
+      let new : AreNew (map name before) (map name s) = new_back [] (map name before) (map name s) (distinct_new [] _ (none_before _) both.1) in (
+        all_back Kebab (map name before) (map name s) both.0,
+        subst (λ z. AreNew (map name z) (map name s)) (sym (append-nil before)) new,
+      )
+
+  -- an entry that is read under a name which is new among them all
+  pub record NewEntry (s : List A) (x : A) (t : List A) : Type 0 where
+    pub max : ℕ
+    pub bytes : List ℕ
+    pub rest : List ℕ
+    pub read : ReadsNew max (names_with s) bytes (name x) rest
+    pub next_is : t ≡ s ++ x ∷ []
+
+  -- The names stay distinct and in kebab case, where there are few.
+  abbrev KeepsNames : List A → List A → List A → Type 0
+  KeepsNames s xs t = length before + (length s + length xs) ≤ max_u32 → Named (names_with s) → Named (names_with t)
+
+  module _ {Ends : List A → List ℕ → List ℕ → List A → Type 0} {Item : List A → List ℕ → A → List ℕ → List A → Type 0}
+      (ends : (s : List A) (b r : List ℕ) (t : List A) → Ends s b r t → t ≡ s)
+      (items : (s : List A) (b : List ℕ) (x : A) (r : List ℕ) (t : List A) → Item s b x r t → NewEntry s x t) where
+    keeps_names : (s t u : List A) (b : List ℕ) (x : A) (r : List ℕ) (xs : List A) → Item s b x r t → KeepsNames t xs u → KeepsNames s (x ∷ xs) u
+    keeps_names s t u b x r xs i later few h =
+        let new : NewEntry s x t = items s b x r t i in
+        let kebab : Kebab (name x) = new_kebab (omega (arith, few, length-names_with s)) new.read in
+        let named : Named (names_with s ++ name x ∷ []) = named_more (names_with s) (name x) h kebab new.read.unique.is_new in
+        later (omega (arith, few, ap length new.next_is, length-append s (x ∷ []))) (subst Named (sym (ap names_with new.next_is ∙ names_with_more s x)) named)
+
+    -- The names of the entries that a loop reads are distinct and in kebab case.
+    pub loop_named : {min max : ℕ} {b rest : List ℕ} {xs : List A} → length before + length xs ≤ max_u32 → Named (map name before)
+        → Loop Ends Item min max 0 [] b xs rest xs → Named (names_with xs)
+    loop_named {b = b} {rest = rest} {xs = xs} few h r =
+        loop_gives KeepsNames (λ s k n. n) (λ s c q t e k n. subst (λ z. Named (names_with z)) (sym (ends s c q t e)) n) keeps_names 0 [] b xs rest xs r
+        (omega (arith, few)) (subst (λ z. Named (map name z)) (sym (append-nil before)) h)
 
 formed_inner : (us : List Tree) (outer : List Scope) (t : Tree) → Formed (tree_so_far us t) outer ends → (around : List Scope) × Formed t around ends
 formed_inner [] outer t f = (outer, f)

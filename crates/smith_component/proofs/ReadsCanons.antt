@@ -32,7 +32,7 @@ use Rattle.smith_component.specs.declared.item.CanonItem.TheVariants.{Lower, Lif
 use Rattle.smith_component.proofs.Fits.{fits_kept, fits_of, own_limits-add, own_sizes-add, sizes_keep}
 use Rattle.smith_component.proofs.Growth.{KeepsTypes, canon_keeps, canons_keep, extends_part, functions_after, spaces-add, spaces_canon}
 use Rattle.smith_component.proofs.Growth.{types_past}
-use Rattle.smith_component.proofs.Sound.{addable_types, own_limits_of, own_sizes_of, part_sound}
+use Rattle.smith_component.proofs.Sound.{addable_level, addable_types, own_limits_of, own_sizes_of, part_sound}
 use Rattle.smith_component.proofs.Spaces.{all_at, get_last, imports_canons, imports_types, with_entries, has_signature_stays}
 use Rattle.smith_component.proofs.Spaces.{equal_at, formed_canons-snoc}
 use Rattle.smith_component.proofs.Tables.{scalar_at}
@@ -251,19 +251,12 @@ module _ (config : Config) (stack : Open) (fits : function_count stack.inner ≤
       let same : KeepsTypes (spaces_of s.before) spaces = canons_keep (spaces_of s.before) s.funcs in
       let count : function_count s.before + length s.funcs ≤ config.max_funcs =
       omega (arith, g.few, h, fits, function_count-add s.before (canons s.funcs)) in
-      part_sound config (with_inner stack s.before) (canons s.funcs) (record {
-        formed = g.formed;
-        own = λ o.
-            own_limits-add config s.before (canons s.funcs) o (fits_kept config (spaces_of s.before) spaces same (fits_of config s.before o))
-            (record { imports = omega (arith, o.imports); functions = omega (arith, count); exports = omega (arith, o.exports) }) tt;
-        sizes = λ o. own_sizes-add config s.before (canons s.funcs) (sizes_keep config (spaces_of s.before) spaces same o);
-        modules = λ h. omega (arith, h);
-        components = λ h. omega (arith, h);
-        instances = λ h. omega (arith, h);
-        no_component = refl;
-        flat = refl;
-        scopes = λ h. omega (arith, h);
-      }) g.sound
+      let addable = addable_level config (with_inner stack s.before) (canons s.funcs) g.formed (λ o.
+      own_limits-add config s.before (canons s.funcs) o (fits_kept config (spaces_of s.before) spaces same (fits_of config s.before o))
+      (record { imports = omega (arith, o.imports); functions = omega (arith, count); exports = omega (arith, o.exports) }) tt)
+      (λ o. own_sizes-add config s.before (canons s.funcs) (sizes_keep config (spaces_of s.before) spaces same o)) refl refl refl
+      (λ h. omega (arith, h)) in
+      part_sound config (with_inner stack s.before) (canons s.funcs) addable g.sound
 
   going_canon : (n : ℕ) (s : Growing) (c : Canon) → FormedCanon (spaces_at s) c → Going config stack n s → Going config stack (n + 1) (with_canon s c)
   going_canon n s c h g = record {

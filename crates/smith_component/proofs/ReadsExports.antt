@@ -1,11 +1,8 @@
 -- What an export section reads: well formed exports under names that are new, within the limits, and a tail of the bytes.
-use Rattle.std.proofs.Common.{◌≡◌, ℕ, ◌+◌, ◌-◌, ◌≤◌, List, [], ◌∷◌, ◌++◌, length, arith, refl, sym, ap, ◌∙◌, subst, append_assoc, append-nil}
-use Rattle.std.proofs.Common.{length-append}
-use Rattle.std.proofs.lemmas.List.{length-map}
-use Rattle.smith_input.specs.Kebab.{Kebab}
+use Rattle.std.proofs.Common.{◌≡◌, ℕ, ◌+◌, ◌-◌, ◌≤◌, List, [], ◌∷◌, ◌++◌, length, arith, refl, ap, ◌∙◌, subst}
 use Rattle.smith_input.specs.Reading.{IsTail}
 use Rattle.smith_input.proofs.Loops.{loop_few, loop_gives, loop_tail}
-use Rattle.smith_input.proofs.NewNames.{new_kebab, new_tail}
+use Rattle.smith_input.proofs.NewNames.{new_tail}
 use Rattle.smith_input.proofs.Reading.{reads_tail, tail_is, tail_trans}
 use Rattle.smith_format.specs.Limits.{max_u32}
 use Rattle.smith_format.specs.declared.config.Config.{Config}
@@ -21,9 +18,8 @@ use Rattle.smith_component.specs.Tree.{exports_of}
 use Rattle.smith_component.specs.WellFormed.{FormedExports, export_names}
 use Rattle.smith_component.proofs.Fits.{fits_kept, fits_of, own_limits-add, own_sizes-add, sizes_keep}
 use Rattle.smith_component.proofs.Growth.{KeepsTypes, exports_keep, spaces-add, spaces_export}
-use Rattle.smith_component.proofs.Named.{exports_are_named, named_more}
-use Rattle.smith_component.proofs.Sound.{own_limits_of}
-use Rattle.smith_component.proofs.Tables.{export_names_more}
+use Rattle.smith_component.proofs.Named.{NewEntry, exports_are_named, loop_named}
+use Rattle.smith_component.proofs.Sound.{addable_level, own_limits_of}
 
 module _ (config : Config) (t : Tree) where
   no_export_tail : (s : List ExportEntry) (b r : List ℕ) (u : List ExportEntry) → NoExport t s b r u → IsTail r b
@@ -58,32 +54,16 @@ module _ (config : Config) (t : Tree) where
   exports_formed {b = b} {rest = rest} {es = es} r = subst (FormedExports es) (spaces-add t (exports []))
       (loop_gives Formed_from (λ s. tt) (λ s c q u e. tt) formed_on 0 [] b es rest es r)
 
-  -- the names of the component's exports, where the section has these
-  abbrev names_with : List ExportEntry → List (List ℕ)
-  names_with s = export_names (exports_of t ++ s)
+  no_export_same : (s : List ExportEntry) (b r : List ℕ) (u : List ExportEntry) → NoExport t s b r u → u ≡ s
+  no_export_same s b r u e = e.2
 
-  length-names_with : (s : List ExportEntry) → length (names_with s) ≡ length (exports_of t) + length s
-  length-names_with s = length-map (exports_of t ++ s) (λ (e : ExportEntry). e.name) ∙ length-append (exports_of t) s
-
-  names_with_more : (s u : List ExportEntry) (x : ExportEntry) → u ≡ s ++ x ∷ [] → names_with u ≡ names_with s ++ x.name ∷ []
-  names_with_more s u x e = ap names_with e ∙ (ap export_names (sym (append_assoc (exports_of t) s (x ∷ []))) ∙ export_names_more (exports_of t ++ s) x)
-
-  -- The names stay distinct and in kebab case, where there are few.
-  abbrev KeepsNames : List ExportEntry → List ExportEntry → List ExportEntry → Type 0
-  KeepsNames s xs u = length (exports_of t) + (length s + length xs) ≤ max_u32 → Named (names_with s) → Named (names_with u)
-
-  keeps_names : (s u v : List ExportEntry) (b : List ℕ) (x : ExportEntry) (r : List ℕ) (xs : List ExportEntry) → ReadsExport t s b x r u → KeepsNames u xs v
-      → KeepsNames s (x ∷ xs) v
-  keeps_names s u v b x r xs i rest few h =
-      let kebab : Kebab x.name = new_kebab (omega (arith, few, length-names_with s)) i.named in
-      rest (omega (arith, few, ap length i.next_is, length-append s (x ∷ [])))
-      (subst Named (sym (names_with_more s u x i.next_is)) (named_more (names_with s) x.name h kebab i.named.unique.is_new))
+  export_new : (s : List ExportEntry) (b : List ℕ) (x : ExportEntry) (r : List ℕ) (u : List ExportEntry) → ReadsExport t s b x r u
+      → NewEntry (λ (e : ExportEntry). e.name) (exports_of t) s x u
+  export_new s b x r u i = record { max = 100; bytes = i.mid; rest = r; read = i.named; next_is = i.next_is }
 
   exports_named : {b rest : List ℕ} {es : List ExportEntry} → length (exports_of t) + length es ≤ max_u32 → Named (export_names (exports_of t))
-      → ReadsExports config t b es rest → Named (names_with es)
-  exports_named {b = b} {rest = rest} {es = es} few h r =
-      loop_gives KeepsNames (λ s k n. n) (λ s c q u e k n. subst (λ z. Named (names_with z)) (sym e.2) n) keeps_names 0 [] b es rest es r (omega (arith, few))
-      (subst (λ z. Named (export_names z)) (sym (append-nil (exports_of t))) h)
+      → ReadsExports config t b es rest → Named (export_names (exports_of t ++ es))
+  exports_named few h r = loop_named (λ (e : ExportEntry). e.name) (exports_of t) no_export_same export_new few h r
 
 -- What an export section reads may be added.
 pub exports_addable : (config : Config) (stack : Open) {b rest : List ℕ} {es : List ExportEntry} → Sound config stack
@@ -94,19 +74,11 @@ exports_addable config stack {es = es} sound r =
     let few : length (exports_of inner) + length es ≤ config.max_exports = exports_few config inner limits.exports r in
     let spaces : Spaces = after_part (spaces_of inner) (exports es) in
     let same : KeepsTypes (spaces_of inner) spaces = exports_keep (spaces_of inner) es in
-    record {
-      formed = (
-        exports_formed config inner r,
-        exports_named config inner (omega (arith, few, sound.consistent.funcs)) (exports_are_named config stack sound) r,
-      );
-      own = λ o.
-          own_limits-add config inner (exports es) o (fits_kept config (spaces_of inner) spaces same (fits_of config inner o))
-          (record { imports = omega (arith, o.imports); functions = omega (arith, o.functions); exports = few }) tt;
-      sizes = λ o. own_sizes-add config inner (exports es) (sizes_keep config (spaces_of inner) spaces same o);
-      modules = λ h. omega (arith, h);
-      components = λ h. omega (arith, h);
-      instances = λ h. omega (arith, h);
-      no_component = refl;
-      flat = refl;
-      scopes = λ h. omega (arith, h);
-    }
+    addable_level config stack (exports es) (
+      exports_formed config inner r,
+      exports_named config inner (omega (arith, few, sound.consistent.funcs)) (exports_are_named config stack sound) r,
+    )
+    (λ o.
+    own_limits-add config inner (exports es) o (fits_kept config (spaces_of inner) spaces same (fits_of config inner o))
+    (record { imports = omega (arith, o.imports); functions = omega (arith, o.functions); exports = few }) tt)
+    (λ o. own_sizes-add config inner (exports es) (sizes_keep config (spaces_of inner) spaces same o)) refl refl refl (λ h. omega (arith, h))

@@ -1,18 +1,15 @@
 -- What an import section reads: well formed imports under names that are new, within the limits, and a tail of the bytes.
-use Rattle.std.proofs.Common.{◌≡◌, ℕ, ◌+◌, ◌-◌, ◌<◌, ◌≤◌, ◌^◌, ◌&&◌, Bool, true, false, List, [], ◌∷◌, ◌++◌, length, arith, refl, sym, ap, ◌∙◌, subst}
-use Rattle.std.proofs.Common.{append_assoc, length-append, nat_lt, append-nil}
+use Rattle.std.proofs.Common.{◌≡◌, ℕ, ◌+◌, ◌-◌, ◌<◌, ◌≤◌, ◌&&◌, Bool, true, false, List, [], ◌∷◌, ◌++◌, length, arith, refl, sym, ap, ◌∙◌, subst}
+use Rattle.std.proofs.Common.{nat_lt}
 use Rattle.std.specs.List.{AllByRecursion}
 use Rattle.std.specs.Prelude.{if◌then◌else◌}
 use Rattle.std.proofs.lemmas.Bool.{false≢true}
 use Rattle.std.proofs.lemmas.Bool.Decides.{nat_tests}
-use Rattle.std.proofs.lemmas.List.{length-map}
-use Rattle.smith_input.specs.Kebab.{Kebab}
 use Rattle.smith_input.specs.Loops.{Loop, no_more, by_itself, an_item}
 use Rattle.smith_input.specs.Names.{ReadsNew}
 use Rattle.smith_input.specs.Reading.{IsTail, More}
 use Rattle.smith_input.specs.Offers.{offers_of}
 use Rattle.smith_input.proofs.Loops.{loop_all, loop_few, loop_gives, loop_tail}
-use Rattle.smith_input.proofs.NewNames.{new_kebab}
 use Rattle.smith_input.proofs.Reading.{more_past, tail_is, tail_trans}
 use Rattle.smith_format.specs.declared.config.Config.{Config}
 use Rattle.smith_format.specs.Limits.{max_u32}
@@ -36,9 +33,8 @@ use Rattle.smith_component.specs.WellFormed.{FormedImport, import_names, scope_o
 use Rattle.smith_component.proofs.Fits.{fits_kept, fits_of, own_limits-add, own_sizes-add, sizes_keep}
 use Rattle.smith_component.proofs.Growth.{KeepsTypes, imports_keep}
 use Rattle.smith_component.proofs.ImportsState.{RefRoom, components_more, funcs_more, import_room, instances_more, modules_more}
-use Rattle.smith_component.proofs.Named.{imports_are_named, named_more}
+use Rattle.smith_component.proofs.Named.{NewEntry, imports_are_named, loop_named}
 use Rattle.smith_component.proofs.Sound.{component_count-so_far, instance_count-so_far, module_count-so_far, own_limits_of}
-use Rattle.smith_component.proofs.Tables.{import_names_more}
 use Rattle.smith_component.proofs.Tree.{function_count-add, functions_in}
 
 -- where nothing is offered, no condition holds
@@ -96,38 +92,23 @@ module _ (config : Config) (stack : Open) where
       → AllByRecursion (FormedImport (scope_of stack.inner)) is
   imports_formed {b = b} {rest = rest} {is = is} r = loop_all (FormedImport (scope_of stack.inner)) formed_import 0 [] b is rest is r
 
-  -- the names of the component's imports, where the section has these
-  abbrev names_with : List ImportEntry → List (List ℕ)
-  names_with s = import_names (imports_of stack.inner ++ s)
+  no_import_same : (s : List ImportEntry) (b r : List ℕ) (t : List ImportEntry) → NoImport config stack s b r t → t ≡ s
+  no_import_same s b r t e = e.2
 
-  length-names_with : (s : List ImportEntry) → length (names_with s) ≡ length (imports_of stack.inner) + length s
-  length-names_with s = length-map (imports_of stack.inner ++ s) (λ (i : ImportEntry). i.name) ∙ length-append (imports_of stack.inner) s
+  import_new : (s : List ImportEntry) (b : List ℕ) (x : ImportEntry) (r : List ℕ) (t : List ImportEntry) → ReadsImport config stack s b x r t
+      → NewEntry (λ (i : ImportEntry). i.name) (imports_of stack.inner) s x t
+  import_new s b x r t i = record {
+    max = 100;
+    bytes = i.mid;
+    rest = i.named.mid;
+    read = subst (λ ns. ReadsNew 100 ns i.mid x.name i.named.mid) i.names_are i.named.name;
+    next_is = i.next_is;
+  }
 
-  names_with_more : (s t : List ImportEntry) (x : ImportEntry) → t ≡ s ++ x ∷ [] → names_with t ≡ names_with s ++ x.name ∷ []
-  names_with_more s t x e = ap names_with e ∙ (ap import_names (sym (append_assoc (imports_of stack.inner) s (x ∷ [])))
-      ∙ import_names_more (imports_of stack.inner ++ s) x)
-
-  one_named : (s : List ImportEntry) (b : List ℕ) (x : ImportEntry) (r : List ℕ) (t : List ImportEntry) → length (imports_of stack.inner) + length s < 2 ^ 64
-      → ReadsImport config stack s b x r t → Named (names_with s) → Named (names_with t)
-  one_named s b x r t few i h =
-      let read : ReadsNew 100 (names_with s) i.mid x.name i.named.mid = subst (λ ns. ReadsNew 100 ns i.mid x.name i.named.mid) i.names_are i.named.name in
-      let kebab : Kebab x.name = new_kebab (omega (arith, few, length-names_with s)) read in
-      subst Named (sym (names_with_more s t x i.next_is)) (named_more (names_with s) x.name h kebab read.unique.is_new)
-
-  -- The names stay distinct and in kebab case, where there are few.
-  abbrev KeepsNames : List ImportEntry → List ImportEntry → List ImportEntry → Type 0
-  KeepsNames s xs t = length (imports_of stack.inner) + (length s + length xs) ≤ max_u32 → Named (names_with s) → Named (names_with t)
-
-  keeps_names : (s t u : List ImportEntry) (b : List ℕ) (x : ImportEntry) (r : List ℕ) (xs : List ImportEntry) → ReadsImport config stack s b x r t
-      → KeepsNames t xs u → KeepsNames s (x ∷ xs) u
-  keeps_names s t u b x r xs i rest few h =
-      rest (omega (arith, few, ap length i.next_is, length-append s (x ∷ []))) (one_named s b x r t (omega (arith, few)) i h)
-
+  -- The names of the component's imports stay distinct and in kebab case, where there are few.
   pub imports_named : {min : ℕ} {b rest : List ℕ} {is : List ImportEntry} → length (imports_of stack.inner) + length is ≤ max_u32
-      → Named (import_names (imports_of stack.inner)) → ReadsImports config min stack b is rest → Named (names_with is)
-  imports_named {b = b} {rest = rest} {is = is} few h r =
-      loop_gives KeepsNames (λ s k n. n) (λ s c q t e k n. subst (λ z. Named (names_with z)) (sym e.2) n) keeps_names 0 [] b is rest is r (omega (arith, few))
-      (subst (λ z. Named (import_names z)) (sym (append-nil (imports_of stack.inner))) h)
+      → Named (import_names (imports_of stack.inner)) → ReadsImports config min stack b is rest → Named (import_names (imports_of stack.inner ++ is))
+  imports_named few h r = loop_named (λ (i : ImportEntry). i.name) (imports_of stack.inner) no_import_same import_new few h r
 
   -- What was within the limits stays within them.
   pub record KeepsTotals (s t : List ImportEntry) : Type 0 where

@@ -18,7 +18,7 @@ use Rattle.smith_component.specs.ImportsState.{Totalled}
 use Rattle.smith_component.specs.Open.{Open, tree_so_far, is_module_offered, is_component_offered, scopes_in, scopes_from, with_inner}
 use Rattle.smith_component.specs.Turn.{building, Closes}
 use Rattle.smith_component.specs.WellFormed.{FormedPart, WellFormed, scope_of}
-use Rattle.smith_component.specs.Limits.{SmallTypes, SmallCoreTypes, OwnSizes, Sized, OwnLimits, Maxima, Minima, Limits}
+use Rattle.smith_component.specs.Limits.{max_depth, SmallTypes, SmallCoreTypes, OwnSizes, Sized, OwnLimits, Maxima, Minima, Limits}
 use Rattle.smith_component.specs.Sound.{IsAddable, IsQuiet, Sound, finished_in}
 use Rattle.smith_component.specs.declared.builder.totals.TreeTotals.{TreeTotals}
 use Rattle.smith_component.specs.declared.item.Counted.{Counted}
@@ -220,50 +220,54 @@ addable_module config stack text few =
     addable_bare config stack (core_module text) tt
     (record { spaces = λ s. refl; imports = refl; canons = refl; exports = refl }) tt (λ h. omega (arith, few)) refl refl refl refl refl
 
+-- A part without modules, components and instances, which counts in its component alone.
+pub addable_level : (config : Config) (stack : Open) (p : Part) → FormedPart p (scopes_in stack.outer) stack.inner
+    → (OwnLimits config stack.inner → OwnLimits config (add stack.inner p)) → (OwnSizes config stack.inner → OwnSizes config (add stack.inner p))
+    → length (modules_in p) + (length (imported_modules_in p) + (length (imported_components_in p) + length (imported_instances_in p))) ≡ 0
+    → anywhere_in components_in p ≡ [] → depth_in p ≡ 1
+    → (length stack.outer + 1 ≤ max_depth config → length stack.outer + scope_depth_in p ≤ max_depth config + 1) → IsAddable config stack p
+addable_level config stack p formed own sizes count none flat scopes = record {
+  formed = formed;
+  own = own;
+  sizes = sizes;
+  modules = λ h. omega (arith, h, count);
+  components = λ h. omega (arith, h, count);
+  instances = λ h. omega (arith, h, count);
+  no_component = none;
+  flat = flat;
+  scopes = scopes;
+}
+
 -- Types that find room.
 pub addable_types : (config : Config) (stack : Open) (es : List Entry) → FormedPart (types es) (scopes_in stack.outer) stack.inner
     → length (types_of stack.inner) + length es ≤ config.max_types
     → AllByRecursion (EntryLimits config) es → length stack.outer + 1 + most_nested es ≤ max (length stack.outer + 2) config.max_nesting_depth
     → SmallTypes config es → IsAddable config stack (types es)
-addable_types config stack es f room limited nested small = record {
-  formed = f;
-  own = λ o.
-      own_limits-add config stack.inner (types es) o (record {
-        types = omega (arith, room, length-append (types_of stack.inner) es);
-        core_types = o.core_types;
-        within_types = all_both _ (types_of stack.inner) es o.within_types limited;
-        within_core_types = o.within_core_types;
-      }) (no_counted config stack.inner (types es) refl refl refl o) tt;
-  sizes = λ o. own_sizes-add config stack.inner (types es) (all_both _ (types_of stack.inner) es o.0 small, o.1);
-  modules = λ h. omega (arith, h);
-  components = λ h. omega (arith, h);
-  instances = λ h. omega (arith, h);
-  no_component = refl;
-  flat = refl;
-  scopes = λ h. omega (arith, h, nested);
-}
+addable_types config stack es f room limited nested small =
+    addable_level config stack (types es) f (λ o.
+    own_limits-add config stack.inner (types es) o (record {
+      types = omega (arith, room, length-append (types_of stack.inner) es);
+      core_types = o.core_types;
+      within_types = all_both _ (types_of stack.inner) es o.within_types limited;
+      within_core_types = o.within_core_types;
+    }) (no_counted config stack.inner (types es) refl refl refl o) tt)
+    (λ o. own_sizes-add config stack.inner (types es) (all_both _ (types_of stack.inner) es o.0 small, o.1)) refl refl refl
+    (λ h. omega (arith, h, nested))
 
 -- Core types that find room.
 pub addable_core_types : (config : Config) (stack : Open) (es : List CoreEntry) → FormedPart (core_types es) (scopes_in stack.outer) stack.inner
     → length (core_types_of stack.inner) + length es ≤ config.max_types
     → AllByRecursion (CoreLimits config) es → SmallCoreTypes config es → IsAddable config stack (core_types es)
-addable_core_types config stack es f room limited small = record {
-  formed = f;
-  own = λ o.
-      own_limits-add config stack.inner (core_types es) o (record {
-        types = o.types;
-        core_types = omega (arith, room, length-append (core_types_of stack.inner) es);
-        within_types = o.within_types;
-        within_core_types = all_both _ (core_types_of stack.inner) es o.within_core_types limited;
-      }) (no_counted config stack.inner (core_types es) refl refl refl o) tt;
-  sizes = λ o. own_sizes-add config stack.inner (core_types es) (o.0, all_both _ (core_types_of stack.inner) es o.1 small);
-  modules = λ h. omega (arith, h);
-  components = λ h. omega (arith, h);
-  instances = λ h. omega (arith, h);
-  no_component = refl;
-  flat = refl;
-  scopes = λ h. omega (arith, h);
-}
+addable_core_types config stack es f room limited small =
+    addable_level config stack (core_types es) f (λ o.
+    own_limits-add config stack.inner (core_types es) o (record {
+      types = o.types;
+      core_types = omega (arith, room, length-append (core_types_of stack.inner) es);
+      within_types = o.within_types;
+      within_core_types = all_both _ (core_types_of stack.inner) es o.within_core_types limited;
+    }) (no_counted config stack.inner (core_types es) refl refl refl o) tt)
+    (λ o. own_sizes-add config stack.inner (core_types es) (o.0, all_both _ (core_types_of stack.inner) es o.1 small)) refl refl refl
+    (λ h. omega (arith, h))
 
 own_length : {A : Type 0} (f : Part → List A) (p : Part) → anywhere_in components_in p ≡ [] → length (anywhere_in f p) ≡ length (f p)
 own_length f p none = ap length (in_own f p none)

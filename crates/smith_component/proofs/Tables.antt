@@ -4,11 +4,10 @@ use Rattle.std.proofs.Common.{length-append}
 use Rattle.std.specs.List.{AllByRecursion, flat_map}
 use Rattle.std.specs.Prelude.{Option, Some, None, slice_get, if◌then◌else◌}
 use Rattle.std.proofs.lemmas.Bool.{false≢true}
-use Rattle.std.proofs.lemmas.List.{map-append}
 use Rattle.std.proofs.lemmas.List.Concat.{flat_map-append}
 use Rattle.std.proofs.lemmas.Option.{slice_get_within}
 use Rattle.smith_input.specs.Names.{Holds}
-use Rattle.smith_syntax.specs.Entries.{Entry, defined, function, component_type, instance_type, ImportEntry, Signature}
+use Rattle.smith_syntax.specs.Entries.{Entry, defined, function, component_type, instance_type, Signature}
 use Rattle.smith_syntax.specs.Flat.{is_scalar}
 use Rattle.smith_syntax.specs.Scope.{Scope, places}
 use Rattle.smith_scopes.proofs.Places.{get_left, place_stands}
@@ -16,8 +15,8 @@ use Rattle.smith_scopes.proofs.Stack.{places-append}
 use Rattle.smith_component.specs.Offers.{is_scalar_entry, is_scalar_type, scalar_functions}
 use Rattle.smith_component.specs.Tables.{AddsCoreFunction, AddsFunction, IsGrounded, IsLowerable, Tabled}
 use Rattle.smith_component.specs.Spaces.{core_functions_of, functions_of, spaces_of, types_of}
-use Rattle.smith_component.specs.Tree.{ExportEntry, Tree, Part, add, exports_of, function_count, own}
-use Rattle.smith_component.specs.WellFormed.{export_names, import_names, scope_of}
+use Rattle.smith_component.specs.Tree.{Tree, Part, add, exports_of, function_count, own}
+use Rattle.smith_component.specs.WellFormed.{export_names, scope_of}
 use Rattle.smith_component.specs.declared.builder.tables.Tables.{Tables}
 use Rattle.smith_component.proofs.Tree.{own-add}
 use Rattle.smith_scopes.proofs.Plain.{all_both}
@@ -153,14 +152,6 @@ pub tabled_quiet : {tables : Tables} (t u : Tree) → Tabled tables t → types_
     → core_functions_of u ≡ core_functions_of t → function_count u ≡ function_count t → exports_of u ≡ exports_of t → Tabled tables u
 tabled_quiet t u tabled types functions core_functions count exports =
     tabled_types t u [] tabled (same_more _ _ types) functions core_functions count exports
-
--- the names of imports with one more
-pub import_names_more : (is : List ImportEntry) (x : ImportEntry) → import_names (is ++ x ∷ []) ≡ import_names is ++ x.name ∷ []
-import_names_more is x = map-append (λ (i : ImportEntry). i.name) is (x ∷ [])
-
--- the names of exports with one more
-pub export_names_more : (es : List ExportEntry) (x : ExportEntry) → export_names (es ++ x ∷ []) ≡ export_names es ++ x.name ∷ []
-export_names_more es x = map-append (λ (e : ExportEntry). e.name) es (x ∷ [])
 
 scalar_entry_is : (e : Entry) → is_scalar_entry e ≡ true → (signature : Signature) × (e ≡ function signature) × (is_scalar signature ≡ true)
 scalar_entry_is (defined t) h = absurd (false≢true h)

@@ -106,9 +106,6 @@ module _ (imported : Bool) (from : List ℕ) (defs : List ModuleTypeDef) (i : �
     pub taken_passed : (q : List ℕ) → is_among Here q ≡ false → is_among (Later i) q ≡ is_among (Later (i + 1)) q
     taken_passed q f = among q ∙ ap (λ b. b || is_among (Later (i + 1)) q) f
 
-    pub taken_counted : length (Later i) ≡ length Here + length (Later (i + 1))
-    taken_counted = ap length split ∙ length-append Here (Later (i + 1))
-
   pub taken_past : length defs ≤ i → Later i ≡ []
   taken_past h = ap (λ z. names_taken imported from (map shown_decl z)) (drop_past defs i h) ∙ taken_none imported from
 

@@ -58,3 +58,13 @@ none_before (n ∷ ns) = (refl, none_before ns)
 pub new_more : (before ns : List (List ℕ)) (n : List ℕ) → AreNew before ns → is_among (before ++ ns) n ≡ false → AreNew before (ns ++ n ∷ [])
 new_more before [] n a new = (subst (λ z. is_among z n ≡ false) (append-nil before) new, tt)
 new_more before (m ∷ ms) n a new = (a.0, new_more (before ++ m ∷ []) ms n a.1 (subst (λ z. is_among z n ≡ false) (sym (append_assoc before (m ∷ []) ms)) new))
+
+-- of new names those in front of some are new
+pub new_front : (before front back : List (List ℕ)) → AreNew before (front ++ back) → AreNew before front
+new_front before [] back h = tt
+new_front before (n ∷ ns) back h = (h.0, new_front (before ++ n ∷ []) ns back h.1)
+
+-- of new names those behind some are new behind them
+pub new_back : (before front back : List (List ℕ)) → AreNew before (front ++ back) → AreNew (before ++ front) back
+new_back before [] back h = subst (λ z. AreNew z back) (sym (append-nil before)) h
+new_back before (n ∷ ns) back h = subst (λ z. AreNew z back) (append_assoc before (n ∷ []) ns) (new_back (before ++ n ∷ []) ns back h.1)

@@ -1,6 +1,6 @@
 -- What the script of a type with declarations says is made of it.
 use Rattle.std.proofs.Common.{◌≡◌, ℕ, ◌+◌, ◌-◌, ◌^◌, ◌<◌, ◌≤◌, Bool, true, false, List, [], ◌∷◌, ◌++◌, length, refl, sym, ap, ◌∙◌, subst, arith, append_assoc}
-use Rattle.std.proofs.Common.{append-nil, length-append, nat_lt, None, Some}
+use Rattle.std.proofs.Common.{length-append, nat_lt, None, Some}
 use Rattle.std.proofs.lemmas.Bool.Decides.{nat_tests}
 use Rattle.std.proofs.lemmas.List.{map-append}
 use Rattle.std.specs.List.{AllByRecursion}
@@ -24,7 +24,7 @@ use Rattle.smith_syntax.specs.declared.deftype.ComponentTypeRef.{ComponentTypeRe
 use Rattle.smith_syntax.specs.declared.deftype.ComponentTypeRef.TheVariants as to
 use Rattle.smith_core_types.specs.MadeCore.{MadeCore, spent_core, named_by_core}
 use Rattle.smith_core_types.proofs.MadeCore.{core_type_read}
-use Rattle.smith_core_types.proofs.Names.{AreNew, distinct_new, none_before}
+use Rattle.smith_core_types.proofs.Names.{AreNew, distinct_new, none_before, new_back, new_front}
 use Rattle.smith_scopes.proofs.Plain.{all_back, all_front}
 use Rattle.smith_types.specs.Declarations.{NamedExtern, SoFar, nothing_so_far, after_one, ReadsImportDecl, ReadsExportDecl}
 use Rattle.smith_types.specs.Offers.{uncounted, IsAllowed}
@@ -51,14 +51,6 @@ core_read config around fuel (core_module ds) rest limits (few, none) =
     spent_core (omega (arith, few)) (ap core_module none) (omega (arith, few))
 
 -- names
-
-new_front : (before front back : List (List ℕ)) → AreNew before (front ++ back) → AreNew before front
-new_front before [] back h = tt
-new_front before (n ∷ ns) back h = (h.0, new_front (before ++ n ∷ []) ns back h.1)
-
-new_back : (before front back : List (List ℕ)) → AreNew before (front ++ back) → AreNew (before ++ front) back
-new_back before [] back h = subst (λ z. AreNew z back) (sym (append-nil before)) h
-new_back before (n ∷ ns) back h = subst (λ z. AreNew z back) (append_assoc before (n ∷ []) ns) (new_back (before ++ n ∷ []) ns back h.1)
 
 none_ahead : {A : Type 0} (xs ys : List A) → xs ++ ys ≡ [] → xs ≡ []
 none_ahead [] ys h = refl

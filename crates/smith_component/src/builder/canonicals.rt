@@ -7,7 +7,6 @@ ghost use Rattle.smith_input.specs.Loops.{Loop};
 ghost use Rattle.smith_input.specs.Reading.{IsTail};
 ghost use Rattle.smith_format.specs.Limits.{IsConsistent, max_u32};
 ghost use Rattle.smith_scopes.specs.Scopes.{own_scope, outer_scopes};
-ghost use Rattle.smith_component.specs.Tree.{function_count};
 ghost use Rattle.smith_component.specs.Canonicals.{CanonTurn, Growing, NoCanon, ReadsCanons, ReadsLift, ReadsLower};
 ghost use Rattle.smith_component.specs.Canonicals.{grown, spaces_at, with_defined};
 ghost use Rattle.smith_component.specs.CanonicalsState.{DraftsOn, IsDraft, IsDrafted, IsLowered, KeepsFront, LiftsAs};
@@ -15,6 +14,7 @@ ghost use Rattle.smith_component.specs.CanonicalsState.{SameLoans, canon_items_o
 ghost use Rattle.smith_component.specs.Shown.{shown_sections};
 ghost use Rattle.smith_component.specs.Spaces.{spaces_of};
 ghost use Rattle.smith_component.specs.Tables.{Tabled, functions_at};
+ghost use Rattle.smith_component.specs.Tree.{function_count};
 ghost use Rattle.smith_component.specs.WellFormed.{scope_of};
 ghost use Rattle.smith_component.specs.declared.item.CanonItem.{CanonItem};
 
