@@ -6,15 +6,13 @@ mod run;
 #[cfg(test)]
 mod tests;
 
-use smith_component::Config;
 use std::process::ExitCode;
 
 fn main(rt: HostRuntime) -> ExitCode {
-    let answer = run::run(
+    ExitCode::from(run::run_by_default(
         rt.alloc(),
         &mut rt.stdin(),
         &mut rt.stdout(),
-        Config::default(),
-    );
-    ExitCode::from(run::report(&mut rt.stderr(), answer))
+        &mut rt.stderr(),
+    ))
 }

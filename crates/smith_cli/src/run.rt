@@ -5,7 +5,7 @@ ghost use Rattle.std.specs.Prelude.{length};
 ghost use Rattle.std.specs.Prelude.{IfOk, OnOk, IfErr, OnErr, IsErrOf, vec_len};
 ghost use Rattle.std.specs.Io.KnownBytes.{Appends, Consumes, IsAtEnd};
 ghost use Rattle.smith_input.specs.declared.error.Error.TheVariants.{OutOfMemory};
-ghost use Rattle.smith_format.specs.Limits.{IsConsistent};
+ghost use Rattle.smith_format.specs.Limits.{IsConsistent, IsDefault};
 ghost use Rattle.smith_cli.specs.Page.{page};
 ghost use Rattle.smith_cli.specs.Running.{ComesAfterReading, GivesAll, GivesTooMuch, IsRefusedOn, WritesPage};
 ghost use Rattle.smith_cli.specs.Running.{longest_input, status_of, status_of_answer};
@@ -172,4 +172,24 @@ pub fn report<W: Write>(errors: &mut W, answer: Result<(), RunError>) -> u8
             error.status()
         }
     }
+}
+
+/// What the program does: a run within the default limits, whose end is told to `errors`.
+///
+/// The answer is the status that the program ends with: 0 where the page is written, 1 for a refusal, after which the
+/// writer is as it was, and 2 for a fault.
+pub fn run_by_default<R: Read, W: Write, E: Write>(
+    alloc: Global,
+    reader: &mut R,
+    writer: &mut W,
+    errors: &mut E,
+) -> u8
+    ensures written { result ≡ 0 → (config : Config) × IsDefault config × ((input : List ℕ)
+        × GivesAll (R.remaining reader.old) (R.remaining reader.new) input
+        × WritesPage config input (W.contents writer.old) (W.contents writer.new)) }
+    ensures unwritten { result ≡ 1 → writer.new ≡ writer.old }
+    ensures statuses { (result ≡ 0) ⊎ (result ≡ 1) ⊎ (result ≡ 2) }
+{
+    let answer = run(alloc, reader, writer, Config::default());
+    report(errors, answer)
 }

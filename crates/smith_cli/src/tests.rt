@@ -1,9 +1,11 @@
 //! What no clause says: the answers of whole runs, faults of readers and writers, and the texts of the program.
 
 mod doubles;
+mod scarcity;
 
-use crate::run::{LONGEST_INPUT, RunError, report, run};
+use crate::run::{LONGEST_INPUT, RunError, report, run, run_by_default};
 use doubles::{Endless, Pieces, Sheet};
+use scarcity::{LOANS, Scarcity};
 use smith_component::{Config, Error};
 use std::alloc::{AllocError, Global};
 use std::io::Read;
@@ -173,4 +175,61 @@ fn limits_that_do_not_fit_together_are_refused(rt: HostRuntime) -> Result<(), Fa
         assert_eq!(rt; text.len(), 0);
     }
     Ok(())
+}
+
+// Core module (6) is the component section where no module may be; 8 is finish where no export may be.
+#[test]
+fn the_program_runs_within_the_default_limits(rt: HostRuntime) -> Result<(), Fail> {
+    let rows = [
+        (
+            b"\x06".as_slice(),
+            b"00 61 73 6d 0d 00 01 00 01 08 00 61 73 6d 01 00 00 00\nleft 0\n".as_slice(),
+        ),
+        (b"\x08\x06", b"00 61 73 6d 0d 00 01 00\nleft 1\n"),
+    ];
+    for (input, page) in rows {
+        let mut reader = input;
+        let mut text = Vec::new(rt.alloc());
+        let mut errors = Vec::new(rt.alloc());
+        let status = run_by_default(rt.alloc(), &mut reader, &mut text, &mut errors);
+        assert_eq!(rt; status, 0);
+        assert_eq!(rt; text.as_slice(), page);
+        assert_eq!(rt; errors.len(), 0);
+    }
+    Ok(())
+}
+
+#[test]
+fn the_program_tells_its_faults(rt: HostRuntime) {
+    let mut reader = Pieces::failing(DEFINED_TYPE, 3, 1);
+    let mut text = Vec::new(rt.alloc());
+    let mut errors = Vec::new(rt.alloc());
+    let status = run_by_default(rt.alloc(), &mut reader, &mut text, &mut errors);
+    assert_eq!(rt; status, 2);
+    assert_eq!(rt; text.len(), 0);
+    assert_eq!(rt; errors.as_slice(), b"ReadFault\n".as_slice());
+}
+
+// The page is written to room that stood before.
+#[test]
+fn nothing_is_written_while_memory_wants(rt: HostRuntime) -> Result<(), Fail> {
+    let alloc = rt.alloc();
+    let mut text = Vec::with_capacity(alloc, 100)?;
+    let mut memory = Scarcity::new(alloc)?;
+    for refused in 0..LOANS {
+        memory.lend();
+        let mut reader = DEFINED_TYPE;
+        let answer = run(alloc, &mut reader, &mut text, Config::default());
+        if answer.is_ok() {
+            assert_eq!(rt;
+                text.as_slice(),
+                b"00 61 73 6d 0d 00 01 00 07 02 01 79\nleft 1\n".as_slice()
+            );
+            assert!(rt; 0 < refused);
+            return Ok(());
+        }
+        assert_eq!(rt; answer, Err(RunError::Refused(Error::OutOfMemory)));
+        assert_eq!(rt; text.len(), 0);
+    }
+    panic!(rt; "there is never enough")
 }

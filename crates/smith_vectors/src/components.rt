@@ -162,18 +162,25 @@ fn the_empty_input_gives_the_empty_component_call_by_call(rt: HostRuntime) -> Re
 }
 
 #[test]
-fn a_module_without_memories_to_have_is_refused_where_it_is_chosen(rt: HostRuntime) {
+fn a_module_without_memories_to_have_is_refused_where_it_is_chosen(
+    rt: HostRuntime,
+) -> Result<(), Fail> {
     let config = Config {
         min_memories: 2,
         ..small_limits()
     };
-    let mut u = Unstructured::new(b"\x06\x01");
-    let refused = generate(rt.alloc(), config, &mut u).err();
-    assert_eq!(rt; refused, Some(Error::ModuleRefused));
-    assert_eq!(rt; u.left(), b"\x01".as_slice());
+    for left in [b"".as_slice(), b"\x01"] {
+        let mut input = Vec::from_slice(rt.alloc(), b"\x06")?;
+        input.extend_from_slice(left)?;
+        let mut u = Unstructured::new(&input);
+        let refused = generate(rt.alloc(), config, &mut u).err();
+        assert_eq!(rt; refused, Some(Error::ModuleRefused));
+        assert_eq!(rt; u.left(), left);
+    }
     let mut u = Unstructured::new(b"\x07\x06");
     let refused = generate(rt.alloc(), config, &mut u).err();
     assert_eq!(rt; refused, Some(Error::ModuleRefused));
     let mut u = Unstructured::new(b"\x00\x06");
     assert!(rt; generate(rt.alloc(), config, &mut u).is_ok());
+    Ok(())
 }

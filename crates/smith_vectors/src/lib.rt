@@ -3,6 +3,8 @@
 #![tactic(auto)]
 
 #[cfg(test)]
+mod calls;
+#[cfg(test)]
 mod common;
 #[cfg(test)]
 mod components;
@@ -27,6 +29,8 @@ mod hashes;
 #[cfg(test)]
 mod limits;
 #[cfg(test)]
+mod limits_at_ends;
+#[cfg(test)]
 mod module_parts;
 #[cfg(test)]
 mod module_sections;
@@ -43,9 +47,15 @@ mod plan_types;
 #[cfg(test)]
 mod plans;
 #[cfg(test)]
+mod positions;
+#[cfg(test)]
 mod reader;
 #[cfg(test)]
 mod references;
+#[cfg(test)]
+mod refused_growth;
+#[cfg(test)]
+mod scarcity;
 #[cfg(test)]
 mod scoped_types;
 #[cfg(test)]

@@ -56,6 +56,20 @@ fn disagreeing(alloc: Global, disagreement: Disagreement) -> Result<ModuleParts,
     Ok(parts)
 }
 
+// The numbers of the parts, and how long the lists are that a row fills.
+fn shape(parts: &ModuleParts) -> [usize; 8] {
+    [
+        parts.types.len(),
+        parts.rec_groups.len(),
+        parts.num_defined_funcs,
+        parts.defined_tables.len(),
+        parts.num_defined_memories,
+        parts.num_defined_tags,
+        parts.defined_globals.len(),
+        parts.elems.len(),
+    ]
+}
+
 #[test]
 fn parts_that_disagree_come_back(rt: HostRuntime) -> Result<(), Fail> {
     let rows = [
@@ -80,14 +94,17 @@ fn parts_that_disagree_come_back(rt: HostRuntime) -> Result<(), Fail> {
         ),
     ];
     for (name, disagreement) in rows {
-        let parts = disagreeing(rt.alloc(), disagreement)?;
-        let counts = (parts.types.len(), parts.rec_groups.len(), parts.elems.len());
-        let Err((error, parts)) = Module::from_parts(parts) else {
+        let given = disagreeing(rt.alloc(), disagreement)?;
+        let Err((error, parts)) = Module::from_parts(disagreeing(rt.alloc(), disagreement)?) else {
             panic!(rt; "{name}: the parts agree");
         };
-        let same = (parts.types.len(), parts.rec_groups.len(), parts.elems.len());
         assert_eq!(rt; error, Error::PartsDisagree, "{name}");
-        assert_eq!(rt; same, counts, "{name}");
+        assert_eq!(rt; shape(&parts), shape(&given), "{name}");
+        assert_eq!(rt;
+            parts.rec_groups.as_slice(),
+            given.rec_groups.as_slice(),
+            "{name}"
+        );
         assert_eq!(rt; parts.start, Some(7), "{name}");
     }
     Ok(())

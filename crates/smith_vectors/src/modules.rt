@@ -98,6 +98,28 @@ pub fn check<R: Abort + AllocGlobal>(
     Ok(())
 }
 
+/// A function of nothing, with two variables of i32 and no instructions.
+pub fn one_function(alloc: Global) -> Result<ModuleParts, Fail> {
+    let mut parts = ModuleParts::empty(alloc);
+    parts
+        .types
+        .push(final_function(Vec::new(alloc), Vec::new(alloc)))?;
+    parts.rec_groups.push((0, 1))?;
+    parts.should_encode_types = true;
+    parts.funcs.push(0)?;
+    parts.num_defined_funcs = 1;
+    parts.code.push(Code {
+        locals: Vec::from_slice(alloc, &[ValType::I32, ValType::I32])?,
+        instructions: Instructions::Generated(Vec::new(alloc)),
+    })?;
+    Ok(parts)
+}
+
+/// The bytes of a module of that function alone, after the preamble.
+pub const ONE_FUNCTION: &[u8] = &[
+    1, 4, 1, 0x60, 0, 0, 3, 2, 1, 0, 10, 8, 1, 6, 2, 1, 0x7f, 1, 0x7f, 0x0b,
+];
+
 pub fn at(table: Option<u32>, offset: Offset) -> ElementKind {
     ElementKind::Active { table, offset }
 }
@@ -200,22 +222,7 @@ fn modules_of_some_sections(rt: HostRuntime) -> Result<(), Fail> {
     let gives = [11, 5, 1, 1, 2, b'h', b'i'];
     check(&rt, "a data segment without a count", parts, &gives)?;
 
-    let mut parts = ModuleParts::empty(alloc);
-    parts
-        .types
-        .push(final_function(Vec::new(alloc), Vec::new(alloc)))?;
-    parts.rec_groups.push((0, 1))?;
-    parts.should_encode_types = true;
-    parts.funcs.push(0)?;
-    parts.num_defined_funcs = 1;
-    parts.code.push(Code {
-        locals: Vec::from_slice(alloc, &[ValType::I32, ValType::I32])?,
-        instructions: Instructions::Generated(Vec::new(alloc)),
-    })?;
-    let gives = [
-        1, 4, 1, 0x60, 0, 0, 3, 2, 1, 0, 10, 8, 1, 6, 2, 1, 0x7f, 1, 0x7f, 0x0b,
-    ];
-    check(&rt, "a function", parts, &gives)
+    check(&rt, "a function", one_function(alloc)?, ONE_FUNCTION)
 }
 
 #[test]

@@ -1,0 +1,362 @@
+//! Growths that are refused: each call answers that memory is wanting and leaves what it should, until there is enough
+//! memory, and then it answers what it answers ever.
+
+use crate::common::{PREAMBLE, Row, small_limits};
+use crate::modules::{ONE_FUNCTION, PAGE, one_function};
+use crate::scarcity::{LOANS, Scarcity};
+use smith_component::{Error, Unstructured, generate};
+use smith_core::{EntityType, Module, configured_valtypes, write_entity};
+use smith_input::{unique_kebab_string, unique_url};
+use smith_types::{
+    ComponentTypeRef, CoreType, DefType, FuncType, Import, Scopes, arbitrary_type, write_core_type,
+    write_import, write_type,
+};
+use std::alloc::Global;
+use std::collections::BTreeSet;
+use std::process::Abort;
+use std::rc::Rc;
+use std::test::Fail;
+
+// These inputs are read choice by choice in other tables.
+const ROWS: &[Row<'static>] = &[
+    Row {
+        name: "a lift to a type that stands",
+        input: b"\x03\x01\x01\x01\x01\x00\x06\x00\x01\x00\x00\x04\x01\x01\x01\x00\x00\
+            \x05\x01\x01\x01\x01\x00\x07\x01\x00\x00",
+        gives: b"\x07\x08\x01\x40\x01\x01a\x79\x00\x7f\x0a\x06\x01\x00\x01b\x01\x00\
+            \x08\x0a\x02\x01\x00\x00\x00\x00\x00\x00\x00\x00",
+        leaves: b"",
+    },
+    Row {
+        name: "a lift to a new type",
+        input: b"\x03\x01\x01\x01\x01\x00\x06\x00\x01\x00\x00\x04\x01\x01\x01\x00\x00\
+            \x05\x01\x01\x01\x01\x01\x00\x00\x00\x00",
+        gives: b"\x07\x08\x01\x40\x01\x01a\x79\x00\x7f\x0a\x06\x01\x00\x01b\x01\x00\
+            \x08\x05\x01\x01\x00\x00\x00\x07\x08\x01\x40\x01\x01b\x74\x00\x74\
+            \x08\x06\x01\x00\x00\x00\x00\x01",
+        leaves: b"",
+    },
+    Row {
+        name: "an outer alias",
+        input: b"\x03\x01\x00\x00\x00\x01\x03\x01\x00\x00\x00\x00",
+        gives: b"\x07\x09\x02\x7f\x42\x01\x02\x03\x02\x01\x00",
+        leaves: b"",
+    },
+    Row {
+        name: "what the canonical ABI asks for",
+        input: b"\x02\x01\x01",
+        gives: b"\x03\x4d\x01\x50\x05\x03\x06memory\x02\x00\x00\x01\x60\x04\x7f\x7f\x7f\x7f\x01\x7f\
+            \x03\x15canonical_abi_realloc\x00\x00\x01\x60\x03\x7f\x7f\x7f\x00\
+            \x03\x12canonical_abi_free\x00\x01",
+        leaves: b"",
+    },
+    Row {
+        name: "an alias, an import and an export in a component type",
+        input: b"\x03\x01\x01\x00\x00\x01\x02\x01\x00\x01\x00\x01\x01\x00\x01\x01\x00\x00\
+            \x01\x02\x00\x00\x00\x00",
+        gives: b"\x07\x19\x02\x40\x00\x01\x00\x41\x03\x02\x03\x02\x01\x00\x03\x00\x01b\x01\x00\
+            \x04\x00\x01c\x03\x00\x00",
+        leaves: b"",
+    },
+    Row {
+        name: "an embedded module",
+        input: b"\x06\x01\x00\x00\x00\x01\x01\x00\x00",
+        gives: b"\x01\x13\x00asm\x01\x00\x00\x00\x01\x04\x01\x60\x00\x00\x05\x03\x01\x00\x01",
+        leaves: b"",
+    },
+];
+
+// The row's answer comes behind refusals that leave a tail of its input.
+fn check_refusals<R: Abort + AllocGlobal>(rt: &R, row: &Row<'_>) -> Result<(), Fail> {
+    let mut expected = Vec::from_slice(rt.alloc(), PREAMBLE)?;
+    expected.extend_from_slice(row.gives)?;
+    let mut memory = Scarcity::new(rt.alloc())?;
+    for refused in 0..LOANS {
+        memory.lend();
+        let mut u = Unstructured::new(row.input);
+        match generate(rt.alloc(), small_limits(), &mut u) {
+            Ok(generated) => {
+                assert_eq!(rt;
+                    generated.bytes.as_slice(),
+                    expected.as_slice(),
+                    "{}",
+                    row.name
+                );
+                assert_eq!(rt; u.left(), row.leaves, "{}", row.name);
+                assert!(rt; 0 < refused, "{}", row.name);
+                return Ok(());
+            }
+            Err(error) => {
+                assert_eq!(rt; error, Error::OutOfMemory, "{}", row.name);
+                assert!(rt; row.input.ends_with(u.left()), "{}", row.name);
+            }
+        }
+    }
+    panic!(rt; "{}: there is never enough", row.name)
+}
+
+#[test]
+fn components_while_memory_wants(rt: HostRuntime) -> Result<(), Fail> {
+    for row in ROWS {
+        check_refusals(&rt, row)?;
+    }
+    Ok(())
+}
+
+// Custom (1): a text of nothing (0, 0), then 127 times more and the byte 2a, and no more.
+#[test]
+fn a_custom_section_while_memory_wants(rt: HostRuntime) -> Result<(), Fail> {
+    let mut input = Vec::from_slice(rt.alloc(), b"\x01\x00\x00")?;
+    let mut gives = Vec::from_slice(rt.alloc(), b"\x00\x80\x01\x00")?;
+    for _ in 0..127 {
+        input.extend_from_slice(b"\x01\x2a")?;
+        gives.push(0x2a)?;
+    }
+    input.extend_from_slice(b"\x00\x00")?;
+    let row = Row {
+        name: "127 bytes",
+        input: &input,
+        gives: &gives,
+        leaves: b"",
+    };
+    check_refusals(&rt, &row)
+}
+
+// A loan of 48 bytes is one block of up to 40; two growths would take two blocks.
+const ONE_GROWTH: usize = 3;
+
+#[test]
+fn a_component_is_written_with_one_growth(rt: HostRuntime) -> Result<(), Fail> {
+    let row = ROWS[0];
+    let mut u = Unstructured::new(row.input);
+    let generated = generate(rt.alloc(), small_limits(), &mut u)?;
+    assert_eq!(rt; generated.component.measure()?, 38);
+    let mut memory = Scarcity::new(rt.alloc())?;
+    for refused in 0..LOANS {
+        memory.lend();
+        match generated.component.to_bytes(rt.alloc()) {
+            Ok(bytes) => {
+                assert_eq!(rt; bytes.as_slice(), generated.bytes.as_slice());
+                assert_eq!(rt; refused, ONE_GROWTH);
+                return Ok(());
+            }
+            Err(error) => assert_eq!(rt; error, Error::OutOfMemory),
+        }
+    }
+    panic!(rt; "there is never enough")
+}
+
+#[test]
+fn a_module_is_written_with_one_growth(rt: HostRuntime) -> Result<(), Fail> {
+    let Ok(module) = Module::from_parts(one_function(rt.alloc())?) else {
+        panic!(rt; "the parts disagree");
+    };
+    let mut memory = Scarcity::new(rt.alloc())?;
+    for refused in 0..LOANS {
+        memory.lend();
+        match module.to_bytes(rt.alloc()) {
+            Ok(bytes) => {
+                assert!(rt; bytes.ends_with(ONE_FUNCTION));
+                assert_eq!(rt; bytes.len(), 28);
+                assert_eq!(rt; refused, ONE_GROWTH);
+                return Ok(());
+            }
+            Err(error) => assert_eq!(rt; error, Error::OutOfMemory),
+        }
+    }
+    panic!(rt; "there is never enough")
+}
+
+// What makes a name.
+#[derive(Debug, Clone, Copy)]
+enum Maker {
+    Kebab,
+    Url,
+}
+
+impl Maker {
+    fn make(self, alloc: Global, names: &mut BTreeSet<String>) -> Result<String, Error> {
+        let mut u = Unstructured::new(b"\x01\x00");
+        match self {
+            Maker::Kebab => unique_kebab_string(alloc, 100, names, &mut u),
+            Maker::Url => unique_url(alloc, 100, names, &mut u),
+        }
+    }
+}
+
+// The name comes behind refusals that leave the set as it was.
+fn check_name<R: Abort + AllocGlobal>(
+    rt: &R,
+    maker: Maker,
+    names: &mut BTreeSet<String>,
+    expected: &str,
+) -> Result<(), Fail> {
+    let before = names.len();
+    let mut memory = Scarcity::new(rt.alloc())?;
+    for refused in 0..LOANS {
+        memory.lend();
+        match maker.make(rt.alloc(), names) {
+            Ok(name) => {
+                assert_eq!(rt; name.as_str(), expected);
+                assert!(rt; 0 < refused, "{expected}");
+                return Ok(());
+            }
+            Err(error) => {
+                assert_eq!(rt; error, Error::OutOfMemory);
+                assert_eq!(rt; names.len(), before, "{expected}");
+            }
+        }
+    }
+    panic!(rt; "{expected}: there is never enough")
+}
+
+#[test]
+fn names_while_memory_wants(rt: HostRuntime) -> Result<(), Fail> {
+    let mut names = BTreeSet::new(rt.alloc());
+    check_name(&rt, Maker::Kebab, &mut names, "a")?;
+    check_name(&rt, Maker::Kebab, &mut names, "a1")?;
+    let mut names = BTreeSet::new(rt.alloc());
+    check_name(&rt, Maker::Url, &mut names, "https://example.com/a")?;
+    check_name(&rt, Maker::Url, &mut names, "https://example.com/a1")
+}
+
+// A function type of nothing.
+fn of_nothing(alloc: Global) -> Result<Rc<DefType>, Fail> {
+    let func = FuncType {
+        params: Vec::new(alloc),
+        result: None,
+    };
+    Ok(Rc::new(alloc, DefType::Func(Rc::new(alloc, func)?))?)
+}
+
+// A component type (2) with an alias, an import and an export, in the scope of a function type of nothing.
+const COMPONENT_TYPE: &[u8] = b"\x02\x01\x00\x01\x00\x01\x01\x00\x01\x01\x00\x00\x01\x02\x00\x00";
+
+fn component_type<R: Abort + AllocGlobal>(
+    rt: &R,
+    scopes: &mut Scopes,
+) -> Result<Rc<DefType>, Error> {
+    let config = small_limits();
+    config.check()?;
+    let valtypes = configured_valtypes(rt.alloc(), &config)?;
+    let depth = scopes.depth();
+    assert!(rt; depth == 1);
+    let mut fuel = 10;
+    let mut u = Unstructured::new(COMPONENT_TYPE);
+    arbitrary_type(rt.alloc(), &mut u, &config, &valtypes, scopes, &mut fuel)
+}
+
+#[test]
+fn a_type_while_memory_wants(rt: HostRuntime) -> Result<(), Fail> {
+    let mut scopes = Scopes::new(rt.alloc());
+    scopes.push_type(of_nothing(rt.alloc())?)?;
+    let mut out = Vec::with_capacity(rt.alloc(), 100)?;
+    let mut memory = Scarcity::new(rt.alloc())?;
+    for refused in 0..LOANS {
+        memory.lend();
+        let answer = component_type(&rt, &mut scopes);
+        assert_eq!(rt; scopes.depth(), 1);
+        assert_eq!(rt; scopes.own_len(), 1);
+        match answer {
+            Ok(ty) => {
+                write_type(&mut out, &ty)?;
+                let expected =
+                    b"\x41\x03\x02\x03\x02\x01\x00\x03\x00\x01b\x01\x00\x04\x00\x01c\x03\x00\x00";
+                assert_eq!(rt; out.as_slice(), expected.as_slice());
+                assert!(rt; 0 < refused);
+                return Ok(());
+            }
+            Err(error) => assert_eq!(rt; error, Error::OutOfMemory),
+        }
+    }
+    panic!(rt; "there is never enough")
+}
+
+// What can be written.
+#[derive(Drop)]
+enum Written {
+    Type(DefType),
+    CoreType(CoreType),
+    Import(Import),
+    Entity(EntityType),
+    Module(Module),
+}
+
+impl Written {
+    fn write(&self, out: &mut Vec<u8>) -> Result<(), Error> {
+        match self {
+            Written::Type(ty) => write_type(out, ty),
+            Written::CoreType(ty) => write_core_type(out, ty),
+            Written::Import(import) => write_import(out, import),
+            Written::Entity(entity) => write_entity(out, entity),
+            Written::Module(module) => module.write(out),
+        }
+    }
+}
+
+// How many bytes the least block has, which grow without a refusal up to there.
+const LEAST_BLOCK: usize = 24;
+
+// The bytes come behind refusals that leave the buffer as it was.
+fn check_written<R: Abort + AllocGlobal>(
+    rt: &R,
+    written: &Written,
+    expected: &[u8],
+) -> Result<(), Fail> {
+    let full = [0x2a; LEAST_BLOCK];
+    let mut out = Vec::from_slice(rt.alloc(), &full)?;
+    let mut memory = Scarcity::new(rt.alloc())?;
+    for refused in 0..LOANS {
+        memory.lend();
+        match written.write(&mut out) {
+            Ok(()) => {
+                assert!(rt; out.starts_with(&full));
+                assert!(rt; out.ends_with(expected), "{expected:?}");
+                assert!(rt; 0 < refused, "{expected:?}");
+                return Ok(());
+            }
+            Err(error) => {
+                assert_eq!(rt; error, Error::OutOfMemory, "{expected:?}");
+                assert_eq!(rt; out.as_slice(), full.as_slice(), "{expected:?}");
+            }
+        }
+    }
+    panic!(rt; "{expected:?}: there is never enough")
+}
+
+#[test]
+fn types_are_written_while_memory_wants(rt: HostRuntime) -> Result<(), Fail> {
+    let alloc = rt.alloc();
+    let func = FuncType {
+        params: Vec::new(alloc),
+        result: None,
+    };
+    let ty = Written::Type(DefType::Func(Rc::new(alloc, func)?));
+    check_written(&rt, &ty, b"\x40\x00\x01\x00")?;
+    let core = smith_core::FuncType {
+        params: Vec::new(alloc),
+        results: Vec::new(alloc),
+    };
+    let core = Written::CoreType(CoreType::Func(Rc::new(alloc, core)?));
+    check_written(&rt, &core, b"\x60\x00\x00")
+}
+
+#[test]
+fn imports_are_written_while_memory_wants(rt: HostRuntime) -> Result<(), Fail> {
+    let import = Written::Import(Import {
+        name: String::from_str(rt.alloc(), "a")?,
+        url: None,
+        ty: ComponentTypeRef::Module(3),
+    });
+    check_written(&rt, &import, b"\x00\x01a\x00\x11\x03")?;
+    let memory = Written::Entity(EntityType::Memory(PAGE));
+    check_written(&rt, &memory, b"\x02\x00\x01")
+}
+
+#[test]
+fn modules_are_written_while_memory_wants(rt: HostRuntime) -> Result<(), Fail> {
+    let Ok(module) = Module::from_parts(one_function(rt.alloc())?) else {
+        panic!(rt; "the parts disagree");
+    };
+    check_written(&rt, &Written::Module(module), ONE_FUNCTION)
+}
