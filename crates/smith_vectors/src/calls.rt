@@ -4,7 +4,8 @@ use smith_component::Unstructured;
 use smith_core::{ValType, s64_len, text_len, u32_len, u64_len, write_text};
 use smith_types::{
     ComponentValType, CoreType, DefType, DefinedType, ExternNames, FuncType, ListType, ModuleType,
-    PrimitiveValType, canonical_abi_for, core_type_len, named_extern, type_len,
+    PrimitiveValType, canonical_abi_for, core_type_len, inverse_scalar_canonical_abi_for,
+    named_extern, type_len,
 };
 use std::alloc::Global;
 use std::rc::Rc;
@@ -85,6 +86,21 @@ fn function_types_that_flatten(rt: HostRuntime) -> Result<(), Fail> {
     let core = canonical_abi_for(alloc, &numbers)?;
     assert_eq!(rt; core.params.as_slice(), [ValType::I32].as_slice());
     assert_eq!(rt; core.results.as_slice(), [ValType::I64].as_slice());
+    Ok(())
+}
+
+// A name `b` (1, 1), the first primitive that flattens to i32 (0), and the second that flattens to i64 (1).
+#[test]
+fn a_core_function_type_lifts(rt: HostRuntime) -> Result<(), Fail> {
+    let alloc = rt.alloc();
+    let numbers = of_one(alloc, "a", PrimitiveValType::U32, PrimitiveValType::S64)?;
+    assert!(rt; numbers.is_scalar());
+    let core = canonical_abi_for(alloc, &numbers)?;
+    let mut u = Unstructured::new(b"\x01\x01\x00\x01\x07");
+    let lifted = inverse_scalar_canonical_abi_for(alloc, &mut u, &core)?;
+    let expected = of_one(alloc, "b", PrimitiveValType::Char, PrimitiveValType::U64)?;
+    assert!(rt; lifted == expected);
+    assert_eq!(rt; u.left(), b"\x07".as_slice());
     Ok(())
 }
 

@@ -2,17 +2,25 @@
 
 use crate::common::{Row, check, small_limits};
 use smith_component::{Component, Config, CustomSection, Section, Unstructured};
+use std::alloc::Global;
 use std::test::Fail;
+
+/// An input, and the section that it gives: custom (1), a text of nothing (0, 0), then 127 times
+/// more (1) and the byte 2a, no more (0), and no section behind it (0).
+pub fn section_of_127_bytes(alloc: Global) -> Result<(Vec<u8>, Vec<u8>), Fail> {
+    let mut input = Vec::from_slice(alloc, b"\x01\x00\x00")?;
+    let mut section = Vec::from_slice(alloc, b"\x00\x80\x01\x00")?;
+    for _ in 0..127 {
+        input.extend_from_slice(b"\x01\x2a")?;
+        section.push(0x2a)?;
+    }
+    input.extend_from_slice(b"\x00\x00")?;
+    Ok((input, section))
+}
 
 #[test]
 fn a_section_of_127_bytes(rt: HostRuntime) -> Result<(), Fail> {
-    let mut input = Vec::from_slice(rt.alloc(), b"\x01\x00\x00")?;
-    let mut bytes = Vec::from_slice(rt.alloc(), &[0x00, 0x80, 0x01, 0x00])?;
-    for _ in 0..127 {
-        input.extend_from_slice(b"\x01\x2a")?;
-        bytes.push(0x2a)?;
-    }
-    input.extend_from_slice(b"\x00\x00")?;
+    let (input, bytes) = section_of_127_bytes(rt.alloc())?;
     let row = Row {
         name: "127 bytes, 139 in all",
         input: &input,

@@ -2,6 +2,7 @@
 //! memory, and then it answers what it answers ever.
 
 use crate::common::{PREAMBLE, Row, small_limits};
+use crate::custom::section_of_127_bytes;
 use crate::modules::{ONE_FUNCTION, PAGE, one_function};
 use crate::scarcity::{LOANS, Scarcity};
 use smith_component::{Error, Unstructured, generate};
@@ -103,16 +104,9 @@ fn components_while_memory_wants(rt: HostRuntime) -> Result<(), Fail> {
     Ok(())
 }
 
-// Custom (1): a text of nothing (0, 0), then 127 times more and the byte 2a, and no more.
 #[test]
 fn a_custom_section_while_memory_wants(rt: HostRuntime) -> Result<(), Fail> {
-    let mut input = Vec::from_slice(rt.alloc(), b"\x01\x00\x00")?;
-    let mut gives = Vec::from_slice(rt.alloc(), b"\x00\x80\x01\x00")?;
-    for _ in 0..127 {
-        input.extend_from_slice(b"\x01\x2a")?;
-        gives.push(0x2a)?;
-    }
-    input.extend_from_slice(b"\x00\x00")?;
+    let (input, gives) = section_of_127_bytes(rt.alloc())?;
     let row = Row {
         name: "127 bytes",
         input: &input,
@@ -294,7 +288,7 @@ impl Written {
     }
 }
 
-// How many bytes the least block has, which grow without a refusal up to there.
+// The allocator's least block has so many bytes, and what has fewer grows within it without a refusal.
 const LEAST_BLOCK: usize = 24;
 
 // The bytes come behind refusals that leave the buffer as it was.
