@@ -1,2 +1,1 @@
-pub mod Page
 pub mod Running

@@ -1,69 +1,15 @@
--- What a run takes from its reader, and what it gives to its writer. `Some` bytes are what a reader has left, or a writer holds; `None` tells nothing.
-use Rattle.std.specs.Prelude.{◌≢◌, ℕ, ◌≡◌, ◌+◌, ◌≤◌, ◌++◌, List, length, ⊤, Option, Result, Ok, Err}
-use Rattle.std.specs.Io.KnownBytes.{Appends, Consumes, IsAtEnd}
-use Rattle.smith_input.specs.Reading.{IsTail}
-use Rattle.smith_input.specs.declared.error.Error.TheVariants.{OutOfMemory}
-use Rattle.smith_component.specs.declared.Config.{Config}
-use Rattle.smith_component.specs.Tree.{Tree}
-use Rattle.smith_component.specs.Generates.{Generates}
-use Rattle.smith_component.specs.Grammar.{Spells}
-use Rattle.smith_component.specs.Script.{Within, script}
-use Rattle.smith_component.specs.Runs.{RunsTo}
-use Rattle.smith_component.specs.Refusals.{IsGenerateRefusal}
-use Rattle.smith_cli.specs.declared.run.RunError.{RunError}
-use Rattle.smith_cli.specs.declared.run.RunError.TheVariants.{Refused, ReadFault, InputTooLong, WriteFault}
-use Rattle.smith_cli.specs.Page.{page}
+-- What a run writes, and the status that the program ends with.
+use Rattle.std.specs.Prelude.{ℕ, List, Option, Result, Ok, Err}
+use Rattle.smith_format.specs.declared.config.Config.{Config}
+use Rattle.smith_run.specs.Running.{Writes, status_of}
+use Rattle.smith_run.specs.declared.running.Form.TheVariants.{Page}
+use Rattle.smith_run.specs.declared.running.RunError.{RunError}
 
--- how many bytes an input may have
-abbrev pub longest_input : ℕ
-longest_input = 1048576
+-- the page of the component that a run of turns makes of the input, and of how many bytes it leaves
+abbrev pub WritesPage : Config → List ℕ → Option (List ℕ) → Option (List ℕ) → Type 0
+WritesPage config input before after = (left : List ℕ) × Writes config Page input left before after
 
--- The reader gave this input, is at its end, and the input is not too long.
-pub record GivesAll (before after : Option (List ℕ)) (input : List ℕ) : Type 0 where
-  pub given : Consumes before after input
-  pub ended : IsAtEnd after
-  pub within : length input ≤ longest_input
-
--- The reader gave one byte more than an input may have.
-pub record GivesTooMuch (before after : Option (List ℕ)) : Type 0 where
-  pub taken : List ℕ
-  pub given : Consumes before after taken
-  pub past : length taken ≡ longest_input + 1
-
--- The bytes of the component that a run of turns makes of the input, and how many bytes it leaves, are written as a page. Where the input
--- begins with the script of a plan, they are the plan's bytes, and what stands behind the script is left.
-pub record WritesPage (config : Config) (input : List ℕ) (before after : Option (List ℕ)) : Type 0 where
-  pub component : Tree
-  pub bytes : List ℕ
-  pub generated : Generates config component bytes
-  pub left : List ℕ
-  pub is_left : IsTail left input
-  pub run : RunsTo config input component left
-  pub reach : (plan : Tree) (rest : List ℕ) → Within config plan → input ≡ script config plan ++ rest → Spells plan bytes × (left ≡ rest)
-  pub written : Appends before after (page bytes (length left))
-
--- It comes only once the whole input is read.
-abbrev pub ComesAfterReading : RunError → Type 0
-ComesAfterReading (Refused error) = error ≢ OutOfMemory
-ComesAfterReading ReadFault = ⊥
-ComesAfterReading InputTooLong = ⊥
-ComesAfterReading WriteFault = ⊤
-
--- A refusal is one of the component's making from the input.
-abbrev pub IsRefusedOn : Config → List ℕ → RunError → Type 0
-IsRefusedOn config input (Refused error) = IsGenerateRefusal config input error
-IsRefusedOn config input ReadFault = ⊤
-IsRefusedOn config input InputTooLong = ⊤
-IsRefusedOn config input WriteFault = ⊤
-
--- the status that the program ends with
-abbrev pub status_of : RunError → ℕ
-status_of (Refused error) = 1
-status_of ReadFault = 2
-status_of InputTooLong = 2
-status_of WriteFault = 2
-
--- the same of a whole run: 0 where it did not give up
+-- the status that the program ends with: 0 where the run did not give up
 abbrev pub status_of_answer : {A : Type 0} → Result A RunError → ℕ
 status_of_answer (Ok _) = 0
 status_of_answer (Err error) = status_of error

@@ -1,7 +1,6 @@
 //! Turns the bytes on standard input into a WebAssembly component, and writes it on standard output.
 #![tactic(auto)]
 
-mod page;
 mod run;
 #[cfg(test)]
 mod tests;

@@ -1,140 +1,17 @@
-//! From a reader of a fuzzer's bytes to the page of a component.
+//! From a reader of a fuzzer's bytes to the page of a component, within limits and within the default ones.
 
-ghost use Rattle.std.specs.Prelude.{◌≡◌, ◌≢◌, ℕ, ◌+◌, ◌<◌, ◌≤◌, ◌⊎◌, List, Option};
-ghost use Rattle.std.specs.Prelude.{length};
-ghost use Rattle.std.specs.Prelude.{IfOk, OnOk, IfErr, OnErr, IsErrOf, vec_len};
-ghost use Rattle.std.specs.Io.KnownBytes.{Appends, Consumes, IsAtEnd};
-ghost use Rattle.smith_input.specs.declared.error.Error.TheVariants.{OutOfMemory};
+ghost use Rattle.std.specs.Prelude.{◌≡◌, ◌≢◌, ℕ, ◌⊎◌, List, OnOk, IfErr, IsErrOf};
 ghost use Rattle.smith_format.specs.Limits.{IsConsistent, IsDefault};
-ghost use Rattle.smith_cli.specs.Page.{page};
-ghost use Rattle.smith_cli.specs.Running.{ComesAfterReading, GivesAll, GivesTooMuch, IsRefusedOn, WritesPage};
-ghost use Rattle.smith_cli.specs.Running.{longest_input, status_of, status_of_answer};
+ghost use Rattle.smith_run.specs.Running.{ComesAfterReading, GivesAll, GivesTooMuch, IsRefusedOn};
+ghost use Rattle.smith_cli.specs.Running.{WritesPage, status_of_answer};
 
-use crate::page;
-use smith_component::{Config, Error, Unstructured, generate};
-use std::alloc::{AllocError, Global};
+use smith_component::Config;
+use smith_run::{Form, RunError};
+use std::alloc::Global;
 use std::io::{Read, Write};
 
-/// How many bytes an input may have.
-pub const LONGEST_INPUT: usize = 1_048_576;
-
-/// How many bytes a read asks for at most.
-const CHUNK: usize = 8192;
-
-/// Why a run gives up.
-#[derive(Debug, PartialEq, Eq, Drop, thiserror::Error)]
-pub enum RunError {
-    /// No component is made of the input, or memory is wanting.
-    #[error("{0:?}")]
-    Refused(Error),
-    /// A read failed.
-    #[error("ReadFault")]
-    ReadFault,
-    /// The input has more than `LONGEST_INPUT` bytes.
-    #[error("InputTooLong")]
-    InputTooLong,
-    /// A write failed.
-    #[error("WriteFault")]
-    WriteFault,
-}
-
-impl RunError {
-    /// The status that the program ends with: 1 for a refusal, 2 for a fault.
-    pub fn status(&self) -> u8
-        ensures { result ≡ status_of self.now }
-    {
-        match self {
-            RunError::Refused(_) => 1,
-            RunError::ReadFault | RunError::InputTooLong | RunError::WriteFault => 2,
-        }
-    }
-}
-
-impl From<Error> for RunError {
-    ghost use Rattle.std.specs.Prelude.{◌≡◌};
-    ghost use Rattle.smith_cli.specs.declared.run.RunError.TheVariants.{Refused};
-
-    ghost from_gives = { λ error e. e ≡ Refused error };
-
-    fn from(error: Error) -> RunError {
-        RunError::Refused(error)
-    }
-}
-
-impl From<AllocError> for RunError {
-    ghost use Rattle.std.specs.Prelude.{◌≡◌};
-    ghost use Rattle.smith_cli.specs.declared.run.RunError.TheVariants.{Refused};
-    ghost use Rattle.smith_input.specs.declared.error.Error.TheVariants.{OutOfMemory};
-
-    ghost from_gives = { λ _ e. e ≡ Refused OutOfMemory };
-
-    fn from(_error: AllocError) -> RunError {
-        RunError::Refused(Error::OutOfMemory)
-    }
-}
-
-// One read, which goes behind the input. At most one byte too many is taken.
-fn read_some<R: Read>(
-    reader: &mut R,
-    chunk: &mut [u8],
-    input: &mut Vec<u8>,
-) -> Result<usize, RunError>
-    requires room { 0 < length chunk.old }
-    requires within { vec_len input.old ≤ longest_input }
-    ensures given { OnOk result ((before : Option (List ℕ))
-        → Consumes before (R.remaining reader.old) input.old.items
-        → Consumes before (R.remaining reader.new) input.new.items) }
-    ensures grows { IfOk result (λ count. vec_len input.new ≡ vec_len input.old + count) }
-    ensures bound { OnOk result (vec_len input.new ≤ longest_input + 1) }
-    ensures end { IfOk result (λ count. count ≡ 0
-        → (input.new.items ≡ input.old.items) × IsAtEnd (R.remaining reader.new)) }
-    ensures fault { IfErr result (λ e. (e ≡ RunError.Refused OutOfMemory) ⊎ (e ≡ RunError.ReadFault)) }
-{
-    let room = chunk.len().min(LONGEST_INPUT + 1 - input.len());
-    match reader.read(&mut chunk[..room]) {
-        Ok(count) => {
-            input.extend_from_slice(&chunk[..count])?;
-            Ok(count)
-        }
-        Err(_) => Err(RunError::ReadFault),
-    }
-}
-
-// All that the reader gives. Each read but the last brings a byte, so there are at most `LONGEST_INPUT + 1`.
-fn read_input<R: Read>(alloc: Global, reader: &mut R) -> Result<Vec<u8>, RunError>
-    ensures all { IfOk result (λ input. GivesAll (R.remaining reader.old) (R.remaining reader.new) input.items) }
-    ensures fault { IfErr result (λ e.
-        (e ≡ RunError.Refused OutOfMemory) ⊎ (e ≡ RunError.ReadFault) ⊎ (e ≡ RunError.InputTooLong)) }
-    ensures too_long { IsErrOf result RunError.InputTooLong
-        → GivesTooMuch (R.remaining reader.old) (R.remaining reader.new) }
-{
-    let mut chunk = [0u8; CHUNK];
-    let mut input = Vec::new(alloc);
-    'reads: while input.len() <= LONGEST_INPUT {
-        if read_some(reader, &mut chunk, &mut input)? == 0 {
-            return Ok(input);
-        }
-    }
-    Err(RunError::InputTooLong)
-}
-
-// The text, and a flush, so that a writer that keeps bytes back tells its errors here.
-fn write_page<W: Write>(writer: &mut W, text: &[u8]) -> Result<(), RunError>
-    ensures written { OnOk result (Appends (W.contents writer.old) (W.contents writer.new) text.now) }
-    ensures fault { IfErr result (λ e. e ≡ RunError.WriteFault) }
-{
-    if writer.write_all(text).is_err() || writer.flush().is_err() {
-        return Err(RunError::WriteFault);
-    }
-    Ok(())
-}
-
-/// Reads the whole input, in at most `LONGEST_INPUT + 1` reads, makes a component of it, and writes the page of
-/// the component's bytes and of the number of bytes left.
-///
-/// Any error of a read is `ReadFault`, a byte past `LONGEST_INPUT` is `InputTooLong`, and any error of a write or
-/// of the flush behind it is `WriteFault`. What `generate` refuses with, or want of memory, is `Refused`. The page
-/// is made whole before its first byte is written, so any part of it may be out after `WriteFault` alone.
+/// Reads the whole input, makes a component of it, and writes the page of the component's bytes and of the number of
+/// bytes left, as `smith_run::run` does in its form `Page`.
 pub fn run<R: Read, W: Write>(
     alloc: Global,
     reader: &mut R,
@@ -152,11 +29,8 @@ pub fn run<R: Read, W: Write>(
     ensures too_long { IsErrOf result RunError.InputTooLong
         → GivesTooMuch (R.remaining reader.old) (R.remaining reader.new) }
 {
-    let input = read_input(alloc, reader)?;
-    let mut unstructured = Unstructured::new(&input);
-    let generated = generate(alloc, config, &mut unstructured)?;
-    let text = page::page(alloc, &generated.bytes, unstructured.left().len())?;
-    write_page(writer, &text)
+    smith_run::run(alloc, reader, writer, config, Form::Page)?;
+    Ok(())
 }
 
 /// Tells how a run ended: where it gave up, the name of the refusal or the fault goes to `errors` as a line of its own.

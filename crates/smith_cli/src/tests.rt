@@ -3,10 +3,11 @@
 mod doubles;
 mod scarcity;
 
-use crate::run::{LONGEST_INPUT, RunError, report, run, run_by_default};
+use crate::run::{report, run, run_by_default};
 use doubles::{Endless, Pieces, Sheet};
 use scarcity::{LOANS, Scarcity};
 use smith_component::{Config, Error};
+use smith_run::{LONGEST_INPUT, RunError};
 use std::alloc::{AllocError, Global};
 use std::io::Read;
 use std::test::Fail;

@@ -1,0 +1,30 @@
+-- What a call makes of the input, and why it stops.
+use Rattle.std.specs.Prelude.{◌≡◌, ◌≢◌, ℕ, List, length}
+use Rattle.smith_format.specs.Limits.{IsConsistent}
+use Rattle.smith_format.specs.declared.config.Config.{Config}
+use Rattle.smith_component.specs.Generates.{Generates}
+use Rattle.smith_component.specs.Refusals.{IsGenerateRefusal}
+use Rattle.smith_component.specs.Runs.{RunsTo}
+use Rattle.smith_component.specs.Tree.{Tree}
+use Rattle.smith_c.specs.Limits.{limits_of}
+use Rattle.smith_c.specs.declared.limits.Limits.{Limits}
+use Rattle.smith_c.specs.declared.status.Status.{Status}
+use Rattle.smith_c.specs.declared.status.Status.TheVariants.{Answered, Refused, NoRoom, BadFlag}
+
+-- These are the bytes of a component to which a run of turns within the limits leads, and so many bytes of the input are left.
+pub record Makes (limits : Limits) (input bytes : List ℕ) (left : ℕ) : Type 0 where
+  pub config : Config
+  pub told : limits ≡ limits_of config
+  pub consistent : IsConsistent config
+  pub component : Tree
+  pub generated : Generates config component bytes
+  pub rest : List ℕ
+  pub run : RunsTo config input component rest
+  pub left_is : left ≡ length rest
+
+-- No component is made: as the limits and the input refuse it, or since the limits are those of no configuration.
+abbrev pub Stops : Limits → List ℕ → Status → Type 0
+Stops limits input Answered = ⊥
+Stops limits input (Refused error) = (config : Config) × (limits ≡ limits_of config) × IsGenerateRefusal config input error
+Stops limits input NoRoom = ⊥
+Stops limits input BadFlag = (config : Config) → limits ≢ limits_of config

@@ -1,0 +1,8 @@
+//! Components from a fuzzer's bytes, for callers in C. `include/lupinanon.h` declares what is exported, and says what
+//! such a caller owes.
+#![tactic(auto)]
+
+pub mod into;
+pub mod limits;
+pub mod make;
+pub mod status;

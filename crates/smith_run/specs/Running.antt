@@ -1,0 +1,70 @@
+-- What a run takes from its reader, and what it gives to its writer. `Some` bytes are what a reader has left, or a writer holds; `None` tells nothing.
+use Rattle.std.specs.Prelude.{◌≢◌, ℕ, ◌≡◌, ◌+◌, ◌≤◌, ◌++◌, List, length, ⊤, Option}
+use Rattle.std.specs.Io.KnownBytes.{Appends, Consumes, IsAtEnd}
+use Rattle.smith_input.specs.Reading.{IsTail}
+use Rattle.smith_input.specs.declared.error.Error.TheVariants.{OutOfMemory}
+use Rattle.smith_component.specs.declared.Config.{Config}
+use Rattle.smith_component.specs.Tree.{Tree}
+use Rattle.smith_component.specs.Generates.{Generates}
+use Rattle.smith_component.specs.Grammar.{Spells}
+use Rattle.smith_component.specs.Script.{Within, script}
+use Rattle.smith_component.specs.Runs.{RunsTo}
+use Rattle.smith_component.specs.Refusals.{IsGenerateRefusal}
+use Rattle.smith_run.specs.declared.running.RunError.{RunError}
+use Rattle.smith_run.specs.declared.running.RunError.TheVariants.{Refused, ReadFault, InputTooLong, WriteFault}
+use Rattle.smith_run.specs.declared.running.Form.{Form}
+use Rattle.smith_run.specs.declared.running.Form.TheVariants.{Raw, Page}
+use Rattle.smith_run.specs.Page.{page}
+
+-- how many bytes an input may have
+abbrev pub longest_input : ℕ
+longest_input = 1048576
+
+-- The reader gave this input, is at its end, and the input is not too long.
+pub record GivesAll (before after : Option (List ℕ)) (input : List ℕ) : Type 0 where
+  pub given : Consumes before after input
+  pub ended : IsAtEnd after
+  pub within : length input ≤ longest_input
+
+-- The reader gave one byte more than an input may have.
+pub record GivesTooMuch (before after : Option (List ℕ)) : Type 0 where
+  pub taken : List ℕ
+  pub given : Consumes before after taken
+  pub past : length taken ≡ longest_input + 1
+
+-- what is written of a component's bytes, of which so many bytes of the input are left: these bytes, or their page
+abbrev pub written_text : Form → List ℕ → ℕ → List ℕ
+written_text Raw bytes left = bytes
+written_text Page bytes left = page bytes left
+
+-- The bytes of the component that a run of turns makes of the input are written in the form. Where the input begins with the script of a
+-- plan, they are the plan's bytes, and what stands behind the script is left.
+pub record Writes (config : Config) (form : Form) (input left : List ℕ) (before after : Option (List ℕ)) : Type 0 where
+  pub component : Tree
+  pub bytes : List ℕ
+  pub generated : Generates config component bytes
+  pub is_left : IsTail left input
+  pub run : RunsTo config input component left
+  pub reach : (plan : Tree) (rest : List ℕ) → Within config plan → input ≡ script config plan ++ rest → Spells plan bytes × (left ≡ rest)
+  pub written : Appends before after (written_text form bytes (length left))
+
+-- It comes only once the whole input is read.
+abbrev pub ComesAfterReading : RunError → Type 0
+ComesAfterReading (Refused error) = error ≢ OutOfMemory
+ComesAfterReading ReadFault = ⊥
+ComesAfterReading InputTooLong = ⊥
+ComesAfterReading WriteFault = ⊤
+
+-- A refusal is one of the component's making from the input.
+abbrev pub IsRefusedOn : Config → List ℕ → RunError → Type 0
+IsRefusedOn config input (Refused error) = IsGenerateRefusal config input error
+IsRefusedOn config input ReadFault = ⊤
+IsRefusedOn config input InputTooLong = ⊤
+IsRefusedOn config input WriteFault = ⊤
+
+-- the status that the program ends with
+abbrev pub status_of : RunError → ℕ
+status_of (Refused error) = 1
+status_of ReadFault = 2
+status_of InputTooLong = 2
+status_of WriteFault = 2

@@ -1,0 +1,56 @@
+/* A target of libFuzzer and of AFL++: each input gives a component, which goes to use_component of use.h.
+ *
+ * The library has no coverage of its own, so that the target tells libFuzzer what sections it sees: their numbers, the
+ * number of the section before, and how long they are. */
+#include "lupinanon.h"
+#include "use.h"
+
+#ifdef __has_attribute
+#if defined(__linux__) && defined(__clang__)
+__attribute__((section("__libfuzzer_extra_counters")))
+#endif
+#endif
+static uint8_t seen[16 * 16 * 16];
+
+enum { HEADER = 8, LAST_SECTION = 11 };
+
+/* How many bits a number has, at most 15. */
+static uint32_t width_of(uint64_t number) {
+    uint32_t width = 0;
+    while (width < 15 && number >> width) width++;
+    return width;
+}
+
+/* Counts the sections. Each has a number and a length in LEB128, and is whole. */
+static void count_sections(const uint8_t *bytes, size_t len) {
+    size_t at = HEADER;
+    uint32_t before = 15;
+    while (at < len) {
+        uint32_t number = bytes[at++], shift = 0;
+        uint64_t size = 0;
+        do {
+            if (at == len || shift > 28) abort();
+            size |= (uint64_t)(bytes[at] & 0x7f) << shift;
+            shift += 7;
+        } while (bytes[at++] & 0x80);
+        if (number > LAST_SECTION || size > len - at) abort();
+        seen[before * 256 + number * 16 + width_of(size)] = 1;
+        before = number;
+        at += size;
+    }
+}
+
+int LLVMFuzzerTestOneInput(const uint8_t *data, size_t size) {
+    static uint8_t output[1 << 16];
+    size_t len, left;
+    LupinanonLimits limits;
+    int32_t status;
+    lupinanon_default_limits(&limits);
+    limits.max_exports = 10;
+    status = lupinanon_generate_into(&limits, data, size, output, sizeof output, &len, &left);
+    if (status == LUPINANON_NO_ROOM) return -1; /* larger than what this target is for: not kept in the corpus */
+    if (status != LUPINANON_ANSWERED || left > size) abort();
+    count_sections(output, len);
+    if (use_component(output, len)) abort();
+    return 0;
+}

@@ -1,0 +1,37 @@
+use lupinanon::{generate, Limits, Refusal};
+
+#[test]
+fn a_component_of_one_type() {
+    let made = generate(&Limits::default(), b"\x03\x01\x00\x00\x06\x00\x00\xff").unwrap();
+    assert_eq!(made.bytes, b"\x00asm\x0d\x00\x01\x00\x07\x02\x01\x79");
+    assert_eq!(made.left, 1);
+}
+
+#[test]
+fn limits_that_cross_are_refused() {
+    let limits = Limits { min_types: 5, max_types: 4, ..Limits::default() };
+    assert_eq!(generate(&limits, b""), Err(Refusal::InconsistentLimits));
+}
+
+#[test]
+fn a_component_larger_than_the_first_output() {
+    let mut input = b"\x01\x00\x00".to_vec();
+    for _ in 0..10_000 {
+        input.extend_from_slice(b"\x01\x2a");
+    }
+    let made = generate(&Limits::default(), &input).unwrap();
+    assert_eq!(made.bytes.len(), 8 + 1 + 2 + 1 + 10_000);
+    assert!(made.bytes.ends_with(&[0x2a; 10_000]));
+}
+
+#[test]
+fn threads_give_the_same_component() {
+    let input: Vec<u8> = (0..4096u32).map(|place| (place * 7 % 251) as u8).collect();
+    let alone = generate(&Limits::default(), &input).unwrap();
+    std::thread::scope(|scope| {
+        let threads = [(); 4].map(|()| scope.spawn(|| generate(&Limits::default(), &input)));
+        for thread in threads {
+            assert_eq!(thread.join().unwrap().as_ref(), Ok(&alone));
+        }
+    });
+}
