@@ -1,0 +1,17 @@
+use Rattle.toml.specs.View.{table_view}
+use Rattle.smith_format.specs.Limits.{IsDefault}
+use Rattle.smith_format.specs.declared.config.Config.{Config}
+use Rattle.lupinanon.specs.Limits.{IsRefused}
+use Rattle.lupinanon.specs.declared.limits.Fault.{Fault}
+use Rattle.lupinanon.proofs.Told.{refused}
+use Rattle.lupinanon.proofs.limits.limits_of.Goals as goal
+
+pub returns-in_err-check_keys-clause-refused : goal.returns-in_err-check_keys-clause-refused
+returns-in_err-check_keys-clause-refused c =
+    let P : Fault → Type 0 = λ e. (default : Config) → IsDefault default → IsRefused (table_view c.args.table.now) default e in
+    refused _ _ P c.from_residual.ensures.1 (λ default _. c.in_err-check_keys.ensures.refused default)
+
+pub returns-in_err-config-clause-refused : goal.returns-in_err-config-clause-refused
+returns-in_err-config-clause-refused c =
+    let P : Fault → Type 0 = λ e. (default : Config) → IsDefault default → IsRefused (table_view c.args.table.now) default e in
+    refused _ _ P c.from_residual-in_err-config.ensures.1 (λ default _. c.in_err-config.ensures.refused default)

@@ -1,0 +1,51 @@
+//! The default limits as text.
+
+/// The default limits as TOML, each behind a line that says what it limits.
+pub const DEFAULT_LIMITS: &str = "\
+# The fewest types of a component. They can always be added.
+min_types = 0
+# The fewest imports of a component. Where they can not be added, it is refused with MinimumNotMet.
+min_imports = 0
+# The fewest functions of a component: imported ones, lifts and lowers together. Where they can not be added, likewise.
+min_funcs = 0
+# The fewest memories of a core module.
+min_memories = 0
+# The most types of a component, and the most core types.
+max_types = 100
+# The most imports of a component.
+max_imports = 100
+# The most functions of a component: imported ones, lifts and lowers together.
+max_funcs = 100
+# The most exports of a component. They are functions of it too, and are not counted against max_funcs.
+max_exports = 0
+# The most globals that a module type imports and exports.
+max_globals = 100
+# The most tables that a module type imports and exports.
+max_tables = 100
+# The most tags that a module type imports and exports.
+max_tags = 100
+# The most memories of a core module, and those that a module type imports and exports.
+max_memories = 1
+# The most core modules of the whole tree, embedded and imported.
+max_modules = 10
+# The most components of the whole tree below the root, nested and imported.
+max_components = 10
+# The most instances that the whole tree imports.
+max_instances = 10
+# How deep components nest, the root at 1. A limit of 0 counts as 1.
+max_nesting_depth = 10
+# The fuel of a type: its members and declarations at all depths are at most so many.
+max_type_size = 1000
+# Whether a core function may have several results.
+multi_value_enabled = true
+# Whether there are tags.
+exceptions_enabled = true
+# Whether there are reference types as core value types.
+reference_types_enabled = true
+# Whether there is the core value type v128.
+simd_enabled = true
+# Whether there are the core value types f32 and f64.
+allow_floats = true
+# Whether core modules count their data segments in a section.
+bulk_memory_enabled = true
+";

@@ -1,0 +1,134 @@
+//! Where bytes come from and go to. Each keeps the error that it met, so that a message can tell it.
+
+ghost use Rattle.std.specs.Prelude.{◌≤◌, length, IfOk};
+
+use std::fs::File;
+use std::io::{self, Read, Stdin, Stdout, Write};
+
+/// Standard input, or a file.
+#[derive(Drop)]
+enum Opened {
+    Standard(Stdin),
+    File(File),
+}
+
+/// What the input is read from.
+#[derive(Drop)]
+pub struct Source {
+    opened: Opened,
+    fault: Option<io::Error>,
+}
+
+impl Source {
+    /// Opens the file, or standard input where there is none.
+    pub fn open(rt: &HostRuntime, path: Option<&str>) -> io::Result<Source> {
+        let opened = match path {
+            None => Opened::Standard(rt.stdin()),
+            Some(path) => Opened::File(File::open(rt, path)?),
+        };
+        Ok(Source {
+            opened,
+            fault: None,
+        })
+    }
+
+    /// The last error of a read.
+    pub fn fault(&self) -> Option<&io::Error> {
+        self.fault.as_ref()
+    }
+}
+
+impl Read for Source {
+    fn read(&mut self, buf: &mut [u8]) -> io::Result<usize> {
+        let answer = match &mut self.opened {
+            Opened::Standard(stdin) => stdin.read(buf),
+            Opened::File(file) => file.read(buf),
+        };
+        match answer {
+            Ok(count) => Ok(count),
+            Err(error) => {
+                let kind = error.kind();
+                self.fault = Some(error);
+                Err(io::Error::from(kind))
+            }
+        }
+    }
+}
+
+/// Standard output, or a file, which is made only when its first byte is written.
+#[derive(Drop)]
+enum Made<'a> {
+    Standard(Stdout),
+    Unmade(&'a HostRuntime, &'a str),
+    File(File),
+}
+
+/// What the component is written to.
+#[derive(Drop)]
+pub struct Sink<'a> {
+    made: Made<'a>,
+    fault: Option<io::Error>,
+}
+
+impl<'a> Sink<'a> {
+    /// The file of this path, which is not made yet, or standard output where there is none.
+    pub fn new(rt: &'a HostRuntime, path: Option<&'a str>) -> Sink<'a> {
+        let made = match path {
+            None => Made::Standard(rt.stdout()),
+            Some(path) => Made::Unmade(rt, path),
+        };
+        Sink { made, fault: None }
+    }
+
+    /// The last error of a write or a flush.
+    pub fn fault(&self) -> Option<&io::Error> {
+        self.fault.as_ref()
+    }
+
+    // Keeps the error, and gives one of its kind.
+    fn keep(&mut self, error: io::Error) -> io::Error {
+        let kind = error.kind();
+        self.fault = Some(error);
+        io::Error::from(kind)
+    }
+}
+
+impl<'a> Made<'a> {
+    fn write(&mut self, buf: &[u8]) -> io::Result<usize>
+        ensures bound { IfOk result (λ count. count ≤ length buf.now) }
+    {
+        if let Made::Unmade(rt, path) = self {
+            let file = File::create(*rt, *path)?;
+            *self = Made::File(file);
+        }
+        match self {
+            Made::Standard(stdout) => stdout.write(buf),
+            Made::File(file) => file.write(buf),
+            Made::Unmade(_, _) => Ok(0),
+        }
+    }
+
+    fn flush(&mut self) -> io::Result<()> {
+        match self {
+            Made::Standard(stdout) => stdout.flush(),
+            Made::File(file) => file.flush(),
+            Made::Unmade(_, _) => Ok(()),
+        }
+    }
+}
+
+impl Write for Sink<'_> {
+    fn write(&mut self, buf: &[u8]) -> io::Result<usize> {
+        match self.made.write(buf) {
+            Ok(count) => Ok(count),
+            Err(error) => Err(self.keep(error)),
+        }
+    }
+
+    fn flush(&mut self) -> io::Result<()> {
+        match self.made.flush() {
+            Ok(()) => Ok(()),
+            Err(error) => Err(self.keep(error)),
+        }
+    }
+}
