@@ -12,6 +12,10 @@ pub enum Task<'a> {
     PrintLimits,
     /// Make a component.
     Generate(Options<'a>),
+    /// Say whether a file is a component; standard input where it is absent.
+    Check(Option<&'a str>),
+    /// Print the component in a file.
+    Show(Option<&'a str>),
 }
 
 /// How a component is made. A file that is absent is standard input or output, and absent limits are the default ones.
@@ -66,6 +70,15 @@ fn generate_command<'a>(alloc: Global) -> Result<Command<'a>, AllocError> {
     with_switches(alloc, with_files(alloc, plain)?)
 }
 
+fn file_command<'a>(
+    alloc: Global,
+    name: &'a str,
+    about: &'a str,
+) -> Result<Command<'a>, AllocError> {
+    let file = Arg::new(alloc, "FILE").help("The component; - is standard input [default: -]");
+    Command::new(alloc, name).about(about).arg(file)
+}
+
 /// The program's command.
 pub fn command<'a>(alloc: Global) -> Result<Command<'a>, AllocError> {
     let limits = Command::new(alloc, "limits").about("Print the default limits as TOML");
@@ -76,7 +89,13 @@ pub fn command<'a>(alloc: Global) -> Result<Command<'a>, AllocError> {
         .disable_help_subcommand(true)
         .subcommand_required(true)
         .subcommand(generate_command(alloc)?)?
-        .subcommand(limits)
+        .subcommand(limits)?
+        .subcommand(file_command(
+            alloc,
+            "check",
+            "Say whether a file is a component, and where not",
+        )?)?
+        .subcommand(file_command(alloc, "show", "Print a component, a line for each entry")?)
 }
 
 // A file, unless it is told as standard input or output.
@@ -104,8 +123,14 @@ fn options_of<'a>(matches: &ArgMatches<'a>) -> Options<'a> {
 /// What the words ask for. The first is the program's name.
 pub fn task_of<'a, S: AsStr>(alloc: Global, words: &'a [S]) -> Result<Task<'a>, Error> {
     let matches = command(alloc)?.try_get_matches_from(words)?;
-    match matches.subcommand_matches("generate") {
-        Some(options) => Ok(Task::Generate(options_of(options))),
-        None => Ok(Task::PrintLimits),
+    if let Some(options) = matches.subcommand_matches("generate") {
+        return Ok(Task::Generate(options_of(options)));
     }
+    if let Some(options) = matches.subcommand_matches("check") {
+        return Ok(Task::Check(file(options.get_str("FILE"))));
+    }
+    if let Some(options) = matches.subcommand_matches("show") {
+        return Ok(Task::Show(file(options.get_str("FILE"))));
+    }
+    Ok(Task::PrintLimits)
 }

@@ -132,3 +132,12 @@ impl Write for Sink<'_> {
         }
     }
 }
+
+/// Tells a file's path, and the error that a read or a write of it met.
+pub fn tell_fault(rt: &HostRuntime, path: Option<&str>, standard: &str, fault: Option<&io::Error>) {
+    let path = path.unwrap_or(standard);
+    let _ = match fault {
+        Some(fault) => eprintln!(rt; "lupinanon: {path}: {fault}"),
+        None => eprintln!(rt; "lupinanon: {path}: it cannot be used"),
+    };
+}

@@ -4,8 +4,10 @@ use crate::default_limits::DEFAULT_LIMITS;
 use crate::keys::Key;
 use crate::limits::{Fault, Pair, Wrong, limits_of, line_of};
 use crate::options::{Options, Task, command, task_of};
+use crate::show::Shown;
 use clap::error::ErrorKind;
 use smith_component::Config;
+use smith_read::read;
 use smith_run::Form;
 use std::test::Fail;
 
@@ -19,9 +21,15 @@ const PLAIN: Options<'static> = Options {
 
 #[test]
 fn words_ask_for_tasks(rt: HostRuntime) -> Result<(), Fail> {
-    let rows: [(&[&str], Task); 8] = [
+    let rows: [(&[&str], Task); 11] = [
         (&["lupinanon", "generate"], Task::Generate(PLAIN)),
         (&["lupinanon", "limits"], Task::PrintLimits),
+        (
+            &["lupinanon", "check", "c.wasm"],
+            Task::Check(Some("c.wasm")),
+        ),
+        (&["lupinanon", "show", "c.wasm"], Task::Show(Some("c.wasm"))),
+        (&["lupinanon", "show", "-"], Task::Show(None)),
         (
             &["lupinanon", "generate", "in.bin"],
             Task::Generate(Options {
@@ -212,5 +220,55 @@ fn limits_that_do_not_fit_together_are_named(rt: HostRuntime) -> Result<(), Fail
         assert_eq!(rt; told.as_str(), message);
         assert!(rt; limits_of(rt.alloc(), &table) == Err(fault), "{text}");
     }
+    Ok(())
+}
+
+// A section of each sort, with entries of each sort.
+const COMPONENT: &[u8] = b"\x00asm\x0d\x00\x01\x00\
+    \x00\x04\x01a\x01\x02\
+    \x01\x08\x00asm\x01\x00\x00\x00\
+    \x03\x21\x02\x60\x01\x7f\x01\x63\x00\x50\x04\x00\x01m\x01n\x00\x00\x01\x60\x00\x00\
+    \x02\x10\x01\x01\x00\x03\x01e\x02\x01\x01\x80\x01\
+    \x04\x0e\x00asm\x0d\x00\x01\x00\x07\x04\x01\x6a\x00\x00\
+    \x07\x29\x04\x72\x01\x01f\x7d\x40\x01\x01p\x00\x01\x00\x41\x03\x02\x03\x02\x01\x01\
+    \x03\x00\x01b\x01\x00\x04\x00\x01c\x03\x00\x00\x42\x01\x02\x00\x10\x02\x01\x00\
+    \x0a\x1c\x05\x00\x01f\x01\x01\x00\x01m\x00\x11\x01\x00\x01t\x03\x00\x00\
+    \x00\x01k\x04\x02\x00\x01i\x05\x03\
+    \x08\x0a\x02\x00\x00\x00\x00\x01\x01\x00\x00\x00\
+    \x0b\x07\x01\x00\x01x\x01\x00\x00";
+
+const SHOWN: &str = r#"custom section "a" of 2 bytes
+core module 0 of 8 bytes
+core type 0: function (i32) -> (ref null 0)
+core type 1: module
+  import "m" "n": function of type 0
+  type 0: function () -> ()
+  type 1: outer alias of core type 0, count 1
+  export "e": memory of pages, 1 to 128
+component 0
+  type 0: result
+type 0: record of "f": u8
+type 1: function ("p": type 0)
+type 2: component
+  type 0: outer alias of type 1, count 1
+  import "b": function 0 of type 0
+  export "c": type 1 equal to type 0
+type 3: instance
+  core type 0: outer alias of core type 0, count 1
+import "f": function 0 of type 1
+import "m": core module 1 of core type 1
+import "t": type 4 equal to type 0
+import "k": component 1 of type 2
+import "i": instance 0 of type 3
+function 1: lift of core function 0 to type 0
+core function 0: lower of function 0
+export "x": function 2, which is function 0
+"#;
+
+#[test]
+fn a_component_is_shown(rt: HostRuntime) -> Result<(), Fail> {
+    let component = read(rt.alloc(), COMPONENT)?;
+    let text = format!(in rt.alloc(); "{}", Shown(&component))?;
+    assert_eq!(rt; text.as_str(), SHOWN);
     Ok(())
 }

@@ -29,8 +29,8 @@ pub fn one_reading()
 {}
 
 /// A component has no bytes exactly where a count, the length of a name or of a section, or an index in it passes
-/// 4,294,967,295, or a module in it has no bytes itself; its names being UTF-8 and its bytes bytes, as those of the
-/// program are.
+/// 4,294,967,295, or a module in it has no bytes itself; its names being UTF-8, its bytes bytes and its bounds of
+/// limits numbers of 64 bits, as those of the program are.
 pub fn long_components_have_no_encoding()
     ensures { (t : Tree) → (component_text t ≡ None) ↔ TreeTooLong t }
 {}

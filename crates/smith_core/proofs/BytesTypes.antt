@@ -90,14 +90,15 @@ small_signed (pos n) = small_digits as_it_is (λ m h. h) 64 (omega arith) n n (o
 small_signed (negsuc n) = small_digits turned (λ m h. omega arith) 64 (omega arith) n n (omega arith)
 
 pub are_number : (n : ℕ) → AreBytes (number n)
-are_number n = are_some (unsigned n) (small_unsigned n)
+unfolding number
+are_number n = are_choice (nat_lt n (2 ^ 64)) (are_some (unsigned n) (small_unsigned n)) are_none
 
 pub are_s : (z : ℤ) → AreBytes (s z)
 are_s z = are_some (signed z) (small_signed z)
 
 pub are_u : (n : ℕ) → AreBytes (u n)
 unfolding u
-are_u n = are_choice (nat_lt n (2 ^ 32)) (are_number n) are_none
+are_u n = are_choice (nat_lt n (2 ^ 32)) (are_some (unsigned n) (small_unsigned n)) are_none
 
 pub are_s_index : (n : ℕ) → AreBytes (s_index n)
 unfolding s_index

@@ -238,11 +238,6 @@ data_none d = join_none (data_form d.kind) (framed (raw d.init.items)) (form_non
 
 -- the contents of a section, one line for each
 module _ (m : ModuleParts) (a : Agree m) where
-  memories_none : (ms : List MemoryType) → (many memory_type ms ≡ None) ↔ Passes (length ms)
-  memories_none ms =
-      let parts = many_none_where memory_type memory_none ms in
-      (λ e. elim (parts.0 e) [ inl l ↦ l | inr n ↦ absurd n.4 ], λ l. parts.1 (inl l))
-
   global_with : (g : ℕ × Vec ℕ Global) → g.0 < length m.globals.items
       → (named_type (slice_get m.globals.items g.0) ⊕ expression g.1 ≡ None)
       ↔ (NamedTooLong (slice_get m.globals.items g.0) ⊎ NoBytes g.1.items)
@@ -254,7 +249,7 @@ module _ (m : ModuleParts) (a : Agree m) where
   contents_none Functions = many_none_where u u_none_where (last m.num_defined_funcs m.funcs.items)
   contents_none Tables = many_none_where table filled_none
       (zip (last (length m.defined_tables.items) m.tables.items) m.defined_tables.items)
-  contents_none Memories = memories_none (last m.num_defined_memories m.memories.items)
+  contents_none Memories = many_none_where memory_type memory_none (last m.num_defined_memories m.memories.items)
   contents_none Tags = many_none_where tag_type tag_none (last m.num_defined_tags m.tags.items)
   contents_none Globals = many_none_among _ _ global_with m.defined_globals.items a.globals
   contents_none Exports = many_none_where export export_none m.exports.items

@@ -1,6 +1,6 @@
 -- Which core modules have no encoding, since a count, an index or the length of a name, of a body, of a data segment
--- or of a section in them passes 4,294,967,295. Names that are no UTF-8, and bytes that are no bytes, stand in no
--- module of the program.
+-- or of a section in them passes 4,294,967,295. Names that are no UTF-8, bytes that are no bytes, and bounds of limits
+-- of more than 64 bits stand in no module of the program.
 use Rattle.std.specs.Prelude.{◌≡◌, ◌⊎◌, ℕ, true, length, Option, Some, None, string_bytes}
 use Rattle.std.specs.List.{Any, slice_get, slice_range, zip}
 use Rattle.std.specs.declared.vec.Vec.{Vec}
@@ -9,6 +9,7 @@ use Rattle.std.specs.declared.string.String.{String}
 use Rattle.smith_format.specs.Shown.{shown_func}
 use Rattle.smith_format.specs.Piece.{◌⊕◌, many}
 use Rattle.smith_format.specs.TooLong.{Passes, NameTooLong, NoBytes, ListTooLong, ContentsTooLong, RefTooLong, ValTooLong, FunctionTooLong, EntityTooLong}
+use Rattle.smith_format.specs.TooLong.{MemoryTypeTooLong, TableTypeTooLong}
 use Rattle.smith_format.specs.declared.types.ExportKind.{ExportKind}
 use Rattle.smith_format.specs.declared.types.GlobalType.{GlobalType}
 use Rattle.smith_format.specs.declared.types.Import.{Import}
@@ -64,8 +65,8 @@ CoreImportTooLong i =
 
 -- a table, and its initial value where it has one
 abbrev pub TableTooLong : TableType × Option (Vec ℕ Global) → Type 0
-TableTooLong (t, None) = RefTooLong t.element_type
-TableTooLong (t, Some e) = RefTooLong t.element_type ⊎ NoBytes e.items
+TableTooLong (t, None) = TableTypeTooLong t
+TableTooLong (t, Some e) = TableTypeTooLong t ⊎ NoBytes e.items
 
 -- the type of a global, which is there where parts agree
 abbrev pub NamedTooLong : Option GlobalType → Type 0
@@ -120,7 +121,7 @@ SectionTooLong m Imports = ListTooLong CoreImportTooLong m.imports.items
 SectionTooLong m Functions = ListTooLong Passes (last m.num_defined_funcs m.funcs.items)
 SectionTooLong m Tables =
     ListTooLong TableTooLong (zip (last (length m.defined_tables.items) m.tables.items) m.defined_tables.items)
-SectionTooLong m Memories = Passes (length (last m.num_defined_memories m.memories.items))
+SectionTooLong m Memories = ListTooLong MemoryTypeTooLong (last m.num_defined_memories m.memories.items)
 SectionTooLong m Tags = ListTooLong (λ t. Passes t.func_type_idx) (last m.num_defined_tags m.tags.items)
 SectionTooLong m Globals =
     ListTooLong (λ g. NamedTooLong (slice_get m.globals.items g.0) ⊎ NoBytes g.1.items) m.defined_globals.items

@@ -7,7 +7,8 @@ use borrow.Author.Tests.{ltb-true}
 use Rattle.smith_format.specs.Numbers.{digits, unsigned, signed, as_it_is, turned}
 use Rattle.smith_format.specs.Piece.{Piece, ◌⊕◌, u, number, s, s_index, raw, text, utf8, each, many, framed, sized, byte, bytes}
 use Rattle.smith_format.specs.Clear.{Rests, Agree, IsClear, IsExact}
-use Rattle.smith_format.proofs.Piece.{utf8_then, raw_whole, assoc, left_nil, left_none, right_nil, parts_are, u_cases, s_index_fits, s_index_none}
+use Rattle.smith_format.proofs.Piece.{utf8_then, raw_whole, assoc, left_nil, left_none, right_nil, parts_are, u_cases, number_cases}
+use Rattle.smith_format.proofs.Piece.{s_index_fits, s_index_none}
 use Rattle.smith_format.proofs.Steps.{framed_bytes, framed_nothing}
 use Rattle.smith_format.proofs.Digits.{digits_more, digits_last, digits_next, digits_enough}
 
@@ -185,17 +186,24 @@ signed_clear (pos m) (negsuc n) a c e = absurd (whole_apart m n a c e)
 signed_clear (negsuc m) (pos n) a c e = absurd (whole_apart n m c a (sym e))
 signed_clear (negsuc m) (negsuc n) a c e = let r = whole_clear turned writing_turned 64 (omega arith) (omega arith) m n a c e in (ap negsuc r.0, r.1)
 
-pub clear_number : IsClear number
-clear_number = closed unsigned unsigned_clear
+clear_unsigned : IsClear (λ n. Some (unsigned n))
+clear_unsigned = closed unsigned unsigned_clear
 
 pub clear_s : IsClear s
 clear_s = closed signed signed_clear
 
 -- a number that has an encoding
-u_is : (n : ℕ) (p : Piece) (b : List ℕ) → u n ⊕ p ≡ Some b → number n ⊕ p ≡ Some b
+u_is : (n : ℕ) (p : Piece) (b : List ℕ) → u n ⊕ p ≡ Some b → Some (unsigned n) ⊕ p ≡ Some b
 u_is n p b e = by_size (u_cases n)
   where
-    by_size : ((u n ≡ Some (unsigned n)) × (n < 2 ^ 32)) ⊎ ((u n ≡ None) × (2 ^ 32 ≤ n)) → number n ⊕ p ≡ Some b
+    by_size : ((u n ≡ Some (unsigned n)) × (n < 2 ^ 32)) ⊎ ((u n ≡ None) × (2 ^ 32 ≤ n)) → Some (unsigned n) ⊕ p ≡ Some b
+    by_size (inl h) = ap (λ q. q ⊕ p) (sym h.0) ∙ e
+    by_size (inr h) = let g : None ≡ Some b = sym (left_none p) ∙ ap (λ q. q ⊕ p) (sym h.0) ∙ e in cc
+
+number_is : (n : ℕ) (p : Piece) (b : List ℕ) → number n ⊕ p ≡ Some b → Some (unsigned n) ⊕ p ≡ Some b
+number_is n p b e = by_size (number_cases n)
+  where
+    by_size : ((number n ≡ Some (unsigned n)) × (n < 2 ^ 64)) ⊎ ((number n ≡ None) × (2 ^ 64 ≤ n)) → Some (unsigned n) ⊕ p ≡ Some b
     by_size (inl h) = ap (λ q. q ⊕ p) (sym h.0) ∙ e
     by_size (inr h) = let g : None ≡ Some b = sym (left_none p) ∙ ap (λ q. q ⊕ p) (sym h.0) ∙ e in cc
 
@@ -207,7 +215,10 @@ s_index_is n p b e = by_test (nat_lt n (2 ^ 32)) refl
     by_test false f = let g : None ≡ Some b = sym (left_none p) ∙ ap (λ q. q ⊕ p) (sym (s_index_none n (ltb-false n (2 ^ 32) f))) ∙ e in cc
 
 pub clear_u : IsClear u
-clear_u = record { law = λ m n p q b e h. clear_number.law m n p q b (u_is m p b e) (u_is n q b h) }
+clear_u = record { law = λ m n p q b e h. clear_unsigned.law m n p q b (u_is m p b e) (u_is n q b h) }
+
+pub clear_number : IsClear number
+clear_number = record { law = λ m n p q b e h. clear_unsigned.law m n p q b (number_is m p b e) (number_is n q b h) }
 
 pub clear_s_index : IsClear s_index
 clear_s_index =

@@ -1,7 +1,7 @@
 -- Pieces: how they are joined, bytes as they are, texts, and numbers that have an encoding.
 use Rattle.std.proofs.Common.{◌≡◌, ℕ, ◌+◌, ◌⊎◌, inl, inr, length-append, List, [], ◌++◌, refl, ap, append_assoc, Some, None, append-nil, ◌<◌, length, get_or}
 use Rattle.std.proofs.Common.{sym, ◌∙◌, IsUtf8, Bool, true, false, cond, nat_lt, ◌^◌, ◌≤◌, pos}
-use Rattle.smith_format.specs.Piece.{Piece, ◌⊕◌, piece_length, raw, utf8, text, u, s_index}
+use Rattle.smith_format.specs.Piece.{Piece, ◌⊕◌, piece_length, raw, utf8, text, u, number, s_index}
 use Rattle.std.specs.List.{list_all}
 use Rattle.std.specs.Str.{is_utf8}
 use Rattle.std.proofs.lemmas.Str.{is_utf8-from_IsUtf8}
@@ -99,7 +99,6 @@ pub raw_whole : (t b : List ℕ) → raw t ≡ Some b → t ≡ b
 unfolding raw
 raw_whole t b e = guard (list_all (λ c. nat_lt c 256) t) t b e
 
--- numbers that have an encoding
 -- numbers with a bound
 pub u_fits : (n : ℕ) → n < 2 ^ 32 → u n ≡ Some (unsigned n)
 unfolding u
@@ -108,6 +107,14 @@ u_fits n h = sym (cond_below n _ (Some (unsigned n)) None h)
 pub u_none : (n : ℕ) → 2 ^ 32 ≤ n → u n ≡ None
 unfolding u
 u_none n h = sym (cond_above n _ (Some (unsigned n)) None None h refl)
+
+pub number_fits : (n : ℕ) → n < 2 ^ 64 → number n ≡ Some (unsigned n)
+unfolding number
+number_fits n h = sym (cond_below n _ (Some (unsigned n)) None h)
+
+pub number_none : (n : ℕ) → 2 ^ 64 ≤ n → number n ≡ None
+unfolding number
+number_none n h = sym (cond_above n _ (Some (unsigned n)) None None h refl)
 
 pub s_index_fits : (n : ℕ) → n < 2 ^ 32 → s_index n ≡ Some (signed (pos n))
 unfolding s_index
@@ -124,3 +131,10 @@ u_cases n = by_test (nat_lt n (2 ^ 32)) refl
     by_test : (x : Bool) → nat_lt n (2 ^ 32) ≡ x → ((u n ≡ Some (unsigned n)) × (n < 2 ^ 32)) ⊎ ((u n ≡ None) × (2 ^ 32 ≤ n))
     by_test true e = let h = ltb-true n (2 ^ 32) e in inl (u_fits n h, h)
     by_test false e = let h = ltb-false n (2 ^ 32) e in inr (u_none n h, h)
+
+pub number_cases : (n : ℕ) → ((number n ≡ Some (unsigned n)) × (n < 2 ^ 64)) ⊎ ((number n ≡ None) × (2 ^ 64 ≤ n))
+number_cases n = by_test (nat_lt n (2 ^ 64)) refl
+  where
+    by_test : (x : Bool) → nat_lt n (2 ^ 64) ≡ x → ((number n ≡ Some (unsigned n)) × (n < 2 ^ 64)) ⊎ ((number n ≡ None) × (2 ^ 64 ≤ n))
+    by_test true e = let h = ltb-true n (2 ^ 64) e in inl (number_fits n h, h)
+    by_test false e = let h = ltb-false n (2 ^ 64) e in inr (number_none n h, h)

@@ -4,10 +4,10 @@ use Rattle.std.proofs.Common.{ap, subst, sym, ◌∙◌, arith, take_all, Option
 use Rattle.smith_input.specs.declared.error.Error.{Error}
 use Rattle.smith_input.specs.declared.error.Error.TheVariants.{TooLong}
 use Rattle.smith_format.specs.Numbers.{unsigned}
-use Rattle.smith_format.specs.Piece.{Piece, ◌⊕◌, piece_length, byte, bytes, u, s_index, text, each, many, framed, sized}
+use Rattle.smith_format.specs.Piece.{Piece, ◌⊕◌, piece_length, byte, bytes, u, number, s_index, text, each, many, framed, sized}
 use Rattle.smith_format.specs.Writing.{Takes, TakesTooMuch, IsLengthOf, Measures}
 use Rattle.smith_format.proofs.Piece.{assoc, joined, right_none, left_none, length_join, none_join, u_fits, u_none, u_cases, s_index_fits, s_index_none}
-use Rattle.smith_format.proofs.Piece.{text_is}
+use Rattle.smith_format.proofs.Piece.{text_is, number_fits, number_none, number_cases}
 use Rattle.std.proofs.lemmas.Bool.{ltb-false}
 use borrow.Author.Tests.{ltb-true}
 use Rattle.smith_format.proofs.Many.{each_more, each_at}
@@ -142,6 +142,13 @@ u_none_where n = (λ e. by_size (u_cases n) e, u_none n)
     by_size (inl h) e = let f = h.0 in cc
     by_size (inr h) e = h.1
 
+pub number_none_where : (n : ℕ) → (number n ≡ None) ↔ (2 ^ 64 ≤ n)
+number_none_where n = (λ e. by_size (number_cases n) e, number_none n)
+  where
+    by_size : ((number n ≡ Some (unsigned n)) × (n < 2 ^ 64)) ⊎ ((number n ≡ None) × (2 ^ 64 ≤ n)) → number n ≡ None → 2 ^ 64 ≤ n
+    by_size (inl h) e = let f = h.0 in cc
+    by_size (inr h) e = h.1
+
 behind : (b : List ℕ) → (u (length b) ⊕ Some b ≡ None) ↔ (2 ^ 32 ≤ length b)
 behind b = (λ e. by_part (none_join _ _ e), λ h. ap (λ q. q ⊕ Some b) (u_none (length b) h) ∙ left_none (Some b))
   where
@@ -166,4 +173,4 @@ s_index_none_where n = (λ e. by_test (nat_lt n (2 ^ 32)) refl e, s_index_none n
     by_test true f e = let g = s_index_fits n (ltb-true n (2 ^ 32) f) in cc
     by_test false f e = ltb-false n (2 ^ 32) f
 
-pub ruleset measuring = (left_none, right_none, length_join, none_join, u_cases, text_is, framed_cases)
+pub ruleset measuring = (left_none, right_none, length_join, none_join, u_cases, number_cases, text_is, framed_cases)

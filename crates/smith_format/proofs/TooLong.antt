@@ -11,7 +11,7 @@ use Rattle.smith_format.specs.CoreTypes.{ref_val, core_val, core_function, Funct
 use Rattle.smith_format.specs.Entities.{maximum, limits, table_type, memory_type, global_type, tag_type, entity, CoreImport, core_import}
 use Rattle.smith_format.specs.Piece.{Piece, ◌⊕◌, number, u, s_index, raw, utf8, framed, text, each, many, sized}
 use Rattle.smith_format.specs.TooLong.{Passes, NameTooLong, NoBytes, ListTooLong, ContentsTooLong, RefTooLong, ValTooLong, FunctionTooLong, EntityTooLong}
-use Rattle.smith_format.specs.TooLong.{ImportTooLong}
+use Rattle.smith_format.specs.TooLong.{ImportTooLong, LimitsTooLong, MaximumTooLong, MemoryTypeTooLong, TableTypeTooLong}
 use Rattle.smith_format.specs.declared.types.EntityType.{EntityType}
 use Rattle.smith_format.specs.declared.types.EntityType.TheVariants.{Func, Table, Memory, Global, Tag}
 use Rattle.smith_format.specs.declared.types.GlobalType.{GlobalType}
@@ -23,7 +23,7 @@ use Rattle.smith_format.specs.declared.types.TagType.{TagType}
 use Rattle.smith_format.specs.declared.types.ValType.{ValType}
 use Rattle.smith_format.specs.declared.types.ValType.TheVariants.{I32, I64, F32, F64, V128, Ref}
 use Rattle.smith_format.proofs.Piece.{left_none, right_none, none_join}
-use Rattle.smith_format.proofs.Sizes.{each_none, framed_cases, framed_none, u_none_where, s_index_none_where, text_none_where}
+use Rattle.smith_format.proofs.Sizes.{each_none, framed_cases, framed_none, u_none_where, number_none_where, s_index_none_where, text_none_where}
 
 -- two pieces have no encoding where one of them has none
 pub join_none : {P Q : Type 0} (p q : Piece) → (p ≡ None) ↔ P → (q ≡ None) ↔ Q → (p ⊕ q ≡ None) ↔ (P ⊎ Q)
@@ -103,27 +103,21 @@ function_none_where f =
     after_bytes (0x60 ∷ []) (many core_val f.0 ⊕ many core_val f.1)
     (join_none (many core_val f.0) (many core_val f.1) (many_none_where core_val val_none_where f.0) (many_none_where core_val val_none_where f.1))
 
-maximum_some : (m : Option ℕ) → (b : List ℕ) × (maximum m ≡ Some b)
-maximum_some None = ([], refl)
-maximum_some (Some n) = (_, refl)
+maximum_none : (m : Option ℕ) → (maximum m ≡ None) ↔ MaximumTooLong m
+maximum_none None = bytes_none []
+maximum_none (Some n) = number_none_where n
 
-limits_none : (shared wide : Bool) (n : ℕ) (m : Option ℕ) → (limits shared wide n m ≡ None) ↔ ⊥
+limits_none : (shared wide : Bool) (n : ℕ) (m : Option ℕ) → (limits shared wide n m ≡ None) ↔ LimitsTooLong n m
 limits_none shared wide n m =
-    after_bytes _ (number n ⊕ maximum m) (after_bytes _ (maximum m) (
-      λ e. let s = maximum_some m in let z : Some s.0 ≡ None = sym s.1 ∙ e in
-          absurd cc,
-      λ h. absurd h,
-    ))
+    after_bytes _ (number n ⊕ maximum m)
+    (join_none (number n) (maximum m) (number_none_where n) (maximum_none m))
 
-pub table_none : (t : TableType) → (table_type t ≡ None) ↔ RefTooLong t.element_type
-table_none t = (λ e. elim (parts.0 e) [ inl h ↦ h | inr h ↦ absurd h ], λ h. parts.1 (inl h))
-  where
-    parts : (table_type t ≡ None) ↔ (RefTooLong t.element_type ⊎ ⊥)
-    parts =
-        join_none (ref_val t.element_type) _ (ref_none_where t.element_type)
-        (limits_none false t.table64 t.minimum t.maximum)
+pub table_none : (t : TableType) → (table_type t ≡ None) ↔ TableTypeTooLong t
+table_none t =
+    join_none (ref_val t.element_type) _ (ref_none_where t.element_type)
+    (limits_none false t.table64 t.minimum t.maximum)
 
-pub memory_none : (m : MemoryType) → (memory_type m ≡ None) ↔ ⊥
+pub memory_none : (m : MemoryType) → (memory_type m ≡ None) ↔ MemoryTypeTooLong m
 memory_none m = limits_none m.shared m.memory64 m.minimum m.maximum
 
 pub global_none : (g : GlobalType) → (global_type g ≡ None) ↔ ValTooLong g.val_type

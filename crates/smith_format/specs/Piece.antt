@@ -30,9 +30,9 @@ bytes bs = Some bs
 unfoldable pub u : ℕ → Piece
 u n = if nat_lt n (2 ^ 32) then Some (unsigned n) else None
 
--- an unsigned number of any size, as a bound of limits is
-abbrev pub number : ℕ → Piece
-number n = Some (unsigned n)
+-- a bound of limits (core specification, Binary Format, Types, Limits): it has at most 64 bits.
+unfoldable pub number : ℕ → Piece
+number n = if nat_lt n (2 ^ 64) then Some (unsigned n) else None
 
 -- a signed number of any size
 abbrev pub s : ℤ → Piece

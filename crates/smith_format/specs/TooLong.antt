@@ -1,5 +1,5 @@
--- What has no encoding, since a count, the length of a text or an index in it passes 4,294,967,295.
-use Rattle.std.specs.Prelude.{ℕ, ◌^◌, ◌<◌, ◌≤◌, ◌⊎◌, List, length}
+-- What has no encoding, since a count, the length of a text or an index in it passes 4,294,967,295, or a bound of limits 64 bits.
+use Rattle.std.specs.Prelude.{ℕ, ◌^◌, ◌<◌, ◌≤◌, ◌⊎◌, List, length, Option, Some, None}
 use Rattle.std.specs.List.{Any, AllByRecursion}
 use Rattle.std.specs.Str.{IsUtf8}
 use Rattle.smith_format.specs.CoreTypes.{Function}
@@ -7,8 +7,10 @@ use Rattle.smith_format.specs.Entities.{CoreImport}
 use Rattle.smith_format.specs.Piece.{Piece, piece_length}
 use Rattle.smith_format.specs.declared.types.EntityType.{EntityType}
 use Rattle.smith_format.specs.declared.types.EntityType.TheVariants.{Func, Table, Memory, Global, Tag}
+use Rattle.smith_format.specs.declared.types.MemoryType.{MemoryType}
 use Rattle.smith_format.specs.declared.types.RefType.{RefType}
 use Rattle.smith_format.specs.declared.types.RefType.TheVariants.{FuncRef, ExternRef, Concrete}
+use Rattle.smith_format.specs.declared.types.TableType.{TableType}
 use Rattle.smith_format.specs.declared.types.ValType.{ValType}
 use Rattle.smith_format.specs.declared.types.ValType.TheVariants.{I32, I64, F32, F64, V128, Ref}
 
@@ -49,10 +51,24 @@ ValTooLong (Ref r) = RefTooLong r
 abbrev pub FunctionTooLong : Function → Type 0
 FunctionTooLong f = (Passes (length f.0) ⊎ Any ValTooLong f.0) ⊎ (Passes (length f.1) ⊎ Any ValTooLong f.1)
 
+-- bounds of more than 64 bits, which none of the program's are
+abbrev pub MaximumTooLong : Option ℕ → Type 0
+MaximumTooLong None = ⊥
+MaximumTooLong (Some n) = 2 ^ 64 ≤ n
+
+abbrev pub LimitsTooLong : ℕ → Option ℕ → Type 0
+LimitsTooLong minimum most = (2 ^ 64 ≤ minimum) ⊎ MaximumTooLong most
+
+abbrev pub TableTypeTooLong : TableType → Type 0
+TableTypeTooLong t = RefTooLong t.element_type ⊎ LimitsTooLong t.minimum t.maximum
+
+abbrev pub MemoryTypeTooLong : MemoryType → Type 0
+MemoryTypeTooLong m = LimitsTooLong m.minimum m.maximum
+
 abbrev pub EntityTooLong : EntityType → Type 0
 EntityTooLong (Func i) = Passes i
-EntityTooLong (Table t) = RefTooLong t.element_type
-EntityTooLong (Memory m) = ⊥
+EntityTooLong (Table t) = TableTypeTooLong t
+EntityTooLong (Memory m) = MemoryTypeTooLong m
 EntityTooLong (Global g) = ValTooLong g.val_type
 EntityTooLong (Tag t) = Passes t.func_type_idx
 

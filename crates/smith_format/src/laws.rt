@@ -84,7 +84,8 @@ pub fn bytes_have_an_encoding()
 {}
 
 /// A core type has no encoding exactly where a count or an index in it passes 4,294,967,295; nor has what a core module
-/// imports or exports, nor an import exactly where that or the length of a name does.
+/// imports or exports, or where a bound of its limits passes 64 bits, which those of the program never do; nor an
+/// import exactly where that has none or the length of a name passes 4,294,967,295.
 pub fn long_core_types_have_no_encoding()
     ensures values { (v : ValType) → (core_val v ≡ None) ↔ ValTooLong v }
     ensures functions { (f : Function) → (core_function f ≡ None) ↔ FunctionTooLong f }

@@ -28,7 +28,7 @@ pub fn types_are_clear()
 {}
 
 /// A type whose names are UTF-8 has no encoding exactly where a count, the length of a name or an index in it passes
-/// 4,294,967,295; so it is with core types, and with imports.
+/// 4,294,967,295; so it is with core types, whose bounds of limits are numbers of 64 bits, and with imports.
 pub fn long_types_have_no_encoding()
     ensures types { (e : Entry) → (entry e ≡ None) ↔ EntryTooLong e }
     ensures core_types { (e : CoreEntry) → (core_entry e ≡ None) ↔ CoreEntryTooLong e }

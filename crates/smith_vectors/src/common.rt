@@ -1,6 +1,7 @@
 //! What the tests share.
 
 use smith_component::{Config, Unstructured, generate};
+use smith_read::read;
 use std::process::Abort;
 use std::test::Fail;
 
@@ -31,7 +32,8 @@ pub struct Row<'a> {
     pub leaves: &'a [u8],
 }
 
-/// Within these limits the row's input gives its bytes, of the length that is measured, and leaves what it leaves.
+/// Within these limits the row's input gives its bytes, of the length that is measured, and leaves what it leaves. The
+/// bytes are read back.
 pub fn check<R: Abort + AllocGlobal>(rt: &R, config: Config, row: &Row<'_>) -> Result<(), Fail> {
     let mut u = Unstructured::new(row.input);
     let generated = generate(rt.alloc(), config, &mut u)?;
@@ -50,5 +52,12 @@ pub fn check<R: Abort + AllocGlobal>(rt: &R, config: Config, row: &Row<'_>) -> R
         row.name
     );
     assert_eq!(rt; u.left(), row.leaves, "{}", row.name);
+    let sections = generated.component.sections().len();
+    assert_eq!(rt;
+        read(rt.alloc(), &generated.bytes)?.parts.len(),
+        sections,
+        "{}",
+        row.name
+    );
     Ok(())
 }

@@ -51,6 +51,8 @@ mod positions;
 #[cfg(test)]
 mod reader;
 #[cfg(test)]
+mod reading;
+#[cfg(test)]
 mod references;
 #[cfg(test)]
 mod refused_growth;

@@ -1,0 +1,324 @@
+-- What is read is what is spelled: sections of components, and components.
+use Rattle.std.proofs.Common.{◌≡◌, ℕ, zero, suc, ◌<◌, ◌≤◌, inl, inr, List, [], ◌∷◌, ◌++◌, length, drop, Option, Some, None, refl, ap, sym}
+use Rattle.std.proofs.Common.{◌∙◌, subst, arith, Bool, true, false, cond, lit<, nat_eq}
+use Rattle.std.specs.List.{starts_with}
+use Rattle.std.proofs.lemmas.List.{length-append}
+use Rattle.smith_format.specs.Piece.{Piece, ◌⊕◌, byte, bytes, u, raw, text, many, framed, sized}
+use Rattle.smith_format.proofs.Piece.{assoc, joined, parts_are, raw_whole}
+use Rattle.smith_core.specs.Preamble.{core_preamble}
+use Rattle.smith_component.specs.Grammar.{preamble, embedded, canon, export_entry, part, parts, component_text, Spells}
+use Rattle.smith_component.specs.Tree.{Canon, lift, lower, Part, Tree, ends, first, custom, core_module, core_types, component, types, canons}
+use Rattle.smith_component.specs.Tree.{imports, exports, tree_of, most_nested, scope_depth, scope_depth_in}
+use Rattle.smith_read_types.specs.Levels.{entry_in, types_at}
+use Rattle.smith_read_types.specs.Reading.{Found, ◌>>=◌, byte_at, behind, both_at, u_at, skip_at, text_at}
+use Rattle.smith_read_types.specs.Tells.{Begins, Tells, TellsAll}
+use Rattle.smith_read_types.proofs.Digits.{some_same}
+use Rattle.smith_read_types.proofs.Telling.{bind_some, chain, nothing, both_begin, parted, skip_begins, skip_read, tells_u, tells_text, tells_both}
+use Rattle.smith_read_types.proofs.Telling.{tells_behind, tells_many, tells_after, tells_seen, row_sound, row_told, Told}
+use Rattle.smith_read_types.proofs.TellingCore.{tells_core_entry, tells_import}
+use Rattle.std.proofs.lemmas.Slice.Eq.{starts_is}
+use Rattle.std.proofs.lemmas.Bool.Decides.{Decides-eqb}
+use Rattle.smith_read_types.proofs.Inner.{NestWithin, Under, under_then, many_under, many_same}
+use Rattle.smith_syntax.specs.Entries.{Entry}
+use Rattle.smith_read_types.proofs.TellingLevels.{tells_entry}
+use Rattle.smith_read_types.proofs.TellingFrames.{tells_all, tells_framed}
+use Rattle.smith_read.specs.PartNodes.{export_of}
+use Rattle.smith_read.specs.Parts.{ended_at, canon_after, canon_at, custom_all, export_at, list_all_at, preamble_at, part_after, part_at, parts_at, contents_at}
+use Rattle.smith_read.specs.Parts.{component_at, part_in, parts_in, text_in, component_in}
+
+-- ---- canonical functions
+
+tells_ended : {A : Type 0} {f : A → Piece} {r : List ℕ → Found A} (n : ℕ) → n < 256 → Tells f r → Tells (λ x. f x ⊕ byte n) (ended_at r n)
+tells_ended {A} {f} {r} n l c = record {
+  sound = λ b x e.
+      let m = bind_some (r b) (λ x. skip_at n x.1 >>= λ rest. Some (x.0, rest)) x e in
+      let s = bind_some (skip_at n m.0.1) (λ rest. Some (m.0.0, rest)) x m.2 in
+      subst (λ (p : A × List ℕ). (f p.0 ⊕ byte n) ⊕ Some p.1 ≡ Some b) (some_same _ _ s.2)
+      (both_begin (f m.0.0) (byte n) b m.0.1 s.0 (c.sound b m.0 m.1) (skip_begins n m.0.1 s.0 s.1));
+  whole = λ b x e.
+      let p = parted (f x.0) (byte n) b x.1 e in
+      rw (c.whole b (x.0, p.mid) p.front, skip_read n p.mid x.1 l p.back) refl;
+}
+
+two_bytes : (m n : ℕ) (p : Piece) → bytes (m ∷ n ∷ []) ⊕ p ≡ byte m ⊕ (byte n ⊕ p)
+two_bytes m n p = ap (λ h. h ⊕ p) (sym (joined (m ∷ []) (n ∷ []))) ∙ assoc (byte m) (byte n) p
+
+tells_lift : Tells (λ (x : ℕ × ℕ). byte 0x00 ⊕ (u x.0 ⊕ (byte 0x00 ⊕ u x.1))) (behind 0x00 (both_at u_at (behind 0x00 u_at)))
+tells_lift = tells_behind 0x00 (lit< tt) (tells_both tells_u (tells_behind 0x00 (lit< tt) tells_u))
+
+tells_lower : Tells (λ f. byte 0x00 ⊕ (u f ⊕ byte 0x00)) (behind 0x00 (ended_at u_at 0x00))
+tells_lower = tells_behind 0x00 (lit< tt) (tells_ended 0x00 (lit< tt) tells_u)
+
+canon_begins : (b : List ℕ) (t : ℕ × List ℕ) (x : Canon × List ℕ) → byte_at b ≡ Some t → canon_after t.0 t.1 ≡ Some x → Begins canon b x
+unfolding canon_after
+canon_begins b t x e =
+    chain t.0 0x00 _ _ x (row_sound canon (λ x. lift x.0 x.1) 0x00 tells_lift (λ x. two_bytes 0x00 0x00 (u x.0 ⊕ (byte 0x00 ⊕ u x.1))) b t x e)
+    (chain t.0 0x01 _ _ x (row_sound canon lower 0x01 tells_lower (λ f. two_bytes 0x01 0x00 (u f ⊕ byte 0x00)) b t x e)
+    (nothing x))
+
+canon_read : (b : List ℕ) (x : Canon) (rest : List ℕ) → Begins canon b (x, rest) → Told canon_after b (x, rest)
+unfolding canon_after
+canon_read b (lift c t) rest e = row_told canon_after (λ x. lift x.0 x.1) 0x00 (lit< tt) tells_lift (λ bs. refl) {x = (c, t)}
+    (ap (λ p. p ⊕ Some rest) (sym (two_bytes 0x00 0x00 (u c ⊕ (byte 0x00 ⊕ u t)))) ∙ e)
+canon_read b (lower f) rest e = row_told canon_after lower 0x01 (lit< tt) tells_lower (λ bs. refl)
+    (ap (λ p. p ⊕ Some rest) (sym (two_bytes 0x01 0x00 (u f ⊕ byte 0x00))) ∙ e)
+
+tells_canon : Tells canon canon_at
+unfolding canon_at
+tells_canon = tells_after canon_after canon_begins canon_read
+
+-- ---- exports
+
+abbrev export_text : List ℕ × ℕ → Piece
+export_text x = byte 0x00 ⊕ (text x.0 ⊕ (byte 0x01 ⊕ (u x.1 ⊕ byte 0x00)))
+
+tells_exported : Tells export_text (behind 0x00 (both_at text_at (behind 0x01 (ended_at u_at 0x00))))
+tells_exported = tells_behind 0x00 (lit< tt) (tells_both tells_text (tells_behind 0x01 (lit< tt) (tells_ended 0x00 (lit< tt) tells_u)))
+
+tells_export : Tells export_entry export_at
+unfolding export_at
+tells_export = tells_seen export_of (λ e. (e.name, e.func)) (λ e. refl) (λ x. refl) tells_exported
+
+-- ---- contents of sections
+
+tells_list : {A : Type 0} {f : A → Piece} {r : List ℕ → Found A} → Tells f r → TellsAll (many f) (list_all_at r)
+unfolding list_all_at
+tells_list c = tells_all (tells_many c)
+
+tells_types : (levels : ℕ) → TellsAll (many (entry_in levels)) (types_at levels)
+unfolding types_at
+tells_types levels = tells_all (tells_many (tells_entry levels))
+
+-- what spells itself
+tells_itself : (f : List ℕ → Piece) → ((t b : List ℕ) → f t ≡ Some b → t ≡ b) → TellsAll f f
+tells_itself f same = record {
+  sound = λ b x e. let s = same b x e in ap f (sym s) ∙ e ∙ ap Some (sym s);
+  whole = λ b x e. let s = same x b e in ap f (sym s) ∙ e ∙ ap Some (sym s);
+}
+
+embedded_whole : (t b : List ℕ) → embedded t ≡ Some b → t ≡ b
+unfolding embedded
+embedded_whole t b e = by_test (starts_with nat_eq t core_preamble) e
+  where
+    by_test : (x : Bool) → cond x (raw t) None ≡ Some b → t ≡ b
+    by_test true f = raw_whole t b f
+    by_test false f = absurd cc
+
+raw_spelled : (t b : List ℕ) → raw t ≡ Some b → raw b ≡ Some b
+raw_spelled t b e = let s = raw_whole t b e in ap raw (sym s) ∙ e
+
+tells_custom : TellsAll (λ (x : List ℕ × List ℕ). text x.0 ⊕ raw x.1) custom_all
+unfolding custom_all
+tells_custom = record {
+  sound = λ b x e.
+      let n = bind_some (text_at b) (λ n. raw n.1 >>= λ c. Some (n.0, c)) x e in
+      let c = bind_some (raw n.0.1) (λ c. Some (n.0.0, c)) x n.2 in
+      let same = raw_whole n.0.1 c.0 c.1 in
+      subst (λ (p : List ℕ × List ℕ). text p.0 ⊕ raw p.1 ≡ Some b) (some_same _ _ c.2)
+      (ap (λ r. text n.0.0 ⊕ r) (raw_spelled n.0.1 c.0 c.1 ∙ ap Some (sym same)) ∙ tells_text.sound b n.0 n.1);
+  whole = λ b x e.
+      let p = parts_are (text x.0) (raw x.1) b e in
+      let same = raw_whole x.1 p.right p.q_is in
+      let f : text x.0 ⊕ Some x.1 ≡ Some b = ap (λ r. text x.0 ⊕ r) (ap Some same ∙ sym p.q_is) ∙ e in
+      rw (tells_text.whole b (x.0, x.1) f, p.q_is) (ap (λ c. Some (x.0, c)) (sym same));
+}
+
+-- ---- the preamble, and lists of parts
+
+preamble_sound : (b rest : List ℕ) → preamble_at b ≡ Some rest → b ≡ preamble ++ rest
+unfolding preamble_at
+preamble_sound b rest e = by_test (starts_with nat_eq b preamble) refl e
+  where
+    by_test : (x : Bool) → starts_with nat_eq b preamble ≡ x → cond {A = Option (List ℕ)} x (Some (drop 8 b)) None ≡ Some rest → b ≡ preamble ++ rest
+    by_test true f g = (starts_is Decides-eqb b preamble (starts_with nat_eq b preamble) refl).0 f ∙ ap (λ l. preamble ++ l) (some_same _ _ g)
+    by_test false f g = absurd cc
+
+preamble_whole : (rest : List ℕ) → preamble_at (preamble ++ rest) ≡ Some rest
+unfolding preamble_at
+preamble_whole rest = refl
+
+abbrev listed : Tree → List Part
+listed ends = []
+listed (first p t) = p ∷ listed t
+
+tree_listed : (t : Tree) → tree_of (listed t) ≡ t
+tree_listed ends = refl
+tree_listed (first p t) = ap (first p) (tree_listed t)
+
+-- ---- sections
+
+module _ (levels : ℕ) (f : Tree → Piece) (inner : List ℕ → Option Tree) (c : TellsAll f inner) where
+  part_begins : (b : List ℕ) (t : ℕ × List ℕ) (x : Part × List ℕ) → byte_at b ≡ Some t → part_after levels inner t.0 t.1 ≡ Some x
+      → Begins (part_in levels f) b x
+  unfolding part_after
+  part_begins b t x e =
+      chain t.0 0 _ _ x (row_sound (part_in levels f) (λ x. custom x.0 x.1) 0 (tells_framed tells_custom) (λ x. refl) b t x e)
+      (chain t.0 1 _ _ x (row_sound (part_in levels f) core_module 1 (tells_framed (tells_itself embedded embedded_whole)) (λ x. refl) b t x e)
+      (chain t.0 3 _ _ x (row_sound (part_in levels f) core_types 3 (tells_framed (tells_list tells_core_entry)) (λ x. refl) b t x e)
+      (chain t.0 4 _ _ x (row_sound (part_in levels f) component 4 (tells_framed c) (λ x. refl) b t x e)
+      (chain t.0 7 _ _ x (row_sound (part_in levels f) types 7 (tells_framed (tells_types levels)) (λ x. refl) b t x e)
+      (chain t.0 8 _ _ x (row_sound (part_in levels f) canons 8 (tells_framed (tells_list tells_canon)) (λ x. refl) b t x e)
+      (chain t.0 10 _ _ x (row_sound (part_in levels f) imports 10 (tells_framed (tells_list tells_import)) (λ x. refl) b t x e)
+      (chain t.0 11 _ _ x (row_sound (part_in levels f) exports 11 (tells_framed (tells_list tells_export)) (λ x. refl) b t x e)
+      (nothing x))))))))
+
+  part_read : (b : List ℕ) (x : Part) (rest : List ℕ) → Begins (part_in levels f) b (x, rest) → Told (part_after levels inner) b (x, rest)
+  unfolding part_after
+  part_read b (custom n d) rest e = row_told (part_after levels inner) (λ x. custom x.0 x.1) 0 (lit< tt) (tells_framed tells_custom) (λ bs. refl) {x = (n, d)} e
+  part_read b (core_module bs) rest e = row_told (part_after levels inner) core_module 1 (lit< tt) (tells_framed (tells_itself embedded embedded_whole))
+      (λ bs. refl) e
+  part_read b (core_types ts) rest e = row_told (part_after levels inner) core_types 3 (lit< tt) (tells_framed (tells_list tells_core_entry)) (λ bs. refl) e
+  part_read b (component t) rest e = row_told (part_after levels inner) component 4 (lit< tt) (tells_framed c) (λ bs. refl) e
+  part_read b (types ts) rest e = row_told (part_after levels inner) types 7 (lit< tt) (tells_framed (tells_types levels)) (λ bs. refl) e
+  part_read b (canons fs) rest e = row_told (part_after levels inner) canons 8 (lit< tt) (tells_framed (tells_list tells_canon)) (λ bs. refl) e
+  part_read b (imports is) rest e = row_told (part_after levels inner) imports 10 (lit< tt) (tells_framed (tells_list tells_import)) (λ bs. refl) e
+  part_read b (exports es) rest e = row_told (part_after levels inner) exports 11 (lit< tt) (tells_framed (tells_list tells_export)) (λ bs. refl) e
+
+  tells_part : Tells (part_in levels f) (part_at levels inner)
+  unfolding part_at
+  tells_part = tells_after (part_after levels inner) part_begins part_read
+
+  -- ---- all of them
+
+  parts_sound : (n : ℕ) (b : List ℕ) (ps : List Part) → parts_at levels inner n b ≡ Some ps → parts_in levels f (tree_of ps) ≡ Some b
+  unfolding parts_at
+  parts_sound n [] ps e = ap (λ q. parts_in levels f (tree_of q)) (sym (some_same [] ps e))
+  parts_sound zero (x ∷ b) ps e = absurd cc
+  parts_sound (suc n) (x ∷ b) ps e =
+      let p = bind_some (part_at levels inner (x ∷ b)) (λ p. parts_at levels inner n p.1 >>= λ qs. Some (p.0 ∷ qs)) ps e in
+      let q = bind_some (parts_at levels inner n p.0.1) (λ qs. Some (p.0.0 ∷ qs)) ps p.2 in
+      let i = parts_sound n p.0.1 q.0 q.1 in
+      ap (λ r. parts_in levels f (tree_of r)) (sym (some_same (p.0.0 ∷ q.0) ps q.2)) ∙ ap (λ r. part_in levels f p.0.0 ⊕ r) i ∙ tells_part.sound (x ∷ b) p.0 p.1
+
+  -- each section begins with its id
+  sized_some : (id : ℕ) (p : Piece) (l : List ℕ) → sized id p ≡ Some l → 0 < length l
+  sized_some id p l e =
+      let q = parts_are (byte id) (framed p) l e in
+      let h : length q.left ≡ 1 = ap length (sym (some_same (id ∷ []) q.left q.p_is)) in
+      let k = ap length q.is in
+      omega (arith, length-append q.left q.right)
+
+  part_some : (p : Part) (l : List ℕ) → part_in levels f p ≡ Some l → 0 < length l
+  part_some (custom n d) l e = sized_some 0 _ l e
+  part_some (core_module bs) l e = sized_some 1 _ l e
+  part_some (core_types ts) l e = sized_some 3 _ l e
+  part_some (component t) l e = sized_some 4 _ l e
+  part_some (types ts) l e = sized_some 7 _ l e
+  part_some (canons fs) l e = sized_some 8 _ l e
+  part_some (imports is) l e = sized_some 10 _ l e
+  part_some (exports es) l e = sized_some 11 _ l e
+
+  parts_whole : (t : Tree) (n : ℕ) (b : List ℕ) → length b ≤ n → parts_in levels f t ≡ Some b → parts_at levels inner n b ≡ Some (listed t)
+  unfolding parts_at
+  parts_whole ends zero b h e = ap (parts_at levels inner zero) (sym (some_same [] b e))
+  parts_whole ends (suc n) b h e = ap (parts_at levels inner (suc n)) (sym (some_same [] b e))
+  parts_whole (first p t) zero b h e =
+      let q = parts_are (part_in levels f p) (parts_in levels f t) b e in
+      let k = part_some p q.left q.p_is in
+      let m = ap length q.is in
+      absurd (omega (arith, length-append q.left q.right))
+  parts_whole (first p t) (suc n) [] h e =
+      let q = parts_are (part_in levels f p) (parts_in levels f t) [] e in
+      let k = part_some p q.left q.p_is in
+      let m = ap length q.is in
+      absurd (omega (arith, length-append q.left q.right))
+  parts_whole (first p t) (suc n) (x ∷ b) h e =
+      let q = parts_are (part_in levels f p) (parts_in levels f t) (x ∷ b) e in
+      let k = part_some p q.left q.p_is in
+      let m = ap length q.is in
+      let w = tells_part.whole (x ∷ b) (p, q.right) (ap (λ r. r ⊕ Some q.right) q.p_is ∙ joined _ _ ∙ ap Some (sym q.is)) in
+      rw (w, parts_whole t n q.right (omega (arith, length-append q.left q.right, h)) q.q_is) refl
+
+  tells_contents : TellsAll (text_in levels f) (contents_at levels inner)
+  unfolding contents_at
+  tells_contents = record {
+    sound = λ b t e.
+        let r = bind_some (preamble_at b) (λ rest. parts_at levels inner (length rest) rest >>= λ ps. Some (tree_of ps)) t e in
+        let p = bind_some (parts_at levels inner (length r.0) r.0) (λ ps. Some (tree_of ps)) t r.2 in
+        ap (λ x. text_in levels f x) (sym (some_same _ _ p.2)) ∙ ap (λ x. bytes preamble ⊕ x) (parts_sound (length r.0) r.0 p.0 p.1) ∙ joined _ _
+        ∙ ap Some (sym (preamble_sound b r.0 r.1));
+    whole = λ b t e.
+        let q = parts_are (bytes preamble) (parts_in levels f t) b e in
+        let i : b ≡ preamble ++ q.right = q.is ∙ ap (λ l. l ++ q.right) (sym (some_same preamble q.left q.p_is)) in
+        rw (i, preamble_whole q.right, parts_whole t (length q.right) q.right (omega arith) q.q_is) (ap Some (tree_listed t));
+  }
+
+-- ---- components
+
+pub tells_component : (n : ℕ) → TellsAll (component_in n) (component_at n)
+unfolding component_in component_at
+tells_component zero = record { sound = λ b t e. absurd cc; whole = λ b t e. absurd cc }
+tells_component (suc n) = tells_contents n (component_in n) (component_at n) (tells_component n)
+
+-- what is spelled within levels is spelled
+
+framed_under : (p q : Piece) → Under p q → Under (framed p) (framed q)
+unfolding framed
+framed_under p q (inl e) = inl (ap framed e)
+framed_under p q (inr e) = inr (ap framed e)
+
+sized_under : (id : ℕ) (p q : Piece) → Under p q → Under (sized id p) (sized id q)
+sized_under id p q h = under_then (byte id) (byte id) _ _ (inr refl) (framed_under p q h)
+
+module _ (levels : ℕ) (f : Tree → Piece) (under : (t : Tree) → Under (f t) (component_text t)) where
+  part_under : (p : Part) → Under (part_in levels f p) (part p)
+  part_under (custom n d) = inr refl
+  part_under (core_module bs) = inr refl
+  part_under (core_types ts) = inr refl
+  part_under (component t) = sized_under 4 (f t) (component_text t) (under t)
+  part_under (types ts) = sized_under 7 _ _ (many_under levels ts)
+  part_under (canons fs) = inr refl
+  part_under (imports is) = inr refl
+  part_under (exports es) = inr refl
+
+  parts_under : (t : Tree) → Under (parts_in levels f t) (parts t)
+  parts_under ends = inr refl
+  parts_under (first p t) = under_then (part_in levels f p) (part p) (parts_in levels f t) (parts t) (part_under p) (parts_under t)
+
+component_under : (n : ℕ) (t : Tree) → Under (component_in n t) (component_text t)
+unfolding component_in
+component_under zero t = inl refl
+component_under (suc n) t =
+    under_then (bytes preamble) (bytes preamble) _ _ (inr refl)
+    (parts_under n (component_in n) (λ u. component_under n u) t)
+
+under_spells : (p q : Piece) (b : List ℕ) → Under p q → p ≡ Some b → q ≡ Some b
+under_spells p q b (inl h) e = let z : None ≡ Some b = sym h ∙ e in absurd cc
+under_spells p q b (inr h) e = sym h ∙ e
+
+pub component_found : (n : ℕ) (b : List ℕ) (t : Tree) → component_at n b ≡ Some t → Spells t b
+component_found n b t e = under_spells _ _ b (component_under n t) ((tells_component n).sound b t e)
+
+-- what is spelled is spelled within levels
+
+nest_within : (n : ℕ) (ts : List Entry) → most_nested ts ≤ n → NestWithin n ts
+nest_within n [] h = tt
+nest_within n (t ∷ ts) h = (omega (arith, h), nest_within n ts (omega (arith, h)))
+
+some_depth : (t : Tree) → 1 ≤ scope_depth t
+some_depth ends = omega arith
+some_depth (first p t) = omega (arith, some_depth t)
+
+module _ (n : ℕ) (f : Tree → Piece) (same : (t : Tree) → scope_depth t ≤ n → f t ≡ component_text t) where
+  part_same : (p : Part) → scope_depth_in p ≤ suc n → part_in n f p ≡ part p
+  part_same (custom m d) h = refl
+  part_same (core_module bs) h = refl
+  part_same (core_types ts) h = refl
+  part_same (component t) h = ap (sized 4) (same t (omega (arith, h)))
+  part_same (types ts) h = ap (sized 7) (many_same n ts (nest_within n ts (omega (arith, h))))
+  part_same (canons fs) h = refl
+  part_same (imports is) h = refl
+  part_same (exports es) h = refl
+
+  parts_same : (t : Tree) → scope_depth t ≤ suc n → parts_in n f t ≡ parts t
+  parts_same ends h = refl
+  parts_same (first p t) h = ap (λ q. q ⊕ parts_in n f t) (part_same p (omega (arith, h))) ∙ ap (λ q. part p ⊕ q) (parts_same t (omega (arith, h)))
+
+component_same : (n : ℕ) (t : Tree) → scope_depth t ≤ n → component_in n t ≡ component_text t
+unfolding component_in
+component_same zero t d = absurd (omega (arith, some_depth t))
+component_same (suc n) t d =
+    ap (λ q. bytes preamble ⊕ q) (parts_same n (component_in n) (λ x l. component_same n x l) t d)
+
+pub component_only : (n : ℕ) (b : List ℕ) (t : Tree) → scope_depth t ≤ n → Spells t b → component_at n b ≡ Some t
+component_only n b t d e = (tells_component n).whole b t (component_same n t d ∙ e)

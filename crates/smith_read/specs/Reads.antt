@@ -1,0 +1,36 @@
+-- What reading answers.
+use Rattle.std.specs.Prelude.{◌≡◌, ◌≤◌, ◌+◌, ◌-◌, ℕ, List, Result, Ok, Err, IfOk, IfErr, min}
+use Rattle.smith_component.specs.Grammar.{Spells}
+use Rattle.smith_component.specs.Tree.{Tree, scope_depth}
+use Rattle.smith_read.specs.PartNodes.{shown_tree}
+use Rattle.smith_read.specs.declared.error.ReadError.{ReadError}
+use Rattle.smith_read.specs.declared.error.ReadError.TheVariants as error
+use Rattle.smith_read.specs.declared.nodes.ComponentTree.{ComponentTree}
+use Rattle.smith_read_types.specs.declared.error.Unread.{Unread}
+use Rattle.smith_read_types.specs.declared.error.Unread.TheVariants as inner
+
+-- how deep scopes may stand in what is read
+abbrev pub most_depth : ℕ
+most_depth = 1001
+
+-- What is read is spelled by the bytes. Where they spell a tree that is no deeper than that, nothing is refused but for want of
+-- memory.
+pub record Reads (result : Result ComponentTree ReadError) (bytes : List ℕ) : Type 0 where
+  pub spelled : IfOk result (λ t. Spells (shown_tree t) bytes)
+  pub answers : (t : Tree) → scope_depth t ≤ most_depth → Spells t bytes → IfErr result (λ e. e ≡ error.OutOfMemory)
+
+-- what is wrong was seen at no offset past that length
+abbrev pub IsWithin : ℕ → ReadError → Type 0
+IsWithin length error.OutOfMemory = Unit {0}
+IsWithin length (error.Malformed offset reason) = offset ≤ length
+
+-- the same answer, where so many more bytes are left
+abbrev pub behind : {A : Type 0} → ℕ → Result A Unread → Result A Unread
+behind more (Ok x) = Ok x
+behind more (Err inner.OutOfMemory) = Err inner.OutOfMemory
+behind more (Err (inner.Malformed left reason)) = Err (inner.Malformed (min (left + more) 18446744073709551615) reason)
+
+-- what is refused, of so many bytes
+abbrev pub placed_in : ℕ → Unread → ReadError
+placed_in length inner.OutOfMemory = error.OutOfMemory
+placed_in length (inner.Malformed left reason) = error.Malformed (length - left) reason

@@ -1,0 +1,9 @@
+pub mod Digits
+pub mod Loops
+pub mod Levels
+pub mod Telling
+pub mod TellingTypes
+pub mod TellingCore
+pub mod TellingLevels
+pub mod TellingFrames
+pub mod Inner

@@ -1,0 +1,82 @@
+//! Why bytes are not read.
+
+ghost use Rattle.std.specs.Prelude.{◌≡◌, ◌+◌, length, min};
+
+use std::alloc::{AllocError, AllocFailed};
+
+/// What is wrong with bytes that are not read.
+#[derive(Clone, Copy, Debug, PartialEq, Eq, thiserror::Error)]
+pub enum Reason {
+    /// The bytes, or those that a length frames, end too soon.
+    #[error("the bytes end too soon")]
+    Ends,
+    /// No number of its sort stands here: it is padded, too great, or negative.
+    #[error("a number is padded, too great or negative")]
+    Number,
+    /// A name is no UTF-8.
+    #[error("a name is not UTF-8")]
+    Name,
+    /// No encoding has this byte here.
+    #[error("a byte has no meaning here")]
+    Byte,
+    /// The eight bytes of the preamble of a component or a core module do not stand here.
+    #[error("a preamble is missing")]
+    Preamble,
+    /// Bytes stand behind the last entry of a section.
+    #[error("bytes are left over")]
+    LeftOver,
+    /// A scope stands too deep.
+    #[error("scopes are nested too deep")]
+    Depth,
+}
+
+/// Why a reader of some bytes gives up. Public for the crates above alone.
+#[derive(Debug, Drop)]
+pub enum Unread {
+    /// A growth was refused.
+    OutOfMemory,
+    /// No encoding is there, as was seen where so many of the bytes were left.
+    Malformed { left: usize, reason: Reason },
+}
+
+impl From<AllocError> for Unread {
+    ghost use Rattle.std.specs.Prelude.{◌≡◌};
+    ghost use Rattle.smith_read_types.specs.declared.error.Unread.TheVariants.{OutOfMemory};
+
+    ghost from_gives = { λ _ e. e ≡ OutOfMemory };
+
+    fn from(_error: AllocError) -> Unread {
+        Unread::OutOfMemory
+    }
+}
+
+impl<T: Drop> From<AllocFailed<T>> for Unread {
+    ghost use Rattle.std.specs.Prelude.{◌≡◌};
+    ghost use Rattle.smith_read_types.specs.declared.error.Unread.TheVariants.{OutOfMemory};
+
+    ghost from_gives = { λ _ e. e ≡ OutOfMemory };
+
+    fn from(_error: AllocFailed<T>) -> Unread {
+        Unread::OutOfMemory
+    }
+}
+
+/// Nothing is read where these bytes are left. Public for the crates above alone.
+pub fn malformed(bytes: &[u8], reason: Reason) -> Unread
+    ensures { result ≡ Unread.Malformed (length bytes.now) reason }
+{
+    Unread::Malformed {
+        left: bytes.len(),
+        reason,
+    }
+}
+
+/// Nothing is read where the byte before these stands.
+pub(crate) fn malformed_before(bytes: &[u8], reason: Reason) -> Unread
+    ensures { result ≡ Unread.Malformed (min (length bytes.now + 1) 18446744073709551615) reason }
+{
+    Unread::Malformed {
+        left: bytes.len().saturating_add(1),
+        reason,
+    }
+}
