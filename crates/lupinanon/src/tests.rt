@@ -260,7 +260,7 @@ import "m": core module 1 of core type 1
 import "t": type 4 equal to type 0
 import "k": component 1 of type 2
 import "i": instance 0 of type 3
-function 1: lift of core function 0 to type 0
+function 1: lift of core function 0 to type 1
 core function 0: lower of function 0
 export "x": function 2, which is function 0
 "#;
