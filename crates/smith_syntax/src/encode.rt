@@ -20,7 +20,8 @@ use crate::types::ComponentValType;
 pub use core_types::{core_type_len, write_core_type};
 use declarations::put_type;
 pub use declarations::type_len;
-pub use externs::{import_len, write_import};
+pub use defined::put_defined;
+pub use externs::{import_len, put_named, write_import};
 use smith_format::{Spelled, put_tagged, tagged_len, write_byte, write_bytes, write_spelled};
 use smith_input::Error;
 use std::rc::Rc;
@@ -49,7 +50,9 @@ fn result_len(ty: Option<ComponentValType>) -> u32
     }
 }
 
-fn put_function(out: &mut Vec<u8>, ty: &FuncType) -> Result<(), Error>
+/// Puts a function type at the end of a buffer. After an error a part of it may stand there. Public for the crates above
+/// alone.
+pub fn put_function(out: &mut Vec<u8>, ty: &FuncType) -> Result<(), Error>
     ensures { Puts result out.old out.new (functype ty.now) }
 {
     put_tagged(out, 0x40, &ty.params)?;

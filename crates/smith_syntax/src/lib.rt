@@ -16,7 +16,8 @@ pub use deftype::{
 };
 pub use drops::drop_last_first;
 pub use encode::{
-    ComponentFormat, core_type_len, import_len, type_len, write_core_type, write_import, write_type,
+    ComponentFormat, core_type_len, import_len, put_defined, put_function, put_named, type_len,
+    write_core_type, write_import, write_type,
 };
 pub use func::FuncType;
 pub use types::{

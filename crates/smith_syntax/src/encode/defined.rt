@@ -40,7 +40,9 @@ impl Spelled<ComponentFormat> for (String, Option<ComponentValType>) {
     }
 }
 
-pub(super) fn put_defined(out: &mut Vec<u8>, ty: &DefinedType) -> Result<(), Error>
+/// Puts a type of values at the end of a buffer. After an error a part of it may stand there. Public for the crates above
+/// alone.
+pub fn put_defined(out: &mut Vec<u8>, ty: &DefinedType) -> Result<(), Error>
     ensures { Puts result out.old out.new (defvaltype (shown_defined ty.now)) }
 {
     match ty {

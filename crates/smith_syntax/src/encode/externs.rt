@@ -53,8 +53,9 @@ fn reference_len(to: ComponentTypeRef) -> u32
     }
 }
 
-// A name and what it is of.
-pub(super) fn put_named(out: &mut Vec<u8>, name: &str, to: ComponentTypeRef) -> Result<(), Error>
+/// Puts a name and what it is of at the end of a buffer. After an error a part of it may stand there. Public for the
+/// crates above alone.
+pub fn put_named(out: &mut Vec<u8>, name: &str, to: ComponentTypeRef) -> Result<(), Error>
     ensures { Puts result out.old out.new (named_extern name.now to) }
 {
     write_byte(out, 0x00)?;
