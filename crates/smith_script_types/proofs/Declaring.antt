@@ -1,0 +1,56 @@
+-- Loops over declarations as a script spells them.
+use Rattle.std.proofs.Common.{◌≡◌, ℕ, zero, suc, ◌+◌, ◌-◌, ◌<◌, ◌≤◌, Bool, List, [], ◌∷◌, ◌++◌, drop, length, map, get_or, refl, ap, sym, ◌∙◌, subst, arith}
+use Rattle.std.proofs.Math.Seq.{drop-cons}
+use Rattle.std.specs.declared.vec.Vec.{Vec}
+use Rattle.std.specs.declared.alloc.Global.{Global}
+use Rattle.smith_input.specs.Script.{script_end}
+use Rattle.smith_format.specs.declared.config.Config.{Config}
+use Rattle.smith_syntax.specs.Entries.{in_order}
+use Rattle.smith_syntax.specs.Scope.{Scope, after_decl}
+use Rattle.smith_read_types.specs.TypeNodes.{shown_decl_node}
+use Rattle.smith_read_types.specs.declared.nodes.DeclNode.{DeclNode}
+use Rattle.smith_types.specs.Script.{decl_cost, script_decl, script_decls}
+use Rattle.smith_script_types.proofs.Alike.{all_same, script_decls_alike}
+use Rattle.smith_script_types.proofs.Saying.{Towards, towards_step}
+use Rattle.smith_script_types.specs.Says.{Adds}
+use Rattle.smith_script_types.specs.Scopes.{Alike}
+
+module _ (config : Config) (importing : Bool) (outer : List Scope) where
+  -- a declaration, and those behind it
+  pub decls_at : (xs : List DeclNode) (i fuel : ℕ) (own : Scope) (x : DeclNode) → i < length xs → x ≡ get_or xs i x
+      → script_decls (in_order (map shown_decl_node (drop i xs))) config importing fuel i own outer
+      ≡ (1 ∷ []) ++ (script_decl (shown_decl_node x) config importing (fuel - 1) own outer
+      ++ script_decls (in_order (map shown_decl_node (drop (suc i) xs))) config importing (fuel - 1 - decl_cost (shown_decl_node x)) (i + 1)
+      (after_decl outer own (shown_decl_node x)) outer)
+  decls_at xs i fuel own x h e =
+      ap (λ ys. script_decls (in_order (map shown_decl_node ys)) config importing fuel i own outer) (drop-cons xs i x h)
+      ∙ ap (λ y. 1 ∷ (script_decl (shown_decl_node y) config importing (fuel - 1) own outer
+      ++ script_decls (in_order (map shown_decl_node (drop (suc i) xs))) config importing (fuel - 1 - decl_cost (shown_decl_node y)) (i + 1)
+      (after_decl outer own (shown_decl_node y)) outer)) (sym e)
+
+  -- no declaration is left
+  pub decls_over : (xs : List DeclNode) (i done fuel : ℕ) (own : Scope) → length xs ≤ i
+      → script_decls (in_order (map shown_decl_node (drop i xs))) config importing fuel done own outer ≡ script_end done 100
+  decls_over [] zero done fuel own h = refl
+  decls_over [] (suc i) done fuel own h = refl
+  decls_over (x ∷ xs) zero done fuel own h = absurd (omega arith)
+  decls_over (x ∷ xs) (suc i) done fuel own h = decls_over xs i done fuel own (omega arith)
+
+  -- one declaration more
+  pub decls_step : {a b m c : Vec ℕ Global} {all : List ℕ} (xs : List DeclNode) (i fuel less left : ℕ) (own next : Scope) (x : DeclNode) → i < length xs
+      → x ≡ get_or xs i x → less ≡ fuel - 1 → left ≡ less - decl_cost (shown_decl_node x) → Alike next (after_decl outer own (shown_decl_node x))
+      → Towards a b all (script_decls (in_order (map shown_decl_node (drop i xs))) config importing fuel i own outer) → Adds b m (1 ∷ [])
+      → Adds m c (script_decl (shown_decl_node x) config importing less own outer)
+      → Towards a c all (script_decls (in_order (map shown_decl_node (drop (i + 1) xs))) config importing left (i + 1) next outer)
+  decls_step {a} {b} {m} {c} {all} xs i fuel less left own next x h e l k alike t g d =
+      let d1 : Adds m c (script_decl (shown_decl_node x) config importing (fuel - 1) own outer) =
+      subst (λ n. Adds m c (script_decl (shown_decl_node x) config importing n own outer)) l d in
+      let u = towards_step _ _ (towards_step (1 ∷ []) _ t (decls_at xs i fuel own x h e) g) refl d1 in
+      let more : suc i ≡ i + 1 = omega arith in
+      let burned : fuel - 1 - decl_cost (shown_decl_node x) ≡ left = ap (λ n. n - decl_cost (shown_decl_node x)) (sym l) ∙ sym k in
+      let ds = in_order (map shown_decl_node (drop (i + 1) xs)) in
+      subst (Towards a c all)
+      (ap (λ j. script_decls (in_order (map shown_decl_node (drop j xs))) config importing (fuel - 1 - decl_cost (shown_decl_node x)) (i + 1)
+      (after_decl outer own (shown_decl_node x)) outer) more
+      ∙ ap (λ n. script_decls ds config importing n (i + 1) (after_decl outer own (shown_decl_node x)) outer) burned
+      ∙ sym (script_decls_alike ds config importing left (i + 1) next (after_decl outer own (shown_decl_node x)) outer outer alike (all_same outer))) u

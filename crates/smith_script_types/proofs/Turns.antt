@@ -1,0 +1,50 @@
+-- Loops over members as a script spells them.
+use Rattle.std.proofs.Common.{◌≡◌, ℕ, zero, suc, ◌+◌, ◌<◌, ◌≤◌, List, [], ◌∷◌, ◌++◌, drop, length, map, get_or, refl, ap, sym, ◌∙◌, arith, append_assoc}
+use Rattle.std.proofs.Math.Seq.{drop-cons}
+use Rattle.std.specs.Option.{option_to_list}
+use Rattle.std.specs.Prelude.{Option, String}
+use Rattle.std.specs.declared.alloc.Global.{Global}
+use Rattle.smith_input.specs.Script.{script_end, script_loop, script_more}
+use Rattle.smith_syntax.specs.Entries.{Signature}
+use Rattle.smith_syntax.specs.Scope.{Scope}
+use Rattle.smith_syntax.specs.Signature.{named, signature}
+use Rattle.smith_syntax.specs.declared.types.ComponentValType.{ComponentValType}
+use Rattle.smith_types.specs.Script.{script_field, script_members, script_signature, script_val}
+
+module _ {S A : Type 0} (script : S → A → List ℕ) (next : S → A → S) (min max : ℕ) where
+  -- a turn, and those behind it
+  pub loop_at : (xs : List A) (i : ℕ) (s : S) (x : A) → i < length xs → x ≡ get_or xs i x
+      → script_loop script next min max i s (drop i xs)
+      ≡ script_more min i ++ script s x ++ script_loop script next min max (i + 1) (next s x) (drop (suc i) xs)
+  loop_at xs i s x h e =
+      ap (script_loop script next min max i s) (drop-cons xs i x h)
+      ∙ ap (λ y. script_more min i ++ script s y ++ script_loop script next min max (i + 1) (next s y) (drop (suc i) xs)) (sym e)
+
+  -- no turn is left
+  pub loop_over : (xs : List A) (i : ℕ) (s : S) → length xs ≤ i → script_loop script next min max i s (drop i xs) ≡ script_end i max
+  loop_over [] zero s h = refl
+  loop_over [] (suc i) s h = refl
+  loop_over (x ∷ xs) zero s h = absurd (omega arith)
+  loop_over (x ∷ xs) (suc i) s h = over xs i (omega arith) where
+    over : (xs : List A) (j : ℕ) → length xs ≤ j → script_loop script next min max (suc i) s (drop j xs) ≡ script_end (suc i) max
+    over [] zero h = refl
+    over [] (suc j) h = refl
+    over (y ∷ ys) zero h = absurd (omega arith)
+    over (y ∷ ys) (suc j) h = over ys j (omega arith)
+
+module _ {A B : Type 0} (f : B → List ℕ) (g : A → B) (min max : ℕ) where
+  turns_map : (done : ℕ) (xs : List A)
+      → script_loop (λ (s : Unit {0}) x. f x) (λ s x. s) min max done tt (map g xs) ≡ script_loop (λ (s : Unit {0}) x. f (g x)) (λ s x. s) min max done tt xs
+  turns_map done [] = refl
+  turns_map done (x ∷ xs) = ap (λ t. script_more min done ++ f (g x) ++ t) (turns_map (done + 1) xs)
+
+  -- members that are seen otherwise
+  pub members_map : (xs : List A) → script_members f min max (map g xs) ≡ script_members (λ x. f (g x)) min max xs
+  members_map xs = turns_map 0 xs
+
+-- a function type over the program's fields
+pub signature_is : (own : Scope) (v : Signature) (ps : List (String Global × ComponentValType)) (r : Option ComponentValType) → signature ps r ≡ v
+    → script_signature own v ≡ script_members (λ p. script_field own (named p)) 0 16 ps ++ script_members (script_val own) 0 1 (option_to_list r)
+signature_is own v ps r e =
+    ap (script_signature own) (sym e)
+    ∙ ap (λ t. t ++ script_members (script_val own) 0 1 (option_to_list r)) (members_map (script_field own) named 0 16 ps)

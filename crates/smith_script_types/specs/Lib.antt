@@ -1,0 +1,5 @@
+pub mod Added
+pub mod Fronts
+pub mod Places
+pub mod Says
+pub mod Scopes

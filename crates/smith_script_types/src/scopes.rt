@@ -1,0 +1,192 @@
+//! Which sorts of types stand before a place: a script says no more of them.
+
+ghost use Rattle.std.specs.Prelude.{◌≡◌, ℕ, true, length, map, IfOk, IfErr};
+ghost use Rattle.smith_syntax.specs.Scope.{empty_scope, is_core_module, places};
+ghost use Rattle.smith_read_types.specs.Nodes.{shown_core_node};
+ghost use Rattle.smith_read_types.specs.TypeNodes.{shown_type_node};
+ghost use Rattle.smith_types.specs.Offers.{aliases_of, is_occupied};
+ghost use Rattle.smith_script_types.specs.Scopes.{core_entry_of, core_sort_of, entry_of, is_of, shown_scope, sort_of};
+ghost use Rattle.smith_script_types.specs.Added.{with_added};
+ghost use Rattle.smith_script_types.specs.declared.error.Unsaid.TheVariants.{OutOfMemory};
+
+use crate::error::Unsaid;
+use crate::places::{Test, places_of};
+use smith_read_types::{CoreNode, TypeNode};
+use std::alloc::Global;
+
+/// What a type is of. Public since contracts speak of it.
+#[derive(Debug, Clone, Copy, PartialEq, Eq)]
+pub enum Sort {
+    Defined,
+    Func,
+    Component,
+    Instance,
+}
+
+/// What a core type is of. Public since contracts speak of it.
+#[derive(Debug, Clone, Copy, PartialEq, Eq)]
+pub enum CoreSort {
+    Func,
+    Module,
+}
+
+/// The sorts of the types and of the core types that stand before a place. Public for the crate above alone.
+#[derive(Debug, Drop)]
+pub struct Scope {
+    pub types: Vec<Sort>,
+    pub core_types: Vec<CoreSort>,
+}
+
+/// What a declaration adds to its scope. Public since contracts speak of it.
+#[derive(Debug, Clone, Copy)]
+pub enum Added {
+    Nothing,
+    Type(Sort),
+    CoreType(CoreSort),
+}
+
+impl Test<Sort> for Sort {
+    ghost passed = { λ s t. is_of s (entry_of t) };
+
+    fn passes(&self, item: &Sort) -> bool {
+        match (*self, *item) {
+            (Sort::Defined, Sort::Defined)
+            | (Sort::Func, Sort::Func)
+            | (Sort::Component, Sort::Component)
+            | (Sort::Instance, Sort::Instance) => true,
+            _ => false,
+        }
+    }
+}
+
+// Whatever sort it is of.
+#[derive(Drop)]
+struct Any {}
+
+impl Test<Sort> for Any {
+    ghost passed = { λ _ t. true };
+
+    fn passes(&self, _item: &Sort) -> bool {
+        true
+    }
+}
+
+// Is it the type of a core module?
+#[derive(Drop)]
+struct OfModule {}
+
+impl Test<CoreSort> for OfModule {
+    ghost passed = { λ _ t. is_core_module (core_entry_of t) };
+
+    fn passes(&self, item: &CoreSort) -> bool {
+        match *item {
+            CoreSort::Func => false,
+            CoreSort::Module => true,
+        }
+    }
+}
+
+// Has a scope an entry?
+#[derive(Drop)]
+struct HasEntry {}
+
+impl<'b> Test<&'b Scope> for HasEntry {
+    ghost passed = { λ _ s. is_occupied (shown_scope s.now) };
+
+    fn passes(&self, item: &&'b Scope) -> bool {
+        !item.types.is_empty() || !item.core_types.is_empty()
+    }
+}
+
+/// The counts of the scopes that have an entry.
+pub(crate) fn occupied_places(alloc: Global, scopes: &[&Scope]) -> Result<Vec<usize>, Unsaid>
+    ensures list { IfOk result (λ v. v.items ≡ places is_occupied 0 (map (λ s. shown_scope s.now) scopes.now)) }
+    ensures memory { IfErr result (λ e. e ≡ OutOfMemory) }
+{
+    places_of(alloc, &HasEntry {}, scopes)
+}
+
+/// The sort of a type.
+pub fn sort_of(ty: &TypeNode) -> Sort
+    ensures { result ≡ sort_of (shown_type_node ty.now) }
+{
+    match ty {
+        TypeNode::Defined(_) => Sort::Defined,
+        TypeNode::Func(_) => Sort::Func,
+        TypeNode::Component(_) => Sort::Component,
+        TypeNode::Instance(_) => Sort::Instance,
+    }
+}
+
+/// The sort of a core type.
+pub fn core_sort_of(ty: &CoreNode) -> CoreSort
+    ensures { result ≡ core_sort_of (shown_core_node ty.now) }
+{
+    match ty {
+        CoreNode::Func(_) => CoreSort::Func,
+        CoreNode::Module(_) => CoreSort::Module,
+    }
+}
+
+impl Scope {
+    /// One with nothing in it.
+    pub fn new(alloc: Global) -> Scope
+        ensures { shown_scope result ≡ empty_scope }
+    {
+        Scope {
+            types: Vec::new(alloc),
+            core_types: Vec::new(alloc),
+        }
+    }
+
+    /// How many entries it has.
+    pub(crate) fn len(&self) -> usize
+        ensures { (count : ℕ) → result ≡ length (aliases_of count (shown_scope self.now)) }
+    {
+        self.types.len() + self.core_types.len()
+    }
+
+    /// How many types it has.
+    pub(crate) fn types_len(&self) -> usize
+        ensures { result ≡ length (shown_scope self.now).types }
+    {
+        self.types.len()
+    }
+
+    /// The indexes of the types of that sort.
+    pub(crate) fn places(&self, alloc: Global, sort: Sort) -> Result<Vec<usize>, Unsaid>
+        ensures list { IfOk result (λ v. v.items ≡ places (is_of sort) 0 (shown_scope self.now).types) }
+        ensures memory { IfErr result (λ e. e ≡ OutOfMemory) }
+    {
+        places_of(alloc, &sort, &self.types)
+    }
+
+    /// The indexes of all types.
+    pub(crate) fn all_places(&self, alloc: Global) -> Result<Vec<usize>, Unsaid>
+        ensures list { IfOk result (λ v. v.items ≡ places (λ x. true) 0 (shown_scope self.now).types) }
+        ensures memory { IfErr result (λ e. e ≡ OutOfMemory) }
+    {
+        places_of(alloc, &Any {}, &self.types)
+    }
+
+    /// The indexes of the types of core modules.
+    pub(crate) fn module_places(&self, alloc: Global) -> Result<Vec<usize>, Unsaid>
+        ensures list { IfOk result (λ v. v.items ≡ places is_core_module 0 (shown_scope self.now).core_types) }
+        ensures memory { IfErr result (λ e. e ≡ OutOfMemory) }
+    {
+        places_of(alloc, &OfModule {}, &self.core_types)
+    }
+
+    /// Adds what a declaration adds.
+    pub(crate) fn add(&mut self, added: Added) -> Result<(), Unsaid>
+        ensures grown { IfOk result (λ _. shown_scope self.new ≡ with_added (shown_scope self.old) added) }
+        ensures memory { IfErr result (λ e. e ≡ OutOfMemory) }
+    {
+        match added {
+            Added::Nothing => {}
+            Added::Type(sort) => self.types.push(sort)?,
+            Added::CoreType(sort) => self.core_types.push(sort)?,
+        }
+        Ok(())
+    }
+}

@@ -1,0 +1,216 @@
+//! Types of values and of functions.
+
+ghost use Rattle.std.specs.Prelude.{ℕ, List, ◌++◌, string_bytes};
+ghost use Rattle.std.specs.Option.{option_to_list};
+ghost use Rattle.smith_syntax.specs.Shown.{shown_defined};
+ghost use Rattle.smith_syntax.specs.Signature.{named};
+ghost use Rattle.smith_types.specs.Script.{script_case, script_defined, script_either, script_field, script_kind, script_label};
+ghost use Rattle.smith_types.specs.Script.{script_maybe, script_members, script_primitive, script_signature, script_val};
+ghost use Rattle.smith_script_types.specs.Says.{Says};
+ghost use Rattle.smith_script_types.specs.Places.{own_at};
+
+use crate::choices::{put_among, put_byte, put_choice, put_name};
+use crate::error::Unsaid;
+use crate::members::{Scripted, put_members};
+use crate::place::Place;
+use crate::scopes::Sort;
+use smith_syntax::{ComponentValType, DefinedType, FuncType, PrimitiveValType, ResultType};
+use smith_types::DefinedKind;
+
+static PRIMITIVES: [PrimitiveValType; 13] = [
+    PrimitiveValType::Bool,
+    PrimitiveValType::S8,
+    PrimitiveValType::U8,
+    PrimitiveValType::S16,
+    PrimitiveValType::U16,
+    PrimitiveValType::S32,
+    PrimitiveValType::U32,
+    PrimitiveValType::S64,
+    PrimitiveValType::U64,
+    PrimitiveValType::F32,
+    PrimitiveValType::F64,
+    PrimitiveValType::Char,
+    PrimitiveValType::String,
+];
+
+static DEFINED_KINDS: [DefinedKind; 9] = [
+    DefinedKind::Primitive,
+    DefinedKind::Record,
+    DefinedKind::Variant,
+    DefinedKind::List,
+    DefinedKind::Tuple,
+    DefinedKind::Flags,
+    DefinedKind::Enum,
+    DefinedKind::Option,
+    DefinedKind::Result,
+];
+
+fn put_primitive(out: &mut Vec<u8>, ty: PrimitiveValType) -> Result<(), Unsaid>
+    ensures { Says result out.old out.new (script_primitive ty) }
+{
+    put_among(out, &PRIMITIVES, &ty)
+}
+
+fn put_kind(out: &mut Vec<u8>, kind: DefinedKind) -> Result<(), Unsaid>
+    ensures { Says result out.old out.new (script_kind kind) }
+{
+    put_among(out, &DEFINED_KINDS, &kind)
+}
+
+// That a value type is primitive, where it may be an indexed one.
+fn put_either(out: &mut Vec<u8>, count: usize) -> Result<(), Unsaid>
+    ensures { Says result out.old out.new (script_either count) }
+{
+    if count == 0 {
+        return Ok(());
+    }
+    put_choice(out, 2, 0)
+}
+
+fn put_value(out: &mut Vec<u8>, place: Place<'_>, ty: ComponentValType) -> Result<(), Unsaid>
+    ensures { Says result out.old out.new (script_val (own_at place.entry) ty) }
+{
+    let defined = place.own.places(place.alloc, Sort::Defined)?;
+    match ty {
+        ComponentValType::Primitive(primitive) => {
+            put_either(out, defined.len())?;
+            put_primitive(out, primitive)
+        }
+        ComponentValType::Indexed(index) => {
+            put_choice(out, 2, 1)?;
+            put_among(out, &defined, &(index as usize))
+        }
+    }
+}
+
+fn put_maybe_value(
+    out: &mut Vec<u8>,
+    place: Place<'_>,
+    ty: Option<ComponentValType>,
+) -> Result<(), Unsaid>
+    ensures { Says result out.old out.new (script_maybe (own_at place.entry) ty) }
+{
+    match ty {
+        None => put_byte(out, 0),
+        Some(ty) => {
+            put_byte(out, 1)?;
+            put_value(out, place, ty)
+        }
+    }
+}
+
+// The two types of a result.
+fn put_both(out: &mut Vec<u8>, place: Place<'_>, ty: &ResultType) -> Result<(), Unsaid>
+    ensures { Says result out.old out.new
+        (script_maybe (own_at place.entry) ty.now.ok_ty ++ script_maybe (own_at place.entry) ty.now.err_ty) }
+{
+    put_maybe_value(out, place, ty.ok_ty)?;
+    put_maybe_value(out, place, ty.err_ty)
+}
+
+impl<'s> Scripted<Place<'s>> for ComponentValType {
+    ghost script = { λ place ty. script_val (own_at place) ty };
+
+    fn say(&self, context: &Place<'s>, out: &mut Vec<u8>) -> Result<(), Unsaid> {
+        put_value(out, *context, *self)
+    }
+}
+
+impl<'s> Scripted<Place<'s>> for String {
+    ghost script = { λ place name. script_label (string_bytes name) };
+
+    fn say(&self, _context: &Place<'s>, out: &mut Vec<u8>) -> Result<(), Unsaid> {
+        put_name(out, self)
+    }
+}
+
+impl<'s> Scripted<Place<'s>> for (String, ComponentValType) {
+    ghost script = { λ place field. script_field (own_at place) (named field) };
+
+    fn say(&self, context: &Place<'s>, out: &mut Vec<u8>) -> Result<(), Unsaid> {
+        put_name(out, &self.0)?;
+        put_value(out, *context, self.1)
+    }
+}
+
+impl<'s> Scripted<Place<'s>> for (String, Option<ComponentValType>) {
+    ghost script = { λ place case. script_case (own_at place) (named case) };
+
+    fn say(&self, context: &Place<'s>, out: &mut Vec<u8>) -> Result<(), Unsaid> {
+        put_name(out, &self.0)?;
+        put_maybe_value(out, *context, self.1)
+    }
+}
+
+/// A type of values behind what says that it is one.
+pub(crate) fn put_defined(
+    out: &mut Vec<u8>,
+    place: Place<'_>,
+    ty: &DefinedType,
+) -> Result<(), Unsaid>
+    ensures { Says result out.old out.new (script_defined (own_at place.entry) (shown_defined ty.now)) }
+{
+    match ty {
+        DefinedType::Primitive(primitive) => {
+            put_kind(out, DefinedKind::Primitive)?;
+            put_primitive(out, *primitive)
+        }
+        DefinedType::Record(record) => {
+            put_kind(out, DefinedKind::Record)?;
+            put_members(out, &place, 1, 100, &record.fields)
+        }
+        DefinedType::Variant(variant) => {
+            put_kind(out, DefinedKind::Variant)?;
+            put_members(out, &place, 1, 100, &variant.cases)
+        }
+        DefinedType::List(list) => {
+            put_kind(out, DefinedKind::List)?;
+            put_value(out, place, list.elem_ty)
+        }
+        DefinedType::Tuple(tuple) => {
+            put_kind(out, DefinedKind::Tuple)?;
+            put_members(out, &place, 1, 100, &tuple.fields)
+        }
+        DefinedType::Flags(flags) => {
+            put_kind(out, DefinedKind::Flags)?;
+            put_members(out, &place, 1, 32, &flags.fields)
+        }
+        DefinedType::Enum(labels) => {
+            put_kind(out, DefinedKind::Enum)?;
+            put_members(out, &place, 1, 100, &labels.variants)
+        }
+        DefinedType::Option(option) => {
+            put_kind(out, DefinedKind::Option)?;
+            put_value(out, place, option.inner_ty)
+        }
+        DefinedType::Result(result) => {
+            put_kind(out, DefinedKind::Result)?;
+            put_both(out, place, result)
+        }
+    }
+}
+
+fn put_result(
+    out: &mut Vec<u8>,
+    place: Place<'_>,
+    ty: Option<ComponentValType>,
+) -> Result<(), Unsaid>
+    ensures { Says result out.old out.new (script_members (script_val (own_at place.entry)) 0 1 (option_to_list ty)) }
+{
+    match ty {
+        None => put_members(out, &place, 0, 1, &[] as &[ComponentValType]),
+        Some(ty) => put_members(out, &place, 0, 1, &[ty]),
+    }
+}
+
+/// The parameters of a function type, and its result or none.
+pub(crate) fn put_signature(
+    out: &mut Vec<u8>,
+    place: Place<'_>,
+    ty: &FuncType,
+) -> Result<(), Unsaid>
+    ensures { Says result out.old out.new (script_signature (own_at place.entry) ty.now) }
+{
+    put_members(out, &place, 0, 16, &ty.params)?;
+    put_result(out, place, ty.result)
+}

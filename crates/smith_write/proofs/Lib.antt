@@ -1,0 +1,5 @@
+pub mod Writing
+pub mod Loops
+pub mod Sections
+pub mod TypeNodes
+pub mod PartNodes
