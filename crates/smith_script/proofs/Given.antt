@@ -1,0 +1,40 @@
+-- What an answer of `generate` says of a component, and what a refusal does.
+use Rattle.std.proofs.Common.{◌≡◌, ℕ, ◌<◌, ◌↔◌, List, [], ◌∷◌, sym, subst, ◌∙◌, Some, get_or, suc}
+use Rattle.smith_input.specs.declared.error.Error.{Error}
+use Rattle.smith_input.specs.declared.error.Error.TheVariants.{OutOfMemory}
+use Rattle.smith_format.specs.Limits.{IsConsistent}
+use Rattle.smith_format.specs.declared.config.Config.{Config}
+use Rattle.smith_component.specs.Grammar.{Spells}
+use Rattle.smith_component.specs.Refusals.{IsGenerateRefusal}
+use Rattle.smith_component.specs.Runs.{RunsTo}
+use Rattle.smith_component.specs.Tree.{Tree}
+use Rattle.smith_component.proofs.Decided.{runs_to_same}
+use Rattle.smith_component.proofs.Reproducible.{answer_or_memory}
+use Rattle.smith_script_types.specs.Says.{AreBytes}
+use Rattle.smith_script.specs.IsScript.{IsGiven}
+
+module _ (config : Config) (t : Tree) (input bytes : List ℕ) (spells : Spells t bytes) where
+  module _ (component : Tree) (left made : List ℕ) (run : RunsTo config input component left) (reading : (u : Tree) → Spells u made ↔ (u ≡ component)) where
+    -- Of the same bytes it is the component, and nothing is left.
+    pub given_of : IsConsistent config → left ≡ [] → made ≡ bytes → IsGiven config t input
+    given_of consistent nothing same =
+        let e : t ≡ component = (reading t).0 (subst (Spells t) (sym same) spells) in
+        record { consistent = consistent; runs = subst (λ u. RunsTo config input u []) (sym e) (subst (RunsTo config input component) nothing run) }
+
+    -- Where it is given, nothing is left, and the bytes are the same.
+    pub nothing_left : IsGiven config t input → left ≡ []
+    nothing_left g = (runs_to_same config input component t left [] run g.runs).1
+
+    pub same_bytes : IsGiven config t input → made ≡ bytes
+    same_bytes g =
+        let e : component ≡ t = (runs_to_same config input component t left [] run g.runs).0 in
+        let all : Spells t made = (reading t).1 (sym e) in
+        let z : Some made ≡ Some bytes = sym all ∙ spells in cc
+
+  -- Where it is given, nothing is refused but for want of memory.
+  pub given_or_memory : IsGiven config t input → (e : Error) → IsGenerateRefusal config input e → e ≡ OutOfMemory
+  given_or_memory g e h = answer_or_memory config input t [] bytes g.consistent g.runs spells e h
+
+pub are_bytes : (bs : List ℕ) → ((i : ℕ) → get_or bs i 0 < 256) → AreBytes bs
+are_bytes [] h = tt
+are_bytes (x ∷ xs) h = (h 0, are_bytes xs (λ i. h (suc i)))

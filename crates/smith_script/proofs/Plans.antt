@@ -1,0 +1,28 @@
+-- Every plan has a script.
+use Rattle.std.proofs.Common.{◌≡◌, ℕ, List, [], ◌++◌, refl, subst, append-nil}
+use Rattle.smith_format.specs.Limits.{IsConsistent}
+use Rattle.smith_format.specs.declared.config.Config.{Config}
+use Rattle.smith_component.specs.Runs.{RunsTo}
+use Rattle.smith_component.specs.Script.{Within, script}
+use Rattle.smith_component.specs.Tree.{Tree}
+use Rattle.smith_component.proofs.Plans.{script_runs}
+use Rattle.smith_script.proofs.PlanBytes.{plan_bytes}
+use Rattle.smith_script.specs.IsScript.{IsScript}
+use Rattle.smith_script.specs.declared.error.ScriptError.{ScriptError}
+use Rattle.smith_script.specs.declared.error.ScriptError.TheVariants.{InconsistentLimits, NoScript, OutOfMemory}
+
+module _ (config : Config) (plan : Tree) (consistent : IsConsistent config) (within : Within config plan) where
+  plan_script : IsScript config plan (script config plan)
+  plan_script = record {
+    is = refl;
+    bytes = plan_bytes config plan consistent within;
+    consistent = consistent;
+    spelled = within.spelled;
+    runs = subst (λ b. RunsTo config b plan []) (append-nil (script config plan)) (script_runs config plan [] consistent within);
+  }
+
+  -- It is refused for want of memory alone.
+  pub plan_or_memory : (e : ScriptError) → (¬ (e ≡ OutOfMemory) → (b : List ℕ) → ¬ IsScript config plan b) → e ≡ OutOfMemory
+  plan_or_memory OutOfMemory h = refl
+  plan_or_memory InconsistentLimits h = absurd (h (λ (e : InconsistentLimits ≡ OutOfMemory). cc) (script config plan) plan_script)
+  plan_or_memory (NoScript part reason) h = absurd (h (λ (e : NoScript part reason ≡ OutOfMemory). cc) (script config plan) plan_script)

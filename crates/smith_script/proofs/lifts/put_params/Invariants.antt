@@ -1,0 +1,8 @@
+use Rattle.std.proofs.Common.{drop, map}
+use Rattle.smith_syntax.specs.Signature.{named}
+use Rattle.smith_types.specs.Script.{script_params}
+use Rattle.smith_script_types.proofs.Saying.{Towards}
+use Rattle.smith_script.proofs.lifts.put_params.Given as goal
+
+abbrev pub invariant-loop-param : goal.invariant-loop-param
+invariant-loop-param l = Towards l.initial.out l.out (script_params (map named l.params)) (script_params (map named (drop l.param-index l.params)))

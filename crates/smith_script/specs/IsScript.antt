@@ -1,0 +1,22 @@
+-- What the script of a component is.
+use Rattle.std.specs.Prelude.{◌≡◌, ℕ, List, []}
+use Rattle.smith_format.specs.Limits.{IsConsistent}
+use Rattle.smith_format.specs.declared.config.Config.{Config}
+use Rattle.smith_component.specs.Grammar.{Spells}
+use Rattle.smith_component.specs.Runs.{RunsTo}
+use Rattle.smith_component.specs.Script.{script}
+use Rattle.smith_component.specs.Tree.{Tree}
+use Rattle.smith_script_types.specs.Says.{AreBytes}
+
+-- The limits fit together, and the run over the input leads to the tree, and leaves nothing.
+pub record IsGiven (config : Config) (t : Tree) (input : List ℕ) : Type 0 where
+  pub consistent : IsConsistent config
+  pub runs : RunsTo config input t []
+
+-- The bytes are the script of the tree, which has a spelling; the run over them leads to the tree, and leaves nothing.
+pub record IsScript (config : Config) (t : Tree) (b : List ℕ) : Type 0 where
+  pub is : b ≡ script config t
+  pub bytes : AreBytes b
+  pub consistent : IsConsistent config
+  pub spelled : (c : List ℕ) × Spells t c
+  pub runs : RunsTo config b t []

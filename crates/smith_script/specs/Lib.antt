@@ -1,0 +1,4 @@
+pub mod IsScript
+pub mod Lifted
+pub mod Saying
+pub mod Standing

@@ -1,0 +1,67 @@
+-- The script of a component, said of what stands before each place.
+use Rattle.std.specs.Prelude.{ℕ, ◌+◌, ◌-◌, ◌&&◌, true, false, List, [], ◌∷◌, ◌++◌, length, map, nat_lt}
+use Rattle.smith_input.specs.Script.{pick, script_among, script_bytes, script_loop, script_name, script_text}
+use Rattle.smith_format.specs.declared.config.Config.{Config}
+use Rattle.smith_syntax.specs.Entries.{Entry, CoreEntry, ImportEntry}
+use Rattle.smith_syntax.specs.Scope.{Scope}
+use Rattle.smith_types.specs.Script.{script_core, script_extern, script_ref, script_type}
+use Rattle.smith_script_types.specs.Scopes.{shown_scope}
+use Rattle.smith_component.specs.CanonScript.{script_canon}
+use Rattle.smith_component.specs.Open.{is_export_offered, more_items}
+use Rattle.smith_component.specs.Script.{item_of}
+use Rattle.smith_component.specs.Tree.{Canon, ExportEntry, Tree, Part, ends, first, custom, core_module, core_types, component, types, canons, imports, exports}
+use Rattle.smith_component.specs.contracts.item.ItemPartialEq.TheImpl.{ghosts as equal}
+use Rattle.smith_component.specs.declared.item.Item.{Item}
+use Rattle.smith_component.specs.declared.item.Item.TheVariants as item
+use Rattle.smith_script.specs.Standing.{Standing, after_canon, after_core_type, after_export, after_import, after_part, after_type, empty_in, opened, spaces_in}
+use Rattle.smith_script.specs.declared.around.Around.{Around}
+
+-- the scopes around, innermost first
+abbrev pub outer_in : Around → List Scope
+outer_in a = map (λ s. shown_scope s.now) a.outer.now
+
+-- entries of sections
+
+abbrev pub core_type_says : Config → List Scope → Standing → CoreEntry → List ℕ
+core_type_says config outer s x = script_core config x
+
+abbrev pub type_says : Config → List Scope → Standing → Entry → List ℕ
+type_says config outer s e = script_type e config config.max_type_size s.scope outer
+
+abbrev pub canon_says : Config → List Scope → Standing → Canon → List ℕ
+canon_says config outer s c = script_canon (spaces_in s) c
+
+abbrev pub import_says : Config → List Scope → Standing → ImportEntry → List ℕ
+import_says config outer s x = script_ref config s.scope s.totals true false x.to ++ script_extern x.name
+
+abbrev pub export_says : Config → List Scope → Standing → ExportEntry → List ℕ
+export_says config outer s x = pick (length s.functions) x.func ++ script_name 100 x.name
+
+-- a section of entries
+abbrev pub rows_say : {A : Type 0} → (Standing → A → List ℕ) → (Standing → A → Standing) → ℕ → Standing → List A → List ℕ
+rows_say says after max s xs = script_loop says after 0 max 0 s xs
+
+-- the choice of an item
+abbrev pub item_says : Config → List Scope → Standing → Item → List ℕ
+item_says config outer s chosen =
+    script_among equal.eq
+    (more_items (nat_lt s.totals.modules config.max_modules)
+    (nat_lt (length outer + 1) config.max_nesting_depth && nat_lt s.totals.components config.max_components) (is_export_offered config))
+    chosen
+
+-- the rest of a component, and what follows the choice of the item of a part
+abbrev mutual
+  pub tree_says : Tree → Config → List Scope → Standing → List ℕ
+  tree_says ends config outer s = item_says config outer s item.Finish
+  tree_says (first p t) config outer s =
+      item_says config outer s (item_of p) ++ part_says p config outer s ++ tree_says t config outer (after_part p s)
+
+  pub part_says : Part → Config → List Scope → Standing → List ℕ
+  part_says (custom name contents) config outer s = script_text 1000 name ++ script_bytes contents
+  part_says (core_module text) config outer s = []
+  part_says (core_types ts) config outer s = rows_say (core_type_says config outer) after_core_type (config.max_types - length s.scope.core_types) s ts
+  part_says (component t) config outer s = tree_says t config (s.scope ∷ outer) (empty_in (opened s.totals))
+  part_says (types ts) config outer s = rows_say (type_says config outer) after_type (config.max_types - length s.types) s ts
+  part_says (canons fs) config outer s = rows_say (canon_says config outer) after_canon (config.max_funcs - s.totals.funcs) s fs
+  part_says (imports is) config outer s = rows_say (import_says config outer) after_import (config.max_imports - s.imports) s is
+  part_says (exports es) config outer s = rows_say (export_says config outer) after_export (config.max_exports - s.exports) s es

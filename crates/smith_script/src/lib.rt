@@ -1,0 +1,19 @@
+//! The script of a component: the input on which `generate` gives it.
+#![tactic(auto, using(smith_script_types::proofs::Saying::saying))]
+
+mod around;
+mod canons;
+mod error;
+mod items;
+pub mod laws;
+mod lifts;
+mod parts;
+mod reasons;
+mod rows;
+mod scripting;
+mod standing;
+
+pub use error::{Reason, ScriptError};
+pub use scripting::script;
+pub use smith_format::Config;
+pub use smith_read::ComponentTree;

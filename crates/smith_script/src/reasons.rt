@@ -1,0 +1,150 @@
+//! Where a component has no script, as far as a look tells. What is told is no part of a contract.
+
+use crate::error::{Reason, ScriptError};
+use smith_format::Config;
+use smith_read::{ComponentTree, CoreNode, DeclNode, ImportNode, PartNode, TypeNode};
+use smith_syntax::{ComponentTypeRef, DefinedType, FuncType};
+use std::alloc::{AllocError, Global};
+
+/// The longest name of a custom section.
+const MOST_TEXT: usize = 1000;
+
+/// The longest name elsewhere.
+const MOST_NAME: usize = 100;
+
+fn long_name(name: &str, most: usize) -> Option<Reason> {
+    if most < name.len() {
+        return Some(Reason::LongName);
+    }
+    None
+}
+
+fn in_core_type(ty: &CoreNode) -> Option<Reason> {
+    match ty {
+        CoreNode::Func(_) => None,
+        CoreNode::Module(_) => Some(Reason::ModuleType),
+    }
+}
+
+fn in_labels(labels: &[String]) -> Option<Reason> {
+    labels
+        .iter()
+        .find_map(|label| long_name(label.as_str(), MOST_NAME))
+}
+
+fn in_function(ty: &FuncType) -> Option<Reason> {
+    ty.params
+        .iter()
+        .find_map(|param| long_name(param.0.as_str(), MOST_NAME))
+}
+
+fn in_defined(ty: &DefinedType) -> Option<Reason> {
+    match ty {
+        DefinedType::Record(record) => record
+            .fields
+            .iter()
+            .find_map(|field| long_name(field.0.as_str(), MOST_NAME)),
+        DefinedType::Variant(variant) => variant
+            .cases
+            .iter()
+            .find_map(|case| long_name(case.0.as_str(), MOST_NAME)),
+        DefinedType::Flags(flags) => in_labels(&flags.fields),
+        DefinedType::Enum(labels) => in_labels(&labels.variants),
+        _ => None,
+    }
+}
+
+fn in_import(import: &ImportNode) -> Option<Reason> {
+    match import.to {
+        ComponentTypeRef::TypeEq(_) => Some(Reason::NotWellFormed),
+        _ => long_name(import.name.as_str(), MOST_NAME),
+    }
+}
+
+#[cycle(looks)]
+fn in_type(ty: &TypeNode) -> Option<Reason> {
+    match ty {
+        TypeNode::Defined(ty) => in_defined(ty),
+        TypeNode::Func(ty) => in_function(ty),
+        TypeNode::Component(decls) | TypeNode::Instance(decls) => in_decls(decls),
+    }
+}
+
+#[cycle(looks)]
+fn in_decls(decls: &[DeclNode]) -> Option<Reason> {
+    for decl in decls {
+        let reason = match decl {
+            DeclNode::Core(ty) => in_core_type(ty),
+            DeclNode::Type(ty) => in_type(ty),
+            DeclNode::Import { name, .. } => long_name(name, MOST_NAME),
+            DeclNode::Export { name, .. } => long_name(name, MOST_NAME),
+            DeclNode::TypeAlias { .. } | DeclNode::CoreTypeAlias { .. } => None,
+        };
+        if reason.is_some() {
+            return reason;
+        }
+    }
+    None
+}
+
+// What is wrong with a section by itself, of a component that stands so deep, the root at 1.
+fn in_part(config: &Config, depth: usize, part: &PartNode) -> Option<Reason> {
+    let (count, most) = match part {
+        PartNode::CoreTypes(types) => (types.len(), config.max_types),
+        PartNode::Component(_) => (depth.saturating_add(1), config.max_nesting_depth),
+        PartNode::Types(types) => (types.len(), config.max_types),
+        PartNode::Canons(canons) => (canons.len(), config.max_funcs),
+        PartNode::Imports(imports) => (imports.len(), config.max_imports),
+        PartNode::Exports(exports) => (exports.len(), config.max_exports),
+        PartNode::Custom { .. } | PartNode::CoreModule(_) => (0, 0),
+    };
+    if most < count {
+        return Some(Reason::Limit);
+    }
+    match part {
+        PartNode::Custom { name, .. } => long_name(name, MOST_TEXT),
+        PartNode::CoreModule(_) => Some(Reason::CoreModule),
+        PartNode::CoreTypes(types) => types.iter().find_map(|ty| in_core_type(ty)),
+        PartNode::Types(types) => types.iter().find_map(|ty| in_type(ty)),
+        PartNode::Imports(imports) => imports.iter().find_map(|import| in_import(import)),
+        PartNode::Exports(exports) => exports
+            .iter()
+            .find_map(|export| long_name(export.name.as_str(), MOST_NAME)),
+        PartNode::Component(_) | PartNode::Canons(_) => None,
+    }
+}
+
+// The first section in which something is wrong, behind the path to the component.
+fn in_parts(
+    config: &Config,
+    path: &mut Vec<usize>,
+    parts: &[PartNode],
+) -> Result<Option<Reason>, AllocError> {
+    for (index, part) in parts.iter().enumerate() {
+        path.push(index)?;
+        let mut reason = in_part(config, path.len(), part);
+        if let PartNode::Component(inner) = part {
+            if reason.is_none() {
+                reason = in_parts(config, path, inner)?;
+            }
+        }
+        if reason.is_some() {
+            return Ok(reason);
+        }
+        let _last = path.pop();
+    }
+    Ok(None)
+}
+
+/// That there is none, and why.
+pub(crate) fn no_script(alloc: Global, config: &Config, tree: &ComponentTree) -> ScriptError {
+    let mut part = Vec::new(alloc);
+    match in_parts(config, &mut part, &tree.parts) {
+        Ok(Some(reason)) => ScriptError::NoScript { part, reason },
+        Ok(None) => ScriptError::NoScript {
+            part,
+            reason: Reason::Unlike,
+        },
+        Err(_) => ScriptError::OutOfMemory,
+    }
+}
