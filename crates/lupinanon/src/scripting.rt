@@ -10,35 +10,8 @@ use smith_read::ComponentTree;
 use smith_run::{Form, page};
 use smith_script::ScriptError;
 use std::alloc::Global;
-use std::fmt;
 use std::io::Write;
 use std::process::ExitCode;
-
-/// Why there is no script, behind the section in which that was seen.
-#[derive(Clone, Copy)]
-pub struct Told<'a>(pub &'a ScriptError);
-
-// The section, and those within it, or nothing for the component itself.
-fn write_path<W: fmt::Write>(f: &mut fmt::Formatter<W>, path: &[usize]) -> fmt::Result {
-    let mut before = "section ";
-    for index in path {
-        write!(f, "{before}{index}")?;
-        before = ".";
-    }
-    if path.is_empty() {
-        return Ok(());
-    }
-    f.write_str(": ")
-}
-
-impl fmt::Display for Told<'_> {
-    fn fmt<W: fmt::Write>(&self, f: &mut fmt::Formatter<W>) -> fmt::Result {
-        if let ScriptError::NoScript { part, .. } = self.0 {
-            write_path(f, part)?;
-        }
-        write!(f, "{}", self.0)
-    }
-}
 
 /// What a refusal of a script ends with.
 pub fn status_of(error: &ScriptError) -> u8 {
@@ -81,7 +54,7 @@ fn run(rt: &HostRuntime, options: ScriptOptions<'_>, config: &Config) -> ExitCod
         Ok(text) => write_text(rt, options.output, &text),
         Err(error) => {
             let path = options.component.unwrap_or(STANDARD_INPUT);
-            let _ = eprintln!(rt; "lupinanon: {path}: {}", Told(&error));
+            let _ = eprintln!(rt; "lupinanon: {path}: {error}");
             ExitCode::from(status_of(&error))
         }
     }

@@ -4,7 +4,7 @@ use crate::default_limits::DEFAULT_LIMITS;
 use crate::keys::Key;
 use crate::limits::{Fault, Pair, Wrong, limits_of, line_of};
 use crate::options::{Options, ScriptOptions, Task, command, task_of};
-use crate::scripting::{Told, status_of};
+use crate::scripting::status_of;
 use crate::show::Shown;
 use clap::error::ErrorKind;
 use smith_component::Config;
@@ -290,7 +290,7 @@ fn why_there_is_no_script_is_told(rt: HostRuntime) -> Result<(), Fail> {
     for (path, reason, message) in rows {
         let part = Vec::from_slice(rt.alloc(), path)?;
         let error = ScriptError::NoScript { part, reason };
-        let told = format!(in rt.alloc(); "{}", Told(&error))?;
+        let told = format!(in rt.alloc(); "{error}")?;
         assert_eq!(rt; told.as_str(), message);
         assert_eq!(rt; status_of(&error), 1, "{message}");
     }
@@ -308,7 +308,7 @@ fn other_faults_of_scripts_are_told(rt: HostRuntime) -> Result<(), Fail> {
         ),
     ];
     for (error, message, status) in rows.iter() {
-        let told = format!(in rt.alloc(); "{}", Told(error))?;
+        let told = format!(in rt.alloc(); "{error}")?;
         assert_eq!(rt; told.as_str(), *message);
         assert_eq!(rt; status_of(error), *status, "{message}");
     }
