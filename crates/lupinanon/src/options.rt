@@ -16,7 +16,7 @@ pub enum Task<'a> {
     Check(Option<&'a str>),
     /// Print the component in a file.
     Show(Option<&'a str>),
-    /// Write the input that gives the component in a file.
+    /// Write the script of the component in a file.
     Script(ScriptOptions<'a>),
 }
 
@@ -45,7 +45,7 @@ const AFTER: &str =
     "Ends with 0, with 1 where no component can be made of the input (the refusal's name is on standard\nerror), and with 2 for faults and wrong usage.";
 
 const AFTER_SCRIPT: &str =
-    "Ends with 0, with 1 where the bytes are no component or no input gives it (the reason is on standard\nerror), and with 2 for faults and wrong usage.";
+    "Ends with 0, with 1 where the bytes are no component or it has no script (the reason is on standard\nerror), and with 2 for faults and wrong usage.";
 
 const COMPONENT: &str = "The component; - is standard input [default: -]";
 
@@ -101,7 +101,7 @@ fn file_command<'a>(
 }
 
 fn script_command<'a>(alloc: Global) -> Result<Command<'a>, AllocError> {
-    let about = "Write the input that gives a component";
+    let about = "Write an input that gives a component";
     let plain = file_command(alloc, "script", about)?.after_help(AFTER_SCRIPT);
     let output = "Where the input goes; - is standard output [default: -, unless it is a terminal]";
     let hex = "Write the input as hexadecimal digits, and that no byte of it is left";
