@@ -1,16 +1,14 @@
 //! Looking at a component in a file: whether its bytes are one, and what is in it.
 
 use crate::FAULT;
-use crate::places::{Source, tell_fault};
+use crate::places::{STANDARD_INPUT, Source, tell_fault};
 use crate::show::Shown;
 use smith_read::{ComponentTree, read};
 use std::io::{self, Read};
 use std::process::ExitCode;
 
-// What bytes that are no component end with, and memory that is wanting.
-const REFUSED: u8 = 1;
-
-const STANDARD_INPUT: &str = "standard input";
+/// What bytes that are no component end with, and memory that is wanting.
+pub const REFUSED: u8 = 1;
 
 fn bytes_of(rt: &HostRuntime, source: &mut Source) -> io::Result<Vec<u8>> {
     let mut bytes = Vec::new(rt.alloc());
@@ -18,8 +16,8 @@ fn bytes_of(rt: &HostRuntime, source: &mut Source) -> io::Result<Vec<u8>> {
     Ok(bytes)
 }
 
-// The component that the file spells, or the status behind a message.
-fn component_in(rt: &HostRuntime, path: Option<&str>) -> Result<ComponentTree, ExitCode> {
+/// The component that the file spells, or the status behind a message.
+pub fn component_in(rt: &HostRuntime, path: Option<&str>) -> Result<ComponentTree, ExitCode> {
     let mut source = match Source::open(rt, path) {
         Ok(source) => source,
         Err(error) => {

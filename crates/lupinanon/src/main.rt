@@ -1,4 +1,4 @@
-//! Turns a fuzzer's bytes into a WebAssembly component, from a file to a file, and shows the components in files.
+//! Turns a fuzzer's bytes into a WebAssembly component, from a file to a file, and back; shows the components in files.
 #![tactic(auto)]
 
 mod default_limits;
@@ -6,8 +6,10 @@ mod generating;
 mod inspecting;
 mod keys;
 mod limits;
+mod limits_file;
 mod options;
 mod places;
+mod scripting;
 mod show;
 #[cfg(test)]
 mod tests;
@@ -41,6 +43,7 @@ fn main(rt: HostRuntime) -> ExitCode {
         Ok(Task::Generate(options)) => generating::generate(&rt, options),
         Ok(Task::Check(path)) => inspecting::check(&rt, path),
         Ok(Task::Show(path)) => inspecting::show(&rt, path),
+        Ok(Task::Script(options)) => scripting::script(&rt, options),
         Err(error) => {
             let _ = error.print(&rt);
             ExitCode::from(if error.use_stderr() { FAULT } else { 0 })

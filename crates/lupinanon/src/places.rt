@@ -2,8 +2,16 @@
 
 ghost use Rattle.std.specs.Prelude.{◌≤◌, length, IfOk};
 
+use crate::tell;
+use smith_run::Form;
 use std::fs::File;
-use std::io::{self, Read, Stdin, Stdout, Write};
+use std::io::{self, IsTerminal, Read, Stdin, Stdout, Write};
+
+/// What the input is called that is no file.
+pub const STANDARD_INPUT: &str = "standard input";
+
+/// What the output is called that is no file.
+pub const STANDARD_OUTPUT: &str = "standard output";
 
 /// Standard input, or a file.
 #[derive(Drop)]
@@ -140,4 +148,14 @@ pub fn tell_fault(rt: &HostRuntime, path: Option<&str>, standard: &str, fault: O
         Some(fault) => eprintln!(rt; "lupinanon: {path}: {fault}"),
         None => eprintln!(rt; "lupinanon: {path}: it cannot be used"),
     };
+}
+
+/// Says so where raw bytes would go to a terminal.
+pub fn refuses_terminal(rt: &HostRuntime, path: Option<&str>, form: Form) -> bool {
+    let is_shown = path.is_none() && rt.stdout().is_terminal();
+    if is_shown && form == Form::Raw {
+        let _status = tell(rt, "standard output is a terminal: give --output or --hex");
+        return true;
+    }
+    false
 }

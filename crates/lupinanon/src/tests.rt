@@ -3,12 +3,14 @@
 use crate::default_limits::DEFAULT_LIMITS;
 use crate::keys::Key;
 use crate::limits::{Fault, Pair, Wrong, limits_of, line_of};
-use crate::options::{Options, Task, command, task_of};
+use crate::options::{Options, ScriptOptions, Task, command, task_of};
+use crate::scripting::status_of;
 use crate::show::Shown;
 use clap::error::ErrorKind;
 use smith_component::Config;
 use smith_read::read;
 use smith_run::Form;
+use smith_script::{Reason, ScriptError};
 use std::test::Fail;
 
 const PLAIN: Options<'static> = Options {
@@ -19,9 +21,16 @@ const PLAIN: Options<'static> = Options {
     tells_left: false,
 };
 
+const PLAIN_SCRIPT: ScriptOptions<'static> = ScriptOptions {
+    component: None,
+    output: None,
+    limits: None,
+    form: Form::Raw,
+};
+
 #[test]
 fn words_ask_for_tasks(rt: HostRuntime) -> Result<(), Fail> {
-    let rows: [(&[&str], Task); 11] = [
+    let rows: [(&[&str], Task); 15] = [
         (&["lupinanon", "generate"], Task::Generate(PLAIN)),
         (&["lupinanon", "limits"], Task::PrintLimits),
         (
@@ -71,6 +80,27 @@ fn words_ask_for_tasks(rt: HostRuntime) -> Result<(), Fail> {
                 ..PLAIN
             }),
         ),
+        (&["lupinanon", "script"], Task::Script(PLAIN_SCRIPT)),
+        (
+            &["lupinanon", "script", "-", "-o", "-"],
+            Task::Script(PLAIN_SCRIPT),
+        ),
+        (
+            &["lupinanon", "script", "c.wasm", "--output=in.bin"],
+            Task::Script(ScriptOptions {
+                component: Some("c.wasm"),
+                output: Some("in.bin"),
+                ..PLAIN_SCRIPT
+            }),
+        ),
+        (
+            &["lupinanon", "script", "--hex", "--limits", "small.toml"],
+            Task::Script(ScriptOptions {
+                limits: Some("small.toml"),
+                form: Form::Page,
+                ..PLAIN_SCRIPT
+            }),
+        ),
     ];
     for (words, task) in rows {
         assert_eq!(rt; task_of(rt.alloc(), words)?, task, "{words:?}");
@@ -80,7 +110,7 @@ fn words_ask_for_tasks(rt: HostRuntime) -> Result<(), Fail> {
 
 #[test]
 fn other_words_are_refused(rt: HostRuntime) -> Result<(), Fail> {
-    let rows: [(&[&str], ErrorKind); 9] = [
+    let rows: [(&[&str], ErrorKind); 12] = [
         (&["lupinanon"], ErrorKind::MissingSubcommand),
         (&["lupinanon", "--help"], ErrorKind::DisplayHelp),
         (&["lupinanon", "generate", "--help"], ErrorKind::DisplayHelp),
@@ -96,6 +126,15 @@ fn other_words_are_refused(rt: HostRuntime) -> Result<(), Fail> {
         ),
         (&["lupinanon", "generate", "-o"], ErrorKind::InvalidValue),
         (&["lupinanon", "limits", "x"], ErrorKind::UnknownArgument),
+        (&["lupinanon", "script", "--help"], ErrorKind::DisplayHelp),
+        (
+            &["lupinanon", "script", "--left"],
+            ErrorKind::UnknownArgument,
+        ),
+        (
+            &["lupinanon", "script", "a", "b"],
+            ErrorKind::UnknownArgument,
+        ),
     ];
     for (words, kind) in rows {
         let answer = task_of(rt.alloc(), words);
@@ -219,6 +258,59 @@ fn limits_that_do_not_fit_together_are_named(rt: HostRuntime) -> Result<(), Fail
         let told = format!(in rt.alloc(); "{fault}")?;
         assert_eq!(rt; told.as_str(), message);
         assert!(rt; limits_of(rt.alloc(), &table) == Err(fault), "{text}");
+    }
+    Ok(())
+}
+
+#[test]
+fn why_there_is_no_script_is_told(rt: HostRuntime) -> Result<(), Fail> {
+    let rows: [(&[usize], Reason, &str); 5] = [
+        (&[], Reason::Unlike, "it is not what would be read"),
+        (
+            &[0],
+            Reason::CoreModule,
+            "section 0: a core module has no script",
+        ),
+        (
+            &[3],
+            Reason::ModuleType,
+            "section 3: a module type has no script",
+        ),
+        (
+            &[2, 0],
+            Reason::LongName,
+            "section 2.0: a name is too long to be read",
+        ),
+        (
+            &[0, 10, 1],
+            Reason::Limit,
+            "section 0.10.1: a limit of the configuration is passed",
+        ),
+    ];
+    for (path, reason, message) in rows {
+        let part = Vec::from_slice(rt.alloc(), path)?;
+        let error = ScriptError::NoScript { part, reason };
+        let told = format!(in rt.alloc(); "{error}")?;
+        assert_eq!(rt; told.as_str(), message);
+        assert_eq!(rt; status_of(&error), 1, "{message}");
+    }
+    Ok(())
+}
+
+#[test]
+fn other_faults_of_scripts_are_told(rt: HostRuntime) -> Result<(), Fail> {
+    let rows = [
+        (ScriptError::OutOfMemory, "out of memory", 1),
+        (
+            ScriptError::InconsistentLimits,
+            "the limits of the configuration do not fit together",
+            2,
+        ),
+    ];
+    for (error, message, status) in rows.iter() {
+        let told = format!(in rt.alloc(); "{error}")?;
+        assert_eq!(rt; told.as_str(), *message);
+        assert_eq!(rt; status_of(error), *status, "{message}");
     }
     Ok(())
 }

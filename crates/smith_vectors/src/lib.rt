@@ -62,6 +62,8 @@ mod scarcity;
 mod scoped_types;
 #[cfg(test)]
 mod script_rows;
+#[cfg(test)]
+mod scripting;
 pub mod scripts;
 #[cfg(test)]
 mod types;

@@ -20,7 +20,8 @@ pub struct Parts<'a> {
 // What stands behind an input, and is left.
 const RESTS: &[&[u8]] = &[b"", b"\xff\x07", b"\x00\x03\x01"];
 
-fn joined(alloc: Global, pieces: &[&[u8]], end: &[u8]) -> Result<Vec<u8>, Fail> {
+/// These pieces in a row, and then the end.
+pub fn joined(alloc: Global, pieces: &[&[u8]], end: &[u8]) -> Result<Vec<u8>, Fail> {
     let mut bytes = Vec::new(alloc);
     for piece in pieces {
         bytes.extend_from_slice(piece)?;

@@ -2,6 +2,7 @@
 
 use crate::common::small_limits;
 use crate::parts::{Parts, check_parts};
+use crate::scripting::{check_plans, check_returns};
 use smith_component::Config;
 use std::test::Fail;
 
@@ -72,13 +73,13 @@ fn plans_of_types_within_other_limits(rt: HostRuntime) -> Result<(), Fail> {
         max_type_size: 1,
         ..small_limits()
     };
-    check_parts(&rt, least_fuel, LEAST_FUEL)?;
+    check_plans(&rt, least_fuel, LEAST_FUEL)?;
     let many_types = Config {
         max_types: 20,
         max_type_size: 20,
         ..small_limits()
     };
-    check_parts(&rt, many_types, VALUE_TYPES)?;
+    check_plans(&rt, many_types, VALUE_TYPES)?;
     let one_result = Config {
         multi_value_enabled: false,
         allow_floats: false,
@@ -86,7 +87,7 @@ fn plans_of_types_within_other_limits(rt: HostRuntime) -> Result<(), Fail> {
         reference_types_enabled: false,
         ..small_limits()
     };
-    check_parts(&rt, one_result, ONE_RESULT)
+    check_plans(&rt, one_result, ONE_RESULT)
 }
 
 const LONGEST_LISTS: &[Parts<'static>] = &[
@@ -134,57 +135,57 @@ const LONGEST_LISTS: &[Parts<'static>] = &[
 
 #[test]
 fn plans_within_default_limits(rt: HostRuntime) -> Result<(), Fail> {
-    check_parts(&rt, Config::default(), LONGEST_LISTS)
+    check_plans(&rt, Config::default(), LONGEST_LISTS)
 }
 
+// That no import is declared is any of three bytes, of which a script has the first.
+const SCOPED_TYPES: &[Parts<'static>] = &[Parts {
+    name: "an import, an export and aliases in a component type",
+    input: &[
+        b"\x03\x01\x01\x00\x00", // () to nothing
+        b"\x01\x00\x00\x06", // u32
+        b"\x01\x02", // the component type
+        b"\x01\x00\x00", // an alias of the function type
+        b"\x01\x01\x01\x01\x01", // no import, but an alias of the u32 around
+        b"\x01\x00\x01\x03\x00", // the import d of the function
+        b"\x01\x02\x00\x00\x01\x02\x04\x1a\x00", // no import, but the export e0 of the type u32
+        b"\x01\x03\x01\x00\x02", // no import, but an alias of the exported type
+        b"\x00\x00",
+        b"\x00",
+    ],
+    gives: &[
+        b"\x07\x25\x03\x40\x00\x01\x00\x79\x41\x05",
+        b"\x02\x03\x02\x01\x00",
+        b"\x02\x03\x02\x01\x01",
+        b"\x03\x00\x01d\x01\x00",
+        b"\x04\x00\x02e0\x03\x00\x01",
+        b"\x02\x03\x02\x00\x02",
+    ],
+}];
+
 // Types of components and instances, and imports of these and of modules.
-const SCOPED_TYPES: &[Parts<'static>] = &[
-    Parts {
-        name: "an import, an export and aliases in a component type",
-        input: &[
-            b"\x03\x01\x01\x00\x00", // () to nothing
-            b"\x01\x00\x00\x06", // u32
-            b"\x01\x02", // the component type
-            b"\x01\x00\x00", // an alias of the function type
-            b"\x01\x01\x01\x01\x01", // no import, but an alias of the u32 around
-            b"\x01\x00\x01\x03\x00", // the import d of the function
-            b"\x01\x02\x00\x00\x01\x02\x04\x1a\x00", // no import, but the export e0 of the type u32
-            b"\x01\x03\x01\x00\x02", // no import, but an alias of the exported type
-            b"\x00\x00",
-            b"\x00",
-        ],
-        gives: &[
-            b"\x07\x25\x03\x40\x00\x01\x00\x79\x41\x05",
-            b"\x02\x03\x02\x01\x00",
-            b"\x02\x03\x02\x01\x01",
-            b"\x03\x00\x01d\x01\x00",
-            b"\x04\x00\x02e0\x03\x00\x01",
-            b"\x02\x03\x02\x00\x02",
-        ],
-    },
-    Parts {
-        name: "imports of each kind, until none but a function may come",
-        input: &[
-            b"\x02\x01\x01\x63\x63\x63\x00\x00", // a module type without declarations
-            b"\x03\x01\x01\x00\x00", // () to nothing
-            b"\x01\x02\x00", // a component type
-            b"\x01\x03\x00", // an instance type
-            b"\x01\x01\x00\x00\x00", // () to nothing
-            b"\x04\x01\x03\x01\x00\x00", // the instance a, the last of four kinds
-            b"\x01\x01\x01\x01\x01\x00", // the function b, of the second of its types
-            b"\x01\x02\x01\x02\x00", // the component c, the last of three kinds
-            b"\x01\x00\x01\x03\x00", // the module d, the first of two kinds
-            b"\x01\x00\x01\x04\x00\x00", // the function e, of the first of its types
-            b"\x00",
-        ],
-        gives: &[
-            b"\x03\x03\x01\x50\x00",
-            b"\x07\x0d\x04\x40\x00\x01\x00\x41\x00\x42\x00\x40\x00\x01\x00",
-            b"\x0a\x1b\x05\x00\x01a\x05\x02\x00\x01b\x01\x03\x00\x01c\x04\x01",
-            b"\x00\x01d\x00\x11\x00\x00\x01e\x01\x00",
-        ],
-    },
-];
+const IMPORTS: &[Parts<'static>] = &[Parts {
+    name: "imports of each kind, until none but a function may come",
+    input: &[
+        b"\x02\x01\x01\x63\x63\x63\x00\x00", // a module type without declarations
+        b"\x03\x01\x01\x00\x00", // () to nothing
+        b"\x01\x02\x00", // a component type
+        b"\x01\x03\x00", // an instance type
+        b"\x01\x01\x00\x00\x00", // () to nothing
+        b"\x04\x01\x03\x01\x00\x00", // the instance a, the last of four kinds
+        b"\x01\x01\x01\x01\x01\x00", // the function b, of the second of its types
+        b"\x01\x02\x01\x02\x00", // the component c, the last of three kinds
+        b"\x01\x00\x01\x03\x00", // the module d, the first of two kinds
+        b"\x01\x00\x01\x04\x00\x00", // the function e, of the first of its types
+        b"\x00",
+    ],
+    gives: &[
+        b"\x03\x03\x01\x50\x00",
+        b"\x07\x0d\x04\x40\x00\x01\x00\x41\x00\x42\x00\x40\x00\x01\x00",
+        b"\x0a\x1b\x05\x00\x01a\x05\x02\x00\x01b\x01\x03\x00\x01c\x04\x01",
+        b"\x00\x01d\x00\x11\x00\x00\x01e\x01\x00",
+    ],
+}];
 
 const INSTANCE_TYPES: &[Parts<'static>] = &[Parts {
     name: "an instance type with a function type and an export of it",
@@ -252,15 +253,17 @@ const KINDS_BY_RANK: &[Parts<'static>] = &[Parts {
 #[test]
 fn scoped_types_and_imports_of_each_kind(rt: HostRuntime) -> Result<(), Fail> {
     check_parts(&rt, small_limits(), SCOPED_TYPES)?;
+    check_returns(&rt, small_limits(), SCOPED_TYPES)?;
+    check_parts(&rt, small_limits(), IMPORTS)?;
     let types_inside_types = Config {
         max_nesting_depth: 3,
         ..small_limits()
     };
-    check_parts(&rt, types_inside_types, INSTANCE_TYPES)?;
+    check_plans(&rt, types_inside_types, INSTANCE_TYPES)?;
     let least_fuel = Config {
         max_type_size: 1,
         ..small_limits()
     };
-    check_parts(&rt, least_fuel, MODULES)?;
+    check_plans(&rt, least_fuel, MODULES)?;
     check_parts(&rt, Config::default(), KINDS_BY_RANK)
 }

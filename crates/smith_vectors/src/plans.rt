@@ -3,7 +3,8 @@
 mod minima;
 
 use crate::common::small_limits;
-use crate::parts::{Parts, check_parts};
+use crate::parts::Parts;
+use crate::scripting::check_plans;
 use smith_component::Config;
 use std::test::Fail;
 
@@ -88,6 +89,39 @@ const FUNCTIONS: &[Parts<'static>] = &[
             b"\x08\x0e\x03\x01\x00\x02\x00\x01\x00\x01\x00\x00\x00\x01\x00\x01",
         ],
     },
+    // A lift that defines its type gives the same.
+    Parts {
+        name: "a lift to a type in a section between the canonical ones",
+        input: &[
+            b"\x03\x01\x01\x01\x01\x00\x06\x00\x01\x00\x00", // (a: u32) to bool
+            b"\x04\x01\x01\x01\x00\x00", // the import b
+            b"\x05\x01\x00", // its lower
+            b"\x03\x01\x01\x01\x01\x01\x0b\x00\x01\x0b\x00", // (b: char) to char
+            b"\x05\x01\x01\x01\x01\x00\x00\x00", // the lift
+            b"\x00",
+        ],
+        gives: &[
+            b"\x07\x08\x01\x40\x01\x01a\x79\x00\x7f",
+            b"\x0a\x06\x01\x00\x01b\x01\x00",
+            b"\x08\x05\x01\x01\x00\x00\x00",
+            b"\x07\x08\x01\x40\x01\x01b\x74\x00\x74",
+            b"\x08\x06\x01\x00\x00\x00\x00\x01",
+        ],
+    },
+    // An import whose name was taken gives the same, with a URL or without.
+    Parts {
+        name: "an import with a digit in its name",
+        input: &[
+            b"\x03\x01\x01\x00\x00\x00", // () to nothing
+            b"\x04\x01\x01\x00\x00", // the import a
+            b"\x01\x02\x00\x1b\x00\x00", // the import a1
+            b"\x00",
+        ],
+        gives: &[
+            b"\x07\x05\x01\x40\x00\x01\x00",
+            b"\x0a\x0c\x02\x00\x01a\x01\x00\x00\x02a1\x01\x00",
+        ],
+    },
     // Char, bool and the integers of up to 32 bits are all i32.
     Parts {
         name: "a lift to a type that takes all the fuel",
@@ -158,8 +192,8 @@ const SECTIONS: &[Parts<'static>] = &[
 
 #[test]
 fn plans_within_small_limits(rt: HostRuntime) -> Result<(), Fail> {
-    check_parts(&rt, small_limits(), FUNCTIONS)?;
-    check_parts(&rt, small_limits(), SECTIONS)
+    check_plans(&rt, small_limits(), FUNCTIONS)?;
+    check_plans(&rt, small_limits(), SECTIONS)
 }
 
 const SIBLINGS: &[Parts<'static>] = &[Parts {
@@ -225,12 +259,12 @@ fn plans_of_nested_components(rt: HostRuntime) -> Result<(), Fail> {
         max_components: 2,
         ..small_limits()
     };
-    check_parts(&rt, two_components, SIBLINGS)?;
+    check_plans(&rt, two_components, SIBLINGS)?;
     let three_depths = Config {
         max_modules: 0,
         max_components: 3,
         max_nesting_depth: 3,
         ..small_limits()
     };
-    check_parts(&rt, three_depths, DEPTHS)
+    check_plans(&rt, three_depths, DEPTHS)
 }

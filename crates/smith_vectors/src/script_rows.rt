@@ -1,7 +1,8 @@
-//! The scripts that the definitions give: what they give, and what is left behind them.
+//! The scripts that the definitions give: what they give, what is left behind them, and that they are found again.
 
 use crate::common::small_limits;
-use crate::parts::{Parts, check_parts};
+use crate::parts::Parts;
+use crate::scripting::check_plans;
 use crate::scripts;
 use smith_component::Config;
 use std::test::Fail;
@@ -64,7 +65,7 @@ fn scripts_of_plans_give_the_plans(rt: HostRuntime) -> Result<(), Fail> {
             input: &[script],
             gives: plan,
         };
-        check_parts(&rt, small_limits(), &[parts])?;
+        check_plans(&rt, small_limits(), &[parts])?;
     }
     Ok(())
 }
@@ -80,12 +81,12 @@ fn the_script_of_a_plan_with_an_export(rt: HostRuntime) -> Result<(), Fail> {
         input: &[scripts::lower_of_an_export()],
         gives: LOWER_OF_AN_EXPORT,
     };
-    check_parts(&rt, config, &[parts])?;
+    check_plans(&rt, config, &[parts])?;
     // The script of a plan without exports is the same where there may be some.
     let parts = Parts {
         name: "a component where exports are offered",
         input: &[scripts::nested()],
         gives: NESTED,
     };
-    check_parts(&rt, config, &[parts])
+    check_plans(&rt, config, &[parts])
 }

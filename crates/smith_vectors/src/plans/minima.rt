@@ -1,7 +1,8 @@
 //! Plans that meet the minima of their limits, or fill their maxima.
 
 use crate::common::small_limits;
-use crate::parts::{Parts, check_parts};
+use crate::parts::Parts;
+use crate::scripting::check_plans;
 use smith_component::Config;
 use std::test::Fail;
 
@@ -81,12 +82,12 @@ fn plans_that_meet_minima_and_maxima(rt: HostRuntime) -> Result<(), Fail> {
         min_funcs: 2,
         ..small_limits()
     };
-    check_parts(&rt, minima, MINIMA)?;
+    check_plans(&rt, minima, MINIMA)?;
     let maxima = Config {
         max_types: 1,
         max_imports: 1,
         max_funcs: 3,
         ..small_limits()
     };
-    check_parts(&rt, maxima, FULL_LISTS)
+    check_plans(&rt, maxima, FULL_LISTS)
 }

@@ -1,0 +1,227 @@
+//! Scripts of components that are read from bytes, and components that have none.
+
+use crate::common::{PREAMBLE, Row, check, small_limits};
+use crate::parts::{Parts, check_parts, joined};
+use smith_component::Config;
+use smith_read::read;
+use smith_script::{ComponentTree, Reason, ScriptError, script};
+use std::process::Abort;
+use std::test::Fail;
+
+/// A component without a script, its limits, and where it is told for what reason that there is none.
+#[derive(Clone, Copy)]
+struct NoScript<'a> {
+    name: &'a str,
+    limits: Config,
+    gives: &'a [&'a [u8]],
+    part: &'a [usize],
+    reason: Reason,
+}
+
+// The component that these bytes spell behind the preamble.
+fn tree_of<R: Abort + AllocGlobal>(rt: &R, gives: &[&[u8]]) -> Result<ComponentTree, Fail> {
+    let rest = joined(rt.alloc(), gives, b"")?;
+    let bytes = joined(rt.alloc(), &[PREAMBLE], &rest)?;
+    Ok(read(rt.alloc(), &bytes)?)
+}
+
+/// Within these limits each row's input gives its bytes, and is the script of the component that is read from them.
+pub fn check_plans<R: Abort + AllocGlobal>(
+    rt: &R,
+    config: Config,
+    rows: &[Parts<'_>],
+) -> Result<(), Fail> {
+    check_parts(rt, config, rows)?;
+    for parts in rows {
+        let tree = tree_of(rt, parts.gives)?;
+        let script = script(rt.alloc(), &config, &tree)?;
+        let input = joined(rt.alloc(), parts.input, b"")?;
+        assert_eq!(rt; script.as_slice(), input.as_slice(), "{}", parts.name);
+    }
+    Ok(())
+}
+
+/// Within these limits the script of the component that is read from each row's bytes gives these bytes again, and
+/// nothing of it is left.
+pub fn check_returns<R: Abort + AllocGlobal>(
+    rt: &R,
+    config: Config,
+    rows: &[Parts<'_>],
+) -> Result<(), Fail> {
+    for parts in rows {
+        let tree = tree_of(rt, parts.gives)?;
+        let script = script(rt.alloc(), &config, &tree)?;
+        let gives = joined(rt.alloc(), parts.gives, b"")?;
+        let row = Row {
+            name: parts.name,
+            input: &script,
+            gives: &gives,
+            leaves: b"",
+        };
+        check(rt, config, &row)?;
+    }
+    Ok(())
+}
+
+// The script that there is, or why there is none.
+fn fault_of<R: Abort + AllocGlobal>(
+    rt: &R,
+    config: &Config,
+    gives: &[&[u8]],
+) -> Result<Option<ScriptError>, Fail> {
+    let tree = tree_of(rt, gives)?;
+    match script(rt.alloc(), config, &tree) {
+        Ok(_) => Ok(None),
+        Err(error) => Ok(Some(error)),
+    }
+}
+
+fn check_faults<R: Abort + AllocGlobal>(rt: &R, rows: &[NoScript<'_>]) -> Result<(), Fail> {
+    for row in rows {
+        let expected = ScriptError::NoScript {
+            part: Vec::from_slice(rt.alloc(), row.part)?,
+            reason: row.reason,
+        };
+        assert_eq!(rt;
+            fault_of(rt, &row.limits, row.gives)?,
+            Some(expected),
+            "{}",
+            row.name
+        );
+    }
+    Ok(())
+}
+
+// () to nothing, and an import of a function of it with the longest name.
+const LONGEST_NAME: &[Parts<'static>] = &[Parts {
+    name: "a name of a hundred letters",
+    input: &[
+        b"\x03\x01\x01\x00\x00\x00",
+        b"\x04\x01\x64",
+        &[0; 100],
+        b"\x00\x00",
+        b"\x00",
+    ],
+    gives: &[
+        b"\x07\x05\x01\x40\x00\x01\x00",
+        b"\x0a\x69\x01\x00\x64",
+        &[b'a'; 100],
+        b"\x01\x00",
+    ],
+}];
+
+// A core module is no bytes of a script. Where nothing stands behind it, it is read from the choice of finish, as an
+// empty one, and the finish from nothing.
+const EMPTY_MODULE: &[Parts<'static>] = &[Parts {
+    name: "an empty core module at the end",
+    input: &[b"\x06", b"\x00"],
+    gives: &[b"\x01\x08\x00asm\x01\x00\x00\x00"],
+}];
+
+#[test]
+fn components_with_a_script(rt: HostRuntime) -> Result<(), Fail> {
+    check_plans(&rt, small_limits(), LONGEST_NAME)?;
+    check_returns(&rt, small_limits(), EMPTY_MODULE)
+}
+
+#[test]
+fn components_without_a_script(rt: HostRuntime) -> Result<(), Fail> {
+    let limits = small_limits();
+    check_faults(
+        &rt,
+        &[
+            NoScript {
+                name: "a core module with a memory",
+                limits,
+                gives: &[b"\x01\x0d\x00asm\x01\x00\x00\x00\x05\x03\x01\x00\x01"],
+                part: &[0],
+                reason: Reason::CoreModule,
+            },
+            NoScript {
+                name: "a module type with an export of a memory, behind a type",
+                limits,
+                gives: &[
+                    b"\x07\x02\x01\x79",
+                    b"\x03\x09\x01\x50\x01\x03\x01e\x02\x00\x01",
+                ],
+                part: &[1],
+                reason: Reason::ModuleType,
+            },
+            NoScript {
+                name: "a name of 101 letters, in the second section of the component in the third",
+                limits,
+                gives: &[
+                    b"\x00\x01\x00",
+                    b"\x00\x01\x00",
+                    b"\x04\x7b\x00asm\x0d\x00\x01\x00",
+                    b"\x07\x05\x01\x40\x00\x01\x00",
+                    b"\x0a\x6a\x01\x00\x65",
+                    &[b'a'; 101],
+                    b"\x01\x00",
+                ],
+                part: &[2, 1],
+                reason: Reason::LongName,
+            },
+            NoScript {
+                name: "eleven types where there may be ten",
+                limits,
+                gives: &[b"\x07\x0c\x0b", &[0x7f; 11]],
+                part: &[0],
+                reason: Reason::Limit,
+            },
+            NoScript {
+                name: "an export where there may be none",
+                limits,
+                gives: &[
+                    b"\x07\x05\x01\x40\x00\x01\x00",
+                    b"\x0a\x06\x01\x00\x01b\x01\x00",
+                    b"\x0b\x07\x01\x00\x01c\x01\x00\x00",
+                ],
+                part: &[2],
+                reason: Reason::Limit,
+            },
+            NoScript {
+                name: "a lift to a type that is not there",
+                limits,
+                gives: &[
+                    b"\x07\x08\x01\x40\x01\x01a\x79\x00\x7f",
+                    b"\x0a\x06\x01\x00\x01b\x01\x00",
+                    b"\x08\x0a\x02\x01\x00\x00\x00\x00\x00\x00\x00\x01",
+                ],
+                part: &[],
+                reason: Reason::Unlike,
+            },
+            NoScript {
+                name: "a name with a capital letter",
+                limits,
+                gives: &[
+                    b"\x07\x05\x01\x40\x00\x01\x00",
+                    b"\x0a\x06\x01\x00\x01B\x01\x00",
+                ],
+                part: &[],
+                reason: Reason::Unlike,
+            },
+            NoScript {
+                name: "no type where there are two at least",
+                limits: Config {
+                    min_types: 2,
+                    ..limits
+                },
+                gives: &[],
+                part: &[],
+                reason: Reason::Unlike,
+            },
+        ],
+    )
+}
+
+#[test]
+fn limits_that_do_not_fit_together_have_no_scripts(rt: HostRuntime) -> Result<(), Fail> {
+    let limits = Config {
+        min_types: 11,
+        ..small_limits()
+    };
+    let expected = Some(ScriptError::InconsistentLimits);
+    assert_eq!(rt; fault_of(&rt, &limits, &[])?, expected);
+    Ok(())
+}
