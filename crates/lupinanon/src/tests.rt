@@ -264,7 +264,7 @@ fn limits_that_do_not_fit_together_are_named(rt: HostRuntime) -> Result<(), Fail
 
 #[test]
 fn why_there_is_no_script_is_told(rt: HostRuntime) -> Result<(), Fail> {
-    let rows: [(&[usize], Reason, &str); 5] = [
+    let rows: [(&[usize], Reason, &str); 6] = [
         (&[], Reason::Unlike, "it is not what would be read"),
         (
             &[0],
@@ -285,6 +285,11 @@ fn why_there_is_no_script_is_told(rt: HostRuntime) -> Result<(), Fail> {
             &[0, 10, 1],
             Reason::Limit,
             "section 0.10.1: a limit of the configuration is passed",
+        ),
+        (
+            &[1],
+            Reason::NotWellFormed,
+            "section 1: it is not well formed",
         ),
     ];
     for (path, reason, message) in rows {

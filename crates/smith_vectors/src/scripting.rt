@@ -181,6 +181,13 @@ fn components_without_a_script(rt: HostRuntime) -> Result<(), Fail> {
                 reason: Reason::Limit,
             },
             NoScript {
+                name: "an import of a type that is equal to another",
+                limits,
+                gives: &[b"\x07\x02\x01\x79", b"\x0a\x07\x01\x00\x01t\x03\x00\x00"],
+                part: &[1],
+                reason: Reason::NotWellFormed,
+            },
+            NoScript {
                 name: "a lift to a type that is not there",
                 limits,
                 gives: &[
