@@ -35,8 +35,8 @@ pub enum ScriptError {
     /// The limits of the configuration do not fit together.
     #[error("the limits of the configuration do not fit together")]
     InconsistentLimits,
-    /// No input gives the component. The reason was seen in the section with that index, and in a component there in
-    /// the section with the next; an empty path is the component itself.
+    /// The component is not what its script gives, or has none. The reason was seen in the section with that index, and
+    /// in a component there in the section with the next; an empty path is the component itself.
     #[error("{}{reason}", At {path: .part})]
     NoScript { part: Vec<usize>, reason: Reason },
 }

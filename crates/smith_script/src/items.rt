@@ -81,7 +81,8 @@ pub(crate) fn put_item(
     part: &PartNode,
 ) -> Result<(), Unsaid>
     ensures { Says result out.old out.new
-        (item_says around.entry.config.now (outer_in around.entry) (standing here.now) (item_of (shown_part_node part.now))) }
+        (item_says around.entry.config.now (outer_in around.entry) (standing here.now)
+        (item_of (shown_part_node part.now))) }
 {
     let offered = Offered::new(around, here);
     put_choice(out, offered.count(), offered.place_of(part))

@@ -8,5 +8,6 @@ ghost use Rattle.smith_script_types.specs.Says.{AreBytes};
 
 /// The script of a plan is bytes.
 pub fn scripts_are_bytes()
-    ensures { (config : Config) (plan : Tree) → IsConsistent config → Within config plan → AreBytes (script config plan) }
+    ensures { (config : Config) (plan : Tree) → IsConsistent config → Within config plan
+        → AreBytes (script config plan) }
 {}

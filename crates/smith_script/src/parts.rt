@@ -114,7 +114,8 @@ fn put_inside(
 ) -> Result<RefTotals, Unsaid>
     ensures said { Says result out.old out.new (tree_says (tree_of (map shown_part_node parts.now))
         around.entry.config.now (shown_scope own.now ∷ outer_in around.entry) (empty_in totals)) }
-    ensures totals { IfOk result (λ t. t ≡ (after_tree (tree_of (map shown_part_node parts.now)) (empty_in totals)).totals) }
+    ensures totals { IfOk result
+        (λ t. t ≡ (after_tree (tree_of (map shown_part_node parts.now)) (empty_in totals)).totals) }
 {
     let scopes = scopes_around(around.alloc, own, around.outer)?;
     let inside = Around {

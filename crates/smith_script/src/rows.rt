@@ -54,7 +54,8 @@ pub(crate) fn put_rows<'a, T: Row>(
     rows: &'a [T],
 ) -> Result<(), Unsaid>
     ensures said { Says result out.old out.new (rows_say
-        (T.says around.entry.config.now (outer_in around.entry)) T.after max (standing here.old) (map T.shown rows.now)) }
+        (T.says around.entry.config.now (outer_in around.entry)) T.after max (standing here.old)
+        (map T.shown rows.now)) }
     ensures added { OnOk result (standing here.new ≡ fold T.after (standing here.old) (map T.shown rows.now)) }
 {
     let mut done = 0;

@@ -44,8 +44,10 @@ fn refused(error: Error) -> Result<bool, ScriptError>
 
 // Does the input give a component of these bytes, and is nothing left?
 fn gives(alloc: Global, config: &Config, input: &[u8], bytes: &[u8]) -> Result<bool, ScriptError>
-    ensures answered { IfOk result (λ is. is ≡ true → (t : Tree) → Spells t bytes.now → IsGiven config.now t input.now) }
-    ensures refuses { IfOk result (λ is. is ≡ false → (t : Tree) → Spells t bytes.now → ¬ IsGiven config.now t input.now) }
+    ensures answered { IfOk result
+        (λ is. is ≡ true → (t : Tree) → Spells t bytes.now → IsGiven config.now t input.now) }
+    ensures refuses { IfOk result
+        (λ is. is ≡ false → (t : Tree) → Spells t bytes.now → ¬ IsGiven config.now t input.now) }
     ensures bytes { AreBytes input.now }
     ensures memory { IfErr result (λ e. e ≡ OutOfMemory) }
 {
@@ -59,7 +61,8 @@ fn gives(alloc: Global, config: &Config, input: &[u8], bytes: &[u8]) -> Result<b
 // The script of a component, written as it is defined, and tried.
 fn tried(alloc: Global, config: &Config, tree: &ComponentTree) -> Result<Vec<u8>, ScriptError>
     ensures answered { IfOk result (λ b. IsScript config.now (shown_tree tree.now) b.items) }
-    ensures refuses { IfErr result (λ e. ¬ (e ≡ OutOfMemory) → (b : List ℕ) → ¬ IsScript config.now (shown_tree tree.now) b) }
+    ensures refuses { IfErr result
+        (λ e. ¬ (e ≡ OutOfMemory) → (b : List ℕ) → ¬ IsScript config.now (shown_tree tree.now) b) }
     ensures limits { ¬ IsConsistent config.now → IfErr result (λ e. e ≡ InconsistentLimits) }
 {
     if config.check().is_err() {
@@ -88,10 +91,12 @@ fn tried(alloc: Global, config: &Config, tree: &ComponentTree) -> Result<Vec<u8>
 /// says, as far as a look tells.
 pub fn script(alloc: Global, config: &Config, tree: &ComponentTree) -> Result<Vec<u8>, ScriptError>
     ensures answered { IfOk result (λ b. IsScript config.now (shown_tree tree.now) b.items) }
-    ensures refuses { IfErr result (λ e. ¬ (e ≡ OutOfMemory) → (b : List ℕ) → ¬ IsScript config.now (shown_tree tree.now) b) }
+    ensures refuses { IfErr result
+        (λ e. ¬ (e ≡ OutOfMemory) → (b : List ℕ) → ¬ IsScript config.now (shown_tree tree.now) b) }
     ensures limits { ¬ IsConsistent config.now → IfErr result (λ e. e ≡ InconsistentLimits) }
     // A plan is refused for want of memory alone.
-    ensures plans { IsConsistent config.now → Within config.now (shown_tree tree.now) → IfErr result (λ e. e ≡ OutOfMemory) }
+    ensures plans { IsConsistent config.now → Within config.now (shown_tree tree.now)
+        → IfErr result (λ e. e ≡ OutOfMemory) }
 {
     tried(alloc, config, tree)
 }

@@ -151,7 +151,8 @@ impl<'a> Open<'a> {
     }
 
     pub(crate) fn add_import(&mut self, import: &ImportNode) -> Result<(), Unsaid>
-        ensures added { OnOk result (standing self.new ≡ after_import (standing self.old) (shown_import_node import.now)) }
+        ensures added { OnOk result
+            (standing self.new ≡ after_import (standing self.old) (shown_import_node import.now)) }
         ensures memory { IfErr result (λ e. e ≡ OutOfMemory) }
     {
         if let ComponentTypeRef::Func(ty) = import.to {
@@ -163,7 +164,8 @@ impl<'a> Open<'a> {
     }
 
     pub(crate) fn add_export(&mut self, export: &ExportNode) -> Result<(), Unsaid>
-        ensures added { OnOk result (standing self.new ≡ after_export (standing self.old) (shown_export_node export.now)) }
+        ensures added { OnOk result
+            (standing self.new ≡ after_export (standing self.old) (shown_export_node export.now)) }
         ensures memory { IfErr result (λ e. e ≡ OutOfMemory) }
     {
         let ty = type_at(&self.functions, export.func);

@@ -6,7 +6,8 @@ use Rattle.std.proofs.lemmas.List.{length-map, map-append}
 use Rattle.std.proofs.lemmas.Option.{slice_get-map}
 use Rattle.smith_input.specs.Script.{script_among, script_loop, script_more, script_end, pick}
 use Rattle.smith_format.specs.declared.config.Config.{Config}
-use Rattle.smith_syntax.specs.Entries.{Entry, CoreEntry, plain, defined, function, component_type, instance_type, core_func, core_module, Signature, Field, Case}
+use Rattle.smith_syntax.specs.Entries.{Entry, CoreEntry, plain, defined, function, component_type, instance_type, core_func, core_module, Signature, Field}
+use Rattle.smith_syntax.specs.Entries.{Case}
 use Rattle.smith_syntax.specs.Entries.{Decl, Decls, core_type_decl, type_decl, type_alias, core_type_alias, import_decl, export_decl, no_decls, then_decls}
 use Rattle.smith_syntax.specs.Entries.{DefValType, primitive_type, record_type, variant_type, list_type, tuple_type, flags_type, enum_type, option_type}
 use Rattle.smith_syntax.specs.Entries.{result_type}
@@ -16,10 +17,13 @@ use Rattle.smith_syntax.specs.declared.deftype.ComponentTypeRef.{ComponentTypeRe
 use Rattle.smith_syntax.specs.declared.deftype.ComponentTypeRef.TheVariants as to
 use Rattle.smith_syntax.specs.declared.types.ComponentValType.{ComponentValType}
 use Rattle.smith_syntax.specs.declared.types.ComponentValType.TheVariants.{Primitive, Indexed}
-use Rattle.smith_types.specs.Offers.{ref_places, has_reference, has_place, ref_kinds, allows_one, allows_equal, occupied, is_occupied, declaration_items, aliases_of}
+use Rattle.smith_types.specs.Offers.{ref_places, has_reference, has_place, ref_kinds, allows_one, allows_equal, occupied, is_occupied, declaration_items}
+use Rattle.smith_types.specs.Offers.{aliases_of}
 use Rattle.smith_types.specs.Offers.{uncounted}
-use Rattle.smith_types.specs.Script.{script_val, script_either, script_primitive, script_maybe, script_field, script_case, script_members, script_defined, script_label}
-use Rattle.smith_types.specs.Script.{script_signature, script_ref, script_extern, script_entry, script_alias, script_no_import, script_declares, script_type, script_decl}
+use Rattle.smith_types.specs.Script.{script_val, script_either, script_primitive, script_maybe, script_field, script_case, script_members, script_defined}
+use Rattle.smith_types.specs.Script.{script_label}
+use Rattle.smith_types.specs.Script.{script_signature, script_ref, script_extern, script_entry, script_alias, script_no_import, script_declares, script_type}
+use Rattle.smith_types.specs.Script.{script_decl}
 use Rattle.smith_types.specs.Script.{script_decls, script_core, decl_cost, kind_in, index_in}
 use Rattle.smith_types.specs.contracts.make.declarations.DeclarationItemPartialEq.TheImpl.{ghosts as items}
 use Rattle.smith_types.specs.contracts.make.references.RefKindPartialEq.TheImpl.{ghosts as refs}

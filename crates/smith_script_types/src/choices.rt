@@ -1,7 +1,8 @@
 //! Choices, loops, texts and names as a script spells them.
 
 ghost use Rattle.std.specs.Prelude.{◌≡◌, ◌≤◌, ◌∷◌, [], ◌+◌, ◌++◌};
-ghost use Rattle.smith_input.specs.Script.{big_endian, code, pick, rank_of, script_among, script_bytes, script_characters};
+ghost use Rattle.smith_input.specs.Script.{big_endian, code, pick, rank_of, script_among, script_bytes};
+ghost use Rattle.smith_input.specs.Script.{script_characters};
 ghost use Rattle.smith_input.specs.Script.{script_end, script_more, script_name, script_text, width_within};
 ghost use Rattle.smith_script_types.specs.Says.{Says};
 

@@ -1,4 +1,5 @@
-//! Scripts: the input from which a type that somebody wants is read. What is public here is so for the crate above alone.
+//! Scripts: the input from which a type that somebody wants is read. What is public here is so for the crate above
+//! alone.
 #![tactic(auto, using(crate::proofs::Saying::saying))]
 
 mod choices;

@@ -15,8 +15,8 @@ use smith_read_types::DeclNode;
 use smith_syntax::ComponentTypeRef;
 use std::alloc::Global;
 
-/// Where a type stands: the limits, its own scope, and the scopes around it, innermost first. Public for the crate above
-/// alone.
+/// Where a type stands: the limits, its own scope, and the scopes around it, innermost first. Public for the crate
+/// above alone.
 #[derive(Clone, Copy)]
 pub struct Place<'s> {
     pub alloc: Global,
@@ -46,7 +46,8 @@ fn added_core_type(sort: Option<CoreSort>) -> Added
 impl<'s> Place<'s> {
     /// Its own scope, and the scopes around it.
     pub(crate) fn scopes(self) -> Result<Vec<&'s Scope>, Unsaid>
-        ensures list { IfOk result (λ v. map (λ s. shown_scope s.now) v.items ≡ own_at self.entry ∷ outer_at self.entry) }
+        ensures list { IfOk result
+            (λ v. map (λ s. shown_scope s.now) v.items ≡ own_at self.entry ∷ outer_at self.entry) }
         ensures memory { IfErr result (λ e. e ≡ OutOfMemory) }
     {
         let mut scopes = Vec::with_capacity(self.alloc, 1)?;

@@ -99,7 +99,8 @@ fn put_ref_kind(
     kind: RefKind,
 ) -> Result<(), Unsaid>
     ensures { Says result out.old out.new
-        (script_among refs.eq (ref_kinds place.entry.config.now (own_at place.entry) totals for_import for_type_def) kind) }
+        (script_among refs.eq
+        (ref_kinds place.entry.config.now (own_at place.entry) totals for_import for_type_def) kind) }
 {
     let config = place.config;
     let modules = allows_one(for_import, for_type_def, totals.modules, config.max_modules);
@@ -136,7 +137,8 @@ pub fn put_reference(
     for_type_def: bool,
     to: ComponentTypeRef,
 ) -> Result<(), Unsaid>
-    ensures { Says result out.old out.new (script_ref place.entry.config.now (own_at place.entry) totals for_import for_type_def to) }
+    ensures { Says result out.old out.new
+        (script_ref place.entry.config.now (own_at place.entry) totals for_import for_type_def to) }
 {
     let kind = kind_in(to);
     put_ref_kind(out, place, totals, for_import, for_type_def, kind)?;

@@ -5,7 +5,8 @@ ghost use Rattle.smith_syntax.specs.Entries.{in_order};
 ghost use Rattle.smith_syntax.specs.Scope.{empty_scope};
 ghost use Rattle.smith_read_types.specs.TypeNodes.{shown_decl_node, shown_type_node};
 ghost use Rattle.smith_types.specs.Offers.{uncounted};
-ghost use Rattle.smith_types.specs.Script.{script_decl, script_decls, script_extern, script_ref, script_type, script_type_kind};
+ghost use Rattle.smith_types.specs.Script.{script_decl, script_decls, script_extern, script_ref, script_type};
+ghost use Rattle.smith_types.specs.Script.{script_type_kind};
 ghost use Rattle.smith_types.specs.declared.make.TypeKind.TheVariants.{Defined};
 ghost use Rattle.smith_script_types.specs.Places.{outer_at, own_at};
 ghost use Rattle.smith_script_types.specs.Says.{Says};
@@ -63,7 +64,8 @@ fn put_declared(
     to: ComponentTypeRef,
 ) -> Result<(), Unsaid>
     ensures { Says result out.old out.new
-        (script_ref place.entry.config.now (own_at place.entry) uncounted for_import true to ++ script_extern name.now) }
+        (script_ref place.entry.config.now (own_at place.entry) uncounted for_import true to
+        ++ script_extern name.now) }
 {
     put_reference(out, place, UNCOUNTED, for_import, true, to)?;
     put_extern(out, name)
@@ -107,7 +109,8 @@ fn put_decl(
     decl: &DeclNode,
 ) -> Result<(), Unsaid>
     ensures { Says result out.old out.new
-        (script_decl (shown_decl_node decl.now) place.entry.config.now importing fuel (own_at place.entry) (outer_at place.entry)) }
+        (script_decl (shown_decl_node decl.now) place.entry.config.now importing fuel (own_at place.entry)
+        (outer_at place.entry)) }
 {
     match decl {
         DeclNode::Core(ty) => {

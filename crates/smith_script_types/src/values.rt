@@ -4,8 +4,10 @@ ghost use Rattle.std.specs.Prelude.{ℕ, List, ◌++◌, string_bytes};
 ghost use Rattle.std.specs.Option.{option_to_list};
 ghost use Rattle.smith_syntax.specs.Shown.{shown_defined};
 ghost use Rattle.smith_syntax.specs.Signature.{named};
-ghost use Rattle.smith_types.specs.Script.{script_case, script_defined, script_either, script_field, script_kind, script_label};
-ghost use Rattle.smith_types.specs.Script.{script_maybe, script_members, script_primitive, script_signature, script_val};
+ghost use Rattle.smith_types.specs.Script.{script_case, script_defined, script_either, script_field, script_kind};
+ghost use Rattle.smith_types.specs.Script.{script_label};
+ghost use Rattle.smith_types.specs.Script.{script_maybe, script_members, script_primitive, script_signature};
+ghost use Rattle.smith_types.specs.Script.{script_val};
 ghost use Rattle.smith_script_types.specs.Says.{Says};
 ghost use Rattle.smith_script_types.specs.Places.{own_at};
 
