@@ -1,7 +1,9 @@
 pub mod Choices
 pub mod Kebab
 pub mod Loops
+pub mod NameScript
 pub mod NameSets
+pub mod NameShapes
 pub mod NewNames
 pub mod Offered
 pub mod Picks

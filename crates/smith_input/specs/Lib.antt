@@ -6,3 +6,4 @@ pub mod Choices
 pub mod Loops
 pub mod Texts
 pub mod Names
+pub mod NameScript

@@ -1,13 +1,14 @@
 //! Laws of reading. Each function does nothing: its contract is the law.
 
-ghost use Rattle.std.specs.Prelude.{◌≡◌, ℕ, ◌^◌, ◌<◌, ◌≤◌, List, Bool, false, length};
+ghost use Rattle.std.specs.Prelude.{◌≡◌, ℕ, ◌^◌, ◌<◌, ◌≤◌, ◌↔◌, List, Bool, true, false, length};
 ghost use Rattle.std.specs.Str.{IsUtf8};
 ghost use Rattle.smith_input.specs.Reading.{Reads, More, IsDecided, IsReadAs, LeavesTail};
 ghost use Rattle.smith_input.specs.Script.{pick};
 ghost use Rattle.smith_input.specs.Texts.{ReadsBytes, ReadsText};
 ghost use Rattle.smith_input.specs.Script.{script_bytes, script_text};
 ghost use Rattle.smith_input.specs.Kebab.{Kebab};
-ghost use Rattle.smith_input.specs.Names.{ReadsKebab, IsMadeUnique};
+ghost use Rattle.smith_input.specs.Names.{ReadsKebab, ReadsNew, IsMadeUnique, is_among};
+ghost use Rattle.smith_input.specs.NameScript.{is_within, IsReachable, IsReachableText, ReadsNewText, script_within, script_new, script_new_text};
 ghost use Rattle.smith_input.specs.Script.{script_name};
 
 /// The script of a choice is read as that choice.
@@ -102,4 +103,44 @@ pub fn names_are_kebab()
 pub fn unique_names_are_kebab()
     ensures { (has : List ℕ → Bool) (size : ℕ) (text name : List ℕ) → size < 2 ^ 64 → Kebab text
         → IsMadeUnique has size text name → Kebab name }
+{}
+
+/// The script of a name of at most `max` bytes, or of one more that ends in `-a`, is read as that name.
+pub fn kebab_names_are_read()
+    ensures { (max : ℕ) (name : List ℕ) → max < 2 ^ 64 → Kebab name → is_within max name ≡ true
+        → IsReadAs (ReadsKebab max) (script_within max name) name }
+{}
+
+/// These names in kebab case are read, and no others.
+pub fn kebab_names_are_exact()
+    ensures { (max : ℕ) (name : List ℕ) → max < 2 ^ 64
+        → ((bytes rest : List ℕ) × ReadsKebab max bytes name rest) ↔ (Kebab name × (is_within max name ≡ true)) }
+{}
+
+/// The script of a new name that comes from a text that can be read is read as that name.
+pub fn new_names_are_read()
+    ensures { (max : ℕ) (names : List (List ℕ)) (name : List ℕ) → max < 2 ^ 64 → Kebab name
+        → is_among names name ≡ false → IsReachable max names name
+        → IsReadAs (ReadsNew max names) (script_new max names name) name }
+{}
+
+/// These new names are read, and no others.
+pub fn new_names_are_exact()
+    ensures { (max : ℕ) (names : List (List ℕ)) (name : List ℕ) → max < 2 ^ 64
+        → ((bytes rest : List ℕ) × ReadsNew max names bytes name rest)
+            ↔ (Kebab name × (is_among names name ≡ false) × IsReachable max names name) }
+{}
+
+/// The script of a new text that comes from a text that can be read is read as that text.
+pub fn new_texts_are_read()
+    ensures { (max : ℕ) (names : List (List ℕ)) (name : List ℕ) → max < 2 ^ 64 → IsUtf8 name
+        → is_among names name ≡ false → IsReachableText max names name
+        → IsReadAs (ReadsNewText max names) (script_new_text max names name) name }
+{}
+
+/// These new texts are read, and no others.
+pub fn new_texts_are_exact()
+    ensures { (max : ℕ) (names : List (List ℕ)) (name : List ℕ) → max < 2 ^ 64
+        → ((bytes rest : List ℕ) × ReadsNewText max names bytes name rest)
+            ↔ (IsUtf8 name × (is_among names name ≡ false) × IsReachableText max names name) }
 {}
