@@ -1,6 +1,7 @@
 pub mod Choices
 pub mod Kebab
 pub mod Loops
+pub mod NameBytes
 pub mod NameScript
 pub mod NameSets
 pub mod NameShapes

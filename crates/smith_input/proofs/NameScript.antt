@@ -10,7 +10,7 @@ use Rattle.std.proofs.lemmas.List.{length-append, length-take, take_all, take_at
 use Rattle.std.proofs.lemmas.Str.{IsUtf8-append, IsUtf8-from_ascii, IsUtf8-take, IsCharBoundary-at_seam}
 use Rattle.smith_input.specs.Kebab.{IsDigit, AreInWord, Kebab}
 use Rattle.smith_input.specs.Names.{appended, IsMadeUnique, IsMadeNew, ReadsNew, is_among}
-use Rattle.smith_input.specs.NameScript.{is_within, is_short, IsMadeOf, IsReachable, IsReachableText, ReadsNewText, first_that, text_of, script_within, script_new}
+use Rattle.smith_input.specs.NameScript.{is_within, last_word_is_a, is_short, IsMadeOf, IsReachable, IsReachableText, ReadsNewText, first_that, text_of, script_within, script_new}
 use Rattle.smith_input.specs.NameScript.{script_new_text}
 use Rattle.smith_input.specs.Script.{script_name, script_text}
 use Rattle.smith_input.specs.Texts.{ReadsText}
@@ -140,6 +140,20 @@ text_of_read can_read names name c = by_fuel (length name)
     by_fuel : (fuel : ℕ) → first_that can_read (length (decimal (length names))) fuel name ≡ name
     by_fuel zero = refl
     by_fuel (suc fuel) = ap (λ b. if b then name else first_that can_read (length (decimal (length names))) fuel (take (length name - length (decimal (length names))) name)) c
+
+short_within : (max : ℕ) (name : List ℕ) → length name ≤ max → is_within max name ≡ true
+short_within max name l = by_end (last_word_is_a name)
+  where
+    by_end : (b : Bool) → nat_le (length name) (if b then max + 1 else max) ≡ true
+    by_end true = is_most (length name) (max + 1) (omega (arith, l))
+    by_end false = is_most (length name) max l
+
+pub short_script : (max : ℕ) (names : List (List ℕ)) (name : List ℕ) → length name ≤ max → script_new max names name ≡ script_name max name
+short_script max names name l =
+    ap (script_within max) (text_of_read (is_within max) names name (short_within max name l)) ∙ ap (script_name max) (take_all max name l)
+
+pub short_text_script : (max : ℕ) (names : List (List ℕ)) (name : List ℕ) → length name ≤ max → script_new_text max names name ≡ script_text max name
+short_text_script max names name l = ap (script_text max) (text_of_read (is_short max) names name (is_most (length name) max l))
 
 -- Names in kebab case.
 

@@ -11,17 +11,17 @@ use Rattle.smith_input.specs.Reading.{Reads}
 use Rattle.smith_input.specs.Script.{pick, code, script_characters, script_name}
 use Rattle.smith_input.specs.Kebab.{IsLetter, IsDigit, AreInWord, IsWord, Kebab, word, hyphen}
 use Rattle.smith_input.specs.Names.{character, characters, ReadsEach, none, next, ReadsKebab}
-use Rattle.smith_input.specs.NameScript.{ends_in_a, is_within, script_within}
+use Rattle.smith_input.specs.NameScript.{last_word_is_a, is_within, script_within}
 use Rattle.smith_input.proofs.Kebab.{Follows}
 use Rattle.smith_input.proofs.Picks.{reads-pick}
 
 -- a character where a word must begin, or goes on
-abbrev Fits : Bool → ℕ → Type 0
+abbrev pub Fits : Bool → ℕ → Type 0
 Fits true c = IsLetter c
 Fits false c = (IsLetter c ⊎ IsDigit c) ⊎ (c ≡ 45)
 
 -- a name in kebab case from a place on, where a word must begin or goes on
-abbrev Goes : Bool → List ℕ → Type 0
+abbrev pub Goes : Bool → List ℕ → Type 0
 Goes true [] = ⊥
 Goes false [] = Unit {0}
 Goes begins (c ∷ cs) = Fits begins c × Goes (nat_eq c 45) cs
@@ -38,7 +38,7 @@ goes_begun : (cs ds : List ℕ) → IsWord cs → Goes false ds → Goes true (c
 goes_begun [] ds w g = absurd w
 goes_begun (c ∷ cs) ds w g = (w.0, subst (λ b. Goes b (cs ++ ds)) (sym (not_hyphen c (inl w.0))) (goes_word cs ds w.1 g))
 
-kebab_goes : {cs : List ℕ} → Kebab cs → Goes true cs
+pub kebab_goes : {cs : List ℕ} → Kebab cs → Goes true cs
 kebab_goes (word {cs = cs} w) = subst (Goes true) (append-nil cs) (goes_begun cs [] w tt)
 kebab_goes (hyphen cs ds w k) = goes_begun cs (45 ∷ ds) w (inr refl, kebab_goes k)
 
@@ -50,7 +50,7 @@ letter_code begins c l = (grind (arith, nat_tests), grind (arith, nat_tests))
 digit_code : (c : ℕ) → IsDigit c → (code c < 37) × (character false (code c) ≡ c)
 digit_code c d = (grind (arith, nat_tests), grind (arith, nat_tests))
 
-has_code : (begins : Bool) (c : ℕ) → Fits begins c → (code c < 37) × (character begins (code c) ≡ c)
+pub has_code : (begins : Bool) (c : ℕ) → Fits begins c → (code c < 37) × (character begins (code c) ≡ c)
 has_code true c l = letter_code true c l
 has_code false c (inl (inl l)) = letter_code false c l
 has_code false c (inl (inr d)) = digit_code c d
@@ -97,15 +97,15 @@ a_suffices (suc n) p [] (f ∷ front) e l = tt
 a_suffices (suc n) p (c ∷ cs) (f ∷ front) e l =
     let more : c ∷ cs ≡ front ++ 45 ∷ 97 ∷ [] = cc in a_suffices n c cs front more (omega (arith, l))
 
--- ends_in_a says that there is such a front
-a_front : (name : List ℕ) → ends_in_a name ≡ true → (front : List ℕ) × (45 ∷ name ≡ front ++ 45 ∷ 97 ∷ [])
+-- last_word_is_a says that there is such a front
+a_front : (name : List ℕ) → last_word_is_a name ≡ true → (front : List ℕ) × (45 ∷ name ≡ front ++ 45 ∷ 97 ∷ [])
 a_front name e =
     let all = 45 ∷ name in
     let n = length all - 2 in
     let tail : 45 ∷ 97 ∷ [] ≡ drop n all = (bytes_eq-Decides (45 ∷ 97 ∷ []) (drop n all)).0 e in
     (take n all, sym (ap (λ z. take n all ++ z) tail ∙ take-append-drop n all))
 
-front_a : (name front : List ℕ) → 45 ∷ name ≡ front ++ 45 ∷ 97 ∷ [] → ends_in_a name ≡ true
+front_a : (name front : List ℕ) → 45 ∷ name ≡ front ++ 45 ∷ 97 ∷ [] → last_word_is_a name ≡ true
 front_a name front e =
     let all = 45 ∷ name in
     let n = length all - 2 in
@@ -123,11 +123,11 @@ is_most n m e = grind (arith, nat_tests)
 within_suffices : (max : ℕ) (name : List ℕ) → Goes true name → is_within max name ≡ true → Suffices max true name
 within_suffices max name g w =
     ⊎_elim
-    (λ (long : max < length name). by_end long (ends_in_a name) refl w)
+    (λ (long : max < length name). by_end long (last_word_is_a name) refl w)
     (λ (short : length name ≤ max). short_suffices max true name g short)
     (cases_lt max (length name))
   where
-    by_end : max < length name → (b : Bool) → ends_in_a name ≡ b → nat_le (length name) (if b then max + 1 else max) ≡ true → Suffices max true name
+    by_end : max < length name → (b : Bool) → last_word_is_a name ≡ b → nat_le (length name) (if b then max + 1 else max) ≡ true → Suffices max true name
     by_end long true e few =
         let all = a_front name e in
         let most : length name ≤ max + 1 = at_most (length name) (max + 1) few in
@@ -184,7 +184,7 @@ kebab_within {max} {name = name} r =
     short false n l = is_most n max l
 
     by_shape : (ks : List ℕ) → length ks ≤ max → Shaped 45 ks → is_within max (characters true ks) ≡ true
-    by_shape ks few (inl l) = short (ends_in_a (characters true ks)) (length (characters true ks)) (omega (arith, l, few))
+    by_shape ks few (inl l) = short (last_word_is_a (characters true ks)) (length (characters true ks)) (omega (arith, l, few))
     by_shape ks few (inr (front, e, l)) =
         let cs = characters true ks in
         subst (λ b. nat_le (length cs) (if b then max + 1 else max) ≡ true) (sym (front_a cs front e)) (is_most (length cs) (max + 1) (omega (arith, l, few)))

@@ -7,12 +7,12 @@ use Rattle.smith_input.specs.Script.{script_name, script_text}
 use Rattle.smith_input.specs.Texts.{ReadsText}
 
 -- Is `a` the last word of a name in kebab case?
-abbrev pub ends_in_a : List ℕ → Bool
-ends_in_a name = ends_with nat_eq (codes "-" ++ name) (codes "-a")
+abbrev pub last_word_is_a : List ℕ → Bool
+last_word_is_a name = ends_with nat_eq (codes "-" ++ name) (codes "-a")
 
 -- Can a name in kebab case be read at a length of at most max? One byte more comes where the last word is `a`, for which nothing is chosen.
 abbrev pub is_within : ℕ → List ℕ → Bool
-is_within max name = nat_le (length name) (if ends_in_a name then max + 1 else max)
+is_within max name = nat_le (length name) (if last_word_is_a name then max + 1 else max)
 
 -- Can a text be read at a length of at most max?
 abbrev pub is_short : ℕ → List ℕ → Bool

@@ -1,13 +1,14 @@
 //! Laws of reading. Each function does nothing: its contract is the law.
 
-ghost use Rattle.std.specs.Prelude.{◌≡◌, ℕ, ◌^◌, ◌<◌, ◌≤◌, ◌↔◌, List, Bool, true, false, length};
+ghost use Rattle.std.specs.Prelude.{◌≡◌, ℕ, ◌^◌, ◌<◌, ◌≤◌, ◌↔◌, List, [], ◌∷◌, ◌++◌, Bool, true, false, length, map, replicate, codes};
+ghost use Rattle.std.specs.List.{AllByRecursion};
 ghost use Rattle.std.specs.Str.{IsUtf8};
 ghost use Rattle.smith_input.specs.Reading.{Reads, More, IsDecided, IsReadAs, LeavesTail};
 ghost use Rattle.smith_input.specs.Script.{pick};
 ghost use Rattle.smith_input.specs.Texts.{ReadsBytes, ReadsText};
 ghost use Rattle.smith_input.specs.Script.{script_bytes, script_text};
 ghost use Rattle.smith_input.specs.Kebab.{Kebab};
-ghost use Rattle.smith_input.specs.Names.{ReadsKebab, ReadsNew, IsMadeUnique, is_among};
+ghost use Rattle.smith_input.specs.Names.{ReadsKebab, ReadsNew, IsMadeNew, IsMadeUnique, is_among};
 ghost use Rattle.smith_input.specs.NameScript.{is_within, IsReachable, IsReachableText, ReadsNewText, script_within, script_new, script_new_text};
 ghost use Rattle.smith_input.specs.Script.{script_name};
 
@@ -143,4 +144,31 @@ pub fn new_texts_are_exact()
     ensures { (max : ℕ) (names : List (List ℕ)) (name : List ℕ) → max < 2 ^ 64
         → ((bytes rest : List ℕ) × ReadsNewText max names bytes name rest)
             ↔ (IsUtf8 name × (is_among names name ≡ false) × IsReachableText max names name) }
+{}
+
+/// The scripts of new names and texts are bytes.
+pub fn new_name_scripts_are_bytes()
+    ensures names { (max : ℕ) (names : List (List ℕ)) (name : List ℕ) → max < 2 ^ 64 → Kebab name
+        → AllByRecursion (λ b. b < 256) (script_new max names name) }
+    ensures texts { (max : ℕ) (names : List (List ℕ)) (name : List ℕ) → max < 2 ^ 64 → AllByRecursion (λ b. b < 256) name
+        → IsReachableText max names name → AllByRecursion (λ b. b < 256) (script_new_text max names name) }
+{}
+
+/// A name that is not too long is read as it stands.
+pub fn short_names_stay()
+    ensures names { (max : ℕ) (names : List (List ℕ)) (name : List ℕ) → length name ≤ max
+        → script_new max names name ≡ script_name max name }
+    ensures texts { (max : ℕ) (names : List (List ℕ)) (name : List ℕ) → length name ≤ max
+        → script_new_text max names name ≡ script_text max name }
+{}
+
+/// Names that come, and one that does not: a last `a` for which nothing is chosen, and digits twice behind a text.
+pub fn worked_names()
+    ensures hyphen { (is_within 2 (codes "a-a") ≡ true) × (script_within 2 (codes "a-a") ≡ 2 ∷ 0 ∷ 36 ∷ []) }
+    ensures longest { is_within 100 (replicate 99 97 ++ codes "-a") ≡ true }
+    ensures nothing { (is_within 0 (codes "a") ≡ true) × (script_within 0 (codes "a") ≡ []) }
+    ensures no_hyphen { is_within 2 (codes "aaa") ≡ false }
+    ensures twice { let names = codes "x" ∷ codes "x11" ∷ map (λ c. c ∷ []) (codes "abcdefghi") in
+        (length names ≡ 11) × IsMadeNew names (codes "x") (codes "x1111")
+        × (script_new 1 names (codes "x1111") ≡ 1 ∷ 23 ∷ []) }
 {}
