@@ -1,13 +1,13 @@
 -- The scripts of names are bytes.
-use Rattle.std.proofs.Common.{◌≡◌, ℕ, zero, suc, ◌+◌, ◌-◌, ◌/◌, ◌%◌, ◌<◌, ◌≤◌, ◌^◌, min, Bool, true, false, nat_eq, if◌then◌else◌, List, [], ◌∷◌, ◌++◌, length, take}
-use Rattle.std.proofs.Common.{refl, sym, ap, ◌∙◌, subst, arith}
+use Rattle.std.proofs.Common.{ℕ, zero, suc, ◌+◌, ◌-◌, ◌%◌, ◌<◌, ◌≤◌, ◌^◌, Bool, true, false, nat_eq, if◌then◌else◌, List, [], ◌∷◌, ◌++◌, length, take}
+use Rattle.std.proofs.Common.{arith}
 use Rattle.std.proofs.Math.Nat.{pow-suc}
-use Rattle.std.proofs.lemmas.List.{length-take, take-take}
+use Rattle.std.proofs.lemmas.List.{length-take}
 use Rattle.std.proofs.lemmas.Nat.{div_below, mod_below}
 use Rattle.std.specs.Fmt.{decimal}
 use Rattle.std.specs.List.{AllByRecursion}
 use Rattle.smith_input.specs.Kebab.{Kebab}
-use Rattle.smith_input.specs.NameScript.{first_that, is_short, is_within, script_new, script_new_text, text_of, IsReachableText}
+use Rattle.smith_input.specs.NameScript.{first_readable, is_short, is_within, script_new, script_new_text, text_of, IsReachableText}
 use Rattle.smith_input.specs.Script.{big_endian, code, pick, script_characters, width_within}
 use Rattle.smith_input.proofs.NameScript.{made_of}
 use Rattle.smith_input.proofs.NameShapes.{Goes, at_most, has_code, kebab_goes}
@@ -39,14 +39,15 @@ module _ (P : ℕ → Type 0) where
   taken (suc n) [] all = tt
   taken (suc n) (x ∷ xs) all = (all.0, taken n xs all.1)
 
-  of_first : (can_read : List ℕ → Bool) (digits fuel : ℕ) (name : List ℕ) → AllByRecursion P name → AllByRecursion P (first_that can_read digits fuel name)
+  of_first : (can_read : List ℕ → Bool) (digits fuel : ℕ) (name : List ℕ) → AllByRecursion P name → AllByRecursion P (first_readable can_read digits fuel name)
   of_first can_read digits zero name all = all
   of_first can_read digits (suc fuel) name all = by_test (can_read name) (of_first can_read digits fuel shorter (taken (length name - digits) name all))
     where
       shorter : List ℕ
       shorter = take (length name - digits) name
 
-      by_test : (b : Bool) → AllByRecursion P (first_that can_read digits fuel shorter) → AllByRecursion P (if b then name else first_that can_read digits fuel shorter)
+      by_test : (b : Bool) → AllByRecursion P (first_readable can_read digits fuel shorter)
+          → AllByRecursion P (if b then name else first_readable can_read digits fuel shorter)
       by_test true later = all
       by_test false later = later
 

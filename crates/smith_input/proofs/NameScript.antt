@@ -1,17 +1,16 @@
 -- Names that come from a text that can be read: the text before their digits, and their scripts.
-use Rattle.std.proofs.Common.{◌≡◌, ℕ, zero, suc, ◌+◌, ◌-◌, ◌/◌, ◌%◌, ◌<◌, ◌≤◌, ◌^◌, inl, inr, Bool, true, false, nat_lt, if◌then◌else◌, List, [], ◌∷◌, ◌++◌, length}
-use Rattle.std.proofs.Common.{take, refl, sym, ap, ◌∙◌, subst, arith, append_assoc, ⊎_elim, get_or}
-use Rattle.std.specs.Prelude.{nat_le, slice_index, ◌==◌}
+use Rattle.std.proofs.Common.{◌≡◌, ℕ, zero, suc, ◌+◌, ◌-◌, ◌/◌, ◌%◌, ◌<◌, ◌≤◌, ◌^◌, inr, Bool, true, false, if◌then◌else◌, List, [], ◌∷◌, ◌++◌, length}
+use Rattle.std.proofs.Common.{take, refl, sym, ap, ◌∙◌, subst, arith}
+use Rattle.std.specs.Prelude.{nat_le, ◌==◌}
 use Rattle.std.specs.Fmt.{decimal, digits, digits_onto, digit_glyph}
 use Rattle.std.specs.Str.{IsAscii, IsUtf8}
 use Rattle.std.proofs.lemmas.Bool.Decides.{nat_tests}
-use Rattle.std.proofs.lemmas.Bool.{false≢true, cases_lt}
-use Rattle.std.proofs.lemmas.List.{length-append, length-take, take_all, take_at, take-take}
+use Rattle.std.proofs.lemmas.List.{length-append, length-take, take_all, take_at}
 use Rattle.std.proofs.lemmas.Str.{IsUtf8-append, IsUtf8-from_ascii, IsUtf8-take, IsCharBoundary-at_seam}
 use Rattle.smith_input.specs.Kebab.{IsDigit, AreInWord, Kebab}
-use Rattle.smith_input.specs.Names.{appended, IsMadeUnique, IsMadeNew, ReadsNew, is_among}
-use Rattle.smith_input.specs.NameScript.{is_within, last_word_is_a, is_short, IsMadeOf, IsReachable, IsReachableText, ReadsNewText, first_that, text_of, script_within, script_new}
-use Rattle.smith_input.specs.NameScript.{script_new_text}
+use Rattle.smith_input.specs.Names.{appended, IsMadeNew, ReadsNew, is_among}
+use Rattle.smith_input.specs.NameScript.{is_within, last_word_is_a, is_short, IsMadeOf, IsReachable, IsReachableText, ReadsNewText, first_readable, text_of}
+use Rattle.smith_input.specs.NameScript.{script_within, script_new, script_new_text}
 use Rattle.smith_input.specs.Script.{script_name, script_text}
 use Rattle.smith_input.specs.Texts.{ReadsText}
 use Rattle.smith_input.proofs.Kebab.{kebab_is_read, kebab_more}
@@ -73,13 +72,13 @@ times_few : (text ds : List ℕ) → 0 < length ds → (n : ℕ) → n ≤ lengt
 times_few text ds some zero = omega arith
 times_few text ds some (suc n) = omega (arith, some, times_few text ds some n, length-append (appended text ds n) ds)
 
--- The first text that can be read.
+-- The first text that can be read: a nearer one has all its stages among those of one further off.
 module _ (can_read : List ℕ → Bool) where
-  -- it is found at no more digits than another that can be read
+  -- it is found behind no more digits than any other
   record Found (text ds : List ℕ) (fuel times : ℕ) : Type 0 where
     n : ℕ
     few : n ≤ times
-    is : first_that can_read (length ds) fuel (appended text ds times) ≡ appended text ds n
+    is : first_readable can_read (length ds) fuel (appended text ds times) ≡ appended text ds n
     reads : can_read (appended text ds n) ≡ true
 
   here : (text ds : List ℕ) (fuel times : ℕ) → can_read (appended text ds times) ≡ true → Found text ds (suc fuel) times
@@ -88,11 +87,12 @@ module _ (can_read : List ℕ → Bool) where
       record {
         n = times;
         few = omega arith;
-        is = ap (λ b. if b then all else first_that can_read (length ds) fuel (take (length all - length ds) all)) c;
+        is = ap (λ b. if b then all else first_readable can_read (length ds) fuel (take (length all - length ds) all)) c;
         reads = c;
       }
 
-  later : (text ds : List ℕ) (fuel times : ℕ) → can_read (appended text ds (suc times)) ≡ false → Found text ds fuel times → Found text ds (suc fuel) (suc times)
+  later : (text ds : List ℕ) (fuel times : ℕ) → can_read (appended text ds (suc times)) ≡ false → Found text ds fuel times
+      → Found text ds (suc fuel) (suc times)
   later text ds fuel times c f =
       let all = appended text ds times in
       let n = length (all ++ ds) - length ds in
@@ -101,8 +101,8 @@ module _ (can_read : List ℕ → Bool) where
         n = f.n;
         few = omega (arith, f.few);
         is =
-            ap (λ b. if b then all ++ ds else first_that can_read (length ds) fuel (take n (all ++ ds))) c
-            ∙ (ap (first_that can_read (length ds) fuel) cut ∙ f.is);
+            ap (λ b. if b then all ++ ds else first_readable can_read (length ds) fuel (take n (all ++ ds))) c
+            ∙ (ap (first_readable can_read (length ds) fuel) cut ∙ f.is);
         reads = f.reads;
       }
 
@@ -123,7 +123,7 @@ module _ (can_read : List ℕ → Bool) where
       let ds = decimal (length names) in
       let few : u.times ≤ length name = omega (arith, ap length u.name_is, times_few text ds (some_digits (length names)) u.times) in
       let f = found text ds (length name) u.times few c in
-      let is : text_of can_read names name ≡ appended text ds f.n = ap (first_that can_read (length ds) (length name)) u.name_is ∙ f.is in
+      let is : text_of can_read names name ≡ appended text ds f.n = ap (first_readable can_read (length ds) (length name)) u.name_is ∙ f.is in
       let more : f.n + (u.times - f.n) ≡ u.times = omega (arith, f.few) in
       let made : IsMadeNew names (appended text ds f.n) name = record {
         times = u.times - f.n;
@@ -135,11 +135,11 @@ module _ (can_read : List ℕ → Bool) where
 
 -- A text that can be read is the one that its script is of.
 pub text_of_read : (can_read : List ℕ → Bool) (names : List (List ℕ)) (name : List ℕ) → can_read name ≡ true → text_of can_read names name ≡ name
-text_of_read can_read names name c = by_fuel (length name)
+text_of_read can_read names name c = by_fuel (length (decimal (length names))) (length name)
   where
-    by_fuel : (fuel : ℕ) → first_that can_read (length (decimal (length names))) fuel name ≡ name
-    by_fuel zero = refl
-    by_fuel (suc fuel) = ap (λ b. if b then name else first_that can_read (length (decimal (length names))) fuel (take (length name - length (decimal (length names))) name)) c
+    by_fuel : (n fuel : ℕ) → first_readable can_read n fuel name ≡ name
+    by_fuel n zero = refl
+    by_fuel n (suc fuel) = ap (λ b. if b then name else first_readable can_read n fuel (take (length name - n) name)) c
 
 short_within : (max : ℕ) (name : List ℕ) → length name ≤ max → is_within max name ≡ true
 short_within max name l = by_end (last_word_is_a name)
@@ -213,7 +213,9 @@ new_text_read max names name rest h k made =
 -- a text that is read is short
 pub text_short : {max : ℕ} {bytes text rest : List ℕ} → ReadsText max bytes text rest → is_short max text ≡ true
 text_short {max} {text = text} r =
-    is_most (length text) max (omega (arith, r.counted.below, ap length r.longest.front, length-take (length text) (take r.count r.after_count), length-take r.count r.after_count))
+    let front = take r.count r.after_count in
+    is_most (length text) max
+    (omega (arith, r.counted.below, ap length r.longest.front, length-take (length text) front, length-take r.count r.after_count))
 
 pub new_text_utf8 : {max : ℕ} {names : List (List ℕ)} {bytes name rest : List ℕ} → ReadsNewText max names bytes name rest → IsUtf8 name
 new_text_utf8 {names = names} r = made_utf8_more names r.unique r.reads.longest.utf8

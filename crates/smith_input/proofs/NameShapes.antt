@@ -1,14 +1,13 @@
 -- Which names in kebab case can be read at a length of at most max, and the choices of each.
 use Rattle.std.proofs.Common.{◌≡◌, ℕ, zero, suc, ◌+◌, ◌-◌, ◌<◌, ◌≤◌, ◌^◌, ◌⊎◌, inl, inr, Bool, true, false, nat_eq, nat_le, if◌then◌else◌, List, [], ◌∷◌, ◌++◌}
-use Rattle.std.proofs.Common.{length, take, drop, map, min, refl, sym, ap, ◌∙◌, subst, arith, append_assoc, append-nil, ⊎_elim}
-use Rattle.std.specs.Prelude.{codes}
-use Rattle.std.specs.List.{ends_with, AllByRecursion}
+use Rattle.std.proofs.Common.{length, take, drop, map, refl, sym, ap, ◌∙◌, subst, arith, append_assoc, append-nil, ⊎_elim}
+use Rattle.std.specs.List.{AllByRecursion}
 use Rattle.std.proofs.lemmas.Bool.Decides.{nat_tests}
-use Rattle.std.proofs.lemmas.Bool.{cases_lt, false≢true}
+use Rattle.std.proofs.lemmas.Bool.{cases_lt}
 use Rattle.std.proofs.lemmas.List.{length-append, length-map, length-take, take-append-drop, drop_at}
 use Rattle.std.proofs.lemmas.Slice.Eq.{bytes_eq-Decides}
 use Rattle.smith_input.specs.Reading.{Reads}
-use Rattle.smith_input.specs.Script.{pick, code, script_characters, script_name}
+use Rattle.smith_input.specs.Script.{pick, code, script_characters}
 use Rattle.smith_input.specs.Kebab.{IsLetter, IsDigit, AreInWord, IsWord, Kebab, word, hyphen}
 use Rattle.smith_input.specs.Names.{character, characters, ReadsEach, none, next, ReadsKebab}
 use Rattle.smith_input.specs.NameScript.{last_word_is_a, is_within, script_within}
@@ -164,7 +163,8 @@ is_hyphen p e = grind (arith, nat_tests)
 shaped : (p : ℕ) (ks : List ℕ) → Shaped p ks
 shaped p [] = by_test (nat_eq p 45) refl
   where
-    by_test : (b : Bool) → nat_eq p 45 ≡ b → (length (characters b []) ≡ 0) ⊎ ((front : List ℕ) × (p ∷ characters b [] ≡ front ++ 45 ∷ 97 ∷ []) × (length (characters b []) ≡ 1))
+    by_test : (b : Bool) → nat_eq p 45 ≡ b
+        → (length (characters b []) ≡ 0) ⊎ ((front : List ℕ) × (p ∷ characters b [] ≡ front ++ 45 ∷ 97 ∷ []) × (length (characters b []) ≡ 1))
     by_test true e = inr ([], ap (λ q. q ∷ 97 ∷ []) (is_hyphen p e), refl)
     by_test false e = inl refl
 shaped p (k ∷ ks) =

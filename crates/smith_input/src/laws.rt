@@ -1,6 +1,7 @@
 //! Laws of reading. Each function does nothing: its contract is the law.
 
-ghost use Rattle.std.specs.Prelude.{◌≡◌, ℕ, ◌^◌, ◌<◌, ◌≤◌, ◌↔◌, List, [], ◌∷◌, ◌++◌, Bool, true, false, length, map, replicate, codes};
+ghost use Rattle.std.specs.Prelude.{◌≡◌, ℕ, ◌^◌, ◌<◌, ◌≤◌, ◌↔◌, Bool, true, false};
+ghost use Rattle.std.specs.Prelude.{List, [], ◌∷◌, ◌++◌, length, map, replicate, codes};
 ghost use Rattle.std.specs.List.{AllByRecursion};
 ghost use Rattle.std.specs.Str.{IsUtf8};
 ghost use Rattle.smith_input.specs.Reading.{Reads, More, IsDecided, IsReadAs, LeavesTail};
@@ -9,7 +10,8 @@ ghost use Rattle.smith_input.specs.Texts.{ReadsBytes, ReadsText};
 ghost use Rattle.smith_input.specs.Script.{script_bytes, script_text};
 ghost use Rattle.smith_input.specs.Kebab.{Kebab};
 ghost use Rattle.smith_input.specs.Names.{ReadsKebab, ReadsNew, IsMadeNew, IsMadeUnique, is_among};
-ghost use Rattle.smith_input.specs.NameScript.{is_within, IsReachable, IsReachableText, ReadsNewText, script_within, script_new, script_new_text};
+ghost use Rattle.smith_input.specs.NameScript.{is_within, IsReachable, IsReachableText, ReadsNewText};
+ghost use Rattle.smith_input.specs.NameScript.{script_within, script_new, script_new_text};
 ghost use Rattle.smith_input.specs.Script.{script_name};
 
 /// The script of a choice is read as that choice.
@@ -112,49 +114,50 @@ pub fn kebab_names_are_read()
         → IsReadAs (ReadsKebab max) (script_within max name) name }
 {}
 
-/// These names in kebab case are read, and no others.
+/// The names in kebab case of these lengths are read, and no others.
 pub fn kebab_names_are_exact()
     ensures { (max : ℕ) (name : List ℕ) → max < 2 ^ 64
         → ((bytes rest : List ℕ) × ReadsKebab max bytes name rest) ↔ (Kebab name × (is_within max name ≡ true)) }
 {}
 
-/// The script of a new name that comes from a text that can be read is read as that name.
+/// Where some name that can be read becomes a new name, the new name's script is read as it.
 pub fn new_names_are_read()
     ensures { (max : ℕ) (names : List (List ℕ)) (name : List ℕ) → max < 2 ^ 64 → Kebab name
         → is_among names name ≡ false → IsReachable max names name
         → IsReadAs (ReadsNew max names) (script_new max names name) name }
 {}
 
-/// These new names are read, and no others.
+/// These new names come, and no others.
 pub fn new_names_are_exact()
     ensures { (max : ℕ) (names : List (List ℕ)) (name : List ℕ) → max < 2 ^ 64
         → ((bytes rest : List ℕ) × ReadsNew max names bytes name rest)
-            ↔ (Kebab name × (is_among names name ≡ false) × IsReachable max names name) }
+        ↔ (Kebab name × (is_among names name ≡ false) × IsReachable max names name) }
 {}
 
-/// The script of a new text that comes from a text that can be read is read as that text.
+/// Where some text that can be read becomes a new text, the new text's script is read as it.
 pub fn new_texts_are_read()
     ensures { (max : ℕ) (names : List (List ℕ)) (name : List ℕ) → max < 2 ^ 64 → IsUtf8 name
         → is_among names name ≡ false → IsReachableText max names name
         → IsReadAs (ReadsNewText max names) (script_new_text max names name) name }
 {}
 
-/// These new texts are read, and no others.
+/// These new texts come, and no others.
 pub fn new_texts_are_exact()
     ensures { (max : ℕ) (names : List (List ℕ)) (name : List ℕ) → max < 2 ^ 64
         → ((bytes rest : List ℕ) × ReadsNewText max names bytes name rest)
-            ↔ (IsUtf8 name × (is_among names name ≡ false) × IsReachableText max names name) }
+        ↔ (IsUtf8 name × (is_among names name ≡ false) × IsReachableText max names name) }
 {}
 
 /// The scripts of new names and texts are bytes.
 pub fn new_name_scripts_are_bytes()
     ensures names { (max : ℕ) (names : List (List ℕ)) (name : List ℕ) → max < 2 ^ 64 → Kebab name
         → AllByRecursion (λ b. b < 256) (script_new max names name) }
-    ensures texts { (max : ℕ) (names : List (List ℕ)) (name : List ℕ) → max < 2 ^ 64 → AllByRecursion (λ b. b < 256) name
-        → IsReachableText max names name → AllByRecursion (λ b. b < 256) (script_new_text max names name) }
+    ensures texts { (max : ℕ) (names : List (List ℕ)) (name : List ℕ) → max < 2 ^ 64
+        → AllByRecursion (λ b. b < 256) name → IsReachableText max names name
+        → AllByRecursion (λ b. b < 256) (script_new_text max names name) }
 {}
 
-/// A name that is not too long is read as it stands.
+/// The script of a name of at most `max` bytes spells the name as it stands, whatever names there are.
 pub fn short_names_stay()
     ensures names { (max : ℕ) (names : List (List ℕ)) (name : List ℕ) → length name ≤ max
         → script_new max names name ≡ script_name max name }

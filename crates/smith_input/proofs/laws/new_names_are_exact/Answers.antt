@@ -4,6 +4,7 @@ use Rattle.smith_input.proofs.NameScript.{new_kebab_all, new_reachable, new_scri
 use Rattle.smith_input.proofs.laws.new_names_are_exact.Goals as goal
 
 pub returns : goal.returns
-returns c max names name h =
-    (λ (bytes, rest, r). (new_kebab_all r, r.unique.is_new, new_reachable r),
-    λ (k, fresh, made). (script_new max names name ++ [], [], new_script_read max names name [] h k made))
+returns c max names name h = (
+  λ (bytes, rest, r). (new_kebab_all r, r.unique.is_new, new_reachable r),
+  λ (k, fresh, made). (script_new max names name ++ [], [], new_script_read max names name [] h k made),
+)

@@ -4,6 +4,7 @@ use Rattle.smith_input.proofs.NameScript.{new_text_utf8, new_text_reachable, new
 use Rattle.smith_input.proofs.laws.new_texts_are_exact.Goals as goal
 
 pub returns : goal.returns
-returns c max names name h =
-    (λ (bytes, rest, r). (new_text_utf8 r, r.unique.is_new, new_text_reachable r),
-    λ (k, fresh, made). (script_new_text max names name ++ [], [], new_text_read max names name [] h k made))
+returns c max names name h = (
+  λ (bytes, rest, r). (new_text_utf8 r, r.unique.is_new, new_text_reachable r),
+  λ (k, fresh, made). (script_new_text max names name ++ [], [], new_text_read max names name [] h k made),
+)
