@@ -1,5 +1,6 @@
 //! Calls that measure, write and flatten, one by one.
 
+use crate::common::{check_bytes, check_holds};
 use smith_component::Unstructured;
 use smith_core::{ValType, s64_len, text_len, u32_len, u64_len, write_text};
 use smith_types::{
@@ -14,10 +15,10 @@ use std::test::Fail;
 #[test]
 fn lengths_of_numbers(rt: HostRuntime) {
     for (n, length) in [(0, 1), (127, 1), (128, 2), (16_383, 2), (u32::MAX, 5)] {
-        assert_eq!(rt; u32_len(n), length, "{n}");
+        check_holds(&rt, "of 32 bits", u32_len(n) == length);
     }
     for (n, length) in [(0, 1), (127, 1), (128, 2), (u64::MAX, 10)] {
-        assert_eq!(rt; u64_len(n), length, "{n}");
+        check_holds(&rt, "of 64 bits", u64_len(n) == length);
     }
     let signed = [
         (0, 1),
@@ -29,7 +30,7 @@ fn lengths_of_numbers(rt: HostRuntime) {
         (i64::MIN, 10),
     ];
     for (n, length) in signed {
-        assert_eq!(rt; s64_len(n), length, "{n}");
+        check_holds(&rt, "of 64 bits with a sign", s64_len(n) == length);
     }
 }
 
@@ -37,9 +38,9 @@ fn lengths_of_numbers(rt: HostRuntime) {
 fn a_text_is_written_after_its_length(rt: HostRuntime) -> Result<(), Fail> {
     let mut out = Vec::new(rt.alloc());
     write_text(&mut out, "a\u{e9}")?;
-    assert_eq!(rt; out.as_slice(), b"\x03a\xc3\xa9".as_slice());
-    assert_eq!(rt; text_len("a\u{e9}"), Some(4));
-    assert_eq!(rt; text_len(""), Some(1));
+    check_bytes(&rt, "a text", &out, b"\x03a\xc3\xa9");
+    check_holds(&rt, "a text", text_len("a\u{e9}") == Some(4));
+    check_holds(&rt, "no text", text_len("") == Some(1));
     Ok(())
 }
 
@@ -49,12 +50,12 @@ fn lengths_of_types(rt: HostRuntime) -> Result<(), Fail> {
     let list = DefType::Defined(DefinedType::List(ListType {
         elem_ty: ComponentValType::Indexed(64),
     }));
-    assert_eq!(rt; type_len(&list), Some(3));
+    check_holds(&rt, "a list type", type_len(&list) == Some(3));
     let module = ModuleType {
         defs: Vec::new(alloc),
     };
     let core = CoreType::Module(Rc::new(alloc, module)?);
-    assert_eq!(rt; core_type_len(&core), Some(2));
+    check_holds(&rt, "a module type", core_type_len(&core) == Some(2));
     Ok(())
 }
 
@@ -80,12 +81,12 @@ fn of_one(
 fn function_types_that_flatten(rt: HostRuntime) -> Result<(), Fail> {
     let alloc = rt.alloc();
     let texts = of_one(alloc, "a", PrimitiveValType::String, PrimitiveValType::Bool)?;
-    assert!(rt; !texts.is_scalar());
+    check_holds(&rt, "texts", !texts.is_scalar());
     let numbers = of_one(alloc, "a", PrimitiveValType::U32, PrimitiveValType::S64)?;
     assert!(rt; numbers.is_scalar());
     let core = canonical_abi_for(alloc, &numbers)?;
-    assert_eq!(rt; core.params.as_slice(), [ValType::I32].as_slice());
-    assert_eq!(rt; core.results.as_slice(), [ValType::I64].as_slice());
+    check_holds(&rt, "the parameters", core.params.as_slice() == [ValType::I32].as_slice());
+    check_holds(&rt, "the results", core.results.as_slice() == [ValType::I64].as_slice());
     Ok(())
 }
 
@@ -99,8 +100,8 @@ fn a_core_function_type_lifts(rt: HostRuntime) -> Result<(), Fail> {
     let mut u = Unstructured::new(b"\x01\x01\x00\x01\x07");
     let lifted = inverse_scalar_canonical_abi_for(alloc, &mut u, &core)?;
     let expected = of_one(alloc, "b", PrimitiveValType::Char, PrimitiveValType::U64)?;
-    assert!(rt; lifted == expected);
-    assert_eq!(rt; u.left(), b"\x07".as_slice());
+    check_holds(&rt, "a lift", lifted == expected);
+    check_bytes(&rt, "a lift", u.left(), b"\x07");
     Ok(())
 }
 
@@ -111,15 +112,13 @@ fn names_of_imports_are_new(rt: HostRuntime) -> Result<(), Fail> {
     let mut u = Unstructured::new(b"\x01\x00\x00\x01\x00\x01\x01\x00\x07");
     let mut names = ExternNames::new(alloc);
     let (name, url) = named_extern(alloc, &mut u, &mut names)?;
-    assert_eq!(rt; name.as_str(), "a");
-    assert!(rt; url.is_none());
+    check_bytes(&rt, "a name", name.as_bytes(), b"a");
+    check_holds(&rt, "no URL", url.is_none());
     let (name, url) = named_extern(alloc, &mut u, &mut names)?;
-    assert_eq!(rt; name.as_str(), "a1");
-    assert_eq!(rt;
-        url.as_ref().map(|url| url.as_str()),
-        Some("https://example.com/a")
-    );
-    assert_eq!(rt; names.len(), 2);
-    assert_eq!(rt; u.left(), b"\x07".as_slice());
+    check_bytes(&rt, "a name", name.as_bytes(), b"a1");
+    let url = url.as_ref().map_or("", |url| url.as_str());
+    check_bytes(&rt, "a URL", url.as_bytes(), b"https://example.com/a");
+    check_holds(&rt, "names", names.len() == 2);
+    check_bytes(&rt, "what is left", u.left(), b"\x07");
     Ok(())
 }

@@ -1,6 +1,6 @@
 //! What the tests share.
 
-use smith_component::{Config, Unstructured, generate};
+use smith_component::{Config, Error, Unstructured, generate};
 use smith_read::read;
 use std::process::Abort;
 use std::test::Fail;
@@ -32,6 +32,26 @@ pub struct Row<'a> {
     pub leaves: &'a [u8],
 }
 
+/// Of what has this name, the bytes are those that should come.
+pub fn check_bytes<R: Abort>(rt: &R, name: &str, found: &[u8], expected: &[u8]) {
+    assert_eq!(rt; found, expected, "{name}");
+}
+
+/// Of what has this name, the count is the one that should come.
+pub fn check_count<R: Abort>(rt: &R, name: &str, found: usize, expected: usize) {
+    assert_eq!(rt; found, expected, "{name}");
+}
+
+/// Of what has this name, that holds which should.
+pub fn check_holds<R: Abort>(rt: &R, name: &str, holds: bool) {
+    assert!(rt; holds, "{name}");
+}
+
+/// What has this name was refused for want of memory.
+pub fn check_wants_memory<R: Abort>(rt: &R, name: &str, error: Error) {
+    assert_eq!(rt; error, Error::OutOfMemory, "{name}");
+}
+
 /// Within these limits the row's input gives its bytes, of the length that is measured, and leaves what it leaves. The
 /// bytes are read back.
 pub fn check<R: Abort + AllocGlobal>(rt: &R, config: Config, row: &Row<'_>) -> Result<(), Fail> {
@@ -39,25 +59,12 @@ pub fn check<R: Abort + AllocGlobal>(rt: &R, config: Config, row: &Row<'_>) -> R
     let generated = generate(rt.alloc(), config, &mut u)?;
     let mut expected = Vec::from_slice(rt.alloc(), PREAMBLE)?;
     expected.extend_from_slice(row.gives)?;
-    assert_eq!(rt;
-        generated.bytes.as_slice(),
-        expected.as_slice(),
-        "{}",
-        row.name
-    );
-    assert_eq!(rt;
-        generated.component.measure()?,
-        expected.len() as u128,
-        "{}",
-        row.name
-    );
-    assert_eq!(rt; u.left(), row.leaves, "{}", row.name);
+    check_bytes(rt, row.name, &generated.bytes, &expected);
+    let measured = generated.component.measure()?;
+    check_holds(rt, row.name, measured == expected.len() as u128);
+    check_bytes(rt, row.name, u.left(), row.leaves);
     let sections = generated.component.sections().len();
-    assert_eq!(rt;
-        read(rt.alloc(), &generated.bytes)?.parts.len(),
-        sections,
-        "{}",
-        row.name
-    );
+    let read = read(rt.alloc(), &generated.bytes)?;
+    check_count(rt, row.name, read.parts.len(), sections);
     Ok(())
 }

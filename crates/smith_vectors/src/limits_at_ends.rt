@@ -1,7 +1,7 @@
 //! Limits at their ends, bytes that repeat, and inputs that are cut.
 
-use crate::common::{PREAMBLE, Row, check, small_limits};
-use crate::parts::check_equal_answers;
+use crate::common::{PREAMBLE, Row, check, check_bytes, check_holds, small_limits};
+use crate::parts::{check_equal, check_equal_answers};
 use smith_component::{Builder, Config, Error, Step, Unstructured, generate};
 use std::process::Abort;
 use std::test::Fail;
@@ -153,43 +153,41 @@ fn components_within_limits_at_their_ends(rt: HostRuntime) -> Result<(), Fail> {
     Ok(())
 }
 
+// These limits are refused, and nothing is read.
+fn check_inconsistent<R: Abort + AllocGlobal>(rt: &R, name: &str, config: Config) {
+    let input = b"\x03\x01\x00".as_slice();
+    let mut u = Unstructured::new(input);
+    let refused = generate(rt.alloc(), config, &mut u).err();
+    check_holds(rt, name, refused == Some(Error::InconsistentLimits));
+    check_bytes(rt, name, u.left(), input);
+}
+
+const PAST: usize = 4_294_967_296;
+
 #[test]
-fn each_limit_past_32_bits_is_refused(rt: HostRuntime) {
-    let past = 4_294_967_296;
-    let all = all_room();
-    let configs = [
-        Config {
-            max_types: past,
-            ..all
-        },
-        Config {
-            max_imports: past,
-            ..all
-        },
-        Config {
-            max_funcs: past,
-            ..all
-        },
-        Config {
-            max_modules: past,
-            ..all
-        },
-        Config {
-            max_components: past,
-            ..all
-        },
-        Config {
-            max_instances: past,
-            ..all
-        },
-    ];
-    for config in configs {
-        let input = b"\x03\x01\x00".as_slice();
-        let mut u = Unstructured::new(input);
-        let refused = generate(rt.alloc(), config, &mut u).err();
-        assert_eq!(rt; refused, Some(Error::InconsistentLimits), "{config:?}");
-        assert_eq!(rt; u.left(), input, "{config:?}");
-    }
+fn each_limit_of_types_past_32_bits_is_refused(rt: HostRuntime) {
+    let mut config = all_room();
+    config.max_types = PAST;
+    check_inconsistent(&rt, "types", config);
+    let mut config = all_room();
+    config.max_imports = PAST;
+    check_inconsistent(&rt, "imports", config);
+    let mut config = all_room();
+    config.max_funcs = PAST;
+    check_inconsistent(&rt, "functions", config);
+}
+
+#[test]
+fn each_limit_of_components_past_32_bits_is_refused(rt: HostRuntime) {
+    let mut config = all_room();
+    config.max_modules = PAST;
+    check_inconsistent(&rt, "modules", config);
+    let mut config = all_room();
+    config.max_components = PAST;
+    check_inconsistent(&rt, "components", config);
+    let mut config = all_room();
+    config.max_instances = PAST;
+    check_inconsistent(&rt, "instances", config);
 }
 
 // 63 components, each in the one before: 8 bytes of preamble in each, an id, and a length of one byte or of two.
@@ -220,7 +218,7 @@ fn check_turns<R: Abort + AllocGlobal>(
     check_equal_answers(rt, config, name, input)?;
     let mut u = Unstructured::new(input);
     let generated = generate(rt.alloc(), config, &mut u)?;
-    assert!(rt; generated.bytes.starts_with(PREAMBLE), "{name}: {input:?}");
+    check_holds(rt, name, generated.bytes.starts_with(PREAMBLE));
     let mut fresh = Unstructured::new(input);
     let mut builder = Builder::new(rt.alloc(), config)?;
     for _ in 0..input.len().saturating_add(config.max_nesting_depth.max(1)) {
@@ -228,17 +226,14 @@ fn check_turns<R: Abort + AllocGlobal>(
             Step::StillBuilding(next) => builder = next,
             Step::Finished(component) => {
                 let bytes = component.to_bytes(rt.alloc())?;
-                assert_eq!(rt;
-                    bytes.as_slice(),
-                    generated.bytes.as_slice(),
-                    "{name}: {input:?}"
-                );
-                assert_eq!(rt; fresh.left(), u.left(), "{name}: {input:?}");
+                check_equal(rt, name, input, &bytes, &generated.bytes);
+                check_equal(rt, name, input, fresh.left(), u.left());
                 return Ok(());
             }
         }
     }
-    panic!(rt; "{name}: {input:?} has too many turns")
+    check_holds(rt, name, false);
+    Ok(())
 }
 
 #[test]
@@ -286,7 +281,7 @@ fn check_cuts<R: Abort + AllocGlobal>(
         check_turns(rt, config, name, cut)?;
         let mut u = Unstructured::new(cut);
         generate(rt.alloc(), config, &mut u)?;
-        assert!(rt; u.is_empty(), "{name}: {cut:?}");
+        check_holds(rt, name, u.is_empty());
     }
     Ok(())
 }

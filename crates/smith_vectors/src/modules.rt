@@ -1,5 +1,6 @@
 //! Core modules of given parts, and their bytes, worked out by hand from the core specification's binary format.
 
+use crate::common::{check_bytes, check_holds};
 use smith_core::{
     Code, CompositeType, Config, DataSegment, DataSegmentKind, ElementKind, ElementSegment,
     Elements, EntityType, FuncType, GlobalType, Import, Instructions, MemoryType, Module,
@@ -85,16 +86,12 @@ pub fn check<R: Abort + AllocGlobal>(
     let Ok(module) = Module::from_parts(parts) else {
         panic!(rt; "{name}: the parts disagree");
     };
-    assert_eq!(rt;
-        module.to_bytes(rt.alloc())?.as_slice(),
-        expected.as_slice(),
-        "{name}"
-    );
-    assert_eq!(rt; module.measure()?, expected.len() as u64, "{name}");
+    check_bytes(rt, name, &module.to_bytes(rt.alloc())?, &expected);
+    check_holds(rt, name, module.measure()? == expected.len() as u64);
     let mut out = Vec::from_slice(rt.alloc(), b"\x2a")?;
     module.write(&mut out)?;
-    assert_eq!(rt; &out[1..], expected.as_slice(), "{name}");
-    assert_eq!(rt; out[0], 0x2a, "{name}");
+    check_bytes(rt, name, &out[1..], &expected);
+    check_holds(rt, name, out[0] == 0x2a);
     Ok(())
 }
 

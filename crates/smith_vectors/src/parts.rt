@@ -30,6 +30,11 @@ pub fn joined(alloc: Global, pieces: &[&[u8]], end: &[u8]) -> Result<Vec<u8>, Fa
     Ok(bytes)
 }
 
+/// Two answers to this input are equal.
+pub fn check_equal<R: Abort>(rt: &R, name: &str, input: &[u8], first: &[u8], second: &[u8]) {
+    assert_eq!(rt; first, second, "{name}: {input:?}");
+}
+
 /// Two readers of the same input give the same bytes, and leave the same.
 pub fn check_equal_answers<R: Abort + AllocGlobal>(
     rt: &R,
@@ -41,12 +46,8 @@ pub fn check_equal_answers<R: Abort + AllocGlobal>(
     let answer = generate(rt.alloc(), config, &mut u)?;
     let mut fresh = Unstructured::new(input);
     let again = generate(rt.alloc(), config, &mut fresh)?;
-    assert_eq!(rt;
-        answer.bytes.as_slice(),
-        again.bytes.as_slice(),
-        "{name}: {input:?}"
-    );
-    assert_eq!(rt; u.left(), fresh.left(), "{name}: {input:?}");
+    check_equal(rt, name, input, &answer.bytes, &again.bytes);
+    check_equal(rt, name, input, u.left(), fresh.left());
     Ok(())
 }
 

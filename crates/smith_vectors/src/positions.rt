@@ -1,5 +1,6 @@
 //! Function types of a scope that are equal.
 
+use crate::common::{check_count, check_holds, check_wants_memory};
 use crate::scarcity::{LOANS, Scarcity};
 use smith_input::Error;
 use smith_types::{ComponentValType, DefType, DefinedType, FuncType, PrimitiveValType, Scopes};
@@ -34,9 +35,10 @@ fn two_types(alloc: Global) -> Result<Scopes, Fail> {
 
 fn is_equal_at<R: Abort>(rt: &R, scopes: &Scopes, func: &FuncType, places: &[u32]) {
     let many = scopes.equal_len(func);
-    assert_eq!(rt; many, places.len());
+    check_count(rt, "equal function types", many, places.len());
     for k in 0..many {
-        assert_eq!(rt; Some(&scopes.equal_at(func, k)), places.get(k));
+        let place = scopes.equal_at(func, k);
+        check_holds(rt, "a place", places.get(k) == Some(&place));
     }
 }
 
@@ -72,15 +74,15 @@ fn equal_function_types_while_memory_wants(rt: HostRuntime) -> Result<(), Fail> 
         memory.lend();
         match push(&rt, &mut scopes, &third) {
             Ok(index) => {
-                assert_eq!(rt; index, 2);
+                check_holds(&rt, "an index", index == 2);
                 is_equal_at(&rt, &scopes, &func, &[0, 2]);
-                assert!(rt; 0 < refused);
+                check_holds(&rt, "a push", 0 < refused);
                 return Ok(());
             }
             Err(error) => {
-                assert_eq!(rt; error, Error::OutOfMemory);
+                check_wants_memory(&rt, "a push", error);
                 is_equal_at(&rt, &scopes, &func, &[0]);
-                assert_eq!(rt; scopes.own_len(), 2);
+                check_count(&rt, "types", scopes.own_len(), 2);
             }
         }
     }

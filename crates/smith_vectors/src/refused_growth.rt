@@ -1,7 +1,9 @@
 //! Growths that are refused: each call answers that memory is wanting and leaves what it should, until there is enough
 //! memory, and then it answers what it answers ever.
 
-use crate::common::{PREAMBLE, Row, small_limits};
+use crate::common::{
+    PREAMBLE, Row, check_bytes, check_count, check_holds, check_wants_memory, small_limits,
+};
 use crate::custom::section_of_127_bytes;
 use crate::modules::{ONE_FUNCTION, PAGE, one_function};
 use crate::scarcity::{LOANS, Scarcity};
@@ -67,6 +69,10 @@ const ROWS: &[Row<'static>] = &[
     },
 ];
 
+fn never_enough<R: Abort>(rt: &R, name: &str) -> Result<(), Fail> {
+    panic!(rt; "{name}: there is never enough")
+}
+
 // The row's answer comes behind refusals that leave a tail of its input.
 fn check_refusals<R: Abort + AllocGlobal>(rt: &R, row: &Row<'_>) -> Result<(), Fail> {
     let mut expected = Vec::from_slice(rt.alloc(), PREAMBLE)?;
@@ -77,23 +83,18 @@ fn check_refusals<R: Abort + AllocGlobal>(rt: &R, row: &Row<'_>) -> Result<(), F
         let mut u = Unstructured::new(row.input);
         match generate(rt.alloc(), small_limits(), &mut u) {
             Ok(generated) => {
-                assert_eq!(rt;
-                    generated.bytes.as_slice(),
-                    expected.as_slice(),
-                    "{}",
-                    row.name
-                );
-                assert_eq!(rt; u.left(), row.leaves, "{}", row.name);
-                assert!(rt; 0 < refused, "{}", row.name);
+                check_bytes(rt, row.name, &generated.bytes, &expected);
+                check_bytes(rt, row.name, u.left(), row.leaves);
+                check_holds(rt, row.name, 0 < refused);
                 return Ok(());
             }
             Err(error) => {
-                assert_eq!(rt; error, Error::OutOfMemory, "{}", row.name);
-                assert!(rt; row.input.ends_with(u.left()), "{}", row.name);
+                check_wants_memory(rt, row.name, error);
+                check_holds(rt, row.name, row.input.ends_with(u.left()));
             }
         }
     }
-    panic!(rt; "{}: there is never enough", row.name)
+    never_enough(rt, row.name)
 }
 
 #[test]
@@ -124,20 +125,20 @@ fn a_component_is_written_with_one_growth(rt: HostRuntime) -> Result<(), Fail> {
     let row = ROWS[0];
     let mut u = Unstructured::new(row.input);
     let generated = generate(rt.alloc(), small_limits(), &mut u)?;
-    assert_eq!(rt; generated.component.measure()?, 38);
+    check_holds(&rt, row.name, generated.component.measure()? == 38);
     let mut memory = Scarcity::new(rt.alloc())?;
     for refused in 0..LOANS {
         memory.lend();
         match generated.component.to_bytes(rt.alloc()) {
             Ok(bytes) => {
-                assert_eq!(rt; bytes.as_slice(), generated.bytes.as_slice());
-                assert_eq!(rt; refused, ONE_GROWTH);
+                check_bytes(&rt, row.name, &bytes, &generated.bytes);
+                check_count(&rt, row.name, refused, ONE_GROWTH);
                 return Ok(());
             }
-            Err(error) => assert_eq!(rt; error, Error::OutOfMemory),
+            Err(error) => check_wants_memory(&rt, row.name, error),
         }
     }
-    panic!(rt; "there is never enough")
+    never_enough(&rt, row.name)
 }
 
 #[test]
@@ -150,15 +151,15 @@ fn a_module_is_written_with_one_growth(rt: HostRuntime) -> Result<(), Fail> {
         memory.lend();
         match module.to_bytes(rt.alloc()) {
             Ok(bytes) => {
-                assert!(rt; bytes.ends_with(ONE_FUNCTION));
-                assert_eq!(rt; bytes.len(), 28);
-                assert_eq!(rt; refused, ONE_GROWTH);
+                check_holds(&rt, "a module", bytes.ends_with(ONE_FUNCTION));
+                check_count(&rt, "a module", bytes.len(), 28);
+                check_count(&rt, "a module", refused, ONE_GROWTH);
                 return Ok(());
             }
-            Err(error) => assert_eq!(rt; error, Error::OutOfMemory),
+            Err(error) => check_wants_memory(&rt, "a module", error),
         }
     }
-    panic!(rt; "there is never enough")
+    never_enough(&rt, "a module")
 }
 
 // What makes a name.
@@ -191,17 +192,17 @@ fn check_name<R: Abort + AllocGlobal>(
         memory.lend();
         match maker.make(rt.alloc(), names) {
             Ok(name) => {
-                assert_eq!(rt; name.as_str(), expected);
-                assert!(rt; 0 < refused, "{expected}");
+                check_bytes(rt, expected, name.as_bytes(), expected.as_bytes());
+                check_holds(rt, expected, 0 < refused);
                 return Ok(());
             }
             Err(error) => {
-                assert_eq!(rt; error, Error::OutOfMemory);
-                assert_eq!(rt; names.len(), before, "{expected}");
+                check_wants_memory(rt, expected, error);
+                check_count(rt, expected, names.len(), before);
             }
         }
     }
-    panic!(rt; "{expected}: there is never enough")
+    never_enough(rt, expected)
 }
 
 #[test]
@@ -249,21 +250,21 @@ fn a_type_while_memory_wants(rt: HostRuntime) -> Result<(), Fail> {
     for refused in 0..LOANS {
         memory.lend();
         let answer = component_type(&rt, &mut scopes);
-        assert_eq!(rt; scopes.depth(), 1);
-        assert_eq!(rt; scopes.own_len(), 1);
+        check_count(&rt, "scopes", scopes.depth(), 1);
+        check_count(&rt, "types", scopes.own_len(), 1);
         match answer {
             Ok(ty) => {
                 write_type(&mut out, &ty)?;
                 let expected =
                     b"\x41\x03\x02\x03\x02\x01\x00\x03\x00\x01b\x01\x00\x04\x00\x01c\x03\x00\x00";
-                assert_eq!(rt; out.as_slice(), expected.as_slice());
-                assert!(rt; 0 < refused);
+                check_bytes(&rt, "a component type", &out, expected);
+                check_holds(&rt, "a component type", 0 < refused);
                 return Ok(());
             }
-            Err(error) => assert_eq!(rt; error, Error::OutOfMemory),
+            Err(error) => check_wants_memory(&rt, "a component type", error),
         }
     }
-    panic!(rt; "there is never enough")
+    never_enough(&rt, "a component type")
 }
 
 // What can be written.
@@ -294,6 +295,7 @@ const LEAST_BLOCK: usize = 24;
 // The bytes come behind refusals that leave the buffer as it was.
 fn check_written<R: Abort + AllocGlobal>(
     rt: &R,
+    name: &str,
     written: &Written,
     expected: &[u8],
 ) -> Result<(), Fail> {
@@ -304,18 +306,18 @@ fn check_written<R: Abort + AllocGlobal>(
         memory.lend();
         match written.write(&mut out) {
             Ok(()) => {
-                assert!(rt; out.starts_with(&full));
-                assert!(rt; out.ends_with(expected), "{expected:?}");
-                assert!(rt; 0 < refused, "{expected:?}");
+                check_holds(rt, name, out.starts_with(&full));
+                check_holds(rt, name, out.ends_with(expected));
+                check_holds(rt, name, 0 < refused);
                 return Ok(());
             }
             Err(error) => {
-                assert_eq!(rt; error, Error::OutOfMemory, "{expected:?}");
-                assert_eq!(rt; out.as_slice(), full.as_slice(), "{expected:?}");
+                check_wants_memory(rt, name, error);
+                check_bytes(rt, name, &out, &full);
             }
         }
     }
-    panic!(rt; "{expected:?}: there is never enough")
+    never_enough(rt, name)
 }
 
 #[test]
@@ -326,13 +328,13 @@ fn types_are_written_while_memory_wants(rt: HostRuntime) -> Result<(), Fail> {
         result: None,
     };
     let ty = Written::Type(DefType::Func(Rc::new(alloc, func)?));
-    check_written(&rt, &ty, b"\x40\x00\x01\x00")?;
+    check_written(&rt, "a function type", &ty, b"\x40\x00\x01\x00")?;
     let core = smith_core::FuncType {
         params: Vec::new(alloc),
         results: Vec::new(alloc),
     };
     let core = Written::CoreType(CoreType::Func(Rc::new(alloc, core)?));
-    check_written(&rt, &core, b"\x60\x00\x00")
+    check_written(&rt, "a core function type", &core, b"\x60\x00\x00")
 }
 
 #[test]
@@ -342,9 +344,9 @@ fn imports_are_written_while_memory_wants(rt: HostRuntime) -> Result<(), Fail> {
         url: None,
         ty: ComponentTypeRef::Module(3),
     });
-    check_written(&rt, &import, b"\x00\x01a\x00\x11\x03")?;
+    check_written(&rt, "an import", &import, b"\x00\x01a\x00\x11\x03")?;
     let memory = Written::Entity(EntityType::Memory(PAGE));
-    check_written(&rt, &memory, b"\x02\x00\x01")
+    check_written(&rt, "a memory", &memory, b"\x02\x00\x01")
 }
 
 #[test]
@@ -352,5 +354,5 @@ fn modules_are_written_while_memory_wants(rt: HostRuntime) -> Result<(), Fail> {
     let Ok(module) = Module::from_parts(one_function(rt.alloc())?) else {
         panic!(rt; "the parts disagree");
     };
-    check_written(&rt, &Written::Module(module), ONE_FUNCTION)
+    check_written(&rt, "a module", &Written::Module(module), ONE_FUNCTION)
 }
