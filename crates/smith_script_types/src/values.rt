@@ -144,6 +144,20 @@ impl<'s> Scripted<Place<'s>> for (String, Option<ComponentValType>) {
     }
 }
 
+// A kind of type of values, and then its members, at least one and at most max.
+fn put_list<'s, T: Scripted<Place<'s>>>(
+    out: &mut Vec<u8>,
+    place: &Place<'s>,
+    kind: DefinedKind,
+    max: usize,
+    items: &[T],
+) -> Result<(), Unsaid>
+    ensures { Says result out.old out.new (script_kind kind ++ script_members (T.script place.now) 1 max items.now) }
+{
+    put_kind(out, kind)?;
+    put_members(out, place, 1, max, items)
+}
+
 /// A type of values behind what says that it is one.
 pub(crate) fn put_defined(
     out: &mut Vec<u8>,
@@ -157,30 +171,15 @@ pub(crate) fn put_defined(
             put_kind(out, DefinedKind::Primitive)?;
             put_primitive(out, *primitive)
         }
-        DefinedType::Record(record) => {
-            put_kind(out, DefinedKind::Record)?;
-            put_members(out, &place, 1, 100, &record.fields)
-        }
-        DefinedType::Variant(variant) => {
-            put_kind(out, DefinedKind::Variant)?;
-            put_members(out, &place, 1, 100, &variant.cases)
-        }
+        DefinedType::Record(ty) => put_list(out, &place, DefinedKind::Record, 100, &ty.fields),
+        DefinedType::Variant(ty) => put_list(out, &place, DefinedKind::Variant, 100, &ty.cases),
         DefinedType::List(list) => {
             put_kind(out, DefinedKind::List)?;
             put_value(out, place, list.elem_ty)
         }
-        DefinedType::Tuple(tuple) => {
-            put_kind(out, DefinedKind::Tuple)?;
-            put_members(out, &place, 1, 100, &tuple.fields)
-        }
-        DefinedType::Flags(flags) => {
-            put_kind(out, DefinedKind::Flags)?;
-            put_members(out, &place, 1, 32, &flags.fields)
-        }
-        DefinedType::Enum(labels) => {
-            put_kind(out, DefinedKind::Enum)?;
-            put_members(out, &place, 1, 100, &labels.variants)
-        }
+        DefinedType::Tuple(ty) => put_list(out, &place, DefinedKind::Tuple, 100, &ty.fields),
+        DefinedType::Flags(ty) => put_list(out, &place, DefinedKind::Flags, 32, &ty.fields),
+        DefinedType::Enum(ty) => put_list(out, &place, DefinedKind::Enum, 100, &ty.variants),
         DefinedType::Option(option) => {
             put_kind(out, DefinedKind::Option)?;
             put_value(out, place, option.inner_ty)
