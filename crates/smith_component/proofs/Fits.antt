@@ -106,3 +106,11 @@ sizes_keep config s u keep small = (subst (SmallTypes config) (sym keep.types) s
 
 pub own_sizes_swap : (config : Config) → Swaps (OwnSizes config)
 own_sizes_swap config u a b o = own_sizes-add config u (component b) (subst (IsSized config) (spaces-add u (component a)) o)
+
+-- It kept them before it grew.
+pub own_sizes_front : (config : Config) (t : Tree) (p : Part) → OwnSizes config (add t p) → OwnSizes config t
+own_sizes_front config t p o =
+    let e : Extends (spaces_of t) (spaces_of (add t p)) = extends-add t p in (
+      all_front _ (types_of t) e.types.0 (subst (SmallTypes config) e.types.1 o.0),
+      all_front _ (core_types_of t) e.core_types.0 (subst (SmallCoreTypes config) e.core_types.1 o.1),
+    )

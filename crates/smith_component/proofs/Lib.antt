@@ -3,6 +3,7 @@ pub mod CanonsRead
 pub mod CanonsSame
 pub mod Clear
 pub mod Decided
+pub mod Exact
 pub mod ExportsRead
 pub mod ExportsSame
 pub mod ExportsState
@@ -29,6 +30,7 @@ pub mod ReadsModule
 pub mod ReadsTypes
 pub mod Refusals
 pub mod Reproducible
+pub mod RunsSound
 pub mod RunsTo
 pub mod Script
 pub mod SectionValues

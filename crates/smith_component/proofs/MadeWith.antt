@@ -5,11 +5,13 @@ use Rattle.smith_format.specs.declared.config.Config.{Config}
 use Rattle.smith_syntax.specs.Entries.{Entry, plain}
 use Rattle.smith_syntax.specs.Scope.{Scope}
 use Rattle.smith_syntax.specs.TypeLimits.{EntryLimits, nesting}
-use Rattle.smith_syntax.specs.WellFormed.{FormedEntry, size}
+use Rattle.smith_syntax.specs.WellFormed.{FormedEntry}
 use Rattle.smith_types.specs.Made.{MadeWith}
-use Rattle.smith_types.proofs.MadeTypes.{made_tail, made_size, made_limits, made_nesting}
+use Rattle.smith_types.specs.Needs.{declaring, need}
+use Rattle.smith_types.proofs.MadeTypes.{made_tail, made_limits, made_nesting}
 use Rattle.smith_types.proofs.MadeFormed.{made_formed}
 use Rattle.smith_types.proofs.MadeSame.{made_same}
+use Rattle.smith_types.proofs.Needs.{declared_within, made_needs}
 
 module _ {config : Config} {own : Scope} {outer : List Scope} {fuel : ℕ} {b rest : List ℕ} {e : Entry} (m : MadeWith config own outer fuel b e rest) where
   pub made_with_tail : IsTail rest b
@@ -26,10 +28,15 @@ module _ {config : Config} {own : Scope} {outer : List Scope} {fuel : ℕ} {b re
       let n = made_nesting config own outer b fuel m.full rest m.left m.made in
       omega (arith, ap nesting m.shown, n)
 
-  pub made_with_size : size e ≤ fuel
-  made_with_size =
-      let n = made_size config own outer b fuel m.full rest m.left m.made in
-      omega (arith, ap size m.shown, n)
+  pub made_with_need : need e ≤ fuel
+  made_with_need =
+      let n = made_needs config own outer b fuel m.full rest m.left m.made in
+      omega (arith, ap need m.shown, n.enough)
+
+  pub made_with_declared : length (own ∷ outer) + declaring e ≤ max (length (own ∷ outer)) config.max_nesting_depth
+  made_with_declared =
+      let n = made_needs config own outer b fuel m.full rest m.left m.made in
+      omega (arith, ap declaring m.shown, declared_within (plain m.full) config (length (own ∷ outer)) n.nests)
 
   -- It is determined.
   pub made_with_same : {f : Entry} {other : List ℕ} → MadeWith config own outer fuel b f other → (e ≡ f) × (rest ≡ other)

@@ -16,6 +16,7 @@ use Rattle.smith_syntax.specs.Entries.{Entry, Signature, defined, function, comp
 use Rattle.smith_syntax.specs.Flat.{Flat, Flattens, flat_value}
 use Rattle.smith_syntax.specs.Scope.{Scope}
 use Rattle.smith_syntax.specs.WellFormed.{FormedEntry, FormedTypes, size}
+use Rattle.smith_types.specs.Needs.{need}
 use Rattle.smith_syntax.specs.declared.types.ComponentValType.{ComponentValType}
 use Rattle.smith_syntax.proofs.Flat.{flattens_params}
 use Rattle.smith_types.proofs.Lifting.{lifted_tail, lifted_flattens, lifted_formed}
@@ -255,7 +256,7 @@ module _ (config : Config) (stack : Open) (fits : function_count stack.inner ≤
       own_limits-add config s.before (canons s.funcs) o (fits_kept config (spaces_of s.before) spaces same (fits_of config s.before o))
       (record { imports = omega (arith, o.imports); functions = omega (arith, count); exports = omega (arith, o.exports) }) tt)
       (λ o. own_sizes-add config s.before (canons s.funcs) (sizes_keep config (spaces_of s.before) spaces same o)) refl refl refl
-      (λ h. omega (arith, h)) in
+      (λ h. omega (arith, h)) (λ h. omega (arith, h)) in
       part_sound config (with_inner stack s.before) (canons s.funcs) addable g.sound
 
   going_canon : (n : ℕ) (s : Growing) (c : Canon) → FormedCanon (spaces_at s) c → Going config stack n s → Going config stack (n + 1) (with_canon s c)
@@ -273,13 +274,13 @@ module _ (config : Config) (stack : Open) (fits : function_count stack.inner ≤
       let whole : Sound config u = section_sound n s h g in
       let few : length d.lowered.params ≤ 16 = all_at FewParams (types_of (grown s)) d.of.ty (function d.lowered)
       (inner_few stack.outer [] (grown s) whole.formed) d.of.is in
-      let small : size (function d.lowered) ≤ config.max_type_size =
-      all_at (λ e. size e ≤ config.max_type_size) (types_of (grown s)) d.of.ty (function d.lowered) (own_sizes_of config u whole).0 d.of.is in
+      let small : need (function d.lowered) ≤ config.max_type_size =
+      all_at (λ e. need e ≤ config.max_type_size) (types_of (grown s)) d.of.ty (function d.lowered) (own_sizes_of config u whole).0 d.of.is in
       let formed = d.formed few in
       record {
         sound =
             part_sound config u (types es)
-            (addable_types config u es (formed (scope_of (grown s)) (scopes_in stack.outer), tt) (omega (arith, d.room)) (tt, tt) (omega arith)
+            (addable_types config u es (formed (scope_of (grown s)) (scopes_in stack.outer), tt) (omega (arith, d.room)) (tt, tt) (omega arith) (omega arith)
             (omega (arith, small, d.small), tt))
             whole;
         formed = tt;

@@ -10,11 +10,12 @@ use Rattle.smith_syntax.specs.CoreLimits.{CoreLimits}
 use Rattle.smith_syntax.specs.Entries.{CoreEntry}
 use Rattle.smith_syntax.specs.Scope.{Scope, with_core_type, with_core_types}
 use Rattle.smith_syntax.specs.WellFormed.{FormedCores}
-use Rattle.smith_core_types.proofs.MadeCore.{made_core_tail, made_core_formed, made_core_limits, made_core_size, made_core_same}
+use Rattle.smith_core_types.proofs.MadeCore.{made_core_tail, made_core_formed, made_core_limits, made_core_same}
 use Rattle.smith_scopes.proofs.Stack.{with_core_none}
 use Rattle.smith_component.specs.Limits.{SmallCoreTypes}
 use Rattle.smith_component.specs.Script.{script_core_types}
 use Rattle.smith_types.specs.Script.{script_core, LastsCore}
+use Rattle.smith_types.proofs.Needs.{core_needed}
 use Rattle.smith_types.proofs.ScopedScript.{core_read}
 use Rattle.smith_component.specs.AddedSections.{ReadsCoreType, ReadsCoreTypes}
 
@@ -36,7 +37,7 @@ module _ (config : Config) where
   pub core_types_read_small : {max : ℕ} {own next : Scope} {b rest : List ℕ} {xs : List CoreEntry} → ReadsCoreTypes config max own b xs rest next
       → SmallCoreTypes config xs
   core_types_read_small {own = own} {next = next} {b = b} {rest = rest} {xs = xs} r =
-      loop_all _ (λ s c x q t (left, made, e). let z = made_core_size made in omega (arith, z)) 0 own b xs rest next r
+      loop_all _ (λ s c x q t (left, made, e). core_needed made) 0 own b xs rest next r
 
   pub core_types_read_tail : {max : ℕ} {own next : Scope} {b rest : List ℕ} {xs : List CoreEntry} → ReadsCoreTypes config max own b xs rest next → IsTail rest b
   core_types_read_tail {own = own} {next = next} {b = b} {rest = rest} {xs = xs} r =

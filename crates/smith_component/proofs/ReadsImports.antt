@@ -181,6 +181,7 @@ module _ (config : Config) (stack : Open) where
         no_component = refl;
         flat = refl;
         scopes = λ h. omega (arith, h);
+        declared = λ h. omega (arith, h);
       }
 
   -- Where functions can be imported, there is something to import.

@@ -13,11 +13,12 @@ use Rattle.smith_syntax.specs.TypeLimits.{EntryLimits, nesting}
 use Rattle.smith_syntax.specs.WellFormed.{FormedEntry, FormedTypes}
 use Rattle.smith_scopes.proofs.Stack.{with_none}
 use Rattle.smith_component.specs.Limits.{SmallTypes}
-use Rattle.smith_component.specs.Tree.{most_nested}
+use Rattle.smith_component.specs.Tree.{most_declaring, most_nested}
+use Rattle.smith_types.specs.Needs.{declaring}
 use Rattle.smith_component.specs.Script.{script_types}
 use Rattle.smith_component.specs.AddedSections.{ReadsType, ReadsTypes}
 use Rattle.smith_types.proofs.ScopedScript.{type_read}
-use Rattle.smith_component.proofs.MadeWith.{made_with_tail, made_with_formed, made_with_limits, made_with_nesting, made_with_size, made_with_same}
+use Rattle.smith_component.proofs.MadeWith.{made_with_tail, made_with_formed, made_with_limits, made_with_nesting, made_with_need, made_with_declared, made_with_same}
 
 module _ (config : Config) (outer : List Scope) where
   pub types_read_formed : {min max : ℕ} {own next : Scope} {b rest : List ℕ} {xs : List Entry} → ReadsTypes config outer min max own b xs rest next
@@ -32,7 +33,7 @@ module _ (config : Config) (outer : List Scope) where
   pub types_read_small : {min max : ℕ} {own next : Scope} {b rest : List ℕ} {xs : List Entry} → ReadsTypes config outer min max own b xs rest next
       → SmallTypes config xs
   types_read_small {own = own} {next = next} {b = b} {rest = rest} {xs = xs} r =
-      loop_all _ (λ s c x q t (made, e). made_with_size made) 0 own b xs rest next r
+      loop_all _ (λ s c x q t (made, e). made_with_need made) 0 own b xs rest next r
 
   pub types_read_limited : {min max : ℕ} {own next : Scope} {b rest : List ℕ} {xs : List Entry} → ReadsTypes config outer min max own b xs rest next
       → AllByRecursion (EntryLimits config) xs
@@ -52,6 +53,20 @@ module _ (config : Config) (outer : List Scope) where
       let each : AllByRecursion (λ x. nesting x ≤ deepest) xs =
       loop_all _ (λ s c x q t (made, e). omega (arith, made_with_nesting made)) 0 own b xs rest next r in
       omega (arith, most_nested_below deepest xs each)
+
+  -- Types that declare types no deeper than so, each.
+  most_declaring_below : (n : ℕ) (xs : List Entry) → AllByRecursion (λ x. declaring x ≤ n) xs → most_declaring xs ≤ n
+  most_declaring_below n [] h = omega arith
+  most_declaring_below n (x ∷ xs) h = omega (arith, h.0, most_declaring_below n xs h.1)
+
+  -- how deep the types stand that these declare
+  pub types_read_declared : {min room : ℕ} {own next : Scope} {b rest : List ℕ} {xs : List Entry} → ReadsTypes config outer min room own b xs rest next
+      → length outer + 1 + most_declaring xs ≤ max (length outer + 1) config.max_nesting_depth
+  types_read_declared {own = own} {next = next} {b = b} {rest = rest} {xs = xs} r =
+      let deepest : ℕ = max (length outer + 1) config.max_nesting_depth - (length outer + 1) in
+      let each : AllByRecursion (λ x. declaring x ≤ deepest) xs =
+      loop_all _ (λ s c x q t (made, e). omega (arith, made_with_declared made)) 0 own b xs rest next r in
+      omega (arith, most_declaring_below deepest xs each)
 
   pub types_read_tail : {min max : ℕ} {own next : Scope} {b rest : List ℕ} {xs : List Entry} → ReadsTypes config outer min max own b xs rest next
       → IsTail rest b

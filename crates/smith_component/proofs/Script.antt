@@ -17,7 +17,7 @@ use Rattle.smith_format.specs.declared.config.Config.{Config}
 use Rattle.smith_syntax.specs.Scope.{Scope}
 use Rattle.smith_component.specs.Spaces.{types_of}
 use Rattle.smith_component.specs.Tree.{Tree, ends, first, Part, custom, core_module, core_types, component, types, canons, imports, exports, add, join, inside}
-use Rattle.smith_component.specs.Tree.{component_count, no_depth, most_nested}
+use Rattle.smith_component.specs.Tree.{component_count, no_depth, most_declaring, most_nested}
 use Rattle.smith_component.specs.WellFormed.{Formed, FormedPart}
 use Rattle.smith_component.specs.Limits.{OwnLimits, Maxima, Minima}
 use Rattle.smith_component.specs.Open.{Open, root, items, items_with_input, offers, is_module_offered, is_component_offered, is_export_offered, tree_so_far}
@@ -78,7 +78,7 @@ exports_item config stack some =
     (is_export_offered config) Exports refl offered
 
 -- What has at most what it may have has so in front.
-limits_front : (t : Tree) (config : Config) (outer : List Tree) (a : Tree) → Maxima config (tree_so_far outer (join a t)) → Maxima config (tree_so_far outer a)
+pub limits_front : (t : Tree) (config : Config) (outer : List Tree) (a : Tree) → Maxima config (tree_so_far outer (join a t)) → Maxima config (tree_so_far outer a)
 limits_front ends config outer a l = subst (λ x. Maxima config (tree_so_far outer x)) (join-ends a) l
 limits_front (first p t) config outer a l =
     let m = limits_front t config outer (add a p) (subst (λ x. Maxima config (tree_so_far outer x)) (sym (join-add a p t)) l) in
@@ -89,6 +89,7 @@ limits_front (first p t) config outer a l =
       instances = omega (arith, m.instances, instance_count-so_far outer a p);
       depth = omega (arith, m.depth, depth-so_far no_depth outer a p);
       scopes = omega (arith, m.scopes, depth-so_far most_nested outer a p);
+      declared = omega (arith, m.declared, depth-so_far most_declaring outer a p);
     }
 
 -- A component that the limits allow is offered.
@@ -142,7 +143,7 @@ module _ (config : Config) (outer : List Tree) (before : Tree) (next : Next) (le
       )
 
 -- what holds behind one part more
-limits_past : (p : Part) (t : Tree) (config : Config) (outer : List Tree) (before : Tree) → Maxima config (tree_so_far outer (join before (first p t)))
+pub limits_past : (p : Part) (t : Tree) (config : Config) (outer : List Tree) (before : Tree) → Maxima config (tree_so_far outer (join before (first p t)))
     → Maxima config (tree_so_far outer (join (add before p) t))
 limits_past p t config outer before l = subst (λ x. Maxima config (tree_so_far outer x)) (sym (join-add before p t)) l
 

@@ -12,7 +12,7 @@ use Rattle.smith_component.specs.Spaces.{core_types_of, spaces_of, types_of}
 use Rattle.smith_component.specs.Tree.{Tree, ends, Part, custom, core_module, core_types, component, types, canons, imports, exports, add, inside, names_in}
 use Rattle.smith_component.specs.Tree.{components_in}
 use Rattle.smith_component.specs.Tree.{modules_in, imported_modules_in, imported_components_in, imported_instances_in, anywhere_in, depth_in, no_depth}
-use Rattle.smith_component.specs.Tree.{most_nested, scope_depth_in, module_count, component_count, instance_count}
+use Rattle.smith_component.specs.Tree.{declared_depth_in, most_declaring, most_nested, scope_depth_in, module_count, component_count, instance_count}
 use Rattle.smith_component.specs.Counted.{count_of, maximum_of}
 use Rattle.smith_component.specs.ImportsState.{Totalled}
 use Rattle.smith_component.specs.Open.{Open, tree_so_far, is_module_offered, is_component_offered, scopes_in, scopes_from, with_inner}
@@ -105,6 +105,8 @@ part_sound config stack p a s =
         instances = omega (arith, instance_count-so_far outer inner p, a.instances s.maxima.instances, insts);
         depth = omega (arith, depth-so_far no_depth outer inner p, deep, s.maxima.depth, a.flat);
         scopes = omega (arith, depth-so_far most_nested outer inner p, s.maxima.scopes, a.scopes (omega (arith, deep, s.maxima.depth)));
+        declared =
+            omega (arith, depth-so_far most_declaring outer inner p, s.maxima.declared, a.declared (omega (arith, deep, s.maxima.depth)));
       };
       minima = subst (λ x. AllByRecursion (Minima config) (flat_map inside outer ++ x)) (sym same) s.minima;
       sized =
@@ -177,6 +179,7 @@ sound_open config outer inner deep few s =
       instances = omega (arith, instance_count-so_far outer inner (component ends), s.maxima.instances);
       depth = omega (arith, depth-so_far no_depth outer inner (component ends), s.maxima.depth);
       scopes = omega (arith, depth-so_far most_nested outer inner (component ends), s.maxima.scopes);
+      declared = omega (arith, deep, depth-so_far most_declaring outer inner (component ends), s.maxima.declared);
     } in
     record {
       consistent = s.consistent;
@@ -194,8 +197,8 @@ pub addable_bare : (config : Config) (stack : Open) (p : Part) → FormedPart p 
     → (module_count (tree_so_far stack.outer stack.inner) ≤ config.max_modules
     → module_count (tree_so_far stack.outer stack.inner) + (length (modules_in p) + length (imported_modules_in p)) ≤ config.max_modules)
     → imported_components_in p ≡ [] → imported_instances_in p ≡ [] → anywhere_in components_in p ≡ [] → depth_in p ≡ 1 → scope_depth_in p ≡ 1
-    → IsAddable config stack p
-addable_bare config stack p f q ns ms cs is none flat low = record {
+    → declared_depth_in p ≡ 1 → IsAddable config stack p
+addable_bare config stack p f q ns ms cs is none flat low level = record {
   formed = f;
   own = λ o. own_limits-add config stack.inner p o (subst (Fits config) (sym (q.spaces (spaces_of stack.inner))) (fits_of config stack.inner o))
       (no_counted config stack.inner p q.imports q.canons q.exports o) ns;
@@ -206,27 +209,29 @@ addable_bare config stack p f q ns ms cs is none flat low = record {
   no_component = none;
   flat = flat;
   scopes = λ h. omega (arith, h, low);
+  declared = λ h. omega (arith, h, level);
 }
 
 pub addable_custom : (config : Config) (stack : Open) (name contents : List ℕ) → length name ≤ 1000 → IsAddable config stack (custom name contents)
 addable_custom config stack name contents short =
     addable_bare config stack (custom name contents) tt
     (record { spaces = λ s. refl; imports = refl; canons = refl; exports = refl }) (short, tt) (λ h. omega (arith, h))
-    refl refl refl refl refl
+    refl refl refl refl refl refl
 
 pub addable_module : (config : Config) (stack : Open) (text : List ℕ) → module_count (tree_so_far stack.outer stack.inner) < config.max_modules
     → IsAddable config stack (core_module text)
 addable_module config stack text few =
     addable_bare config stack (core_module text) tt
-    (record { spaces = λ s. refl; imports = refl; canons = refl; exports = refl }) tt (λ h. omega (arith, few)) refl refl refl refl refl
+    (record { spaces = λ s. refl; imports = refl; canons = refl; exports = refl }) tt (λ h. omega (arith, few)) refl refl refl refl refl refl
 
 -- A part without modules, components and instances, which counts in its component alone.
 pub addable_level : (config : Config) (stack : Open) (p : Part) → FormedPart p (scopes_in stack.outer) stack.inner
     → (OwnLimits config stack.inner → OwnLimits config (add stack.inner p)) → (OwnSizes config stack.inner → OwnSizes config (add stack.inner p))
     → length (modules_in p) + (length (imported_modules_in p) + (length (imported_components_in p) + length (imported_instances_in p))) ≡ 0
     → anywhere_in components_in p ≡ [] → depth_in p ≡ 1
-    → (length stack.outer + 1 ≤ max_depth config → length stack.outer + scope_depth_in p ≤ max_depth config + 1) → IsAddable config stack p
-addable_level config stack p formed own sizes count none flat scopes = record {
+    → (length stack.outer + 1 ≤ max_depth config → length stack.outer + scope_depth_in p ≤ max_depth config + 1)
+    → (length stack.outer + 1 ≤ max_depth config → length stack.outer + declared_depth_in p ≤ max_depth config) → IsAddable config stack p
+addable_level config stack p formed own sizes count none flat scopes declared = record {
   formed = formed;
   own = own;
   sizes = sizes;
@@ -236,14 +241,16 @@ addable_level config stack p formed own sizes count none flat scopes = record {
   no_component = none;
   flat = flat;
   scopes = scopes;
+  declared = declared;
 }
 
 -- Types that find room.
 pub addable_types : (config : Config) (stack : Open) (es : List Entry) → FormedPart (types es) (scopes_in stack.outer) stack.inner
     → length (types_of stack.inner) + length es ≤ config.max_types
     → AllByRecursion (EntryLimits config) es → length stack.outer + 1 + most_nested es ≤ max (length stack.outer + 2) config.max_nesting_depth
+    → length stack.outer + 1 + most_declaring es ≤ max (length stack.outer + 1) config.max_nesting_depth
     → SmallTypes config es → IsAddable config stack (types es)
-addable_types config stack es f room limited nested small =
+addable_types config stack es f room limited nested declared small =
     addable_level config stack (types es) f (λ o.
     own_limits-add config stack.inner (types es) o (record {
       types = omega (arith, room, length-append (types_of stack.inner) es);
@@ -252,7 +259,7 @@ addable_types config stack es f room limited nested small =
       within_core_types = o.within_core_types;
     }) (no_counted config stack.inner (types es) refl refl refl o) tt)
     (λ o. own_sizes-add config stack.inner (types es) (all_both _ (types_of stack.inner) es o.0 small, o.1)) refl refl refl
-    (λ h. omega (arith, h, nested))
+    (λ h. omega (arith, h, nested)) (λ h. omega (arith, h, declared))
 
 -- Core types that find room.
 pub addable_core_types : (config : Config) (stack : Open) (es : List CoreEntry) → FormedPart (core_types es) (scopes_in stack.outer) stack.inner
@@ -267,7 +274,7 @@ addable_core_types config stack es f room limited small =
       within_core_types = all_both _ (core_types_of stack.inner) es o.within_core_types limited;
     }) (no_counted config stack.inner (core_types es) refl refl refl o) tt)
     (λ o. own_sizes-add config stack.inner (core_types es) (o.0, all_both _ (core_types_of stack.inner) es o.1 small)) refl refl refl
-    (λ h. omega (arith, h))
+    (λ h. omega (arith, h)) (λ h. omega (arith, h))
 
 own_length : {A : Type 0} (f : Part → List A) (p : Part) → anywhere_in components_in p ≡ [] → length (anywhere_in f p) ≡ length (f p)
 own_length f p none = ap length (in_own f p none)

@@ -11,7 +11,7 @@ use Rattle.smith_component.specs.Open.{Open, tree_so_far, scopes_in}
 use Rattle.smith_component.specs.Spaces.{Spaces, after_part}
 use Rattle.smith_component.specs.Tree.{Tree, Part, add, inside, module_count, component_count, instance_count, imports_in, modules_in, imported_modules_in}
 use Rattle.smith_component.specs.Tree.{imported_components_in, imported_instances_in, anywhere_in, canons_in, components_in, depth_in, exports_in}
-use Rattle.smith_component.specs.Tree.{scope_depth_in}
+use Rattle.smith_component.specs.Tree.{declared_depth_in, scope_depth_in}
 use Rattle.smith_component.specs.WellFormed.{WellFormed, FormedPart, scope_of}
 use Rattle.smith_component.specs.declared.builder.totals.TreeTotals.{TreeTotals}
 
@@ -54,6 +54,7 @@ pub record IsAddable (config : Config) (stack : Open) (p : Part) : Type 0 where
   pub no_component : anywhere_in components_in p ≡ []
   pub flat : depth_in p ≡ 1
   pub scopes : length stack.outer + 1 ≤ max_depth config → length stack.outer + scope_depth_in p ≤ max_depth config + 1
+  pub declared : length stack.outer + 1 ≤ max_depth config → length stack.outer + declared_depth_in p ≤ max_depth config
 
 -- A part that leaves the index spaces as they are, and adds nothing that is counted in its component.
 pub record IsQuiet (p : Part) : Type 0 where

@@ -5,6 +5,7 @@ use Rattle.smith_syntax.specs.Entries.{Entry, CoreEntry, ImportEntry}
 use Rattle.smith_syntax.specs.TypeLimits.{nesting}
 use Rattle.smith_syntax.specs.declared.deftype.ComponentTypeRef.{ComponentTypeRef}
 use Rattle.smith_syntax.specs.declared.deftype.ComponentTypeRef.TheVariants as to
+use Rattle.smith_types.specs.Needs.{declaring}
 
 -- A canonical function (Explainer.md, canonical definitions): the core function of that index lifted to the type of that index, or
 -- the component function of that index lowered.
@@ -244,3 +245,14 @@ scope_depth t = depth_by most_nested t
 
 abbrev pub scope_depth_in : Part → ℕ
 scope_depth_in p = depth_by_in most_nested p
+
+-- how deep components stand, and the types that component types and instance types declare, each one below the scope that declares it
+abbrev pub most_declaring : List Entry → ℕ
+most_declaring [] = 0
+most_declaring (t ∷ ts) = max (declaring t) (most_declaring ts)
+
+abbrev pub declared_depth : Tree → ℕ
+declared_depth t = depth_by most_declaring t
+
+abbrev pub declared_depth_in : Part → ℕ
+declared_depth_in p = depth_by_in most_declaring p

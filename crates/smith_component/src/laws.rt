@@ -13,14 +13,16 @@ ghost use Rattle.smith_input.specs.declared.error.Error.{Error};
 ghost use Rattle.smith_input.specs.declared.error.Error.TheVariants.{OutOfMemory};
 ghost use Rattle.smith_component.specs.Grammar.{Spells, component_text};
 ghost use Rattle.smith_component.specs.Refusals.{IsGenerateRefusal};
-ghost use Rattle.smith_component.specs.Limits.{Minima};
+ghost use Rattle.smith_component.specs.Limits.{Limits, Minima, Sized};
 ghost use Rattle.smith_component.specs.Open.{Open, is_component_offered};
 ghost use Rattle.smith_component.specs.Script.{Continues, Within, item_of, script, script_item, script_part};
 ghost use Rattle.smith_component.specs.Shown.{shown_module};
 ghost use Rattle.smith_component.specs.TooLong.{PartTooLong, TreeTooLong};
 ghost use Rattle.smith_component.specs.Tree.{Part, Tree, core_module};
 ghost use Rattle.smith_component.specs.Turn.{Closes, Next, Turn, with_open, with_part};
+ghost use Rattle.smith_component.specs.Readable.{IsReadable};
 ghost use Rattle.smith_component.specs.Runs.{RunsTo};
+ghost use Rattle.smith_component.specs.WellFormed.{WellFormed};
 ghost use Rattle.smith_component.specs.declared.item.Item.TheVariants.{Component as ItemComponent, Finish};
 
 /// No bytes have two readings.
@@ -47,10 +49,29 @@ pub fn runs_are_decided()
     ensures { (config : Config) → IsDecided (RunsTo config) }
 {}
 
+/// A run over any input leads to a component that is well formed and within the limits, within what its types may need.
+pub fn runs_are_sound()
+    ensures { (config : Config) (input : List ℕ) (tree : Tree) (left : List ℕ) → IsConsistent config
+        → RunsTo config input tree left → WellFormed tree × Limits config tree × Sized config tree }
+{}
+
 /// The script of a plan, followed by any bytes, leads to that plan, and leaves those bytes.
 pub fn plans_are_read()
     ensures { (config : Config) (plan : Tree) → IsConsistent config → Within config plan
         → IsReadAs (RunsTo config) (script config plan) plan }
+{}
+
+/// Of the components that can be read, exactly those come, on some input, that are well formed and within the limits.
+pub fn components_are_exact()
+    ensures { (config : Config) (tree : Tree) → IsConsistent config → IsReadable config tree
+        → ((input left : List ℕ) × RunsTo config input tree left)
+        ↔ (WellFormed tree × Limits config tree × Sized config tree) }
+{}
+
+/// A component that can be read, and is well formed and within the limits, is a plan, so that it has a script.
+pub fn readable_components_are_plans()
+    ensures { (config : Config) (tree : Tree) → IsReadable config tree → WellFormed tree → Limits config tree
+        → Sized config tree → Within config tree }
 {}
 
 /// Where a run leads to a component that has bytes, nothing is refused but for want of memory.

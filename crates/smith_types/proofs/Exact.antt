@@ -31,7 +31,7 @@ defined_lasts (enum_type ns) own fuel f b n = (b, at_least (length ns) fuel f.1 
 defined_lasts (option_type v) own fuel f b n = tt
 defined_lasts (result_type ok err) own fuel f b n = tt
 
-core_lasts : (e : CoreEntry) (fuel : ℕ) → BriefCore e → core_need e ≤ fuel → LastsCore fuel e
+pub core_lasts : (e : CoreEntry) (fuel : ℕ) → BriefCore e → core_need e ≤ fuel → LastsCore fuel e
 core_lasts (core_func f) fuel b n = n
 core_lasts (core_module ds) fuel b n = absurd b
 
@@ -42,7 +42,7 @@ scoped : (a fuel : ℕ) → max 2 (a + 1) ≤ fuel → (2 ≤ fuel) × (a ≤ fu
 scoped a fuel h = (omega (arith, h), omega (arith, h))
 
 mutual
-  lasts : (e : Entry) (config : Config) (own : Scope) (outer : List Scope) (scopes fuel : ℕ) → FormedEntry e own outer → Brief e → Nests e config scopes
+  pub lasts : (e : Entry) (config : Config) (own : Scope) (outer : List Scope) (scopes fuel : ℕ) → FormedEntry e own outer → Brief e → Nests e config scopes
       → need e ≤ fuel → Lasts e config scopes fuel
   lasts (defined t) config own outer scopes fuel f b x n = defined_lasts t own fuel f b n
   lasts (function s) config own outer scopes fuel f b x n = (b, n)

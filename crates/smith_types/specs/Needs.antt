@@ -56,3 +56,23 @@ abbrev mutual
   pub DeclsNest : Decls → Config → ℕ → Type 0
   DeclsNest no_decls config scopes = Unit {0}
   DeclsNest (then_decls d ds) config scopes = DeclNests d config scopes × DeclsNest ds config scopes
+
+-- How deep below the innermost scope there is those types stand that a type declares: each one below the scope in which it is declared.
+abbrev mutual
+  pub declaring : Entry → ℕ
+  declaring (defined t) = 0
+  declaring (function s) = 0
+  declaring (component_type ds) = decls_declaring ds
+  declaring (instance_type ds) = decls_declaring ds
+
+  pub decl_declaring : Decl → ℕ
+  decl_declaring (core_type_decl t k) = 0
+  decl_declaring (type_decl e) = max 2 (declaring e + 1)
+  decl_declaring (type_alias count i k) = 0
+  decl_declaring (core_type_alias count i k) = 0
+  decl_declaring (import_decl name n r) = 0
+  decl_declaring (export_decl name n r) = 0
+
+  pub decls_declaring : Decls → ℕ
+  decls_declaring no_decls = 0
+  decls_declaring (then_decls d ds) = max (decl_declaring d) (decls_declaring ds)

@@ -8,7 +8,7 @@ ghost use Rattle.smith_input.specs.Script.{script_among};
 ghost use Rattle.smith_syntax.specs.Entries.{Entry, FullEntry, plain};
 ghost use Rattle.smith_syntax.specs.Scope.{Scope, is_component, is_core_module, is_func, is_instance, places};
 ghost use Rattle.smith_syntax.specs.TypeLimits.{EntryLimits};
-ghost use Rattle.smith_syntax.specs.WellFormed.{FormedEntry, FormedRef};
+ghost use Rattle.smith_syntax.specs.WellFormed.{FormedEntry, FormedRef, size};
 ghost use Rattle.smith_syntax.specs.declared.deftype.ComponentTypeRef.TheVariants.{Func};
 ghost use Rattle.smith_types.specs.Brief.{Brief};
 ghost use Rattle.smith_types.specs.Made.{Made, MadeWith};
@@ -51,6 +51,11 @@ pub fn answers_need_no_more()
         (rest : List ℕ) (left : ℕ)
         → Made config own outer bytes fuel made rest left
         → (need (plain made) ≤ fuel) × Nests (plain made) config (length (own ∷ outer)) }
+{}
+
+/// No type is larger than the fuel that it needs.
+pub fn sizes_are_needed()
+    ensures { (e : Entry) → size e ≤ need e }
 {}
 
 /// A type with short names and no module types, well formed in its scopes and within the limits, is read on some input

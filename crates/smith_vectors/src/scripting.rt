@@ -222,6 +222,55 @@ fn components_without_a_script(rt: HostRuntime) -> Result<(), Fail> {
     )
 }
 
+// A type within a component type in the outermost component stands at depth 3, and a record of two fields needs 4.
+fn limits_of_types(max_nesting_depth: usize, max_type_size: u32) -> Config {
+    Config {
+        max_nesting_depth,
+        max_type_size,
+        ..small_limits()
+    }
+}
+
+const DECLARED_TYPE: Parts<'static> = Parts {
+    name: "a component type that declares a type",
+    input: &[],
+    gives: &[b"\x07\x05\x01\x41\x01\x01\x7d"],
+};
+
+const TWO_FIELDS: Parts<'static> = Parts {
+    name: "a record of two fields",
+    input: &[],
+    gives: &[b"\x07\x09\x01\x72\x02\x01a\x7f\x01b\x7f"],
+};
+
+// That component comes within none of these limits, though no section by itself passes one.
+fn check_outside<R: Abort + AllocGlobal>(
+    rt: &R,
+    limits: Config,
+    parts: Parts<'_>,
+) -> Result<(), Fail> {
+    let row = NoScript {
+        name: parts.name,
+        limits,
+        gives: parts.gives,
+        part: &[],
+        reason: Reason::Unlike,
+    };
+    check_faults(rt, &[row])
+}
+
+#[test]
+fn components_just_inside_the_limits(rt: HostRuntime) -> Result<(), Fail> {
+    check_returns(&rt, limits_of_types(3, 10), &[DECLARED_TYPE])?;
+    check_returns(&rt, limits_of_types(2, 4), &[TWO_FIELDS])
+}
+
+#[test]
+fn components_just_outside_the_limits(rt: HostRuntime) -> Result<(), Fail> {
+    check_outside(&rt, limits_of_types(2, 10), DECLARED_TYPE)?;
+    check_outside(&rt, limits_of_types(2, 3), TWO_FIELDS)
+}
+
 #[test]
 fn limits_that_do_not_fit_together_have_no_scripts(rt: HostRuntime) -> Result<(), Fail> {
     let limits = Config {
