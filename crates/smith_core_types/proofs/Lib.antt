@@ -5,3 +5,8 @@ pub mod ModuleFronts
 pub mod ModuleTypes
 pub mod Names
 pub mod MadeCoreSame
+pub mod ModuleScript
+pub mod ModuleSaid
+pub mod FrontFound
+pub mod FrontScript
+pub mod CoreScript

@@ -35,8 +35,10 @@ use Rattle.smith_format.proofs.CoreReading.{table_unique, tag_unique}
 use Rattle.smith_format.proofs.CoreScript.{function_read}
 use Rattle.smith_syntax.specs.CoreLimits.{ModuleLimits, CoreLimits}
 use Rattle.smith_syntax.specs.Entries.{CoreEntry, ModuleDecl, core_func, core_module, imports, declares, aliases, exports}
-use Rattle.smith_core_types.specs.MadeCore.{Declared, undeclared, with_decl, with_front, with_fuel, indexes, kind_offers, entity_kinds, ReadsEntityOf}
-use Rattle.smith_core_types.specs.MadeCore.{ReadsEntity, ReadsNewText, ReadsImportNames, ReadsExportName, alias_choices, item_offers, module_items, ReadsDeclOf}
+use Rattle.smith_core_types.specs.MadeCore.{with_fuel, ReadsEntityOf}
+use Rattle.smith_core_types.specs.Offers.{Declared, undeclared, with_decl, with_front, indexes, kind_offers, entity_kinds}
+use Rattle.smith_core_types.specs.MadeCore.{ReadsEntity, ReadsNewText, ReadsImportNames, ReadsExportName, ReadsDeclOf}
+use Rattle.smith_core_types.specs.Offers.{alias_choices, item_offers, module_items}
 use Rattle.smith_core_types.specs.MadeCore.{ReadsDecl}
 use Rattle.smith_core_types.specs.MadeCore.{ModuleEnds, no_fuel, no_import, no_export, ReadsLine, not_allowed, declined, taken, MemoryLine, ReadsFunctionLine}
 use Rattle.smith_core_types.specs.MadeCore.{ReadsFront, MadeModule, MadeCore, spent_core, of_function, of_module}
@@ -544,7 +546,7 @@ offered_few false xs = omega arith
 few_append : {A : Type 0} (a b c d : List A) → length a ≤ 2 → length b ≤ 2 → length c ≤ 1 → length d ≤ 2 → length (a ++ b ++ c ++ d) ≤ 2 ^ 64
 few_append a b c d h i j k = omega (arith, length-append (a ++ b ++ c) d, length-append (a ++ b) c, length-append a b, h, i, j, k)
 
-few_values : (config : Config) → length (configured config) ≤ 2 ^ 64
+pub few_values : (config : Config) → length (configured config) ≤ 2 ^ 64
 few_values config =
     few_append (I32 ∷ I64 ∷ []) (offered config.allow_floats (F32 ∷ F64 ∷ [])) (offered config.simd_enabled (V128 ∷ []))
     (offered config.reference_types_enabled (Ref FuncRef ∷ Ref ExternRef ∷ []))

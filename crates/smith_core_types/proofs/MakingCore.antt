@@ -18,8 +18,9 @@ use Rattle.smith_format.specs.declared.types.EntityType.{EntityType}
 use Rattle.smith_input.specs.Choices.{ReadsAmong}
 use Rattle.smith_input.specs.Names.{is_among}
 use Rattle.smith_syntax.specs.Entries.{CoreEntry, ModuleDecl, aliases, core_func, core_module}
-use Rattle.smith_core_types.specs.MadeCore.{indexes, module_items, no_export, no_import}
-use Rattle.smith_core_types.specs.MadeCore.{Declared as SoFar}
+use Rattle.smith_core_types.specs.MadeCore.{no_export, no_import}
+use Rattle.smith_core_types.specs.Offers.{indexes, module_items}
+use Rattle.smith_core_types.specs.Offers.{Declared as SoFar}
 use Rattle.smith_core_types.specs.MakingCore.{AddsDecl, DeclTurn, choices_among, names_taken}
 use Rattle.smith_syntax.specs.ModuleTypes.{adds, aliased, export_names, module_export_of, module_import_of, names_from}
 use Rattle.smith_syntax.specs.Scope.{Scope, is_core_func, own_of, places}

@@ -13,22 +13,23 @@ use Rattle.smith_format.specs.declared.types.MemoryType.{MemoryType}
 use Rattle.smith_format.proofs.CoreReading.{limits_formed}
 use Rattle.smith_syntax.specs.Entries.{ModuleDecl, declares, exports}
 use Rattle.smith_scopes.proofs.Plain.{both_true}
-use Rattle.smith_core_types.specs.MadeCore.{Declared, undeclared, with_front, allows_function, allows_type, ReadsLine, not_allowed, declined, taken, MemoryLine}
+use Rattle.smith_core_types.specs.MadeCore.{ReadsLine, not_allowed, declined, taken, MemoryLine}
+use Rattle.smith_core_types.specs.Offers.{Declared, undeclared, with_front, allows_function, allows_type}
 use Rattle.smith_core_types.specs.MadeCore.{ReadsFunctionLine, ReadsFront}
 use Rattle.smith_syntax.specs.ModuleTypes.{realloc, free, is_export, is_of_kind, is_type, is_function_of, after_memory, after_function, after_realloc}
 use Rattle.smith_syntax.specs.ModuleTypes.{after_free, after_front}
 
 -- the shapes: with an export of a memory or without, with a function that allocates or without, with one that frees or without
 
-abbrev memory_decls : Option MemoryType → List ModuleDecl
+abbrev pub memory_decls : Option MemoryType → List ModuleDecl
 memory_decls None = []
 memory_decls (Some m) = exports (codes "memory") (Memory m) ∷ []
 
-abbrev realloc_decls : Bool → List ModuleDecl
+abbrev pub realloc_decls : Bool → List ModuleDecl
 realloc_decls false = []
 realloc_decls true = declares realloc ∷ exports (codes "canonical_abi_realloc") (Func 0) ∷ []
 
-abbrev free_decls : Bool → Bool → List ModuleDecl
+abbrev pub free_decls : Bool → Bool → List ModuleDecl
 free_decls r false = []
 free_decls r true = declares free ∷ exports (codes "canonical_abi_free") (Func (if r then 1 else 0)) ∷ []
 

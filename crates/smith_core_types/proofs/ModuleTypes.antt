@@ -23,7 +23,7 @@ use Rattle.smith_format.specs.declared.types.MemoryType.{MemoryType}
 use Rattle.smith_format.specs.declared.types.ValType.TheVariants.{I32}
 use Rattle.smith_syntax.specs.CoreLimits.{EntityLimits}
 use Rattle.smith_syntax.specs.Entries.{CoreEntry, ModuleDecl, imports, declares, aliases, exports}
-use Rattle.smith_core_types.specs.MadeCore.{Declared}
+use Rattle.smith_core_types.specs.Offers.{Declared}
 use Rattle.smith_core_types.specs.MakingCore.{own_after}
 use Rattle.smith_syntax.specs.ModuleTypes.{adds, aliased, alias_of, func_of, module_import_of, module_export_of, declared_in, type_count, entities_of}
 use Rattle.smith_syntax.specs.ModuleTypes.{is_of_kind, count_of_kind}

@@ -1,3 +1,7 @@
 pub mod Script
+pub mod ModuleScript
 pub mod MadeCore
 pub mod MakingCore
+pub mod Needs
+pub mod Texts
+pub mod Offers

@@ -1,12 +1,11 @@
 -- How core types are read: the bytes and the fuel give the core type, and leave the rest and what is left of the fuel.
-use Rattle.std.specs.Prelude.{◌≡◌, ℕ, ◌-◌, ◌<◌, ◌≤◌, Bool, true, false, ◌&&◌, List, [], ◌∷◌, ◌++◌, map, length, codes, nat_lt}
+use Rattle.std.specs.Prelude.{◌≡◌, ℕ, ◌-◌, ◌<◌, ◌≤◌, Bool, true, false, ◌&&◌, List, [], ◌∷◌, ◌++◌, length, codes, nat_lt}
 use Rattle.std.specs.List.{flat_map}
 use Rattle.std.specs.Option.{option_to_list}
 use Rattle.smith_input.specs.Choices.{ReadsAmong}
 use Rattle.smith_input.specs.Loops.{Loop}
 use Rattle.smith_input.specs.Names.{IsMadeUnique, is_among}
 use Rattle.smith_input.specs.Reading.{Reads, Flips}
-use Rattle.smith_input.specs.Offers.{offers_of}
 use Rattle.smith_input.specs.Texts.{ReadsText}
 use Rattle.smith_format.specs.CoreReading.{ReadsFunction, ReadsMemory, ReadsTable, ReadsTag}
 use Rattle.smith_format.specs.CoreTypes.{Function}
@@ -20,44 +19,12 @@ use Rattle.smith_format.specs.declared.types.GlobalType.{GlobalType}
 use Rattle.smith_format.specs.declared.types.MemoryType.{MemoryType}
 use Rattle.smith_format.specs.Limits.{max_results}
 use Rattle.smith_syntax.specs.Entries.{CoreEntry, ModuleDecl, core_func, core_module, imports, declares, aliases, exports}
-use Rattle.smith_syntax.specs.ModuleTypes.{adds, aliased, alias_of, count_of_kind, declared_in, export_names, free, is_tag_type, names_from, realloc}
-use Rattle.smith_syntax.specs.Scope.{Scope, is_core_func, places}
+use Rattle.smith_syntax.specs.ModuleTypes.{adds, aliased, alias_of, export_names, free, is_tag_type, names_from, realloc}
+use Rattle.smith_syntax.specs.Scope.{Scope, places}
+use Rattle.smith_core_types.specs.Offers.{Declared, alias_choices, allows_function, allows_type, entity_kinds, indexes, module_items, undeclared, with_decl}
+use Rattle.smith_core_types.specs.Offers.{with_front}
 use Rattle.smith_core_types.specs.declared.module_types.ModuleItem.{ModuleItem}
 use Rattle.smith_core_types.specs.declared.module_types.ModuleItem.TheVariants as item
-
--- a module type so far: its own types, its declarations, and the fuel
-pub record Declared : Type 0 where
-  pub own : List Function
-  pub decls : List ModuleDecl
-  pub fuel : ℕ
-
--- with one declaration more, for which a turn's fuel is taken
-abbrev pub with_decl : List CoreEntry → Declared → ModuleDecl → Declared
-with_decl around s d = record { own = s.own ++ adds around s.own d; decls = s.decls ++ d ∷ []; fuel = s.fuel - 1 }
-
--- Is a function or a type still allowed?
-abbrev pub allows_function : Config → Declared → Bool
-allows_function config s = nat_lt (count_of_kind kind.Func s.decls) config.max_funcs
-
-abbrev pub allows_type : Config → Declared → Bool
-allows_type config s = nat_lt (length s.own) config.max_types
-
--- the indexes of all items, ascending
-abbrev pub indexes : {A : Type 0} → List A → List ℕ
-indexes xs = places (λ x. true) 0 xs
-
--- what an entity is among: each kind below its limit, a tag where there is a type for it, a function where there is a type
-abbrev pub kind_offers : Config → Declared → List (Bool × ExportKind)
-kind_offers config s =
-    (nat_lt (count_of_kind kind.Global s.decls) config.max_globals, kind.Global)
-    ∷ (nat_lt (count_of_kind kind.Table s.decls) config.max_tables, kind.Table)
-    ∷ (nat_lt (count_of_kind kind.Memory s.decls) config.max_memories, kind.Memory)
-    ∷ (nat_lt (count_of_kind kind.Tag s.decls) config.max_tags && config.exceptions_enabled && nat_lt 0 (length (places is_tag_type 0 s.own)), kind.Tag)
-    ∷ (nat_lt 0 (length s.own) && allows_function config s, kind.Func)
-    ∷ []
-
-abbrev pub entity_kinds : Config → Declared → List ExportKind
-entity_kinds config s = offers_of (kind_offers config s)
 
 -- an entity of a kind
 abbrev pub ReadsEntityOf : Config → Declared → ExportKind → List ℕ → EntityType → List ℕ → Type 0
@@ -86,20 +53,6 @@ ReadsImportNames s bytes from name rest = (mid : List ℕ) × ReadsText 100 byte
 
 abbrev pub ReadsExportName : Declared → List ℕ → List ℕ → List ℕ → Type 0
 ReadsExportName s bytes name rest = ReadsNewText (export_names s.decls) bytes name rest
-
--- what an outer alias is among, as the count of scopes and the index: the core function types of the scope around, and then the
--- module type's own types
-abbrev pub alias_choices : Scope → Declared → List (ℕ × ℕ)
-alias_choices around s = map (λ i. (1, i)) (places is_core_func 0 around.core_types) ++ map (λ i. (0, i)) (indexes s.own)
-
--- what a declaration is among
-abbrev pub item_offers : Config → Scope → Declared → List (Bool × ModuleItem)
-item_offers config around s =
-    (true, item.Import) ∷ (true, item.Export) ∷ (allows_type config s, item.Type) ∷
-    (allows_type config s && nat_lt 0 (length (alias_choices around s)), item.Alias) ∷ []
-
-abbrev pub module_items : Config → Scope → Declared → List ModuleItem
-module_items config around s = offers_of (item_offers config around s)
 
 -- a declaration of a sort
 abbrev pub ReadsDeclOf : Config → Scope → Declared → ModuleItem → List ℕ → ModuleDecl → List ℕ → Type 0
@@ -133,10 +86,6 @@ pub data ModuleEnds (config : Config) (around : Scope) (s : Declared) : List ℕ
       → ReadsExportName s mid name rest → entity_kinds config s ≡ [] → t ≡ with_fuel s (s.fuel - 1)
       → ModuleEnds config around s bytes rest t
 
--- declarations for the canonical ABI, which take no fuel
-abbrev pub with_front : Declared → List ModuleDecl → Declared
-with_front s ds = record { own = s.own ++ declared_in ds; decls = s.decls ++ ds; fuel = s.fuel }
-
 -- A line of what the canonical ABI asks: where it is allowed, it is there in 99 of 100 choices.
 pub data ReadsLine (may : Bool) (Line : List ℕ → List ModuleDecl → List ℕ → Type 0) (s : Declared) : List ℕ → Declared → List ℕ → Type 0 where
   not_allowed : {bytes : List ℕ} {t : Declared} → may ≡ false → t ≡ s → ReadsLine may Line s bytes t bytes
@@ -153,10 +102,6 @@ FunctionLine name f s bytes ds rest = (rest ≡ bytes) × (ds ≡ declares f ∷
 
 abbrev pub ReadsFunctionLine : Config → List ℕ → Function → Declared → List ℕ → Declared → List ℕ → Type 0
 ReadsFunctionLine config name f s bytes t rest = ReadsLine (allows_function config s && allows_type config s) (FunctionLine name f s) s bytes t rest
-
--- nothing so far, with this much fuel
-abbrev pub undeclared : ℕ → Declared
-undeclared fuel = record { own = []; decls = []; fuel = fuel }
 
 -- what the canonical ABI asks, in its three lines
 pub record ReadsFront (config : Config) (bytes : List ℕ) (fuel : ℕ) (s : Declared) (rest : List ℕ) : Type 0 where

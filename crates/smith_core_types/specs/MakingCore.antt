@@ -10,9 +10,11 @@ use Rattle.smith_format.specs.declared.types.ExportKind.{ExportKind}
 use Rattle.smith_format.specs.declared.types.ExportKind.TheVariants as kind
 use Rattle.smith_format.specs.declared.types.FuncType.{FuncType}
 use Rattle.smith_syntax.specs.Entries.{CoreEntry, ModuleDecl}
-use Rattle.smith_core_types.specs.MadeCore.{ReadsDecl, ReadsDeclOf, ReadsEntity, ReadsImportNames, ReadsExportName, ModuleEnds, alias_choices, entity_kinds}
-use Rattle.smith_core_types.specs.MadeCore.{with_decl, with_fuel}
-use Rattle.smith_core_types.specs.MadeCore.{Declared as SoFar}
+use Rattle.smith_core_types.specs.MadeCore.{ReadsDecl, ReadsDeclOf, ReadsEntity, ReadsImportNames, ReadsExportName, ModuleEnds}
+use Rattle.smith_core_types.specs.Offers.{alias_choices, entity_kinds}
+use Rattle.smith_core_types.specs.MadeCore.{with_fuel}
+use Rattle.smith_core_types.specs.Offers.{with_decl}
+use Rattle.smith_core_types.specs.Offers.{Declared as SoFar}
 use Rattle.smith_syntax.specs.ModuleTypes.{adds, aliased, export_names, is_tag_type, names_from}
 use Rattle.smith_syntax.specs.Scope.{Scope, places}
 use Rattle.smith_syntax.specs.Shown.{shown_decl}

@@ -1,15 +1,15 @@
 //! Core types from the input.
 
-ghost use Rattle.std.specs.Prelude.{◌≡◌, ◌+◌, ◌≤◌, ◌++◌, ℕ, List, IfOk, IfErr};
+ghost use Rattle.std.specs.Prelude.{◌≡◌, ◌+◌, ◌≤◌, ◌^◌, ◌++◌, ℕ, List, length, IfOk, IfErr};
 ghost use Rattle.smith_input.specs.Reading.{IsTail};
-ghost use Rattle.smith_format.specs.CoreFormed.{FormedFunction};
-ghost use Rattle.smith_format.specs.CoreTypes.{Function};
-ghost use Rattle.smith_format.specs.Limits.{configured, max_results};
+ghost use Rattle.smith_format.specs.Limits.{configured};
 ghost use Rattle.smith_syntax.specs.CoreLimits.{CoreLimits};
-ghost use Rattle.smith_syntax.specs.Entries.{core_func};
-ghost use Rattle.smith_core_types.specs.Script.{script_core_type};
+ghost use Rattle.smith_syntax.specs.Entries.{CoreEntry};
+ghost use Rattle.smith_core_types.specs.Script.{script_core};
 ghost use Rattle.smith_core_types.specs.MadeCore.{MadeCore};
 ghost use Rattle.smith_core_types.specs.MakingCore.{KeepsAliased};
+ghost use Rattle.smith_core_types.specs.Needs.{core_need};
+ghost use Rattle.smith_core_types.specs.Texts.{HasReadableTexts};
 ghost use Rattle.smith_scopes.specs.Scopes.{own_scope};
 ghost use Rattle.smith_syntax.specs.Shown.{shown_core, shown_shared_core};
 ghost use Rattle.smith_syntax.specs.WellFormed.{FormedCore, core_size};
@@ -72,11 +72,12 @@ pub fn arbitrary_core_type(
     ensures formed { IfOk result (λ t. FormedCore (shown_shared_core t) (own_scope scopes.now).core_types) }
     ensures limits { IfOk result (λ t. CoreLimits config.now (shown_shared_core t)) }
     ensures size { IfOk result (λ t. core_size (shown_shared_core t) + fuel.new ≤ fuel.old) }
-    // The script of a core function type, for which the fuel lasts, gives that type.
-    ensures script { (f : Function) (rest : List ℕ) → 2 ≤ fuel.old
-        → FormedFunction (configured config.now) (max_results config.now) f
-        → u.old ≡ script_core_type config.now f ++ rest
-        → IfOk result (λ t. (shown_shared_core t ≡ core_func f) × (u.new ≡ rest)) }
+    // The script of a core type whose names can be read and for which the fuel lasts gives that type.
+    ensures script { (e : CoreEntry) (rest : List ℕ) → FormedCore e (own_scope scopes.now).core_types
+        → CoreLimits config.now e → HasReadableTexts e → core_need e ≤ fuel.old
+        → length (own_scope scopes.now).core_types ≤ 2 ^ 63
+        → u.old ≡ script_core config.now (own_scope scopes.now) fuel.old e ++ rest
+        → IfOk result (λ t. (shown_shared_core t ≡ e) × (u.new ≡ rest)) }
     ensures memory { IfErr result (λ e. e ≡ Error.OutOfMemory) }
     ensures tail { IsTail u.new u.old }
 {

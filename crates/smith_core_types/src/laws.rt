@@ -1,16 +1,16 @@
 //! Laws of how core types are read. Each function does nothing: its contract is the law.
 
-ghost use Rattle.std.specs.Prelude.{◌≤◌, ◌-◌, ℕ};
-ghost use Rattle.smith_format.specs.CoreFormed.{FormedFunction};
-ghost use Rattle.smith_format.specs.CoreTypes.{Function};
-ghost use Rattle.smith_format.specs.Limits.{configured};
+ghost use Rattle.std.specs.Prelude.{◌≤◌, ◌-◌, ◌^◌, ℕ, length};
 ghost use Rattle.smith_format.specs.declared.config.Config.{Config};
 ghost use Rattle.smith_input.specs.Reading.{IsDecided, IsReadAs};
-ghost use Rattle.smith_format.specs.Limits.{max_results};
-ghost use Rattle.smith_syntax.specs.Entries.{CoreEntry, core_func};
+ghost use Rattle.smith_syntax.specs.CoreLimits.{CoreLimits};
+ghost use Rattle.smith_syntax.specs.Entries.{CoreEntry};
 ghost use Rattle.smith_syntax.specs.Scope.{Scope};
+ghost use Rattle.smith_syntax.specs.WellFormed.{FormedCore};
 ghost use Rattle.smith_core_types.specs.MadeCore.{MadeCore};
-ghost use Rattle.smith_core_types.specs.Script.{script_core_type};
+ghost use Rattle.smith_core_types.specs.Needs.{core_cost, core_need};
+ghost use Rattle.smith_core_types.specs.Script.{script_core};
+ghost use Rattle.smith_core_types.specs.Texts.{HasReadableTexts};
 
 /// The scopes, the bytes and the fuel alone decide which core type is made, and what is left of both.
 pub fn core_types_are_decided()
@@ -18,10 +18,12 @@ pub fn core_types_are_decided()
         → IsDecided (λ bytes (made : CoreEntry × ℕ) rest. MadeCore config around bytes fuel made.0 rest made.1) }
 {}
 
-/// The script of a core function type within the limits, for which the fuel lasts, is read as that type.
+/// The script of a core type that is well formed in its scope and within the limits, whose names can be read and for
+/// which the fuel lasts, is read as that type.
 pub fn core_scripts_are_read()
-    ensures { (config : Config) (around : Scope) (fuel : ℕ) (f : Function)
-        → 2 ≤ fuel → FormedFunction (configured config) (max_results config) f
-        → IsReadAs (λ bytes made rest. MadeCore config around bytes fuel made rest (fuel - 1))
-        (script_core_type config f) (core_func f) }
+    ensures { (config : Config) (around : Scope) (fuel : ℕ) (e : CoreEntry)
+        → FormedCore e around.core_types → CoreLimits config e → HasReadableTexts e → core_need e ≤ fuel
+        → length around.core_types ≤ 2 ^ 63
+        → IsReadAs (λ bytes made rest. MadeCore config around bytes fuel made rest (fuel - core_cost e))
+        (script_core config around fuel e) e }
 {}

@@ -7,7 +7,7 @@ ghost use Rattle.smith_input.specs.Loops.{Loop};
 ghost use Rattle.smith_input.specs.Reading.{IsTail};
 ghost use Rattle.smith_syntax.specs.Entries.{ModuleDecl};
 ghost use Rattle.smith_core_types.specs.MadeCore.{MadeModule, ModuleEnds, ReadsDecl};
-ghost use Rattle.smith_core_types.specs.MadeCore.{allows_type, alias_choices, module_items};
+ghost use Rattle.smith_core_types.specs.Offers.{allows_type, alias_choices, module_items};
 ghost use Rattle.smith_core_types.specs.MakingCore.{AddsDecl, HasChoiceFor, KeepEach, KeepsDeclared, DeclTurn};
 ghost use Rattle.smith_core_types.specs.MakingCore.{shown_funcs, so_far};
 ghost use Rattle.smith_scopes.specs.Scopes.{own_scope};

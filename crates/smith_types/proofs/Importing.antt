@@ -10,7 +10,7 @@ use Rattle.smith_syntax.specs.Scope.{Scope, places, is_core_module}
 use Rattle.smith_syntax.specs.declared.deftype.ComponentTypeRef.{ComponentTypeRef}
 use Rattle.smith_types.specs.Declarations.{NamedExtern, NoImportDecl, not_asked, none_fits, ReadsImportDecl, ReadsExportDecl, ReadsNamedExtern}
 use Rattle.smith_types.specs.Offers.{has_reference, ref_kinds, ref_offers, has_place, uncounted}
-use Rattle.smith_core_types.specs.MadeCore.{indexes}
+use Rattle.smith_core_types.specs.Offers.{indexes}
 use Rattle.smith_types.specs.References.{ReadsRef}
 use Rattle.smith_types.specs.declared.make.references.RefKind.TheVariants as kind
 use Rattle.smith_core_types.proofs.MakingCore.{length-indexes}

@@ -7,7 +7,8 @@ use Rattle.smith_scopes.specs.Scopes.{inward}
 use Rattle.smith_syntax.specs.Shown.{shown_core}
 use Rattle.smith_syntax.specs.WellFormed.{FormedCore, core_size}
 use Rattle.smith_syntax.specs.declared.core_types.CoreType.{CoreType}
-use Rattle.smith_core_types.proofs.MadeCore.{core_type_read, made_core_formed, made_core_limits, made_core_same, made_core_size}
+use Rattle.smith_core_types.proofs.CoreScript.{core_read}
+use Rattle.smith_core_types.proofs.MadeCore.{made_core_formed, made_core_limits, made_core_same, made_core_size}
 use Rattle.smith_core_types.proofs.core_types.arbitrary_core_type.Goals as goal
 
 pub returns-clause-formed : goal.returns-clause-formed
@@ -31,10 +32,10 @@ returns-clause-kept c =
     subst P (sym c.in_ok-shared.ensures.ok) c.in_ok-made.ensures.kept
 
 pub returns-clause-script : goal.returns-clause-script
-returns-clause-script c f rest lasts formed e =
+returns-clause-script c e rest formed limits texts need few said =
     let config = c.args.config.now in
     let own = own_of (inward c.args.scopes.now) in
     let fuel = c.args.fuel.now in
     let P : List ℕ → Type 0 = λ bytes. MadeCore config own bytes fuel (shown_core c.in_ok-made.made) c.made_core_type.new.u c.made_core_type.new.fuel in
-    let d = made_core_same (subst P e c.in_ok-made.ensures.made) (core_type_read config own fuel f rest lasts formed) in
+    let d = made_core_same (subst P said c.in_ok-made.ensures.made) (core_read config own fuel e rest formed limits texts need few) in
     (ap shown_core c.in_ok-shared.ensures.ok ∙ d.value, d.rest)
