@@ -1,21 +1,16 @@
 -- How much fuel a type needs to be read at all, and where types may be declared in it.
-use Rattle.std.specs.Prelude.{ℕ, suc, zero, ◌+◌, ◌<◌, [], ◌∷◌, max}
+use Rattle.std.specs.Prelude.{ℕ, suc, zero, ◌+◌, ◌<◌, max}
 use Rattle.smith_format.specs.declared.config.Config.{Config}
-use Rattle.smith_syntax.specs.Entries.{Entry, defined, function, component_type, instance_type, CoreEntry, core_func, core_module}
+use Rattle.smith_core_types.specs.Needs.{core_need}
+use Rattle.smith_syntax.specs.Entries.{Entry, defined, function, component_type, instance_type}
 use Rattle.smith_syntax.specs.Entries.{Decl, Decls, core_type_decl, type_decl, type_alias, core_type_alias, import_decl, export_decl, no_decls, then_decls}
-use Rattle.smith_syntax.specs.WellFormed.{size, defined_size, core_size}
+use Rattle.smith_syntax.specs.WellFormed.{size, defined_size}
 use Rattle.smith_types.specs.Script.{decl_cost}
 
 -- A type of values without members needs none: where the fuel does not last a type is one of values.
 abbrev pub need_of : ℕ → ℕ
 need_of zero = 0
 need_of (suc n) = suc n + 2
-
--- Nor does the empty module type.
-abbrev pub core_need : CoreEntry → ℕ
-core_need (core_func f) = 2
-core_need (core_module []) = 0
-core_need (core_module (d ∷ ds)) = core_size (core_module (d ∷ ds)) + 2
 
 abbrev mutual
   pub need : Entry → ℕ
