@@ -6,9 +6,10 @@ use Rattle.smith_format.specs.declared.config.Config.{Config}
 use Rattle.smith_syntax.specs.Entries.{CoreEntry, Entry}
 use Rattle.smith_syntax.specs.Scope.{Scope, with_type}
 use Rattle.smith_syntax.specs.WellFormed.{FormedTypes}
-use Rattle.smith_types.specs.Brief.{Brief, BriefCore}
+use Rattle.smith_core_types.specs.Texts.{HasReadableTexts}
+use Rattle.smith_types.specs.Brief.{Brief}
 use Rattle.smith_types.specs.Script.{Lasts, LastsCore}
-use Rattle.smith_types.proofs.Exact.{core_lasts, lasts}
+use Rattle.smith_types.proofs.Exact.{lasts}
 use Rattle.smith_types.proofs.Needs.{nests_within}
 use Rattle.smith_scopes.proofs.Plain.{all_back}
 use Rattle.smith_component.specs.Limits.{Limits, Maxima, OwnSizes, Sized, SmallCoreTypes, SmallTypes}
@@ -49,10 +50,10 @@ module _ (config : Config) (outer : List Scope) (scopes : ℕ) where
     each_lasts es (with_type own e) f.1 b.1 s.1 (omega (arith, h)),
   )
 
-each_core_lasts : (config : Config) (es : List CoreEntry) → AllByRecursion BriefCore es → SmallCoreTypes config es
+each_core_lasts : (config : Config) (es : List CoreEntry) → AllByRecursion HasReadableTexts es → SmallCoreTypes config es
     → AllByRecursion (LastsCore config.max_type_size) es
 each_core_lasts config [] b s = tt
-each_core_lasts config (e ∷ es) b s = (core_lasts e config.max_type_size b.0 s.0, each_core_lasts config es b.1 s.1)
+each_core_lasts config (e ∷ es) b s = ((s.0, b.0), each_core_lasts config es b.1 s.1)
 
 -- The rest of a component is a plan, where these components are open around it and these parts stand before it.
 mutual

@@ -37,7 +37,8 @@ use Rattle.smith_syntax.specs.declared.types.PrimitiveValType.{PrimitiveValType}
 use Rattle.smith_scopes.proofs.Plain.{all_back, all_front}
 use Rattle.smith_types.specs.Offers.{aliases_of, declaration_items, declaration_offers, defined_kinds, has_reference, is_occupied, lifted, numbered}
 use Rattle.smith_types.specs.Offers.{primitives, ref_kinds, ref_offers, ref_places, type_kinds, uncounted}
-use Rattle.smith_types.specs.Script.{AreShort, decl_cost, Fit, index_in, kind_in, Lasts, LastsDecl, LastsDecls, LastsDefined, script_alias, script_case}
+use Rattle.smith_types.specs.Needs.{decl_cost}
+use Rattle.smith_types.specs.Script.{AreShort, Fit, index_in, kind_in, Lasts, LastsDecl, LastsDecls, LastsDefined, script_alias, script_case}
 use Rattle.smith_types.specs.Script.{script_core, script_decl, script_declares, script_decls, script_defined, script_entry, script_extern, script_field}
 use Rattle.smith_types.specs.Script.{script_kind, script_label, script_maybe, script_members, script_primitive, script_ref, script_signature, script_type}
 use Rattle.smith_types.specs.Script.{script_lifted, script_params, script_result, script_scalar, script_type_kind, script_val}

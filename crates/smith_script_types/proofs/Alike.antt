@@ -24,7 +24,8 @@ use Rattle.smith_types.specs.Script.{script_val, script_either, script_primitive
 use Rattle.smith_types.specs.Script.{script_label}
 use Rattle.smith_types.specs.Script.{script_signature, script_ref, script_extern, script_entry, script_alias, script_no_import, script_declares, script_type}
 use Rattle.smith_types.specs.Script.{script_decl}
-use Rattle.smith_types.specs.Script.{script_decls, script_core, decl_cost, kind_in, index_in}
+use Rattle.smith_types.specs.Needs.{decl_cost}
+use Rattle.smith_types.specs.Script.{script_decls, script_core, kind_in, index_in}
 use Rattle.smith_types.specs.contracts.make.declarations.DeclarationItemPartialEq.TheImpl.{ghosts as items}
 use Rattle.smith_types.specs.contracts.make.references.RefKindPartialEq.TheImpl.{ghosts as refs}
 use Rattle.smith_types.specs.declared.make.references.RefKind.{RefKind}

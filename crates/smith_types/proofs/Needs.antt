@@ -11,6 +11,7 @@ use Rattle.smith_syntax.specs.Entries.{type_decl, core_type_decl}
 use Rattle.smith_syntax.specs.Scope.{Scope}
 use Rattle.smith_syntax.specs.WellFormed.{size, decl_size, decls_size, defined_size, core_size}
 use Rattle.smith_core_types.specs.MadeCore.{MadeCore, spent_core, of_function, of_module, MadeModule, ModuleEnds, ReadsDecl}
+use Rattle.smith_core_types.specs.Needs.{core_cost, core_need}
 use Rattle.smith_core_types.proofs.MadeCore.{module_after, module_size}
 use Rattle.smith_core_types.proofs.ModuleFronts.{front_is}
 use Rattle.smith_types.specs.Declarations.{SoFar, nothing_so_far, after_one}
@@ -18,8 +19,8 @@ use Rattle.smith_types.specs.Made.{ReadsMembers, MadeMembers, MadeAs, MadeFuncti
 use Rattle.smith_types.specs.Made.{made_instance}
 use Rattle.smith_types.specs.Made.{MadeDeclaration, made_import, made_export, made_alias, made_core_type, made_type, MadeDeclarations, no_more_decls}
 use Rattle.smith_types.specs.Made.{spent_decls, one_decl}
-use Rattle.smith_types.specs.Needs.{need_of, core_need, need, decl_need, decls_need, Nests, DeclNests, DeclsNest, declaring, decl_declaring, decls_declaring}
-use Rattle.smith_types.specs.Script.{cost, core_cost, decl_cost, decls_cost}
+use Rattle.smith_types.specs.Needs.{need_of, need, decl_need, decls_need, Nests, DeclNests, DeclsNest, declaring, decl_declaring, decls_declaring}
+use Rattle.smith_types.specs.Needs.{cost, decl_cost, decls_cost}
 use Rattle.smith_types.specs.declared.make.declarations.DeclarationItem.TheVariants as item
 use Rattle.smith_types.specs.declared.make.defined.DefinedKind.{DefinedKind}
 use Rattle.smith_types.specs.declared.make.defined.DefinedKind.TheVariants as kind

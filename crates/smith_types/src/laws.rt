@@ -58,8 +58,8 @@ pub fn sizes_are_needed()
     ensures { (e : Entry) → size e ≤ need e }
 {}
 
-/// A type with short names and no module types, well formed in its scopes and within the limits, is read on some input
-/// exactly if there is fuel for it and it declares types only where one more scope may nest.
+/// A type whose names can be read, well formed in its scopes and within the limits, is read on some input exactly if
+/// there is fuel for it and it declares types only where one more scope may nest.
 pub fn types_are_exact()
     ensures { (config : Config) (own : Scope) (outer : List Scope) (fuel : ℕ) (e : Entry)
         → config.max_nesting_depth ≤ 1000 → FormedEntry e own outer → EntryLimits config e → Brief e
