@@ -10,3 +10,5 @@ pub mod ModuleSaid
 pub mod FrontFound
 pub mod FrontScript
 pub mod CoreScript
+pub mod MadeNames
+pub mod Needs
