@@ -11,8 +11,7 @@ use Rattle.smith_syntax.specs.Entries.{type_decl, core_type_decl}
 use Rattle.smith_syntax.specs.Scope.{Scope}
 use Rattle.smith_syntax.specs.WellFormed.{size, decl_size, decls_size, defined_size, core_size}
 use Rattle.smith_core_types.specs.Needs.{core_cost, core_need}
-use Rattle.smith_core_types.proofs.Needs.{core_leaves, one_used, used}
-pub use Rattle.smith_core_types.proofs.Needs.{core_needed}
+use Rattle.smith_core_types.proofs.Needs.{core_leaves, core_needed, one_used, used}
 use Rattle.smith_types.specs.Declarations.{SoFar, nothing_so_far, after_one}
 use Rattle.smith_types.specs.Made.{ReadsMembers, MadeMembers, MadeAs, MadeFunction, or_bool, Made, spent_type, made_defined, made_function, made_component}
 use Rattle.smith_types.specs.Made.{made_instance}
