@@ -10,3 +10,4 @@ pub mod ModuleSaid
 pub mod FrontFound
 pub mod FrontScript
 pub mod CoreScript
+pub mod ScriptBytes

@@ -3,6 +3,7 @@
 ghost use Rattle.std.specs.Prelude.{◌≤◌, ◌-◌, ◌^◌, ℕ, length};
 ghost use Rattle.smith_format.specs.declared.config.Config.{Config};
 ghost use Rattle.smith_input.specs.Reading.{IsDecided, IsReadAs};
+ghost use Rattle.smith_input.specs.Script.{AreBytes};
 ghost use Rattle.smith_syntax.specs.CoreLimits.{CoreLimits};
 ghost use Rattle.smith_syntax.specs.Entries.{CoreEntry};
 ghost use Rattle.smith_syntax.specs.Scope.{Scope};
@@ -26,4 +27,11 @@ pub fn core_scripts_are_read()
         → length around.core_types ≤ 2 ^ 63
         → IsReadAs (λ bytes made rest. MadeCore config around bytes fuel made rest (fuel - core_cost e))
         (script_core config around fuel e) e }
+{}
+
+/// The script of such a core type is bytes.
+pub fn core_scripts_are_bytes()
+    ensures { (config : Config) (around : Scope) (fuel : ℕ) (e : CoreEntry)
+        → FormedCore e around.core_types → CoreLimits config e → HasReadableTexts e → core_need e ≤ fuel
+        → length around.core_types ≤ 2 ^ 63 → AreBytes (script_core config around fuel e) }
 {}
