@@ -56,7 +56,7 @@ small_place test xs i x few stands passes =
     small_found nat_eq Decides-eqb (places test 0 xs) at.0 i (omega (arith, few, length-places test 0 xs)) at.1
 
 -- what all items are, those of a list are
-pub all_of : {A : Type 0} (P : A → Type 0) → ((x : A) → P x) → (xs : List A) → AllByRecursion P xs
+all_of : {A : Type 0} (P : A → Type 0) → ((x : A) → P x) → (xs : List A) → AllByRecursion P xs
 all_of P one [] = tt
 all_of P one (x ∷ xs) = (one x, all_of P one xs)
 
