@@ -12,3 +12,4 @@ pub mod FrontScript
 pub mod CoreScript
 pub mod MadeNames
 pub mod Needs
+pub mod ScriptBytes

@@ -3,6 +3,7 @@
 ghost use Rattle.std.specs.Prelude.{◌≤◌, ◌-◌, ◌^◌, ℕ, List, length};
 ghost use Rattle.smith_format.specs.declared.config.Config.{Config};
 ghost use Rattle.smith_input.specs.Reading.{IsDecided, IsReadAs};
+ghost use Rattle.smith_input.specs.Script.{AreBytes};
 ghost use Rattle.smith_syntax.specs.CoreLimits.{CoreLimits};
 ghost use Rattle.smith_syntax.specs.Entries.{CoreEntry};
 ghost use Rattle.smith_syntax.specs.Scope.{Scope};
@@ -36,4 +37,11 @@ pub fn made_core_types_are_readable()
         → MadeCore config around bytes fuel e rest left
         → FormedCore e around.core_types × CoreLimits config e × HasMadeNames e × (core_need e ≤ fuel)
         × (left ≤ fuel - core_cost e) }
+{}
+
+/// The script of such a core type is bytes.
+pub fn core_scripts_are_bytes()
+    ensures { (config : Config) (around : Scope) (fuel : ℕ) (e : CoreEntry)
+        → FormedCore e around.core_types → CoreLimits config e → HasReadableTexts e → core_need e ≤ fuel
+        → length around.core_types ≤ 2 ^ 63 → AreBytes (script_core config around fuel e) }
 {}

@@ -83,14 +83,14 @@ record Sayable (importing : Bool) (s : SoFar) (is es : Externs) : Type 0 where
   own : importing ≡ false → is ≡ []
 
 -- a scope in which no more stands than so many turns gave
-abbrev Holding : ℕ → Scope → Type 0
+abbrev pub Holding : ℕ → Scope → Type 0
 Holding n own = length own.types + length own.core_types ≤ n
 
 at_most_one : {A : Type 0} (o : Option A) → length (option_to_list o) ≤ 1
 at_most_one None = omega arith
 at_most_one (Some x) = omega arith
 
-after_holding : (outer : List Scope) (n : ℕ) (own : Scope) (d : Decl) → Holding n own → Holding (n + 1) (after_decl outer own d)
+pub after_holding : (outer : List Scope) (n : ℕ) (own : Scope) (d : Decl) → Holding n own → Holding (n + 1) (after_decl outer own d)
 after_holding outer n own (core_type_decl t k) h = omega (arith, h, length-append own.core_types (t ∷ []))
 after_holding outer n own (type_decl e) h = omega (arith, h, length-append own.types (plain e ∷ []))
 after_holding outer n own (type_alias count i k) h =

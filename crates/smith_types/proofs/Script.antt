@@ -201,7 +201,7 @@ module _ (own : Scope) (few : length own.types ≤ 2 ^ 64) where
 
   -- functions
 
-  one_all : (r : Option ComponentValType) → FormedMaybe own r → AllByRecursion (FormedVal own) (option_to_list r)
+  pub one_all : (r : Option ComponentValType) → FormedMaybe own r → AllByRecursion (FormedVal own) (option_to_list r)
   one_all None f = tt
   one_all (Some v) f = (f, tt)
 

@@ -14,7 +14,7 @@ use Rattle.smith_syntax.specs.Entries.{Decl, Decls, core_type_decl, type_decl, t
 use Rattle.smith_syntax.specs.Entries.{then_decls}
 use Rattle.smith_syntax.specs.Scope.{Scope, empty_scope, defined_places, after_decl}
 use Rattle.smith_syntax.specs.TypeLimits.{EntryLimits}
-use Rattle.smith_syntax.specs.WellFormed.{FormedEntry, size, defined_size}
+use Rattle.smith_syntax.specs.WellFormed.{FormedEntry, size}
 use Rattle.smith_syntax.specs.declared.deftype.ComponentTypeRef.{ComponentTypeRef}
 use Rattle.smith_syntax.specs.declared.deftype.ComponentTypeRef.TheVariants as to
 use Rattle.smith_types.specs.Needs.{decl_cost}

@@ -4,7 +4,7 @@ ghost use Rattle.std.specs.Prelude.{◌≡◌, ◌≤◌, ◌↔◌, ◌∷◌, 
 ghost use Rattle.std.specs.Prelude.{nat_eq};
 ghost use Rattle.smith_format.specs.declared.config.Config.{Config};
 ghost use Rattle.smith_input.specs.Reading.{IsDecided, IsReadAs};
-ghost use Rattle.smith_input.specs.Script.{script_among};
+ghost use Rattle.smith_input.specs.Script.{AreBytes, script_among};
 ghost use Rattle.smith_core_types.specs.Needs.{core_need};
 ghost use Rattle.smith_syntax.specs.Entries.{CoreEntry, Entry, FullEntry, plain};
 ghost use Rattle.smith_syntax.specs.Scope.{Scope, is_component, is_core_module, is_func, is_instance, places};
@@ -19,7 +19,8 @@ ghost use Rattle.smith_types.specs.Script.{Fit, IsSayable, script_ref, script_ty
 ghost use Rattle.smith_types.specs.declared.make.references.RefTotals.{RefTotals};
 
 pub use smith_core_types::laws::{
-    core_scripts_are_read, core_types_are_decided, made_core_types_are_readable,
+    core_scripts_are_bytes, core_scripts_are_read, core_types_are_decided,
+    made_core_types_are_readable,
 };
 
 /// The limits, the scopes, the bytes and the fuel alone decide which type is made, with its URLs and what its aliases
@@ -35,6 +36,13 @@ pub fn scripts_are_read()
     ensures { (config : Config) (own : Scope) (outer : List Scope) (fuel : ℕ) (e : Entry)
         → config.max_nesting_depth ≤ 1000 → IsSayable config own outer fuel e
         → IsReadAs (MadeWith config own outer fuel) (script_type e config fuel own outer) e }
+{}
+
+/// The script of such a type is bytes.
+pub fn type_scripts_are_bytes()
+    ensures { (config : Config) (own : Scope) (outer : List Scope) (fuel : ℕ) (e : Entry)
+        → config.max_nesting_depth ≤ 1000 → IsSayable config own outer fuel e
+        → AreBytes (script_type e config fuel own outer) }
 {}
 
 /// Where no type of a component, of an instance or of a core module stands in a scope, the script of what an import
