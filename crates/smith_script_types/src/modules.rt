@@ -101,15 +101,15 @@ fn put_import(
     out: &mut Vec<u8>,
     place: Place<'_>,
     declared: Declared<'_>,
-    module: &str,
+    from: &str,
     name: &str,
     entity: EntityType,
 ) -> Result<(), Unsaid>
     ensures { Says result out.old out.new
-        (script_text 100 module.now
+        (script_text 100 from.now
         ++ (script_text 100 name.now ++ script_entity place.entry.config.now (so_far declared.entry) entity)) }
 {
-    put_core_name(out, module)?;
+    put_core_name(out, from)?;
     put_named(out, place, declared, name, entity)
 }
 
