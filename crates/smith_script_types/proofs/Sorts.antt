@@ -54,8 +54,8 @@ tested f false e = e
 pub is_tag_type_by : (f : Function) → is_tag_type f ≡ is_tag_type (function_of (func_sort_of f))
 is_tag_type_by f = tested f (is_tag_type f) refl
 
--- a function type of a sort is of that sort
-func_sort_back : (s : FuncSort) → func_sort_of (function_of s) ≡ s
+-- what stands for a sort is of that sort
+pub func_sort_back : (s : FuncSort) → func_sort_of (function_of s) ≡ s
 func_sort_back func.WithoutResults = refl
 func_sort_back func.WithResults = refl
 
