@@ -111,11 +111,10 @@ fn parts_that_disagree_come_back(rt: HostRuntime) -> Result<(), Fail> {
     ];
     for (name, disagreement) in rows {
         let given = disagreeing(rt.alloc(), disagreement)?;
-        let answer = Module::from_parts(disagreeing(rt.alloc(), disagreement)?);
-        match answer {
-            Err((error, parts)) => check_refused(&rt, name, error, &parts, &given),
-            Ok(_) => check_holds(&rt, name, false),
-        }
+        let Err((error, parts)) = Module::from_parts(disagreeing(rt.alloc(), disagreement)?) else {
+            panic!(rt; "{name}: the parts agree");
+        };
+        check_refused(&rt, name, error, &parts, &given);
     }
     Ok(())
 }
