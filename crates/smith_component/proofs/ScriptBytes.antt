@@ -1,0 +1,308 @@
+-- The scripts of the parts of a plan, and of the plan, are bytes.
+use Rattle.std.proofs.Common.{◌≡◌, ℕ, suc, ◌+◌, ◌-◌, ◌<◌, ◌≤◌, ◌^◌, true, false, List, [], ◌∷◌, ◌++◌, length, arith, refl, sym, ap, ◌∙◌, subst}
+use Rattle.std.proofs.Common.{length-append, Option, None, Some}
+use Rattle.std.proofs.lemmas.Option.{slice_get_within}
+use Rattle.std.specs.List.{AllByRecursion}
+use Rattle.smith_input.specs.Kebab.{Kebab}
+use Rattle.smith_input.specs.Loops.{Along}
+use Rattle.smith_input.specs.Script.{AreBytes, script_among}
+use Rattle.smith_input.proofs.Offered.{offers_few}
+use Rattle.smith_input.proofs.ScriptBytes.{Small, small_bytes, small_few, small_join, small_loop, small_name, small_none, small_pick, small_text, small_turns}
+use Rattle.smith_format.specs.Limits.{IsConsistent}
+use Rattle.smith_format.specs.Piece.{Piece, ◌⊕◌, byte, bytes, framed, raw, sized, text}
+use Rattle.smith_format.specs.declared.config.Config.{Config}
+use Rattle.smith_format.proofs.Piece.{parts_are, raw_whole}
+use Rattle.smith_syntax.specs.Entries.{CoreEntry, Entry, function, ImportEntry}
+use Rattle.smith_syntax.specs.SameSignature.{same_signature_Decides}
+use Rattle.smith_syntax.specs.Scope.{Scope, with_core_type, with_type}
+use Rattle.smith_syntax.specs.Shown.{is_of_signature}
+use Rattle.smith_syntax.specs.CoreLimits.{CoreLimits}
+use Rattle.smith_syntax.specs.TypeLimits.{EntryLimits}
+use Rattle.smith_core.proofs.BytesTypes.{are_raw}
+use Rattle.smith_scopes.proofs.Plain.{all_back, all_front}
+use Rattle.smith_core_types.specs.Script.{script_core}
+use Rattle.smith_core_types.proofs.ScriptBytes.{small_core, small_place, small_said}
+use Rattle.smith_types.specs.Script.{Lasts, script_type}
+use Rattle.smith_types.proofs.ReferencesRead.{IsFew}
+use Rattle.smith_types.proofs.ScriptBytes.{small_extern, small_lifted, small_ref, type_bytes}
+use Rattle.smith_component.specs.CanonScript.{canon_item_of, script_canon, script_lift}
+use Rattle.smith_component.specs.Grammar.{part, parts, preamble}
+use Rattle.smith_component.specs.Limits.{OwnLimits}
+use Rattle.smith_component.specs.Offers.{canon_items, canon_offers, is_scalar_entry, is_scalar_type, totals_of, with_exports, with_imports}
+use Rattle.smith_component.specs.Open.{is_component_offered, is_export_offered, is_module_offered, items_with_input, offers, Open, scopes_in}
+use Rattle.smith_component.specs.Script.{IsPlan, IsPlanExport, IsPlanImport, item_of, script, script_export, script_from, script_import, script_item}
+use Rattle.smith_component.specs.Script.{script_part, Within}
+use Rattle.smith_component.specs.Spaces.{after_canon, after_part, core_types_of, functions_of, Spaces, spaces_of, types_of}
+use Rattle.smith_component.specs.Tables.{functions_at}
+use Rattle.smith_component.specs.Tree.{add, anywhere_in, Canon, canons, component, components_in, core_module, core_types, custom, depth, ends, ExportEntry}
+use Rattle.smith_component.specs.Tree.{exports, exports_in, exports_of, first, function_count, imports, imports_of, inside, join, lift, lower}
+use Rattle.smith_component.specs.Tree.{names_in, own, Part, Tree, types}
+use Rattle.smith_component.specs.WellFormed.{export_names, Formed, FormedCanon, FormedCanons, FormedExports, FormedImport, import_names, scope_of}
+use Rattle.smith_component.specs.contracts.item.CanonItemPartialEq.TheImpl.{ghosts as canon_equal}
+use Rattle.smith_component.specs.contracts.item.ItemPartialEq.TheImpl.{ghosts as equal}
+use Rattle.smith_component.specs.declared.item.CanonItem.{CanonItem}
+use Rattle.smith_component.specs.declared.item.Item.{Item}
+use Rattle.smith_component.specs.declared.item.Item.TheVariants.{Finish}
+use Rattle.smith_component.proofs.CanonsRead.{Spoken}
+use Rattle.smith_component.proofs.Fits.{Fits, fits_behind, own_limits-front, Short}
+use Rattle.smith_component.proofs.Growth.{canon_keeps, functions_after, functions_counted, spaces-add, spaces_export}
+use Rattle.smith_component.proofs.Named.{named_behind}
+use Rattle.smith_component.proofs.PartsRead.{spoken_past}
+use Rattle.smith_component.proofs.Sound.{length-scopes_from, scopes_from-snoc}
+use Rattle.smith_component.proofs.Spaces.{all_at}
+use Rattle.smith_component.proofs.Tree.{function_count-add, join-add, join-ends, length-own-add, own-add}
+use Rattle.smith_component.proofs.ReadsCoreTypes as core_sections
+use Rattle.smith_component.proofs.ReadsTypes as type_sections
+
+-- What has an encoding.
+
+abbrev Encoded : Piece → Type 0
+Encoded p = (b : List ℕ) × (p ≡ Some b)
+
+framed_encoded : (p : Piece) → Encoded (framed p) → Encoded p
+unfolding framed
+framed_encoded None (b, e) = absurd (let z : None ≡ Some b = e in cc)
+framed_encoded (Some c) e = (c, refl)
+
+sized_encoded : (id : ℕ) (p : Piece) → Encoded (sized id p) → Encoded p
+sized_encoded id p (b, e) = let z = parts_are (byte id) (framed p) b e in framed_encoded p (z.right, z.q_is)
+
+-- the contents of a custom section that has one are bytes
+contents_bytes : (name contents : List ℕ) → Encoded (part (custom name contents)) → AreBytes contents
+contents_bytes name contents e =
+    let inner = sized_encoded 0 (text name ⊕ raw contents) e in
+    let z = parts_are (text name) (raw contents) inner.0 inner.1 in
+    subst AreBytes (sym (raw_whole contents z.right z.q_is)) ((are_raw contents).law z.right z.q_is)
+
+component_encoded : (t : Tree) → Encoded (part (component t)) → Encoded (parts t)
+component_encoded t e =
+    let inner = sized_encoded 4 (bytes preamble ⊕ parts t) e in
+    let z = parts_are (bytes preamble) (parts t) inner.0 inner.1 in
+    (z.right, z.q_is)
+
+-- Imports.
+small_imports : (config : Config) (stack : Open) → IsFew (scope_of stack.inner) → (is : List ImportEntry) → AllByRecursion IsPlanImport is
+    → AllByRecursion (FormedImport (scope_of stack.inner)) is → AllByRecursion Kebab (import_names is)
+    → AllByRecursion (λ x. (s : List ImportEntry) → Small (script_import config stack s x)) is
+small_imports config stack few [] p f k = tt
+small_imports config stack few (x ∷ is) p f k = (
+  λ s. small_join (small_ref config (scope_of stack.inner) (totals_of (with_imports stack s)) true false few x.to f.0.0) (small_extern x.name k.0 p.0),
+  small_imports config stack few is p.1 f.1 k.1,
+)
+
+-- Exports.
+
+-- no more functions stand there than are counted and exported
+few_functions : (t : Tree) (s : List ExportEntry) → function_count t + (length (exports_of t) + length s) ≤ 2 ^ 64
+    → length (functions_of (with_exports t s)) ≤ 2 ^ 64
+few_functions t s h =
+    omega (arith, h, (functions_counted (with_exports t s)).most, function_count-add t (exports s), length-own-add exports_in t (exports s))
+
+small_exports : (t : Tree) (s xs : List ExportEntry) → AllByRecursion IsPlanExport xs → FormedExports xs (spaces_of (with_exports t s))
+    → AllByRecursion Kebab (export_names xs) → function_count t + (length (exports_of t) + (length s + length xs)) ≤ 2 ^ 64
+    → Along (λ u x. Small (script_export t u x)) (λ u x. u ++ x ∷ []) s xs
+small_exports t s [] p f k few = tt
+small_exports t s (x ∷ xs) p f k few = (
+  small_join (small_pick (length (functions_of (with_exports t s))) x.func (few_functions t s (omega (arith, few))) f.0)
+      (small_name 100 x.name (omega arith) k.0 p.0),
+  small_exports t (s ++ x ∷ []) xs p.1 (subst (FormedExports xs) (sym (spaces_export t s x)) f.1) k.1
+      (omega (arith, few, length-append s (x ∷ []))),
+)
+
+-- Canonical functions.
+
+small_canon_item : (s : Spaces) (item : CanonItem) → Small (script_among canon_equal.eq (canon_items s) item)
+small_canon_item s item =
+    let few : length (canon_items s) ≤ 2 = offers_few (canon_offers s) in
+    small_few canon_equal.eq (canon_items s) item (omega (arith, few))
+
+small_canon : (s : Spaces) (c : Canon) → FormedCanon s c → AllByRecursion Spoken s.types → functions_at s ≤ 2 ^ 64 → length s.types ≤ 2 ^ 64
+    → Small (script_canon s c)
+small_canon s (lower f) (signature, has, scalar) spoken few many =
+    let yes : is_scalar_type s.types has.ty ≡ true = ap (λ (o : Option Entry). elim o [ None ↦ false | Some e ↦ is_scalar_entry e ]) has.is ∙ scalar in
+    small_join (small_canon_item s (canon_item_of (lower f))) (small_place (is_scalar_type s.types) s.functions f has.ty (omega (arith, few)) has.stands yes)
+small_canon s (lift c t) (signature, lowered, f, is, lowers, has, flat) spoken few many =
+    let below : c < length s.core_functions = slice_get_within s.core_functions c f lowers in
+    let said : Spoken (function signature) = all_at Spoken s.types t (function signature) spoken is in
+    let type : Small (script_lift s t (Some (function signature))) =
+    small_join (small_lifted signature said.0.0 said.1)
+    (small_place (is_of_signature signature) s.types t (function signature) many is ((same_signature_Decides signature signature).1 refl)) in
+    small_join (small_canon_item s (canon_item_of (lift c t))) (small_join (small_pick (length s.core_functions) c (omega (arith, few)) below)
+    (subst (λ o. Small (script_lift s t o)) (sym is) type))
+
+small_canons : (cs : List Canon) (s : Spaces) → FormedCanons cs s → AllByRecursion Spoken s.types → length s.types ≤ 2 ^ 64
+    → functions_at s + length cs ≤ 2 ^ 64 → Along (λ u c. Small (script_canon u c)) after_canon s cs
+small_canons [] s f spoken many few = tt
+small_canons (c ∷ cs) s f spoken many few =
+    let keep = canon_keeps s c in (
+      small_canon s c f.0 spoken (omega (arith, few)) many,
+      small_canons cs (after_canon s c) f.1 (subst (AllByRecursion Spoken) (sym keep.types) spoken) (omega (arith, many, ap length keep.types))
+          (omega (arith, few, functions_after s c)),
+    )
+
+-- Parts.
+
+small_item : (config : Config) (outer : List Tree) (before : Tree) (item : Item) → Small (script_item config outer before item)
+small_item config outer before item =
+    let stack : Open = record { outer = outer; inner = before } in
+    let few = offers_few (offers (is_module_offered config stack) (is_component_offered config stack) (is_export_offered config)) in
+    small_few equal.eq (items_with_input config stack) item (omega (arith, few))
+
+-- What has the rest of a component of a plan, where these components are open around it and these parts stand before it.
+record Said (config : Config) (outer : List Tree) (before t : Tree) : Type 0 where
+  spoken : AllByRecursion Spoken (types_of before)
+  plan : IsPlan config (suc (length outer)) t
+  formed : Formed t (scopes_in outer) before
+  whole : OwnLimits config (join before t)
+  each : AllByRecursion (OwnLimits config) (inside t)
+  around : AllByRecursion IsFew (scopes_in outer)
+  shallow : length outer + depth t ≤ 1000
+  spelled : Encoded (parts t)
+
+-- what has at most what it may have has so in front
+own_front : (t : Tree) (config : Config) (a : Tree) → OwnLimits config (join a t) → OwnLimits config a
+own_front ends config a o = subst (OwnLimits config) (join-ends a) o
+own_front (first p t) config a o = own_limits-front config a p (own_front t config (add a p) (subst (OwnLimits config) (sym (join-add a p t)) o))
+
+module _ (config : Config) (consistent : IsConsistent config) (outer : List Tree) (before : Tree) where
+  -- the limits of the component with its next part
+  with_next : (p : Part) (t : Tree) → Said config outer before (first p t) → OwnLimits config (add before p)
+  with_next p t said = own_front t config (add before p) (subst (OwnLimits config) (sym (join-add before p t)) said.whole)
+
+  few_here : (t : Tree) → Said config outer before t → IsFew (scope_of before)
+  few_here t said = let o = own_front t config before said.whole in omega (arith, o.types, o.core_types, consistent.types)
+
+  -- behind one part more
+  said_past : (p : Part) (t : Tree) → Said config outer before (first p t) → Said config outer (add before p) t
+  said_past p t said =
+      let z = parts_are (part p) (parts t) said.spelled.0 said.spelled.1 in
+      record {
+        spoken = spoken_past config p (scopes_in outer) before (suc (length outer)) said.plan.0 said.formed.0 said.spoken;
+        plan = said.plan.1;
+        formed = said.formed.1;
+        whole = subst (OwnLimits config) (sym (join-add before p t)) said.whole;
+        each = all_back (OwnLimits config) (anywhere_in components_in p) (inside t) said.each;
+        around = said.around;
+        shallow = omega (arith, said.shallow);
+        spelled = (z.right, z.q_is);
+      }
+
+  -- within a component
+  said_inside : (u t : Tree) → Said config outer before (first (component u) t) → Said config (outer ++ before ∷ []) ends u
+  said_inside u t said =
+      let z = parts_are (part (component u)) (parts t) said.spelled.0 said.spelled.1 in
+      let in_it : AllByRecursion (OwnLimits config) (u ∷ inside u) = all_front (OwnLimits config) (u ∷ inside u) (inside t) said.each in
+      let scopes : scopes_in (outer ++ before ∷ []) ≡ scope_of before ∷ scopes_in outer = scopes_from-snoc outer before [] in
+      let longer : length (outer ++ before ∷ []) ≡ suc (length outer) = omega (arith, length-append outer (before ∷ [])) in
+      record {
+        spoken = tt;
+        plan = subst (λ n. IsPlan config (suc n) u) (sym longer) said.plan.0;
+        formed = subst (λ ss. Formed u ss ends) (sym scopes) said.formed.0;
+        whole = in_it.0;
+        each = in_it.1;
+        around = subst (AllByRecursion IsFew) (sym scopes) (few_here (first (component u) t) said, said.around);
+        shallow = omega (arith, said.shallow, longer);
+        spelled = component_encoded u (z.left, z.p_is);
+      }
+
+  -- what follows the choice of the item, where it is no component
+  small_custom : (name contents : List ℕ) (t : Tree) → Said config outer before (first (custom name contents) t)
+      → Small (script_part (custom name contents) config outer before)
+  small_custom name contents t said =
+      let limits = with_next (custom name contents) t said in
+      let short : Short (name ∷ []) = all_back _ (own names_in before) (name ∷ [])
+      (subst Short (own-add names_in before (custom name contents)) limits.names) in
+      let z = parts_are (part (custom name contents)) (parts t) said.spelled.0 said.spelled.1 in
+      small_join (small_text 1000 name (omega arith) said.plan.0 short.0) (small_bytes contents (contents_bytes name contents (z.left, z.p_is)))
+
+  small_core_part : (ts : List CoreEntry) (t : Tree) → Said config outer before (first (core_types ts) t)
+      → Small (script_part (core_types ts) config outer before)
+  small_core_part ts t said =
+      let fits : Fits config (after_part (spaces_of before) (core_types ts)) = fits_behind config before (core_types ts) (with_next (core_types ts) t said) in
+      let few : length (core_types_of before) + length ts ≤ config.max_types = omega (arith, fits.core_types, length-append (core_types_of before) ts) in
+      let limited : AllByRecursion (CoreLimits config) ts = all_back _ (core_types_of before) ts fits.within_core_types in
+      small_said (λ s x. script_core config s config.max_type_size x) with_core_type (core_sections.Said config) one 0
+      (config.max_types - length (core_types_of before)) 0 (scope_of before) ts
+      (core_sections.all_said config ts (scope_of before) said.formed.0 limited said.plan.0 (omega (arith, few, consistent.types)))
+    where
+      one : (s : Scope) (x : CoreEntry) → core_sections.Said config s x → Small (script_core config s config.max_type_size x)
+      one s x (formed, limits, lasts, small) = small_core config s config.max_type_size x formed limits lasts.1 lasts.0 small
+
+  small_type_part : (ts : List Entry) (t : Tree) → Said config outer before (first (types ts) t) → Small (script_part (types ts) config outer before)
+  small_type_part ts t said =
+      let fits : Fits config (after_part (spaces_of before) (types ts)) = fits_behind config before (types ts) (with_next (types ts) t said) in
+      let few : length (types_of before) + length ts ≤ config.max_types = omega (arith, fits.types, length-append (types_of before) ts) in
+      let limited : AllByRecursion (EntryLimits config) ts = all_back _ (types_of before) ts fits.within_types in
+      let count : length (scopes_in outer) ≡ length outer = omega (arith, length-scopes_from outer []) in
+      let lasts : AllByRecursion (λ e. Lasts e config (suc (length (scopes_in outer))) config.max_type_size) ts =
+      subst (λ n. AllByRecursion (λ e. Lasts e config (suc n) config.max_type_size) ts) (sym count) said.plan.0 in
+      let can = type_sections.sayable config (scopes_in outer) said.around (omega (arith, said.shallow, count)) in
+      small_said (λ s e. script_type e config config.max_type_size s (scopes_in outer)) with_type (type_sections.Said config (scopes_in outer))
+      (λ s e h. record { are = type_bytes config s (scopes_in outer) config.max_type_size e consistent.nesting (can s e h) }) 0
+      (config.max_types - length (types_of before)) 0 (scope_of before) ts
+      (type_sections.all_said config (scopes_in outer) ts (scope_of before) said.formed.0 limited lasts (omega (arith, few, fits.core_types, consistent.types)))
+
+  small_import_part : (is : List ImportEntry) (t : Tree) → Said config outer before (first (imports is) t)
+      → Small (script_part (imports is) config outer before)
+  small_import_part is t said =
+      let behind = named_behind (λ (i : ImportEntry). i.name) (imports_of before) is said.formed.0.1 in
+      let stack : Open = record { outer = outer; inner = before } in
+      small_turns (script_import config stack) (λ s x. s ++ x ∷ []) 0 (config.max_imports - length (imports_of before)) 0 [] is
+      (small_imports config stack (few_here (first (imports is) t) said) is said.plan.0 said.formed.0.0 behind.0)
+
+  small_canon_part : (fs : List Canon) (t : Tree) → Said config outer before (first (canons fs) t) → Small (script_part (canons fs) config outer before)
+  small_canon_part fs t said =
+      let limits = with_next (canons fs) t said in
+      let front = own_limits-front config before (canons fs) limits in
+      let count : function_count before + length fs ≤ config.max_funcs = omega (arith, limits.functions, function_count-add before (canons fs)) in
+      let spaces = functions_counted before in
+      small_loop script_canon after_canon 0 (config.max_funcs - function_count before) 0 (spaces_of before) fs
+      (small_canons fs (spaces_of before) said.formed.0 said.spoken (omega (arith, front.types, consistent.types))
+      (omega (arith, count, spaces.most, front.exports, consistent.funcs)))
+
+  small_export_part : (es : List ExportEntry) (t : Tree) → Said config outer before (first (exports es) t)
+      → Small (script_part (exports es) config outer before)
+  small_export_part es t said =
+      let limits = with_next (exports es) t said in
+      let front = own_limits-front config before (exports es) limits in
+      let most : length (exports_of before) + length es ≤ config.max_exports = omega (arith, limits.exports, length-own-add exports_in before (exports es)) in
+      let behind = named_behind (λ (e : ExportEntry). e.name) (exports_of before) es said.formed.0.1 in
+      let start : FormedExports es (spaces_of (with_exports before [])) = subst (FormedExports es) (sym (spaces-add before (exports []))) said.formed.0.0 in
+      small_loop (script_export before) (λ u x. u ++ x ∷ []) 0 (config.max_exports - length (exports_of before)) 0 [] es
+      (small_exports before [] es said.plan.0.1 start behind.0 (omega (arith, most, front.functions, consistent.funcs)))
+
+mutual
+  small_from : (t : Tree) (config : Config) (outer : List Tree) (before : Tree) → IsConsistent config → Said config outer before t
+      → Small (script_from t config outer before)
+  small_from ends config outer before consistent said = small_item config outer before Finish
+  small_from (first p t) config outer before consistent said =
+      small_join (small_join (small_item config outer before (item_of p)) (small_part p t config outer before consistent said))
+      (small_from t config outer (add before p) consistent (said_past config consistent outer before p t said))
+
+  small_part : (p : Part) (t : Tree) (config : Config) (outer : List Tree) (before : Tree) → IsConsistent config → Said config outer before (first p t)
+      → Small (script_part p config outer before)
+  small_part (custom name contents) t config outer before consistent said = small_custom config consistent outer before name contents t said
+  small_part (core_module text) t config outer before consistent said = small_none
+  small_part (core_types ts) t config outer before consistent said = small_core_part config consistent outer before ts t said
+  small_part (component u) t config outer before consistent said =
+      small_from u config (outer ++ before ∷ []) ends consistent (said_inside config consistent outer before u t said)
+  small_part (types ts) t config outer before consistent said = small_type_part config consistent outer before ts t said
+  small_part (canons fs) t config outer before consistent said = small_canon_part config consistent outer before fs t said
+  small_part (imports is) t config outer before consistent said = small_import_part config consistent outer before is t said
+  small_part (exports es) t config outer before consistent said = small_export_part config consistent outer before es t said
+
+-- The script of a plan is bytes.
+pub plan_bytes : (config : Config) (plan : Tree) → IsConsistent config → Within config plan → AreBytes (script config plan)
+plan_bytes config plan consistent w =
+    let z = parts_are (bytes preamble) (parts plan) w.spelled.0 w.spelled.1 in
+    let m = w.limits.maxima in
+    (small_from plan config [] ends consistent (record {
+      spoken = tt;
+      plan = w.scripted;
+      formed = w.formed;
+      whole = m.each.0;
+      each = m.each.1;
+      around = tt;
+      shallow = omega (arith, m.depth, consistent.nesting);
+      spelled = (z.right, z.q_is);
+    })).are
