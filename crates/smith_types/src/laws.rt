@@ -17,7 +17,9 @@ ghost use Rattle.smith_types.specs.Offers.{IsAllowed};
 ghost use Rattle.smith_types.specs.Script.{Fit, IsSayable, script_ref, script_type};
 ghost use Rattle.smith_types.specs.declared.make.references.RefTotals.{RefTotals};
 
-pub use smith_core_types::laws::{core_scripts_are_bytes, core_scripts_are_read, core_types_are_decided};
+pub use smith_core_types::laws::{
+    core_scripts_are_bytes, core_scripts_are_read, core_types_are_decided,
+};
 
 /// The limits, the scopes, the bytes and the fuel alone decide which type is made, with its URLs and what its aliases
 /// keep, and what is left of both.
