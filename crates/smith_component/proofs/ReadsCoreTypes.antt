@@ -17,7 +17,7 @@ use Rattle.smith_component.specs.Script.{script_core_types}
 use Rattle.smith_core_types.specs.Script.{script_core}
 use Rattle.smith_core_types.proofs.CoreScript.{core_read}
 use Rattle.smith_types.specs.Script.{LastsCore}
-use Rattle.smith_types.proofs.Needs.{core_needed}
+use Rattle.smith_core_types.proofs.Needs.{core_needed}
 use Rattle.smith_component.specs.AddedSections.{ReadsCoreType, ReadsCoreTypes}
 
 module _ (config : Config) where

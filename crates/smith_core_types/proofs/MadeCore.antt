@@ -342,7 +342,7 @@ module _ {config : Config} {around : Scope} (P : Declared → Type 0) (burnt : (
   ends_keep s b rest t (no_import f c n none e) p = subst P (sym e) (burnt s (s.fuel - 1) p)
   ends_keep s b rest t (no_export f c n none e) p = subst P (sym e) (burnt s (s.fuel - 1) p)
 
-  module_keeps : {b : List ℕ} {fuel : ℕ} {ds : List ModuleDecl} {rest : List ℕ} {left : ℕ} → (m : MadeModule config around b fuel ds rest left) → P m.front
+  pub module_keeps : {b : List ℕ} {fuel : ℕ} {ds : List ModuleDecl} {rest : List ℕ} {left : ℕ} → (m : MadeModule config around b fuel ds rest left) → P m.front
       → P m.whole
   module_keeps m =
       loop_gives (λ s ds t. P s → P t) (λ s p. p) ends_keep (λ s t u b d rest ds r later p. later (subst P (sym r.state) (more s b d rest t p r))) 0 m.front

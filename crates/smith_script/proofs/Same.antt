@@ -27,7 +27,8 @@ use Rattle.smith_component.proofs.ImportsState.{components_more, funcs_more, ins
 use Rattle.smith_script.specs.Saying.{canon_says, core_type_says, export_says, import_says, item_says, part_says, rows_say, tree_says, type_says}
 use Rattle.smith_script.specs.Standing.{Standing, after_canon, after_core_type, after_export, after_import, after_part, after_type, spaces_in}
 use Rattle.smith_script.specs.Standing.{with_import}
-use Rattle.smith_script_types.proofs.Alike.{script_core_alike, script_ref_alike, script_type_alike}
+use Rattle.smith_script_types.proofs.Alike.{script_ref_alike, script_type_alike}
+use Rattle.smith_script_types.proofs.ModuleAlike.{script_core_alike}
 use Rattle.smith_script_types.specs.Scopes.{Alike, AllAlike}
 use Rattle.smith_script.proofs.Grown.{grown_at, opened_at, part_grows, standing_at, totals_are}
 use Rattle.smith_script.proofs.Loops.{alike_core_more, alike_length, alike_more, loops_agree, plain_core_type, sorted, sorted_alike}
@@ -52,7 +53,7 @@ core_types_same : (config : Config) (scopes : List Scope) (s : Standing) (own : 
 core_types_same config scopes s own max max2 ts e a =
     ap (λ m. rows_say (core_type_says config scopes) after_core_type m s ts) e
     ∙ loops_agree (core_type_says config scopes) after_core_type (λ (z : Scope) x. script_core config z config.max_type_size x) with_core_type
-    (λ s z. Alike s.scope z) (λ s z x r. script_core_alike x config config.max_type_size s.scope z r)
+    (λ s z. Alike s.scope z) (λ s z x r. script_core_alike s.scope z r config config.max_type_size x)
     (λ s z x r. alike_core_more s.scope z x r) 0 max2 0 s own ts a
 
 -- Types.

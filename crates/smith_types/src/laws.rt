@@ -5,10 +5,11 @@ ghost use Rattle.std.specs.Prelude.{nat_eq};
 ghost use Rattle.smith_format.specs.declared.config.Config.{Config};
 ghost use Rattle.smith_input.specs.Reading.{IsDecided, IsReadAs};
 ghost use Rattle.smith_input.specs.Script.{AreBytes, script_among};
-ghost use Rattle.smith_syntax.specs.Entries.{Entry, FullEntry, plain};
+ghost use Rattle.smith_core_types.specs.Needs.{core_need};
+ghost use Rattle.smith_syntax.specs.Entries.{CoreEntry, Entry, FullEntry, plain};
 ghost use Rattle.smith_syntax.specs.Scope.{Scope, is_component, is_core_module, is_func, is_instance, places};
 ghost use Rattle.smith_syntax.specs.TypeLimits.{EntryLimits};
-ghost use Rattle.smith_syntax.specs.WellFormed.{FormedEntry, FormedRef, size};
+ghost use Rattle.smith_syntax.specs.WellFormed.{FormedEntry, FormedRef, core_size, size};
 ghost use Rattle.smith_syntax.specs.declared.deftype.ComponentTypeRef.TheVariants.{Func};
 ghost use Rattle.smith_types.specs.Brief.{Brief};
 ghost use Rattle.smith_types.specs.Made.{Made, MadeWith};
@@ -19,6 +20,7 @@ ghost use Rattle.smith_types.specs.declared.make.references.RefTotals.{RefTotals
 
 pub use smith_core_types::laws::{
     core_scripts_are_bytes, core_scripts_are_read, core_types_are_decided,
+    made_core_types_are_readable,
 };
 
 /// The limits, the scopes, the bytes and the fuel alone decide which type is made, with its URLs and what its aliases
@@ -64,7 +66,8 @@ pub fn answers_need_no_more()
 
 /// No type is larger than the fuel that it needs.
 pub fn sizes_are_needed()
-    ensures { (e : Entry) → size e ≤ need e }
+    ensures types { (e : Entry) → size e ≤ need e }
+    ensures core_types { (t : CoreEntry) → core_size t ≤ core_need t }
 {}
 
 /// A type whose names can be read, well formed in its scopes and within the limits, is read on some input exactly if
