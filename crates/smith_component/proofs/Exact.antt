@@ -1,6 +1,8 @@
 -- Which components come: of those that can be read, exactly those that are well formed and within the limits.
 use Rattle.std.proofs.Common.{◌≡◌, ◌↔◌, ℕ, suc, ◌+◌, ◌≤◌, max, List, [], ◌∷◌, ◌++◌, length, arith, sym, ap, subst, length-append}
 use Rattle.std.specs.List.{AllByRecursion}
+use Rattle.smith_input.specs.Script.{AreBytes}
+use Rattle.smith_input.proofs.Utf8Bytes.{joined_bytes}
 use Rattle.smith_format.specs.Limits.{IsConsistent}
 use Rattle.smith_format.specs.declared.config.Config.{Config}
 use Rattle.smith_syntax.specs.Entries.{CoreEntry, Entry}
@@ -26,6 +28,7 @@ use Rattle.smith_component.proofs.Growth.{spaces-add}
 use Rattle.smith_component.proofs.Plans.{script_runs}
 use Rattle.smith_component.proofs.RunsSound.{runs_sound}
 use Rattle.smith_component.proofs.Script.{limits_front, limits_past}
+use Rattle.smith_component.proofs.ScriptBytes.{plan_bytes}
 use Rattle.smith_component.proofs.Sound.{scopes_from-snoc}
 use Rattle.smith_component.proofs.Tree.{all_before, all_inner, depth-so_far, join-add, join-ends, tree_so_far-close}
 
@@ -96,8 +99,13 @@ pub within : (config : Config) (t : Tree) → IsReadable config t → WellFormed
 within config t r f l s = record { scripted = plan_from t config [] ends r.brief f l.maxima s; formed = f; limits = l; spelled = r.spelled }
 
 pub exact : (config : Config) (t : Tree) → IsConsistent config → IsReadable config t
-    → ((input rest : List ℕ) × RunsTo config input t rest) ↔ (WellFormed t × Limits config t × Sized config t)
+    → ((input rest : List ℕ) × AreBytes input × RunsTo config input t rest) ↔ (WellFormed t × Limits config t × Sized config t)
 exact config t consistent r = (
-  λ (input, rest, run). runs_sound config input t rest consistent run,
-  λ (f, l, s). (script config t ++ [], [], script_runs config t [] consistent (within config t r f l s)),
+  λ (input, rest, are, run). runs_sound config input t rest consistent run,
+  λ (f, l, s). (
+    script config t ++ [],
+    [],
+    joined_bytes (script config t) [] (plan_bytes config t consistent (within config t r f l s)) tt,
+    script_runs config t [] consistent (within config t r f l s),
+  ),
 )

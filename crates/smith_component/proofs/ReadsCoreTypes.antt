@@ -68,10 +68,10 @@ module _ (config : Config) where
           (m.value, m.rest, e ∙ (ap (with_core_type s) m.value ∙ sym f))
 
   -- A core type may stand in a scope, and its script can say it.
-  abbrev Said : Scope → CoreEntry → Type 0
+  abbrev pub Said : Scope → CoreEntry → Type 0
   Said s x = FormedCore x s.core_types × CoreLimits config x × LastsCore config.max_type_size x × (length s.core_types ≤ 2 ^ 63)
 
-  all_said : (xs : List CoreEntry) (own : Scope) → FormedCores xs own → AllByRecursion (CoreLimits config) xs
+  pub all_said : (xs : List CoreEntry) (own : Scope) → FormedCores xs own → AllByRecursion (CoreLimits config) xs
       → AllByRecursion (LastsCore config.max_type_size) xs → length own.core_types + length xs ≤ 2 ^ 63 → Along Said with_core_type own xs
   all_said [] own f m l small = tt
   all_said (x ∷ xs) own f m l small = (
