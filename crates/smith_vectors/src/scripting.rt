@@ -261,6 +261,55 @@ fn check_outside<R: Abort + AllocGlobal>(
     check_faults(rt, &[row])
 }
 
+// These are read choice by choice in other tables: what the canonical ABI asks is taken (0) or not (99).
+const MODULE_TYPES: &[Parts<'static>] = &[
+    Parts {
+        name: "all that the canonical ABI asks",
+        input: &[
+            b"\x02\x01\x01",
+            b"\x00\x00\x00",
+            b"\x00",
+            b"\x00",
+            b"\x00\x00\x00",
+        ],
+        gives: &[
+            b"\x03\x4d\x01\x50\x05\x03\x06memory\x02\x00\x00",
+            b"\x01\x60\x04\x7f\x7f\x7f\x7f\x01\x7f\x03\x15canonical_abi_realloc\x00\x00",
+            b"\x01\x60\x03\x7f\x7f\x7f\x00\x03\x12canonical_abi_free\x00\x01",
+        ],
+    },
+    Parts {
+        name: "an outer alias",
+        input: &[
+            b"\x02\x01\x00\x00\x00",
+            b"\x01\x01\x63\x63\x63\x01\x03\x00",
+            b"\x00\x00",
+        ],
+        gives: &[b"\x03\x0b\x02\x60\x00\x00", b"\x50\x01\x02\x10\x01\x01\x00"],
+    },
+    Parts {
+        name: "a type, an alias of it, and an export of a function of the alias",
+        input: &[
+            b"\x02\x01\x01\x63\x63\x63",
+            b"\x01\x02\x00\x00",
+            b"\x01\x03",
+            b"\x01\x01\x00\x04\x01",
+            b"\x00\x00\x00",
+        ],
+        gives: &[
+            b"\x03\x10\x01\x50\x03",
+            b"\x01\x60\x00\x00",
+            b"\x02\x10\x01\x00\x00",
+            b"\x03\x00\x00\x01",
+        ],
+    },
+];
+
+#[test]
+fn module_types_have_scripts(rt: HostRuntime) -> Result<(), Fail> {
+    check_plans(&rt, small_limits(), MODULE_TYPES)
+}
+
 // A module type with an export of a table of externref: a module type (1), nothing of what the canonical ABI asks (99
 // three times), a declaration, an export (1) of a name of one letter, of a table (1) of the second sort, with a minimum
 // of 0 and no maximum.
