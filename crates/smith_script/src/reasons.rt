@@ -2,9 +2,7 @@
 
 use crate::error::{Reason, ScriptError};
 use smith_format::Config;
-use smith_read::{
-    ComponentTree, CoreNode, DeclNode, ImportNode, ModuleNode, PartNode, TypeNode,
-};
+use smith_read::{ComponentTree, CoreNode, DeclNode, ImportNode, ModuleNode, PartNode, TypeNode};
 use smith_syntax::{ComponentTypeRef, DefinedType, FuncType};
 use std::alloc::{AllocError, Global};
 
