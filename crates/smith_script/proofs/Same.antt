@@ -31,7 +31,7 @@ use Rattle.smith_script_types.proofs.Alike.{script_ref_alike, script_type_alike}
 use Rattle.smith_script_types.proofs.ModuleAlike.{script_core_alike}
 use Rattle.smith_script_types.specs.Scopes.{Alike, AllAlike}
 use Rattle.smith_script.proofs.Grown.{grown_at, opened_at, part_grows, standing_at, totals_are}
-use Rattle.smith_script.proofs.Loops.{alike_core_more, alike_length, alike_more, loops_agree, plain_core_type, sorted, sorted_alike}
+use Rattle.smith_script.proofs.Loops.{alike_more_core, alike_length, alike_more, loops_agree, plain_core_type, sorted, sorted_alike}
 
 -- The open components are those with a part more.
 pub after_same : (outer : List Tree) (t : Tree) (p : Part) → after_part p (standing_at outer t) ≡ standing_at outer (add t p)
@@ -54,7 +54,7 @@ core_types_same config scopes s own max max2 ts e a =
     ap (λ m. rows_say (core_type_says config scopes) after_core_type m s ts) e
     ∙ loops_agree (core_type_says config scopes) after_core_type (λ (z : Scope) x. script_core config z config.max_type_size x) with_core_type
     (λ s z. Alike s.scope z) (λ s z x r. script_core_alike s.scope z r config config.max_type_size x)
-    (λ s z x r. alike_core_more s.scope z x r) 0 max2 0 s own ts a
+    (λ s z x r. alike_more_core s.scope z x r) 0 max2 0 s own ts a
 
 -- Types.
 types_same : (config : Config) (scopes outer : List Scope) (max : ℕ) (s : Standing) (own : Scope) (ts : List Entry) → Alike s.scope own
@@ -115,8 +115,8 @@ module _ (config : Config) (scopes : List Scope) (stack : Open) where
   imports_same : (max : ℕ) (s : Standing) (is : List ImportEntry) → SameImports stack s []
       → rows_say (import_says config scopes) after_import max s is ≡ script_loop (script_import config stack) (λ z x. z ++ x ∷ []) 0 max 0 [] is
   imports_same max s is r =
-      loops_agree (import_says config scopes) after_import (script_import config stack) (λ z x. z ++ x ∷ []) (SameImports stack) import_same import_stays 0 max 0
-      s [] is r
+      loops_agree (import_says config scopes) after_import (script_import config stack) (λ z x. z ++ x ∷ []) (SameImports stack) import_same import_stays
+      0 max 0 s [] is r
 
 -- Exports.
 module _ (config : Config) (scopes : List Scope) (t : Tree) where
@@ -183,7 +183,8 @@ mutual
       ap (tree_says u config (sorted (scope_of t) ∷ scopes)) (sym (opened_at outer t))
       ∙ tree_same u config (outer ++ t ∷ []) ends (sorted (scope_of t) ∷ scopes) (around_more scopes outer t h)
   part_same (types ts) config outer t scopes h =
-      types_same config scopes (scopes_in outer) (config.max_types - length (types_of t)) (standing_at outer t) (scope_of t) ts (sorted_alike (scope_of t)) h.alike
+      types_same config scopes (scopes_in outer) (config.max_types - length (types_of t)) (standing_at outer t) (scope_of t) ts (sorted_alike (scope_of t))
+      h.alike
   part_same (canons fs) config outer t scopes h =
       canons_same config scopes (config.max_funcs - function_count t) (standing_at outer t) (spaces_of t) fs
       (record { types = refl; functions = refl; core_functions = refl })
