@@ -264,17 +264,12 @@ fn limits_that_do_not_fit_together_are_named(rt: HostRuntime) -> Result<(), Fail
 
 #[test]
 fn why_there_is_no_script_is_told(rt: HostRuntime) -> Result<(), Fail> {
-    let rows: [(&[usize], Reason, &str); 6] = [
+    let rows: [(&[usize], Reason, &str); 5] = [
         (&[], Reason::Unlike, "it is not what would be read"),
         (
             &[0],
             Reason::CoreModule,
             "section 0: a core module has no script",
-        ),
-        (
-            &[3],
-            Reason::ModuleType,
-            "section 3: a module type has no script",
         ),
         (
             &[2, 0],

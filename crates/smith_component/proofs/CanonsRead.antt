@@ -1,7 +1,7 @@
 -- The script of canonical functions is read as them.
 use Rattle.std.proofs.Common.{◌≡◌, ℕ, ◌+◌, ◌<◌, ◌≤◌, ◌^◌, Bool, true, false, List, [], ◌∷◌, ◌++◌, map, length, arith, refl, sym, ap, ◌∙◌, subst, append_assoc}
-use Rattle.std.proofs.Common.{append-nil, nat_eq, nat_lt, Option, None, Some, Decides}
-use Rattle.std.proofs.lemmas.Bool.Decides.{nat_tests, Decides-eqb}
+use Rattle.std.proofs.Common.{append-nil, nat_eq, Option, None, Some, Decides}
+use Rattle.std.proofs.lemmas.Bool.Decides.{Decides-eqb}
 use Rattle.std.proofs.lemmas.Option.{slice_get_within}
 use Rattle.std.specs.List.{AllByRecursion}
 use Rattle.std.specs.Prelude.{slice_get}
@@ -34,6 +34,7 @@ use Rattle.smith_component.specs.declared.item.CanonItem.TheVariants.{Lower, Lif
 use Rattle.smith_input.proofs.Offered.{offers_few, offers_found}
 use Rattle.smith_scopes.proofs.Places.{place_found}
 use Rattle.smith_types.proofs.LiftingRead.{lifted_read}
+use Rattle.smith_types.proofs.ReferencesRead.{above_zero}
 use Rattle.smith_component.proofs.Growth.{canon_keeps, functions_after, spaces_canon}
 use Rattle.smith_component.proofs.Spaces.{all_at}
 
@@ -66,9 +67,6 @@ item_read s k b item rest e t =
     let found = offers_found (canon_offers s) k b item e t in
     let few : length (canon_items s) ≤ 2 = offers_few (canon_offers s) in
     among_read equal.eq item_Decides (canon_items s) item found.0 rest (omega (arith, few)) found.1
-
-above_zero : (n : ℕ) → 0 < n → nat_lt 0 n ≡ true
-above_zero n h = grind (arith, nat_tests)
 
 module _ (config : Config) (s : Growing) where
   -- a turn of an item that was chosen by its script

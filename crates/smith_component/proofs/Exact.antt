@@ -1,14 +1,17 @@
 -- Which components come: of those that can be read, exactly those that are well formed and within the limits.
 use Rattle.std.proofs.Common.{◌≡◌, ◌↔◌, ℕ, suc, ◌+◌, ◌≤◌, max, List, [], ◌∷◌, ◌++◌, length, arith, sym, ap, subst, length-append}
 use Rattle.std.specs.List.{AllByRecursion}
+use Rattle.smith_input.specs.Script.{AreBytes}
+use Rattle.smith_input.proofs.Utf8Bytes.{joined_bytes}
 use Rattle.smith_format.specs.Limits.{IsConsistent}
 use Rattle.smith_format.specs.declared.config.Config.{Config}
 use Rattle.smith_syntax.specs.Entries.{CoreEntry, Entry}
 use Rattle.smith_syntax.specs.Scope.{Scope, with_type}
 use Rattle.smith_syntax.specs.WellFormed.{FormedTypes}
-use Rattle.smith_types.specs.Brief.{Brief, BriefCore}
+use Rattle.smith_core_types.specs.Texts.{HasReadableTexts}
+use Rattle.smith_types.specs.Brief.{Brief}
 use Rattle.smith_types.specs.Script.{Lasts, LastsCore}
-use Rattle.smith_types.proofs.Exact.{core_lasts, lasts}
+use Rattle.smith_types.proofs.Exact.{lasts}
 use Rattle.smith_types.proofs.Needs.{nests_within}
 use Rattle.smith_scopes.proofs.Plain.{all_back}
 use Rattle.smith_component.specs.Limits.{Limits, Maxima, OwnSizes, Sized, SmallCoreTypes, SmallTypes}
@@ -25,6 +28,7 @@ use Rattle.smith_component.proofs.Growth.{spaces-add}
 use Rattle.smith_component.proofs.Plans.{script_runs}
 use Rattle.smith_component.proofs.RunsSound.{runs_sound}
 use Rattle.smith_component.proofs.Script.{limits_front, limits_past}
+use Rattle.smith_component.proofs.ScriptBytes.{plan_bytes}
 use Rattle.smith_component.proofs.Sound.{scopes_from-snoc}
 use Rattle.smith_component.proofs.Tree.{all_before, all_inner, depth-so_far, join-add, join-ends, tree_so_far-close}
 
@@ -49,10 +53,10 @@ module _ (config : Config) (outer : List Scope) (scopes : ℕ) where
     each_lasts es (with_type own e) f.1 b.1 s.1 (omega (arith, h)),
   )
 
-each_core_lasts : (config : Config) (es : List CoreEntry) → AllByRecursion BriefCore es → SmallCoreTypes config es
+each_core_lasts : (config : Config) (es : List CoreEntry) → AllByRecursion HasReadableTexts es → SmallCoreTypes config es
     → AllByRecursion (LastsCore config.max_type_size) es
 each_core_lasts config [] b s = tt
-each_core_lasts config (e ∷ es) b s = (core_lasts e config.max_type_size b.0 s.0, each_core_lasts config es b.1 s.1)
+each_core_lasts config (e ∷ es) b s = ((s.0, b.0), each_core_lasts config es b.1 s.1)
 
 -- The rest of a component is a plan, where these components are open around it and these parts stand before it.
 mutual
@@ -95,8 +99,13 @@ pub within : (config : Config) (t : Tree) → IsReadable config t → WellFormed
 within config t r f l s = record { scripted = plan_from t config [] ends r.brief f l.maxima s; formed = f; limits = l; spelled = r.spelled }
 
 pub exact : (config : Config) (t : Tree) → IsConsistent config → IsReadable config t
-    → ((input rest : List ℕ) × RunsTo config input t rest) ↔ (WellFormed t × Limits config t × Sized config t)
+    → ((input rest : List ℕ) × AreBytes input × RunsTo config input t rest) ↔ (WellFormed t × Limits config t × Sized config t)
 exact config t consistent r = (
-  λ (input, rest, run). runs_sound config input t rest consistent run,
-  λ (f, l, s). (script config t ++ [], [], script_runs config t [] consistent (within config t r f l s)),
+  λ (input, rest, are, run). runs_sound config input t rest consistent run,
+  λ (f, l, s). (
+    script config t ++ [],
+    [],
+    joined_bytes (script config t) [] (plan_bytes config t consistent (within config t r f l s)) tt,
+    script_runs config t [] consistent (within config t r f l s),
+  ),
 )

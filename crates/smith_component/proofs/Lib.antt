@@ -33,6 +33,7 @@ pub mod Reproducible
 pub mod RunsSound
 pub mod RunsTo
 pub mod Script
+pub mod ScriptBytes
 pub mod SectionValues
 pub mod Shown
 pub mod Sound

@@ -90,15 +90,16 @@ module _ (config : Config) (stack : Open) (rest : List ℕ) where
       (subst Short (own-add names_in stack.inner (custom name contents)) limits.names) in
       (name, contents, custom_read name contents rest plan short.0, refl)
 
-  pub core_types_part : (ts : List CoreEntry) → IsRead (core_types ts)
-  core_types_part ts plan formed limits =
+  pub core_types_part : IsConsistent config → (ts : List CoreEntry) → IsRead (core_types ts)
+  core_types_part consistent ts plan formed limits =
       let fits : Fits config (after_part (spaces_of stack.inner) (core_types ts)) = fits_behind config stack.inner (core_types ts) limits in
       let few : length (core_types_of stack.inner) + length ts ≤ config.max_types =
       omega (arith, fits.core_types, length-append (core_types_of stack.inner) ts) in
       let limited : AllByRecursion (CoreLimits config) ts = all_back _ (core_types_of stack.inner) ts fits.within_core_types in (
         ts,
         _,
-        core_types_read config ts (config.max_types - length (core_types_of stack.inner)) (scope_of stack.inner) rest limited plan (omega (arith, few)),
+        core_types_read config ts (config.max_types - length (core_types_of stack.inner)) (scope_of stack.inner) rest formed limited plan
+            (omega (arith, few)) (omega (arith, few, consistent.types)),
         refl,
       )
 

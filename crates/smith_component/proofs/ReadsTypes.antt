@@ -8,7 +8,7 @@ use Rattle.smith_input.proofs.Loops.{loop_tail, loop_gives, loop_all, loop_enoug
 use Rattle.smith_format.specs.declared.config.Config.{Config}
 use Rattle.smith_syntax.specs.Entries.{Entry}
 use Rattle.smith_syntax.specs.Scope.{Scope, with_type, with_types}
-use Rattle.smith_types.specs.Script.{script_type, Fit, Lasts}
+use Rattle.smith_types.specs.Script.{script_type, Fit, IsSayable, Lasts}
 use Rattle.smith_syntax.specs.TypeLimits.{EntryLimits, nesting}
 use Rattle.smith_syntax.specs.WellFormed.{FormedEntry, FormedTypes}
 use Rattle.smith_scopes.proofs.Stack.{with_none}
@@ -17,6 +17,7 @@ use Rattle.smith_component.specs.Tree.{most_declaring, most_nested}
 use Rattle.smith_types.specs.Needs.{declaring}
 use Rattle.smith_component.specs.Script.{script_types}
 use Rattle.smith_component.specs.AddedSections.{ReadsType, ReadsTypes}
+use Rattle.smith_types.proofs.ReferencesRead.{IsFew}
 use Rattle.smith_types.proofs.ScopedScript.{type_read}
 use Rattle.smith_component.proofs.MadeWith.{made_with_tail, made_with_formed, made_with_limits, made_with_nesting, made_with_need, made_with_declared, made_with_same}
 
@@ -104,15 +105,11 @@ module _ (config : Config) (outer : List Scope) where
           let m = made_with_same made other in
           (m.0, m.1, e ∙ (ap (with_type s) m.0 ∙ sym f))
 
-  -- no more stand in a scope than a choice can be spelled of
-  abbrev pub IsFew : Scope → Type 0
-  IsFew s = length s.types + length s.core_types ≤ 2 ^ 64
-
   -- A type may stand in a scope, and its script can say it.
-  abbrev Said : Scope → Entry → Type 0
+  abbrev pub Said : Scope → Entry → Type 0
   Said s x = FormedEntry x s outer × EntryLimits config x × Lasts x config (suc (length outer)) config.max_type_size × IsFew s
 
-  all_said : (xs : List Entry) (own : Scope) → FormedTypes xs own outer → AllByRecursion (EntryLimits config) xs
+  pub all_said : (xs : List Entry) (own : Scope) → FormedTypes xs own outer → AllByRecursion (EntryLimits config) xs
       → AllByRecursion (λ e. Lasts e config (suc (length outer)) config.max_type_size) xs → length own.types + length own.core_types + length xs ≤ 2 ^ 64
       → Along Said with_type own xs
   all_said [] own f m l small = tt
@@ -120,6 +117,12 @@ module _ (config : Config) (outer : List Scope) where
     (f.0, m.0, l.0, omega arith),
     all_said xs (with_type own x) f.1 m.1 l.1 (omega (arith, length-append own.types (x ∷ []))),
   )
+
+  pub sayable : AllByRecursion IsFew outer → suc (length outer) ≤ 1000 → (s : Scope) (x : Entry) → Said s x
+      → IsSayable config s outer config.max_type_size x
+  sayable around shallow s x (formed, limits, lasts, small) =
+      let fit : Fit (s ∷ outer) = record { many = omega (arith, shallow); each = (small, around) } in
+      record { formed = formed; limits = limits; lasts = lasts; fit = fit; shallow = shallow }
 
   -- Their script is read as them.
   pub types_read : AllByRecursion IsFew outer → suc (length outer) ≤ 1000 → config.max_nesting_depth ≤ 1000
@@ -133,9 +136,4 @@ module _ (config : Config) (outer : List Scope) where
     where
       one : (s : Scope) (x : Entry) (rest : List ℕ) → Said s x
           → ReadsType config outer s (script_type x config config.max_type_size s outer ++ rest) x rest (with_type s x)
-      one s x rest (formed, limits, lasts, small) =
-          let fit : Fit (s ∷ outer) = record { many = omega (arith, shallow); each = (small, around) } in (
-            type_read config deep s outer config.max_type_size x rest
-                (record { formed = formed; limits = limits; lasts = lasts; fit = fit; shallow = shallow }),
-            refl,
-          )
+      one s x rest said = (type_read config deep s outer config.max_type_size x rest (sayable around shallow s x said), refl)

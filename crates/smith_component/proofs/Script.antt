@@ -194,7 +194,7 @@ reach_from (first (custom name contents) t) config consistent outer before spoke
 reach_from (first (core_types ts) t) config consistent outer before spoken rest next left k plan formed l each enough after =
     let p : Part = core_types ts in
     adds config outer before next left p 2 (script_from t config outer (add before p)) rest (front config outer before).2
-    (core_types_part config (record { outer = outer; inner = before }) (script_from t config outer (add before p) ++ rest) ts plan.0 formed.0
+    (core_types_part config (record { outer = outer; inner = before }) (script_from t config outer (add before p) ++ rest) consistent ts plan.0 formed.0
     (part_limits p t config outer before l))
     (reach_from t config consistent outer (add before p) (spoken_past config p (scopes_in outer) before (suc (length outer)) plan.0 formed.0 spoken) rest next
     left k plan.1 formed.1 (limits_past p t config outer before l) each (enough_past p t config before enough)
@@ -330,7 +330,7 @@ module _ (config : Config) (consistent : IsConsistent config) (stack : Open) whe
           turn_of config stack Custom 1 _ rest _ (at config stack).0 (custom_part config stack rest name contents plan formed own)
       does (core_module text) flat m plan formed own spoken = absurd plan
       does (core_types ts) flat m plan formed own spoken = turn_of config stack CoreTypes 2 _ rest _ (at config stack).1
-          (core_types_part config stack rest ts plan formed own)
+          (core_types_part config stack rest consistent ts plan formed own)
       does (component t) flat m plan formed own spoken = absurd (flat refl)
       does (types ts) flat m plan formed own spoken = turn_of config stack Types 3 _ rest _ (at config stack).2
           (types_part config stack rest consistent ts m plan formed own)

@@ -5,7 +5,8 @@ use Rattle.smith_format.specs.declared.config.Config.{Config}
 use Rattle.smith_syntax.specs.CoreLimits.{CoreLimits}
 use Rattle.smith_syntax.specs.Entries.{Entry, CoreEntry}
 use Rattle.smith_syntax.specs.TypeLimits.{EntryLimits}
-use Rattle.smith_types.specs.Needs.{core_need, need}
+use Rattle.smith_core_types.specs.Needs.{core_need}
+use Rattle.smith_types.specs.Needs.{need}
 use Rattle.smith_component.specs.Spaces.{core_types_of, types_of}
 use Rattle.smith_component.specs.Tree.{Tree, own, inside, module_count, component_count, instance_count, depth, scope_depth, names_in}
 use Rattle.smith_component.specs.Tree.{declared_depth, exports_of, function_count, imports_of}

@@ -6,7 +6,8 @@ use Rattle.smith_input.specs.Script.{pick, script_among, script_loop, script_nam
 use Rattle.smith_format.specs.declared.config.Config.{Config}
 use Rattle.smith_syntax.specs.Entries.{Entry, CoreEntry, ImportEntry}
 use Rattle.smith_syntax.specs.Scope.{Scope, with_type, with_core_type}
-use Rattle.smith_types.specs.Script.{script_type, script_core, script_ref, script_extern, Lasts, LastsCore}
+use Rattle.smith_core_types.specs.Script.{script_core}
+use Rattle.smith_types.specs.Script.{script_type, script_ref, script_extern, Lasts, LastsCore}
 use Rattle.smith_component.specs.Spaces.{core_types_of, functions_of, spaces_of, types_of}
 use Rattle.smith_component.specs.Tree.{Tree, ends, first, Part, custom, core_module, core_types, component, types, canons, imports, exports, add}
 use Rattle.smith_component.specs.Tree.{ExportEntry, exports_of, function_count, imports_of}
@@ -41,7 +42,7 @@ script_types config max own outer ts = script_loop (λ s e. script_type e config
 
 -- The same of a core type section.
 abbrev pub script_core_types : Config → ℕ → Scope → List CoreEntry → List ℕ
-script_core_types config max own ts = script_loop (λ s x. script_core config x) with_core_type 0 max 0 own ts
+script_core_types config max own ts = script_loop (λ s x. script_core config s config.max_type_size x) with_core_type 0 max 0 own ts
 
 -- an import where the section has these: what it is of, its name, and that there is no URL
 abbrev pub script_import : Config → Open → List ImportEntry → ImportEntry → List ℕ
@@ -86,9 +87,9 @@ IsPlanImport x = length x.name ≤ 100
 abbrev pub IsPlanExport : ExportEntry → Type 0
 IsPlanExport x = length x.name ≤ 100
 
--- A plan that scripts can say, where so many scopes are on the stack: custom sections, core type sections of function types, type
--- sections for which the fuel lasts, imports, canonical functions, exports where there may be some, and components of these. No lift of a
--- script defines its type: each is to one that stands there.
+-- A plan that scripts can say, where so many scopes are on the stack: custom sections, core type sections and type sections for which
+-- the fuel lasts, imports, canonical functions, exports where there may be some, and components of these. No lift of a script defines
+-- its type: each is to one that stands there.
 abbrev mutual
   pub IsPlan : Config → ℕ → Tree → Type 0
   IsPlan config scopes ends = Unit {0}

@@ -9,6 +9,7 @@ ghost use Rattle.smith_format.specs.Limits.{IsConsistent};
 ghost use Rattle.smith_format.specs.TooLong.{ContentsTooLong};
 ghost use Rattle.smith_format.specs.declared.config.Config.{Config};
 ghost use Rattle.smith_input.specs.Reading.{IsDecided, IsReadAs};
+ghost use Rattle.smith_input.specs.Script.{AreBytes};
 ghost use Rattle.smith_input.specs.declared.error.Error.{Error};
 ghost use Rattle.smith_input.specs.declared.error.Error.TheVariants.{OutOfMemory};
 ghost use Rattle.smith_component.specs.Grammar.{Spells, component_text};
@@ -61,10 +62,16 @@ pub fn plans_are_read()
         → IsReadAs (RunsTo config) (script config plan) plan }
 {}
 
-/// Of the components that can be read, exactly those come, on some input, that are well formed and within the limits.
+/// The script of a plan is bytes.
+pub fn scripts_are_bytes()
+    ensures { (config : Config) (plan : Tree) → IsConsistent config → Within config plan
+        → AreBytes (script config plan) }
+{}
+
+/// Of the components that can be read, exactly those come, on some bytes, that are well formed and within the limits.
 pub fn components_are_exact()
     ensures { (config : Config) (tree : Tree) → IsConsistent config → IsReadable config tree
-        → ((input left : List ℕ) × RunsTo config input tree left)
+        → ((input left : List ℕ) × AreBytes input × RunsTo config input tree left)
         ↔ (WellFormed tree × Limits config tree × Sized config tree) }
 {}
 

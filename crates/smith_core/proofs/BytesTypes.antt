@@ -3,10 +3,10 @@ use Rattle.std.proofs.Common.{◌≡◌, ℕ, zero, suc, ◌+◌, ◌/◌, ◌%�
 use Rattle.std.proofs.Common.{sym, subst, arith, Option, Some, None, ℤ, pos, negsuc, IsUtf8}
 use Rattle.std.specs.List.{AllByRecursion, list_all}
 use Rattle.std.specs.Str.{is_utf8}
-use Rattle.std.proofs.Math.Utf8.{encode, encodes, scalar, scalars, scalar_cases}
-use Rattle.std.proofs.lemmas.Bool.{and_parts, ltb-false}
+use Rattle.std.proofs.lemmas.Bool.{ltb-false}
 use Rattle.std.proofs.lemmas.Str.{IsUtf8-from_is_utf8}
 use borrow.Author.Tests.{ltb-true}
+use Rattle.smith_input.proofs.Utf8Bytes.{chosen_bytes, joined_bytes, utf8_bytes}
 use Rattle.smith_format.specs.CoreTypes.{ref_val, core_val, core_function, Function}
 use Rattle.smith_format.specs.Entities.{bit, has_maximum, maximum, limits, table_type, memory_type, global_type, tag_type, entity, core_import, CoreImport}
 use Rattle.smith_format.specs.Numbers.{digits, unsigned, signed, as_it_is, turned}
@@ -31,14 +31,6 @@ AreSmall bs = AllByRecursion (λ n. n < 256) bs
 pub record AreBytes (p : Piece) : Type 0 where
   pub law : (b : List ℕ) → p ≡ Some b → AreSmall b
 
-small_join : (a b : List ℕ) → AreSmall a → AreSmall b → AreSmall (a ++ b)
-small_join [] b f g = g
-small_join (x ∷ a) b f g = (f.0, small_join a b f.1 g)
-
-small_choice : (x : Bool) (a b : List ℕ) → (x ≡ true → AreSmall a) → (x ≡ false → AreSmall b) → AreSmall (cond x a b)
-small_choice true a b f g = f refl
-small_choice false a b f g = g refl
-
 -- how pieces are joined
 pub are_some : (b : List ℕ) → AreSmall b → AreBytes (Some b)
 are_some b h = record { law = λ c e. let z : b ≡ c = cc in subst AreSmall z h }
@@ -54,7 +46,7 @@ are_join {p} {q} f g =
     record {
       law = λ b e.
           let z = parts_are p q b e in
-          subst AreSmall (sym z.is) (small_join z.left z.right (f.law z.left z.p_is) (g.law z.right z.q_is));
+          subst AreSmall (sym z.is) (joined_bytes z.left z.right (f.law z.left z.p_is) (g.law z.right z.q_is));
     }
 
 pub are_choice : (x : Bool) {p q : Piece} → AreBytes p → AreBytes q → AreBytes (cond x p q)
@@ -75,7 +67,7 @@ module _ (bits : ℕ → ℕ) (below : (n : ℕ) → n < 128 → bits n < 128) (
   unfolding digits
   small_digits zero n h = (omega (arith, below n (omega arith)), tt)
   small_digits (suc more) n h =
-      small_choice (nat_lt n last) (bits n ∷ []) ((128 + bits (n % 128)) ∷ digits bits last more (n / 128))
+      chosen_bytes (nat_lt n last) (bits n ∷ []) ((128 + bits (n % 128)) ∷ digits bits last more (n / 128))
       (λ e. let l = ltb-true n last e in (omega (arith, below n (omega arith)), tt))
       (λ e. let l = ltb-false n last e in
       (omega (arith, below (n % 128) (omega arith)), small_digits more (n / 128) (omega arith)))
@@ -109,28 +101,9 @@ pub are_raw : (bs : List ℕ) → AreBytes (raw bs)
 unfolding raw
 are_raw bs = are_tested (list_all (λ b. nat_lt b 256) bs) bs (small_raw bs)
 
-small_encode : (c : ℕ) → scalar c ≡ true → AreSmall (encode c)
-unfolding encode
-small_encode c h =
-    let l : c < 1114112 = elim (scalar_cases c h) [ inl k ↦ omega arith | inr k ↦ k.1 ] in
-    small_choice (nat_lt c 128) _ _ (λ e. let f = ltb-true c 128 e in (omega arith, tt))
-    (λ _. small_choice (nat_lt c 2048) _ _ (λ e. let f = ltb-true c 2048 e in (omega arith, (omega arith, tt)))
-    (λ _. small_choice (nat_lt c 65536) _ _
-    (λ e. let f = ltb-true c 65536 e in (omega arith, (omega arith, (omega arith, tt))))
-    (λ _. (omega arith, (omega arith, (omega arith, (omega arith, tt)))))))
-
-small_encodes : (cs : List ℕ) → scalars cs ≡ true → AreSmall (encodes cs)
-small_encodes [] h = tt
-small_encodes (c ∷ cs) h =
-    let z = and_parts (scalar c) (scalars cs) h in
-    small_join (encode c) (encodes cs) (small_encode c z.0) (small_encodes cs z.1)
-
-small_utf8 : (bs : List ℕ) → IsUtf8 bs → AreSmall bs
-small_utf8 bs (cs, (h, e)) = subst AreSmall e (small_encodes cs h)
-
 are_utf8 : (bs : List ℕ) → AreBytes (utf8 bs)
 unfolding utf8
-are_utf8 bs = are_tested (is_utf8 bs) bs (λ e. small_utf8 bs (IsUtf8-from_is_utf8 bs e))
+are_utf8 bs = are_tested (is_utf8 bs) bs (λ e. utf8_bytes bs (IsUtf8-from_is_utf8 bs e))
 
 pub are_text : (t : List ℕ) → AreBytes (text t)
 unfolding text

@@ -37,6 +37,28 @@ module _ (config : Config) (around : Scope) where
       let r = after_decls (with_decl around.core_types s d) ds in
       (r.0 ∙ append_assoc s.decls (d ∷ []) ds, omega (arith, r.1))
 
+  -- What stands behind what the canonical ABI asks can be said.
+  pub behind_sayable : (fuel : ℕ) (ds : List ModuleDecl) → FormedCore (core_module ds) around.core_types → ModuleLimits config ds
+      → AllByRecursion HasReadableText ds → core_size (core_module ds) < fuel → length around.core_types ≤ 2 ^ 63
+      → let x = fronted ds in Along (IsSayable config around) (with_decl around.core_types) (front_state fuel x.memory x.reallocs x.frees) (after_front ds)
+  behind_sayable fuel ds formed limits texts lasts few =
+      let x = fronted ds in
+      let more : List ModuleDecl = after_front ds in
+      let start : Declared = front_state fuel x.memory x.reallocs x.frees in
+      let whole : ds ≡ front_decls x.memory x.reallocs x.frees ++ more = whole_front x in
+      let long = ap length whole ∙ length-append (front_decls x.memory x.reallocs x.frees) more in
+      let small : length ds + length around.core_types ≤ 2 ^ 64 = omega (arith, long, front_few x.memory x.reallocs x.frees, limits.declarations, few) in
+      let behind : FormedDecls around.core_types start.own more =
+      (front_formed around.core_types x.memory x.reallocs x.frees more (subst (FormedDecls around.core_types []) whole formed.0)).1 in
+      let readable : AllByRecursion HasReadableText more =
+      all_back HasReadableText (front_decls x.memory x.reallocs x.frees) more (subst (AllByRecursion HasReadableText) whole texts) in
+      decls_sayable config around ds formed.1 limits small start more whole (front_types x.memory x.reallocs x.frees) behind readable lasts
+
+  -- the state behind it
+  pub begun : (fuel : ℕ) (ds : List ModuleDecl) → let x = fronted ds in
+      front_before fuel ds (after_front ds) ≡ front_state fuel x.memory x.reallocs x.frees
+  begun fuel ds = let x = fronted ds in front_before_is fuel x.memory x.reallocs x.frees ds (after_front ds) (whole_front x)
+
   -- a module type with so much fuel left for its declarations
   declared_read : (fuel : ℕ) (ds : List ModuleDecl) (rest : List ℕ) → FormedCore (core_module ds) around.core_types → ModuleLimits config ds
       → AllByRecursion HasReadableText ds → core_size (core_module ds) < fuel → length around.core_types ≤ 2 ^ 63
@@ -46,19 +68,12 @@ module _ (config : Config) (around : Scope) where
       let more : List ModuleDecl = after_front ds in
       let start : Declared = front_state fuel x.memory x.reallocs x.frees in
       let whole : ds ≡ front_decls x.memory x.reallocs x.frees ++ more = whole_front x in
-      let begun : front_before fuel ds more ≡ start = front_before_is fuel x.memory x.reallocs x.frees ds more whole in
       let a : List ℕ = script_front config fuel ds (after_memory ds) (after_realloc (after_memory ds)) more in
       let turns : Declared → List ℕ = λ s. script_loop (script_decl config around) (with_decl around.core_types) 0 100 0 s more in
       let said : script_module config around fuel ds ++ rest ≡ a ++ (turns start ++ rest) =
-      ap (λ s. (a ++ turns s) ++ rest) begun ∙ append_assoc a (turns start) rest in
+      ap (λ s. (a ++ turns s) ++ rest) (begun fuel ds) ∙ append_assoc a (turns start) rest in
       let long = ap length whole ∙ length-append (front_decls x.memory x.reallocs x.frees) more in
-      let small : length ds + length around.core_types ≤ 2 ^ 64 = omega (arith, long, front_few x.memory x.reallocs x.frees, limits.declarations, few) in
-      let behind : FormedDecls around.core_types start.own more =
-      (front_formed around.core_types x.memory x.reallocs x.frees more (subst (FormedDecls around.core_types []) whole formed.0)).1 in
-      let readable : AllByRecursion HasReadableText more =
-      all_back HasReadableText (front_decls x.memory x.reallocs x.frees) more (subst (AllByRecursion HasReadableText) whole texts) in
-      let all : Along (IsSayable config around) (with_decl around.core_types) start more =
-      decls_sayable config around ds formed.1 limits small start more whole (front_types x.memory x.reallocs x.frees) behind readable lasts in
+      let all : Along (IsSayable config around) (with_decl around.core_types) start more = behind_sayable fuel ds formed limits texts lasts few in
       let end = after_decls start more in
       let few_turns : 0 + length more ≤ 100 = omega (arith, limits.declarations) in
       let loop = loop_read {Ends = ModuleEnds config around} {Item = ReadsDecl config around} {min = 0} {max = 100} (script_decl config around)
@@ -76,7 +91,7 @@ module _ (config : Config) (around : Scope) where
       })
 
   -- what a module type needs, where there is fuel for more than the empty one, and where there is not
-  lasting : (fuel : ℕ) (ds : List ModuleDecl) → core_need (core_module ds) ≤ fuel → 2 ≤ fuel → core_size (core_module ds) + 2 ≤ fuel
+  pub lasting : (fuel : ℕ) (ds : List ModuleDecl) → core_need (core_module ds) ≤ fuel → 2 ≤ fuel → core_size (core_module ds) + 2 ≤ fuel
   lasting fuel [] need some = some
   lasting fuel (d ∷ ds) need some = need
 

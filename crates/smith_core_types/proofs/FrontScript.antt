@@ -53,16 +53,16 @@ front_before_is fuel m r f ds behind e = ap (with_front (undeclared fuel)) (in_f
 
 -- lines
 
-abbrev line_declined : Bool → List ℕ
+abbrev pub line_declined : Bool → List ℕ
 line_declined may = if may then pick 100 99 else []
 
-line_absent : (may : Bool) (ds behind : List ModuleDecl) → ds ≡ behind → script_line may ds behind ≡ line_declined may
+pub line_absent : (may : Bool) (ds behind : List ModuleDecl) → ds ≡ behind → script_line may ds behind ≡ line_declined may
 line_absent may ds behind e =
     let long : length ds ≡ length behind = ap length e in
     let none : nat_lt (length behind) (length ds) ≡ false = grind (arith, nat_tests) in
     ap (λ b. if b then pick 100 0 ++ flat_map script_asked (entities_of (in_front ds behind)) else line_declined may) none
 
-line_stands : (may : Bool) (ds : List ModuleDecl) (d : ModuleDecl) (front behind : List ModuleDecl) → ds ≡ (d ∷ front) ++ behind
+pub line_stands : (may : Bool) (ds : List ModuleDecl) (d : ModuleDecl) (front behind : List ModuleDecl) → ds ≡ (d ∷ front) ++ behind
     → script_line may ds behind ≡ pick 100 0 ++ flat_map script_asked (entities_of (d ∷ front))
 line_stands may ds d front behind e =
     let long = ap length e ∙ length-append (d ∷ front) behind in

@@ -10,3 +10,6 @@ pub mod ModuleSaid
 pub mod FrontFound
 pub mod FrontScript
 pub mod CoreScript
+pub mod MadeNames
+pub mod Needs
+pub mod ScriptBytes

@@ -1,6 +1,6 @@
 -- Core types that are made: they leave a tail of the bytes, are no larger than their fuel, determined, well formed and within
 -- the limits; and scripts are read as them.
-use Rattle.std.proofs.Common.{◌≡◌, inl, inr, ℕ, ◌+◌, ◌-◌, ◌^◌, ◌<◌, ◌≤◌, Bool, true, false, List, [], ◌∷◌, ◌++◌, map, length, length-append, refl, sym, ap, ◌∙◌}
+use Rattle.std.proofs.Common.{◌≡◌, inl, inr, ℕ, ◌+◌, ◌-◌, ◌<◌, ◌≤◌, Bool, true, false, List, [], ◌∷◌, ◌++◌, map, length, length-append, refl, sym, ap, ◌∙◌}
 use Rattle.std.proofs.Common.{subst, arith, append-nil, append_assoc}
 use Rattle.std.proofs.lemmas.Bool.{false≢true, ltb-true}
 use Rattle.std.specs.Prelude.{Some, None, IfSome, slice_get, codes}
@@ -342,7 +342,7 @@ module _ {config : Config} {around : Scope} (P : Declared → Type 0) (burnt : (
   ends_keep s b rest t (no_import f c n none e) p = subst P (sym e) (burnt s (s.fuel - 1) p)
   ends_keep s b rest t (no_export f c n none e) p = subst P (sym e) (burnt s (s.fuel - 1) p)
 
-  module_keeps : {b : List ℕ} {fuel : ℕ} {ds : List ModuleDecl} {rest : List ℕ} {left : ℕ} → (m : MadeModule config around b fuel ds rest left) → P m.front
+  pub module_keeps : {b : List ℕ} {fuel : ℕ} {ds : List ModuleDecl} {rest : List ℕ} {left : ℕ} → (m : MadeModule config around b fuel ds rest left) → P m.front
       → P m.whole
   module_keeps m =
       loop_gives (λ s ds t. P s → P t) (λ s p. p) ends_keep (λ s t u b d rest ds r later p. later (subst P (sym r.state) (more s b d rest t p r))) 0 m.front
@@ -543,10 +543,10 @@ offered_few : {A : Type 0} (b : Bool) (xs : List A) → length (offered b xs) �
 offered_few true xs = omega arith
 offered_few false xs = omega arith
 
-few_append : {A : Type 0} (a b c d : List A) → length a ≤ 2 → length b ≤ 2 → length c ≤ 1 → length d ≤ 2 → length (a ++ b ++ c ++ d) ≤ 2 ^ 64
+few_append : {A : Type 0} (a b c d : List A) → length a ≤ 2 → length b ≤ 2 → length c ≤ 1 → length d ≤ 2 → length (a ++ b ++ c ++ d) ≤ 7
 few_append a b c d h i j k = omega (arith, length-append (a ++ b ++ c) d, length-append (a ++ b) c, length-append a b, h, i, j, k)
 
-pub few_values : (config : Config) → length (configured config) ≤ 2 ^ 64
+pub few_values : (config : Config) → length (configured config) ≤ 7
 few_values config =
     few_append (I32 ∷ I64 ∷ []) (offered config.allow_floats (F32 ∷ F64 ∷ [])) (offered config.simd_enabled (V128 ∷ []))
     (offered config.reference_types_enabled (Ref FuncRef ∷ Ref ExternRef ∷ []))
@@ -556,6 +556,7 @@ pub core_type_read : (config : Config) (around : Scope) (fuel : ℕ) (f : Functi
     → FormedFunction (configured config) (max_results config) f → MadeCore config around (script_core_type config f ++ rest) fuel (core_func f) rest (fuel - 1)
 core_type_read config around fuel f rest lasts formed =
     let said = core.script_function (configured config) (max_results config) f in
+    let few : length (configured config) ≤ 7 = few_values config in
     let P : List ℕ → Type 0 = λ b. MadeCore config around b fuel (core_func f) rest (fuel - 1) in
     subst P (sym (append_assoc (pick 2 0) said rest)) (of_function (omega arith) (reads-pick 2 0 (said ++ rest) (omega arith) (omega arith))
-    (function_read (configured config) (max_results config) f rest formed (few_values config)) refl refl)
+    (function_read (configured config) (max_results config) f rest formed (omega (arith, few))) refl refl)

@@ -66,7 +66,7 @@ both_hold true b e f = f
 both_hold false b e f = e
 
 -- What can be said of what is imported or exported, behind these declarations.
-abbrev IsSayableEntity : Config → Declared → EntityType → Type 0
+abbrev pub IsSayableEntity : Config → Declared → EntityType → Type 0
 IsSayableEntity config s e = EntityFits config s.decls e × FormedEntity s.own e
 
 -- A declaration can be said behind others, and the fuel lasts for it.
@@ -139,11 +139,12 @@ module _ (config : Config) (s : Declared) (few : length s.own ≤ 2 ^ 64) where
       (m, record { limits = limits_read m.minimum m.maximum rest f.limits; shared = f.shared; memory64 = f.memory64 }, refl)
   entity_of_read (Global g) rest (fits, f) =
       let x : List ℕ = script_among same_val (configured config) g.val_type in
+      let values : length (configured config) ≤ 7 = few_values config in
       let P : List ℕ → Type 0 = λ z. ReadsEntityOf config s kind.Global z (Global g) rest in
       subst P (sym (append_assoc x (script_bit g.mutable) rest)) (
         g,
         script_bit g.mutable ++ rest,
-        among_written same_val same_val_Decides (configured config) g.val_type (script_bit g.mutable ++ rest) (few_values config) fits.0,
+        among_written same_val same_val_Decides (configured config) g.val_type (script_bit g.mutable ++ rest) (omega (arith, values)) fits.0,
         bit_read g.mutable rest,
         refl,
       )
@@ -202,7 +203,7 @@ func_split None f h = absurd (cc)
 func_split (Some (core_func g)) f h = (core_func g, refl, refl)
 func_split (Some (core_module ds)) f h = absurd (cc)
 
-alias_at : (around : Scope) (s : Declared) (count i : ℕ) (f : Function) → aliased around.core_types s.own count i ≡ Some f
+pub alias_at : (around : Scope) (s : Declared) (count i : ℕ) (f : Function) → aliased around.core_types s.own count i ≡ Some f
     → slice_get (alias_choices around s) (alias_place around count i) ≡ Some (count, i)
 alias_at around s zero i f h = choice_own around s.own (alias_place around 0 i) i refl (slice_get_within s.own i f h)
 alias_at around s (suc zero) i f h =
@@ -254,8 +255,9 @@ module _ (config : Config) (around : Scope) where
       says s (exports name e) item.Export 1 true (b ++ c) rest h.lasts refl refl
       (subst P (sym (append_assoc b c rest)) (name, c ++ rest, new, e, entity, refl))
   decl_read s (declares f) rest h =
+      let values : length (configured config) ≤ 7 = few_values config in
       says s (declares f) item.Type 2 _ (core.script_function (configured config) (max_results config) f) rest h.lasts refl (below _ _ h.fits.1)
-      (f, function_read (configured config) (max_results config) f rest h.fits.0 (few_values config), refl)
+      (f, function_read (configured config) (max_results config) f rest h.fits.0 (omega (arith, values)), refl)
   decl_read s (aliases count i) rest h =
       let cs : List (ℕ × ℕ) = alias_choices around s in
       let at = alias_at around s count i h.formed.0 h.formed.1 in

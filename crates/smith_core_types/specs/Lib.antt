@@ -5,3 +5,4 @@ pub mod MakingCore
 pub mod Needs
 pub mod Texts
 pub mod Offers
+pub mod MadeNames

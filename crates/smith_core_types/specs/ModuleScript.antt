@@ -39,6 +39,7 @@ script_limits minimum maximum = script_between 0 10 minimum ++ script_maximum mi
 abbrev pub script_element : Config → RefType → List ℕ
 script_element config t = if config.reference_types_enabled then script_among references.eq (FuncRef ∷ ExternRef ∷ []) t else []
 
+-- a boolean
 abbrev pub script_bit : Bool → List ℕ
 script_bit b = if b then 1 ∷ [] else 0 ∷ []
 
@@ -50,6 +51,7 @@ script_entity_of config s (Memory m) = script_limits m.minimum m.maximum
 script_entity_of config s (Global g) = script_among same_val (configured config) g.val_type ++ script_bit g.mutable
 script_entity_of config s (Tag t) = script_among nat_eq (places is_tag_type 0 s.own) t.func_type_idx
 
+-- what is imported or exported: a choice of its kind, and then it
 abbrev pub script_entity : Config → Declared → EntityType → List ℕ
 script_entity config s e = script_among kinds.eq (entity_kinds config s) (kind_of e) ++ script_entity_of config s e
 
@@ -62,6 +64,7 @@ alias_place around (suc n) i = rank_of nat_eq (places is_core_func 0 around.core
 abbrev pub script_item : Config → Scope → Declared → ModuleItem → List ℕ
 script_item config around s i = script_among items.eq (module_items config around s) i
 
+-- a declaration behind those so far: its sort, and then its names and what it is of
 abbrev pub script_decl : Config → Scope → Declared → ModuleDecl → List ℕ
 script_decl config around s (imports from name e) =
     script_item config around s item.Import ++ (script_text 100 from ++ (script_text 100 name ++ script_entity config s e))

@@ -1,13 +1,15 @@
 //! Laws of how core types are read. Each function does nothing: its contract is the law.
 
-ghost use Rattle.std.specs.Prelude.{◌≤◌, ◌-◌, ◌^◌, ℕ, length};
+ghost use Rattle.std.specs.Prelude.{◌≤◌, ◌-◌, ◌^◌, ℕ, List, length};
 ghost use Rattle.smith_format.specs.declared.config.Config.{Config};
 ghost use Rattle.smith_input.specs.Reading.{IsDecided, IsReadAs};
+ghost use Rattle.smith_input.specs.Script.{AreBytes};
 ghost use Rattle.smith_syntax.specs.CoreLimits.{CoreLimits};
 ghost use Rattle.smith_syntax.specs.Entries.{CoreEntry};
 ghost use Rattle.smith_syntax.specs.Scope.{Scope};
 ghost use Rattle.smith_syntax.specs.WellFormed.{FormedCore};
 ghost use Rattle.smith_core_types.specs.MadeCore.{MadeCore};
+ghost use Rattle.smith_core_types.specs.MadeNames.{HasMadeNames};
 ghost use Rattle.smith_core_types.specs.Needs.{core_cost, core_need};
 ghost use Rattle.smith_core_types.specs.Script.{script_core};
 ghost use Rattle.smith_core_types.specs.Texts.{HasReadableTexts};
@@ -26,4 +28,20 @@ pub fn core_scripts_are_read()
         → length around.core_types ≤ 2 ^ 63
         → IsReadAs (λ bytes made rest. MadeCore config around bytes fuel made rest (fuel - core_cost e))
         (script_core config around fuel e) e }
+{}
+
+/// A core type that is made, on any input, is well formed in its scope, within the limits and its fuel, and its names
+/// are texts that can be read, made new among those before them.
+pub fn made_core_types_are_readable()
+    ensures { (config : Config) (around : Scope) (bytes : List ℕ) (fuel : ℕ) (e : CoreEntry) (rest : List ℕ) (left : ℕ)
+        → MadeCore config around bytes fuel e rest left
+        → FormedCore e around.core_types × CoreLimits config e × HasMadeNames e × (core_need e ≤ fuel)
+        × (left ≤ fuel - core_cost e) }
+{}
+
+/// The script of such a core type is bytes.
+pub fn core_scripts_are_bytes()
+    ensures { (config : Config) (around : Scope) (fuel : ℕ) (e : CoreEntry)
+        → FormedCore e around.core_types → CoreLimits config e → HasReadableTexts e → core_need e ≤ fuel
+        → length around.core_types ≤ 2 ^ 63 → AreBytes (script_core config around fuel e) }
 {}

@@ -1,7 +1,6 @@
 pub mod Choices
 pub mod Kebab
 pub mod Loops
-pub mod NameBytes
 pub mod NameScript
 pub mod NameSets
 pub mod NameShapes
@@ -11,4 +10,6 @@ pub mod Picks
 pub mod Reading
 pub mod Rests
 pub mod ReadsTexts
+pub mod ScriptBytes
+pub mod Utf8Bytes
 pub mod Widths

@@ -7,7 +7,7 @@ use Rattle.std.proofs.Math.Nat.{pow-suc}
 use Rattle.smith_input.specs.Reading.{spelled, IsWidth, Reads}
 use Rattle.smith_input.specs.Script.{big_endian, width_within, pick}
 
-powers_positive : (w : ℕ) → 0 < 256 ^ w
+pub powers_positive : (w : ℕ) → 0 < 256 ^ w
 powers_positive zero = omega arith
 powers_positive (suc w) = omega (arith, pow-suc 256 w, powers_positive w)
 

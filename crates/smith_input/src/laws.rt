@@ -2,12 +2,11 @@
 
 ghost use Rattle.std.specs.Prelude.{◌≡◌, ℕ, ◌^◌, ◌<◌, ◌≤◌, ◌↔◌, Bool, true, false};
 ghost use Rattle.std.specs.Prelude.{List, [], ◌∷◌, ◌++◌, length, map, replicate, codes};
-ghost use Rattle.std.specs.List.{AllByRecursion};
 ghost use Rattle.std.specs.Str.{IsUtf8};
 ghost use Rattle.smith_input.specs.Reading.{Reads, More, IsDecided, IsReadAs, LeavesTail};
 ghost use Rattle.smith_input.specs.Script.{pick};
 ghost use Rattle.smith_input.specs.Texts.{ReadsBytes, ReadsText};
-ghost use Rattle.smith_input.specs.Script.{script_bytes, script_text};
+ghost use Rattle.smith_input.specs.Script.{AreBytes, script_bytes, script_text};
 ghost use Rattle.smith_input.specs.Kebab.{Kebab};
 ghost use Rattle.smith_input.specs.Names.{ReadsKebab, ReadsNew, IsMadeNew, IsMadeUnique, is_among};
 ghost use Rattle.smith_input.specs.NameScript.{is_within, IsReachable, IsReachableText, ReadsNewText};
@@ -151,10 +150,9 @@ pub fn new_texts_are_exact()
 /// The scripts of new names and texts are bytes.
 pub fn new_name_scripts_are_bytes()
     ensures names { (max : ℕ) (names : List (List ℕ)) (name : List ℕ) → max < 2 ^ 64 → Kebab name
-        → AllByRecursion (λ b. b < 256) (script_new max names name) }
+        → AreBytes (script_new max names name) }
     ensures texts { (max : ℕ) (names : List (List ℕ)) (name : List ℕ) → max < 2 ^ 64
-        → AllByRecursion (λ b. b < 256) name → IsReachableText max names name
-        → AllByRecursion (λ b. b < 256) (script_new_text max names name) }
+        → AreBytes name → IsReachableText max names name → AreBytes (script_new_text max names name) }
 {}
 
 /// The script of a name of at most `max` bytes spells the name as it stands, whatever names there are.

@@ -1,5 +1,6 @@
 -- What an answer of `generate` says of a component, and what a refusal does.
 use Rattle.std.proofs.Common.{◌≡◌, ℕ, ◌<◌, ◌↔◌, List, [], ◌∷◌, sym, subst, ◌∙◌, Some, get_or, suc}
+use Rattle.smith_input.specs.Script.{AreBytes}
 use Rattle.smith_input.specs.declared.error.Error.{Error}
 use Rattle.smith_input.specs.declared.error.Error.TheVariants.{OutOfMemory}
 use Rattle.smith_format.specs.Limits.{IsConsistent}
@@ -10,7 +11,6 @@ use Rattle.smith_component.specs.Runs.{RunsTo}
 use Rattle.smith_component.specs.Tree.{Tree}
 use Rattle.smith_component.proofs.Decided.{runs_to_same}
 use Rattle.smith_component.proofs.Reproducible.{answer_or_memory}
-use Rattle.smith_script_types.specs.Says.{AreBytes}
 use Rattle.smith_script.specs.IsScript.{IsGiven}
 
 module _ (config : Config) (t : Tree) (input bytes : List ℕ) (spells : Spells t bytes) where

@@ -1,11 +1,8 @@
-pub mod Bytes
 pub mod Given
 pub mod Grown
 pub mod Loops
-pub mod PlanBytes
 pub mod Plans
 pub mod Same
 pub mod Scalars
 pub mod Steps
 pub mod Turns
-pub mod TypeBytes

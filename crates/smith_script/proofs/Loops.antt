@@ -1,10 +1,12 @@
 -- Loops of scripts whose states agree, and scopes that a script can not tell apart.
-use Rattle.std.proofs.Common.{◌≡◌, ℕ, ◌+◌, List, [], ◌∷◌, ◌++◌, map, length, refl, sym, ◌∙◌, arith}
+use Rattle.std.proofs.Common.{◌≡◌, ℕ, ◌+◌, List, [], ◌∷◌, ◌++◌, map, length, refl, ap, sym, ◌∙◌, arith}
 use Rattle.std.proofs.lemmas.List.{map-append}
 use Rattle.smith_input.specs.Script.{script_loop, script_more}
 use Rattle.smith_syntax.specs.Entries.{Entry, CoreEntry, defined, function, component_type, instance_type, core_func, core_module}
-use Rattle.smith_syntax.specs.Scope.{Scope, with_type}
-use Rattle.smith_script_types.specs.Scopes.{Alike, AllAlike, core_entry_of, core_sort_of, entry_of, sort_of}
+use Rattle.smith_syntax.specs.Scope.{Scope, with_core_type, with_type}
+use Rattle.smith_script_types.proofs.Sorts.{func_sort_back}
+use Rattle.smith_script_types.specs.Scopes.{Alike, AllAlike, core_entry_of, core_sort_of, entry_of, func_sort_of, sort_of}
+use Rattle.smith_script_types.specs.declared.scopes.CoreSort.TheVariants as core
 
 -- Two loops say the same where their states agree, and go on to agree.
 module _ {S Z A : Type 0} (say : S → A → List ℕ) (next : S → A → S) (say2 : Z → A → List ℕ) (next2 : Z → A → Z) (R : S → Z → Type 0)
@@ -34,7 +36,7 @@ sort_plain (component_type ds) = refl
 sort_plain (instance_type ds) = refl
 
 core_sort_plain : (x : CoreEntry) → core_sort_of (plain_core_type x) ≡ core_sort_of x
-core_sort_plain (core_func f) = refl
+core_sort_plain (core_func f) = ap core.Func (func_sort_back (func_sort_of f))
 core_sort_plain (core_module ds) = refl
 
 types_plain : (es : List Entry) → map sort_of (map plain_type es) ≡ map sort_of es
@@ -57,6 +59,18 @@ alike_more a b e h =
       types =
           map-append sort_of a.types (plain_type e ∷ []) ∙ ((λ i. same i ++ one i ∷ []) ∙ sym (map-append sort_of b.types (e ∷ [])));
       core_types = h.core_types;
+    }
+
+-- with one core type more
+pub alike_more_core : (a b : Scope) (x : CoreEntry) → Alike a b → Alike (with_core_type a (plain_core_type x)) (with_core_type b x)
+alike_more_core a b x h =
+    let one = core_sort_plain x in
+    let same = h.core_types in
+    record {
+      types = h.types;
+      core_types =
+          map-append core_sort_of a.core_types (plain_core_type x ∷ [])
+          ∙ ((λ i. same i ++ one i ∷ []) ∙ sym (map-append core_sort_of b.core_types (x ∷ [])));
     }
 
 pub alike_length : (xs ys : List Scope) → AllAlike xs ys → length xs ≡ length ys

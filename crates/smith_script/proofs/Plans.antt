@@ -6,7 +6,7 @@ use Rattle.smith_component.specs.Runs.{RunsTo}
 use Rattle.smith_component.specs.Script.{Within, script}
 use Rattle.smith_component.specs.Tree.{Tree}
 use Rattle.smith_component.proofs.Plans.{script_runs}
-use Rattle.smith_script.proofs.PlanBytes.{plan_bytes}
+use Rattle.smith_component.proofs.ScriptBytes.{plan_bytes}
 use Rattle.smith_script.specs.IsScript.{IsScript}
 use Rattle.smith_script.specs.declared.error.ScriptError.{ScriptError}
 use Rattle.smith_script.specs.declared.error.ScriptError.TheVariants.{InconsistentLimits, NoScript, OutOfMemory}

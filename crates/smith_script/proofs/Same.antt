@@ -7,7 +7,8 @@ use Rattle.smith_input.specs.Script.{pick, script_among, script_loop, script_nam
 use Rattle.smith_format.specs.declared.config.Config.{Config}
 use Rattle.smith_syntax.specs.Entries.{Entry, CoreEntry, ImportEntry}
 use Rattle.smith_syntax.specs.Scope.{Scope, with_core_type, with_type}
-use Rattle.smith_types.specs.Script.{script_core, script_extern, script_ref, script_type}
+use Rattle.smith_core_types.specs.Script.{script_core}
+use Rattle.smith_types.specs.Script.{script_extern, script_ref, script_type}
 use Rattle.smith_types.specs.declared.make.references.RefTotals.{RefTotals}
 use Rattle.smith_component.specs.CanonScript.{script_canon, script_canons}
 use Rattle.smith_component.specs.Offers.{totals_of, with_exports, with_imports}
@@ -27,9 +28,10 @@ use Rattle.smith_script.specs.Saying.{canon_says, core_type_says, export_says, i
 use Rattle.smith_script.specs.Standing.{Standing, after_canon, after_core_type, after_export, after_import, after_part, after_type, spaces_in}
 use Rattle.smith_script.specs.Standing.{with_import}
 use Rattle.smith_script_types.proofs.Alike.{script_ref_alike, script_type_alike}
+use Rattle.smith_script_types.proofs.ModuleAlike.{script_core_alike}
 use Rattle.smith_script_types.specs.Scopes.{Alike, AllAlike}
 use Rattle.smith_script.proofs.Grown.{grown_at, opened_at, part_grows, standing_at, totals_are}
-use Rattle.smith_script.proofs.Loops.{alike_length, alike_more, loops_agree, plain_core_type, sorted, sorted_alike}
+use Rattle.smith_script.proofs.Loops.{alike_more_core, alike_length, alike_more, loops_agree, plain_core_type, sorted, sorted_alike}
 
 -- The open components are those with a part more.
 pub after_same : (outer : List Tree) (t : Tree) (p : Part) → after_part p (standing_at outer t) ≡ standing_at outer (add t p)
@@ -47,11 +49,12 @@ item_same config outer t scopes chosen e =
 
 -- Core types.
 core_types_same : (config : Config) (scopes : List Scope) (s : Standing) (own : Scope) (max max2 : ℕ) (ts : List CoreEntry) → max ≡ max2
-    → rows_say (core_type_says config scopes) after_core_type max s ts ≡ script_core_types config max2 own ts
-core_types_same config scopes s own max max2 ts e =
+    → Alike s.scope own → rows_say (core_type_says config scopes) after_core_type max s ts ≡ script_core_types config max2 own ts
+core_types_same config scopes s own max max2 ts e a =
     ap (λ m. rows_say (core_type_says config scopes) after_core_type m s ts) e
-    ∙ loops_agree (core_type_says config scopes) after_core_type (λ (z : Scope) x. script_core config x) with_core_type (λ s z. Unit {0}) (λ s z x r. refl)
-    (λ s z x r. tt) 0 max2 0 s own ts tt
+    ∙ loops_agree (core_type_says config scopes) after_core_type (λ (z : Scope) x. script_core config z config.max_type_size x) with_core_type
+    (λ s z. Alike s.scope z) (λ s z x r. script_core_alike s.scope z r config config.max_type_size x)
+    (λ s z x r. alike_more_core s.scope z x r) 0 max2 0 s own ts a
 
 -- Types.
 types_same : (config : Config) (scopes outer : List Scope) (max : ℕ) (s : Standing) (own : Scope) (ts : List Entry) → Alike s.scope own
@@ -112,8 +115,8 @@ module _ (config : Config) (scopes : List Scope) (stack : Open) where
   imports_same : (max : ℕ) (s : Standing) (is : List ImportEntry) → SameImports stack s []
       → rows_say (import_says config scopes) after_import max s is ≡ script_loop (script_import config stack) (λ z x. z ++ x ∷ []) 0 max 0 [] is
   imports_same max s is r =
-      loops_agree (import_says config scopes) after_import (script_import config stack) (λ z x. z ++ x ∷ []) (SameImports stack) import_same import_stays 0 max 0
-      s [] is r
+      loops_agree (import_says config scopes) after_import (script_import config stack) (λ z x. z ++ x ∷ []) (SameImports stack) import_same import_stays
+      0 max 0 s [] is r
 
 -- Exports.
 module _ (config : Config) (scopes : List Scope) (t : Tree) where
@@ -175,11 +178,13 @@ mutual
   part_same (core_module bs) config outer t scopes h = refl
   part_same (core_types ts) config outer t scopes h =
       core_types_same config scopes (standing_at outer t) (scope_of t) _ _ ts (ap (λ n. config.max_types - n) (length-map (core_types_of t) plain_core_type))
+      (sorted_alike (scope_of t))
   part_same (component u) config outer t scopes h =
       ap (tree_says u config (sorted (scope_of t) ∷ scopes)) (sym (opened_at outer t))
       ∙ tree_same u config (outer ++ t ∷ []) ends (sorted (scope_of t) ∷ scopes) (around_more scopes outer t h)
   part_same (types ts) config outer t scopes h =
-      types_same config scopes (scopes_in outer) (config.max_types - length (types_of t)) (standing_at outer t) (scope_of t) ts (sorted_alike (scope_of t)) h.alike
+      types_same config scopes (scopes_in outer) (config.max_types - length (types_of t)) (standing_at outer t) (scope_of t) ts (sorted_alike (scope_of t))
+      h.alike
   part_same (canons fs) config outer t scopes h =
       canons_same config scopes (config.max_funcs - function_count t) (standing_at outer t) (spaces_of t) fs
       (record { types = refl; functions = refl; core_functions = refl })

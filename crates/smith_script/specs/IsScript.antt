@@ -1,12 +1,12 @@
 -- What the script of a component is.
 use Rattle.std.specs.Prelude.{◌≡◌, ℕ, List, []}
+use Rattle.smith_input.specs.Script.{AreBytes}
 use Rattle.smith_format.specs.Limits.{IsConsistent}
 use Rattle.smith_format.specs.declared.config.Config.{Config}
 use Rattle.smith_component.specs.Grammar.{Spells}
 use Rattle.smith_component.specs.Runs.{RunsTo}
 use Rattle.smith_component.specs.Script.{script}
 use Rattle.smith_component.specs.Tree.{Tree}
-use Rattle.smith_script_types.specs.Says.{AreBytes}
 
 -- The limits fit together, and the run over the input leads to the tree, and leaves nothing.
 pub record IsGiven (config : Config) (t : Tree) (input : List ℕ) : Type 0 where

@@ -4,7 +4,8 @@ use Rattle.smith_input.specs.Script.{pick, script_among, script_bytes, script_lo
 use Rattle.smith_format.specs.declared.config.Config.{Config}
 use Rattle.smith_syntax.specs.Entries.{Entry, CoreEntry, ImportEntry}
 use Rattle.smith_syntax.specs.Scope.{Scope}
-use Rattle.smith_types.specs.Script.{script_core, script_extern, script_ref, script_type}
+use Rattle.smith_core_types.specs.Script.{script_core}
+use Rattle.smith_types.specs.Script.{script_extern, script_ref, script_type}
 use Rattle.smith_script_types.specs.Scopes.{shown_scope}
 use Rattle.smith_component.specs.CanonScript.{script_canon}
 use Rattle.smith_component.specs.Open.{is_export_offered, more_items}
@@ -23,7 +24,7 @@ outer_in a = map (λ s. shown_scope s.now) a.outer.now
 -- entries of sections
 
 abbrev pub core_type_says : Config → List Scope → Standing → CoreEntry → List ℕ
-core_type_says config outer s x = script_core config x
+core_type_says config outer s x = script_core config s.scope config.max_type_size x
 
 abbrev pub type_says : Config → List Scope → Standing → Entry → List ℕ
 type_says config outer s e = script_type e config config.max_type_size s.scope outer

@@ -9,9 +9,6 @@ pub enum Reason {
     /// A core module stands there, and none is read as it is.
     #[error("a core module has no script")]
     CoreModule,
-    /// A core type is a module type.
-    #[error("a module type has no script")]
-    ModuleType,
     /// A name is longer than those that are read.
     #[error("a name is too long to be read")]
     LongName,

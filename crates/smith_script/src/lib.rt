@@ -5,7 +5,6 @@ mod around;
 mod canons;
 mod error;
 mod items;
-pub mod laws;
 mod lifts;
 mod parts;
 mod reasons;

@@ -2,7 +2,7 @@
 
 use crate::error::{Reason, ScriptError};
 use smith_format::Config;
-use smith_read::{ComponentTree, CoreNode, DeclNode, ImportNode, PartNode, TypeNode};
+use smith_read::{ComponentTree, CoreNode, DeclNode, ImportNode, ModuleNode, PartNode, TypeNode};
 use smith_syntax::{ComponentTypeRef, DefinedType, FuncType};
 use std::alloc::{AllocError, Global};
 
@@ -19,10 +19,20 @@ fn long_name(name: &str, most: usize) -> Option<Reason> {
     None
 }
 
+fn in_module_decl(decl: &ModuleNode) -> Option<Reason> {
+    match decl {
+        ModuleNode::Import { module, name, .. } => {
+            long_name(module, MOST_NAME).or_else(|| long_name(name, MOST_NAME))
+        }
+        ModuleNode::Export { name, .. } => long_name(name, MOST_NAME),
+        ModuleNode::Func(_) | ModuleNode::OuterAlias { .. } => None,
+    }
+}
+
 fn in_core_type(ty: &CoreNode) -> Option<Reason> {
     match ty {
         CoreNode::Func(_) => None,
-        CoreNode::Module(_) => Some(Reason::ModuleType),
+        CoreNode::Module(decls) => decls.iter().find_map(|decl| in_module_decl(decl)),
     }
 }
 

@@ -82,7 +82,12 @@ impl Row for CoreNode {
         out: &mut Vec<u8>,
         here: &mut Open<'a>,
     ) -> Result<(), Unsaid> {
-        put_core(around.alloc, out, around.config, self)?;
+        put_core(
+            out,
+            around.place(&here.scope),
+            around.config.max_type_size,
+            self,
+        )?;
         here.add_core_type(self)
     }
 }

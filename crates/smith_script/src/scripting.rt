@@ -2,11 +2,12 @@
 
 ghost use Rattle.std.specs.Prelude.{◌≡◌, ℕ, List, true, false, IfOk, IfErr};
 ghost use Rattle.smith_format.specs.Limits.{IsConsistent};
+ghost use Rattle.smith_input.specs.Script.{AreBytes};
 ghost use Rattle.smith_component.specs.Grammar.{Spells};
 ghost use Rattle.smith_component.specs.Script.{Within, script};
 ghost use Rattle.smith_component.specs.Tree.{Tree};
 ghost use Rattle.smith_read.specs.PartNodes.{shown_tree};
-ghost use Rattle.smith_script_types.specs.Says.{AreBytes, IsUnsaid};
+ghost use Rattle.smith_script_types.specs.Says.{IsUnsaid};
 ghost use Rattle.smith_script.specs.IsScript.{IsGiven, IsScript};
 ghost use Rattle.smith_script.specs.declared.error.ScriptError.TheVariants.{InconsistentLimits, OutOfMemory};
 

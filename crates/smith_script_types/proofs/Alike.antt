@@ -1,30 +1,29 @@
 -- Scripts say of the scopes no more than what sorts of types stand in them.
-use Rattle.std.proofs.Common.{◌≡◌, ℕ, zero, suc, ◌+◌, ◌-◌, Bool, true, false, cond, ◌&&◌, ◌||◌, List, [], ◌∷◌, ◌++◌, map, length, refl, ap, sym, ◌∙◌, arith}
-use Rattle.std.specs.Prelude.{Option, Some, None, slice_get, nat_eq, nat_lt}
-use Rattle.std.specs.Option.{option_map, option_to_list}
-use Rattle.std.proofs.lemmas.List.{length-map, map-append}
-use Rattle.std.proofs.lemmas.Option.{slice_get-map}
-use Rattle.smith_input.specs.Script.{script_among, script_loop, script_more, script_end, pick}
+use Rattle.std.proofs.Common.{◌≡◌, ℕ, zero, suc, ◌+◌, ◌-◌, Bool, true, false, cond, ◌&&◌, List, [], ◌∷◌, ◌++◌, map, length, refl, ap, ◌∙◌, arith}
+use Rattle.std.specs.Prelude.{Option, Some, None, slice_get, nat_eq}
+use Rattle.std.specs.Option.{option_to_list}
+use Rattle.smith_input.specs.Script.{script_among, script_loop, script_more, pick}
 use Rattle.smith_format.specs.declared.config.Config.{Config}
-use Rattle.smith_syntax.specs.Entries.{Entry, CoreEntry, plain, defined, function, component_type, instance_type, core_func, core_module, Signature, Field}
+use Rattle.smith_syntax.specs.Entries.{Entry, CoreEntry, plain, defined, function, component_type, instance_type, Signature, Field}
 use Rattle.smith_syntax.specs.Entries.{Case}
 use Rattle.smith_syntax.specs.Entries.{Decl, Decls, core_type_decl, type_decl, type_alias, core_type_alias, import_decl, export_decl, no_decls, then_decls}
 use Rattle.smith_syntax.specs.Entries.{DefValType, primitive_type, record_type, variant_type, list_type, tuple_type, flags_type, enum_type, option_type}
 use Rattle.smith_syntax.specs.Entries.{result_type}
 use Rattle.smith_syntax.specs.Scope.{Scope, places, is_defined, is_func, is_component, is_instance, is_core_module, defined_places, after_decl, type_named}
-use Rattle.smith_syntax.specs.Scope.{core_type_named, exported_type, empty_scope, in_scope}
+use Rattle.smith_syntax.specs.Scope.{core_type_named, exported_type, empty_scope}
 use Rattle.smith_syntax.specs.declared.deftype.ComponentTypeRef.{ComponentTypeRef}
 use Rattle.smith_syntax.specs.declared.deftype.ComponentTypeRef.TheVariants as to
 use Rattle.smith_syntax.specs.declared.types.ComponentValType.{ComponentValType}
 use Rattle.smith_syntax.specs.declared.types.ComponentValType.TheVariants.{Primitive, Indexed}
-use Rattle.smith_types.specs.Offers.{ref_places, has_reference, has_place, ref_kinds, allows_one, allows_equal, occupied, is_occupied, declaration_items}
+use Rattle.smith_types.specs.Offers.{ref_places, has_reference, ref_kinds, is_occupied, declaration_items}
 use Rattle.smith_types.specs.Offers.{aliases_of}
 use Rattle.smith_types.specs.Offers.{uncounted}
 use Rattle.smith_types.specs.Script.{script_val, script_either, script_primitive, script_maybe, script_field, script_case, script_members, script_defined}
 use Rattle.smith_types.specs.Script.{script_label}
-use Rattle.smith_types.specs.Script.{script_signature, script_ref, script_extern, script_entry, script_alias, script_no_import, script_declares, script_type}
+use Rattle.smith_types.specs.Script.{script_signature, script_ref, script_entry, script_alias, script_declares, script_type}
 use Rattle.smith_types.specs.Script.{script_decl}
-use Rattle.smith_types.specs.Script.{script_decls, script_core, decl_cost, kind_in, index_in}
+use Rattle.smith_types.specs.Needs.{decl_cost}
+use Rattle.smith_types.specs.Script.{script_decls, kind_in, index_in}
 use Rattle.smith_types.specs.contracts.make.declarations.DeclarationItemPartialEq.TheImpl.{ghosts as items}
 use Rattle.smith_types.specs.contracts.make.references.RefKindPartialEq.TheImpl.{ghosts as refs}
 use Rattle.smith_types.specs.declared.make.references.RefKind.{RefKind}
@@ -32,45 +31,11 @@ use Rattle.smith_types.specs.declared.make.references.RefKind.TheVariants as ref
 use Rattle.smith_types.specs.declared.make.references.RefTotals.{RefTotals}
 use Rattle.smith_types.specs.declared.make.declarations.DeclarationItem.{DeclarationItem}
 use Rattle.smith_types.specs.declared.make.declarations.DeclarationItem.TheVariants as item
-use Rattle.smith_script_types.proofs.Placing.{places_map, places_row, length-aliases}
+use Rattle.smith_script_types.proofs.ModuleAlike.{script_core_alike}
+use Rattle.smith_script_types.proofs.Placing.{places_row, length-aliases}
+use Rattle.smith_script_types.proofs.Sorts.{appended, behind, both, got_alike, is_component_by, is_core_module_by, is_defined_by, is_func_by}
+use Rattle.smith_script_types.proofs.Sorts.{is_instance_by, same_length, same_places}
 use Rattle.smith_script_types.specs.Scopes.{Alike, AllAlike, core_entry_of, core_sort_of, entry_of, sort_of}
-
-is_defined_by : (e : Entry) → is_defined e ≡ is_defined (entry_of (sort_of e))
-is_defined_by (defined t) = refl
-is_defined_by (function s) = refl
-is_defined_by (component_type ds) = refl
-is_defined_by (instance_type ds) = refl
-
-is_func_by : (e : Entry) → is_func e ≡ is_func (entry_of (sort_of e))
-is_func_by (defined t) = refl
-is_func_by (function s) = refl
-is_func_by (component_type ds) = refl
-is_func_by (instance_type ds) = refl
-
-is_component_by : (e : Entry) → is_component e ≡ is_component (entry_of (sort_of e))
-is_component_by (defined t) = refl
-is_component_by (function s) = refl
-is_component_by (component_type ds) = refl
-is_component_by (instance_type ds) = refl
-
-is_instance_by : (e : Entry) → is_instance e ≡ is_instance (entry_of (sort_of e))
-is_instance_by (defined t) = refl
-is_instance_by (function s) = refl
-is_instance_by (component_type ds) = refl
-is_instance_by (instance_type ds) = refl
-
-is_core_module_by : (e : CoreEntry) → is_core_module e ≡ is_core_module (core_entry_of (core_sort_of e))
-is_core_module_by (core_func f) = refl
-is_core_module_by (core_module ds) = refl
-
--- Lists that are seen alike have what passes a test at the same places.
-same_places : {A B : Type 0} (test : A → Bool) (seen : A → B) (back : B → A) → ((x : A) → test x ≡ test (back (seen x))) → (xs ys : List A)
-    → map seen xs ≡ map seen ys → places test 0 xs ≡ places test 0 ys
-same_places test seen back same xs ys e =
-    places_map test (λ s. test (back s)) seen same 0 xs ∙ ap (places (λ s. test (back s)) 0) e ∙ sym (places_map test (λ s. test (back s)) seen same 0 ys)
-
-same_length : {A B : Type 0} (seen : A → B) (xs ys : List A) → map seen xs ≡ map seen ys → length xs ≡ length ys
-same_length seen xs ys e = sym (length-map xs seen) ∙ ap length e ∙ length-map ys seen
 
 module _ (a b : Scope) (alike : Alike a b) where
   same_defined : defined_places a ≡ defined_places b
@@ -112,15 +77,9 @@ turns_alike f g same min max done (x ∷ xs) =
     ap (λ t. script_more min done ++ t ++ script_loop (λ (s : Unit {0}) y. f y) (λ s y. s) min max (done + 1) tt xs) (same x)
     ∙ ap (λ t. script_more min done ++ g x ++ t) (turns_alike f g same min max (done + 1) xs)
 
-members_alike : {A : Type 0} (f g : A → List ℕ) → ((x : A) → f x ≡ g x) → (min max : ℕ) (xs : List A) → script_members f min max xs ≡ script_members g min max xs
+members_alike : {A : Type 0} (f g : A → List ℕ) → ((x : A) → f x ≡ g x) → (min max : ℕ) (xs : List A)
+    → script_members f min max xs ≡ script_members g min max xs
 members_alike f g same min max xs = turns_alike f g same min max 0 xs
-
--- what stands behind the same
-behind : (k : List ℕ) {x y : List ℕ} → x ≡ y → k ++ x ≡ k ++ y
-behind k e = ap (λ t. k ++ t) e
-
-both : {k l x y : List ℕ} → k ≡ l → x ≡ y → k ++ x ≡ l ++ y
-both {k} {l} {x} {y} e f = ap (λ t. t ++ x) e ∙ ap (λ t. l ++ t) f
 
 module _ (a b : Scope) (alike : Alike a b) where
   field_alike : (f : Field) → script_field a f ≡ script_field b f
@@ -202,15 +161,6 @@ module _ (config : Config) (importing : Bool) (a b : Scope) (outer around : List
 
 -- what a declaration adds
 
-got_alike : {A B : Type 0} (f : A → B) (xs ys : List A) (i : ℕ) → map f xs ≡ map f ys
-    → map f (option_to_list (slice_get xs i)) ≡ map f (option_to_list (slice_get ys i))
-got_alike f xs ys i e = listed f (slice_get xs i) ∙ ap option_to_list (sym (slice_get-map f xs i) ∙ ap (λ zs. slice_get zs i) e ∙ slice_get-map f ys i)
-    ∙ sym (listed f (slice_get ys i))
-  where
-    listed : {A B : Type 0} (f : A → B) (o : Option A) → map f (option_to_list o) ≡ option_to_list (option_map f o)
-    listed f None = refl
-    listed f (Some x) = refl
-
 types_named_alike : (xs ys : List Scope) (count i : ℕ) → AllAlike xs ys
     → map sort_of (option_to_list (type_named xs count i)) ≡ map sort_of (option_to_list (type_named ys count i))
 types_named_alike [] [] count i h = refl
@@ -226,9 +176,6 @@ core_types_named_alike [] (y ∷ ys) count i h = elim h [ ]
 core_types_named_alike (x ∷ xs) [] count i h = elim h [ ]
 core_types_named_alike (x ∷ xs) (y ∷ ys) zero i h = got_alike core_sort_of x.core_types y.core_types i h.0.core_types
 core_types_named_alike (x ∷ xs) (y ∷ ys) (suc n) i h = core_types_named_alike xs ys n i h.1
-
-appended : {A B : Type 0} (f : A → B) (xs ys us vs : List A) → map f xs ≡ map f ys → map f us ≡ map f vs → map f (xs ++ us) ≡ map f (ys ++ vs)
-appended f xs ys us vs e g = map-append f xs us ∙ ap (λ z. z ++ map f us) e ∙ ap (λ z. map f ys ++ z) g ∙ sym (map-append f ys vs)
 
 exported_alike : (a b : Scope) → Alike a b → (r : ComponentTypeRef)
     → map sort_of (option_to_list (exported_type a r)) ≡ map sort_of (option_to_list (exported_type b r))
@@ -277,7 +224,7 @@ mutual
   script_decl_alike : (d : Decl) (config : Config) (importing : Bool) (fuel : ℕ) (a b : Scope) (outer around : List Scope) → Alike a b → AllAlike outer around
       → script_decl d config importing fuel a outer ≡ script_decl d config importing fuel b around
   script_decl_alike (core_type_decl t k) config importing fuel a b outer around alike all =
-      both (declares_alike config importing a b outer around alike all item.CoreType) refl
+      both (declares_alike config importing a b outer around alike all item.CoreType) (script_core_alike a b alike config fuel t)
   script_decl_alike (type_decl e) config importing fuel a b outer around alike all =
       both (declares_alike config importing a b outer around alike all item.«Type») (script_type_alike e config fuel a b outer around alike all)
   script_decl_alike (type_alias count i k) config importing fuel a b outer around alike all =

@@ -9,7 +9,8 @@ use Rattle.smith_syntax.specs.Entries.{in_order}
 use Rattle.smith_syntax.specs.Scope.{Scope, after_decl}
 use Rattle.smith_read_types.specs.TypeNodes.{shown_decl_node}
 use Rattle.smith_read_types.specs.declared.nodes.DeclNode.{DeclNode}
-use Rattle.smith_types.specs.Script.{decl_cost, script_decl, script_decls}
+use Rattle.smith_types.specs.Needs.{decl_cost}
+use Rattle.smith_types.specs.Script.{script_decl, script_decls}
 use Rattle.smith_script_types.proofs.Alike.{all_same, script_decls_alike}
 use Rattle.smith_script_types.proofs.Saying.{Towards, towards_step}
 use Rattle.smith_script_types.specs.Says.{Adds}

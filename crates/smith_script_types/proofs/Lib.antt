@@ -1,7 +1,10 @@
 pub mod Alike
 pub mod Declaring
+pub mod ModuleAlike
+pub mod ModuleTurns
 pub mod Nodes
 pub mod Picking
 pub mod Placing
 pub mod Saying
+pub mod Sorts
 pub mod Turns

@@ -1,5 +1,6 @@
 pub mod Added
 pub mod Fronts
+pub mod Modules
 pub mod Places
 pub mod Says
 pub mod Scopes

@@ -1,13 +1,10 @@
 -- What a writer of a script did to a buffer.
-use Rattle.std.specs.Prelude.{◌≡◌, ℕ, ◌<◌, List, ◌++◌, Result, Ok, Err}
-use Rattle.std.specs.List.{AllByRecursion}
+use Rattle.std.specs.Prelude.{◌≡◌, ℕ, List, ◌++◌, Result, Ok, Err}
 use Rattle.std.specs.declared.vec.Vec.{Vec}
 use Rattle.std.specs.declared.alloc.Global.{Global}
+use Rattle.smith_input.specs.Script.{AreBytes}
 use Rattle.smith_script_types.specs.declared.error.Unsaid.{Unsaid}
 use Rattle.smith_script_types.specs.declared.error.Unsaid.TheVariants as error
-
-abbrev pub AreBytes : List ℕ → Type 0
-AreBytes bs = AllByRecursion (λ b. b < 256) bs
 
 -- new holds what old held, and then the script
 pub record Adds (old new : Vec ℕ Global) (script : List ℕ) : Type 0 where

@@ -63,8 +63,8 @@ pub fn put_choice(out: &mut Vec<u8>, n: usize, k: usize) -> Result<(), Unsaid>
     put_big_endian(out, width, k as u64)
 }
 
-// The place of the first item that is equal to that one, or how many there are.
-fn place_of<T: PartialEq>(items: &[T], item: &T) -> usize
+/// The place of the first item that is equal to that one, or how many there are.
+pub(crate) fn place_of<T: PartialEq>(items: &[T], item: &T) -> usize
     ensures { result ≡ rank_of T.eq items.now item.now }
 {
     for place in 0..items.len() {
@@ -130,12 +130,27 @@ pub fn put_name(out: &mut Vec<u8>, name: &str) -> Result<(), Unsaid>
     put_characters(out, name.as_bytes())
 }
 
+// A text of at most so many bytes, as the reader has them.
+fn put_text_within(out: &mut Vec<u8>, most: usize, text: &str) -> Result<(), Unsaid>
+    requires { most ≤ 1000 }
+    ensures { Says result out.old out.new (script_text most text.now) }
+{
+    put_choice(out, most + 1, text.len())?;
+    put_raw(out, text.as_bytes())
+}
+
 /// The name of a custom section.
 pub fn put_text(out: &mut Vec<u8>, name: &str) -> Result<(), Unsaid>
     ensures { Says result out.old out.new (script_text 1000 name.now) }
 {
-    put_choice(out, MOST_TEXT + 1, name.len())?;
-    put_raw(out, name.as_bytes())
+    put_text_within(out, MOST_TEXT, name)
+}
+
+/// A name of what a core module imports or exports.
+pub(crate) fn put_core_name(out: &mut Vec<u8>, name: &str) -> Result<(), Unsaid>
+    ensures { Says result out.old out.new (script_text 100 name.now) }
+{
+    put_text_within(out, MOST_NAME, name)
 }
 
 /// The contents of a custom section.

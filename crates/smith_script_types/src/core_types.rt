@@ -1,68 +1,47 @@
 //! Core types.
 
-ghost use Rattle.std.specs.Prelude.{◌≡◌, ℕ, List, ◌++◌};
-ghost use Rattle.smith_format.specs.CoreScript.{script_function};
-ghost use Rattle.smith_format.specs.Limits.{max_results};
+ghost use Rattle.std.specs.Prelude.{ℕ, ◌++◌, map};
+ghost use Rattle.smith_input.specs.Script.{pick};
 ghost use Rattle.smith_format.specs.Shown.{shown_func};
-ghost use Rattle.smith_read_types.specs.Nodes.{shown_core_node};
-ghost use Rattle.smith_core_types.specs.Script.{script_core_type};
-ghost use Rattle.smith_types.specs.Script.{script_core};
+ghost use Rattle.smith_read_types.specs.Nodes.{shown_core_node, shown_module_node};
+ghost use Rattle.smith_core_types.specs.ModuleScript.{script_module};
+ghost use Rattle.smith_core_types.specs.Script.{script_core, script_core_type};
+ghost use Rattle.smith_script_types.specs.Places.{own_at};
 ghost use Rattle.smith_script_types.specs.Says.{Says};
 
 use crate::choices::put_choice;
+use crate::core_functions::put_core_function;
 use crate::error::Unsaid;
-use crate::members::put_core_values;
-use smith_format::{Config, FuncType, ValType, configured_valtypes};
-use smith_read_types::CoreNode;
-use std::alloc::Global;
-
-// The most results of a core function type.
-fn max_results(config: &Config) -> usize
-    ensures { result ≡ max_results config.now }
-{
-    if config.multi_value_enabled { 20 } else { 1 }
-}
-
-// The parameters of a core function type, and then its results.
-fn put_core_function(
-    out: &mut Vec<u8>,
-    valtypes: &Vec<ValType>,
-    most_results: usize,
-    ty: &FuncType,
-) -> Result<(), Unsaid>
-    ensures { Says result out.old out.new (script_function valtypes.now.items most_results (shown_func ty.now)) }
-{
-    put_core_values(out, valtypes, 20, &ty.params)?;
-    put_core_values(out, valtypes, most_results, &ty.results)
-}
+use crate::modules::put_module;
+use crate::place::Place;
+use smith_format::FuncType;
+use smith_read_types::{CoreNode, ModuleNode};
 
 // A core function type: the first of two, and then its parameters and its results.
-fn put_core_func(
-    alloc: Global,
-    out: &mut Vec<u8>,
-    config: &Config,
-    ty: &FuncType,
-) -> Result<(), Unsaid>
-    ensures { Says result out.old out.new (script_core_type config.now (shown_func ty.now)) }
+fn put_core_func(out: &mut Vec<u8>, place: Place<'_>, ty: &FuncType) -> Result<(), Unsaid>
+    ensures { Says result out.old out.new (script_core_type place.entry.config.now (shown_func ty.now)) }
 {
-    let Ok(valtypes) = configured_valtypes(alloc, config) else {
-        return Err(Unsaid::OutOfMemory);
-    };
     put_choice(out, 2, 0)?;
-    put_core_function(out, &valtypes, max_results(config), ty)
+    put_core_function(place.alloc, out, place.config, ty)
 }
 
-/// A core type. A module type has no script, but for the empty one where the fuel does not last, which is no bytes.
-pub fn put_core(
-    alloc: Global,
-    out: &mut Vec<u8>,
-    config: &Config,
-    ty: &CoreNode,
-) -> Result<(), Unsaid>
-    ensures { Says result out.old out.new (script_core config.now (shown_core_node ty.now)) }
+// A module type: the second of two, and then what it declares.
+fn put_core_module(out: &mut Vec<u8>, place: Place<'_>, decls: &[ModuleNode]) -> Result<(), Unsaid>
+    ensures { (fuel : ℕ) → Says result out.old out.new
+        (pick 2 1 ++ script_module place.entry.config.now (own_at place.entry) fuel (map shown_module_node decls.now)) }
+{
+    put_choice(out, 2, 1)?;
+    put_module(out, place, decls)
+}
+
+/// A core type with so much fuel. Where it does not last the type is the empty module type, which is no bytes.
+pub fn put_core(out: &mut Vec<u8>, place: Place<'_>, fuel: u32, ty: &CoreNode) -> Result<(), Unsaid>
+    ensures { Says result out.old out.new
+        (script_core place.entry.config.now (own_at place.entry) fuel (shown_core_node ty.now)) }
 {
     match ty {
-        CoreNode::Func(ty) => put_core_func(alloc, out, config, ty),
-        CoreNode::Module(_) => Ok(()),
+        CoreNode::Func(ty) => put_core_func(out, place, ty),
+        CoreNode::Module(_) if fuel < 2 => Ok(()),
+        CoreNode::Module(decls) => put_core_module(out, place, decls),
     }
 }

@@ -3,7 +3,8 @@
 ghost use Rattle.std.specs.Prelude.{◌≡◌, ℕ, codes, map};
 ghost use Rattle.smith_format.specs.declared.types.ExportKind.TheVariants as kind;
 ghost use Rattle.smith_read_types.specs.Nodes.{shown_core_node, shown_module_node};
-ghost use Rattle.smith_syntax.specs.ModuleTypes.{after_front, after_function, after_memory, free, is_export};
+ghost use Rattle.smith_syntax.specs.ModuleTypes.{after_front, after_function, after_memory, after_realloc};
+ghost use Rattle.smith_syntax.specs.ModuleTypes.{free, is_export};
 ghost use Rattle.smith_syntax.specs.ModuleTypes.{is_function_of};
 ghost use Rattle.smith_syntax.specs.ModuleTypes.{is_of_kind, is_type, realloc, same_i32s};
 ghost use Rattle.smith_syntax.specs.WellFormed.{core_size};
@@ -59,8 +60,8 @@ fn is_type(decl: &ModuleNode, params: usize, results: usize) -> bool
     }
 }
 
-// What stands after the export of a memory.
-fn after_memory(decls: &[ModuleNode]) -> &[ModuleNode]
+/// What stands after the export of a memory.
+pub(crate) fn after_memory(decls: &[ModuleNode]) -> &[ModuleNode]
     ensures { map shown_module_node result.now ≡ after_memory (map shown_module_node decls.now) }
 {
     match decls.split_first() {
@@ -89,12 +90,19 @@ fn after_function<'b>(
     decls
 }
 
-// What stands after all that.
-fn after_front(decls: &[ModuleNode]) -> &[ModuleNode]
+/// What stands after the function that allocates anew.
+pub(crate) fn after_realloc(decls: &[ModuleNode]) -> &[ModuleNode]
+    ensures { map shown_module_node result.now ≡ after_realloc (map shown_module_node decls.now) }
+{
+    after_function(decls, "canonical_abi_realloc", 0, 4, 1)
+}
+
+/// What stands after all that.
+pub(crate) fn after_front(decls: &[ModuleNode]) -> &[ModuleNode]
     ensures { map shown_module_node result.now ≡ after_front (map shown_module_node decls.now) }
 {
     let behind_memory = after_memory(decls);
-    let behind_realloc = after_function(behind_memory, "canonical_abi_realloc", 0, 4, 1);
+    let behind_realloc = after_realloc(behind_memory);
     let ty = if behind_realloc.len() < behind_memory.len() {
         1
     } else {

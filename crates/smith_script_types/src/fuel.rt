@@ -6,7 +6,7 @@ ghost use Rattle.smith_syntax.specs.Shown.{shown_defined};
 ghost use Rattle.smith_syntax.specs.WellFormed.{core_size, defined_size, size};
 ghost use Rattle.smith_read_types.specs.Nodes.{shown_core_node};
 ghost use Rattle.smith_read_types.specs.TypeNodes.{shown_decl_node, shown_type_node};
-ghost use Rattle.smith_types.specs.Script.{cost, decl_cost, decls_cost};
+ghost use Rattle.smith_types.specs.Needs.{cost, decl_cost, decls_cost};
 
 use crate::fronts::core_size;
 use smith_read_types::{DeclNode, TypeNode};

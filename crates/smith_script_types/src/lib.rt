@@ -3,12 +3,17 @@
 #![tactic(auto, using(crate::proofs::Saying::saying))]
 
 mod choices;
+mod core_functions;
 mod core_types;
 mod declarations;
+mod declared;
+mod entities;
 mod error;
 mod fronts;
 mod fuel;
 mod members;
+mod module_fronts;
+mod modules;
 mod offers;
 mod place;
 mod places;
@@ -26,5 +31,5 @@ pub use offers::put_offered;
 pub use place::Place;
 pub use places::{Test, places_of};
 pub use references::{put_extern, put_reference};
-pub use scopes::{Added, CoreSort, Scope, Sort, core_sort_of, sort_of};
+pub use scopes::{Added, CoreSort, FuncSort, Scope, Sort, core_sort_of, sort_of};
 pub use types::put_type;

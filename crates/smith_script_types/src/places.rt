@@ -1,6 +1,6 @@
 //! The places in a list of what passes a test.
 
-ghost use Rattle.std.specs.Prelude.{◌≡◌, Bool, IfOk, IfErr};
+ghost use Rattle.std.specs.Prelude.{◌≡◌, Bool, true, IfOk, IfErr};
 ghost use Rattle.smith_syntax.specs.Scope.{places};
 ghost use Rattle.smith_script_types.specs.declared.error.Unsaid.TheVariants.{OutOfMemory};
 
@@ -13,6 +13,18 @@ pub trait Test<T> {
 
     fn passes(&self, item: &T) -> bool
         ensures { result ≡ passed self.now item.now };
+}
+
+/// Whatever it is.
+#[derive(Drop)]
+pub(crate) struct Any {}
+
+impl<T> Test<T> for Any {
+    ghost passed = { λ _ x. true };
+
+    fn passes(&self, _item: &T) -> bool {
+        true
+    }
 }
 
 /// The places of the items that pass.

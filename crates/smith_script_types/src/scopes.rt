@@ -1,16 +1,20 @@
 //! Which sorts of types stand before a place: a script says no more of them.
 
-ghost use Rattle.std.specs.Prelude.{◌≡◌, ℕ, true, length, map, IfOk, IfErr};
-ghost use Rattle.smith_syntax.specs.Scope.{empty_scope, is_core_module, places};
+ghost use Rattle.std.specs.Prelude.{◌≡◌, ℕ, true, length, map, option_map, slice_get, IfOk, IfErr};
+ghost use Rattle.smith_format.specs.Shown.{shown_func};
+ghost use Rattle.smith_syntax.specs.ModuleTypes.{func_in};
+ghost use Rattle.smith_syntax.specs.Scope.{empty_scope, is_core_func, is_core_module, places};
 ghost use Rattle.smith_read_types.specs.Nodes.{shown_core_node};
 ghost use Rattle.smith_read_types.specs.TypeNodes.{shown_type_node};
 ghost use Rattle.smith_types.specs.Offers.{aliases_of, is_occupied};
-ghost use Rattle.smith_script_types.specs.Scopes.{core_entry_of, core_sort_of, entry_of, is_of, shown_scope, sort_of};
+ghost use Rattle.smith_script_types.specs.Scopes.{core_entry_of, core_sort_of, entry_of, func_sort_of, function_of};
+ghost use Rattle.smith_script_types.specs.Scopes.{is_of, shown_scope, sort_of};
 ghost use Rattle.smith_script_types.specs.Added.{with_added};
 ghost use Rattle.smith_script_types.specs.declared.error.Unsaid.TheVariants.{OutOfMemory};
 
 use crate::error::Unsaid;
-use crate::places::{Test, places_of};
+use crate::places::{Any, Test, places_of};
+use smith_format::FuncType;
 use smith_read_types::{CoreNode, TypeNode};
 use std::alloc::Global;
 
@@ -23,10 +27,17 @@ pub enum Sort {
     Instance,
 }
 
+/// What a core function type is of: a tag may be of one without results. Public since contracts speak of it.
+#[derive(Debug, Clone, Copy, PartialEq, Eq)]
+pub enum FuncSort {
+    WithoutResults,
+    WithResults,
+}
+
 /// What a core type is of. Public since contracts speak of it.
 #[derive(Debug, Clone, Copy, PartialEq, Eq)]
 pub enum CoreSort {
-    Func,
+    Func(FuncSort),
     Module,
 }
 
@@ -59,15 +70,18 @@ impl Test<Sort> for Sort {
     }
 }
 
-// Whatever sort it is of.
+// Is it a core function type?
 #[derive(Drop)]
-struct Any {}
+struct OfFunc {}
 
-impl Test<Sort> for Any {
-    ghost passed = { λ _ t. true };
+impl Test<CoreSort> for OfFunc {
+    ghost passed = { λ _ t. is_core_func (core_entry_of t) };
 
-    fn passes(&self, _item: &Sort) -> bool {
-        true
+    fn passes(&self, item: &CoreSort) -> bool {
+        match *item {
+            CoreSort::Func(_) => true,
+            CoreSort::Module => false,
+        }
     }
 }
 
@@ -80,7 +94,7 @@ impl Test<CoreSort> for OfModule {
 
     fn passes(&self, item: &CoreSort) -> bool {
         match *item {
-            CoreSort::Func => false,
+            CoreSort::Func(_) => false,
             CoreSort::Module => true,
         }
     }
@@ -118,12 +132,23 @@ pub fn sort_of(ty: &TypeNode) -> Sort
     }
 }
 
+/// The sort of a core function type.
+pub(crate) fn func_sort_of(ty: &FuncType) -> FuncSort
+    ensures { result ≡ func_sort_of (shown_func ty.now) }
+{
+    if ty.results.is_empty() {
+        FuncSort::WithoutResults
+    } else {
+        FuncSort::WithResults
+    }
+}
+
 /// The sort of a core type.
 pub fn core_sort_of(ty: &CoreNode) -> CoreSort
     ensures { result ≡ core_sort_of (shown_core_node ty.now) }
 {
     match ty {
-        CoreNode::Func(_) => CoreSort::Func,
+        CoreNode::Func(ty) => CoreSort::Func(func_sort_of(ty)),
         CoreNode::Module(_) => CoreSort::Module,
     }
 }
@@ -167,6 +192,24 @@ impl Scope {
         ensures memory { IfErr result (λ e. e ≡ OutOfMemory) }
     {
         places_of(alloc, &Any {}, &self.types)
+    }
+
+    /// The indexes of the core function types.
+    pub(crate) fn func_places(&self, alloc: Global) -> Result<Vec<usize>, Unsaid>
+        ensures list { IfOk result (λ v. v.items ≡ places is_core_func 0 (shown_scope self.now).core_types) }
+        ensures memory { IfErr result (λ e. e ≡ OutOfMemory) }
+    {
+        places_of(alloc, &OfFunc {}, &self.core_types)
+    }
+
+    /// The sort of the core function type with that index, where it is one.
+    pub(crate) fn func_at(&self, index: u32) -> Option<FuncSort>
+        ensures { func_in (slice_get (shown_scope self.now).core_types index) ≡ option_map function_of result }
+    {
+        match self.core_types.get(index as usize).copied()? {
+            CoreSort::Func(sort) => Some(sort),
+            CoreSort::Module => None,
+        }
     }
 
     /// The indexes of the types of core modules.

@@ -115,7 +115,7 @@ fn put_decl(
     match decl {
         DeclNode::Core(ty) => {
             put_declares(out, place, importing, DeclarationItem::CoreType)?;
-            put_core(place.alloc, out, place.config, ty)
+            put_core(out, place, fuel, ty)
         }
         DeclNode::Type(ty) => {
             put_declares(out, place, importing, DeclarationItem::Type)?;

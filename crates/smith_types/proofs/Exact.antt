@@ -4,15 +4,16 @@ use Rattle.std.specs.Prelude.{max, ◌↔◌}
 use Rattle.smith_format.specs.declared.config.Config.{Config}
 use Rattle.smith_syntax.specs.Entries.{DefValType, primitive_type, record_type, variant_type, list_type, tuple_type, flags_type, enum_type, option_type}
 use Rattle.smith_syntax.specs.Entries.{result_type}
-use Rattle.smith_syntax.specs.Entries.{Entry, defined, function, component_type, instance_type, CoreEntry, core_func, core_module}
+use Rattle.smith_syntax.specs.Entries.{Entry, defined, function, component_type, instance_type}
 use Rattle.smith_syntax.specs.Entries.{Decl, Decls, core_type_decl, type_decl, type_alias, core_type_alias, import_decl, export_decl, no_decls, then_decls}
 use Rattle.smith_syntax.specs.Scope.{Scope, empty_scope, after_decl}
 use Rattle.smith_syntax.specs.TypeLimits.{EntryLimits}
 use Rattle.smith_syntax.specs.WellFormed.{FormedDefined, FormedEntry, FormedDeclaration, FormedDeclarations}
-use Rattle.smith_types.specs.Brief.{BriefDefined, BriefCore, Brief, BriefDecl, BriefDecls}
+use Rattle.smith_types.specs.Brief.{BriefDefined, Brief, BriefDecl, BriefDecls}
 use Rattle.smith_types.specs.Made.{MadeWith}
-use Rattle.smith_types.specs.Needs.{need_of, core_need, need, decl_need, decls_need, Nests, DeclNests, DeclsNest}
-use Rattle.smith_types.specs.Script.{Fit, Lasts, LastsCore, LastsDecl, LastsDecls, LastsDefined, decl_cost, script_type}
+use Rattle.smith_types.specs.Needs.{need_of, need, decl_need, decls_need, Nests, DeclNests, DeclsNest}
+use Rattle.smith_types.specs.Needs.{decl_cost}
+use Rattle.smith_types.specs.Script.{Fit, Lasts, LastsDecl, LastsDecls, LastsDefined, script_type}
 use Rattle.smith_types.proofs.Needs.{made_needs}
 use Rattle.smith_types.proofs.ScopedScript.{type_read}
 
@@ -30,10 +31,6 @@ defined_lasts (flags_type ns) own fuel f b n = (b, at_least (length ns) fuel f.1
 defined_lasts (enum_type ns) own fuel f b n = (b, at_least (length ns) fuel f.1 n)
 defined_lasts (option_type v) own fuel f b n = tt
 defined_lasts (result_type ok err) own fuel f b n = tt
-
-pub core_lasts : (e : CoreEntry) (fuel : ℕ) → BriefCore e → core_need e ≤ fuel → LastsCore fuel e
-core_lasts (core_func f) fuel b n = n
-core_lasts (core_module ds) fuel b n = absurd b
 
 turn : (a b c fuel : ℕ) → max 2 (max (a + 1) (b + c + 1)) ≤ fuel → (2 ≤ fuel) × (a ≤ fuel - 1) × (b ≤ fuel - 1 - c)
 turn a b c fuel h = (omega (arith, h), omega (arith, h), omega (arith, h))
@@ -53,7 +50,7 @@ mutual
 
   decl_lasts : (d : Decl) (config : Config) (own : Scope) (outer : List Scope) (scopes fuel : ℕ) → FormedDeclaration d own outer → BriefDecl d
       → DeclNests d config scopes → decl_need d ≤ fuel → LastsDecl d config scopes fuel
-  decl_lasts (core_type_decl t k) config own outer scopes fuel f b x n = core_lasts t fuel b n
+  decl_lasts (core_type_decl t k) config own outer scopes fuel f b x n = (n, b)
   decl_lasts (type_decl e) config own outer scopes fuel f b x n = (x.0, lasts e config own outer scopes fuel f b x.1 n)
   decl_lasts (type_alias count i k) config own outer scopes fuel f b x n = tt
   decl_lasts (core_type_alias count i k) config own outer scopes fuel f b x n = tt

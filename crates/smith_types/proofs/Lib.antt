@@ -18,3 +18,4 @@ pub mod Progressing
 pub mod References
 pub mod ScopedScript
 pub mod Script
+pub mod ScriptBytes

@@ -1,5 +1,5 @@
 -- The script of the signature of a lift is read as it.
-use Rattle.std.proofs.Common.{◌≡◌, ℕ, ◌≤◌, ◌^◌, List, [], ◌∷◌, ◌++◌, map, length, arith, refl, sym, ap, ◌∙◌, subst, append_assoc, Option, None, Some, Decides}
+use Rattle.std.proofs.Common.{◌≡◌, ℕ, ◌≤◌, List, [], ◌∷◌, ◌++◌, map, length, arith, refl, sym, ap, ◌∙◌, subst, append_assoc, Option, None, Some, Decides}
 use Rattle.std.proofs.Common.{lit≤}
 use Rattle.std.specs.List.{AllByRecursion}
 use Rattle.std.specs.Option.{option_to_list}
@@ -31,7 +31,7 @@ use Rattle.smith_types.specs.Script.{AreShort, script_scalar, script_params, scr
 primitive_Decides : (a b : PrimitiveValType) → Decides (prims.eq a b) (a ≡ b)
 primitive_Decides a b = (same_true primitive_type_type tt a b, true_same primitive_type_type a b)
 
-lifted_few : (v : ValType) → length (lifted v) ≤ 2 ^ 64
+pub lifted_few : (v : ValType) → length (lifted v) ≤ 8
 lifted_few I32 = lit≤ tt
 lifted_few I64 = lit≤ tt
 lifted_few F32 = lit≤ tt
@@ -43,8 +43,9 @@ scalar_in : (w : ValType) (p : PrimitiveValType) (k : ℕ) (v : ValType) (rest :
     → ReadsAmong (lifted v) (script_among prims.eq (lifted w) p ++ rest) p rest
 scalar_in w p k v rest named e =
     let z : w ≡ v = cc in
+    let few : length (lifted w) ≤ 8 = lifted_few w in
     subst (λ x. ReadsAmong (lifted x) (script_among prims.eq (lifted w) p ++ rest) p rest) z
-    (among_read prims.eq primitive_Decides (lifted w) p k rest (lifted_few w) named)
+    (among_read prims.eq primitive_Decides (lifted w) p k rest (omega (arith, few)) named)
 
 scalar_read : (p : PrimitiveValType) (v : ValType) (rest : List ℕ) → flat_primitive p ≡ Some v
     → ReadsAmong (lifted v) (script_scalar (Primitive p) ++ rest) p rest

@@ -5,21 +5,20 @@ use Rattle.std.specs.Prelude.{max}
 use Rattle.smith_input.proofs.Loops.{loop_gives}
 use Rattle.smith_format.specs.declared.config.Config.{Config}
 use Rattle.smith_syntax.specs.Entries.{record_type, variant_type, tuple_type, flags_type, enum_type, Entry, Decl, Decls, type_alias, core_type_alias}
-use Rattle.smith_syntax.specs.Entries.{import_decl, export_decl, no_decls, then_decls, DefValType, Signature, CoreEntry, core_func, core_module, ModuleDecl}
+use Rattle.smith_syntax.specs.Entries.{import_decl, export_decl, no_decls, then_decls, DefValType, Signature, CoreEntry, core_func, core_module}
 use Rattle.smith_syntax.specs.Entries.{FullEntry, FullDecl, FullDecls, defined, function, component_type, instance_type, plain, plain_decl, plain_decls}
 use Rattle.smith_syntax.specs.Entries.{type_decl, core_type_decl}
 use Rattle.smith_syntax.specs.Scope.{Scope}
 use Rattle.smith_syntax.specs.WellFormed.{size, decl_size, decls_size, defined_size, core_size}
-use Rattle.smith_core_types.specs.MadeCore.{MadeCore, spent_core, of_function, of_module, MadeModule, ModuleEnds, ReadsDecl}
-use Rattle.smith_core_types.proofs.MadeCore.{module_after, module_size}
-use Rattle.smith_core_types.proofs.ModuleFronts.{front_is}
+use Rattle.smith_core_types.specs.Needs.{core_cost, core_need}
+use Rattle.smith_core_types.proofs.Needs.{core_leaves, core_needed, one_used, used}
 use Rattle.smith_types.specs.Declarations.{SoFar, nothing_so_far, after_one}
 use Rattle.smith_types.specs.Made.{ReadsMembers, MadeMembers, MadeAs, MadeFunction, or_bool, Made, spent_type, made_defined, made_function, made_component}
 use Rattle.smith_types.specs.Made.{made_instance}
 use Rattle.smith_types.specs.Made.{MadeDeclaration, made_import, made_export, made_alias, made_core_type, made_type, MadeDeclarations, no_more_decls}
 use Rattle.smith_types.specs.Made.{spent_decls, one_decl}
-use Rattle.smith_types.specs.Needs.{need_of, core_need, need, decl_need, decls_need, Nests, DeclNests, DeclsNest, declaring, decl_declaring, decls_declaring}
-use Rattle.smith_types.specs.Script.{cost, core_cost, decl_cost, decls_cost}
+use Rattle.smith_types.specs.Needs.{need_of, need, decl_need, decls_need, Nests, DeclNests, DeclsNest, declaring, decl_declaring, decls_declaring}
+use Rattle.smith_types.specs.Needs.{cost, decl_cost, decls_cost}
 use Rattle.smith_types.specs.declared.make.declarations.DeclarationItem.TheVariants as item
 use Rattle.smith_types.specs.declared.make.defined.DefinedKind.{DefinedKind}
 use Rattle.smith_types.specs.declared.make.defined.DefinedKind.TheVariants as kind
@@ -27,16 +26,7 @@ use Rattle.smith_types.proofs.ReadsDeclarations.{alias_holds, item_offered}
 use Rattle.smith_types.proofs.Made.{defined_within, function_within}
 use Rattle.smith_types.proofs.Members.{members_size}
 
--- Turns of a loop: none needs fuel where there is none, and else one is left behind the last.
-abbrev used : ℕ → ℕ
-used zero = 0
-used (suc n) = suc n + 1
-
 -- loops
-
-one_used : {A : Type 0} (xs : List A) (f g : ℕ) → used (length xs) ≤ f → 0 < f → f + 1 ≤ g → used (suc (length xs)) ≤ g
-one_used [] f g h p q = omega (arith, h, p, q)
-one_used (x ∷ xs) f g h p q = omega (arith, h, p, q)
 
 members_used : {A : Type 0} {Member : List A → List ℕ → A → List ℕ → Type 0} {min max : ℕ} (b : List ℕ) (fuel : ℕ) (xs : List A) (rest : List ℕ) (left : ℕ)
     → ReadsMembers Member min max b fuel xs rest left → used (length xs) ≤ fuel
@@ -95,42 +85,6 @@ function_used own b fuel s rest left some f =
     by zero zero fuel held some h k l = omega arith
     by (suc n) zero fuel held some h k l = omega (arith, h)
     by n (suc r) fuel held some h k l = omega (arith, k, l)
-
--- core types
-
-module _ (config : Config) (around : Scope) where
-  module_used : (b : List ℕ) (fuel : ℕ) (ds : List ModuleDecl) (rest : List ℕ) (left : ℕ) → (m : MadeModule config around b fuel ds rest left)
-      → used (length m.more) ≤ m.front.fuel
-  module_used b fuel ds rest left m =
-      loop_gives {Ends = ModuleEnds config around} {Item = ReadsDecl config around}
-      (λ s xs t. used (length xs) ≤ s.fuel)
-      (λ s. omega arith)
-      (λ s c r t e. omega arith)
-      (λ s t u c x r xs i le. let less = ap (λ z. z.fuel) i.state in let lasts = i.lasts in
-      one_used xs t.fuel s.fuel le (omega (arith, less, lasts)) (omega (arith, less, lasts)))
-      0 m.front m.mid m.more rest m.whole m.goes_on
-
-  module_need : (ds : List ModuleDecl) (k f g : ℕ) → core_size (core_module ds) ≤ k → used k ≤ f → 0 < f → f ≤ g - 1 → core_need (core_module ds) ≤ g
-  module_need [] k f g h u p l = omega arith
-  module_need (d ∷ ds) zero f g h u p l = omega (arith, h, p, l)
-  module_need (d ∷ ds) (suc k) f g h u p l = omega (arith, h, u, l)
-
-pub core_needed : {config : Config} {around : Scope} {b rest : List ℕ} {fuel left : ℕ} {e : CoreEntry} → MadeCore config around b fuel e rest left
-    → core_need e ≤ fuel
-core_needed {fuel = fuel} (spent_core f i n) = subst (λ z. core_need z ≤ fuel) (sym i) (omega arith)
-core_needed {fuel = fuel} (of_function f c r i n) = subst (λ z. core_need z ≤ fuel) (sym i) (omega (arith, f))
-core_needed {config} {around} {rest = rest} {fuel = fuel} {left = left} (of_module {mid = mid} {ds = ds} f c m i) =
-    let front = front_is config mid (fuel - 1) m.front m.mid m.begins in
-    let same : m.front.fuel ≡ fuel - 1 = ap (λ s. s.fuel) front.state in
-    subst (λ z. core_need z ≤ fuel) (sym i)
-    (module_need config around ds (length m.more) m.front.fuel fuel (module_after config around m) (module_used config around mid (fuel - 1) ds rest left m)
-    (omega (arith, f, same)) (omega (arith, same)))
-
-core_leaves : {config : Config} {around : Scope} {b rest : List ℕ} {fuel left : ℕ} {e : CoreEntry} → MadeCore config around b fuel e rest left
-    → left ≤ fuel - core_cost e
-core_leaves (spent_core f i n) = omega (arith, n)
-core_leaves (of_function f c r i n) = omega (arith, n, ap core_size i)
-core_leaves {config} {around} {fuel = fuel} (of_module f c m i) = omega (arith, f, ap core_size i, module_size config around m)
 
 -- what a type takes it needs, but where it needs none
 

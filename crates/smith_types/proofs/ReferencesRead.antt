@@ -57,23 +57,23 @@ either_second : (a b : Bool) → b ≡ true → (a || b) ≡ true
 either_second true b e = refl
 either_second false b e = e
 
+pub above_zero : (n : ℕ) → 0 < n → nat_lt 0 n ≡ true
+above_zero n h = grind (arith, nat_tests)
+
 some_there : {A : Type 0} (xs : List A) (k : ℕ) (x : A) → slice_get xs k ≡ Some x → nat_lt 0 (length xs) ≡ true
-some_there xs k x h = below (length xs) (omega (arith, slice_get_within xs k x h))
-  where
-    below : (n : ℕ) → 0 < n → nat_lt 0 n ≡ true
-    below n h = grind (arith, nat_tests)
+some_there xs k x h = above_zero (length xs) (omega (arith, slice_get_within xs k x h))
 
 -- references
 
 module _ (own : Scope) where
-  ref_index : (r : ComponentTypeRef) → FormedRef own r → (k : ℕ) × (slice_get (ref_places own (kind_in r)) k ≡ Some (index_in r))
+  pub ref_index : (r : ComponentTypeRef) → FormedRef own r → (k : ℕ) × (slice_get (ref_places own (kind_in r)) k ≡ Some (index_in r))
   ref_index (to.Module i) (e, at, is) = place_found is_core_module own.core_types i e at is
   ref_index (to.TypeEq i) (e, at) = place_found (λ x. true) own.types i e at refl
   ref_index (to.Func i) (e, at, is) = place_found is_func own.types i e at is
   ref_index (to.Component i) (e, at, is) = place_found is_component own.types i e at is
   ref_index (to.Instance i) (e, at, is) = place_found is_instance own.types i e at is
 
-  places_few : (k : RefKind) → length (ref_places own k) ≤ length own.types + length own.core_types
+  pub places_few : (k : RefKind) → length (ref_places own k) ≤ length own.types + length own.core_types
   places_few kind.Module = omega (arith, length-places is_core_module 0 own.core_types)
   places_few kind.TypeEq = omega (arith, length-places (λ x. true) 0 own.types)
   places_few kind.Func = omega (arith, length-places is_func 0 own.types)
@@ -216,21 +216,21 @@ numbered_get f n [] k x h = absurd (cc)
 numbered_get f n (y ∷ ys) zero x h = let same : y ≡ x = cc in ap (λ z. Some (f n z)) same ∙ ap (λ m. Some (f m x)) (let z : n ≡ n + 0 = omega arith in z)
 numbered_get f n (y ∷ ys) (suc k) x h = numbered_get f (n + 1) ys k x h ∙ ap (λ m. Some (f m x)) (let z : n + 1 + k ≡ n + suc k = omega arith in z)
 
-in_split : {A : Type 0} (of : Scope → List A) (o : Option Scope) (i : ℕ) (x : A) → elim o [ None ↦ None | Some s ↦ slice_get (of s) i ] ≡ Some x
+pub in_split : {A : Type 0} (of : Scope → List A) (o : Option Scope) (i : ℕ) (x : A) → elim o [ None ↦ None | Some s ↦ slice_get (of s) i ] ≡ Some x
     → (s : Scope) × (o ≡ Some s) × (slice_get (of s) i ≡ Some x)
 in_split of None i x h = absurd (cc)
 in_split of (Some s) i x h = (s, refl, h)
 
 -- how many stand in a scope
-abbrev IsFew : Scope → Type 0
+abbrev pub IsFew : Scope → Type 0
 IsFew s = length s.types + length s.core_types ≤ 2 ^ 64
 
-few_at : (scopes : List Scope) (count : ℕ) (s : Scope) → AllByRecursion IsFew scopes → slice_get scopes count ≡ Some s → IsFew s
+pub few_at : (scopes : List Scope) (count : ℕ) (s : Scope) → AllByRecursion IsFew scopes → slice_get scopes count ≡ Some s → IsFew s
 few_at [] count s all h = absurd (cc)
 few_at (x ∷ xs) zero s all h = let same : x ≡ s = cc in subst IsFew same all.0
 few_at (x ∷ xs) (suc k) s all h = few_at xs k s all.1 h
 
-aliases_count : (count : ℕ) (s : Scope) → length (aliases_of count s) ≡ length s.types + length s.core_types
+pub aliases_count : (count : ℕ) (s : Scope) → length (aliases_of count s) ≡ length s.types + length s.core_types
 aliases_count count s =
     let f : ℕ → Entry → FullDecl = λ i e. type_alias count i (keeps_type e) in
     let g : ℕ → CoreEntry → FullDecl = λ i e. core_type_alias count i (keeps_core_type e) in
@@ -244,7 +244,7 @@ module _ (scopes : List Scope) (fit : Fit scopes) where
       let os : List ℕ = occupied scopes in
       let within : place s < length (aliases_of count s) = slice_get_within (aliases_of count s) (place s) d named in
       let some : nat_lt 0 (length s.types + length s.core_types) ≡ true =
-      below (length s.types + length s.core_types) (omega (arith, within, aliases_count count s)) in
+      above_zero (length s.types + length s.core_types) (omega (arith, within, aliases_count count s)) in
       let at = place_found is_occupied scopes count s stands some in
       let choice : List ℕ = script_among nat_eq os count in
       let said : List ℕ = pick (length (aliases_of count s)) (place s) in
@@ -265,9 +265,6 @@ module _ (scopes : List Scope) (fit : Fit scopes) where
       let P : List ℕ → Type 0 = λ z. ReadsAlias scopes z d rest in
       let Q : Option Scope → Type 0 = λ o. ReadsAlias scopes ((choice ++ script_entry count place o) ++ rest) d rest in
       subst Q (sym stands) (subst P (sym (append_assoc choice said rest)) made)
-    where
-      below : (n : ℕ) → 0 < n → nat_lt 0 n ≡ true
-      below n h = grind (arith, nat_tests)
 
   pub type_alias_read : (count i : ℕ) (e : Entry) (rest : List ℕ) → type_named scopes count i ≡ Some e
       → ReadsAlias scopes (script_alias scopes count (λ s. i) ++ rest) (type_alias count i (keeps_type e)) rest
@@ -297,9 +294,6 @@ module _ (scopes : List Scope) (fit : Fit scopes) where
   alias_there of within count i x h =
       let at = in_split of (slice_get scopes count) i x h in
       let some : nat_lt 0 (length at.0.types + length at.0.core_types) ≡ true =
-      below (length at.0.types + length at.0.core_types) (omega (arith, slice_get_within (of at.0) i x at.2, within at.0)) in
+      above_zero (length at.0.types + length at.0.core_types) (omega (arith, slice_get_within (of at.0) i x at.2, within at.0)) in
       let place = place_found is_occupied scopes count at.0 at.1 some in
       some_there (occupied scopes) place.0 count place.1
-    where
-      below : (n : ℕ) → 0 < n → nat_lt 0 n ≡ true
-      below n h = grind (arith, nat_tests)

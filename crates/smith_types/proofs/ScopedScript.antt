@@ -12,25 +12,27 @@ use Rattle.smith_input.proofs.Picks.{reads-pick}
 use Rattle.smith_input.proofs.Reading.{more_one}
 use Rattle.smith_input.specs.Script.{pick}
 use Rattle.smith_format.specs.declared.config.Config.{Config}
-use Rattle.smith_syntax.specs.Entries.{Entry, Decl, Decls, FullEntry, FullDecl, FullDecls, defined, function, component_type, instance_type, core_func}
-use Rattle.smith_syntax.specs.Entries.{core_module, CoreEntry, decl_count, plain, plain_decl, plain_decls, core_type_decl, type_decl, type_alias}
+use Rattle.smith_syntax.specs.Entries.{Entry, Decl, Decls, FullEntry, FullDecl, FullDecls, defined, function, component_type, instance_type}
+use Rattle.smith_syntax.specs.Entries.{decl_count, plain, plain_decl, plain_decls, core_type_decl, type_decl, type_alias}
 use Rattle.smith_syntax.specs.Entries.{core_type_alias, import_decl, export_decl, no_decls, then_decls, keeps_functions, keeps_type, keeps_core_type}
-use Rattle.smith_syntax.specs.CoreLimits.{CoreLimits}
 use Rattle.smith_syntax.specs.Scope.{Scope, after_decl, exported_type, type_named, core_type_named}
 use Rattle.smith_syntax.specs.TypeLimits.{EntryLimits, DeclLimits, DeclsLimits}
 use Rattle.smith_syntax.specs.WellFormed.{FormedEntry, FormedDeclaration, FormedDeclarations, names, import_of, export_of, decl_imports, decl_exports}
 use Rattle.smith_syntax.specs.WellFormed.{is_type_eq}
 use Rattle.smith_syntax.specs.declared.deftype.ComponentTypeRef.{ComponentTypeRef}
 use Rattle.smith_syntax.specs.declared.deftype.ComponentTypeRef.TheVariants as to
-use Rattle.smith_core_types.specs.MadeCore.{MadeCore, spent_core, named_by_core}
-use Rattle.smith_core_types.proofs.MadeCore.{core_type_read}
+use Rattle.smith_core_types.specs.MadeCore.{named_by_core}
+use Rattle.smith_core_types.specs.Needs.{core_cost}
+use Rattle.smith_core_types.specs.Script.{script_core}
+use Rattle.smith_core_types.proofs.CoreScript.{core_read}
 use Rattle.smith_core_types.proofs.Names.{AreNew, distinct_new, none_before, new_back, new_front}
 use Rattle.smith_scopes.proofs.Plain.{all_back, all_front}
 use Rattle.smith_types.specs.Declarations.{NamedExtern, SoFar, nothing_so_far, after_one, ReadsImportDecl, ReadsExportDecl}
 use Rattle.smith_types.specs.Offers.{uncounted, IsAllowed}
 use Rattle.smith_types.specs.Made.{Made, made_component, made_instance, MadeWith, MadeDeclaration, made_import, made_export, made_alias, made_core_type}
 use Rattle.smith_types.specs.Made.{made_type, MadeDeclarations, no_more_decls, one_decl}
-use Rattle.smith_types.specs.Script.{Fit, IsSayable, Lasts, LastsCore, LastsDecl, LastsDecls, cost, core_cost, decl_cost, decls_cost, script_alias, script_core}
+use Rattle.smith_types.specs.Needs.{cost, decl_cost, decls_cost}
+use Rattle.smith_types.specs.Script.{Fit, IsSayable, Lasts, LastsDecl, LastsDecls, script_alias}
 use Rattle.smith_types.specs.Script.{script_decl, script_decls, script_declares, script_extern, script_declaration_item, script_no_import, script_ref}
 use Rattle.smith_types.specs.Script.{script_type}
 use Rattle.smith_types.specs.Script.{script_type_kind}
@@ -41,14 +43,6 @@ use Rattle.smith_types.proofs.MadeFormed.{after_plain}
 use Rattle.smith_types.proofs.MadeSame.{made_same}
 use Rattle.smith_types.proofs.ReferencesRead.{type_alias_read, core_alias_read, alias_there, item_read, no_import_read, extern_read, ref_read, ref_there}
 use Rattle.smith_types.proofs.Script.{type_function, type_values, type_kind_read}
-
--- core types
-
-pub core_read : (config : Config) (around : Scope) (fuel : ℕ) (e : CoreEntry) (rest : List ℕ) → CoreLimits config e → LastsCore fuel e
-    → MadeCore config around (script_core config e ++ rest) fuel e rest (fuel - core_cost e)
-core_read config around fuel (core_func f) rest limits lasts = core_type_read config around fuel f rest lasts limits
-core_read config around fuel (core_module ds) rest limits (few, none) =
-    spent_core (omega (arith, few)) (ap core_module none) (omega (arith, few))
 
 -- names
 
@@ -89,14 +83,14 @@ record Sayable (importing : Bool) (s : SoFar) (is es : Externs) : Type 0 where
   own : importing ≡ false → is ≡ []
 
 -- a scope in which no more stands than so many turns gave
-abbrev Holding : ℕ → Scope → Type 0
+abbrev pub Holding : ℕ → Scope → Type 0
 Holding n own = length own.types + length own.core_types ≤ n
 
 at_most_one : {A : Type 0} (o : Option A) → length (option_to_list o) ≤ 1
 at_most_one None = omega arith
 at_most_one (Some x) = omega arith
 
-after_holding : (outer : List Scope) (n : ℕ) (own : Scope) (d : Decl) → Holding n own → Holding (n + 1) (after_decl outer own d)
+pub after_holding : (outer : List Scope) (n : ℕ) (own : Scope) (d : Decl) → Holding n own → Holding (n + 1) (after_decl outer own d)
 after_holding outer n own (core_type_decl t k) h = omega (arith, h, length-append own.core_types (t ∷ []))
 after_holding outer n own (type_decl e) h = omega (arith, h, length-append own.types (plain e ∷ []))
 after_holding outer n own (type_alias count i k) h =
@@ -218,21 +212,22 @@ module _ (config : Config) where
 
       -- A declaration: it imports and exports what its plain tree does.
       decl_read : (d : Decl) (importing : Bool) (outer : List Scope) (s : SoFar) (fuel : ℕ) (rest : List ℕ) → FormedDeclaration d s.own outer
-          → DeclLimits config d → LastsDecl d config (length (s.own ∷ outer)) fuel → Sayable importing s (import_of d) (export_of d) → Fit (s.own ∷ outer)
+          → DeclLimits config d → LastsDecl d config (length (s.own ∷ outer)) fuel → Sayable importing s (import_of d) (export_of d) → Holding 100 s.own
+          → Fit (s.own ∷ outer)
           → (full : FullDecl) × (d ≡ plain_decl full) × (names (import_of d) ≡ names (import_of full)) × (names (export_of d) ≡ names (export_of full))
           × MadeDeclaration config importing outer s (script_decl d config importing fuel s.own outer ++ rest) fuel full rest (fuel - decl_cost d)
-      decl_read (core_type_decl t k) importing outer s fuel rest f m l said fit =
+      decl_read (core_type_decl t k) importing outer s fuel rest f m l said held fit =
           let full : FullDecl = core_type_decl t (keeps_functions (named_by_core s.own.core_types t)) in
           let P : List ℕ → Type 0 = λ b. MadeDeclaration config importing outer s b fuel full rest (fuel - core_cost t) in (
             full,
             refl,
             refl,
             refl,
-            declares_read importing outer s.own item.CoreType (script_core config t) rest P
+            declares_read importing outer s.own item.CoreType (script_core config s.own fuel t) rest P
                 (made_core_type (no_import_read config s.own importing _) (item_read config outer s.own item.CoreType 2 true _ refl refl)
-                (core_read config s.own fuel t rest m l) refl),
+                (core_read config s.own fuel t rest f m l.1 l.0 (omega (arith, held))) refl),
           )
-      decl_read (type_decl e) importing outer s fuel rest f m l said fit =
+      decl_read (type_decl e) importing outer s fuel rest f m l said held fit =
           let room : nat_lt (length (s.own ∷ outer)) config.max_nesting_depth ≡ true = below (length (s.own ∷ outer)) config.max_nesting_depth l.0 in
           let r = full_read e s.own outer fuel rest f m l.1 fit (omega (arith, l.0, deep)) in
           let P : List ℕ → Type 0 = λ b. MadeDeclaration config importing outer s b fuel (type_decl r.0) rest (fuel - cost e) in (
@@ -246,7 +241,7 @@ module _ (config : Config) where
         where
           below : (n m : ℕ) → n < m → nat_lt n m ≡ true
           below n m h = grind (arith, nat_tests)
-      decl_read (type_alias count i k) importing outer s fuel rest f m l said fit =
+      decl_read (type_alias count i k) importing outer s fuel rest f m l said held fit =
           let full : FullDecl = type_alias count i (keeps_type f.0) in
           let there = alias_there (s.own ∷ outer) fit (λ z. z.types) (λ z. omega arith) count i f.0 f.1 in
           let left : fuel - 0 ≡ fuel = omega arith in
@@ -259,7 +254,7 @@ module _ (config : Config) where
                 (made_alias (no_import_read config s.own importing _) (item_read config outer s.own item.Alias 1 _ _ refl there)
                 (type_alias_read (s.own ∷ outer) fit count i f.0 rest f.1) left),
           )
-      decl_read (core_type_alias count i k) importing outer s fuel rest f m l said fit =
+      decl_read (core_type_alias count i k) importing outer s fuel rest f m l said held fit =
           let full : FullDecl = core_type_alias count i (keeps_core_type f.0) in
           let there = alias_there (s.own ∷ outer) fit (λ z. z.core_types) (λ z. omega arith) count i f.0 f.1 in
           let left : fuel - 0 ≡ fuel = omega arith in
@@ -272,7 +267,7 @@ module _ (config : Config) where
                 (made_alias (no_import_read config s.own importing _) (item_read config outer s.own item.Alias 1 _ _ refl there)
                 (core_alias_read (s.own ∷ outer) fit count i f.0 rest f.1) left),
           )
-      decl_read (import_decl name u r) true outer s fuel rest f m l said fit =
+      decl_read (import_decl name u r) true outer s fuel rest f m l said held fit =
           let left : fuel - 0 ≡ fuel = omega arith in (
             import_decl name None r,
             refl,
@@ -280,11 +275,11 @@ module _ (config : Config) where
             refl,
             made_import refl (import_read s name rest r fit.each.0 (said.imports.1.0, l, said.imports.0) u f) left,
           )
-      decl_read (import_decl name u r) false outer s fuel rest f m l said fit = absurd (no_import (said.own refl))
+      decl_read (import_decl name u r) false outer s fuel rest f m l said held fit = absurd (no_import (said.own refl))
         where
           no_import : {A : Type 0} {x : A} {xs : List A} → x ∷ xs ≡ [] → ⊥
           no_import h = cc
-      decl_read (export_decl name u r) importing outer s fuel rest f m l said fit =
+      decl_read (export_decl name u r) importing outer s fuel rest f m l said held fit =
           let left : fuel - 0 ≡ fuel = omega arith in
           let full : FullDecl = export_decl name None r in
           let P : List ℕ → Type 0 = λ b. MadeDeclaration config importing outer s b fuel full rest (fuel - 0) in (
@@ -313,7 +308,7 @@ module _ (config : Config) where
           let held_next : ℕ = fuel - 1 - decl_cost d in
           let place : Scope = after_decl outer s.own d in
           let later : List ℕ = script_decls ds config importing held_next (done + 1) place outer in
-          let one = decl_read d importing outer s (fuel - 1) (later ++ rest) f.0 m.0 l.1 here fit in
+          let one = decl_read d importing outer s (fuel - 1) (later ++ rest) f.0 m.0 l.1 here (omega (arith, held, few)) fit in
           let next : SoFar = after_one outer s one.0 in
           let same : place ≡ next.own = ap (after_decl outer s.own) one.1 ∙ after_plain outer s.own one.0 in
           let formed : FormedDeclarations ds next.own outer = subst (λ z. FormedDeclarations ds z outer) same f.1 in

@@ -21,7 +21,8 @@ use Rattle.smith_types.specs.Made.{ReadsVal, only_primitive, either_primitive, e
 use Rattle.smith_types.specs.Made.{MadeAs, MadeDefined, MadeFunction, Made, spent_type, made_defined, made_function}
 use Rattle.smith_syntax.specs.Scope.{Scope, defined_places, is_defined}
 use Rattle.smith_types.specs.Script.{script_primitive, script_val, script_maybe, script_label, script_field, script_case, script_members, script_kind}
-use Rattle.smith_types.specs.Script.{script_defined, script_signature, script_type_kind, script_type, AreShort, LastsDefined, cost}
+use Rattle.smith_types.specs.Needs.{cost}
+use Rattle.smith_types.specs.Script.{script_defined, script_signature, script_type_kind, script_type, AreShort, LastsDefined}
 use Rattle.smith_syntax.specs.WellFormed.{FormedVal, FormedMaybe, FormedDefined, FormedEntry, Named, size, defined_size}
 use Rattle.smith_types.specs.contracts.make.TypeKind.{the_type as type_kind_type}
 use Rattle.smith_types.specs.contracts.make.TypeKindPartialEq.TheImpl.{ghosts as types}
@@ -200,7 +201,7 @@ module _ (own : Scope) (few : length own.types ≤ 2 ^ 64) where
 
   -- functions
 
-  one_all : (r : Option ComponentValType) → FormedMaybe own r → AllByRecursion (FormedVal own) (option_to_list r)
+  pub one_all : (r : Option ComponentValType) → FormedMaybe own r → AllByRecursion (FormedVal own) (option_to_list r)
   one_all None f = tt
   one_all (Some v) f = (f, tt)
 

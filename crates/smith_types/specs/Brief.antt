@@ -1,8 +1,9 @@
--- Types whose names have at most 100 bytes, and which declare no module types.
+-- Types whose names can be read: they have at most 100 bytes.
 use Rattle.std.specs.Prelude.{◌≤◌, map, length}
+use Rattle.smith_core_types.specs.Texts.{HasReadableTexts}
 use Rattle.smith_syntax.specs.Entries.{DefValType, primitive_type, record_type, variant_type, list_type, tuple_type, flags_type, enum_type, option_type}
 use Rattle.smith_syntax.specs.Entries.{result_type}
-use Rattle.smith_syntax.specs.Entries.{Entry, defined, function, component_type, instance_type, CoreEntry, core_func, core_module}
+use Rattle.smith_syntax.specs.Entries.{Entry, defined, function, component_type, instance_type}
 use Rattle.smith_syntax.specs.Entries.{Decl, Decls, core_type_decl, type_decl, type_alias, core_type_alias, import_decl, export_decl, no_decls, then_decls}
 use Rattle.smith_types.specs.Script.{AreShort}
 
@@ -17,10 +18,6 @@ BriefDefined (enum_type ns) = AreShort ns
 BriefDefined (option_type v) = Unit {0}
 BriefDefined (result_type ok err) = Unit {0}
 
-abbrev pub BriefCore : CoreEntry → Type 0
-BriefCore (core_func f) = Unit {0}
-BriefCore (core_module ds) = ⊥
-
 abbrev mutual
   pub Brief : Entry → Type 0
   Brief (defined t) = BriefDefined t
@@ -29,7 +26,7 @@ abbrev mutual
   Brief (instance_type ds) = BriefDecls ds
 
   pub BriefDecl : Decl → Type 0
-  BriefDecl (core_type_decl t k) = BriefCore t
+  BriefDecl (core_type_decl t k) = HasReadableTexts t
   BriefDecl (type_decl e) = Brief e
   BriefDecl (type_alias count i k) = Unit {0}
   BriefDecl (core_type_alias count i k) = Unit {0}

@@ -1,21 +1,35 @@
--- How much fuel a type needs to be read at all, and where types may be declared in it.
-use Rattle.std.specs.Prelude.{ℕ, suc, zero, ◌+◌, ◌<◌, [], ◌∷◌, max}
+-- How much fuel a type takes, how much it needs to be read at all, and where types may be declared in it.
+use Rattle.std.specs.Prelude.{ℕ, suc, zero, ◌+◌, ◌<◌, max}
 use Rattle.smith_format.specs.declared.config.Config.{Config}
-use Rattle.smith_syntax.specs.Entries.{Entry, defined, function, component_type, instance_type, CoreEntry, core_func, core_module}
+use Rattle.smith_core_types.specs.Needs.{core_cost, core_need}
+use Rattle.smith_syntax.specs.Entries.{Entry, defined, function, component_type, instance_type}
 use Rattle.smith_syntax.specs.Entries.{Decl, Decls, core_type_decl, type_decl, type_alias, core_type_alias, import_decl, export_decl, no_decls, then_decls}
-use Rattle.smith_syntax.specs.WellFormed.{size, defined_size, core_size}
-use Rattle.smith_types.specs.Script.{decl_cost}
+use Rattle.smith_syntax.specs.WellFormed.{size, defined_size}
+
+-- How much fuel a type takes: one for itself, and one for each turn of its loops. What stands in it takes its own.
+abbrev mutual
+  pub cost : Entry → ℕ
+  cost (defined t) = defined_size t + 1
+  cost (function s) = size (function s) + 1
+  cost (component_type ds) = decls_cost ds + 1
+  cost (instance_type ds) = decls_cost ds + 1
+
+  pub decl_cost : Decl → ℕ
+  decl_cost (core_type_decl t k) = core_cost t
+  decl_cost (type_decl e) = cost e
+  decl_cost (type_alias count i k) = 0
+  decl_cost (core_type_alias count i k) = 0
+  decl_cost (import_decl name n r) = 0
+  decl_cost (export_decl name n r) = 0
+
+  pub decls_cost : Decls → ℕ
+  decls_cost no_decls = 0
+  decls_cost (then_decls d ds) = decl_cost d + decls_cost ds + 1
 
 -- A type of values without members needs none: where the fuel does not last a type is one of values.
 abbrev pub need_of : ℕ → ℕ
 need_of zero = 0
 need_of (suc n) = suc n + 2
-
--- Nor does the empty module type.
-abbrev pub core_need : CoreEntry → ℕ
-core_need (core_func f) = 2
-core_need (core_module []) = 0
-core_need (core_module (d ∷ ds)) = core_size (core_module (d ∷ ds)) + 2
 
 abbrev mutual
   pub need : Entry → ℕ

@@ -1,20 +1,23 @@
 -- The input that a type is read from: what a script says of it.
-use Rattle.std.specs.Prelude.{◌≡◌, ℕ, suc, ◌+◌, ◌-◌, ◌<◌, ◌≤◌, ◌^◌, Bool, true, false, ◌&&◌, List, [], ◌∷◌, ◌++◌, map, length, Option, Some, None, slice_get}
+use Rattle.std.specs.Prelude.{ℕ, suc, ◌+◌, ◌-◌, ◌<◌, ◌≤◌, ◌^◌, Bool, true, false, ◌&&◌, List, [], ◌∷◌, ◌++◌, map, length, Option, Some, None, slice_get}
 use Rattle.std.specs.Prelude.{nat_eq, nat_le, if◌then◌else◌}
 use Rattle.std.specs.List.{AllByRecursion}
 use Rattle.std.specs.Option.{option_to_list}
 use Rattle.smith_input.specs.Script.{script_among, script_end, script_loop, script_name, pick}
-use Rattle.smith_core_types.specs.Script.{script_core_type}
+use Rattle.smith_core_types.specs.Needs.{core_need}
+use Rattle.smith_core_types.specs.Script.{script_core}
+use Rattle.smith_core_types.specs.Texts.{HasReadableTexts}
 use Rattle.smith_format.specs.declared.config.Config.{Config}
 use Rattle.smith_syntax.specs.Entries.{DefValType, primitive_type, record_type, variant_type, list_type, tuple_type, flags_type, enum_type, option_type}
-use Rattle.smith_syntax.specs.Entries.{result_type, Field, Case, Signature, Entry, defined, function, component_type, instance_type, CoreEntry, core_func}
-use Rattle.smith_syntax.specs.Entries.{core_module, Decl, Decls, core_type_decl, type_decl, type_alias, core_type_alias, import_decl, export_decl, no_decls}
+use Rattle.smith_syntax.specs.Entries.{result_type, Field, Case, Signature, Entry, defined, function, component_type, instance_type, CoreEntry}
+use Rattle.smith_syntax.specs.Entries.{Decl, Decls, core_type_decl, type_decl, type_alias, core_type_alias, import_decl, export_decl, no_decls}
 use Rattle.smith_syntax.specs.Entries.{then_decls}
 use Rattle.smith_syntax.specs.Scope.{Scope, empty_scope, defined_places, after_decl}
 use Rattle.smith_syntax.specs.TypeLimits.{EntryLimits}
-use Rattle.smith_syntax.specs.WellFormed.{FormedEntry, size, defined_size, core_size}
+use Rattle.smith_syntax.specs.WellFormed.{FormedEntry, size}
 use Rattle.smith_syntax.specs.declared.deftype.ComponentTypeRef.{ComponentTypeRef}
 use Rattle.smith_syntax.specs.declared.deftype.ComponentTypeRef.TheVariants as to
+use Rattle.smith_types.specs.Needs.{decl_cost}
 use Rattle.smith_types.specs.Offers.{has_reference, occupied, aliases_of, declaration_items, ref_kinds, ref_places, uncounted}
 use Rattle.smith_types.specs.contracts.make.declarations.DeclarationItemPartialEq.TheImpl.{ghosts as items}
 use Rattle.smith_types.specs.contracts.make.references.RefKindPartialEq.TheImpl.{ghosts as refs}
@@ -103,29 +106,6 @@ script_result (Some v) = script_scalar v
 abbrev pub script_lifted : Signature → List ℕ
 script_lifted s = script_params s.params ++ script_result s.result
 
--- How much fuel a type takes: one for itself, and one for each turn of its loops. What stands in it takes its own.
-abbrev pub core_cost : CoreEntry → ℕ
-core_cost e = core_size e + 1
-
-abbrev mutual
-  pub cost : Entry → ℕ
-  cost (defined t) = defined_size t + 1
-  cost (function s) = size (function s) + 1
-  cost (component_type ds) = decls_cost ds + 1
-  cost (instance_type ds) = decls_cost ds + 1
-
-  pub decl_cost : Decl → ℕ
-  decl_cost (core_type_decl t k) = core_cost t
-  decl_cost (type_decl e) = cost e
-  decl_cost (type_alias count i k) = 0
-  decl_cost (core_type_alias count i k) = 0
-  decl_cost (import_decl name n r) = 0
-  decl_cost (export_decl name n r) = 0
-
-  pub decls_cost : Decls → ℕ
-  decls_cost no_decls = 0
-  decls_cost (then_decls d ds) = decl_cost d + decls_cost ds + 1
-
 -- the kind of a reference, and its index
 abbrev pub kind_in : ComponentTypeRef → RefKind
 kind_in (to.Module i) = ref.Module
@@ -169,11 +149,6 @@ script_declaration_item config outer own chosen = script_among items.eq (declara
 abbrev pub script_declares : Config → Bool → Scope → List Scope → DeclarationItem → List ℕ
 script_declares config importing own outer chosen = script_no_import importing own ++ script_declaration_item config outer own chosen
 
--- A core type: a function type. Module types have no script, but for the empty one where the fuel does not last.
-abbrev pub script_core : Config → CoreEntry → List ℕ
-script_core config (core_func f) = script_core_type config f
-script_core config (core_module ds) = []
-
 -- A type with so much fuel: which of four kinds it is, where the fuel lasts, and then what it is. The fuel lasts for all but a type of
 -- values.
 abbrev mutual
@@ -184,7 +159,7 @@ abbrev mutual
   script_type (instance_type ds) config fuel own outer = script_type_kind Instance ++ script_decls ds config false (fuel - 1) 0 empty_scope (own ∷ outer)
 
   pub script_decl : Decl → Config → Bool → ℕ → Scope → List Scope → List ℕ
-  script_decl (core_type_decl t k) config importing fuel own outer = script_declares config importing own outer item.CoreType ++ script_core config t
+  script_decl (core_type_decl t k) config importing fuel own outer = script_declares config importing own outer item.CoreType ++ script_core config own fuel t
   script_decl (type_decl e) config importing fuel own outer = script_declares config importing own outer item.«Type» ++ script_type e config fuel own outer
   script_decl (type_alias count i k) config importing fuel own outer =
       script_declares config importing own outer item.Alias ++ script_alias (own ∷ outer) count (λ s. i)
@@ -217,10 +192,9 @@ LastsDefined fuel (enum_type ns) = AreShort ns × (length ns + 2 ≤ fuel)
 LastsDefined fuel (option_type v) = Unit {0}
 LastsDefined fuel (result_type ok err) = Unit {0}
 
--- A core type is a function type for which the fuel lasts, or the empty module type where it does not.
+-- The fuel lasts for a core type, and its names can be read.
 abbrev pub LastsCore : ℕ → CoreEntry → Type 0
-LastsCore fuel (core_func f) = 2 ≤ fuel
-LastsCore fuel (core_module ds) = (fuel ≤ 1) × (ds ≡ [])
+LastsCore fuel e = (core_need e ≤ fuel) × HasReadableTexts e
 
 -- The same where so many scopes are on the stack: fewer may be than the nesting allows where a type is declared in a type.
 abbrev mutual

@@ -4,11 +4,12 @@ ghost use Rattle.std.specs.Prelude.{◌≡◌, ◌≤◌, ◌↔◌, ◌∷◌, 
 ghost use Rattle.std.specs.Prelude.{nat_eq};
 ghost use Rattle.smith_format.specs.declared.config.Config.{Config};
 ghost use Rattle.smith_input.specs.Reading.{IsDecided, IsReadAs};
-ghost use Rattle.smith_input.specs.Script.{script_among};
-ghost use Rattle.smith_syntax.specs.Entries.{Entry, FullEntry, plain};
+ghost use Rattle.smith_input.specs.Script.{AreBytes, script_among};
+ghost use Rattle.smith_core_types.specs.Needs.{core_need};
+ghost use Rattle.smith_syntax.specs.Entries.{CoreEntry, Entry, FullEntry, plain};
 ghost use Rattle.smith_syntax.specs.Scope.{Scope, is_component, is_core_module, is_func, is_instance, places};
 ghost use Rattle.smith_syntax.specs.TypeLimits.{EntryLimits};
-ghost use Rattle.smith_syntax.specs.WellFormed.{FormedEntry, FormedRef, size};
+ghost use Rattle.smith_syntax.specs.WellFormed.{FormedEntry, FormedRef, core_size, size};
 ghost use Rattle.smith_syntax.specs.declared.deftype.ComponentTypeRef.TheVariants.{Func};
 ghost use Rattle.smith_types.specs.Brief.{Brief};
 ghost use Rattle.smith_types.specs.Made.{Made, MadeWith};
@@ -17,7 +18,10 @@ ghost use Rattle.smith_types.specs.Offers.{IsAllowed};
 ghost use Rattle.smith_types.specs.Script.{Fit, IsSayable, script_ref, script_type};
 ghost use Rattle.smith_types.specs.declared.make.references.RefTotals.{RefTotals};
 
-pub use smith_core_types::laws::{core_scripts_are_read, core_types_are_decided};
+pub use smith_core_types::laws::{
+    core_scripts_are_bytes, core_scripts_are_read, core_types_are_decided,
+    made_core_types_are_readable,
+};
 
 /// The limits, the scopes, the bytes and the fuel alone decide which type is made, with its URLs and what its aliases
 /// keep, and what is left of both.
@@ -32,6 +36,13 @@ pub fn scripts_are_read()
     ensures { (config : Config) (own : Scope) (outer : List Scope) (fuel : ℕ) (e : Entry)
         → config.max_nesting_depth ≤ 1000 → IsSayable config own outer fuel e
         → IsReadAs (MadeWith config own outer fuel) (script_type e config fuel own outer) e }
+{}
+
+/// The script of such a type is bytes.
+pub fn type_scripts_are_bytes()
+    ensures { (config : Config) (own : Scope) (outer : List Scope) (fuel : ℕ) (e : Entry)
+        → config.max_nesting_depth ≤ 1000 → IsSayable config own outer fuel e
+        → AreBytes (script_type e config fuel own outer) }
 {}
 
 /// Where no type of a component, of an instance or of a core module stands in a scope, the script of what an import
@@ -55,11 +66,12 @@ pub fn answers_need_no_more()
 
 /// No type is larger than the fuel that it needs.
 pub fn sizes_are_needed()
-    ensures { (e : Entry) → size e ≤ need e }
+    ensures types { (e : Entry) → size e ≤ need e }
+    ensures core_types { (t : CoreEntry) → core_size t ≤ core_need t }
 {}
 
-/// A type with short names and no module types, well formed in its scopes and within the limits, is read on some input
-/// exactly if there is fuel for it and it declares types only where one more scope may nest.
+/// A type whose names can be read, well formed in its scopes and within the limits, is read on some input exactly if
+/// there is fuel for it and it declares types only where one more scope may nest.
 pub fn types_are_exact()
     ensures { (config : Config) (own : Scope) (outer : List Scope) (fuel : ℕ) (e : Entry)
         → config.max_nesting_depth ≤ 1000 → FormedEntry e own outer → EntryLimits config e → Brief e

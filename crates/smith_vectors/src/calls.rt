@@ -85,8 +85,16 @@ fn function_types_that_flatten(rt: HostRuntime) -> Result<(), Fail> {
     let numbers = of_one(alloc, "a", PrimitiveValType::U32, PrimitiveValType::S64)?;
     assert!(rt; numbers.is_scalar());
     let core = canonical_abi_for(alloc, &numbers)?;
-    check_holds(&rt, "the parameters", core.params.as_slice() == [ValType::I32].as_slice());
-    check_holds(&rt, "the results", core.results.as_slice() == [ValType::I64].as_slice());
+    check_holds(
+        &rt,
+        "the parameters",
+        core.params.as_slice() == [ValType::I32].as_slice(),
+    );
+    check_holds(
+        &rt,
+        "the results",
+        core.results.as_slice() == [ValType::I64].as_slice(),
+    );
     Ok(())
 }
 

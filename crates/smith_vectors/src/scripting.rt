@@ -138,14 +138,16 @@ fn components_without_a_script(rt: HostRuntime) -> Result<(), Fail> {
                 reason: Reason::CoreModule,
             },
             NoScript {
-                name: "a module type with an export of a memory, behind a type",
+                name: "a module type with an export of a memory of 101 letters, behind a type",
                 limits,
                 gives: &[
                     b"\x07\x02\x01\x79",
-                    b"\x03\x09\x01\x50\x01\x03\x01e\x02\x00\x01",
+                    b"\x03\x6d\x01\x50\x01\x03\x65",
+                    &[b'e'; 101],
+                    b"\x02\x00\x01",
                 ],
                 part: &[1],
-                reason: Reason::ModuleType,
+                reason: Reason::LongName,
             },
             NoScript {
                 name: "a name of 101 letters, in the second section of the component in the third",
@@ -257,6 +259,91 @@ fn check_outside<R: Abort + AllocGlobal>(
         reason: Reason::Unlike,
     };
     check_faults(rt, &[row])
+}
+
+// These are read choice by choice in other tables: what the canonical ABI asks is taken (0) or not (99).
+const MODULE_TYPES: &[Parts<'static>] = &[
+    Parts {
+        name: "all that the canonical ABI asks",
+        input: &[
+            b"\x02\x01\x01",
+            b"\x00\x00\x00",
+            b"\x00",
+            b"\x00",
+            b"\x00\x00\x00",
+        ],
+        gives: &[
+            b"\x03\x4d\x01\x50\x05\x03\x06memory\x02\x00\x00",
+            b"\x01\x60\x04\x7f\x7f\x7f\x7f\x01\x7f\x03\x15canonical_abi_realloc\x00\x00",
+            b"\x01\x60\x03\x7f\x7f\x7f\x00\x03\x12canonical_abi_free\x00\x01",
+        ],
+    },
+    Parts {
+        name: "an outer alias",
+        input: &[
+            b"\x02\x01\x00\x00\x00",
+            b"\x01\x01\x63\x63\x63\x01\x03\x00",
+            b"\x00\x00",
+        ],
+        gives: &[b"\x03\x0b\x02\x60\x00\x00", b"\x50\x01\x02\x10\x01\x01\x00"],
+    },
+    Parts {
+        name: "a type, an alias of it, and an export of a function of the alias",
+        input: &[
+            b"\x02\x01\x01\x63\x63\x63",
+            b"\x01\x02\x00\x00",
+            b"\x01\x03",
+            b"\x01\x01\x00\x04\x01",
+            b"\x00\x00\x00",
+        ],
+        gives: &[
+            b"\x03\x10\x01\x50\x03",
+            b"\x01\x60\x00\x00",
+            b"\x02\x10\x01\x00\x00",
+            b"\x03\x00\x00\x01",
+        ],
+    },
+];
+
+#[test]
+fn module_types_have_scripts(rt: HostRuntime) -> Result<(), Fail> {
+    check_plans(&rt, small_limits(), MODULE_TYPES)
+}
+
+// A module type with an export of a table of externref: a module type (1), nothing of what the canonical ABI asks (99
+// three times), a declaration, an export (1) of a name of one letter, of a table (1) of the second sort, with a minimum
+// of 0 and no maximum.
+const TABLE_OF_EXTERNREF: Parts<'static> = Parts {
+    name: "an export of a table of externref",
+    input: &[
+        b"\x02\x01\x01\x63\x63\x63",
+        b"\x01\x01\x01t\x01\x01\x00\x00",
+        b"\x00\x00\x00",
+    ],
+    gives: &[b"\x03\x0a\x01\x50\x01\x03\x01t\x01\x6f\x00\x00"],
+};
+
+// A function type of nothing, and an export of a tag of it.
+const TAG: Parts<'static> = Parts {
+    name: "an export of a tag",
+    input: &[],
+    gives: &[b"\x03\x0d\x01\x50\x02\x01\x60\x00\x00\x03\x01t\x04\x00\x00"],
+};
+
+fn limits_of_modules(reference_types_enabled: bool, exceptions_enabled: bool) -> Config {
+    Config {
+        reference_types_enabled,
+        exceptions_enabled,
+        ..small_limits()
+    }
+}
+
+#[test]
+fn module_types_just_inside_and_just_outside_the_limits(rt: HostRuntime) -> Result<(), Fail> {
+    check_plans(&rt, limits_of_modules(true, false), &[TABLE_OF_EXTERNREF])?;
+    check_outside(&rt, limits_of_modules(false, false), TABLE_OF_EXTERNREF)?;
+    check_returns(&rt, limits_of_modules(false, true), &[TAG])?;
+    check_outside(&rt, limits_of_modules(false, false), TAG)
 }
 
 #[test]

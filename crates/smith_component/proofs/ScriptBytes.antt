@@ -5,8 +5,9 @@ use Rattle.std.proofs.lemmas.Option.{slice_get_within}
 use Rattle.std.specs.List.{AllByRecursion}
 use Rattle.smith_input.specs.Kebab.{Kebab}
 use Rattle.smith_input.specs.Loops.{Along}
-use Rattle.smith_input.specs.Script.{script_among}
+use Rattle.smith_input.specs.Script.{AreBytes, script_among}
 use Rattle.smith_input.proofs.Offered.{offers_few}
+use Rattle.smith_input.proofs.ScriptBytes.{Small, small_bytes, small_few, small_join, small_loop, small_name, small_none, small_pick, small_text, small_turns}
 use Rattle.smith_format.specs.Limits.{IsConsistent}
 use Rattle.smith_format.specs.Piece.{Piece, ◌⊕◌, byte, bytes, framed, raw, sized, text}
 use Rattle.smith_format.specs.declared.config.Config.{Config}
@@ -15,11 +16,15 @@ use Rattle.smith_syntax.specs.Entries.{CoreEntry, Entry, function, ImportEntry}
 use Rattle.smith_syntax.specs.SameSignature.{same_signature_Decides}
 use Rattle.smith_syntax.specs.Scope.{Scope, with_core_type, with_type}
 use Rattle.smith_syntax.specs.Shown.{is_of_signature}
+use Rattle.smith_syntax.specs.CoreLimits.{CoreLimits}
 use Rattle.smith_syntax.specs.TypeLimits.{EntryLimits}
-use Rattle.smith_syntax.specs.WellFormed.{FormedTypes}
 use Rattle.smith_core.proofs.BytesTypes.{are_raw}
 use Rattle.smith_scopes.proofs.Plain.{all_back, all_front}
-use Rattle.smith_types.specs.Script.{Fit, Lasts, script_core, script_type}
+use Rattle.smith_core_types.specs.Script.{script_core}
+use Rattle.smith_core_types.proofs.ScriptBytes.{small_core, small_place, small_said}
+use Rattle.smith_types.specs.Script.{Lasts, script_type}
+use Rattle.smith_types.proofs.ReferencesRead.{IsFew}
+use Rattle.smith_types.proofs.ScriptBytes.{small_extern, small_lifted, small_ref, type_bytes}
 use Rattle.smith_component.specs.CanonScript.{canon_item_of, script_canon, script_lift}
 use Rattle.smith_component.specs.Grammar.{part, parts, preamble}
 use Rattle.smith_component.specs.Limits.{OwnLimits}
@@ -46,10 +51,8 @@ use Rattle.smith_component.proofs.PartsRead.{spoken_past}
 use Rattle.smith_component.proofs.Sound.{length-scopes_from, scopes_from-snoc}
 use Rattle.smith_component.proofs.Spaces.{all_at}
 use Rattle.smith_component.proofs.Tree.{function_count-add, join-add, join-ends, length-own-add, own-add}
-use Rattle.smith_script_types.specs.Says.{AreBytes}
-use Rattle.smith_script.proofs.Bytes.{Small, small_bytes, small_few, small_join, small_loop, small_name, small_none, small_pick, small_place, small_text}
-use Rattle.smith_script.proofs.Bytes.{small_turns}
-use Rattle.smith_script.proofs.TypeBytes.{all_of, IsFew, small_core, small_extern, small_lifted, small_ref, small_type}
+use Rattle.smith_component.proofs.ReadsCoreTypes as core_sections
+use Rattle.smith_component.proofs.ReadsTypes as type_sections
 
 -- What has an encoding.
 
@@ -76,19 +79,6 @@ component_encoded t e =
     let inner = sized_encoded 4 (bytes preamble ⊕ parts t) e in
     let z = parts_are (bytes preamble) (parts t) inner.0 inner.1 in
     (z.right, z.q_is)
-
--- Types.
-module _ (config : Config) (deep : config.max_nesting_depth ≤ 1000) (outer : List Scope) (around : AllByRecursion IsFew outer)
-    (shallow : suc (length outer) ≤ 1000) where
-  small_types : (ts : List Entry) (own : Scope) → FormedTypes ts own outer → AllByRecursion (EntryLimits config) ts
-      → AllByRecursion (λ e. Lasts e config (suc (length outer)) config.max_type_size) ts → length own.types + length own.core_types + length ts ≤ 2 ^ 64
-      → Along (λ s e. Small (script_type e config config.max_type_size s outer)) with_type own ts
-  small_types [] own f m l few = tt
-  small_types (t ∷ ts) own f m l few =
-      let fit : Fit (own ∷ outer) = record { many = omega (arith, shallow); each = (omega (arith, few), around) } in (
-        small_type config deep t own outer config.max_type_size f.0 m.0 l.0 fit shallow,
-        small_types ts (with_type own t) f.1 m.1 l.1 (omega (arith, few, length-append own.types (t ∷ []))),
-      )
 
 -- Imports.
 small_imports : (config : Config) (stack : Open) → IsFew (scope_of stack.inner) → (is : List ImportEntry) → AllByRecursion IsPlanImport is
@@ -225,24 +215,32 @@ module _ (config : Config) (consistent : IsConsistent config) (outer : List Tree
       let z = parts_are (part (custom name contents)) (parts t) said.spelled.0 said.spelled.1 in
       small_join (small_text 1000 name (omega arith) said.plan.0 short.0) (small_bytes contents (contents_bytes name contents (z.left, z.p_is)))
 
-  small_core_types : (ts : List CoreEntry) → Small (script_part (core_types ts) config outer before)
-  small_core_types ts =
-      small_turns (λ s x. script_core config x) with_core_type 0 (config.max_types - length (core_types_of before)) 0 (scope_of before) ts
-      (all_of (λ x. (s : Scope) → Small (script_core config x)) (λ x s. small_core config x) ts)
+  small_core_part : (ts : List CoreEntry) (t : Tree) → Said config outer before (first (core_types ts) t)
+      → Small (script_part (core_types ts) config outer before)
+  small_core_part ts t said =
+      let fits : Fits config (after_part (spaces_of before) (core_types ts)) = fits_behind config before (core_types ts) (with_next (core_types ts) t said) in
+      let few : length (core_types_of before) + length ts ≤ config.max_types = omega (arith, fits.core_types, length-append (core_types_of before) ts) in
+      let limited : AllByRecursion (CoreLimits config) ts = all_back _ (core_types_of before) ts fits.within_core_types in
+      small_said (λ s x. script_core config s config.max_type_size x) with_core_type (core_sections.Said config) one 0
+      (config.max_types - length (core_types_of before)) 0 (scope_of before) ts
+      (core_sections.all_said config ts (scope_of before) said.formed.0 limited said.plan.0 (omega (arith, few, consistent.types)))
+    where
+      one : (s : Scope) (x : CoreEntry) → core_sections.Said config s x → Small (script_core config s config.max_type_size x)
+      one s x (formed, limits, lasts, small) = small_core config s config.max_type_size x formed limits lasts.1 lasts.0 small
 
   small_type_part : (ts : List Entry) (t : Tree) → Said config outer before (first (types ts) t) → Small (script_part (types ts) config outer before)
   small_type_part ts t said =
       let fits : Fits config (after_part (spaces_of before) (types ts)) = fits_behind config before (types ts) (with_next (types ts) t said) in
       let few : length (types_of before) + length ts ≤ config.max_types = omega (arith, fits.types, length-append (types_of before) ts) in
-      let cores : length (core_types_of before) ≤ config.max_types = fits.core_types in
       let limited : AllByRecursion (EntryLimits config) ts = all_back _ (types_of before) ts fits.within_types in
       let count : length (scopes_in outer) ≡ length outer = omega (arith, length-scopes_from outer []) in
       let lasts : AllByRecursion (λ e. Lasts e config (suc (length (scopes_in outer))) config.max_type_size) ts =
       subst (λ n. AllByRecursion (λ e. Lasts e config (suc n) config.max_type_size) ts) (sym count) said.plan.0 in
-      small_loop (λ s e. script_type e config config.max_type_size s (scopes_in outer)) with_type 0 (config.max_types - length (types_of before)) 0
-      (scope_of before) ts
-      (small_types config consistent.nesting (scopes_in outer) said.around (omega (arith, said.shallow, count)) ts (scope_of before) said.formed.0 limited lasts
-      (omega (arith, few, cores, consistent.types)))
+      let can = type_sections.sayable config (scopes_in outer) said.around (omega (arith, said.shallow, count)) in
+      small_said (λ s e. script_type e config config.max_type_size s (scopes_in outer)) with_type (type_sections.Said config (scopes_in outer))
+      (λ s e h. record { are = type_bytes config s (scopes_in outer) config.max_type_size e consistent.nesting (can s e h) }) 0
+      (config.max_types - length (types_of before)) 0 (scope_of before) ts
+      (type_sections.all_said config (scopes_in outer) ts (scope_of before) said.formed.0 limited lasts (omega (arith, few, fits.core_types, consistent.types)))
 
   small_import_part : (is : List ImportEntry) (t : Tree) → Said config outer before (first (imports is) t)
       → Small (script_part (imports is) config outer before)
@@ -285,7 +283,7 @@ mutual
       → Small (script_part p config outer before)
   small_part (custom name contents) t config outer before consistent said = small_custom config consistent outer before name contents t said
   small_part (core_module text) t config outer before consistent said = small_none
-  small_part (core_types ts) t config outer before consistent said = small_core_types config consistent outer before ts
+  small_part (core_types ts) t config outer before consistent said = small_core_part config consistent outer before ts t said
   small_part (component u) t config outer before consistent said =
       small_from u config (outer ++ before ∷ []) ends consistent (said_inside config consistent outer before u t said)
   small_part (types ts) t config outer before consistent said = small_type_part config consistent outer before ts t said

@@ -1,0 +1,18 @@
+use Rattle.std.proofs.Common.{◌≤◌, ◌-◌, drop, map}
+use Rattle.std.specs.Prelude.{take}
+use Rattle.smith_input.specs.Script.{script_loop}
+use Rattle.smith_read_types.specs.Nodes.{shown_module_node}
+use Rattle.smith_core_types.specs.ModuleScript.{script_decl}
+use Rattle.smith_core_types.specs.Offers.{with_decl}
+use Rattle.smith_script_types.proofs.Saying.{Towards}
+use Rattle.smith_script_types.specs.Modules.{script_behind, with_sorts}
+use Rattle.smith_script_types.specs.Places.{own_at}
+use Rattle.smith_script_types.proofs.modules.put_behind.Given as goal
+
+abbrev pub invariant-loop-index : goal.invariant-loop-index
+invariant-loop-index l = record {
+  from : l.front ≤ l.index;
+  left : Towards l.initial.out l.out (script_behind l.place.config.now (own_at l.place) l.front (map shown_module_node l.decls))
+      (script_loop (script_decl l.place.config.now (own_at l.place)) (with_decl (own_at l.place).core_types) 0 100 (l.index - l.front)
+      (with_sorts l.own.items (map shown_module_node (take l.index l.decls))) (map shown_module_node (drop l.index l.decls)));
+}

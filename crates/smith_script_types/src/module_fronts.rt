@@ -1,0 +1,114 @@
+//! What the canonical ABI asks of a module type, as its script begins with it.
+
+ghost use Rattle.std.specs.Prelude.{◌≡◌, ◌∷◌, [], ℕ, map, IfOk, IfErr};
+ghost use Rattle.std.specs.List.{flat_map};
+ghost use Rattle.smith_syntax.specs.ModuleTypes.{after_front, after_memory, after_realloc, entities_of};
+ghost use Rattle.smith_read_types.specs.Nodes.{shown_module_node};
+ghost use Rattle.smith_core_types.specs.ModuleScript.{front_before, in_front, may_declare, script_asked, script_front};
+ghost use Rattle.smith_core_types.specs.ModuleScript.{script_line};
+ghost use Rattle.smith_script_types.specs.Says.{Says};
+ghost use Rattle.smith_script_types.specs.declared.error.Unsaid.TheVariants.{OutOfMemory};
+
+use crate::choices::put_choice;
+use crate::declared::{Declared, declared_sorts, entity_in};
+use crate::entities::put_limits;
+use crate::error::Unsaid;
+use crate::fronts::{after_front, after_memory, after_realloc};
+use crate::place::Place;
+use smith_format::EntityType;
+use smith_read_types::ModuleNode;
+
+// The declarations in front of these.
+fn in_front<'b>(decls: &'b [ModuleNode], behind: &[ModuleNode]) -> &'b [ModuleNode]
+    ensures { map shown_module_node result.now
+        ≡ in_front (map shown_module_node decls.now) (map shown_module_node behind.now) }
+{
+    &decls[..decls.len().saturating_sub(behind.len())]
+}
+
+// What a declaration leaves open: the limits of a memory.
+fn put_asked(out: &mut Vec<u8>, decl: &ModuleNode) -> Result<(), Unsaid>
+    ensures { Says result out.old out.new (flat_map script_asked (entities_of (shown_module_node decl.now ∷ []))) }
+{
+    match entity_in(decl) {
+        Some(EntityType::Memory(memory)) => put_limits(out, memory.minimum, memory.maximum),
+        _ => Ok(()),
+    }
+}
+
+fn put_all_asked(out: &mut Vec<u8>, decls: &[ModuleNode]) -> Result<(), Unsaid>
+    ensures { Says result out.old out.new (flat_map script_asked (entities_of (map shown_module_node decls.now))) }
+{
+    for decl in decls {
+        put_asked(out, decl)?;
+    }
+    Ok(())
+}
+
+// A line of what the canonical ABI asks, which is allowed or not, and behind which these declarations stand.
+fn put_line(
+    out: &mut Vec<u8>,
+    may: bool,
+    decls: &[ModuleNode],
+    behind: &[ModuleNode],
+) -> Result<(), Unsaid>
+    ensures { Says result out.old out.new
+        (script_line may (map shown_module_node decls.now) (map shown_module_node behind.now)) }
+{
+    if behind.len() < decls.len() {
+        put_choice(out, 100, 0)?;
+        return put_all_asked(out, in_front(decls, behind));
+    }
+    if may {
+        return put_choice(out, 100, 99);
+    }
+    Ok(())
+}
+
+// Is a function of a type of its own still allowed where these declarations are left?
+fn may_declare(
+    place: Place<'_>,
+    decls: &[ModuleNode],
+    behind: &[ModuleNode],
+) -> Result<bool, Unsaid>
+    ensures may { (fuel : ℕ) → IfOk result (λ b. b ≡ may_declare place.entry.config.now
+        (front_before fuel (map shown_module_node decls.now) (map shown_module_node behind.now))) }
+    ensures memory { IfErr result (λ e. e ≡ OutOfMemory) }
+{
+    let front = in_front(decls, behind);
+    let own = declared_sorts(place.alloc, front)?;
+    let declared = Declared {
+        own: &own,
+        decls: front,
+    };
+    Ok(declared.allows_function(place.config) && declared.allows_type(place.config))
+}
+
+/// What the canonical ABI asks, in its three lines, whatever fuel there is.
+pub(crate) fn put_front(
+    out: &mut Vec<u8>,
+    place: Place<'_>,
+    decls: &[ModuleNode],
+) -> Result<(), Unsaid>
+    ensures { (fuel : ℕ) → Says result out.old out.new (script_front place.entry.config.now fuel
+        (map shown_module_node decls.now) (after_memory (map shown_module_node decls.now))
+        (after_realloc (after_memory (map shown_module_node decls.now)))
+        (after_front (map shown_module_node decls.now))) }
+{
+    let no_memory = after_memory(decls);
+    let no_realloc = after_realloc(no_memory);
+    let no_free = after_front(decls);
+    put_line(out, 0 < place.config.max_memories, decls, no_memory)?;
+    put_line(
+        out,
+        may_declare(place, decls, no_memory)?,
+        no_memory,
+        no_realloc,
+    )?;
+    put_line(
+        out,
+        may_declare(place, decls, no_realloc)?,
+        no_realloc,
+        no_free,
+    )
+}
