@@ -28,7 +28,7 @@ use Rattle.smith_component.proofs.ReadsExports.{exports_addable}
 use Rattle.smith_component.proofs.ReadsImports.{imports_addable}
 use Rattle.smith_component.proofs.ReadsTypes.{types_read_declared, types_read_formed, types_read_limited, types_read_nested, types_read_small}
 use Rattle.smith_component.proofs.Sound.{addable_core_types, addable_custom, addable_module, addable_types, component_offered_is, length-scopes_from}
-use Rattle.smith_component.proofs.Sound.{module_offered_is, own_limits_of, part_sound, root_kept, sound_close, sound_open}
+use Rattle.smith_component.proofs.Sound.{module_offered_is, own_limits-ends, own_limits_of, part_sound, root_kept, sound_close, sound_open}
 use Rattle.smith_component.proofs.Turn.{chosen}
 
 -- What comes next is sound: what is open, or the answer.
@@ -134,19 +134,7 @@ root_sound config consistent = record {
   consistent = consistent;
   formed = tt;
   maxima = record {
-    each = (
-      record {
-        types = omega arith;
-        core_types = omega arith;
-        imports = omega arith;
-        functions = omega arith;
-        exports = omega arith;
-        within_types = tt;
-        within_core_types = tt;
-        names = tt;
-      },
-      tt,
-    );
+    each = (own_limits-ends config, tt);
     modules = omega arith;
     components = omega arith;
     instances = omega arith;

@@ -78,7 +78,8 @@ exports_item config stack some =
     (is_export_offered config) Exports refl offered
 
 -- What has at most what it may have has so in front.
-pub limits_front : (t : Tree) (config : Config) (outer : List Tree) (a : Tree) → Maxima config (tree_so_far outer (join a t)) → Maxima config (tree_so_far outer a)
+pub limits_front : (t : Tree) (config : Config) (outer : List Tree) (a : Tree) → Maxima config (tree_so_far outer (join a t))
+    → Maxima config (tree_so_far outer a)
 limits_front ends config outer a l = subst (λ x. Maxima config (tree_so_far outer x)) (join-ends a) l
 limits_front (first p t) config outer a l =
     let m = limits_front t config outer (add a p) (subst (λ x. Maxima config (tree_so_far outer x)) (sym (join-add a p t)) l) in

@@ -152,6 +152,19 @@ finished_open config outer inner all =
     ∙ ap (λ x. flat_map inside outer ++ x) (append-nil (inside inner))) in
     subst P (sym whole) all
 
+-- What an empty component has.
+pub own_limits-ends : (config : Config) → OwnLimits config ends
+own_limits-ends config = record {
+  types = omega arith;
+  core_types = omega arith;
+  imports = omega arith;
+  functions = omega arith;
+  exports = omega arith;
+  within_types = tt;
+  within_core_types = tt;
+  names = tt;
+}
+
 pub sound_open : (config : Config) (outer : List Tree) (inner : Tree) → length outer + 1 < config.max_nesting_depth
     → component_count (tree_so_far outer inner) < config.max_components → Sound config (record { outer = outer; inner = inner })
     → Sound config (record { outer = outer ++ inner ∷ []; inner = ends })
@@ -161,19 +174,7 @@ sound_open config outer inner deep few s =
     let whole : Maxima config (tree_so_far outer (add inner (component ends))) = record {
       each =
           all_so_far (OwnLimits config) (own_limits_swap config) outer inner (component ends)
-          (own_limits-component config inner ends (own_limits_of config stack s)) (
-            record {
-              types = omega arith;
-              core_types = omega arith;
-              imports = omega arith;
-              functions = omega arith;
-              exports = omega arith;
-              within_types = tt;
-              within_core_types = tt;
-              names = tt;
-            },
-            tt,
-          ) s.maxima.each;
+          (own_limits-component config inner ends (own_limits_of config stack s)) (own_limits-ends config, tt) s.maxima.each;
       modules = omega (arith, module_count-so_far outer inner (component ends), s.maxima.modules);
       components = omega (arith, component_count-so_far outer inner (component ends), few);
       instances = omega (arith, instance_count-so_far outer inner (component ends), s.maxima.instances);
