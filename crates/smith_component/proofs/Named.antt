@@ -5,7 +5,8 @@ use Rattle.std.proofs.lemmas.List.{length-map, map-append}
 use Rattle.std.specs.List.{AllByRecursion, IsDistinct}
 use Rattle.smith_input.specs.Kebab.{Kebab}
 use Rattle.smith_input.specs.Loops.{Loop}
-use Rattle.smith_input.specs.Names.{ReadsNew, is_among}
+use Rattle.smith_input.specs.Names.{ReadsNew}
+use Rattle.smith_input.specs.NewNames.{is_among}
 use Rattle.smith_input.proofs.Loops.{loop_gives}
 use Rattle.smith_input.proofs.NewNames.{new_kebab}
 use Rattle.smith_format.specs.declared.config.Config.{Config}

@@ -6,7 +6,7 @@ use Rattle.std.proofs.lemmas.Bool.{false≢true, ltb-true}
 use Rattle.std.specs.Prelude.{Some, None, IfSome, slice_get, codes}
 use Rattle.smith_input.specs.Choices.{ReadsAmong}
 use Rattle.smith_input.specs.Loops.{Loop}
-use Rattle.smith_input.specs.Names.{IsMadeUnique, is_among}
+use Rattle.smith_input.specs.NewNames.{IsMadeUnique, is_among}
 use Rattle.smith_input.specs.Reading.{Reads, Flips, IsTail}
 use Rattle.smith_input.specs.Script.{pick}
 use Rattle.smith_input.specs.Offers.{offered}

@@ -16,7 +16,7 @@ use Rattle.smith_format.specs.Entities.{CoreImport}
 use Rattle.smith_format.specs.declared.config.Config.{Config}
 use Rattle.smith_format.specs.declared.types.EntityType.{EntityType}
 use Rattle.smith_input.specs.Choices.{ReadsAmong}
-use Rattle.smith_input.specs.Names.{is_among}
+use Rattle.smith_input.specs.NewNames.{is_among}
 use Rattle.smith_syntax.specs.Entries.{CoreEntry, ModuleDecl, aliases, core_func, core_module}
 use Rattle.smith_core_types.specs.MadeCore.{no_export, no_import}
 use Rattle.smith_core_types.specs.Offers.{indexes, module_items}

@@ -6,7 +6,7 @@ use Rattle.std.proofs.lemmas.Bool.Decides.{nat_tests, Decides-eqb}
 use Rattle.std.proofs.lemmas.Option.{slice_get_within}
 use Rattle.std.specs.Prelude.{Option, IfSome, slice_get, if◌then◌else◌}
 use denote.Enum.Bare.{same_true, true_same}
-use Rattle.smith_input.specs.Names.{is_among}
+use Rattle.smith_input.specs.NewNames.{is_among}
 use Rattle.smith_input.specs.Reading.{Flips}
 use Rattle.smith_input.specs.Script.{pick, rank_of, script_among, script_text}
 use Rattle.smith_input.proofs.Choices.{among_read, among_written, rank_found}

@@ -9,7 +9,7 @@ use Rattle.std.proofs.lemmas.Slice.Eq.{bytes_eq-Decides}
 use Rattle.std.specs.List.{AllByRecursion, Contains, filter, flat_map}
 use Rattle.std.specs.Option.{option_to_list}
 use Rattle.std.specs.Prelude.{Option, Some, None, IfSome, codes, nat_eq, if◌then◌else◌}
-use Rattle.smith_input.specs.Names.{is_among}
+use Rattle.smith_input.specs.NewNames.{is_among}
 use Rattle.smith_format.specs.CoreFormed.{FormedFunction, FormedMemory}
 use Rattle.smith_format.specs.CoreTypes.{Function}
 use Rattle.smith_format.specs.Entities.{kind_byte, kind_of}

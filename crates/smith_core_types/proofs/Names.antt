@@ -3,7 +3,7 @@ use Rattle.std.proofs.Common.{◌≡◌, ◌||◌, Bool, true, false, ℕ, List,
 use Rattle.std.specs.List.{AllByRecursion, IsDistinct}
 use Rattle.std.proofs.lemmas.Bool.{false≢true}
 use Rattle.std.proofs.lemmas.Slice.Eq.{bytes_eq-Decides}
-use Rattle.smith_input.specs.Names.{is_among}
+use Rattle.smith_input.specs.NewNames.{is_among}
 use Rattle.smith_input.proofs.NewNames.{among_more}
 
 -- Each name is none of those before it: of these, and of those in the list.

@@ -4,7 +4,7 @@ use Rattle.std.specs.List.{flat_map}
 use Rattle.std.specs.Option.{option_to_list}
 use Rattle.smith_input.specs.Choices.{ReadsAmong}
 use Rattle.smith_input.specs.Loops.{Loop}
-use Rattle.smith_input.specs.Names.{IsMadeUnique, is_among}
+use Rattle.smith_input.specs.NewNames.{IsMadeUnique, is_among}
 use Rattle.smith_input.specs.Reading.{Reads, Flips}
 use Rattle.smith_input.specs.Texts.{ReadsText}
 use Rattle.smith_format.specs.CoreReading.{ReadsFunction, ReadsMemory, ReadsTable, ReadsTag}

@@ -1,6 +1,6 @@
 -- The names within a core type that is made.
 use Rattle.std.specs.Prelude.{ℕ, List, [], ◌∷◌, ◌++◌}
-use Rattle.smith_input.specs.Names.{IsMadeNew}
+use Rattle.smith_input.specs.NewNames.{IsMadeNew}
 use Rattle.smith_syntax.specs.Entries.{CoreEntry, ModuleDecl, core_func, core_module, imports, declares, aliases, exports}
 use Rattle.smith_syntax.specs.ModuleTypes.{export_names, names_from}
 use Rattle.smith_core_types.specs.Texts.{IsReadableText}

@@ -2,7 +2,7 @@
 
 ghost use Rattle.std.specs.Prelude.{◌≡◌, ◌∷◌, ℕ, List, [], map, length, string_bytes, IfOk, IfErr};
 ghost use Rattle.std.specs.Prelude.{MatchOption};
-ghost use Rattle.smith_input.specs.Names.{is_among};
+ghost use Rattle.smith_input.specs.NewNames.{is_among};
 ghost use Rattle.smith_input.specs.Reading.{IsTail};
 ghost use Rattle.smith_input.specs.Texts.{ReadsText};
 ghost use Rattle.smith_core_types.specs.MadeCore.{ReadsNewText};

@@ -9,7 +9,8 @@ use Rattle.std.specs.Fmt.{decimal}
 use Rattle.smith_input.specs.Reading.{Reads, IsTail}
 use Rattle.smith_input.specs.Script.{pick, code, script_characters, script_name}
 use Rattle.smith_input.specs.Kebab.{IsLetter, IsDigit, AreInWord, IsWord, Kebab, word, hyphen}
-use Rattle.smith_input.specs.Names.{character, characters, ReadsEach, none, next, ReadsKebab, appended, IsMadeUnique}
+use Rattle.smith_input.specs.Names.{character, characters, ReadsEach, none, next, ReadsKebab}
+use Rattle.smith_input.specs.NewNames.{appended, IsMadeUnique}
 use Rattle.smith_input.proofs.Picks.{reads-pick}
 use Rattle.smith_input.proofs.Reading.{tail_same, tail_trans, reads_tail, reads_unique}
 

@@ -8,8 +8,10 @@ use Rattle.std.proofs.lemmas.Bool.Decides.{nat_tests}
 use Rattle.std.proofs.lemmas.List.{length-append, length-take, take_all, take_at}
 use Rattle.std.proofs.lemmas.Str.{IsUtf8-append, IsUtf8-from_ascii, IsUtf8-take, IsCharBoundary-at_seam}
 use Rattle.smith_input.specs.Kebab.{IsDigit, AreInWord, Kebab}
-use Rattle.smith_input.specs.Names.{appended, IsMadeNew, ReadsNew, is_among}
-use Rattle.smith_input.specs.NameScript.{is_within, last_word_is_a, is_short, IsMadeOf, IsReachable, IsReachableText, ReadsNewText, first_readable, text_of}
+use Rattle.smith_input.specs.Names.{ReadsNew}
+use Rattle.smith_input.specs.NewNames.{appended, IsMadeNew, is_among}
+use Rattle.smith_input.specs.NameScript.{is_within, last_word_is_a, is_short, IsMadeOf, IsReachable, IsReachableText, first_readable, text_of}
+use Rattle.smith_input.specs.Texts.{ReadsNewText}
 use Rattle.smith_input.specs.NameScript.{script_within, script_new, script_new_text}
 use Rattle.smith_input.specs.Script.{script_name, script_text}
 use Rattle.smith_input.specs.Texts.{ReadsText}
@@ -118,12 +120,12 @@ module _ (can_read : List ℕ → Bool) where
 
   -- the text from which a name is made, for its script
   pub made_of : (names : List (List ℕ)) (name : List ℕ) → IsMadeOf can_read names name
-      → (can_read (text_of can_read names name) ≡ true) × IsMadeNew names (text_of can_read names name) name
+      → (can_read (text_of can_read (length names) name) ≡ true) × IsMadeNew names (text_of can_read (length names) name) name
   made_of names name (text, c, u) =
       let ds = decimal (length names) in
       let few : u.times ≤ length name = omega (arith, ap length u.name_is, times_few text ds (some_digits (length names)) u.times) in
       let f = found text ds (length name) u.times few c in
-      let is : text_of can_read names name ≡ appended text ds f.n = ap (first_readable can_read (length ds) (length name)) u.name_is ∙ f.is in
+      let is : text_of can_read (length names) name ≡ appended text ds f.n = ap (first_readable can_read (length ds) (length name)) u.name_is ∙ f.is in
       let more : f.n + (u.times - f.n) ≡ u.times = omega (arith, f.few) in
       let made : IsMadeNew names (appended text ds f.n) name = record {
         times = u.times - f.n;
@@ -134,8 +136,8 @@ module _ (can_read : List ℕ → Bool) where
       (ap can_read is ∙ f.reads, subst (λ t. IsMadeNew names t name) (sym is) made)
 
 -- A text that can be read is the one that its script is of.
-pub text_of_read : (can_read : List ℕ → Bool) (names : List (List ℕ)) (name : List ℕ) → can_read name ≡ true → text_of can_read names name ≡ name
-text_of_read can_read names name c = by_fuel (length (decimal (length names))) (length name)
+pub text_of_read : (can_read : List ℕ → Bool) (count : ℕ) (name : List ℕ) → can_read name ≡ true → text_of can_read count name ≡ name
+text_of_read can_read count name c = by_fuel (length (decimal count)) (length name)
   where
     by_fuel : (n fuel : ℕ) → first_readable can_read n fuel name ≡ name
     by_fuel n zero = refl
@@ -148,12 +150,12 @@ short_within max name l = by_end (last_word_is_a name)
     by_end true = is_most (length name) (max + 1) (omega (arith, l))
     by_end false = is_most (length name) max l
 
-pub short_script : (max : ℕ) (names : List (List ℕ)) (name : List ℕ) → length name ≤ max → script_new max names name ≡ script_name max name
-short_script max names name l =
-    ap (script_within max) (text_of_read (is_within max) names name (short_within max name l)) ∙ ap (script_name max) (take_all max name l)
+pub short_script : (max count : ℕ) (name : List ℕ) → length name ≤ max → script_new max count name ≡ script_name max name
+short_script max count name l =
+    ap (script_within max) (text_of_read (is_within max) count name (short_within max name l)) ∙ ap (script_name max) (take_all max name l)
 
-pub short_text_script : (max : ℕ) (names : List (List ℕ)) (name : List ℕ) → length name ≤ max → script_new_text max names name ≡ script_text max name
-short_text_script max names name l = ap (script_text max) (text_of_read (is_short max) names name (is_most (length name) max l))
+pub short_text_script : (max count : ℕ) (name : List ℕ) → length name ≤ max → script_new_text max count name ≡ script_text max name
+short_text_script max count name l = ap (script_text max) (text_of_read (is_short max) count name (is_most (length name) max l))
 
 -- Names in kebab case.
 
@@ -172,9 +174,9 @@ made_kebab_more names {text} u k =
     subst Kebab (sym u.name_is) (kept_more Kebab text ds (λ front. kebab_more ds (in_word ds (are_digits (length names)))) u.times k)
 
 pub new_script_read : (max : ℕ) (names : List (List ℕ)) (name rest : List ℕ) → max < 2 ^ 64 → Kebab name → IsReachable max names name
-    → ReadsNew max names (script_new max names name ++ rest) name rest
+    → ReadsNew max names (script_new max (length names) name ++ rest) name rest
 new_script_read max names name rest h k made =
-    let text = text_of (is_within max) names name in
+    let text = text_of (is_within max) (length names) name in
     let m = made_of (is_within max) names name made in
     record { text = text; reads = within_read max text rest h (made_kebab_less names m.1 k) m.0; unique = m.1 }
 
@@ -204,9 +206,9 @@ made_utf8_more names {text} u k =
     subst IsUtf8 (sym u.name_is) (kept_more IsUtf8 text ds (λ front f. IsUtf8-append front ds f (IsUtf8-from_ascii ds a)) u.times k)
 
 pub new_text_read : (max : ℕ) (names : List (List ℕ)) (name rest : List ℕ) → max < 2 ^ 64 → IsUtf8 name → IsReachableText max names name
-    → ReadsNewText max names (script_new_text max names name ++ rest) name rest
+    → ReadsNewText max names (script_new_text max (length names) name ++ rest) name rest
 new_text_read max names name rest h k made =
-    let text = text_of (is_short max) names name in
+    let text = text_of (is_short max) (length names) name in
     let m = made_of (is_short max) names name made in
     record { text = text; reads = text_read max text rest h (made_utf8_less names m.1 k) (at_most (length text) max m.0); unique = m.1 }
 

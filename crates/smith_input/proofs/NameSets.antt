@@ -6,13 +6,14 @@ use Rattle.std.specs.List.{list_any}
 use Rattle.std.specs.BTreeMap.{is_at}
 use Rattle.std.specs.BTreeSet.{BTreeSet, contains_text, btree_set_len, UpdatesBy}
 use Rattle.std.specs.String.{string_cmp}
-use Rattle.std.specs.Ordering.{is_eq, nat_cmp}
+use Rattle.std.specs.Ordering.{nat_cmp}
 use Rattle.std.specs.Cmp.Lexicographic.{slice_cmp}
 use Rattle.std.proofs.lemmas.Cmp.{nat_list_eq_equiv}
 use Rattle.std.proofs.lemmas.List.{length-map}
 use Rattle.std.proofs.lemmas.Map.Text.{is_eq-slice_cmp, btree_set_updates_text}
 use Rattle.std.proofs.lemmas.Slice.Eq.{bytes_eq-Decides}
-use Rattle.smith_input.specs.Names.{GainsName, IsMadeNew, IsMadeUnique, IsUniqueIn, is_among}
+use Rattle.smith_input.specs.Names.{GainsName, IsUniqueIn}
+use Rattle.smith_input.specs.NewNames.{IsMadeNew, IsMadeUnique, is_among}
 
 abbrev pub longest : List (List ℕ) → ℕ
 longest [] = 0

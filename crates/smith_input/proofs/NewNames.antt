@@ -1,17 +1,14 @@
 -- Names that are new among those that were read before them.
 use Rattle.std.proofs.Common.{◌≡◌, ℕ, ◌^◌, ◌<◌, ◌≤◌, ◌||◌, Bool, true, false, List, [], ◌∷◌, ◌++◌, length, refl, sym, ap, ◌∙◌, subst, arith, length-append}
-use Rattle.std.proofs.Common.{⊎_elim, bytes_eq, string_bytes}
+use Rattle.std.proofs.Common.{⊎_elim, bytes_eq}
 use Rattle.std.specs.declared.string.String.{String}
-use Rattle.std.specs.List.{list_any}
-use Rattle.std.specs.BTreeMap.{is_at}
-use Rattle.std.specs.Cmp.Lexicographic.{slice_cmp}
-use Rattle.std.specs.Ordering.{nat_cmp}
-use Rattle.std.specs.BTreeSet.{BTreeSet, IsEmpty, btree_set_len}
+use Rattle.std.specs.BTreeSet.{BTreeSet}
 use Rattle.std.specs.Fmt.{decimal}
 use Rattle.std.proofs.lemmas.Bool.{cases_lt}
 use Rattle.smith_input.specs.Reading.{IsTail}
 use Rattle.smith_input.specs.Kebab.{Kebab}
-use Rattle.smith_input.specs.Names.{IsMadeUnique, GainsName, appended, is_among, Holds, ReadsKebab, ReadsNew}
+use Rattle.smith_input.specs.Names.{GainsName, Holds, ReadsKebab, ReadsNew}
+use Rattle.smith_input.specs.NewNames.{IsMadeUnique, appended, is_among}
 use Rattle.smith_input.specs.Script.{script_name}
 use Rattle.smith_input.proofs.Kebab.{kebab_is_read, kebab_is_kept, kebab_tail, kebab_unique, name_read}
 

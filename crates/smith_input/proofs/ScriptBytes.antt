@@ -133,8 +133,8 @@ module _ (P : ℕ → Type 0) where
       by_test true later = all
       by_test false later = later
 
-  of_text : (can_read : List ℕ → Bool) (names : List (List ℕ)) (name : List ℕ) → AllByRecursion P name → AllByRecursion P (text_of can_read names name)
-  of_text can_read names name all = of_first can_read (length (decimal (length names))) (length name) name all
+  of_text : (can_read : List ℕ → Bool) (count : ℕ) (name : List ℕ) → AllByRecursion P name → AllByRecursion P (text_of can_read count name)
+  of_text can_read count name all = of_first can_read (length (decimal count)) (length name) name all
 
 abbrev HasCode : ℕ → Type 0
 HasCode c = code c < 37
@@ -153,15 +153,15 @@ counted max cs h all short = small_join (small_pick (max + 1) (length cs) (omega
 pub small_name : (max : ℕ) (name : List ℕ) → max < 2 ^ 64 → Kebab name → length name ≤ max → Small (script_name max name)
 small_name max name h k short = counted max name h (have_codes true name (kebab_goes k)) short
 
-pub small_new : (max : ℕ) (names : List (List ℕ)) (name : List ℕ) → max < 2 ^ 64 → Kebab name → Small (script_new max names name)
-small_new max names name h k =
-    let text = text_of (is_within max) names name in
+pub small_new : (max count : ℕ) (name : List ℕ) → max < 2 ^ 64 → Kebab name → Small (script_new max count name)
+small_new max count name h k =
+    let text = text_of (is_within max) count name in
     let all : AllByRecursion HasCode (take max text) =
-    taken HasCode max text (of_text HasCode (is_within max) names name (have_codes true name (kebab_goes k))) in
+    taken HasCode max text (of_text HasCode (is_within max) count name (have_codes true name (kebab_goes k))) in
     counted max (take max text) h all (omega (arith, length-take max text))
 
 pub small_new_text : (max : ℕ) (names : List (List ℕ)) (name : List ℕ) → max < 2 ^ 64 → AreBytes name → IsReachableText max names name
-    → Small (script_new_text max names name)
+    → Small (script_new_text max (length names) name)
 small_new_text max names name h all made =
-    let text = text_of (is_short max) names name in
-    short_text max text h (of_text (λ b. b < 256) (is_short max) names name all) (at_most (length text) max (made_of (is_short max) names name made).0)
+    let text = text_of (is_short max) (length names) name in
+    short_text max text h (of_text (λ b. b < 256) (is_short max) (length names) name all) (at_most (length text) max (made_of (is_short max) names name made).0)

@@ -4,6 +4,7 @@ pub mod Script
 pub mod Reading
 pub mod Choices
 pub mod Loops
+pub mod NewNames
 pub mod Texts
 pub mod Names
 pub mod NameScript

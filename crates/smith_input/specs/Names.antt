@@ -1,11 +1,10 @@
--- Names in kebab case, as they are read, made unique among those that there are, and scripted.
-use Rattle.std.specs.Prelude.{◌≡◌, ℕ, zero, suc, ◌+◌, ◌-◌, ◌<◌, ◌||◌, Bool, true, false, nat_eq, nat_lt, if◌then◌else◌, List, [], ◌∷◌, ◌++◌, length, bytes_eq}
+-- Names in kebab case, as they are read, and made unique among those that there are.
+use Rattle.std.specs.Prelude.{◌≡◌, ℕ, ◌+◌, ◌-◌, ◌||◌, Bool, true, nat_eq, nat_lt, if◌then◌else◌, List, [], ◌∷◌, ◌++◌, length, bytes_eq}
 use Rattle.std.specs.Prelude.{codes}
-use Rattle.std.specs.Fmt.{decimal}
-use Rattle.std.specs.List.{list_any}
 use Rattle.std.specs.BTreeSet.{BTreeSet, contains_text, btree_set_len}
 use Rattle.std.specs.declared.string.String.{String}
 use Rattle.smith_input.specs.Kebab.{Kebab}
+use Rattle.smith_input.specs.NewNames.{IsMadeUnique, IsMadeNew, is_among}
 use Rattle.smith_input.specs.Reading.{Reads}
 
 -- Choices among n, one read after another.
@@ -34,19 +33,6 @@ pub record ReadsKebab (max : ℕ) (bytes name rest : List ℕ) : Type 0 where
   pub chosen : ReadsEach 37 after_count choices rest
   pub spelt : name ≡ characters true choices
 
--- the text, and then n times more
-abbrev pub appended : List ℕ → List ℕ → ℕ → List ℕ
-appended text more zero = text
-appended text more (suc n) = appended text more n ++ more
-
--- A text that was read is made a name that is none of the names that there are: their number is appended in
--- decimal digits, again and again while what stands so far is one of them.
-pub record IsMadeUnique (has : List ℕ → Bool) (size : ℕ) (text name : List ℕ) : Type 0 where
-  pub times : ℕ
-  pub name_is : name ≡ appended text (decimal size) times
-  pub taken : (n : ℕ) → n < times → has (appended text (decimal size) n) ≡ true
-  pub is_new : has name ≡ false
-
 -- The text is made unique among the names of a set.
 abbrev pub IsUniqueIn : {A : Type 0} → BTreeSet (String A) → List ℕ → List ℕ → Type 0
 IsUniqueIn set text name = IsMadeUnique (contains_text set) (btree_set_len set) text name
@@ -65,14 +51,6 @@ abbrev pub ReadsUrl : {A : Type 0} → ℕ → BTreeSet (String A) → BTreeSet 
 ReadsUrl max old new bytes url rest =
     (text name : List ℕ) × (url ≡ codes "https://example.com/" ++ name) × ReadsKebab max bytes text rest × IsUniqueIn old text name × Kebab name
     × GainsName old new name
-
--- Is the text one of the names?
-abbrev pub is_among : List (List ℕ) → List ℕ → Bool
-is_among names text = list_any (λ name. bytes_eq name text) names
-
--- A text that was read is made a name that is none of these.
-abbrev pub IsMadeNew : List (List ℕ) → List ℕ → List ℕ → Type 0
-IsMadeNew names text name = IsMadeUnique (is_among names) (length names) text name
 
 -- A set has these names, each once, and no others.
 pub record Holds {A : Type 0} (set : BTreeSet (String A)) (names : List (List ℕ)) : Type 0 where

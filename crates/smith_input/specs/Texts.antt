@@ -1,6 +1,7 @@
 -- Bytes of any length and texts of a limited length, as they are read, and how they are spelled.
 use Rattle.std.specs.Prelude.{◌≡◌, ℕ, ◌+◌, ◌<◌, ◌≤◌, true, false, List, [], ◌∷◌, length, take, drop, slice_index}
 use Rattle.std.specs.Str.{IsUtf8}
+use Rattle.smith_input.specs.NewNames.{IsMadeNew}
 use Rattle.smith_input.specs.Reading.{Reads, Flips}
 
 -- One byte is read, zero past the end.
@@ -28,3 +29,9 @@ pub record ReadsText (max : ℕ) (bytes text rest : List ℕ) : Type 0 where
   pub counted : Reads (max + 1) bytes count after_count
   pub longest : IsLongestText (take count after_count) text
   pub left : rest ≡ drop (length text) after_count
+
+-- A text of at most max bytes that is read, and made unique among names.
+pub record ReadsNewText (max : ℕ) (names : List (List ℕ)) (bytes name rest : List ℕ) : Type 0 where
+  pub text : List ℕ
+  pub reads : ReadsText max bytes text rest
+  pub unique : IsMadeNew names text name

@@ -8,8 +8,10 @@ ghost use Rattle.smith_input.specs.Script.{pick};
 ghost use Rattle.smith_input.specs.Texts.{ReadsBytes, ReadsText};
 ghost use Rattle.smith_input.specs.Script.{AreBytes, script_bytes, script_text};
 ghost use Rattle.smith_input.specs.Kebab.{Kebab};
-ghost use Rattle.smith_input.specs.Names.{ReadsKebab, ReadsNew, IsMadeNew, IsMadeUnique, is_among};
-ghost use Rattle.smith_input.specs.NameScript.{is_within, IsReachable, IsReachableText, ReadsNewText};
+ghost use Rattle.smith_input.specs.Names.{ReadsKebab, ReadsNew};
+ghost use Rattle.smith_input.specs.NewNames.{IsMadeNew, IsMadeUnique, is_among};
+ghost use Rattle.smith_input.specs.NameScript.{is_within, IsReachable, IsReachableText};
+ghost use Rattle.smith_input.specs.Texts.{ReadsNewText};
 ghost use Rattle.smith_input.specs.NameScript.{script_within, script_new, script_new_text};
 ghost use Rattle.smith_input.specs.Script.{script_name};
 
@@ -123,7 +125,7 @@ pub fn kebab_names_are_exact()
 pub fn new_names_are_read()
     ensures { (max : ℕ) (names : List (List ℕ)) (name : List ℕ) → max < 2 ^ 64 → Kebab name
         → is_among names name ≡ false → IsReachable max names name
-        → IsReadAs (ReadsNew max names) (script_new max names name) name }
+        → IsReadAs (ReadsNew max names) (script_new max (length names) name) name }
 {}
 
 /// These new names come, and no others.
@@ -137,7 +139,7 @@ pub fn new_names_are_exact()
 pub fn new_texts_are_read()
     ensures { (max : ℕ) (names : List (List ℕ)) (name : List ℕ) → max < 2 ^ 64 → IsUtf8 name
         → is_among names name ≡ false → IsReachableText max names name
-        → IsReadAs (ReadsNewText max names) (script_new_text max names name) name }
+        → IsReadAs (ReadsNewText max names) (script_new_text max (length names) name) name }
 {}
 
 /// These new texts come, and no others.
@@ -149,18 +151,18 @@ pub fn new_texts_are_exact()
 
 /// The scripts of new names and texts are bytes.
 pub fn new_name_scripts_are_bytes()
-    ensures names { (max : ℕ) (names : List (List ℕ)) (name : List ℕ) → max < 2 ^ 64 → Kebab name
-        → AreBytes (script_new max names name) }
+    ensures names { (max count : ℕ) (name : List ℕ) → max < 2 ^ 64 → Kebab name
+        → AreBytes (script_new max count name) }
     ensures texts { (max : ℕ) (names : List (List ℕ)) (name : List ℕ) → max < 2 ^ 64
-        → AreBytes name → IsReachableText max names name → AreBytes (script_new_text max names name) }
+        → AreBytes name → IsReachableText max names name → AreBytes (script_new_text max (length names) name) }
 {}
 
 /// The script of a name of at most `max` bytes spells the name as it stands, whatever names there are.
 pub fn short_names_stay()
-    ensures names { (max : ℕ) (names : List (List ℕ)) (name : List ℕ) → length name ≤ max
-        → script_new max names name ≡ script_name max name }
-    ensures texts { (max : ℕ) (names : List (List ℕ)) (name : List ℕ) → length name ≤ max
-        → script_new_text max names name ≡ script_text max name }
+    ensures names { (max count : ℕ) (name : List ℕ) → length name ≤ max
+        → script_new max count name ≡ script_name max name }
+    ensures texts { (max count : ℕ) (name : List ℕ) → length name ≤ max
+        → script_new_text max count name ≡ script_text max name }
 {}
 
 /// Names that come, and one that does not: a last `a` for which nothing is chosen, and digits twice behind a text.
@@ -171,5 +173,5 @@ pub fn worked_names()
     ensures no_hyphen { is_within 2 (codes "aaa") ≡ false }
     ensures twice { let names = codes "x" ∷ codes "x11" ∷ map (λ c. c ∷ []) (codes "abcdefghi") in
         (length names ≡ 11) × IsMadeNew names (codes "x") (codes "x1111")
-        × (script_new 1 names (codes "x1111") ≡ 1 ∷ 23 ∷ []) }
+        × (script_new 1 11 (codes "x1111") ≡ 1 ∷ 23 ∷ []) }
 {}

@@ -6,7 +6,8 @@ ghost use Rattle.std.specs.BTreeSet.{contains_text};
 ghost use Rattle.smith_input.specs.Reading.{IsTail};
 ghost use Rattle.smith_input.specs.Texts.{ReadsText};
 ghost use Rattle.smith_input.specs.Kebab.{Kebab};
-ghost use Rattle.smith_input.specs.Names.{character, is_among, ReadsKebab, IsMadeNew, ReadsNew, ReadsUnique, ReadsUrl};
+ghost use Rattle.smith_input.specs.Names.{character, ReadsKebab, ReadsNew, ReadsUnique, ReadsUrl};
+ghost use Rattle.smith_input.specs.NewNames.{is_among, IsMadeNew};
 ghost use Rattle.smith_input.specs.Names.{GainsName};
 ghost use Rattle.smith_input.specs.Script.{script_name};
 

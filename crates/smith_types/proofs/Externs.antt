@@ -12,7 +12,8 @@ use Rattle.std.specs.String.{string_cmp}
 use Rattle.std.specs.Fmt.{decimal}
 use Rattle.std.specs.Prelude.{Some}
 use Rattle.std.specs.declared.string.String.{String}
-use Rattle.smith_input.specs.Names.{appended, is_among, Holds, IsMadeUnique, IsUniqueIn, GainsName, ReadsUrl}
+use Rattle.smith_input.specs.Names.{Holds, IsUniqueIn, GainsName, ReadsUrl}
+use Rattle.smith_input.specs.NewNames.{appended, is_among, IsMadeUnique}
 use Rattle.smith_input.specs.Reading.{Flips}
 use Rattle.smith_syntax.specs.WellFormed.{names}
 use Rattle.smith_types.specs.Declarations.{NamedExtern, ReadsMaybeUrl, a_url, url_name, url_names}

@@ -8,7 +8,8 @@ use Rattle.std.specs.declared.alloc.Global.{Global}
 use Rattle.smith_input.specs.Loops.{Loop, after_all, Along}
 use Rattle.smith_input.specs.Script.{script_more, script_loop}
 use Rattle.smith_input.specs.Kebab.{Kebab}
-use Rattle.smith_input.specs.Names.{ReadsNew, is_among}
+use Rattle.smith_input.specs.Names.{ReadsNew}
+use Rattle.smith_input.specs.NewNames.{is_among}
 use Rattle.smith_input.specs.Reading.{IsTail}
 use Rattle.smith_input.proofs.Loops.{loop_tail, loop_gives, loop_all, loop_few, loop_same, loop_read}
 use Rattle.smith_input.proofs.NewNames.{new_tail, new_unique, new_kebab, new_read}

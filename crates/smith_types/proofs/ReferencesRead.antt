@@ -8,7 +8,7 @@ use Rattle.std.specs.Prelude.{Option, slice_get, if◌then◌else◌}
 use denote.Enum.Bare.{same_true, true_same}
 use Rattle.smith_input.specs.Choices.{ReadsAmong}
 use Rattle.smith_input.specs.Kebab.{Kebab}
-use Rattle.smith_input.specs.Names.{is_among}
+use Rattle.smith_input.specs.NewNames.{is_among}
 use Rattle.smith_input.specs.Script.{script_among, pick}
 use Rattle.smith_input.specs.Offers.{offers_of}
 use Rattle.smith_input.proofs.Choices.{among_none, among_read, among_same}

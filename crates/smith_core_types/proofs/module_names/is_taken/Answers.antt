@@ -1,5 +1,5 @@
 use Rattle.std.proofs.Common.{ap, sym, ◌∙◌}
-use Rattle.smith_input.specs.Names.{is_among}
+use Rattle.smith_input.specs.NewNames.{is_among}
 use Rattle.smith_core_types.proofs.MakingCore.{taken_found, taken_passed, taken_past}
 use Rattle.smith_core_types.proofs.module_names.is_taken.Goals as goal
 

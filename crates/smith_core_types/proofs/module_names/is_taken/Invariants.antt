@@ -1,6 +1,6 @@
 use Rattle.std.proofs.Common.{◌≡◌, map}
 use Rattle.std.proofs.Math.ListN.{drop}
-use Rattle.smith_input.specs.Names.{is_among}
+use Rattle.smith_input.specs.NewNames.{is_among}
 use Rattle.smith_syntax.specs.Shown.{shown_decl}
 use Rattle.smith_core_types.specs.MakingCore.{names_taken}
 use Rattle.smith_core_types.proofs.module_names.is_taken.Given as goal

@@ -1,5 +1,5 @@
 use Rattle.std.proofs.Common.{◌≡◌, true, false, Bool, ◌||◌, ap, sym, ◌∙◌, refl}
-use Rattle.smith_input.specs.Names.{is_among}
+use Rattle.smith_input.specs.NewNames.{is_among}
 use Rattle.smith_core_types.proofs.module_names.is_taken_name.Goals as goal
 
 or_none : (b : Bool) → b ≡ (b || false)

@@ -1,7 +1,7 @@
 use Rattle.std.proofs.Common.{◌≡◌, ℕ, zero, suc, ◌<◌, true, refl, arith, List, [], ◌∷◌, map}
 use Rattle.std.specs.Prelude.{codes}
 use Rattle.std.specs.Fmt.{digits, decimal}
-use Rattle.smith_input.specs.Names.{IsMadeNew, appended, is_among}
+use Rattle.smith_input.specs.NewNames.{IsMadeNew, appended, is_among}
 use Rattle.smith_input.specs.Script.{pick}
 use Rattle.smith_input.proofs.laws.worked_names.Goals as goal
 

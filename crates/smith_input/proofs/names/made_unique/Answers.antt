@@ -1,6 +1,6 @@
 use Rattle.std.proofs.Common.{◌≡◌, suc, length, refl, sym, ap, ◌∙◌, arith, string_bytes, decimal, length-append, true, ◌++◌, ⊎_elim, rules}
 use Rattle.std.proofs.lemmas.Bool.{cases_lt}
-use Rattle.smith_input.specs.Names.{appended, is_among}
+use Rattle.smith_input.specs.NewNames.{appended, is_among}
 use Rattle.smith_input.proofs.Kebab.{kebab_more, digits_in_word}
 use Rattle.smith_input.proofs.NameSets.{longest_has}
 use Rattle.smith_input.proofs.names.made_unique.Goals as goal

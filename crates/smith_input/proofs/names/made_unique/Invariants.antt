@@ -1,7 +1,7 @@
 use Rattle.std.proofs.Common.{◌≡◌, ℕ, ◌+◌, ◌-◌, ◌<◌, true, length, string_bytes}
 use Rattle.std.specs.Fmt.{decimal}
 use Rattle.smith_input.specs.Kebab.{Kebab}
-use Rattle.smith_input.specs.Names.{appended, is_among}
+use Rattle.smith_input.specs.NewNames.{appended, is_among}
 use Rattle.smith_input.proofs.NameSets.{longest}
 use Rattle.smith_input.proofs.names.made_unique.Given as goal
 
