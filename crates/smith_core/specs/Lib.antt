@@ -5,4 +5,6 @@ pub mod Preamble
 pub mod Module
 pub mod Split
 pub mod StandIn
+pub mod StandInText
+pub mod StandInScript
 pub mod TooLong

@@ -3,6 +3,5 @@ pub mod ModuleScript
 pub mod MadeCore
 pub mod MakingCore
 pub mod Needs
-pub mod Texts
 pub mod Offers
-pub mod MadeNames
+pub mod Readable

@@ -2,8 +2,10 @@
 -- declarations begin with it, since that takes no fuel.
 use Rattle.std.specs.Prelude.{ℕ, zero, suc, ◌+◌, ◌-◌, Bool, ◌&&◌, List, [], ◌∷◌, ◌++◌, length, take, nat_eq, nat_lt, Option, Some, None, if◌then◌else◌}
 use Rattle.std.specs.List.{flat_map}
+use Rattle.smith_input.specs.NameScript.{script_new_text}
 use Rattle.smith_input.specs.Script.{pick, rank_of, script_among, script_loop, script_text}
 use Rattle.smith_format.specs.CoreScript as core
+use Rattle.smith_format.specs.CoreScript.{script_limits}
 use Rattle.smith_format.specs.Entities.{kind_of}
 use Rattle.smith_format.specs.Equality.{same_val}
 use Rattle.smith_format.specs.Limits.{configured, max_results}
@@ -15,6 +17,7 @@ use Rattle.smith_format.specs.declared.types.EntityType.TheVariants.{Func, Table
 use Rattle.smith_format.specs.declared.types.RefType.{RefType}
 use Rattle.smith_format.specs.declared.types.RefType.TheVariants.{FuncRef, ExternRef}
 use Rattle.smith_syntax.specs.Entries.{ModuleDecl, imports, declares, aliases, exports}
+use Rattle.smith_syntax.specs.ModuleTypes.{export_names, names_from}
 use Rattle.smith_syntax.specs.ModuleTypes.{after_memory, after_realloc, after_front, entities_of, is_tag_type}
 use Rattle.smith_syntax.specs.Scope.{Scope, is_core_func, places}
 use Rattle.smith_core_types.specs.Offers.{Declared, alias_choices, allows_function, allows_type, entity_kinds, indexes, module_items, undeclared, with_decl}
@@ -22,18 +25,6 @@ use Rattle.smith_core_types.specs.Offers.{with_front}
 use Rattle.smith_core_types.specs.contracts.module_types.ModuleItemPartialEq.TheImpl.{ghosts as items}
 use Rattle.smith_core_types.specs.declared.module_types.ModuleItem.{ModuleItem}
 use Rattle.smith_core_types.specs.declared.module_types.ModuleItem.TheVariants as item
-
--- a number from `low` to `high`
-abbrev pub script_between : ℕ → ℕ → ℕ → List ℕ
-script_between low high n = pick (high - low + 1) (n - low)
-
--- limits: the minimum, and the maximum or none
-abbrev pub script_maximum : ℕ → Option ℕ → List ℕ
-script_maximum minimum None = 0 ∷ []
-script_maximum minimum (Some n) = 1 ∷ script_between minimum 20 n
-
-abbrev pub script_limits : ℕ → Option ℕ → List ℕ
-script_limits minimum maximum = script_between 0 10 minimum ++ script_maximum minimum maximum
 
 -- what a table holds, where there is a choice
 abbrev pub script_element : Config → RefType → List ℕ
@@ -67,8 +58,10 @@ script_item config around s i = script_among items.eq (module_items config aroun
 -- a declaration behind those so far: its sort, and then its names and what it is of
 abbrev pub script_decl : Config → Scope → Declared → ModuleDecl → List ℕ
 script_decl config around s (imports from name e) =
-    script_item config around s item.Import ++ (script_text 100 from ++ (script_text 100 name ++ script_entity config s e))
-script_decl config around s (exports name e) = script_item config around s item.Export ++ (script_text 100 name ++ script_entity config s e)
+    script_item config around s item.Import
+    ++ (script_text 100 from ++ (script_new_text 100 (length (names_from from s.decls)) name ++ script_entity config s e))
+script_decl config around s (exports name e) =
+    script_item config around s item.Export ++ (script_new_text 100 (length (export_names s.decls)) name ++ script_entity config s e)
 script_decl config around s (declares f) = script_item config around s item.Type ++ core.script_function (configured config) (max_results config) f
 script_decl config around s (aliases count i) =
     script_item config around s item.Alias ++ pick (length (alias_choices around s)) (alias_place around count i)

@@ -6,4 +6,5 @@ pub mod Made
 pub mod MakingTypes
 pub mod Lifting
 pub mod Needs
-pub mod Brief
+pub mod Readable
+pub mod Sayable

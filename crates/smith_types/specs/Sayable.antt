@@ -1,0 +1,60 @@
+-- Which types a script can say.
+use Rattle.std.specs.Prelude.{ℕ, suc, ◌+◌, ◌-◌, ◌<◌, ◌≤◌, ◌^◌, List, ◌∷◌, length}
+use Rattle.std.specs.List.{AllByRecursion}
+use Rattle.smith_core_types.specs.Needs.{core_need}
+use Rattle.smith_format.specs.declared.config.Config.{Config}
+use Rattle.smith_syntax.specs.Entries.{DefValType, primitive_type, record_type, variant_type, list_type, tuple_type, flags_type, enum_type, option_type}
+use Rattle.smith_syntax.specs.Entries.{result_type, Entry, defined, function, component_type, instance_type}
+use Rattle.smith_syntax.specs.Entries.{Decl, Decls, core_type_decl, type_decl, type_alias, core_type_alias, import_decl, export_decl, no_decls, then_decls}
+use Rattle.smith_syntax.specs.Scope.{Scope}
+use Rattle.smith_syntax.specs.TypeLimits.{EntryLimits}
+use Rattle.smith_syntax.specs.WellFormed.{FormedEntry, size}
+use Rattle.smith_types.specs.Needs.{decl_cost}
+use Rattle.smith_types.specs.Readable.{IsReadableType}
+
+-- The fuel lasts for each member.
+abbrev pub LastsDefined : ℕ → DefValType → Type 0
+LastsDefined fuel (primitive_type p) = Unit {0}
+LastsDefined fuel (record_type fs) = length fs + 2 ≤ fuel
+LastsDefined fuel (variant_type cs) = length cs + 2 ≤ fuel
+LastsDefined fuel (list_type v) = Unit {0}
+LastsDefined fuel (tuple_type vs) = length vs + 2 ≤ fuel
+LastsDefined fuel (flags_type ns) = length ns + 2 ≤ fuel
+LastsDefined fuel (enum_type ns) = length ns + 2 ≤ fuel
+LastsDefined fuel (option_type v) = Unit {0}
+LastsDefined fuel (result_type ok err) = Unit {0}
+
+-- The same where so many scopes are on the stack: fewer may be than the nesting allows where a type is declared in a type.
+abbrev mutual
+  pub Lasts : Entry → Config → ℕ → ℕ → Type 0
+  Lasts (defined t) config scopes fuel = LastsDefined fuel t
+  Lasts (function s) config scopes fuel = size (function s) + 2 ≤ fuel
+  Lasts (component_type ds) config scopes fuel = (2 ≤ fuel) × LastsDecls ds config (suc scopes) (fuel - 1)
+  Lasts (instance_type ds) config scopes fuel = (2 ≤ fuel) × LastsDecls ds config (suc scopes) (fuel - 1)
+
+  pub LastsDecl : Decl → Config → ℕ → ℕ → Type 0
+  LastsDecl (core_type_decl t k) config scopes fuel = core_need t ≤ fuel
+  LastsDecl (type_decl e) config scopes fuel = (scopes < config.max_nesting_depth) × Lasts e config scopes fuel
+  LastsDecl (type_alias count i k) config scopes fuel = Unit {0}
+  LastsDecl (core_type_alias count i k) config scopes fuel = Unit {0}
+  LastsDecl (import_decl name n r) config scopes fuel = Unit {0}
+  LastsDecl (export_decl name n r) config scopes fuel = Unit {0}
+
+  pub LastsDecls : Decls → Config → ℕ → ℕ → Type 0
+  LastsDecls no_decls config scopes fuel = Unit {0}
+  LastsDecls (then_decls d ds) config scopes fuel = (2 ≤ fuel) × LastsDecl d config scopes (fuel - 1) × LastsDecls ds config scopes (fuel - 1 - decl_cost d)
+
+-- A choice among the scopes can be spelled, and one among what stands in each.
+pub record Fit (scopes : List Scope) : Type 0 where
+  pub many : length scopes ≤ 2 ^ 64
+  pub each : AllByRecursion (λ s. length s.types + length s.core_types ≤ 2 ^ 64) scopes
+
+-- What a script can say of a type where these scopes stand and so much fuel is left: it is well formed in them and within the limits, its
+-- names can be read, the fuel lasts for it, and each choice in it can be spelled.
+pub record IsSayable (config : Config) (own : Scope) (outer : List Scope) (fuel : ℕ) (e : Entry) : Type 0 where
+  pub formed : FormedEntry e own outer
+  pub limits : EntryLimits config e
+  pub readable : IsReadableType e
+  pub lasts : Lasts e config (length (own ∷ outer)) fuel
+  pub fit : Fit (own ∷ outer)
+  pub shallow : length (own ∷ outer) ≤ 1000
