@@ -1,22 +1,23 @@
 -- The input that a plan is read from.
-use Rattle.std.specs.Prelude.{◌<◌, ◌≤◌, ℕ, suc, ◌-◌, true, false, List, [], ◌∷◌, ◌++◌, length}
-use Rattle.std.specs.List.{AllByRecursion}
-use Rattle.std.specs.Str.{IsUtf8}
-use Rattle.smith_input.specs.Script.{pick, script_among, script_loop, script_name, script_text, script_bytes}
+use Rattle.std.specs.Prelude.{◌≡◌, ℕ, ◌+◌, ◌-◌, true, false, List, [], ◌∷◌, ◌++◌, length, Some}
+use Rattle.smith_input.specs.NameScript.{script_new}
+use Rattle.smith_input.specs.Script.{pick, script_among, script_loop, script_text, script_bytes}
+use Rattle.smith_core.specs.StandInScript.{script_stand_in, stand_in_of}
 use Rattle.smith_format.specs.declared.config.Config.{Config}
 use Rattle.smith_syntax.specs.Entries.{Entry, CoreEntry, ImportEntry}
 use Rattle.smith_syntax.specs.Scope.{Scope, with_type, with_core_type}
 use Rattle.smith_core_types.specs.Script.{script_core}
-use Rattle.smith_types.specs.Script.{script_type, script_ref, script_extern, Lasts, LastsCore}
+use Rattle.smith_types.specs.Script.{script_type, script_ref, script_extern}
 use Rattle.smith_component.specs.Spaces.{core_types_of, functions_of, spaces_of, types_of}
 use Rattle.smith_component.specs.Tree.{Tree, ends, first, Part, custom, core_module, core_types, component, types, canons, imports, exports, add}
 use Rattle.smith_component.specs.Tree.{ExportEntry, exports_of, function_count, imports_of}
 use Rattle.smith_component.specs.CanonScript.{script_canons}
-use Rattle.smith_component.specs.Grammar.{Spells}
+use Rattle.smith_component.specs.Grammar.{Spells, part}
 use Rattle.smith_component.specs.Offers.{totals_of, with_exports, with_imports}
 use Rattle.smith_component.specs.Open.{Open, items_with_input, scopes_in, tree_so_far}
-use Rattle.smith_component.specs.WellFormed.{Formed, WellFormed, scope_of}
-use Rattle.smith_component.specs.Limits.{Limits, Maxima}
+use Rattle.smith_component.specs.Readable.{Comes, IsReadable, IsReadablePart}
+use Rattle.smith_component.specs.WellFormed.{Formed, scope_of}
+use Rattle.smith_component.specs.Limits.{Maxima, Sized}
 use Rattle.smith_component.specs.contracts.item.ItemPartialEq.TheImpl.{ghosts as equal}
 use Rattle.smith_component.specs.declared.item.Item.{Item}
 use Rattle.smith_component.specs.declared.item.Item.TheVariants as item
@@ -46,14 +47,16 @@ script_core_types config max own ts = script_loop (λ s x. script_core config s 
 
 -- an import where the section has these: what it is of, its name, and that there is no URL
 abbrev pub script_import : Config → Open → List ImportEntry → ImportEntry → List ℕ
-script_import config stack is x = script_ref config (scope_of stack.inner) (totals_of (with_imports stack is)) true false x.to ++ script_extern x.name
+script_import config stack is x =
+    script_ref config (scope_of stack.inner) (totals_of (with_imports stack is)) true false x.to
+    ++ script_extern (length (imports_of stack.inner) + length is) x.name
 
 abbrev pub script_imports : Config → Open → List ImportEntry → List ℕ
 script_imports config stack is = script_loop (script_import config stack) (λ s x. s ++ x ∷ []) 0 (config.max_imports - length (imports_of stack.inner)) 0 [] is
 
 -- an export where the section has these: a choice among the component functions, and its name
 abbrev pub script_export : Tree → List ExportEntry → ExportEntry → List ℕ
-script_export t es x = pick (length (functions_of (with_exports t es))) x.func ++ script_name 100 x.name
+script_export t es x = pick (length (functions_of (with_exports t es))) x.func ++ script_new 100 (length (exports_of t) + length es) x.name
 
 abbrev pub script_exports : Config → Tree → List ExportEntry → List ℕ
 script_exports config t es = script_loop (script_export t) (λ s x. s ++ x ∷ []) 0 (config.max_exports - length (exports_of t)) 0 [] es
@@ -68,7 +71,7 @@ abbrev mutual
 
   pub script_part : Part → Config → List Tree → Tree → List ℕ
   script_part (custom name contents) config outer before = script_text 1000 name ++ script_bytes contents
-  script_part (core_module text) config outer before = []
+  script_part (core_module text) config outer before = script_stand_in config (stand_in_of text)
   script_part (core_types ts) config outer before = script_core_types config (config.max_types - length (core_types_of before)) (scope_of before) ts
   script_part (component t) config outer before = script_from t config (outer ++ before ∷ []) ends
   script_part (types ts) config outer before = script_types config (config.max_types - length (types_of before)) (scope_of before) (scopes_in outer) ts
@@ -79,41 +82,16 @@ abbrev mutual
 abbrev pub script : Config → Tree → List ℕ
 script config plan = script_from plan config [] ends
 
--- an import whose name can be read
-abbrev pub IsPlanImport : ImportEntry → Type 0
-IsPlanImport x = length x.name ≤ 100
-
--- an export whose name can be read
-abbrev pub IsPlanExport : ExportEntry → Type 0
-IsPlanExport x = length x.name ≤ 100
-
--- A plan that scripts can say, where so many scopes are on the stack: custom sections, core type sections and type sections for which
--- the fuel lasts, imports, canonical functions, exports where there may be some, and components of these. No lift of a script defines
--- its type: each is to one that stands there.
-abbrev mutual
-  pub IsPlan : Config → ℕ → Tree → Type 0
-  IsPlan config scopes ends = Unit {0}
-  IsPlan config scopes (first p t) = IsPlanPart config scopes p × IsPlan config scopes t
-
-  pub IsPlanPart : Config → ℕ → Part → Type 0
-  IsPlanPart config scopes (custom name contents) = IsUtf8 name
-  IsPlanPart config scopes (core_module text) = ⊥
-  IsPlanPart config scopes (core_types ts) = AllByRecursion (LastsCore config.max_type_size) ts
-  IsPlanPart config scopes (component t) = IsPlan config (suc scopes) t
-  IsPlanPart config scopes (types ts) = AllByRecursion (λ e. Lasts e config scopes config.max_type_size) ts
-  IsPlanPart config scopes (canons fs) = Unit {0}
-  IsPlanPart config scopes (imports is) = AllByRecursion IsPlanImport is
-  IsPlanPart config scopes (exports es) = (0 < config.max_exports) × AllByRecursion IsPlanExport es
-
--- a plan within the limits of a config, which has a spelling
+-- A plan: it comes within these limits, and bytes spell it.
 pub record Within (config : Config) (plan : Tree) : Type 0 where
-  pub scripted : IsPlan config 1 plan
-  pub formed : WellFormed plan
-  pub limits : Limits config plan
+  pub comes : Comes config plan
   pub spelled : (b : List ℕ) × Spells plan b
 
 -- With a part more, the inner component stays the beginning of a plan, and the tree within its limits.
 pub record Continues (config : Config) (stack : Open) (p : Part) : Type 0 where
-  pub plan : IsPlan config (suc (length stack.outer)) (add stack.inner p)
+  pub before : IsReadable config stack.inner
+  pub readable : IsReadablePart config p stack.inner
   pub formed : Formed (add stack.inner p) (scopes_in stack.outer) ends
   pub maxima : Maxima config (tree_so_far stack.outer (add stack.inner p))
+  pub sized : Sized config (tree_so_far stack.outer (add stack.inner p))
+  pub spelled : (b : List ℕ) × (part p ≡ Some b)
