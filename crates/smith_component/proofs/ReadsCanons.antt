@@ -85,6 +85,12 @@ inner_few : (stack : List Tree) (outer : List Scope) (t : Tree) → Formed (tree
 inner_few [] outer t f = tree_few t outer ends f tt
 inner_few (u ∷ stack) outer t f = inner_few stack (scope_of u ∷ outer) t (formed_front u (component (tree_so_far stack t)) outer ends f).1
 
+-- The names of parameters that are read can be read.
+params_readable : {names : List (List ℕ)} {vs : List ValType} {b rest : List ℕ} {fs : List Field} → ReadsParams names vs b fs rest
+    → AreReachable 100 names (map (λ p. p.0) fs)
+params_readable no_params = tt
+params_readable (a_param n p later) = (new_reachable n, params_readable later)
+
 -- What a lift that defines its type is of.
 pub record Defines (config : Config) (s : Growing) (c : ℕ) (signature : Signature) : Type 0 where
   pub f : ℕ
@@ -93,6 +99,7 @@ pub record Defines (config : Config) (s : Growing) (c : ℕ) (signature : Signat
   pub of : HasSignature (spaces_at s) f lowered
   pub flat : Flat signature lowered
   pub formed : length lowered.params ≤ 16 → (own : Scope) (outer : List Scope) → FormedEntry (function signature) own outer
+  pub readable : IsReadableType (function signature)
   pub small : size (function signature) ≤ size (function lowered)
   pub room : length (spaces_at s).types < config.max_types
 
@@ -130,6 +137,7 @@ lift_turned r (to_defined none room left e) =
       of = r.of;
       flat = (r.core, lifted_flattens r.reads, r.flattens);
       formed = λ h. lifted_formed r.reads (omega (arith, h, flattens_params r.flattens));
+      readable = params_readable r.reads.params;
       small = omega (arith, same_size (lifted_flattens r.reads) r.flattens);
       room = room;
     }) e

@@ -98,7 +98,6 @@ module _ (config : Config) (stack : Open) where
   import_new : (s : List ImportEntry) (b : List ℕ) (x : ImportEntry) (r : List ℕ) (t : List ImportEntry) → ReadsImport config stack s b x r t
       → NewEntry (λ (i : ImportEntry). i.name) (imports_of stack.inner) s x t
   import_new s b x r t i = record {
-    max = 100;
     bytes = i.mid;
     rest = i.named.mid;
     read = subst (λ ns. ReadsNew 100 ns i.mid x.name i.named.mid) i.names_are i.named.name;
