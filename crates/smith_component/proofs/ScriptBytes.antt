@@ -20,7 +20,7 @@ use Rattle.smith_syntax.specs.CoreLimits.{CoreLimits}
 use Rattle.smith_syntax.specs.TypeLimits.{EntryLimits}
 use Rattle.smith_core.specs.StandInScript.{IsStandIn, script_stand_in, stand_in_of}
 use Rattle.smith_core.specs.StandInText.{StandIn, stand_in_text}
-use Rattle.smith_core.proofs.StandInScript.{small_stand_in}
+use Rattle.smith_core.proofs.StandInMade.{small_stand_in}
 use Rattle.smith_core.proofs.StandInTold.{stand_in_told}
 use Rattle.smith_scopes.proofs.Plain.{all_back, all_front}
 use Rattle.smith_core_types.specs.Script.{script_core}

@@ -9,3 +9,4 @@ pub mod SubTypes
 pub mod Tiles
 pub mod TooLong
 pub mod StandInSame
+pub mod StandInExact

@@ -44,3 +44,11 @@ pub fn stand_ins_are_decided()
     ensures { (config : Config) (b : List ℕ) (m n : ModuleParts) (r q : List ℕ) → ReadsStandIn config b m r
         → ReadsStandIn config b n q → (module_text m ≡ module_text n) × (r ≡ q) }
 {}
+
+/// Exactly those bytes are of a module that stands for a generated one, on some input, that are of function types and
+/// memories within the limits.
+pub fn stand_ins_are_exact()
+    ensures { (config : Config) (b : List ℕ)
+        → ((input rest : List ℕ) × (m : ModuleParts) × ReadsStandIn config input m rest × (module_text m ≡ Some b))
+        ↔ ((s : StandIn) × IsStandIn config s × (stand_in_text s ≡ Some b)) }
+{}
