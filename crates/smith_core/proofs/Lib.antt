@@ -10,3 +10,5 @@ pub mod Tiles
 pub mod TooLong
 pub mod StandInSame
 pub mod StandInExact
+pub mod StandInMade
+pub mod StandInRead

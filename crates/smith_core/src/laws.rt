@@ -4,17 +4,20 @@
 ghost use Rattle.std.specs.Prelude.{◌≡◌, ◌↔◌, ◌++◌, ℕ, ◌<◌, List, map, Some, None};
 ghost use Rattle.smith_format.specs.declared.config.Config.{Config};
 ghost use Rattle.std.specs.List.{AllByRecursion};
+ghost use Rattle.smith_input.specs.Script.{AreBytes};
 ghost use Rattle.smith_core.specs.Module.{module_text};
 ghost use Rattle.smith_core.specs.Preamble.{core_preamble};
 ghost use Rattle.smith_core.specs.Parts.{Agree};
 ghost use Rattle.smith_core.specs.StandIn.{ReadsStandIn};
+ghost use Rattle.smith_core.specs.StandInText.{StandIn, stand_in_text};
+ghost use Rattle.smith_core.specs.StandInScript.{IsStandIn, script_stand_in};
 ghost use Rattle.smith_core.specs.Split.{CoreSection, Splits, sections_of, present_section};
 ghost use Rattle.smith_core.specs.TooLong.{ModuleTooLong};
 ghost use Rattle.smith_core.specs.declared.module.parts.ModuleParts.{ModuleParts};
 
 pub use smith_format::laws::{
     bytes_have_an_encoding, contents_are_exact, core_scripts_are_read, core_types_are_clear,
-    core_types_are_decided, lists_are_clear, long_core_types_have_no_encoding,
+    core_type_scripts_are_bytes, core_types_are_decided, lists_are_clear, long_core_types_have_no_encoding,
     long_lists_have_no_encoding, numbers_are_clear, sections_are_clear, signed_numbers,
     texts_are_clear, too_long_has_no_encoding, unsigned_numbers,
 };
@@ -43,6 +46,25 @@ pub fn long_modules_have_no_encoding()
 pub fn stand_ins_are_decided()
     ensures { (config : Config) (b : List ℕ) (m n : ModuleParts) (r q : List ℕ) → ReadsStandIn config b m r
         → ReadsStandIn config b n q → (module_text m ≡ module_text n) × (r ≡ q) }
+{}
+
+/// The bytes of a module that stands for a generated one are those of function types and memories within the limits.
+pub fn stand_ins_are_made()
+    ensures { (config : Config) (b : List ℕ) (m : ModuleParts) (rest : List ℕ) → ReadsStandIn config b m rest
+        → (s : StandIn) × IsStandIn config s × (module_text m ≡ stand_in_text s) }
+{}
+
+/// From the script of function types and memories within the limits, which have bytes, a module of these bytes is read,
+/// and what follows is left.
+pub fn stand_ins_are_read()
+    ensures { (config : Config) (s : StandIn) (b : List ℕ) → IsStandIn config s → stand_in_text s ≡ Some b
+        → (rest : List ℕ)
+        → (m : ModuleParts) × ReadsStandIn config (script_stand_in config s ++ rest) m rest × (module_text m ≡ Some b) }
+{}
+
+/// The script of function types and memories within the limits is bytes.
+pub fn stand_in_scripts_are_bytes()
+    ensures { (config : Config) (s : StandIn) → IsStandIn config s → AreBytes (script_stand_in config s) }
 {}
 
 /// Exactly those bytes are of a module that stands for a generated one, on some input, that are of function types and
