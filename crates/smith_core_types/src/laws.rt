@@ -1,6 +1,6 @@
 //! Laws of how core types are read. Each function does nothing: its contract is the law.
 
-ghost use Rattle.std.specs.Prelude.{◌≤◌, ◌-◌, ◌^◌, ℕ, List, length};
+ghost use Rattle.std.specs.Prelude.{◌≤◌, ◌-◌, ◌^◌, ◌↔◌, ℕ, List, length};
 ghost use Rattle.smith_format.specs.declared.config.Config.{Config};
 ghost use Rattle.smith_input.specs.Reading.{IsDecided, IsReadAs};
 ghost use Rattle.smith_input.specs.Script.{AreBytes};
@@ -43,4 +43,12 @@ pub fn core_scripts_are_bytes()
     ensures { (config : Config) (around : Scope) (fuel : ℕ) (e : CoreEntry)
         → FormedCore e around.core_types → CoreLimits config e → IsReadableCore e → core_need e ≤ fuel
         → length around.core_types ≤ 2 ^ 63 → AreBytes (script_core config around fuel e) }
+{}
+
+/// Exactly those core types are read, on some input, that are well formed in their scope and within the limits, whose
+/// names can be read and for which there is fuel.
+pub fn core_types_are_exact()
+    ensures { (config : Config) (around : Scope) (fuel : ℕ) (e : CoreEntry) → length around.core_types ≤ 2 ^ 63
+        → ((bytes rest : List ℕ) × (left : ℕ) × MadeCore config around bytes fuel e rest left)
+        ↔ (FormedCore e around.core_types × CoreLimits config e × IsReadableCore e × (core_need e ≤ fuel)) }
 {}
