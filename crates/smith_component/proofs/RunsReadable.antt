@@ -9,7 +9,7 @@ use Rattle.smith_format.specs.declared.config.Config.{Config}
 use Rattle.smith_syntax.specs.Entries.{CoreEntry, Entry, function, Signature, ImportEntry}
 use Rattle.smith_syntax.specs.Scope.{Scope}
 use Rattle.smith_core_types.specs.Readable.{IsReadableCore}
-use Rattle.smith_core_types.proofs.Readable.{made_core_names}
+use Rattle.smith_core_types.proofs.Readable.{made_core_readable}
 use Rattle.smith_types.specs.Readable.{IsReadableType}
 use Rattle.smith_component.specs.AddedSections.{Adds, ReadsCoreTypes, ReadsTypes}
 use Rattle.smith_component.specs.Canonicals.{Growing, ReadsCanons, empty_section, grown}
@@ -117,7 +117,7 @@ module _ (config : Config) where
   does_readable Custom stack b next rest offered (name, contents, (mid, text, more), e) r =
       part_readable stack (custom name contents) next e text.longest.utf8 r
   does_readable CoreTypes stack b next rest offered (xs, scope, read, e) r =
-      let all : AllByRecursion IsReadableCore xs = loop_all IsReadableCore (λ s c x q u (left, made, same). made_core_names made) 0 _ b xs rest scope read in
+      let all : AllByRecursion IsReadableCore xs = loop_all IsReadableCore (λ s c x q u (left, made, same). made_core_readable made) 0 _ b xs rest scope read in
       part_readable stack (core_types xs) next e all r
   does_readable Types stack b next rest offered (t, a, e) r = subst (ReadableNext config) (sym e) (adds_readable counted.Types 0 stack b t rest a r.0, r.1)
   does_readable Imports stack b next rest offered (t, a, e) r = subst (ReadableNext config) (sym e) (adds_readable counted.Imports 0 stack b t rest a r.0, r.1)
