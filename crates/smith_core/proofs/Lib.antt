@@ -11,3 +11,4 @@ pub mod TooLong
 pub mod StandInSame
 pub mod StandInMade
 pub mod StandInRead
+pub mod StandInTold

@@ -10,7 +10,7 @@ ghost use Rattle.smith_core.specs.Preamble.{core_preamble};
 ghost use Rattle.smith_core.specs.Parts.{Agree};
 ghost use Rattle.smith_core.specs.StandIn.{ReadsStandIn};
 ghost use Rattle.smith_core.specs.StandInText.{StandIn, stand_in_text};
-ghost use Rattle.smith_core.specs.StandInScript.{IsStandIn, script_stand_in};
+ghost use Rattle.smith_core.specs.StandInScript.{IsStandIn, script_stand_in, stand_in_of};
 ghost use Rattle.smith_core.specs.Split.{CoreSection, Splits, sections_of, present_section};
 ghost use Rattle.smith_core.specs.TooLong.{ModuleTooLong};
 ghost use Rattle.smith_core.specs.declared.module.parts.ModuleParts.{ModuleParts};
@@ -65,4 +65,10 @@ pub fn stand_ins_are_read()
 /// The script of function types and memories within the limits is bytes.
 pub fn stand_in_scripts_are_bytes()
     ensures { (config : Config) (s : StandIn) → IsStandIn config s → AreBytes (script_stand_in config s) }
+{}
+
+/// The function types and memories that stand for a generated module are found again from their bytes.
+pub fn stand_ins_are_told()
+    ensures { (config : Config) (s : StandIn) (b : List ℕ) → IsStandIn config s → stand_in_text s ≡ Some b
+        → stand_in_of b ≡ s }
 {}
