@@ -21,6 +21,7 @@ use Rattle.smith_format.proofs.Piece.{joined, left_none, number_fits, parts_are,
 use Rattle.smith_core.specs.Preamble.{core_preamble}
 use Rattle.smith_core.specs.StandInScript.{IsStandIn, IsStandInFunction, IsStandInMaximum, IsStandInMemory, all_memories, counted_functions, function_of}
 use Rattle.smith_core.specs.StandInScript.{functions_of, memories_of, memory_of, past_number, stand_in_of, types_of, value_of, values_of}
+use Rattle.smith_core.proofs.StandInMade.{few_results}
 use Rattle.smith_core.specs.StandInText.{StandIn, listed, stand_in_text}
 
 -- Numbers.
@@ -146,10 +147,6 @@ module _ (config : Config) where
             λ i. ((ap (map value_of) taken ∙ t.shown) i, left i);
       }
 
-  few_results : (multi : Bool) → (if multi then 20 else 1) ≤ 20
-  few_results true = omega arith
-  few_results false = omega arith
-
   function_told : (f : Function) → IsStandInFunction config f → Told (core_function f) function_of f
   function_told f h =
       let few : max_results config ≤ 20 = few_results config.multi_value_enabled in
@@ -268,6 +265,24 @@ memory_section_told (x ∷ xs) m all e =
     by_count t count said (inr h) =
         let contents : u count ⊕ Some t.are ≡ None = ap (λ p. p ⊕ Some t.are) h.0 ∙ left_none (Some t.are) in
         absurd (section_none 5 m (ap (λ p. sized 5 p) (sym contents) ∙ said))
+
+few_listed : (ms : List MemoryType) (m : List ℕ) → listed 5 memory_type ms ≡ Some m → length ms < 2 ^ 32
+few_listed [] m e = omega arith
+few_listed (x ∷ xs) m e = by_count (u_cases (length (x ∷ xs)))
+  where
+    by_count : ((u (length (x ∷ xs)) ≡ Some (unsigned (length (x ∷ xs)))) × (length (x ∷ xs) < 2 ^ 32)) ⊎ ((u (length (x ∷ xs)) ≡ None) × (2 ^ 32 ≤ length (x ∷ xs)))
+        → length (x ∷ xs) < 2 ^ 32
+    by_count (inl h) = h.1
+    by_count (inr h) =
+        let contents : many memory_type (x ∷ xs) ≡ None = ap (λ p. p ⊕ each memory_type (x ∷ xs)) h.0 ∙ left_none (each memory_type (x ∷ xs)) in
+        absurd (section_none 5 m (ap (λ p. sized 5 p) (sym contents) ∙ e))
+
+-- what has bytes has no more memories than a list of the program can hold
+pub stand_in_few : (s : StandIn) (b : List ℕ) → stand_in_text s ≡ Some b → length s.memories < 2 ^ 63
+stand_in_few s b e =
+    let p = parts_are (bytes core_preamble) (listed 1 core_function s.types ⊕ listed 5 memory_type s.memories) b e in
+    let q = parts_are (listed 1 core_function s.types) (listed 5 memory_type s.memories) p.right p.q_is in
+    omega (arith, few_listed s.memories q.right q.q_is)
 
 pub stand_in_told : (config : Config) (s : StandIn) (b : List ℕ) → IsStandIn config s → stand_in_text s ≡ Some b → stand_in_of b ≡ s
 stand_in_told config s b h e =

@@ -51,13 +51,13 @@ value_of b =
     if nat_eq b 0x7f
     then I32
     else (
-      if nat_eq b 0x7e
-      then I64
-      else (
-        if nat_eq b 0x7d
-        then F32
-        else (if nat_eq b 0x7c then F64 else (if nat_eq b 0x7b then V128 else (if nat_eq b 0x70 then Ref FuncRef else Ref ExternRef)))
-      )
+    if nat_eq b 0x7e
+    then I64
+    else (
+    if nat_eq b 0x7d
+    then F32
+    else (if nat_eq b 0x7c then F64 else (if nat_eq b 0x7b then V128 else (if nat_eq b 0x70 then Ref FuncRef else Ref ExternRef)))
+    )
     )
 
 -- what is behind a number in LEB128: bytes of at least 128, and one more

@@ -16,10 +16,11 @@ ghost use Rattle.smith_core.specs.TooLong.{ModuleTooLong};
 ghost use Rattle.smith_core.specs.declared.module.parts.ModuleParts.{ModuleParts};
 
 pub use smith_format::laws::{
-    bytes_have_an_encoding, contents_are_exact, core_scripts_are_read, core_types_are_clear,
-    core_type_scripts_are_bytes, core_types_are_decided, lists_are_clear, long_core_types_have_no_encoding,
-    long_lists_have_no_encoding, numbers_are_clear, sections_are_clear, signed_numbers,
-    texts_are_clear, too_long_has_no_encoding, unsigned_numbers,
+    bytes_have_an_encoding, contents_are_exact, core_scripts_are_read, core_type_scripts_are_bytes,
+    core_types_are_clear, core_types_are_decided, lists_are_clear,
+    long_core_types_have_no_encoding, long_lists_have_no_encoding, numbers_are_clear,
+    sections_are_clear, signed_numbers, texts_are_clear, too_long_has_no_encoding,
+    unsigned_numbers,
 };
 
 /// The bytes of a module are split into sections in one way: those that are written, in binary order.
