@@ -12,3 +12,4 @@ pub mod StandInSame
 pub mod StandInExact
 pub mod StandInMade
 pub mod StandInRead
+pub mod StandInTold

@@ -1,5 +1,5 @@
 -- What stands for a generated module is function types and memories within the limits, and the scripts of those are bytes.
-use Rattle.std.proofs.Common.{◌≡◌, ℕ, ◌+◌, ◌≤◌, List, [], ◌∷◌, map, length, arith, min, Option, Some, None}
+use Rattle.std.proofs.Common.{◌≡◌, ℕ, ◌+◌, ◌≤◌, List, [], ◌∷◌, map, length, arith, min, Bool, true, false, if◌then◌else◌, Option, Some, None}
 use Rattle.std.specs.List.{AllByRecursion}
 use Rattle.std.specs.Prelude.{IfSome}
 use Rattle.smith_input.specs.Loops.{Loop, Never}
@@ -19,6 +19,11 @@ use Rattle.smith_core.specs.StandInScript.{IsStandIn, IsStandInFunction, IsStand
 use Rattle.smith_core.specs.StandInText.{StandIn, stand_in_text}
 use Rattle.smith_core.specs.declared.module.parts.ModuleParts.{ModuleParts}
 use Rattle.smith_core.proofs.StandInSame.{function_at, is_plain, shown_read, shown_stand_in, text_is, ReadsShown, IsPlain}
+
+-- a function has at most 20 results
+pub few_results : (multi : Bool) → (if multi then 20 else 1) ≤ 20
+few_results true = omega arith
+few_results false = omega arith
 
 stand_in_function : (config : Config) (f : Function) → FormedFunction (configured config) (max_results config) f → IsStandInFunction config f
 stand_in_function config f h = record { params = h.params; few_params = h.few_params; results = h.results; few_results = h.few_results }
@@ -53,8 +58,7 @@ stand_in_made config b m rest r =
     let count : 0 + length fs ≤ most = loop_few 0 tt b fs r.mid tt (omega arith) types in
     let some : config.min_memories ≤ 0 + length ms = loop_enough (λ s c v p e. e) r.ordered 0 tt r.mid ms rest tt r.memories in
     let most_memories : 0 + length ms ≤ config.max_memories = loop_few 0 tt r.mid ms rest tt (omega arith) r.memories in
-    let plain : AllByRecursion IsPlain m.types.items = loop_all IsPlain (is_plain config) 0 tt b m.types.items r.mid tt r.types in
-    (
+    let plain : AllByRecursion IsPlain m.types.items = loop_all IsPlain (is_plain config) 0 tt b m.types.items r.mid tt r.types in (
       shown_stand_in m,
       record {
         few_types = omega (arith, count);

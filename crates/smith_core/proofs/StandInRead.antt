@@ -22,7 +22,7 @@ use Rattle.smith_core.specs.StandInText.{StandIn, stand_in_text}
 use Rattle.smith_core.specs.declared.module.parts.ModuleParts.{ModuleParts}
 use Rattle.smith_core.specs.declared.module.types.CompositeType.TheVariants.{Func}
 use Rattle.smith_core.specs.declared.module.types.SubType.{SubType}
-use Rattle.smith_core.proofs.StandInMade.{function_of_stand_in, memory_of_stand_in}
+use Rattle.smith_core.proofs.StandInMade.{few_results, function_of_stand_in, memory_of_stand_in}
 use Rattle.smith_core.proofs.StandInSame.{function_at, is_plain, shown_stand_in, text_is, IsPlain}
 
 -- a list of the program with these items
@@ -31,10 +31,6 @@ vec_of xs h = record { ptr = null_ptr; len = length xs; cap = length xs; alloc =
 
 abbrev empty_vec : {A : Type 0} → Vec A
 empty_vec = vec_of [] (omega arith)
-
-few_results : (multi : Bool) → (if multi then 20 else 1) ≤ 20
-few_results true = omega arith
-few_results false = omega arith
 
 -- a script of what items show
 script_shown : {A B : Type 0} (script : B → List ℕ) (f : A → B) (min max done : ℕ) (s : Unit {0}) (xs : List A)
@@ -168,8 +164,7 @@ module _ (config : Config) where
         no_code = refl;
         no_data = refl;
       } in
-      let plain : AllByRecursion IsPlain ts = loop_all IsPlain (is_plain config) 0 tt (a ++ (b ++ rest)) ts (b ++ rest) tt types in
-      (
+      let plain : AllByRecursion IsPlain ts = loop_all IsPlain (is_plain config) 0 tt (a ++ (b ++ rest)) ts (b ++ rest) tt types in (
         m,
         record {
           mid = b ++ rest;

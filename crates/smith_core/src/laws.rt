@@ -10,16 +10,17 @@ ghost use Rattle.smith_core.specs.Preamble.{core_preamble};
 ghost use Rattle.smith_core.specs.Parts.{Agree};
 ghost use Rattle.smith_core.specs.StandIn.{ReadsStandIn};
 ghost use Rattle.smith_core.specs.StandInText.{StandIn, stand_in_text};
-ghost use Rattle.smith_core.specs.StandInScript.{IsStandIn, script_stand_in};
+ghost use Rattle.smith_core.specs.StandInScript.{IsStandIn, script_stand_in, stand_in_of};
 ghost use Rattle.smith_core.specs.Split.{CoreSection, Splits, sections_of, present_section};
 ghost use Rattle.smith_core.specs.TooLong.{ModuleTooLong};
 ghost use Rattle.smith_core.specs.declared.module.parts.ModuleParts.{ModuleParts};
 
 pub use smith_format::laws::{
-    bytes_have_an_encoding, contents_are_exact, core_scripts_are_read, core_types_are_clear,
-    core_type_scripts_are_bytes, core_types_are_decided, lists_are_clear, long_core_types_have_no_encoding,
-    long_lists_have_no_encoding, numbers_are_clear, sections_are_clear, signed_numbers,
-    texts_are_clear, too_long_has_no_encoding, unsigned_numbers,
+    bytes_have_an_encoding, contents_are_exact, core_scripts_are_read, core_type_scripts_are_bytes,
+    core_types_are_clear, core_types_are_decided, lists_are_clear,
+    long_core_types_have_no_encoding, long_lists_have_no_encoding, numbers_are_clear,
+    sections_are_clear, signed_numbers, texts_are_clear, too_long_has_no_encoding,
+    unsigned_numbers,
 };
 
 /// The bytes of a module are split into sections in one way: those that are written, in binary order.
@@ -73,4 +74,10 @@ pub fn stand_ins_are_exact()
     ensures { (config : Config) (b : List ℕ)
         → ((input rest : List ℕ) × (m : ModuleParts) × ReadsStandIn config input m rest × (module_text m ≡ Some b))
         ↔ ((s : StandIn) × IsStandIn config s × (stand_in_text s ≡ Some b)) }
+{}
+
+/// The function types and memories that stand for a generated module are found again from their bytes.
+pub fn stand_ins_are_told()
+    ensures { (config : Config) (s : StandIn) (b : List ℕ) → IsStandIn config s → stand_in_text s ≡ Some b
+        → stand_in_of b ≡ s }
 {}

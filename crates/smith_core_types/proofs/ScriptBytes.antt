@@ -12,6 +12,7 @@ use Rattle.smith_input.proofs.Offered.{offers_few}
 use Rattle.smith_input.proofs.ScriptBytes.{Small, small_byte, small_few, small_found, small_if, small_join, small_loop, small_more, small_none, small_pick}
 use Rattle.smith_input.proofs.ScriptBytes.{small_new_text, small_text, small_turns}
 use Rattle.smith_input.proofs.Utf8Bytes.{utf8_bytes}
+use Rattle.smith_format.proofs.ScriptBytes.{all_of, small_function, small_limits, small_value}
 use Rattle.smith_format.specs.CoreFormed.{FormedLimits, FormedMemory}
 use Rattle.smith_format.specs.CoreScript.{script_between, script_function, script_limits, script_maximum, script_values}
 use Rattle.smith_format.specs.CoreTypes.{Function}
@@ -57,11 +58,6 @@ small_place test xs i x few stands passes =
     let at = place_found test xs i x stands passes in
     small_found nat_eq Decides-eqb (places test 0 xs) at.0 i (omega (arith, few, length-places test 0 xs)) at.1
 
--- what all items are, those of a list are
-all_of : {A : Type 0} (P : A → Type 0) → ((x : A) → P x) → (xs : List A) → AllByRecursion P xs
-all_of P one [] = tt
-all_of P one (x ∷ xs) = (one x, all_of P one xs)
-
 -- a loop of items that can be said where they stand
 pub small_said : {S A : Type 0} (script : S → A → List ℕ) (next : S → A → S) (Said : S → A → Type 0) → ((s : S) (x : A) → Said s x → Small (script s x))
     → (min max done : ℕ) (s : S) (xs : List A) → Along Said next s xs → Small (script_loop script next min max done s xs)
@@ -73,28 +69,7 @@ small_said {S} {A} script next Said one min max done s xs all = small_loop scrip
 
 -- Function types.
 
-small_value : (config : Config) (x : ValType) → Small (script_among same_val (configured config) x)
-small_value config x = let few = few_values config in small_few same_val (configured config) x (omega (arith, few))
-
-small_values : (config : Config) (max : ℕ) (xs : List ValType) → Small (script_values (configured config) max xs)
-small_values config max xs =
-    let said : ValType → List ℕ = λ x. script_among same_val (configured config) x in
-    small_turns (λ (s : Unit {0}) x. said x) (λ s x. tt) 0 max 0 tt xs (all_of (λ x. (s : Unit {0}) → Small (said x)) (λ x s. small_value config x) xs)
-
-small_function : (config : Config) (f : Function) → Small (script_function (configured config) (max_results config) f)
-small_function config f = small_join (small_values config 20 f.0) (small_values config (max_results config) f.1)
-
 -- Entities.
-
-small_between : (low high n : ℕ) → n ≤ high → high ≤ 20 → Small (script_between low high n)
-small_between low high n h small = small_byte (high - low + 1) (n - low) (omega (arith, small)) (omega (arith, h, small))
-
-small_maximum : (minimum : ℕ) (maximum : Option ℕ) → IfSome maximum (λ n. (minimum ≤ n) × (n ≤ 20)) → Small (script_maximum minimum maximum)
-small_maximum minimum None f = small_more 0 (omega arith) small_none
-small_maximum minimum (Some n) f = small_more 1 (omega arith) (small_between minimum 20 n f.1 (omega arith))
-
-small_limits : (minimum : ℕ) (maximum : Option ℕ) → FormedLimits minimum maximum → Small (script_limits minimum maximum)
-small_limits minimum maximum f = small_join (small_between 0 10 minimum f.least (omega arith)) (small_maximum minimum maximum f.most)
 
 small_bit : (b : Bool) → Small (script_bit b)
 small_bit b = small_if b (small_more 1 (omega arith) small_none) (small_more 0 (omega arith) small_none)
