@@ -1,9 +1,9 @@
 -- A module of the bytes of function types and memories within the limits is read from their script.
-use Rattle.std.proofs.Common.{◌≡◌, ℕ, suc, ◌+◌, ◌<◌, ◌≤◌, ◌^◌, Bool, true, false, if◌then◌else◌, List, [], ◌∷◌, ◌++◌, map, length, refl, sym, ap, ◌∙◌, subst, arith, min, None, append_assoc}
+use Rattle.std.proofs.Common.{◌≡◌, ℕ, suc, ◌+◌, ◌<◌, ◌≤◌, ◌^◌, Bool, true, false, List, [], ◌∷◌, ◌++◌, map, length, refl, sym, ap, ◌∙◌, subst, arith, min, None, append_assoc}
 use denote.RawPtr.{null_ptr}
 use Rattle.std.specs.Global.{Vec}
 use Rattle.std.specs.List.{AllByRecursion}
-use Rattle.smith_input.specs.Loops.{Along, Loop, Never}
+use Rattle.smith_input.specs.Loops.{Loop, Never}
 use Rattle.smith_input.specs.Script.{script_loop, script_more}
 use Rattle.smith_input.proofs.Loops.{along_all, loop_all, loop_read}
 use Rattle.smith_format.specs.CoreFormed.{FormedFunction, FormedMemory}
@@ -11,7 +11,6 @@ use Rattle.smith_format.specs.CoreScript.{script_function, script_memory}
 use Rattle.smith_format.specs.CoreTypes.{Function}
 use Rattle.smith_format.specs.Limits.{configured, max_results}
 use Rattle.smith_format.specs.declared.config.Config.{Config}
-use Rattle.smith_format.specs.declared.types.FuncType.{FuncType}
 use Rattle.smith_format.specs.declared.types.MemoryType.{MemoryType}
 use Rattle.smith_format.proofs.CoreScript.{function_read, memory_read}
 use Rattle.smith_format.proofs.ScriptBytes.{few_values}
@@ -23,7 +22,7 @@ use Rattle.smith_core.specs.declared.module.parts.ModuleParts.{ModuleParts}
 use Rattle.smith_core.specs.declared.module.types.CompositeType.TheVariants.{Func}
 use Rattle.smith_core.specs.declared.module.types.SubType.{SubType}
 use Rattle.smith_core.proofs.StandInMade.{few_results, function_of_stand_in, memory_of_stand_in}
-use Rattle.smith_core.proofs.StandInSame.{function_at, is_plain, shown_stand_in, text_is, IsPlain}
+use Rattle.smith_core.proofs.StandInSame.{function_at, is_plain, text_is, IsPlain}
 
 -- a list of the program with these items
 abbrev vec_of : {A : Type 0} (xs : List A) → length xs < 2 ^ 63 → Vec A

@@ -4,7 +4,7 @@ use Rattle.std.proofs.Common.{◌∙◌, subst, arith, append_assoc, nat_eq, nat
 use Rattle.std.proofs.lemmas.Bool.{false≢true}
 use Rattle.std.proofs.lemmas.Bool.Decides.{nat_tests, Decides-eqb}
 use Rattle.std.proofs.lemmas.Option.{slice_get_within}
-use Rattle.std.specs.Prelude.{Option, IfSome, slice_get, if◌then◌else◌}
+use Rattle.std.specs.Prelude.{Option, slice_get, if◌then◌else◌}
 use denote.Enum.Bare.{same_true, true_same}
 use Rattle.smith_input.specs.NameScript.{script_new_text}
 use Rattle.smith_input.specs.Reading.{Flips}
@@ -16,8 +16,7 @@ use Rattle.smith_input.proofs.Picks.{reads-pick}
 use Rattle.smith_input.proofs.Reading.{flips_one, flips_zero}
 use Rattle.smith_input.proofs.ReadsTexts.{text_read}
 use Rattle.smith_format.proofs.CoreScript.{limits_read}
-use Rattle.smith_format.specs.CoreFormed.{FormedLimits}
-use Rattle.smith_format.specs.CoreReading.{ReadsBetween, ReadsMaximum, unbounded, bounded, ReadsLimits, ReadsElement, only_functions, either, ReadsTable}
+use Rattle.smith_format.specs.CoreReading.{ReadsElement, only_functions, either, ReadsTable}
 use Rattle.smith_format.specs.CoreScript as core
 use Rattle.smith_format.specs.CoreScript.{script_between, script_limits, script_maximum}
 use Rattle.smith_format.specs.CoreTypes.{Function}

@@ -3,22 +3,18 @@ use Rattle.std.proofs.Common.{◌≡◌, ℕ, ◌+◌, ◌-◌, ◌<◌, ◌≤�
 use Rattle.std.proofs.Common.{refl, sym, subst, arith, Option, None, Some}
 use Rattle.std.proofs.lemmas.Bool.Decides.{nat_tests, Decides-eqb}
 use Rattle.std.proofs.lemmas.Option.{slice_get_within}
-use Rattle.std.specs.List.{AllByRecursion}
 use Rattle.std.specs.Prelude.{IfSome, codes, slice_get}
 use Rattle.smith_input.specs.Loops.{Along}
 use Rattle.smith_input.specs.NameScript.{script_new_text}
 use Rattle.smith_input.specs.Script.{pick, script_among, script_loop}
 use Rattle.smith_input.proofs.Offered.{offers_few}
 use Rattle.smith_input.proofs.ScriptBytes.{Small, small_byte, small_few, small_found, small_if, small_join, small_loop, small_more, small_none, small_pick}
-use Rattle.smith_input.proofs.ScriptBytes.{small_new_text, small_text, small_turns}
+use Rattle.smith_input.proofs.ScriptBytes.{small_new_text, small_text}
 use Rattle.smith_input.proofs.Utf8Bytes.{utf8_bytes}
-use Rattle.smith_format.proofs.ScriptBytes.{all_of, small_function, small_limits, small_value}
+use Rattle.smith_format.proofs.ScriptBytes.{small_function, small_limits, small_value}
 use Rattle.smith_format.specs.CoreFormed.{FormedLimits, FormedMemory}
-use Rattle.smith_format.specs.CoreScript.{script_between, script_function, script_limits, script_maximum, script_values}
 use Rattle.smith_format.specs.CoreTypes.{Function}
 use Rattle.smith_format.specs.Entities.{kind_of}
-use Rattle.smith_format.specs.Equality.{same_val}
-use Rattle.smith_format.specs.Limits.{configured, max_results}
 use Rattle.smith_format.specs.contracts.types.ExportKindPartialEq.TheImpl.{ghosts as kinds}
 use Rattle.smith_format.specs.contracts.types.RefTypePartialEq.TheImpl.{ghosts as references}
 use Rattle.smith_format.specs.declared.config.Config.{Config}
@@ -26,7 +22,6 @@ use Rattle.smith_format.specs.declared.types.EntityType.{EntityType}
 use Rattle.smith_format.specs.declared.types.EntityType.TheVariants.{Func, Table, Memory, Global, Tag}
 use Rattle.smith_format.specs.declared.types.MemoryType.{MemoryType}
 use Rattle.smith_format.specs.declared.types.RefType.TheVariants.{FuncRef, ExternRef}
-use Rattle.smith_format.specs.declared.types.ValType.{ValType}
 use Rattle.smith_syntax.specs.CoreLimits.{CoreLimits, ModuleLimits}
 use Rattle.smith_syntax.specs.Entries.{CoreEntry, ModuleDecl, core_func, core_module, imports, declares, aliases, exports}
 use Rattle.smith_syntax.specs.ModuleTypes.{after_front, export_names, free, is_tag_type, names_from, realloc}
@@ -46,7 +41,6 @@ use Rattle.smith_core_types.specs.declared.module_types.ModuleItem.TheVariants a
 use Rattle.smith_core_types.proofs.CoreScript.{begun, behind_sayable, lasting}
 use Rattle.smith_core_types.proofs.FrontFound.{Fronted, fronted, whole_front}
 use Rattle.smith_core_types.proofs.FrontScript.{front_formed, line_absent, line_stands}
-use Rattle.smith_core_types.proofs.MadeCore.{few_values}
 use Rattle.smith_core_types.proofs.MakingCore.{choices_count}
 use Rattle.smith_core_types.proofs.ModuleFronts.{free_decls, front_state, memory_decls, realloc_decls}
 use Rattle.smith_core_types.proofs.ModuleScript.{IsSayable, alias_at}
