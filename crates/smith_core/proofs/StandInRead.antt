@@ -67,6 +67,24 @@ parts_of bulk_memory ts ms few_types few_memories = record {
   data_segments = empty_vec;
 }
 
+parts_listed : (bulk_memory : Bool) (ts : List SubType) (ms : List MemoryType) (few_types : length ts < 2 ^ 63) (few_memories : length ms < 2 ^ 63)
+    → HasTypesAndMemories (parts_of bulk_memory ts ms few_types few_memories)
+parts_listed bulk_memory ts ms few_types few_memories = record {
+  encoded = refl;
+  groups = refl;
+  memories = refl;
+  no_imports = (refl, refl);
+  no_functions = (refl, refl);
+  no_tables = (refl, refl);
+  no_tags = (refl, refl);
+  no_globals = (refl, refl);
+  no_exports = refl;
+  no_start = refl;
+  no_elements = refl;
+  no_code = refl;
+  no_data = refl;
+}
+
 memories_formed : (ms : List MemoryType) → AllByRecursion IsStandInMemory ms → AllByRecursion FormedMemory ms
 memories_formed [] all = tt
 memories_formed (m ∷ ms) all = (memory_of_stand_in m all.0, memories_formed ms all.1)
@@ -148,21 +166,7 @@ module _ (config : Config) where
       (λ fs. Loop Never (ReadsSubType config) 0 most 0 tt
       (script_loop (λ (u : Unit {0}) f. script_function (configured config) (max_results config) f) (λ u f. u) 0 most 0 tt fs ++ (b ++ rest)) ts (b ++ rest) tt)
       shown (types_read most ts (b ++ rest) (types_readable s.types h.types) count) in
-      let parts : HasTypesAndMemories m = record {
-        encoded = refl;
-        groups = refl;
-        memories = refl;
-        no_imports = (refl, refl);
-        no_functions = (refl, refl);
-        no_tables = (refl, refl);
-        no_tags = (refl, refl);
-        no_globals = (refl, refl);
-        no_exports = refl;
-        no_start = refl;
-        no_elements = refl;
-        no_code = refl;
-        no_data = refl;
-      } in
+      let parts : HasTypesAndMemories m = parts_listed config.bulk_memory_enabled ts ms few_types few in
       let plain : AllByRecursion IsPlain ts = loop_all IsPlain (is_plain config) 0 tt (a ++ (b ++ rest)) ts (b ++ rest) tt types in (
         m,
         record {
