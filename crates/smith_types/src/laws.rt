@@ -78,5 +78,5 @@ pub fn types_are_exact()
         → config.max_nesting_depth ≤ 1000 → Fit (own ∷ outer) → length (own ∷ outer) ≤ 1000
         → ((bytes rest : List ℕ) × MadeWith config own outer fuel bytes e rest)
         ↔ (FormedEntry e own outer × EntryLimits config e × IsReadableType e × (need e ≤ fuel)
-            × Nests e config (length (own ∷ outer))) }
+        × Nests e config (length (own ∷ outer))) }
 {}
