@@ -7,7 +7,7 @@ use Rattle.smith_syntax.specs.Entries.{DefValType, record_type, variant_type, tu
 use Rattle.smith_syntax.specs.Entries.{FullEntry, FullDecl, FullDecls, plain, plain_decl, plain_decls}
 use Rattle.smith_syntax.specs.Scope.{Scope}
 use Rattle.smith_syntax.specs.WellFormed.{names, import_of, export_of}
-use Rattle.smith_core_types.proofs.Readable.{made_core_names}
+use Rattle.smith_core_types.proofs.Readable.{made_core_readable}
 use Rattle.smith_types.specs.Declarations.{NamedExtern, SoFar, nothing_so_far, after_one}
 use Rattle.smith_types.specs.Made.{or_bool, MadeAs, MadeDefined, Made, spent_type, made_defined, made_function, made_component, made_instance}
 use Rattle.smith_types.specs.Made.{MadeDeclaration, made_import, made_export, made_alias, made_core_type, made_type, MadeDeclarations, no_more_decls}
@@ -72,7 +72,7 @@ mutual
   declaration_readable config importing outer s b fuel d rest left (made_alias {low = low} n c r l) =
       alias_holds (λ z. IsReadableDecl (plain_decl z) (names s.imports) (names s.exports)) (λ count i k. tt) (λ count i k. tt) (s.own ∷ outer) low d rest r
   declaration_readable config importing outer s b fuel d rest left (made_core_type n c m i) =
-      subst (λ z. IsReadableDecl (plain_decl z) (names s.imports) (names s.exports)) (sym i) (made_core_names m)
+      subst (λ z. IsReadableDecl (plain_decl z) (names s.imports) (names s.exports)) (sym i) (made_core_readable m)
   declaration_readable config importing outer s b fuel d rest left (made_type {low = low} {e = e} n c m i) =
       subst (λ z. IsReadableDecl (plain_decl z) (names s.imports) (names s.exports)) (sym i) (made_readable config s.own outer low fuel e rest left m)
 
