@@ -50,7 +50,7 @@ use Rattle.smith_core_types.specs.contracts.module_types.ModuleItem.{the_type as
 use Rattle.smith_core_types.specs.contracts.module_types.ModuleItemPartialEq.TheImpl.{ghosts as items}
 use Rattle.smith_core_types.specs.declared.module_types.ModuleItem.{ModuleItem}
 use Rattle.smith_core_types.specs.declared.module_types.ModuleItem.TheVariants as item
-use Rattle.smith_core_types.proofs.MadeCore.{few_values}
+use Rattle.smith_format.proofs.ScriptBytes.{few_values}
 use Rattle.smith_core_types.proofs.MakingCore.{choice_around, choice_own, choices_count, length-indexes, own_at}
 use Rattle.smith_core_types.proofs.ModuleTypes.{DeclFits, EntityFits}
 
