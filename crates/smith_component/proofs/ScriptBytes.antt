@@ -107,7 +107,7 @@ small_canon s (lift c t) (signature, lowered, f, is, lowers, has, flat) spoken f
     let below : c < length s.core_functions = slice_get_within s.core_functions c f lowers in
     let said : Spoken (function signature) = all_at Spoken s.types t (function signature) spoken is in
     let type : Small (script_lift s t (Some (function signature))) =
-    small_join (small_lifted signature said.0.0 said.1)
+    small_join (small_lifted signature said.0.0)
     (small_place (is_of_signature signature) s.types t (function signature) many is ((same_signature_Decides signature signature).1 refl)) in
     small_join (small_canon_item s (canon_item_of (lift c t))) (small_join (small_pick (length s.core_functions) c (omega (arith, few)) below)
     (subst (λ o. Small (script_lift s t o)) (sym is) type))
