@@ -10,6 +10,7 @@ use std::test::Fail;
 
 // A function type without parameters, which the imports are of.
 const TYPE_IS_READ: &[u8] = b"\x03\x01\x01\x00\x00\x00";
+
 const TYPE: &[u8] = b"\x07\x05\x01\x40\x00\x01\x00";
 
 const IMPORTS: &[Parts<'static>] = &[

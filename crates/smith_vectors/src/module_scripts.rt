@@ -42,12 +42,7 @@ const MODULES: &[Parts<'static>] = &[
 // Two memories of 0 at least.
 const TWO_MEMORIES: Parts<'static> = Parts {
     name: "two memories",
-    input: &[
-        b"\x06\x00",
-        b"\x00\x00",
-        b"\x00\x00",
-        b"\x00",
-    ],
+    input: &[b"\x06\x00", b"\x00\x00", b"\x00\x00", b"\x00"],
     gives: &[
         b"\x01\x0f\x00asm\x01\x00\x00\x00",
         b"\x05\x05\x02\x00\x00\x00\x00",
