@@ -67,7 +67,8 @@ mutual
       → FormedPart p (scopes_in outer) before → Maxima config (tree_so_far outer (add before p)) → Sized config (tree_so_far outer (add before p))
       → Encoded (part p) → PartStands config (suc (length outer)) p
   part_stands (custom name contents) config outer before r f m s e = tt
-  part_stands (core_module text) config outer before (module, is, shown) f m s e = (module, is, module_has_bytes text (stand_in_text module) shown e)
+  part_stands (core_module text) config outer before (stand_in, is, shown) f m s e =
+      (stand_in, is, module_has_bytes text (stand_in_text stand_in) shown e)
   part_stands (core_types ts) config outer before r f m s e =
       let whole : OwnSizes config (add before (core_types ts)) = all_inner (OwnSizes config) outer (add before (core_types ts)) s in
       let es = ap (λ z. z.core_types) (spaces-add before (core_types ts)) in
