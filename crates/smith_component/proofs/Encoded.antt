@@ -1,7 +1,5 @@
 -- What has an encoding has its parts encoded.
-use Rattle.std.proofs.Common.{◌≡◌, ℕ, List, [], Option, None, Some, refl, sym, ap, ◌∙◌, subst, false, true}
-use Rattle.std.specs.Prelude.{nat_eq, if◌then◌else◌}
-use Rattle.std.specs.List.{starts_with}
+use Rattle.std.proofs.Common.{◌≡◌, ℕ, List, [], None, Some, refl, sym, ap, subst}
 use Rattle.smith_input.specs.Script.{AreBytes}
 use Rattle.smith_format.specs.Piece.{Piece, ◌⊕◌, byte, bytes, framed, raw, sized, text}
 use Rattle.smith_format.proofs.Piece.{parts_are, raw_whole}

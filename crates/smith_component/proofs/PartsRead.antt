@@ -1,5 +1,5 @@
 -- The script of a part of a plan is read as that part, and a component that lacks nothing is finished as it is.
-use Rattle.std.proofs.Common.{◌≡◌, ℕ, suc, ◌+◌, ◌-◌, ◌≤◌, ◌^◌, List, [], ◌∷◌, ◌++◌, map, length, arith, refl, sym, ap, ◌∙◌, subst, inl, append_assoc}
+use Rattle.std.proofs.Common.{◌≡◌, ℕ, suc, ◌+◌, ◌-◌, ◌≤◌, ◌^◌, List, [], ◌∷◌, ◌++◌, map, length, arith, refl, sym, ap, subst, inl, append_assoc}
 use Rattle.std.proofs.Common.{length-append}
 use Rattle.std.specs.List.{AllByRecursion}
 use Rattle.std.specs.Str.{IsUtf8}
@@ -39,7 +39,7 @@ use Rattle.smith_component.proofs.Growth.{functions_counted, spaces-add, types_p
 use Rattle.smith_component.proofs.Sound.{length-scopes_from}
 use Rattle.smith_core.specs.StandIn.{ReadsStandIn}
 use Rattle.smith_core.specs.StandInScript.{script_stand_in, stand_in_of}
-use Rattle.smith_core.proofs.StandInExact.{text_read}
+use Rattle.smith_core.proofs.StandInExact.{text_read as module_text_read}
 use Rattle.smith_core.proofs.StandInTold.{stand_in_told}
 use Rattle.smith_component.proofs.Tree.{all_of, anywhere-add, depth-outer, function_count-add, own-add, length-own-add}
 use Rattle.smith_scopes.proofs.Plain.{all_back}
@@ -130,7 +130,7 @@ module _ (config : Config) (stack : Open) (rest : List ℕ) where
   pub module_part : (text : List ℕ) → IsRead (core_module text)
   module_part text readable (s, is, e) formed limits =
       let told : stand_in_of text ≡ s = stand_in_told config s text is e in
-      let r = text_read config s text is e rest in
+      let r = module_text_read config s text is e rest in
       let shown : shown_module r.0 ≡ text = ap bytes_of r.2 in
       let read : ReadsStandIn config (script_stand_in config (stand_in_of text) ++ rest) r.0 rest =
       subst (λ z. ReadsStandIn config (script_stand_in config z ++ rest) r.0 rest) (sym told) r.1 in

@@ -1,5 +1,5 @@
 -- What types and core modules of a plan have where they stand.
-use Rattle.std.proofs.Common.{◌≡◌, ℕ, suc, List}
+use Rattle.std.proofs.Common.{◌≡◌, ℕ, suc}
 use Rattle.std.specs.Prelude.{Some}
 use Rattle.std.specs.List.{AllByRecursion}
 use Rattle.smith_format.specs.declared.config.Config.{Config}

@@ -19,7 +19,8 @@ use Rattle.smith_syntax.specs.WellFormed.{FormedEntry, FormedTypes, size}
 use Rattle.smith_types.specs.Needs.{need}
 use Rattle.smith_syntax.specs.declared.types.ComponentValType.{ComponentValType}
 use Rattle.smith_syntax.proofs.Flat.{flattens_params}
-use Rattle.smith_types.proofs.Lifting.{lifted_tail, lifted_flattens, lifted_formed}
+use Rattle.smith_types.specs.Readable.{IsReadableType}
+use Rattle.smith_types.proofs.Lifting.{lifted_readable, lifted_tail, lifted_flattens, lifted_formed}
 use Rattle.smith_component.specs.Canonicals.{Growing, grown, spaces_at, with_canon, with_defined, LiftsTo, to_equal, to_defined, given_up, ReadsLift, CanonTurn}
 use Rattle.smith_component.specs.Canonicals.{empty_section, ReadsCanons}
 use Rattle.smith_component.specs.Open.{Open, scopes_in, tree_so_far, with_inner}
@@ -85,12 +86,6 @@ inner_few : (stack : List Tree) (outer : List Scope) (t : Tree) → Formed (tree
 inner_few [] outer t f = tree_few t outer ends f tt
 inner_few (u ∷ stack) outer t f = inner_few stack (scope_of u ∷ outer) t (formed_front u (component (tree_so_far stack t)) outer ends f).1
 
--- The names of parameters that are read can be read.
-params_readable : {names : List (List ℕ)} {vs : List ValType} {b rest : List ℕ} {fs : List Field} → ReadsParams names vs b fs rest
-    → AreReachable 100 names (map (λ p. p.0) fs)
-params_readable no_params = tt
-params_readable (a_param n p later) = (new_reachable n, params_readable later)
-
 -- What a lift that defines its type is of.
 pub record Defines (config : Config) (s : Growing) (c : ℕ) (signature : Signature) : Type 0 where
   pub f : ℕ
@@ -137,7 +132,7 @@ lift_turned r (to_defined none room left e) =
       of = r.of;
       flat = (r.core, lifted_flattens r.reads, r.flattens);
       formed = λ h. lifted_formed r.reads (omega (arith, h, flattens_params r.flattens));
-      readable = params_readable r.reads.params;
+      readable = lifted_readable r.reads;
       small = omega (arith, same_size (lifted_flattens r.reads) r.flattens);
       room = room;
     }) e
@@ -191,7 +186,7 @@ defined_canon {s = s} {c = c} {signature = signature} d =
     subst P (sym (spaces_signature s signature)) (signature, d.lowered, d.f, get_last (spaces_at s).types (function signature), d.lowers, of, d.flat)
 
 -- What a turn keeps, by what a canonical function and a type keep.
-turn_keeps : (P : ℕ → Growing → Type 0) (config : Config) (n : ℕ) (s next : Growing)
+pub turn_keeps : (P : ℕ → Growing → Type 0) (config : Config) (n : ℕ) (s next : Growing)
     → ((u : Growing) (c : Canon) → FormedCanon (spaces_at u) c → P n u → P (n + 1) (with_canon u c))
     → ((c : ℕ) (signature : Signature) → Defines config s c signature → P n s → P n (with_signature s signature))
     → (config.max_types ≤ length (spaces_at s).types → P n s → P (n + 1) s) → P n s → Turned config s next → P (n + 1) next

@@ -57,7 +57,7 @@ module _ (config : Config) (t : Tree) where
   no_export_same : (s : List ExportEntry) (b r : List ℕ) (u : List ExportEntry) → NoExport t s b r u → u ≡ s
   no_export_same s b r u e = e.2
 
-  export_new : (s : List ExportEntry) (b : List ℕ) (x : ExportEntry) (r : List ℕ) (u : List ExportEntry) → ReadsExport t s b x r u
+  pub export_new : (s : List ExportEntry) (b : List ℕ) (x : ExportEntry) (r : List ℕ) (u : List ExportEntry) → ReadsExport t s b x r u
       → NewEntry (λ (e : ExportEntry). e.name) (exports_of t) s x u
   export_new s b x r u i = record { bytes = i.mid; rest = r; read = i.named; next_is = i.next_is }
 

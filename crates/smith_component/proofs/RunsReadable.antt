@@ -1,17 +1,16 @@
 -- What a run leads to comes: it can be read, besides that it is well formed and within the limits.
-use Rattle.std.proofs.Common.{◌≡◌, ℕ, zero, suc, ◌+◌, ◌<◌, List, [], ◌∷◌, ◌++◌, true, refl, sym, ap, ◌∙◌, subst, inl, inr, arith}
+use Rattle.std.proofs.Common.{◌≡◌, ℕ, zero, suc, ◌<◌, List, [], ◌∷◌, ◌++◌, true, refl, sym, ap, subst, inl, inr, arith}
 use Rattle.std.specs.List.{AllByRecursion}
 use Rattle.std.proofs.lemmas.Bool.Decides.{nat_tests}
 use Rattle.smith_input.proofs.Loops.{loop_all}
 use Rattle.smith_core.proofs.StandInMade.{stand_in_made}
 use Rattle.smith_format.specs.Limits.{IsConsistent}
 use Rattle.smith_format.specs.declared.config.Config.{Config}
-use Rattle.smith_syntax.specs.Entries.{CoreEntry, Entry, function, Signature, ImportEntry}
-use Rattle.smith_syntax.specs.Scope.{Scope}
+use Rattle.smith_syntax.specs.Entries.{function, ImportEntry}
 use Rattle.smith_core_types.specs.Readable.{IsReadableCore}
 use Rattle.smith_core_types.proofs.Readable.{made_core_readable}
 use Rattle.smith_types.specs.Readable.{IsReadableType}
-use Rattle.smith_component.specs.AddedSections.{Adds, ReadsCoreTypes, ReadsTypes}
+use Rattle.smith_component.specs.AddedSections.{Adds}
 use Rattle.smith_component.specs.Canonicals.{Growing, ReadsCanons, empty_section, grown}
 use Rattle.smith_component.specs.Fills.{Fills, FillsAll}
 use Rattle.smith_component.specs.Open.{Open, is_export_offered, root, with_inner}

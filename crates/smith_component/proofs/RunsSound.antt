@@ -1,5 +1,5 @@
 -- What a run leads to is well formed and within the limits, whatever it reads.
-use Rattle.std.proofs.Common.{◌≡◌, ℕ, zero, suc, ◌+◌, ◌-◌, ◌≤◌, List, [], length, arith, refl, sym, subst, inl, inr, true}
+use Rattle.std.proofs.Common.{ℕ, zero, suc, ◌+◌, ◌-◌, ◌≤◌, List, [], length, arith, refl, sym, subst, inl, inr}
 use Rattle.smith_input.proofs.Loops.{loop_few}
 use Rattle.smith_format.specs.Limits.{IsConsistent}
 use Rattle.smith_format.specs.declared.config.Config.{Config}
@@ -8,7 +8,7 @@ use Rattle.smith_syntax.specs.Scope.{Scope}
 use Rattle.smith_component.specs.AddedSections.{Adds, ReadsCoreTypes, ReadsTypes}
 use Rattle.smith_component.specs.Fills.{Fills, FillsAll}
 use Rattle.smith_component.specs.Limits.{Limits, Minima, Sized}
-use Rattle.smith_component.specs.Open.{Open, is_component_offered, is_module_offered, root, scopes_in, with_inner}
+use Rattle.smith_component.specs.Open.{Open, root, scopes_in, with_inner}
 use Rattle.smith_component.specs.Runs.{RunsTo, Turns}
 use Rattle.smith_component.specs.Shown.{shown_module}
 use Rattle.smith_component.specs.Sound.{IsAddable, Sound}
