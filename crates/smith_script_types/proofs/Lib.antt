@@ -2,6 +2,7 @@ pub mod Alike
 pub mod Declaring
 pub mod ModuleAlike
 pub mod ModuleTurns
+pub mod Names
 pub mod Nodes
 pub mod Picking
 pub mod Placing

@@ -4,3 +4,4 @@ pub mod Modules
 pub mod Places
 pub mod Says
 pub mod Scopes
+pub mod Taken

@@ -13,20 +13,22 @@ mod fronts;
 mod fuel;
 mod members;
 mod module_fronts;
+mod module_names;
 mod modules;
+mod names;
 mod offers;
 mod place;
 mod places;
 mod references;
 mod scopes;
+mod taken;
 mod types;
 mod values;
 
-pub use choices::{
-    put_among, put_byte, put_choice, put_contents, put_end, put_more, put_name, put_text,
-};
+pub use choices::{put_among, put_byte, put_choice, put_contents, put_end, put_more, put_text};
 pub use core_types::put_core;
 pub use error::Unsaid;
+pub use names::put_name;
 pub use offers::put_offered;
 pub use place::Place;
 pub use places::{Test, places_of};
