@@ -9,3 +9,6 @@ pub mod SubTypes
 pub mod Tiles
 pub mod TooLong
 pub mod StandInSame
+pub mod StandInMade
+pub mod StandInRead
+pub mod StandInTold

@@ -1,5 +1,5 @@
 -- The core modules that stand for generated ones, and their bytes: function types and memories, and nothing else.
-use Rattle.std.specs.Prelude.{ℕ, List, if◌then◌else◌}
+use Rattle.std.specs.Prelude.{ℕ, List, [], if◌then◌else◌}
 use Rattle.smith_format.specs.CoreTypes.{Function, core_function}
 use Rattle.smith_format.specs.Entities.{memory_type}
 use Rattle.smith_format.specs.Piece.{Piece, ◌⊕◌, bytes, many, sized}

@@ -1,22 +1,26 @@
 //! Laws of core modules, and those of numbers, texts, lists and core types. Each function does nothing: its contract is
 //! the law.
 
-ghost use Rattle.std.specs.Prelude.{◌≡◌, ◌↔◌, ◌++◌, ℕ, ◌<◌, List, map, Some, None};
+ghost use Rattle.std.specs.Prelude.{◌≡◌, ◌↔◌, ◌++◌, ℕ, ◌<◌, ◌^◌, List, map, length, Some, None};
 ghost use Rattle.smith_format.specs.declared.config.Config.{Config};
 ghost use Rattle.std.specs.List.{AllByRecursion};
+ghost use Rattle.smith_input.specs.Script.{AreBytes};
 ghost use Rattle.smith_core.specs.Module.{module_text};
 ghost use Rattle.smith_core.specs.Preamble.{core_preamble};
 ghost use Rattle.smith_core.specs.Parts.{Agree};
 ghost use Rattle.smith_core.specs.StandIn.{ReadsStandIn};
+ghost use Rattle.smith_core.specs.StandInText.{StandIn, stand_in_text};
+ghost use Rattle.smith_core.specs.StandInScript.{IsStandIn, script_stand_in, stand_in_of};
 ghost use Rattle.smith_core.specs.Split.{CoreSection, Splits, sections_of, present_section};
 ghost use Rattle.smith_core.specs.TooLong.{ModuleTooLong};
 ghost use Rattle.smith_core.specs.declared.module.parts.ModuleParts.{ModuleParts};
 
 pub use smith_format::laws::{
-    bytes_have_an_encoding, contents_are_exact, core_scripts_are_read, core_types_are_clear,
-    core_types_are_decided, lists_are_clear, long_core_types_have_no_encoding,
-    long_lists_have_no_encoding, numbers_are_clear, sections_are_clear, signed_numbers,
-    texts_are_clear, too_long_has_no_encoding, unsigned_numbers,
+    bytes_have_an_encoding, contents_are_exact, core_scripts_are_read, core_type_scripts_are_bytes,
+    core_types_are_clear, core_types_are_decided, lists_are_clear,
+    long_core_types_have_no_encoding, long_lists_have_no_encoding, numbers_are_clear,
+    sections_are_clear, signed_numbers, texts_are_clear, too_long_has_no_encoding,
+    unsigned_numbers,
 };
 
 /// The bytes of a module are split into sections in one way: those that are written, in binary order.
@@ -43,4 +47,29 @@ pub fn long_modules_have_no_encoding()
 pub fn stand_ins_are_decided()
     ensures { (config : Config) (b : List ℕ) (m n : ModuleParts) (r q : List ℕ) → ReadsStandIn config b m r
         → ReadsStandIn config b n q → (module_text m ≡ module_text n) × (r ≡ q) }
+{}
+
+/// The bytes of a module that stands for a generated one are those of function types and memories within the limits.
+pub fn stand_ins_are_made()
+    ensures { (config : Config) (b : List ℕ) (m : ModuleParts) (rest : List ℕ) → ReadsStandIn config b m rest
+        → (s : StandIn) × IsStandIn config s × (module_text m ≡ stand_in_text s) }
+{}
+
+/// From the script of function types and memories within the limits a module of their bytes is read, whatever follows,
+/// if there are no more memories than a list of the program can hold.
+pub fn stand_ins_are_read()
+    ensures { (config : Config) (s : StandIn) → IsStandIn config s → length s.memories < 2 ^ 63 → (rest : List ℕ)
+        → (m : ModuleParts) × ReadsStandIn config (script_stand_in config s ++ rest) m rest
+        × (module_text m ≡ stand_in_text s) }
+{}
+
+/// The script of function types and memories within the limits is bytes.
+pub fn stand_in_scripts_are_bytes()
+    ensures { (config : Config) (s : StandIn) → IsStandIn config s → AreBytes (script_stand_in config s) }
+{}
+
+/// The function types and memories that stand for a generated module are found again from their bytes.
+pub fn stand_ins_are_told()
+    ensures { (config : Config) (s : StandIn) (b : List ℕ) → IsStandIn config s → stand_in_text s ≡ Some b
+        → stand_in_of b ≡ s }
 {}

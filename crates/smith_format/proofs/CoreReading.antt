@@ -6,7 +6,7 @@ use Rattle.smith_input.specs.Reading.{Reads, IsTail}
 use Rattle.smith_input.proofs.Choices.{among_tail, among_same, among_contains}
 use Rattle.smith_input.proofs.Loops.{loop_tail, loop_few, loop_all, loop_same}
 use Rattle.smith_input.proofs.Reading.{tail_same, tail_trans, reads_tail, reads_unique, flips_unique}
-use Rattle.smith_format.specs.CoreFormed.{FormedLimits, FormedFunction}
+use Rattle.smith_format.specs.CoreFormed.{FormedLimits, FormedFunction, FormedMemory}
 use Rattle.smith_format.specs.CoreReading.{ReadsBetween, ReadsMaximum, unbounded, bounded, ReadsLimits, ReadsMemory, ReadsElement, only_functions, either}
 use Rattle.smith_format.specs.CoreReading.{ReadsTable, ReadsTag, ReadsValues, ReadsFunction}
 use Rattle.smith_format.specs.CoreTypes.{Function}
@@ -51,6 +51,9 @@ maximum_formed low (bounded f b) = (omega (arith, b.is), omega (arith, b.is, b.r
 pub limits_formed : {bytes : List ℕ} {minimum : ℕ} {most : Option ℕ} {rest : List ℕ} → ReadsLimits bytes minimum most rest → FormedLimits minimum most
 limits_formed {minimum = minimum} r = let low : minimum ≤ 10 = omega (arith, r.least.is, r.least.reads.below) in
     record { least = low; most = maximum_formed low r.most }
+
+pub memory_formed : {bytes rest : List ℕ} {m : MemoryType} → ReadsMemory bytes m rest → FormedMemory m
+memory_formed r = record { limits = limits_formed r.limits; shared = r.shared; memory64 = r.memory64 }
 
 element_is : (place : ℕ) (t : RefType) → slice_get (FuncRef ∷ ExternRef ∷ []) place ≡ Some t → (t ≡ FuncRef) ⊎ (t ≡ ExternRef)
 element_is zero t e = inl (let z : t ≡ FuncRef = cc in z)

@@ -1,5 +1,6 @@
--- Core function types are read where their scripts stand.
-use Rattle.std.proofs.Common.{◌≡◌, ◌≤◌, ◌^◌, ℕ, List, ◌++◌, length, refl, sym, ap, subst, arith, append_assoc}
+-- Core function types, limits and memory types are read where their scripts stand.
+use Rattle.std.proofs.Common.{◌≡◌, ◌≤◌, ◌^◌, ℕ, ◌+◌, ◌-◌, List, ◌++◌, length, refl, sym, ap, subst, arith, append_assoc, Option, Some, None}
+use Rattle.std.specs.Prelude.{IfSome}
 use Rattle.std.proofs.lemmas.Bool.{false≢true}
 use Rattle.std.proofs.lemmas.Bool.Decides.{Decides-and, Decides-eqb}
 use Rattle.std.specs.Cmp.{booleans_Decides}
@@ -7,12 +8,15 @@ use Rattle.std.specs.Bool.{Decides}
 use Rattle.std.specs.List.{AllByRecursion, Contains}
 use Rattle.smith_input.proofs.Choices.{among_written}
 use Rattle.smith_input.proofs.Loops.{loop_read, along_all}
-use Rattle.smith_format.specs.CoreFormed.{FormedFunction}
-use Rattle.smith_format.specs.CoreReading.{ReadsValues, ReadsFunction}
-use Rattle.smith_format.specs.CoreScript.{script_values, script_function}
+use Rattle.smith_input.proofs.Picks.{reads-pick}
+use Rattle.smith_input.proofs.Reading.{flips_one, flips_zero}
+use Rattle.smith_format.specs.CoreFormed.{FormedFunction, FormedLimits, FormedMemory}
+use Rattle.smith_format.specs.CoreReading.{ReadsBetween, ReadsFunction, ReadsLimits, ReadsMaximum, ReadsMemory, ReadsValues, bounded, unbounded}
+use Rattle.smith_format.specs.CoreScript.{script_between, script_function, script_limits, script_maximum, script_memory, script_values}
 use Rattle.smith_format.specs.CoreTypes.{Function}
 use Rattle.smith_format.specs.Equality.{same_val}
 use Rattle.smith_format.specs.contracts.types.RefTypePartialEq.TheImpl.{ghosts as references}
+use Rattle.smith_format.specs.declared.types.MemoryType.{MemoryType}
 use Rattle.smith_format.specs.declared.types.RefType.{RefType}
 use Rattle.smith_format.specs.declared.types.RefType.TheVariants.{FuncRef, ExternRef, Concrete}
 use Rattle.smith_format.specs.declared.types.ValType.{ValType}
@@ -60,3 +64,31 @@ pub function_scripted : (valtypes : List ValType) (max_results : ℕ) (f g : Fun
     → (g ≡ f) × (left ≡ rest)
 function_scripted valtypes max_results f g bytes rest left h many e r =
     function_unique r (subst (λ b. ReadsFunction valtypes max_results b f rest) (sym e) (function_read valtypes max_results f rest h many))
+
+-- limits
+
+pub between_read : (low high n : ℕ) (rest : List ℕ) → low ≤ n → n ≤ high → high ≤ 1000 → ReadsBetween low high (script_between low high n ++ rest) n rest
+between_read low high n rest l h small = record {
+  place = n - low;
+  is = omega (arith, l);
+  reads = reads-pick (high - low + 1) (n - low) rest (omega (arith, small)) (omega (arith, l, h));
+}
+
+pub maximum_read : (minimum : ℕ) (maximum : Option ℕ) (rest : List ℕ) → IfSome maximum (λ n. (minimum ≤ n) × (n ≤ 20))
+    → ReadsMaximum minimum (script_maximum minimum maximum ++ rest) maximum rest
+maximum_read minimum None rest f = unbounded (flips_zero rest)
+maximum_read minimum (Some n) rest f = bounded (flips_one (script_between minimum 20 n ++ rest)) (between_read minimum 20 n rest f.0 f.1 (omega arith))
+
+pub limits_read : (minimum : ℕ) (maximum : Option ℕ) (rest : List ℕ) → FormedLimits minimum maximum
+    → ReadsLimits (script_limits minimum maximum ++ rest) minimum maximum rest
+limits_read minimum maximum rest f =
+    let a : List ℕ = script_between 0 10 minimum in
+    let b : List ℕ = script_maximum minimum maximum in
+    subst (λ z. ReadsLimits z minimum maximum rest) (sym (append_assoc a b rest)) (record {
+      mid = b ++ rest;
+      least = between_read 0 10 minimum (b ++ rest) (omega arith) f.least (omega arith);
+      most = maximum_read minimum maximum rest f.most;
+    })
+
+pub memory_read : (m : MemoryType) (rest : List ℕ) → FormedMemory m → ReadsMemory (script_memory m ++ rest) m rest
+memory_read m rest f = record { limits = limits_read m.minimum m.maximum rest f.limits; shared = f.shared; memory64 = f.memory64 }

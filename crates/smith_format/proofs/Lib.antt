@@ -9,3 +9,4 @@ pub mod Piece
 pub mod Sizes
 pub mod Steps
 pub mod TooLong
+pub mod ScriptBytes

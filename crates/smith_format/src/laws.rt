@@ -6,13 +6,17 @@ ghost use Rattle.std.specs.Prelude.{ℤ, pos, negsuc, ◌≤ℤ◌, ◌<ℤ◌, 
 ghost use Rattle.std.specs.List.{AllByRecursion, Any};
 ghost use Rattle.std.specs.Str.{IsUtf8};
 ghost use Rattle.smith_input.specs.Reading.{IsDecided, IsReadAs};
+ghost use Rattle.smith_input.specs.Script.{AreBytes};
 ghost use Rattle.smith_format.specs.Clear.{IsClear, IsExact};
-ghost use Rattle.smith_format.specs.CoreFormed.{FormedFunction};
+ghost use Rattle.smith_format.specs.CoreFormed.{FormedFunction, FormedMemory};
 ghost use Rattle.smith_format.specs.CoreReading.{ReadsMemory, ReadsTable, ReadsTag, ReadsFunction};
-ghost use Rattle.smith_format.specs.CoreScript.{script_function};
+ghost use Rattle.smith_format.specs.CoreScript.{script_function, script_memory};
 ghost use Rattle.smith_format.specs.CoreTypes.{Function, core_val, core_function};
 ghost use Rattle.smith_format.specs.Entities.{CoreImport, entity, core_import};
+ghost use Rattle.smith_format.specs.Limits.{configured, max_results};
 ghost use Rattle.smith_format.specs.Numbers.{unsigned, signed, low_bits, high_bits};
+ghost use Rattle.smith_format.specs.declared.config.Config.{Config};
+ghost use Rattle.smith_format.specs.declared.types.MemoryType.{MemoryType};
 ghost use Rattle.smith_format.specs.declared.types.ValType.{ValType};
 ghost use Rattle.smith_format.specs.TooLong.{ValTooLong, FunctionTooLong, EntityTooLong, ImportTooLong};
 ghost use Rattle.smith_format.specs.declared.types.EntityType.{EntityType};
@@ -110,9 +114,16 @@ pub fn core_types_are_decided()
     ensures functions { (valtypes : List ValType) (max_results : ℕ) → IsDecided (ReadsFunction valtypes max_results) }
 {}
 
-/// The script of a function type of these value types is read as that type.
+/// The script of a function type of these value types is read as that type, and that of a memory type as it.
 pub fn core_scripts_are_read()
-    ensures { (valtypes : List ValType) (max_results : ℕ) (f : Function) → FormedFunction valtypes max_results f
+    ensures functions { (valtypes : List ValType) (max_results : ℕ) (f : Function) → FormedFunction valtypes max_results f
         → length valtypes ≤ 2 ^ 64
         → IsReadAs (ReadsFunction valtypes max_results) (script_function valtypes max_results f) f }
+    ensures memories { (m : MemoryType) → FormedMemory m → IsReadAs ReadsMemory (script_memory m) m }
+{}
+
+/// The scripts of function types within the limits and of memory types are bytes.
+pub fn core_type_scripts_are_bytes()
+    ensures functions { (config : Config) (f : Function) → AreBytes (script_function (configured config) (max_results config) f) }
+    ensures memories { (m : MemoryType) → FormedMemory m → AreBytes (script_memory m) }
 {}
