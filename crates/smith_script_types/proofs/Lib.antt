@@ -8,4 +8,5 @@ pub mod Picking
 pub mod Placing
 pub mod Saying
 pub mod Sorts
+pub mod StandIns
 pub mod Turns

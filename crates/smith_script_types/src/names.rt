@@ -1,12 +1,13 @@
 //! Names as a script spells them: by a text that can be read and becomes the name.
 
 ghost use Rattle.std.specs.Fmt.{decimal};
-ghost use Rattle.std.specs.Prelude.{◌≡◌, ◌≤◌, ℕ, List, Bool, length, take};
+ghost use Rattle.std.specs.Prelude.{◌≡◌, ◌≤◌, ℕ, List, Bool, length};
 ghost use Rattle.smith_input.specs.NameScript.{is_short, is_within, script_new, script_new_text, script_within, text_of};
 ghost use Rattle.smith_input.specs.Script.{script_name, script_text};
 ghost use Rattle.smith_script_types.specs.Says.{Says};
 
 use crate::choices::{put_characters, put_choice, put_text_within};
+use crate::cuts::front;
 use crate::error::Unsaid;
 
 /// How many bytes of a name are read, but for the last letter of one in kebab case.
@@ -68,16 +69,6 @@ fn text_of<'b, R: Readable>(rule: &R, count: usize, name: &'b [u8]) -> &'b [u8]
         text = &text[..text.len().saturating_sub(digits)];
     }
     text
-}
-
-// The front of a text.
-fn front(text: &[u8], most: usize) -> &[u8]
-    ensures { result.now ≡ take most text.now }
-{
-    if text.len() <= most {
-        return text;
-    }
-    &text[..most]
 }
 
 // A name in kebab case, of which so many bytes are chosen.
