@@ -14,7 +14,7 @@ use Rattle.smith_format.specs.declared.types.MemoryType.{MemoryType}
 use Rattle.smith_format.proofs.CoreReading.{function_formed, memory_formed}
 use Rattle.smith_format.proofs.ScriptBytes.{small_function, small_memory, all_of}
 use Rattle.smith_core.specs.Module.{module_text}
-use Rattle.smith_core.specs.StandIn.{ReadsMemoryType, ReadsStandIn}
+use Rattle.smith_core.specs.StandIn.{ReadsStandIn}
 use Rattle.smith_core.specs.StandInScript.{IsStandIn, IsStandInFunction, IsStandInMaximum, IsStandInMemory, script_stand_in}
 use Rattle.smith_core.specs.StandInText.{StandIn, stand_in_text}
 use Rattle.smith_core.specs.declared.module.parts.ModuleParts.{ModuleParts}

@@ -1,9 +1,9 @@
 -- A module of the bytes of function types and memories within the limits is read from their script.
-use Rattle.std.proofs.Common.{◌≡◌, ℕ, suc, ◌+◌, ◌<◌, ◌≤◌, ◌^◌, Bool, true, false, if◌then◌else◌, List, [], ◌∷◌, ◌++◌, map, length, refl, sym, ap, ◌∙◌, subst, arith, min, None, append_assoc}
+use Rattle.std.proofs.Common.{◌≡◌, ℕ, suc, ◌+◌, ◌<◌, ◌≤◌, ◌^◌, Bool, true, false, List, [], ◌∷◌, ◌++◌, map, length, refl, sym, ap, ◌∙◌, subst, arith, min, None, append_assoc}
 use denote.RawPtr.{null_ptr}
 use Rattle.std.specs.Global.{Vec}
 use Rattle.std.specs.List.{AllByRecursion}
-use Rattle.smith_input.specs.Loops.{Along, Loop, Never}
+use Rattle.smith_input.specs.Loops.{Loop, Never}
 use Rattle.smith_input.specs.Script.{script_loop, script_more}
 use Rattle.smith_input.proofs.Loops.{along_all, loop_all, loop_read}
 use Rattle.smith_format.specs.CoreFormed.{FormedFunction, FormedMemory}
@@ -11,7 +11,6 @@ use Rattle.smith_format.specs.CoreScript.{script_function, script_memory}
 use Rattle.smith_format.specs.CoreTypes.{Function}
 use Rattle.smith_format.specs.Limits.{configured, max_results}
 use Rattle.smith_format.specs.declared.config.Config.{Config}
-use Rattle.smith_format.specs.declared.types.FuncType.{FuncType}
 use Rattle.smith_format.specs.declared.types.MemoryType.{MemoryType}
 use Rattle.smith_format.proofs.CoreScript.{function_read, memory_read}
 use Rattle.smith_format.proofs.ScriptBytes.{few_values}
@@ -23,7 +22,7 @@ use Rattle.smith_core.specs.declared.module.parts.ModuleParts.{ModuleParts}
 use Rattle.smith_core.specs.declared.module.types.CompositeType.TheVariants.{Func}
 use Rattle.smith_core.specs.declared.module.types.SubType.{SubType}
 use Rattle.smith_core.proofs.StandInMade.{few_results, function_of_stand_in, memory_of_stand_in}
-use Rattle.smith_core.proofs.StandInSame.{function_at, is_plain, shown_stand_in, text_is, IsPlain}
+use Rattle.smith_core.proofs.StandInSame.{function_at, is_plain, text_is, IsPlain}
 
 -- a list of the program with these items
 abbrev vec_of : {A : Type 0} (xs : List A) → length xs < 2 ^ 63 → Vec A
@@ -66,6 +65,24 @@ parts_of bulk_memory ts ms few_types few_memories = record {
   elems = empty_vec;
   code = empty_vec;
   data_segments = empty_vec;
+}
+
+parts_listed : (bulk_memory : Bool) (ts : List SubType) (ms : List MemoryType) (few_types : length ts < 2 ^ 63) (few_memories : length ms < 2 ^ 63)
+    → HasTypesAndMemories (parts_of bulk_memory ts ms few_types few_memories)
+parts_listed bulk_memory ts ms few_types few_memories = record {
+  encoded = refl;
+  groups = refl;
+  memories = refl;
+  no_imports = (refl, refl);
+  no_functions = (refl, refl);
+  no_tables = (refl, refl);
+  no_tags = (refl, refl);
+  no_globals = (refl, refl);
+  no_exports = refl;
+  no_start = refl;
+  no_elements = refl;
+  no_code = refl;
+  no_data = refl;
 }
 
 memories_formed : (ms : List MemoryType) → AllByRecursion IsStandInMemory ms → AllByRecursion FormedMemory ms
@@ -149,21 +166,7 @@ module _ (config : Config) where
       (λ fs. Loop Never (ReadsSubType config) 0 most 0 tt
       (script_loop (λ (u : Unit {0}) f. script_function (configured config) (max_results config) f) (λ u f. u) 0 most 0 tt fs ++ (b ++ rest)) ts (b ++ rest) tt)
       shown (types_read most ts (b ++ rest) (types_readable s.types h.types) count) in
-      let parts : HasTypesAndMemories m = record {
-        encoded = refl;
-        groups = refl;
-        memories = refl;
-        no_imports = (refl, refl);
-        no_functions = (refl, refl);
-        no_tables = (refl, refl);
-        no_tags = (refl, refl);
-        no_globals = (refl, refl);
-        no_exports = refl;
-        no_start = refl;
-        no_elements = refl;
-        no_code = refl;
-        no_data = refl;
-      } in
+      let parts : HasTypesAndMemories m = parts_listed config.bulk_memory_enabled ts ms few_types few in
       let plain : AllByRecursion IsPlain ts = loop_all IsPlain (is_plain config) 0 tt (a ++ (b ++ rest)) ts (b ++ rest) tt types in (
         m,
         record {

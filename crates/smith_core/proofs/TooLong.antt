@@ -16,7 +16,6 @@ use Rattle.smith_format.specs.TooLong.{Passes, NoBytes, ListTooLong, ContentsToo
 use Rattle.smith_format.specs.declared.types.ExportKind.{ExportKind}
 use Rattle.smith_format.specs.declared.types.GlobalType.{GlobalType}
 use Rattle.smith_format.specs.declared.types.Import.{Import}
-use Rattle.smith_format.specs.declared.types.MemoryType.{MemoryType}
 use Rattle.smith_format.specs.declared.types.RefType.{RefType}
 use Rattle.smith_format.specs.declared.types.TableType.{TableType}
 use Rattle.smith_format.specs.declared.types.ValType.{ValType}
