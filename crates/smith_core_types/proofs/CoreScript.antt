@@ -2,7 +2,6 @@
 use Rattle.std.proofs.Common.{◌≡◌, ℕ, ◌+◌, ◌-◌, ◌<◌, ◌≤◌, ◌^◌, Bool, true, false, List, [], ◌∷◌, ◌++◌, length, refl, sym, ap, ◌∙◌, subst, arith, append_assoc}
 use Rattle.std.proofs.Common.{append-nil, length-append}
 use Rattle.std.proofs.lemmas.Bool.Decides.{nat_tests}
-use Rattle.std.specs.List.{AllByRecursion}
 use Rattle.std.specs.Prelude.{nat_le, if◌then◌else◌}
 use Rattle.smith_input.specs.Loops.{Along, after_all}
 use Rattle.smith_input.specs.Script.{pick, script_loop}
@@ -14,19 +13,24 @@ use Rattle.smith_syntax.specs.Entries.{CoreEntry, ModuleDecl, core_func, core_mo
 use Rattle.smith_syntax.specs.ModuleTypes.{after_front, after_memory, after_realloc}
 use Rattle.smith_syntax.specs.Scope.{Scope}
 use Rattle.smith_syntax.specs.WellFormed.{FormedCore, FormedDecls, core_size}
-use Rattle.smith_scopes.proofs.Plain.{all_back}
 use Rattle.smith_core_types.specs.MadeCore.{MadeCore, MadeModule, ModuleEnds, ReadsDecl, of_module, spent_core}
 use Rattle.smith_core_types.specs.Offers.{Declared, with_decl}
 use Rattle.smith_core_types.specs.ModuleScript.{front_before, script_decl, script_front, script_module}
 use Rattle.smith_core_types.specs.Needs.{core_cost, core_need}
 use Rattle.smith_core_types.specs.Script.{script_core}
-use Rattle.smith_core_types.specs.Texts.{HasReadableText, HasReadableTexts}
+use Rattle.smith_core_types.specs.Readable.{AreReadableModuleDecls, IsReadableCore}
 use Rattle.smith_core_types.proofs.FrontFound.{fronted, whole_front}
 use Rattle.smith_core_types.proofs.FrontScript.{asked_read, front_before_is, front_few, front_formed, front_types}
 use Rattle.smith_core_types.proofs.MadeCore.{core_type_read}
 use Rattle.smith_core_types.proofs.ModuleFronts.{front_decls, front_state}
 use Rattle.smith_core_types.proofs.ModuleSaid.{decls_sayable}
 use Rattle.smith_core_types.proofs.ModuleScript.{IsSayable, decl_read}
+
+-- of declarations that can be read those behind some can be read behind them
+readable_back : (before front back : List ModuleDecl) → AreReadableModuleDecls before (front ++ back) → AreReadableModuleDecls (before ++ front) back
+readable_back before [] back h = subst (λ z. AreReadableModuleDecls z back) (sym (append-nil before)) h
+readable_back before (d ∷ ds) back h =
+    subst (λ z. AreReadableModuleDecls z back) (append_assoc before (d ∷ []) ds) (readable_back (before ++ d ∷ []) ds back h.1)
 
 module _ (config : Config) (around : Scope) where
   -- the declarations are added one after another, and each takes one from the fuel
@@ -39,7 +43,7 @@ module _ (config : Config) (around : Scope) where
 
   -- What stands behind what the canonical ABI asks can be said.
   pub behind_sayable : (fuel : ℕ) (ds : List ModuleDecl) → FormedCore (core_module ds) around.core_types → ModuleLimits config ds
-      → AllByRecursion HasReadableText ds → core_size (core_module ds) < fuel → length around.core_types ≤ 2 ^ 63
+      → AreReadableModuleDecls [] ds → core_size (core_module ds) < fuel → length around.core_types ≤ 2 ^ 63
       → let x = fronted ds in Along (IsSayable config around) (with_decl around.core_types) (front_state fuel x.memory x.reallocs x.frees) (after_front ds)
   behind_sayable fuel ds formed limits texts lasts few =
       let x = fronted ds in
@@ -50,9 +54,9 @@ module _ (config : Config) (around : Scope) where
       let small : length ds + length around.core_types ≤ 2 ^ 64 = omega (arith, long, front_few x.memory x.reallocs x.frees, limits.declarations, few) in
       let behind : FormedDecls around.core_types start.own more =
       (front_formed around.core_types x.memory x.reallocs x.frees more (subst (FormedDecls around.core_types []) whole formed.0)).1 in
-      let readable : AllByRecursion HasReadableText more =
-      all_back HasReadableText (front_decls x.memory x.reallocs x.frees) more (subst (AllByRecursion HasReadableText) whole texts) in
-      decls_sayable config around ds formed.1 limits small start more whole (front_types x.memory x.reallocs x.frees) behind readable lasts
+      let readable : AreReadableModuleDecls start.decls more =
+      readable_back [] (front_decls x.memory x.reallocs x.frees) more (subst (AreReadableModuleDecls []) whole texts) in
+      decls_sayable config around ds limits small start more whole (front_types x.memory x.reallocs x.frees) behind readable lasts
 
   -- the state behind it
   pub begun : (fuel : ℕ) (ds : List ModuleDecl) → let x = fronted ds in
@@ -61,7 +65,7 @@ module _ (config : Config) (around : Scope) where
 
   -- a module type with so much fuel left for its declarations
   declared_read : (fuel : ℕ) (ds : List ModuleDecl) (rest : List ℕ) → FormedCore (core_module ds) around.core_types → ModuleLimits config ds
-      → AllByRecursion HasReadableText ds → core_size (core_module ds) < fuel → length around.core_types ≤ 2 ^ 63
+      → AreReadableModuleDecls [] ds → core_size (core_module ds) < fuel → length around.core_types ≤ 2 ^ 63
       → MadeModule config around (script_module config around fuel ds ++ rest) fuel ds rest (fuel - core_size (core_module ds))
   declared_read fuel ds rest formed limits texts lasts few =
       let x = fronted ds in
@@ -100,7 +104,7 @@ module _ (config : Config) (around : Scope) where
   nothing fuel (d ∷ ds) need none = absurd (omega (arith, need, none))
 
   module_read : (fuel : ℕ) (ds : List ModuleDecl) (rest : List ℕ) → FormedCore (core_module ds) around.core_types → ModuleLimits config ds
-      → AllByRecursion HasReadableText ds → core_need (core_module ds) ≤ fuel → length around.core_types ≤ 2 ^ 63 → (b : Bool) → nat_le 2 fuel ≡ b
+      → AreReadableModuleDecls [] ds → core_need (core_module ds) ≤ fuel → length around.core_types ≤ 2 ^ 63 → (b : Bool) → nat_le 2 fuel ≡ b
       → MadeCore config around ((if b then pick 2 1 ++ script_module config around (fuel - 1) ds else []) ++ rest) fuel (core_module ds) rest
       (fuel - core_cost (core_module ds))
   module_read fuel ds rest formed limits texts need few true e =
@@ -117,7 +121,7 @@ module _ (config : Config) (around : Scope) where
       spent_core (omega (arith, none)) (ap core_module (nothing fuel ds need none)) (omega (arith, none))
 
   -- A core type that is well formed and within the limits, whose names can be read and for which the fuel lasts.
-  pub core_read : (fuel : ℕ) (e : CoreEntry) (rest : List ℕ) → FormedCore e around.core_types → CoreLimits config e → HasReadableTexts e → core_need e ≤ fuel
+  pub core_read : (fuel : ℕ) (e : CoreEntry) (rest : List ℕ) → FormedCore e around.core_types → CoreLimits config e → IsReadableCore e → core_need e ≤ fuel
       → length around.core_types ≤ 2 ^ 63 → MadeCore config around (script_core config around fuel e ++ rest) fuel e rest (fuel - core_cost e)
   core_read fuel (core_func f) rest formed limits texts need few = core_type_read config around fuel f rest need limits
   core_read fuel (core_module ds) rest formed limits texts need few = module_read fuel ds rest formed limits texts need few (nat_le 2 fuel) refl

@@ -9,6 +9,7 @@ use Rattle.smith_input.specs.Script.{pick}
 use Rattle.smith_input.proofs.Picks.{reads-pick}
 use Rattle.smith_format.specs.CoreFormed.{FormedMemory}
 use Rattle.smith_format.specs.CoreReading.{ReadsMemory}
+use Rattle.smith_format.specs.CoreScript.{script_limits}
 use Rattle.smith_format.specs.CoreTypes.{Function}
 use Rattle.smith_format.specs.declared.config.Config.{Config}
 use Rattle.smith_format.specs.declared.types.EntityType.TheVariants.{Func, Memory}
@@ -20,7 +21,7 @@ use Rattle.smith_syntax.specs.ModuleTypes.{realloc, type_count}
 use Rattle.smith_syntax.specs.WellFormed.{FormedDecls}
 use Rattle.smith_core_types.specs.MadeCore.{FunctionLine, MemoryLine, ReadsFront, ReadsFunctionLine, ReadsLine, declined, not_allowed, taken}
 use Rattle.smith_core_types.specs.Offers.{Declared, undeclared, with_front}
-use Rattle.smith_core_types.specs.ModuleScript.{front_before, in_front, may_declare, script_asked, script_front, script_limits, script_line}
+use Rattle.smith_core_types.specs.ModuleScript.{front_before, in_front, may_declare, script_asked, script_front, script_line}
 use Rattle.smith_core_types.proofs.FrontFound.{Fronted, first_line, first_lines, free_same, function_decls, realloc_same, whole_front}
 use Rattle.smith_core_types.proofs.ModuleFronts.{front_decls, front_own, front_state, memory_decls}
 use Rattle.smith_core_types.proofs.ModuleScript.{below, both_hold, limits_read}

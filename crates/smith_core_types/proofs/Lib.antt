@@ -10,6 +10,6 @@ pub mod ModuleSaid
 pub mod FrontFound
 pub mod FrontScript
 pub mod CoreScript
-pub mod MadeNames
+pub mod Readable
 pub mod Needs
 pub mod ScriptBytes

@@ -6,10 +6,11 @@ use Rattle.std.proofs.lemmas.Bool.Decides.{nat_tests, Decides-eqb}
 use Rattle.std.proofs.lemmas.Option.{slice_get_within}
 use Rattle.std.specs.Prelude.{Option, IfSome, slice_get, if◌then◌else◌}
 use denote.Enum.Bare.{same_true, true_same}
-use Rattle.smith_input.specs.NewNames.{is_among}
+use Rattle.smith_input.specs.NameScript.{script_new_text}
 use Rattle.smith_input.specs.Reading.{Flips}
 use Rattle.smith_input.specs.Script.{pick, rank_of, script_among, script_text}
 use Rattle.smith_input.proofs.Choices.{among_read, among_written, rank_found}
+use Rattle.smith_input.proofs.NameScript.{new_text_read}
 use Rattle.smith_input.proofs.Offered.{offers_few, offers_found}
 use Rattle.smith_input.proofs.Picks.{reads-pick}
 use Rattle.smith_input.proofs.Reading.{flips_one, flips_zero}
@@ -17,6 +18,7 @@ use Rattle.smith_input.proofs.ReadsTexts.{text_read}
 use Rattle.smith_format.specs.CoreFormed.{FormedLimits}
 use Rattle.smith_format.specs.CoreReading.{ReadsBetween, ReadsMaximum, unbounded, bounded, ReadsLimits, ReadsElement, only_functions, either, ReadsTable}
 use Rattle.smith_format.specs.CoreScript as core
+use Rattle.smith_format.specs.CoreScript.{script_between, script_limits, script_maximum}
 use Rattle.smith_format.specs.CoreTypes.{Function}
 use Rattle.smith_format.specs.Entities.{kind_of}
 use Rattle.smith_format.specs.Equality.{same_val}
@@ -41,16 +43,16 @@ use Rattle.smith_scopes.proofs.Stack.{length-places}
 use Rattle.smith_core_types.specs.MadeCore.{ReadsDecl, ReadsDeclOf, ReadsEntity, ReadsEntityOf, ReadsNewText}
 use Rattle.smith_core_types.specs.Offers.{Declared, alias_choices}
 use Rattle.smith_core_types.specs.Offers.{entity_kinds, indexes, item_offers, kind_offers, module_items, with_decl}
-use Rattle.smith_core_types.specs.ModuleScript.{alias_place, script_between, script_bit, script_decl, script_element, script_entity, script_entity_of}
-use Rattle.smith_core_types.specs.ModuleScript.{script_item, script_limits, script_maximum}
-use Rattle.smith_core_types.specs.Texts.{HasReadableText, IsReadableText}
+use Rattle.smith_core_types.specs.ModuleScript.{alias_place, script_bit, script_decl, script_element, script_entity, script_entity_of}
+use Rattle.smith_core_types.specs.ModuleScript.{script_item}
+use Rattle.smith_core_types.specs.Readable.{IsReadableModuleDecl, IsReadableNewText}
 use Rattle.smith_core_types.specs.contracts.module_types.ModuleItem.{the_type as item_type}
 use Rattle.smith_core_types.specs.contracts.module_types.ModuleItemPartialEq.TheImpl.{ghosts as items}
 use Rattle.smith_core_types.specs.declared.module_types.ModuleItem.{ModuleItem}
 use Rattle.smith_core_types.specs.declared.module_types.ModuleItem.TheVariants as item
 use Rattle.smith_core_types.proofs.MadeCore.{few_values}
 use Rattle.smith_core_types.proofs.MakingCore.{choice_around, choice_own, choices_count, length-indexes, own_at}
-use Rattle.smith_core_types.proofs.ModuleTypes.{DeclFits, EntityFits, HasNewName}
+use Rattle.smith_core_types.proofs.ModuleTypes.{DeclFits, EntityFits}
 
 kind_Decides : (a b : ExportKind) → Decides (kinds.eq a b) (a ≡ b)
 kind_Decides a b = (same_true kind_type tt a b, true_same kind_type a b)
@@ -75,8 +77,7 @@ pub record IsSayable (config : Config) (around : Scope) (s : Declared) (d : Modu
   pub few : length s.own + length around.core_types ≤ 2 ^ 64
   pub fits : DeclFits config around.core_types s.own s.decls d
   pub formed : FormedDecl around.core_types s.own d
-  pub new : HasNewName s.decls d
-  pub text : HasReadableText d
+  pub text : IsReadableModuleDecl s.decls d
 
 -- limits
 
@@ -188,13 +189,11 @@ module _ (config : Config) (s : Declared) (few : length s.own ≤ 2 ^ 64) where
 
 -- texts
 
-new_text_read : (names : List (List ℕ)) (name rest : List ℕ) → IsReadableText name → is_among names name ≡ false
-    → ReadsNewText names (script_text 100 name ++ rest) name rest
-new_text_read names name rest (u, l) new = record {
-  text = name;
-  reads = text_read 100 name rest (omega arith) u l;
-  unique = record { times = 0; name_is = refl; taken = λ m b. absurd (omega (arith, b)); is_new = new };
-}
+new_read : (names : List (List ℕ)) (name rest : List ℕ) → IsReadableNewText names name
+    → ReadsNewText names (script_new_text 100 (length names) name ++ rest) name rest
+new_read names name rest (u, made) =
+    let r = new_text_read 100 names name rest (omega arith) u made in
+    record { text = r.text; reads = r.reads; unique = r.unique }
 
 -- outer aliases
 
@@ -237,20 +236,20 @@ module _ (config : Config) (around : Scope) where
       → ReadsDecl config around s (script_decl config around s d ++ rest) d rest (with_decl around.core_types s d)
   decl_read s (imports from name e) rest h =
       let a : List ℕ = script_text 100 from in
-      let b : List ℕ = script_text 100 name in
+      let b : List ℕ = script_new_text 100 (length (names_from from s.decls)) name in
       let c : List ℕ = script_entity config s e in
       let P : List ℕ → Type 0 = λ z. ReadsDeclOf config around s item.Import z (imports from name e) rest in
       let whole : (a ++ (b ++ c)) ++ rest ≡ a ++ (b ++ (c ++ rest)) = append_assoc a (b ++ c) rest ∙ ap (λ z. a ++ z) (append_assoc b c rest) in
       let module_name = text_read 100 from (b ++ (c ++ rest)) (omega arith) h.text.0.0 h.text.0.1 in
-      let new = new_text_read (names_from from s.decls) name (c ++ rest) h.text.1 h.new in
+      let new = new_read (names_from from s.decls) name (c ++ rest) h.text.1 in
       let entity = entity_read config s (omega (arith, h.few)) e rest (h.fits, h.formed) in
       says s (imports from name e) item.Import 0 true (a ++ (b ++ c)) rest h.lasts refl refl
       (subst P (sym whole) (from, name, c ++ rest, (b ++ (c ++ rest), module_name, new), e, entity, refl))
   decl_read s (exports name e) rest h =
-      let b : List ℕ = script_text 100 name in
+      let b : List ℕ = script_new_text 100 (length (export_names s.decls)) name in
       let c : List ℕ = script_entity config s e in
       let P : List ℕ → Type 0 = λ z. ReadsDeclOf config around s item.Export z (exports name e) rest in
-      let new = new_text_read (export_names s.decls) name (c ++ rest) h.text h.new in
+      let new = new_read (export_names s.decls) name (c ++ rest) h.text in
       let entity = entity_read config s (omega (arith, h.few)) e rest (h.fits, h.formed) in
       says s (exports name e) item.Export 1 true (b ++ c) rest h.lasts refl refl
       (subst P (sym (append_assoc b c rest)) (name, c ++ rest, new, e, entity, refl))

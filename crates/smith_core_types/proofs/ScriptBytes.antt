@@ -6,12 +6,14 @@ use Rattle.std.proofs.lemmas.Option.{slice_get_within}
 use Rattle.std.specs.List.{AllByRecursion}
 use Rattle.std.specs.Prelude.{IfSome, codes, slice_get}
 use Rattle.smith_input.specs.Loops.{Along}
+use Rattle.smith_input.specs.NameScript.{script_new_text}
 use Rattle.smith_input.specs.Script.{pick, script_among, script_loop}
 use Rattle.smith_input.proofs.Offered.{offers_few}
 use Rattle.smith_input.proofs.ScriptBytes.{Small, small_byte, small_few, small_found, small_if, small_join, small_loop, small_more, small_none, small_pick}
-use Rattle.smith_input.proofs.ScriptBytes.{small_text, small_turns}
+use Rattle.smith_input.proofs.ScriptBytes.{small_new_text, small_text, small_turns}
+use Rattle.smith_input.proofs.Utf8Bytes.{utf8_bytes}
 use Rattle.smith_format.specs.CoreFormed.{FormedLimits, FormedMemory}
-use Rattle.smith_format.specs.CoreScript.{script_function, script_values}
+use Rattle.smith_format.specs.CoreScript.{script_between, script_function, script_limits, script_maximum, script_values}
 use Rattle.smith_format.specs.CoreTypes.{Function}
 use Rattle.smith_format.specs.Entities.{kind_of}
 use Rattle.smith_format.specs.Equality.{same_val}
@@ -26,17 +28,17 @@ use Rattle.smith_format.specs.declared.types.RefType.TheVariants.{FuncRef, Exter
 use Rattle.smith_format.specs.declared.types.ValType.{ValType}
 use Rattle.smith_syntax.specs.CoreLimits.{CoreLimits, ModuleLimits}
 use Rattle.smith_syntax.specs.Entries.{CoreEntry, ModuleDecl, core_func, core_module, imports, declares, aliases, exports}
-use Rattle.smith_syntax.specs.ModuleTypes.{after_front, free, is_tag_type, realloc}
+use Rattle.smith_syntax.specs.ModuleTypes.{after_front, export_names, free, is_tag_type, names_from, realloc}
 use Rattle.smith_syntax.specs.Scope.{Scope, is_core_func, places}
 use Rattle.smith_syntax.specs.WellFormed.{FormedCore, FormedDecls, FormedEntity, core_size}
 use Rattle.smith_scopes.proofs.Places.{place_found}
 use Rattle.smith_scopes.proofs.Stack.{length-places}
-use Rattle.smith_core_types.specs.ModuleScript.{alias_place, front_before, may_declare, script_between, script_bit, script_decl, script_entity}
-use Rattle.smith_core_types.specs.ModuleScript.{script_entity_of, script_front, script_item, script_limits, script_line, script_maximum, script_module}
+use Rattle.smith_core_types.specs.ModuleScript.{alias_place, front_before, may_declare, script_bit, script_decl, script_entity}
+use Rattle.smith_core_types.specs.ModuleScript.{script_entity_of, script_front, script_item, script_line, script_module}
 use Rattle.smith_core_types.specs.Needs.{core_need}
 use Rattle.smith_core_types.specs.Offers.{Declared, alias_choices, entity_kinds, item_offers, kind_offers, module_items, with_decl}
 use Rattle.smith_core_types.specs.Script.{script_core}
-use Rattle.smith_core_types.specs.Texts.{HasReadableText, HasReadableTexts}
+use Rattle.smith_core_types.specs.Readable.{AreReadableModuleDecls, IsReadableCore, IsReadableNewText}
 use Rattle.smith_core_types.specs.contracts.module_types.ModuleItemPartialEq.TheImpl.{ghosts as items}
 use Rattle.smith_core_types.specs.declared.module_types.ModuleItem.{ModuleItem}
 use Rattle.smith_core_types.specs.declared.module_types.ModuleItem.TheVariants as item
@@ -114,6 +116,9 @@ module _ (config : Config) (s : Declared) (few : length s.own ≤ 2 ^ 64) where
 
 -- Declarations.
 
+small_name : (names : List (List ℕ)) (name : List ℕ) → IsReadableNewText names name → Small (script_new_text 100 (length names) name)
+small_name names name (u, made) = small_new_text 100 names name (omega arith) (utf8_bytes name u) made
+
 module _ (config : Config) (around : Scope) where
   small_item : (s : Declared) (i : ModuleItem) → Small (script_item config around s i)
   small_item s i =
@@ -124,10 +129,10 @@ module _ (config : Config) (around : Scope) where
   small_decl s (imports from name e) h =
       small_join (small_item s item.Import)
       (small_join (small_text 100 from (omega arith) h.text.0.0 h.text.0.1)
-      (small_join (small_text 100 name (omega arith) h.text.1.0 h.text.1.1) (small_entity config s (let few = h.few in omega (arith, few)) e h.formed)))
+      (small_join (small_name (names_from from s.decls) name h.text.1) (small_entity config s (let few = h.few in omega (arith, few)) e h.formed)))
   small_decl s (exports name e) h =
       small_join (small_item s item.Export)
-      (small_join (small_text 100 name (omega arith) h.text.0 h.text.1) (small_entity config s (let few = h.few in omega (arith, few)) e h.formed))
+      (small_join (small_name (export_names s.decls) name h.text) (small_entity config s (let few = h.few in omega (arith, few)) e h.formed))
   small_decl s (declares f) h = small_join (small_item s item.Type) (small_function config f)
   small_decl s (aliases count i) h =
       let cs : List (ℕ × ℕ) = alias_choices around s in
@@ -176,7 +181,7 @@ memory_limits (Some m) f = f.limits
 -- Core types.
 module _ (config : Config) (around : Scope) where
   small_module : (fuel : ℕ) (ds : List ModuleDecl) → FormedCore (core_module ds) around.core_types → ModuleLimits config ds
-      → AllByRecursion HasReadableText ds → core_size (core_module ds) < fuel → length around.core_types ≤ 2 ^ 63
+      → AreReadableModuleDecls [] ds → core_size (core_module ds) < fuel → length around.core_types ≤ 2 ^ 63
       → Small (script_module config around fuel ds)
   small_module fuel ds formed limits texts lasts few =
       let x = fronted ds in
@@ -189,7 +194,7 @@ module _ (config : Config) (around : Scope) where
       (behind_sayable config around fuel ds formed limits texts lasts few)))
 
   small_lasting : (fuel : ℕ) (ds : List ModuleDecl) → FormedCore (core_module ds) around.core_types → ModuleLimits config ds
-      → AllByRecursion HasReadableText ds → core_need (core_module ds) ≤ fuel → length around.core_types ≤ 2 ^ 63 → (b : Bool) → nat_le 2 fuel ≡ b
+      → AreReadableModuleDecls [] ds → core_need (core_module ds) ≤ fuel → length around.core_types ≤ 2 ^ 63 → (b : Bool) → nat_le 2 fuel ≡ b
       → Small (if b then pick 2 1 ++ script_module config around (fuel - 1) ds else [])
   small_lasting fuel ds formed limits texts need few true e =
       let some : 2 ≤ fuel = grind (arith, nat_tests) in
@@ -198,7 +203,7 @@ module _ (config : Config) (around : Scope) where
   small_lasting fuel ds formed limits texts need few false e = small_none
 
   -- The script of a core type that is well formed and within the limits, whose names can be read and for which the fuel lasts.
-  pub small_core : (fuel : ℕ) (e : CoreEntry) → FormedCore e around.core_types → CoreLimits config e → HasReadableTexts e → core_need e ≤ fuel
+  pub small_core : (fuel : ℕ) (e : CoreEntry) → FormedCore e around.core_types → CoreLimits config e → IsReadableCore e → core_need e ≤ fuel
       → length around.core_types ≤ 2 ^ 63 → Small (script_core config around fuel e)
   small_core fuel (core_func f) formed limits texts need few = small_join (small_byte 2 0 (omega arith) (omega arith)) (small_function config f)
   small_core fuel (core_module ds) formed limits texts need few = small_lasting fuel ds formed limits texts need few (nat_le 2 fuel) refl

@@ -1,6 +1,6 @@
 -- The input that a module type is read from: what a script says of it. What the canonical ABI asks in front is taken where the
 -- declarations begin with it, since that takes no fuel.
-use Rattle.std.specs.Prelude.{ℕ, zero, suc, ◌+◌, ◌-◌, Bool, ◌&&◌, List, [], ◌∷◌, ◌++◌, length, take, nat_eq, nat_lt, Option, Some, None, if◌then◌else◌}
+use Rattle.std.specs.Prelude.{ℕ, zero, suc, ◌+◌, ◌-◌, Bool, ◌&&◌, List, [], ◌∷◌, ◌++◌, length, take, nat_eq, nat_lt, if◌then◌else◌}
 use Rattle.std.specs.List.{flat_map}
 use Rattle.smith_input.specs.NameScript.{script_new_text}
 use Rattle.smith_input.specs.Script.{pick, rank_of, script_among, script_loop, script_text}

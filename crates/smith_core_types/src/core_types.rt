@@ -9,7 +9,7 @@ ghost use Rattle.smith_core_types.specs.Script.{script_core};
 ghost use Rattle.smith_core_types.specs.MadeCore.{MadeCore};
 ghost use Rattle.smith_core_types.specs.MakingCore.{KeepsAliased};
 ghost use Rattle.smith_core_types.specs.Needs.{core_need};
-ghost use Rattle.smith_core_types.specs.Texts.{HasReadableTexts};
+ghost use Rattle.smith_core_types.specs.Readable.{IsReadableCore};
 ghost use Rattle.smith_scopes.specs.Scopes.{own_scope};
 ghost use Rattle.smith_syntax.specs.Shown.{shown_core, shown_shared_core};
 ghost use Rattle.smith_syntax.specs.WellFormed.{FormedCore, core_size};
@@ -74,7 +74,7 @@ pub fn arbitrary_core_type(
     ensures size { IfOk result (λ t. core_size (shown_shared_core t) + fuel.new ≤ fuel.old) }
     // The script of a core type whose names can be read and for which the fuel lasts gives that type.
     ensures script { (e : CoreEntry) (rest : List ℕ) → FormedCore e (own_scope scopes.now).core_types
-        → CoreLimits config.now e → HasReadableTexts e → core_need e ≤ fuel.old
+        → CoreLimits config.now e → IsReadableCore e → core_need e ≤ fuel.old
         → length (own_scope scopes.now).core_types ≤ 2 ^ 63
         → u.old ≡ script_core config.now (own_scope scopes.now) fuel.old e ++ rest
         → IfOk result (λ t. (shown_shared_core t ≡ e) × (u.new ≡ rest)) }

@@ -1,6 +1,6 @@
 //! Laws of how core types are read. Each function does nothing: its contract is the law.
 
-ghost use Rattle.std.specs.Prelude.{◌≤◌, ◌-◌, ◌^◌, ℕ, List, length};
+ghost use Rattle.std.specs.Prelude.{◌≤◌, ◌-◌, ◌^◌, ◌↔◌, ℕ, List, length};
 ghost use Rattle.smith_format.specs.declared.config.Config.{Config};
 ghost use Rattle.smith_input.specs.Reading.{IsDecided, IsReadAs};
 ghost use Rattle.smith_input.specs.Script.{AreBytes};
@@ -9,10 +9,9 @@ ghost use Rattle.smith_syntax.specs.Entries.{CoreEntry};
 ghost use Rattle.smith_syntax.specs.Scope.{Scope};
 ghost use Rattle.smith_syntax.specs.WellFormed.{FormedCore};
 ghost use Rattle.smith_core_types.specs.MadeCore.{MadeCore};
-ghost use Rattle.smith_core_types.specs.MadeNames.{HasMadeNames};
 ghost use Rattle.smith_core_types.specs.Needs.{core_cost, core_need};
+ghost use Rattle.smith_core_types.specs.Readable.{IsReadableCore};
 ghost use Rattle.smith_core_types.specs.Script.{script_core};
-ghost use Rattle.smith_core_types.specs.Texts.{HasReadableTexts};
 
 /// The scopes, the bytes and the fuel alone decide which core type is made, and what is left of both.
 pub fn core_types_are_decided()
@@ -24,24 +23,32 @@ pub fn core_types_are_decided()
 /// which the fuel lasts, is read as that type.
 pub fn core_scripts_are_read()
     ensures { (config : Config) (around : Scope) (fuel : ℕ) (e : CoreEntry)
-        → FormedCore e around.core_types → CoreLimits config e → HasReadableTexts e → core_need e ≤ fuel
+        → FormedCore e around.core_types → CoreLimits config e → IsReadableCore e → core_need e ≤ fuel
         → length around.core_types ≤ 2 ^ 63
         → IsReadAs (λ bytes made rest. MadeCore config around bytes fuel made rest (fuel - core_cost e))
         (script_core config around fuel e) e }
 {}
 
 /// A core type that is made, on any input, is well formed in its scope, within the limits and its fuel, and its names
-/// are texts that can be read, made new among those before them.
+/// can be read.
 pub fn made_core_types_are_readable()
     ensures { (config : Config) (around : Scope) (bytes : List ℕ) (fuel : ℕ) (e : CoreEntry) (rest : List ℕ) (left : ℕ)
         → MadeCore config around bytes fuel e rest left
-        → FormedCore e around.core_types × CoreLimits config e × HasMadeNames e × (core_need e ≤ fuel)
+        → FormedCore e around.core_types × CoreLimits config e × IsReadableCore e × (core_need e ≤ fuel)
         × (left ≤ fuel - core_cost e) }
 {}
 
 /// The script of such a core type is bytes.
 pub fn core_scripts_are_bytes()
     ensures { (config : Config) (around : Scope) (fuel : ℕ) (e : CoreEntry)
-        → FormedCore e around.core_types → CoreLimits config e → HasReadableTexts e → core_need e ≤ fuel
+        → FormedCore e around.core_types → CoreLimits config e → IsReadableCore e → core_need e ≤ fuel
         → length around.core_types ≤ 2 ^ 63 → AreBytes (script_core config around fuel e) }
+{}
+
+/// Exactly those core types are read, on some input, that are well formed in their scope and within the limits, whose
+/// names can be read and for which there is fuel.
+pub fn core_types_are_exact()
+    ensures { (config : Config) (around : Scope) (fuel : ℕ) (e : CoreEntry) → length around.core_types ≤ 2 ^ 63
+        → ((bytes rest : List ℕ) × (left : ℕ) × MadeCore config around bytes fuel e rest left)
+        ↔ (FormedCore e around.core_types × CoreLimits config e × IsReadableCore e × (core_need e ≤ fuel)) }
 {}
