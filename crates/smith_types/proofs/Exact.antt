@@ -1,4 +1,5 @@
--- Which types are read: exactly those that are well formed and within the limits, for which there is fuel, and that nest.
+-- Which types are read: exactly those that are well formed and within the limits, whose names can be read, for which there is fuel, and
+-- that nest.
 use Rattle.std.proofs.Common.{ℕ, zero, suc, ◌+◌, ◌-◌, ◌≤◌, List, [], ◌∷◌, ◌++◌, length, arith, subst, sym}
 use Rattle.std.specs.Prelude.{max, ◌↔◌}
 use Rattle.smith_format.specs.declared.config.Config.{Config}
@@ -9,11 +10,15 @@ use Rattle.smith_syntax.specs.Entries.{Decl, Decls, core_type_decl, type_decl, t
 use Rattle.smith_syntax.specs.Scope.{Scope, empty_scope, after_decl}
 use Rattle.smith_syntax.specs.TypeLimits.{EntryLimits}
 use Rattle.smith_syntax.specs.WellFormed.{FormedDefined, FormedEntry, FormedDeclaration, FormedDeclarations}
-use Rattle.smith_types.specs.Brief.{BriefDefined, Brief, BriefDecl, BriefDecls}
 use Rattle.smith_types.specs.Made.{MadeWith}
 use Rattle.smith_types.specs.Needs.{need_of, need, decl_need, decls_need, Nests, DeclNests, DeclsNest}
 use Rattle.smith_types.specs.Needs.{decl_cost}
-use Rattle.smith_types.specs.Script.{Fit, Lasts, LastsDecl, LastsDecls, LastsDefined, script_type}
+use Rattle.smith_types.specs.Readable.{IsReadableType}
+use Rattle.smith_types.specs.Sayable.{Fit, Lasts, LastsDecl, LastsDecls, LastsDefined}
+use Rattle.smith_types.specs.Script.{script_type}
+use Rattle.smith_types.proofs.MadeFormed.{made_formed}
+use Rattle.smith_types.proofs.MadeReadable.{made_readable}
+use Rattle.smith_types.proofs.MadeTypes.{made_limits}
 use Rattle.smith_types.proofs.Needs.{made_needs}
 use Rattle.smith_types.proofs.ScopedScript.{type_read}
 
@@ -21,16 +26,16 @@ at_least : (n fuel : ℕ) → 1 ≤ n → need_of n ≤ fuel → n + 2 ≤ fuel
 at_least zero fuel h l = absurd (omega arith)
 at_least (suc n) fuel h l = l
 
-defined_lasts : (t : DefValType) (own : Scope) (fuel : ℕ) → FormedDefined t own → BriefDefined t → need (defined t) ≤ fuel → LastsDefined fuel t
-defined_lasts (primitive_type p) own fuel f b n = tt
-defined_lasts (record_type fs) own fuel f b n = (b, at_least (length fs) fuel f.2 n)
-defined_lasts (variant_type cs) own fuel f b n = (b, at_least (length cs) fuel f.2 n)
-defined_lasts (list_type v) own fuel f b n = tt
-defined_lasts (tuple_type vs) own fuel f b n = at_least (length vs) fuel f.1 n
-defined_lasts (flags_type ns) own fuel f b n = (b, at_least (length ns) fuel f.1 n)
-defined_lasts (enum_type ns) own fuel f b n = (b, at_least (length ns) fuel f.1 n)
-defined_lasts (option_type v) own fuel f b n = tt
-defined_lasts (result_type ok err) own fuel f b n = tt
+defined_lasts : (t : DefValType) (own : Scope) (fuel : ℕ) → FormedDefined t own → need (defined t) ≤ fuel → LastsDefined fuel t
+defined_lasts (primitive_type p) own fuel f n = tt
+defined_lasts (record_type fs) own fuel f n = at_least (length fs) fuel f.2 n
+defined_lasts (variant_type cs) own fuel f n = at_least (length cs) fuel f.2 n
+defined_lasts (list_type v) own fuel f n = tt
+defined_lasts (tuple_type vs) own fuel f n = at_least (length vs) fuel f.1 n
+defined_lasts (flags_type ns) own fuel f n = at_least (length ns) fuel f.1 n
+defined_lasts (enum_type ns) own fuel f n = at_least (length ns) fuel f.1 n
+defined_lasts (option_type v) own fuel f n = tt
+defined_lasts (result_type ok err) own fuel f n = tt
 
 turn : (a b c fuel : ℕ) → max 2 (max (a + 1) (b + c + 1)) ≤ fuel → (2 ≤ fuel) × (a ≤ fuel - 1) × (b ≤ fuel - 1 - c)
 turn a b c fuel h = (omega (arith, h), omega (arith, h), omega (arith, h))
@@ -39,46 +44,62 @@ scoped : (a fuel : ℕ) → max 2 (a + 1) ≤ fuel → (2 ≤ fuel) × (a ≤ fu
 scoped a fuel h = (omega (arith, h), omega (arith, h))
 
 mutual
-  pub lasts : (e : Entry) (config : Config) (own : Scope) (outer : List Scope) (scopes fuel : ℕ) → FormedEntry e own outer → Brief e → Nests e config scopes
+  pub lasts : (e : Entry) (config : Config) (own : Scope) (outer : List Scope) (scopes fuel : ℕ) → FormedEntry e own outer → Nests e config scopes
       → need e ≤ fuel → Lasts e config scopes fuel
-  lasts (defined t) config own outer scopes fuel f b x n = defined_lasts t own fuel f b n
-  lasts (function s) config own outer scopes fuel f b x n = (b, n)
-  lasts (component_type ds) config own outer scopes fuel f b x n = let p = scoped (decls_need ds) fuel n in
-      (p.0, decls_last ds config empty_scope (own ∷ outer) (suc scopes) (fuel - 1) f.0 b x p.1)
-  lasts (instance_type ds) config own outer scopes fuel f b x n = let p = scoped (decls_need ds) fuel n in
-      (p.0, decls_last ds config empty_scope (own ∷ outer) (suc scopes) (fuel - 1) f.0 b x p.1)
+  lasts (defined t) config own outer scopes fuel f x n = defined_lasts t own fuel f n
+  lasts (function s) config own outer scopes fuel f x n = n
+  lasts (component_type ds) config own outer scopes fuel f x n = let p = scoped (decls_need ds) fuel n in
+      (p.0, decls_last ds config empty_scope (own ∷ outer) (suc scopes) (fuel - 1) f.0 x p.1)
+  lasts (instance_type ds) config own outer scopes fuel f x n = let p = scoped (decls_need ds) fuel n in
+      (p.0, decls_last ds config empty_scope (own ∷ outer) (suc scopes) (fuel - 1) f.0 x p.1)
 
-  decl_lasts : (d : Decl) (config : Config) (own : Scope) (outer : List Scope) (scopes fuel : ℕ) → FormedDeclaration d own outer → BriefDecl d
+  decl_lasts : (d : Decl) (config : Config) (own : Scope) (outer : List Scope) (scopes fuel : ℕ) → FormedDeclaration d own outer
       → DeclNests d config scopes → decl_need d ≤ fuel → LastsDecl d config scopes fuel
-  decl_lasts (core_type_decl t k) config own outer scopes fuel f b x n = (n, b)
-  decl_lasts (type_decl e) config own outer scopes fuel f b x n = (x.0, lasts e config own outer scopes fuel f b x.1 n)
-  decl_lasts (type_alias count i k) config own outer scopes fuel f b x n = tt
-  decl_lasts (core_type_alias count i k) config own outer scopes fuel f b x n = tt
-  decl_lasts (import_decl name u r) config own outer scopes fuel f b x n = b
-  decl_lasts (export_decl name u r) config own outer scopes fuel f b x n = b
+  decl_lasts (core_type_decl t k) config own outer scopes fuel f x n = n
+  decl_lasts (type_decl e) config own outer scopes fuel f x n = (x.0, lasts e config own outer scopes fuel f x.1 n)
+  decl_lasts (type_alias count i k) config own outer scopes fuel f x n = tt
+  decl_lasts (core_type_alias count i k) config own outer scopes fuel f x n = tt
+  decl_lasts (import_decl name u r) config own outer scopes fuel f x n = tt
+  decl_lasts (export_decl name u r) config own outer scopes fuel f x n = tt
 
-  decls_last : (ds : Decls) (config : Config) (own : Scope) (outer : List Scope) (scopes fuel : ℕ) → FormedDeclarations ds own outer → BriefDecls ds
+  decls_last : (ds : Decls) (config : Config) (own : Scope) (outer : List Scope) (scopes fuel : ℕ) → FormedDeclarations ds own outer
       → DeclsNest ds config scopes → decls_need ds ≤ fuel → LastsDecls ds config scopes fuel
-  decls_last no_decls config own outer scopes fuel f b x n = tt
-  decls_last (then_decls d ds) config own outer scopes fuel f b x n =
+  decls_last no_decls config own outer scopes fuel f x n = tt
+  decls_last (then_decls d ds) config own outer scopes fuel f x n =
       let p = turn (decl_need d) (decls_need ds) (decl_cost d) fuel n in (
         p.0,
-        decl_lasts d config own outer scopes (fuel - 1) f.0 b.0 x.0 p.1,
-        decls_last ds config (after_decl outer own d) outer scopes (fuel - 1 - decl_cost d) f.1 b.1 x.1 p.2,
+        decl_lasts d config own outer scopes (fuel - 1) f.0 x.0 p.1,
+        decls_last ds config (after_decl outer own d) outer scopes (fuel - 1 - decl_cost d) f.1 x.1 p.2,
       )
 
-pub exact : (config : Config) (own : Scope) (outer : List Scope) (fuel : ℕ) (e : Entry) → config.max_nesting_depth ≤ 1000 → FormedEntry e own outer
-    → EntryLimits config e → Brief e → Fit (own ∷ outer) → length (own ∷ outer) ≤ 1000
-    → ((bytes rest : List ℕ) × MadeWith config own outer fuel bytes e rest) ↔ ((need e ≤ fuel) × Nests e config (length (own ∷ outer)))
-exact config own outer fuel e deep f m b fit few = (
+-- What is asked of a type that is to be read with so much fuel where these scopes stand.
+abbrev Asked : Config → Scope → List Scope → ℕ → Entry → Type 0
+Asked config own outer fuel e =
+    FormedEntry e own outer × EntryLimits config e × IsReadableType e × (need e ≤ fuel) × Nests e config (length (own ∷ outer))
+
+pub exact : (config : Config) (own : Scope) (outer : List Scope) (fuel : ℕ) (e : Entry) → config.max_nesting_depth ≤ 1000 → Fit (own ∷ outer)
+    → length (own ∷ outer) ≤ 1000 → ((bytes rest : List ℕ) × MadeWith config own outer fuel bytes e rest) ↔ Asked config own outer fuel e
+exact config own outer fuel e deep fit few = (
   λ (bytes, rest, made).
-      let r = made_needs config own outer bytes fuel made.full rest made.left made.made in
-      let P : Entry → Type 0 = λ z. (need z ≤ fuel) × Nests z config (length (own ∷ outer)) in
-      subst P (sym made.shown) (r.enough, r.nests),
-  λ (n, x). (
+      let m = made.made in
+      let r = made_needs config own outer bytes fuel made.full rest made.left m in
+      subst (Asked config own outer fuel) (sym made.shown) (
+        made_formed config own outer bytes fuel made.full rest made.left m,
+        made_limits config own outer bytes fuel made.full rest made.left m,
+        made_readable config own outer bytes fuel made.full rest made.left m,
+        r.enough,
+        r.nests,
+      ),
+  λ (f, m, names, n, x). (
     script_type e config fuel own outer ++ [],
     [],
-    type_read config deep own outer fuel e []
-        (record { formed = f; limits = m; lasts = lasts e config own outer (length (own ∷ outer)) fuel f b x n; fit = fit; shallow = few }),
+    type_read config deep own outer fuel e [] (record {
+      formed = f;
+      limits = m;
+      readable = names;
+      lasts = lasts e config own outer (length (own ∷ outer)) fuel f x n;
+      fit = fit;
+      shallow = few;
+    }),
   ),
 )

@@ -8,6 +8,7 @@ pub mod LiftingSame
 pub mod Lifting
 pub mod Made
 pub mod MadeFormed
+pub mod MadeReadable
 pub mod MadeSame
 pub mod MadeTypes
 pub mod MakingTypes

@@ -1,5 +1,5 @@
 -- The script of the signature of a lift is read as it.
-use Rattle.std.proofs.Common.{◌≡◌, ℕ, ◌≤◌, List, [], ◌∷◌, ◌++◌, map, length, arith, refl, sym, ap, ◌∙◌, subst, append_assoc, Option, None, Some, Decides}
+use Rattle.std.proofs.Common.{◌≡◌, ℕ, ◌≤◌, List, [], ◌∷◌, ◌++◌, map, length, arith, refl, sym, ap, ◌∙◌, subst, append_assoc, length-append, Option, None, Some, Decides}
 use Rattle.std.proofs.Common.{lit≤}
 use Rattle.std.specs.List.{AllByRecursion}
 use Rattle.std.specs.Option.{option_to_list}
@@ -7,9 +7,10 @@ use Rattle.std.specs.Prelude.{slice_get}
 use denote.Enum.Bare.{same_true, true_same}
 use Rattle.smith_input.specs.Choices.{ReadsAmong}
 use Rattle.smith_input.specs.Kebab.{Kebab}
-use Rattle.smith_input.specs.Script.{script_among, script_name}
+use Rattle.smith_input.specs.NameScript.{AreReachable}
+use Rattle.smith_input.specs.Script.{script_among}
 use Rattle.smith_input.proofs.Choices.{among_read}
-use Rattle.smith_input.proofs.NewNames.{new_read}
+use Rattle.smith_input.proofs.NameScript.{new_script_read}
 use Rattle.smith_format.specs.CoreTypes.{Function}
 use Rattle.smith_format.specs.declared.types.ValType.{ValType}
 use Rattle.smith_format.specs.declared.types.ValType.TheVariants.{I32, I64, F32, F64, V128, Ref}
@@ -22,11 +23,11 @@ use Rattle.smith_syntax.specs.declared.types.ComponentValType.{ComponentValType}
 use Rattle.smith_syntax.specs.declared.types.ComponentValType.TheVariants.{Primitive, Indexed}
 use Rattle.smith_syntax.specs.declared.types.PrimitiveValType.{PrimitiveValType}
 use Rattle.smith_syntax.specs.declared.types.PrimitiveValType.TheVariants as prim
-use Rattle.smith_core_types.proofs.Names.{AreNew, distinct_new, none_before}
 use Rattle.smith_types.specs.Lifting.{ReadsParams, no_params, a_param, ReadsLifted}
 use Rattle.smith_types.specs.Offers.{lifted}
 use Rattle.smith_types.proofs.LiftingSame.{lifted_same}
-use Rattle.smith_types.specs.Script.{AreShort, script_scalar, script_params, script_result, script_lifted}
+use Rattle.smith_types.specs.Readable.{AreReadableNames}
+use Rattle.smith_types.specs.Script.{script_label, script_scalar, script_params, script_result, script_lifted}
 
 primitive_Decides : (a b : PrimitiveValType) → Decides (prims.eq a b) (a ≡ b)
 primitive_Decides a b = (same_true primitive_type_type tt a b, true_same primitive_type_type a b)
@@ -64,22 +65,23 @@ scalar_read prim.F64 v rest e = scalar_in F64 prim.F64 0 v rest refl e
 scalar_read prim.String v rest e = absurd (cc)
 
 params_read : (ns : List (List ℕ)) (vs : List ValType) (fs : List Field) (rest : List ℕ) → map (λ p. flat_value p.1) fs ≡ map Some vs
-    → AllByRecursion Kebab (map (λ p. p.0) fs) → AreNew ns (map (λ p. p.0) fs) → AreShort (map (λ p. p.0) fs)
-    → ReadsParams ns vs (script_params fs ++ rest) fs rest
-params_read ns [] [] rest e k n h = no_params
-params_read ns [] (f ∷ fs) rest e k n h = absurd (cc)
-params_read ns (v ∷ vs) [] rest e k n h = absurd (cc)
-params_read ns (v ∷ vs) ((name, Indexed i) ∷ fs) rest e k n h = absurd (cc)
-params_read ns (v ∷ vs) ((name, Primitive p) ∷ fs) rest e k n h =
-    let a : List ℕ = script_name 100 name in
+    → AllByRecursion Kebab (map (λ p. p.0) fs) → AreReachable 100 ns (map (λ p. p.0) fs)
+    → ReadsParams ns vs (script_params (length ns) fs ++ rest) fs rest
+params_read ns [] [] rest e k r = no_params
+params_read ns [] (f ∷ fs) rest e k r = absurd (cc)
+params_read ns (v ∷ vs) [] rest e k r = absurd (cc)
+params_read ns (v ∷ vs) ((name, Indexed i) ∷ fs) rest e k r = absurd (cc)
+params_read ns (v ∷ vs) ((name, Primitive p) ∷ fs) rest e k r =
+    let a : List ℕ = script_label (length ns) name in
     let b : List ℕ = script_scalar (Primitive p) in
-    let c : List ℕ = script_params fs in
+    let c : List ℕ = script_params (length ns + 1) fs in
     let first : flat_primitive p ≡ Some v = cc in
     let more : map (λ (q : Field). flat_value q.1) fs ≡ map Some vs = cc in
     let whole : (a ++ (b ++ c)) ++ rest ≡ a ++ (b ++ (c ++ rest)) = append_assoc a (b ++ c) rest ∙ ap (λ z. a ++ z) (append_assoc b c rest) in
+    let C : ℕ → Type 0 = λ count. ReadsParams (ns ++ name ∷ []) vs (script_params count fs ++ rest) fs rest in
+    let later = subst C (length-append ns (name ∷ [])) (params_read (ns ++ name ∷ []) vs fs rest more k.1 r.1) in
     subst (λ z. ReadsParams ns (v ∷ vs) z ((name, Primitive p) ∷ fs) rest) (sym whole)
-    (a_param (new_read 100 ns name (b ++ (c ++ rest)) (omega arith) k.0 h.0 n.0) (scalar_read p v (c ++ rest) first)
-    (params_read (ns ++ name ∷ []) vs fs rest more k.1 n.1 h.1))
+    (a_param (new_script_read 100 ns name (b ++ (c ++ rest)) (omega arith) k.0 r.0) (scalar_read p v (c ++ rest) first) later)
 
 -- the one result
 record ReadsResult (o : Option ComponentValType) (vs : List ValType) (rest : List ℕ) : Type 0 where
@@ -99,16 +101,15 @@ result_read (Some (Primitive p)) (v ∷ []) rest e one =
     let first : flat_primitive p ≡ Some v = cc in
     record { value = v; primitive = p; only = refl; reads = scalar_read p v rest first; is = refl }
 
-pub lifted_read : (core : Function) (s : Signature) (rest : List ℕ) → Flattens s core → Named (map (λ p. p.0) s.params) → AreShort (map (λ p. p.0) s.params)
-    → ReadsLifted core (script_lifted s ++ rest) s rest
-lifted_read core s rest flat named short =
+pub lifted_read : (core : Function) (s : Signature) (rest : List ℕ) → Flattens s core → Named (map (λ p. p.0) s.params)
+    → AreReadableNames (map (λ p. p.0) s.params) → ReadsLifted core (script_lifted s ++ rest) s rest
+lifted_read core s rest flat named readable =
     let r = result_read s.result core.1 rest flat.result flat.one in
-    let new : AreNew [] (map (λ p. p.0) s.params) = distinct_new [] _ (none_before _) named.1 in
-    subst (λ z. ReadsLifted core z s rest) (sym (append_assoc (script_params s.params) (script_result s.result) rest)) (record {
+    subst (λ z. ReadsLifted core z s rest) (sym (append_assoc (script_params 0 s.params) (script_result s.result) rest)) (record {
       mid = script_result s.result ++ rest;
       core_result = r.value;
       primitive = r.primitive;
-      params = params_read [] core.0 s.params (script_result s.result ++ rest) flat.params named.0 new short;
+      params = params_read [] core.0 s.params (script_result s.result ++ rest) flat.params named.0 readable;
       only = r.only;
       result = r.reads;
       is = r.is;
@@ -116,6 +117,6 @@ lifted_read core s rest flat named short =
 
 -- What a script says is read as it, and as nothing else.
 pub lifted_scripted : (core : Function) (s t : Signature) (bytes rest left : List ℕ) → Flattens s core → Named (map (λ p. p.0) s.params)
-    → AreShort (map (λ p. p.0) s.params) → bytes ≡ script_lifted s ++ rest → ReadsLifted core bytes t left → (t ≡ s) × (left ≡ rest)
-lifted_scripted core s t bytes rest left flat named short begins reads =
-    lifted_same (subst (λ z. ReadsLifted core z t left) begins reads) (lifted_read core s rest flat named short)
+    → AreReadableNames (map (λ p. p.0) s.params) → bytes ≡ script_lifted s ++ rest → ReadsLifted core bytes t left → (t ≡ s) × (left ≡ rest)
+lifted_scripted core s t bytes rest left flat named readable begins reads =
+    lifted_same (subst (λ z. ReadsLifted core z t left) begins reads) (lifted_read core s rest flat named readable)

@@ -54,7 +54,7 @@ module _ {N K : Type 0} where
   after_plain outer own (import_decl name n r) = refl
   after_plain outer own (export_decl name n r) = refl
 
-  import_plain : (d : DeclOf N K) → names (import_of (plain_decl d)) ≡ names (import_of d)
+  pub import_plain : (d : DeclOf N K) → names (import_of (plain_decl d)) ≡ names (import_of d)
   import_plain (core_type_decl t k) = refl
   import_plain (type_decl e) = refl
   import_plain (type_alias count i k) = refl
@@ -62,7 +62,7 @@ module _ {N K : Type 0} where
   import_plain (import_decl name n r) = refl
   import_plain (export_decl name n r) = refl
 
-  export_plain : (d : DeclOf N K) → names (export_of (plain_decl d)) ≡ names (export_of d)
+  pub export_plain : (d : DeclOf N K) → names (export_of (plain_decl d)) ≡ names (export_of d)
   export_plain (core_type_decl t k) = refl
   export_plain (type_decl e) = refl
   export_plain (type_alias count i k) = refl

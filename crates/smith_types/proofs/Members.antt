@@ -9,17 +9,19 @@ use Rattle.smith_input.specs.Loops.{Loop, after_all, Along}
 use Rattle.smith_input.specs.Script.{script_more, script_loop}
 use Rattle.smith_input.specs.Kebab.{Kebab}
 use Rattle.smith_input.specs.Names.{ReadsNew}
-use Rattle.smith_input.specs.NewNames.{is_among}
+use Rattle.smith_input.specs.NameScript.{AreReachable, IsReachable}
 use Rattle.smith_input.specs.Reading.{IsTail}
 use Rattle.smith_input.proofs.Loops.{loop_tail, loop_gives, loop_all, loop_few, loop_same, loop_read}
-use Rattle.smith_input.proofs.NewNames.{new_tail, new_unique, new_kebab, new_read}
+use Rattle.smith_input.proofs.NameScript.{new_reachable, new_script_read}
+use Rattle.smith_input.proofs.NewNames.{new_tail, new_unique, new_kebab}
 use Rattle.smith_input.proofs.Reading.{tail_trans, tail_is}
 use Rattle.smith_types.specs.Made.{IsSpent, ReadsMember, ReadsMembers, ReadsNamed}
-use Rattle.smith_types.specs.Script.{script_members, script_label, AreShort}
+use Rattle.smith_types.specs.Readable.{AreReadableNames}
+use Rattle.smith_types.specs.Script.{script_members, script_label}
 use Rattle.smith_syntax.specs.Signature.{named}
 use Rattle.smith_syntax.specs.WellFormed.{Named}
 use Rattle.smith_core_types.proofs.MadeCoreSame.{Same}
-use Rattle.smith_core_types.proofs.Names.{AreNew, new_distinct, distinct_new, none_before}
+use Rattle.smith_core_types.proofs.Names.{AreNew, new_distinct}
 
 -- tails
 
@@ -103,6 +105,25 @@ module _ {A : Type 0} {Member : List A → List ℕ → A → List ℕ → Type 
       → Named (map name xs)
   members_named b fuel xs rest left h l = (members_kebab b fuel xs rest left h l, new_distinct [] (map name xs) (members_new b fuel xs rest left l))
 
+  -- the names of members can be read, each behind those before it
+  pub members_readable : (b : List ℕ) (fuel : ℕ) (xs : List A) (rest : List ℕ) (left : ℕ) → ReadsMembers Member min max b fuel xs rest left
+      → AreReadableNames (map name xs)
+  members_readable b fuel xs rest left l =
+      loop_gives
+      (λ s ys t. AreReachable 100 (map name s.0) (map name ys))
+      (λ s. tt)
+      (λ s c r t e. tt)
+      (λ s t u c x r ys i later.
+      let more : map name t.0 ≡ map name s.0 ++ name x ∷ [] = ap (λ z. map name z.0) i.state ∙ map-append name s.0 (x ∷ []) in
+      (new_reachable (one s.0 c x r i.member).1, subst (λ ns. AreReachable 100 ns (map name ys)) more later))
+      0
+      ([], fuel)
+      b
+      xs
+      rest
+      (xs, left)
+      l
+
 pub named_name : {B : Type 0} {After : List ℕ → B → List ℕ → Type 0} → (so_far : List (List ℕ × B)) (b : List ℕ) (x : List ℕ × B) (rest : List ℕ)
     → ReadsNamed After so_far b x rest → (mid : List ℕ) × ReadsNew 100 (map (λ y. y.0) so_far) b x.0 mid
 named_name so_far b x rest r = (r.mid, r.name)
@@ -113,6 +134,10 @@ label_name so_far b x rest r = (rest, subst (λ ns. ReadsNew 100 ns b x rest) (s
 pub labels_named : {min max : ℕ} (b : List ℕ) (fuel : ℕ) (xs : List (List ℕ)) (rest : List ℕ) (left : ℕ) → max ≤ 100
     → ReadsMembers (ReadsNew 100) min max b fuel xs rest left → Named xs
 labels_named b fuel xs rest left h l = subst Named (map-id xs) (members_named (λ x. x) label_name b fuel xs rest left h l)
+
+pub labels_readable : {min max : ℕ} (b : List ℕ) (fuel : ℕ) (xs : List (List ℕ)) (rest : List ℕ) (left : ℕ)
+    → ReadsMembers (ReadsNew 100) min max b fuel xs rest left → AreReadableNames xs
+labels_readable b fuel xs rest left l = subst AreReadableNames (map-id xs) (members_readable (λ x. x) label_name b fuel xs rest left l)
 
 pub members_same : {A : Type 0} {Member : List A → List ℕ → A → List ℕ → Type 0} {min max : ℕ}
     → ((so_far : List A) (b : List ℕ) (x y : A) (r s : List ℕ) → Member so_far b x r → Member so_far b y s → (x ≡ y) × (r ≡ s))
@@ -150,12 +175,6 @@ named_same {After = After} one so_far b x y r s p q =
 
 -- scripts
 
--- A script that takes no heed of the state is the same in all of them.
-any_state : {S A : Type 0} (f : A → List ℕ) (next : S → A → S) (min max done : ℕ) (s : S) (xs : List A)
-    → script_loop (λ (u : Unit {0}) x. f x) (λ u x. u) min max done tt xs ≡ script_loop (λ t x. f x) next min max done s xs
-any_state f next min max done s [] = refl
-any_state f next min max done s (x ∷ xs) = ap (λ later. script_more min done ++ f x ++ later) (any_state f next min max (done + 1) (next s x) xs)
-
 -- each member is as it should be after those before it
 abbrev pub Ready : {A : Type 0} → (List A → A → Type 0) → List A → List A → Type 0
 Ready P so_far xs = Along P (λ ys x. ys ++ x ∷ []) so_far xs
@@ -170,39 +189,50 @@ module _ {A : Type 0} where
       after_members (so_far ++ x ∷ []) (fuel - 1) xs
       ∙ (λ i. (append_assoc so_far (x ∷ []) xs i, (let z : fuel - 1 - length xs ≡ fuel - length (x ∷ xs) = omega arith in z) i))
 
+  -- Of the state a script heeds how many members there are.
+  counted : (f : ℕ → A → List ℕ) (min max done : ℕ) (s : List A × ℕ) (xs : List A)
+      → script_loop f (λ count x. count + 1) min max done (length s.0) xs ≡ script_loop (λ t x. f (length t.0) x) next_member min max done s xs
+  counted f min max done s [] = refl
+  counted f min max done s (x ∷ xs) =
+      let next : List A × ℕ = next_member s x in
+      let more : length s.0 + 1 ≡ length next.0 = sym (length-append s.0 (x ∷ [])) in
+      ap (λ later. script_more min done ++ f (length s.0) x ++ later)
+      (ap (λ n. script_loop f (λ count y. count + 1) min max (done + 1) n xs) more ∙ counted f min max (done + 1) next xs)
+
   lasts_along : (P : List A → A → Type 0) (so_far : List A) (fuel : ℕ) (xs : List A) → Ready P so_far xs → length xs + 1 ≤ fuel
       → Along (λ s x. P s.0 x × (0 < s.1 - 1)) next_member (so_far, fuel) xs
   lasts_along P so_far fuel [] all lasts = tt
   lasts_along P so_far fuel (x ∷ xs) all lasts = ((all.0, omega arith), lasts_along P (so_far ++ x ∷ []) (fuel - 1) xs all.1 (omega arith))
 
   -- A script of members is read as them.
-  pub members_read : {min max : ℕ} (Member : List A → List ℕ → A → List ℕ → Type 0) (f : A → List ℕ) (P : List A → A → Type 0)
-      → ((so_far : List A) (x : A) (rest : List ℕ) → P so_far x → Member so_far (f x ++ rest) x rest)
+  pub members_read : {min max : ℕ} (Member : List A → List ℕ → A → List ℕ → Type 0) (f : ℕ → A → List ℕ) (P : List A → A → Type 0)
+      → ((so_far : List A) (x : A) (rest : List ℕ) → P so_far x → Member so_far (f (length so_far) x ++ rest) x rest)
       → (xs : List A) (fuel : ℕ) (rest : List ℕ) → Ready P [] xs → min ≤ length xs → length xs ≤ max → length xs + 1 ≤ fuel
       → (left : ℕ) × (left + length xs ≡ fuel) × ReadsMembers Member min max (script_members f min max xs ++ rest) fuel xs rest left
   members_read {min = min} {max = max} Member f P one xs fuel rest all some few lasts =
       let read =
-      loop_read {Ends = IsSpent} {Item = ReadsMember Member} {min = min} {max = max} (λ s x. f x) next_member (λ s x. P s.0 x × (0 < s.1 - 1))
+      loop_read {Ends = IsSpent} {Item = ReadsMember Member} {min = min} {max = max} (λ s x. f (length s.0) x) next_member (λ s x. P s.0 x × (0 < s.1 - 1))
       (λ s x more p. record { lasts = p.1; member = one s.0 x more p.0; state = refl })
       xs 0 ([], fuel) rest (lasts_along P [] fuel xs all lasts) (omega (arith, some)) (omega (arith, few))
       in
       let B : List ℕ → Type 0 = λ said. Loop IsSpent (ReadsMember Member) min max 0 ([], fuel) (said ++ rest) xs rest (after_all next_member ([], fuel) xs) in
       let T : List A × ℕ → Type 0 = λ t. Loop IsSpent (ReadsMember Member) min max 0 ([], fuel) (script_members f min max xs ++ rest) xs rest t in
-      (fuel - length xs, omega arith, subst T (after_members [] fuel xs) (subst B (sym (any_state f next_member min max 0 ([], fuel) xs)) read))
+      (fuel - length xs, omega arith, subst T (after_members [] fuel xs) (subst B (sym (counted f min max 0 ([], fuel) xs)) read))
 
--- A member has a name that can be read and is new, and what stands after that is as it should be.
+-- A member has a name in kebab case that can be read, and what stands after that is as it should be.
 abbrev pub IsReady : {A : Type 0} → (A → List ℕ) → (A → Type 0) → List A → A → Type 0
-IsReady name Q so_far x = Kebab (name x) × (length (name x) ≤ 100) × (is_among (map name so_far) (name x) ≡ false) × Q x
+IsReady name Q so_far x = Kebab (name x) × IsReachable 100 (map name so_far) (name x) × Q x
 
 module _ {A : Type 0} (name : A → List ℕ) (Q : A → Type 0) where
-  each_ready : (xs so_far : List A) → AllByRecursion Kebab (map name xs) → AreShort (map name xs) → AreNew (map name so_far) (map name xs) → AllByRecursion Q xs
+  each_ready : (xs so_far : List A) → AllByRecursion Kebab (map name xs) → AreReachable 100 (map name so_far) (map name xs) → AllByRecursion Q xs
       → Ready (IsReady name Q) so_far xs
-  each_ready [] so_far k s n q = tt
-  each_ready (x ∷ xs) so_far k s n q =
-      ((k.0, s.0, n.0, q.0), each_ready xs (so_far ++ x ∷ []) k.1 s.1 (subst (λ ns. AreNew ns (map name xs)) (sym (map-append name so_far (x ∷ []))) n.1) q.1)
+  each_ready [] so_far k r q = tt
+  each_ready (x ∷ xs) so_far k r q =
+      let behind = subst (λ ns. AreReachable 100 ns (map name xs)) (sym (map-append name so_far (x ∷ []))) r.1 in
+      ((k.0, r.0, q.0), each_ready xs (so_far ++ x ∷ []) k.1 behind q.1)
 
-  pub named_ready : (xs : List A) → Named (map name xs) → AreShort (map name xs) → AllByRecursion Q xs → Ready (IsReady name Q) [] xs
-  named_ready xs n s q = each_ready xs [] n.0 s (distinct_new [] (map name xs) (none_before (map name xs)) n.1) q
+  pub named_ready : (xs : List A) → Named (map name xs) → AreReadableNames (map name xs) → AllByRecursion Q xs → Ready (IsReady name Q) [] xs
+  named_ready xs n r q = each_ready xs [] n.0 r q
 
 -- A name that is new among those of the program's members.
 names_of : {B : Type 0} (so_far : List (String Global × B)) → map (λ p. string_bytes p.0) so_far ≡ map (λ y. y.0) (map named so_far)
@@ -221,15 +251,23 @@ is_named so_far {mid = mid} r a = record { mid = mid; name = new_named so_far r;
 pub named_read : {B : Type 0} (After : List ℕ → B → List ℕ → Type 0) (f : B → List ℕ) (Q : B → Type 0)
     → ((x : B) (rest : List ℕ) → Q x → After (f x ++ rest) x rest)
     → (so_far : List (List ℕ × B)) (x : List ℕ × B) (rest : List ℕ) → IsReady (λ y. y.0) (λ y. Q y.1) so_far x
-    → ReadsNamed After so_far ((script_label x.0 ++ f x.1) ++ rest) x rest
-named_read After f Q one so_far x rest (k, s, n, q) =
+    → ReadsNamed After so_far ((script_label (length so_far) x.0 ++ f x.1) ++ rest) x rest
+named_read After f Q one so_far x rest (k, r, q) =
+    let names : List (List ℕ) = map (λ y. y.0) so_far in
+    let more : List ℕ = f x.1 ++ rest in
+    let C : ℕ → Type 0 = λ count. ReadsNew 100 names (script_label count x.0 ++ more) x.0 more in
     let P : List ℕ → Type 0 = λ b. ReadsNamed After so_far b x rest in
-    subst P (sym (append_assoc (script_label x.0) (f x.1) rest))
-    (record { mid = f x.1 ++ rest; name = new_read 100 (map (λ y. y.0) so_far) x.0 (f x.1 ++ rest) (omega arith) k s n; after = one x.1 rest q })
+    subst P (sym (append_assoc (script_label (length so_far) x.0) (f x.1) rest)) (record {
+      mid = more;
+      name = subst C (length-map so_far (λ y. y.0)) (new_script_read 100 names x.0 more (omega arith) k r);
+      after = one x.1 rest q;
+    })
 
-pub label_read : (so_far : List (List ℕ)) (n rest : List ℕ) → IsReady (λ y. y) (λ y. Unit {0}) so_far n → ReadsNew 100 so_far (script_label n ++ rest) n rest
-label_read so_far n rest (k, s, w, _) = subst (λ ns. ReadsNew 100 ns (script_label n ++ rest) n rest) (map-id so_far)
-    (new_read 100 (map (λ y. y) so_far) n rest (omega arith) k s w)
+pub label_read : (so_far : List (List ℕ)) (n rest : List ℕ) → IsReady (λ y. y) (λ y. Unit {0}) so_far n
+    → ReadsNew 100 so_far (script_label (length so_far) n ++ rest) n rest
+label_read so_far n rest (k, r, _) =
+    let P : List (List ℕ) → Type 0 = λ ns. ReadsNew 100 ns (script_label (length ns) n ++ rest) n rest in
+    subst P (map-id so_far) (new_script_read 100 (map (λ y. y) so_far) n rest (omega arith) k r)
 
 pub all_unit : {A : Type 0} (xs : List A) → AllByRecursion (λ x. Unit {0}) xs
 all_unit [] = tt

@@ -2,17 +2,19 @@
 use Rattle.std.proofs.Common.{◌≡◌, ℕ, zero, suc, ◌+◌, ◌<◌, ◌≤◌, ◌^◌, ◌||◌, ◌&&◌, Bool, true, false, List, [], ◌∷◌, ◌++◌, length, refl, sym, ap, ◌∙◌, subst}
 use Rattle.std.proofs.Common.{arith, append_assoc, length-append, nat_eq, nat_lt, None, Some, Decides}
 use Rattle.std.proofs.lemmas.Bool.Decides.{nat_tests, Decides-eqb}
+use Rattle.std.proofs.lemmas.List.{length-map}
 use Rattle.std.proofs.lemmas.Option.{slice_get_within}
 use Rattle.std.specs.List.{AllByRecursion}
 use Rattle.std.specs.Prelude.{Option, slice_get, if◌then◌else◌}
 use denote.Enum.Bare.{same_true, true_same}
 use Rattle.smith_input.specs.Choices.{ReadsAmong}
 use Rattle.smith_input.specs.Kebab.{Kebab}
-use Rattle.smith_input.specs.NewNames.{is_among}
+use Rattle.smith_input.specs.NameScript.{IsReachable}
+use Rattle.smith_input.specs.Names.{ReadsNew}
 use Rattle.smith_input.specs.Script.{script_among, pick}
 use Rattle.smith_input.specs.Offers.{offers_of}
 use Rattle.smith_input.proofs.Choices.{among_none, among_read, among_same}
-use Rattle.smith_input.proofs.NewNames.{new_read}
+use Rattle.smith_input.proofs.NameScript.{new_script_read}
 use Rattle.smith_input.proofs.Offered.{offers_few, offers_found}
 use Rattle.smith_input.proofs.Picks.{reads-pick}
 use Rattle.smith_input.proofs.Reading.{flips_zero}
@@ -28,8 +30,9 @@ use Rattle.smith_types.specs.Declarations.{NamedExtern, ReadsNamedExtern, no_url
 use Rattle.smith_types.specs.Offers.{IsAllowed, has_reference, is_occupied, occupied, numbered, aliases_of, declaration_offers, declaration_items, ref_offers}
 use Rattle.smith_types.specs.Offers.{ref_kinds, ref_places, has_place, allows_one}
 use Rattle.smith_types.specs.References.{ref_to, ReadsRef}
+use Rattle.smith_types.specs.Sayable.{Fit}
 use Rattle.smith_types.specs.Script.{kind_in, index_in, script_ref, script_label, script_extern, script_entry, script_alias, script_no_import}
-use Rattle.smith_types.specs.Script.{script_declaration_item, Fit}
+use Rattle.smith_types.specs.Script.{script_declaration_item}
 use Rattle.smith_types.specs.contracts.make.declarations.DeclarationItem.{the_type as item_type}
 use Rattle.smith_types.specs.contracts.make.declarations.DeclarationItemPartialEq.TheImpl.{ghosts as items}
 use Rattle.smith_types.specs.contracts.make.references.RefKind.{the_type as ref_kind_type}
@@ -177,11 +180,13 @@ function_chosen config own totals i modules components instances formed allowed 
 
 -- names
 
-pub extern_read : (so_far : List NamedExtern) (name rest : List ℕ) → Kebab name → length name ≤ 100 → is_among (names so_far) name ≡ false
-    → ReadsNamedExtern so_far (script_extern name ++ rest) (name, None) rest
-extern_read so_far name rest k short new =
-    subst (λ z. ReadsNamedExtern so_far z (name, None) rest) (sym (append_assoc (script_label name) (0 ∷ []) rest))
-    (record { mid = 0 ∷ rest; name = new_read 100 (names so_far) name (0 ∷ rest) (omega arith) k short new; url = no_url (flips_zero rest) })
+pub extern_read : (so_far : List NamedExtern) (name rest : List ℕ) → Kebab name → IsReachable 100 (names so_far) name
+    → ReadsNamedExtern so_far (script_extern (length so_far) name ++ rest) (name, None) rest
+extern_read so_far name rest k made =
+    let P : List ℕ → Type 0 = λ z. ReadsNamedExtern so_far z (name, None) rest in
+    let C : ℕ → Type 0 = λ count. ReadsNew 100 (names so_far) (script_label count name ++ 0 ∷ rest) name (0 ∷ rest) in
+    let said = subst C (length-map so_far (λ x. x.0)) (new_script_read 100 (names so_far) name (0 ∷ rest) (omega arith) k made) in
+    subst P (sym (append_assoc (script_label (length so_far) name) (0 ∷ []) rest)) (record { mid = 0 ∷ rest; name = said; url = no_url (flips_zero rest) })
 
 -- no import
 

@@ -2,11 +2,12 @@
 use Rattle.std.proofs.Common.{◌≡◌, ℕ, ◌+◌, ◌-◌, ◌^◌, ◌<◌, ◌≤◌, Bool, true, false, List, [], ◌∷◌, ◌++◌, length, refl, sym, ap, ◌∙◌, subst, arith, append_assoc}
 use Rattle.std.proofs.Common.{length-append, nat_lt, None, Some}
 use Rattle.std.proofs.lemmas.Bool.Decides.{nat_tests}
-use Rattle.std.proofs.lemmas.List.{map-append}
+use Rattle.std.proofs.lemmas.List.{length-map, map-append}
 use Rattle.std.specs.List.{AllByRecursion}
 use Rattle.std.specs.Option.{option_to_list}
 use Rattle.std.specs.Prelude.{Option}
 use Rattle.smith_input.specs.Kebab.{Kebab}
+use Rattle.smith_input.specs.NameScript.{IsReachable}
 use Rattle.smith_input.proofs.Loops.{end_read}
 use Rattle.smith_input.proofs.Picks.{reads-pick}
 use Rattle.smith_input.proofs.Reading.{more_one}
@@ -25,14 +26,15 @@ use Rattle.smith_core_types.specs.MadeCore.{named_by_core}
 use Rattle.smith_core_types.specs.Needs.{core_cost}
 use Rattle.smith_core_types.specs.Script.{script_core}
 use Rattle.smith_core_types.proofs.CoreScript.{core_read}
-use Rattle.smith_core_types.proofs.Names.{AreNew, distinct_new, none_before, new_back, new_front}
 use Rattle.smith_scopes.proofs.Plain.{all_back, all_front}
 use Rattle.smith_types.specs.Declarations.{NamedExtern, SoFar, nothing_so_far, after_one, ReadsImportDecl, ReadsExportDecl}
 use Rattle.smith_types.specs.Offers.{uncounted, IsAllowed}
 use Rattle.smith_types.specs.Made.{Made, made_component, made_instance, MadeWith, MadeDeclaration, made_import, made_export, made_alias, made_core_type}
 use Rattle.smith_types.specs.Made.{made_type, MadeDeclarations, no_more_decls, one_decl}
 use Rattle.smith_types.specs.Needs.{cost, decl_cost, decls_cost}
-use Rattle.smith_types.specs.Script.{Fit, IsSayable, Lasts, LastsDecl, LastsDecls, script_alias}
+use Rattle.smith_types.specs.Readable.{IsReadableType, IsReadableDecl, AreReadableDecls}
+use Rattle.smith_types.specs.Sayable.{Fit, IsSayable, Lasts, LastsDecl, LastsDecls}
+use Rattle.smith_types.specs.Script.{Taken, none_taken, after_taken, script_alias}
 use Rattle.smith_types.specs.Script.{script_decl, script_decls, script_declares, script_extern, script_declaration_item, script_no_import, script_ref}
 use Rattle.smith_types.specs.Script.{script_type}
 use Rattle.smith_types.specs.Script.{script_type_kind}
@@ -54,32 +56,32 @@ none_behind : {A : Type 0} (xs ys : List A) → xs ++ ys ≡ [] → ys ≡ []
 none_behind [] ys h = h
 none_behind (x ∷ xs) ys h = absurd (cc)
 
--- names that are in kebab case and new behind these
-abbrev Externs : Type 0
-Externs = List (List ℕ × Unit {0})
+-- imports or exports whose names are all in kebab case
+abbrev pub Kebabs : List (List ℕ × Unit {0}) → Type 0
+Kebabs xs = AllByRecursion Kebab (names xs)
 
-abbrev Next : List NamedExtern → Externs → Type 0
-Next so_far xs = AreNew (names so_far) (names xs) × AllByRecursion Kebab (names xs)
+pub kebabs_split : (one later : List (List ℕ × Unit {0})) → Kebabs (one ++ later) → Kebabs one × Kebabs later
+kebabs_split one later k =
+    let both : AllByRecursion Kebab (names one ++ names later) = subst (AllByRecursion Kebab) (map-append (λ x. x.0) one later) k in
+    (all_front Kebab (names one) (names later) both, all_back Kebab (names one) (names later) both)
 
-next_front : (so_far : List NamedExtern) (one later : Externs) → Next so_far (one ++ later) → Next so_far one
-next_front so_far one later (n, k) =
-    let parts : names (one ++ later) ≡ names one ++ names later = map-append (λ x. x.0) one later in (
-      new_front (names so_far) (names one) (names later) (subst (AreNew (names so_far)) parts n),
-      all_front Kebab (names one) (names later) (subst (AllByRecursion Kebab) parts k),
-    )
+-- the names with those of one declaration more
+names_behind : (so_far more : List NamedExtern) (one : List (List ℕ × Unit {0})) → names one ≡ names more → names so_far ++ names one ≡ names (so_far ++ more)
+names_behind so_far more one same = ap (λ z. names so_far ++ z) same ∙ sym (map-append (λ x. x.0) so_far more)
 
-next_back : (so_far more : List NamedExtern) (one later : Externs) → names one ≡ names more → Next so_far (one ++ later) → Next (so_far ++ more) later
-next_back so_far more one later same (n, k) =
-    let parts : names (one ++ later) ≡ names one ++ names later = map-append (λ x. x.0) one later in
-    let whole : names so_far ++ names one ≡ names (so_far ++ more) = ap (λ z. names so_far ++ z) same ∙ sym (map-append (λ x. x.0) so_far more) in (
-      subst (λ z. AreNew z (names later)) whole (new_back (names so_far) (names one) (names later) (subst (AreNew (names so_far)) parts n)),
-      all_back Kebab (names one) (names later) (subst (AllByRecursion Kebab) parts k),
-    )
+count_behind : (so_far more : List NamedExtern) (one : List (List ℕ × Unit {0})) → names one ≡ names more
+    → length so_far + length one ≡ length (so_far ++ more)
+count_behind so_far more one same =
+    omega (arith, length-append so_far more, ap length same, length-map one (λ x. x.0), length-map more (λ x. x.0))
 
--- what is imported and exported behind what there is so far
-record Sayable (importing : Bool) (s : SoFar) (is es : Externs) : Type 0 where
-  imports : Next s.imports is
-  exports : Next s.exports es
+-- how many there are so far
+abbrev taken_by : SoFar → Taken
+taken_by s = record { imports = length s.imports; exports = length s.exports }
+
+-- what is imported and exported
+record Sayable (importing : Bool) (is es : List (List ℕ × Unit {0})) : Type 0 where
+  imports : Kebabs is
+  exports : Kebabs es
   own : importing ≡ false → is ≡ []
 
 -- a scope in which no more stands than so many turns gave
@@ -130,27 +132,28 @@ module _ (config : Config) where
       subst P (sym (append_assoc (a ++ b) said rest ∙ append_assoc a b (said ++ rest))) made
 
   export_read : (s : SoFar) (name rest : List ℕ) (r : ComponentTypeRef) → Holding (2 ^ 64) s.own
-      → Kebab name × (length name ≤ 100) × AreNew (names s.exports) (name ∷ []) → (u : Unit {0}) → FormedDeclaration (export_decl name u r) s.own []
-      → ReadsExportDecl config s.own s.exports ((script_ref config s.own uncounted false true r ++ script_extern name) ++ rest) (export_decl name None r) rest
-  export_read s name rest r few (k, short, new) u formed =
+      → Kebab name → IsReachable 100 (names s.exports) name → (u : Unit {0}) → FormedDeclaration (export_decl name u r) s.own []
+      → ReadsExportDecl config s.own s.exports ((script_ref config s.own uncounted false true r ++ script_extern (length s.exports) name) ++ rest)
+      (export_decl name None r) rest
+  export_read s name rest r few k made u formed =
       let of : List ℕ = script_ref config s.own uncounted false true r in
-      let said : List ℕ = script_extern name in
+      let said : List ℕ = script_extern (length s.exports) name in
       subst (λ z. ReadsExportDecl config s.own s.exports z (export_decl name None r) rest) (sym (append_assoc of said rest)) (record {
         mid = said ++ rest;
         to = r;
         named = (name, None);
         of = ref_read config s.own uncounted false true few r (said ++ rest) formed (export_allowed config s.own r);
-        name = extern_read s.exports name rest k short new.0;
+        name = extern_read s.exports name rest k made;
         is = refl;
       })
 
   import_read : (s : SoFar) (name rest : List ℕ) (r : ComponentTypeRef) → Holding (2 ^ 64) s.own
-      → Kebab name × (length name ≤ 100) × AreNew (names s.imports) (name ∷ []) → (u : Unit {0}) → FormedDeclaration (import_decl name u r) s.own []
-      → ReadsImportDecl config s.own s.imports ((pick 4 0 ++ (script_ref config s.own uncounted true true r ++ script_extern name)) ++ rest)
+      → Kebab name → IsReachable 100 (names s.imports) name → (u : Unit {0}) → FormedDeclaration (import_decl name u r) s.own []
+      → ReadsImportDecl config s.own s.imports ((pick 4 0 ++ (script_ref config s.own uncounted true true r ++ script_extern (length s.imports) name)) ++ rest)
       (import_decl name None r) rest
-  import_read s name rest r few (k, short, new) u formed =
+  import_read s name rest r few k made u formed =
       let of : List ℕ = script_ref config s.own uncounted true true r in
-      let said : List ℕ = script_extern name in
+      let said : List ℕ = script_extern (length s.imports) name in
       let whole : (pick 4 0 ++ (of ++ said)) ++ rest ≡ pick 4 0 ++ (of ++ (said ++ rest)) = append_assoc (pick 4 0) (of ++ said) rest
       ∙ ap (λ z. pick 4 0 ++ z) (append_assoc of said rest) in
       subst (λ z. ReadsImportDecl config s.own s.imports z (import_decl name None r) rest) (sym whole) (record {
@@ -161,49 +164,45 @@ module _ (config : Config) where
         there = ref_there s.own r formed.0;
         asked = reads-pick 4 0 (of ++ (said ++ rest)) (omega arith) (omega arith);
         of = ref_read config s.own uncounted true true few r (said ++ rest) formed.0 (import_allowed config s.own r formed.1);
-        name = extern_read s.imports name rest k short new.0;
+        name = extern_read s.imports name rest k made;
         is = refl;
       })
 
   module _ (deep : config.max_nesting_depth ≤ 1000) where
     mutual
       pub full_read : (e : Entry) (own : Scope) (outer : List Scope) (fuel : ℕ) (rest : List ℕ) → FormedEntry e own outer → EntryLimits config e
-          → Lasts e config (length (own ∷ outer)) fuel → Fit (own ∷ outer) → length (own ∷ outer) ≤ 1000
+          → IsReadableType e → Lasts e config (length (own ∷ outer)) fuel → Fit (own ∷ outer) → length (own ∷ outer) ≤ 1000
           → (full : FullEntry) × (e ≡ plain full) × Made config own outer (script_type e config fuel own outer ++ rest) fuel full rest (fuel - cost e)
-      full_read (defined t) own outer fuel rest f m l fit few =
-          (defined t, refl, type_values own (let z = fit.each.0 in omega (arith, z)) config outer fuel t rest f l)
-      full_read (function s) own outer fuel rest f m l fit few =
-          (function s, refl, type_function own (let z = fit.each.0 in omega (arith, z)) config outer fuel s rest f l.0 l.1)
-      full_read (component_type ds) own outer fuel rest f m l fit few =
+      full_read (defined t) own outer fuel rest f m n l fit few =
+          (defined t, refl, type_values own (let z = fit.each.0 in omega (arith, z)) config outer fuel t rest f n l)
+      full_read (function s) own outer fuel rest f m n l fit few =
+          (function s, refl, type_function own (let z = fit.each.0 in omega (arith, z)) config outer fuel s rest f n l)
+      full_read (component_type ds) own outer fuel rest f m n l fit few =
           let around : Fit (nothing_so_far.own ∷ (own ∷ outer)) = record { many = omega (arith, few); each = (omega arith, fit.each) } in
-          let said : Sayable true nothing_so_far (decl_imports ds) (decl_exports ds) = record {
-            imports = (distinct_new [] (names (decl_imports ds)) (none_before (names (decl_imports ds))) f.1.1, f.1.0);
-            exports = (distinct_new [] (names (decl_exports ds)) (none_before (names (decl_exports ds))) f.2.1, f.2.0);
-            own = λ h. absurd (cc);
-          } in
-          let r = decls_read ds true (own ∷ outer) nothing_so_far (fuel - 1) 0 rest f.0 m.1 l.1 said (omega (arith, m.0)) (omega arith) around in
+          let said : Sayable true (decl_imports ds) (decl_exports ds) = record { imports = f.1.0; exports = f.2.0; own = λ h. absurd (cc) } in
+          let r = decls_read ds true (own ∷ outer) nothing_so_far (fuel - 1) 0 rest f.0 m.1 n l.1 said (omega (arith, m.0)) (omega arith) around in
           let left : fuel - 1 - decls_cost ds ≡ fuel - cost (component_type ds) = omega arith in
-          let script : List ℕ = script_decls ds config true (fuel - 1) 0 nothing_so_far.own (own ∷ outer) in
+          let script : List ℕ = script_decls ds config true (fuel - 1) 0 none_taken nothing_so_far.own (own ∷ outer) in
           let P : List ℕ → Type 0 = λ b. Made config own outer b fuel (component_type r.0) rest (fuel - cost (component_type ds)) in
-          let Q : ℕ → Type 0 = λ n. MadeDeclarations config true (own ∷ outer) 0 nothing_so_far (script ++ rest) (fuel - 1) r.0 rest n in (
+          let Q : ℕ → Type 0 = λ k. MadeDeclarations config true (own ∷ outer) 0 nothing_so_far (script ++ rest) (fuel - 1) r.0 rest k in (
             component_type r.0,
             ap component_type r.1,
             subst P (sym (append_assoc (script_type_kind Component) script rest))
                 (made_component (omega (arith, l.0)) (type_kind_read Component 2 (script ++ rest) refl) (subst Q left r.2) refl),
           )
-      full_read (instance_type ds) own outer fuel rest f m l fit few =
+      full_read (instance_type ds) own outer fuel rest f m n l fit few =
           let around : Fit (nothing_so_far.own ∷ (own ∷ outer)) = record { many = omega (arith, few); each = (omega arith, fit.each) } in
           let none : decl_imports ds ≡ [] = f.1 in
-          let said : Sayable false nothing_so_far (decl_imports ds) (decl_exports ds) = record {
-            imports = subst (Next []) (sym none) (tt, tt);
-            exports = (distinct_new [] (names (decl_exports ds)) (none_before (names (decl_exports ds))) f.2.1, f.2.0);
+          let said : Sayable false (decl_imports ds) (decl_exports ds) = record {
+            imports = subst Kebabs (sym none) tt;
+            exports = f.2.0;
             own = λ h. none;
           } in
-          let r = decls_read ds false (own ∷ outer) nothing_so_far (fuel - 1) 0 rest f.0 m.1 l.1 said (omega (arith, m.0)) (omega arith) around in
+          let r = decls_read ds false (own ∷ outer) nothing_so_far (fuel - 1) 0 rest f.0 m.1 n l.1 said (omega (arith, m.0)) (omega arith) around in
           let left : fuel - 1 - decls_cost ds ≡ fuel - cost (instance_type ds) = omega arith in
-          let script : List ℕ = script_decls ds config false (fuel - 1) 0 nothing_so_far.own (own ∷ outer) in
+          let script : List ℕ = script_decls ds config false (fuel - 1) 0 none_taken nothing_so_far.own (own ∷ outer) in
           let P : List ℕ → Type 0 = λ b. Made config own outer b fuel (instance_type r.0) rest (fuel - cost (instance_type ds)) in
-          let Q : ℕ → Type 0 = λ n. MadeDeclarations config false (own ∷ outer) 0 nothing_so_far (script ++ rest) (fuel - 1) r.0 rest n in (
+          let Q : ℕ → Type 0 = λ k. MadeDeclarations config false (own ∷ outer) 0 nothing_so_far (script ++ rest) (fuel - 1) r.0 rest k in (
             instance_type r.0,
             ap instance_type r.1,
             subst P (sym (append_assoc (script_type_kind Instance) script rest))
@@ -212,11 +211,12 @@ module _ (config : Config) where
 
       -- A declaration: it imports and exports what its plain tree does.
       decl_read : (d : Decl) (importing : Bool) (outer : List Scope) (s : SoFar) (fuel : ℕ) (rest : List ℕ) → FormedDeclaration d s.own outer
-          → DeclLimits config d → LastsDecl d config (length (s.own ∷ outer)) fuel → Sayable importing s (import_of d) (export_of d) → Holding 100 s.own
-          → Fit (s.own ∷ outer)
+          → DeclLimits config d → IsReadableDecl d (names s.imports) (names s.exports) → LastsDecl d config (length (s.own ∷ outer)) fuel
+          → Sayable importing (import_of d) (export_of d) → Holding 100 s.own → Fit (s.own ∷ outer)
           → (full : FullDecl) × (d ≡ plain_decl full) × (names (import_of d) ≡ names (import_of full)) × (names (export_of d) ≡ names (export_of full))
-          × MadeDeclaration config importing outer s (script_decl d config importing fuel s.own outer ++ rest) fuel full rest (fuel - decl_cost d)
-      decl_read (core_type_decl t k) importing outer s fuel rest f m l said held fit =
+          × MadeDeclaration config importing outer s (script_decl d config importing fuel (taken_by s) s.own outer ++ rest) fuel full rest
+          (fuel - decl_cost d)
+      decl_read (core_type_decl t k) importing outer s fuel rest f m n l said held fit =
           let full : FullDecl = core_type_decl t (keeps_functions (named_by_core s.own.core_types t)) in
           let P : List ℕ → Type 0 = λ b. MadeDeclaration config importing outer s b fuel full rest (fuel - core_cost t) in (
             full,
@@ -225,11 +225,11 @@ module _ (config : Config) where
             refl,
             declares_read importing outer s.own item.CoreType (script_core config s.own fuel t) rest P
                 (made_core_type (no_import_read config s.own importing _) (item_read config outer s.own item.CoreType 2 true _ refl refl)
-                (core_read config s.own fuel t rest f m l.1 l.0 (omega (arith, held))) refl),
+                (core_read config s.own fuel t rest f m n l (omega (arith, held))) refl),
           )
-      decl_read (type_decl e) importing outer s fuel rest f m l said held fit =
+      decl_read (type_decl e) importing outer s fuel rest f m n l said held fit =
           let room : nat_lt (length (s.own ∷ outer)) config.max_nesting_depth ≡ true = below (length (s.own ∷ outer)) config.max_nesting_depth l.0 in
-          let r = full_read e s.own outer fuel rest f m l.1 fit (omega (arith, l.0, deep)) in
+          let r = full_read e s.own outer fuel rest f m n l.1 fit (omega (arith, l.0, deep)) in
           let P : List ℕ → Type 0 = λ b. MadeDeclaration config importing outer s b fuel (type_decl r.0) rest (fuel - cost e) in (
             type_decl r.0,
             ap type_decl r.1,
@@ -241,7 +241,7 @@ module _ (config : Config) where
         where
           below : (n m : ℕ) → n < m → nat_lt n m ≡ true
           below n m h = grind (arith, nat_tests)
-      decl_read (type_alias count i k) importing outer s fuel rest f m l said held fit =
+      decl_read (type_alias count i k) importing outer s fuel rest f m n l said held fit =
           let full : FullDecl = type_alias count i (keeps_type f.0) in
           let there = alias_there (s.own ∷ outer) fit (λ z. z.types) (λ z. omega arith) count i f.0 f.1 in
           let left : fuel - 0 ≡ fuel = omega arith in
@@ -254,7 +254,7 @@ module _ (config : Config) where
                 (made_alias (no_import_read config s.own importing _) (item_read config outer s.own item.Alias 1 _ _ refl there)
                 (type_alias_read (s.own ∷ outer) fit count i f.0 rest f.1) left),
           )
-      decl_read (core_type_alias count i k) importing outer s fuel rest f m l said held fit =
+      decl_read (core_type_alias count i k) importing outer s fuel rest f m n l said held fit =
           let full : FullDecl = core_type_alias count i (keeps_core_type f.0) in
           let there = alias_there (s.own ∷ outer) fit (λ z. z.core_types) (λ z. omega arith) count i f.0 f.1 in
           let left : fuel - 0 ≡ fuel = omega arith in
@@ -267,19 +267,19 @@ module _ (config : Config) where
                 (made_alias (no_import_read config s.own importing _) (item_read config outer s.own item.Alias 1 _ _ refl there)
                 (core_alias_read (s.own ∷ outer) fit count i f.0 rest f.1) left),
           )
-      decl_read (import_decl name u r) true outer s fuel rest f m l said held fit =
+      decl_read (import_decl name u r) true outer s fuel rest f m n l said held fit =
           let left : fuel - 0 ≡ fuel = omega arith in (
             import_decl name None r,
             refl,
             refl,
             refl,
-            made_import refl (import_read s name rest r fit.each.0 (said.imports.1.0, l, said.imports.0) u f) left,
+            made_import refl (import_read s name rest r fit.each.0 said.imports.0 n u f) left,
           )
-      decl_read (import_decl name u r) false outer s fuel rest f m l said held fit = absurd (no_import (said.own refl))
+      decl_read (import_decl name u r) false outer s fuel rest f m n l said held fit = absurd (no_import (said.own refl))
         where
           no_import : {A : Type 0} {x : A} {xs : List A} → x ∷ xs ≡ [] → ⊥
           no_import h = cc
-      decl_read (export_decl name u r) importing outer s fuel rest f m l said held fit =
+      decl_read (export_decl name u r) importing outer s fuel rest f m n l said held fit =
           let left : fuel - 0 ≡ fuel = omega arith in
           let full : FullDecl = export_decl name None r in
           let P : List ℕ → Type 0 = λ b. MadeDeclaration config importing outer s b fuel full rest (fuel - 0) in (
@@ -287,45 +287,57 @@ module _ (config : Config) where
             refl,
             refl,
             refl,
-            declares_read importing outer s.own item.Export (script_ref config s.own uncounted false true r ++ script_extern name) rest P
+            declares_read importing outer s.own item.Export (script_ref config s.own uncounted false true r ++ script_extern (length s.exports) name) rest P
                 (made_export (no_import_read config s.own importing _) (item_read config outer s.own item.Export 0 _ _ refl (ref_there s.own r f))
-                (export_read s name rest r fit.each.0 (said.exports.1.0, l, said.exports.0) u f) left),
+                (export_read s name rest r fit.each.0 said.exports.0 n u f) left),
           )
 
       decls_read : (ds : Decls) (importing : Bool) (outer : List Scope) (s : SoFar) (fuel done : ℕ) (rest : List ℕ) → FormedDeclarations ds s.own outer
-          → DeclsLimits config ds → LastsDecls ds config (length (s.own ∷ outer)) fuel → Sayable importing s (decl_imports ds) (decl_exports ds)
-          → done + decl_count ds ≤ 100 → Holding done s.own → Fit (s.own ∷ outer)
+          → DeclsLimits config ds → AreReadableDecls ds (names s.imports) (names s.exports) → LastsDecls ds config (length (s.own ∷ outer)) fuel
+          → Sayable importing (decl_imports ds) (decl_exports ds) → done + decl_count ds ≤ 100 → Holding done s.own → Fit (s.own ∷ outer)
           → (full : FullDecls) × (ds ≡ plain_decls full) × MadeDeclarations config importing outer done s
-          (script_decls ds config importing fuel done s.own outer ++ rest) fuel full rest (fuel - decls_cost ds)
-      decls_read no_decls importing outer s fuel done rest f m l said few held fit =
+          (script_decls ds config importing fuel done (taken_by s) s.own outer ++ rest) fuel full rest (fuel - decls_cost ds)
+      decls_read no_decls importing outer s fuel done rest f m n l said few held fit =
           (no_decls, refl, no_more_decls (end_read 0 100 done rest (omega arith) (omega (arith, few))) (omega arith))
-      decls_read (then_decls d ds) importing outer s fuel done rest f m l said few held fit =
-          let here : Sayable importing s (import_of d) (export_of d) = record {
-            imports = next_front s.imports (import_of d) (decl_imports ds) said.imports;
-            exports = next_front s.exports (export_of d) (decl_exports ds) said.exports;
+      decls_read (then_decls d ds) importing outer s fuel done rest f m n l said few held fit =
+          let imported = kebabs_split (import_of d) (decl_imports ds) said.imports in
+          let exported = kebabs_split (export_of d) (decl_exports ds) said.exports in
+          let here : Sayable importing (import_of d) (export_of d) = record {
+            imports = imported.0;
+            exports = exported.0;
             own = λ h. none_ahead (import_of d) (decl_imports ds) (said.own h);
           } in
-          let held_next : ℕ = fuel - 1 - decl_cost d in
-          let place : Scope = after_decl outer s.own d in
-          let later : List ℕ = script_decls ds config importing held_next (done + 1) place outer in
-          let one = decl_read d importing outer s (fuel - 1) (later ++ rest) f.0 m.0 l.1 here (omega (arith, held, few)) fit in
-          let next : SoFar = after_one outer s one.0 in
-          let same : place ≡ next.own = ap (after_decl outer s.own) one.1 ∙ after_plain outer s.own one.0 in
-          let formed : FormedDeclarations ds next.own outer = subst (λ z. FormedDeclarations ds z outer) same f.1 in
-          let behind : Sayable importing next (decl_imports ds) (decl_exports ds) = record {
-            imports = next_back s.imports (import_of one.0) (import_of d) (decl_imports ds) one.2 said.imports;
-            exports = next_back s.exports (export_of one.0) (export_of d) (decl_exports ds) one.3 said.exports;
+          let behind : Sayable importing (decl_imports ds) (decl_exports ds) = record {
+            imports = imported.1;
+            exports = exported.1;
             own = λ h. none_behind (import_of d) (decl_imports ds) (said.own h);
           } in
+          let held_next : ℕ = fuel - 1 - decl_cost d in
+          let script : Taken → Scope → List ℕ = λ taken own. script_decls ds config importing held_next (done + 1) taken own outer in
+          let taken : Taken = after_taken (taken_by s) d in
+          let place : Scope = after_decl outer s.own d in
+          let later : List ℕ = script taken place in
+          let one = decl_read d importing outer s (fuel - 1) (later ++ rest) f.0 m.0 n.0 l.1 here (omega (arith, held, few)) fit in
+          let next : SoFar = after_one outer s one.0 in
+          let same : place ≡ next.own = ap (after_decl outer s.own) one.1 ∙ after_plain outer s.own one.0 in
+          let imports : names s.imports ++ names (import_of d) ≡ names next.imports = names_behind s.imports (import_of one.0) (import_of d) one.2 in
+          let exports : names s.exports ++ names (export_of d) ≡ names next.exports = names_behind s.exports (export_of one.0) (export_of d) one.3 in
+          let readable : AreReadableDecls ds (names next.imports) (names next.exports) = subst (λ z. AreReadableDecls ds (names next.imports) z) exports
+          (subst (λ z. AreReadableDecls ds z (names s.exports ++ names (export_of d))) imports n.1) in
+          let counts : taken ≡ taken_by next = λ i. record {
+            imports = count_behind s.imports (import_of one.0) (import_of d) one.2 i;
+            exports = count_behind s.exports (export_of one.0) (export_of d) one.3 i;
+          } in
+          let formed : FormedDeclarations ds next.own outer = subst (λ z. FormedDeclarations ds z outer) same f.1 in
           let holds : Holding (done + 1) next.own = subst (Holding (done + 1)) same (after_holding outer done s.own d held) in
           let around : Fit (next.own ∷ outer) = record { many = fit.many; each = (omega (arith, holds, few), fit.each.1) } in
-          let more = decls_read ds importing outer next held_next (done + 1) rest formed m.1 l.2 behind (omega (arith, few)) holds around in
+          let more = decls_read ds importing outer next held_next (done + 1) rest formed m.1 readable l.2 behind (omega (arith, few)) holds around in
           let left : held_next - decls_cost ds ≡ fuel - decls_cost (then_decls d ds) = omega arith in
-          let M : Scope → Type 0 = λ z. MadeDeclarations config importing outer (done + 1) next
-          (script_decls ds config importing held_next (done + 1) z outer ++ rest) held_next more.0 rest (held_next - decls_cost ds) in
-          let N : ℕ → Type 0 = λ n. MadeDeclarations config importing outer (done + 1) next (later ++ rest) held_next more.0 rest n in
-          let made : N (fuel - decls_cost (then_decls d ds)) = subst N left (subst M (sym same) more.2) in
-          let said_one : List ℕ = script_decl d config importing (fuel - 1) s.own outer in
+          let whole : script (taken_by next) next.own ≡ later = λ i. script (sym counts i) (sym same i) in
+          let M : List ℕ → Type 0 = λ z. MadeDeclarations config importing outer (done + 1) next (z ++ rest) held_next more.0 rest (held_next - decls_cost ds) in
+          let N : ℕ → Type 0 = λ k. MadeDeclarations config importing outer (done + 1) next (later ++ rest) held_next more.0 rest k in
+          let made : N (fuel - decls_cost (then_decls d ds)) = subst N left (subst M whole more.2) in
+          let said_one : List ℕ = script_decl d config importing (fuel - 1) (taken_by s) s.own outer in
           let P : List ℕ → Type 0 = λ b. MadeDeclarations config importing outer done s (1 ∷ b) fuel (then_decls one.0 more.0) rest
           (fuel - decls_cost (then_decls d ds)) in (
             then_decls one.0 more.0,
@@ -338,7 +350,7 @@ module _ (config : Config) where
     pub type_read : (own : Scope) (outer : List Scope) (fuel : ℕ) (e : Entry) (rest : List ℕ) → IsSayable config own outer fuel e
         → MadeWith config own outer fuel (script_type e config fuel own outer ++ rest) e rest
     type_read own outer fuel e rest said =
-        let r = full_read e own outer fuel rest said.formed said.limits said.lasts said.fit said.shallow in
+        let r = full_read e own outer fuel rest said.formed said.limits said.readable said.lasts said.fit said.shallow in
         record { full = r.0; left = fuel - cost e; made = r.2; shown = r.1 }
 
     -- What a script says is made of it, and nothing else.

@@ -22,7 +22,9 @@ use Rattle.smith_types.specs.Made.{MadeAs, MadeDefined, MadeFunction, Made, spen
 use Rattle.smith_syntax.specs.Scope.{Scope, defined_places, is_defined}
 use Rattle.smith_types.specs.Script.{script_primitive, script_val, script_maybe, script_label, script_field, script_case, script_members, script_kind}
 use Rattle.smith_types.specs.Needs.{cost}
-use Rattle.smith_types.specs.Script.{script_defined, script_signature, script_type_kind, script_type, AreShort, LastsDefined}
+use Rattle.smith_types.specs.Readable.{AreReadableNames, IsReadableDefined}
+use Rattle.smith_types.specs.Sayable.{LastsDefined}
+use Rattle.smith_types.specs.Script.{script_defined, script_signature, script_type_kind, script_type}
 use Rattle.smith_syntax.specs.WellFormed.{FormedVal, FormedMaybe, FormedDefined, FormedEntry, Named, size, defined_size}
 use Rattle.smith_types.specs.contracts.make.TypeKind.{the_type as type_kind_type}
 use Rattle.smith_types.specs.contracts.make.TypeKindPartialEq.TheImpl.{ghosts as types}
@@ -135,11 +137,11 @@ module _ (own : Scope) (few : length own.types ≤ 2 ^ 64) where
   maybe_read (Some v) rest f = present (flips_one (script_val own v ++ rest)) (val_read v rest f)
 
   field_read : (so_far : List Field) (x : Field) (rest : List ℕ) → IsReady (λ y. y.0) (λ y. FormedVal own y.1) so_far x
-      → ReadsNamed (ReadsVal own) so_far (script_field own x ++ rest) x rest
+      → ReadsNamed (ReadsVal own) so_far (script_field own (length so_far) x ++ rest) x rest
   field_read so_far x rest r = named_read (ReadsVal own) (script_val own) (FormedVal own) val_read so_far x rest r
 
   case_read : (so_far : List Case) (x : Case) (rest : List ℕ) → IsReady (λ y. y.0) (λ y. FormedMaybe own y.1) so_far x
-      → ReadsNamed (ReadsMaybe own) so_far (script_case own x ++ rest) x rest
+      → ReadsNamed (ReadsMaybe own) so_far (script_case own (length so_far) x ++ rest) x rest
   case_read so_far x rest r = named_read (ReadsMaybe own) (script_maybe own) (FormedMaybe own) maybe_read so_far x rest r
 
   vals_ready : (vs so_far : List ComponentValType) → AllByRecursion (FormedVal own) vs → Ready (λ so_far. FormedVal own) so_far vs
@@ -153,46 +155,46 @@ module _ (own : Scope) (few : length own.types ≤ 2 ^ 64) where
   some_members of (x ∷ xs) h = refl
 
   -- a type of members, each of which its script says
-  made_members : {A : Type 0} (Member : List A → List ℕ → A → List ℕ → Type 0) (f : A → List ℕ) (P : List A → A → Type 0) (max : ℕ) (of : List A → DefValType)
-      → ((so_far : List A) (x : A) (rest : List ℕ) → P so_far x → Member so_far (f x ++ rest) x rest)
+  made_members : {A : Type 0} (Member : List A → List ℕ → A → List ℕ → Type 0) (f : ℕ → A → List ℕ) (P : List A → A → Type 0) (max : ℕ) (of : List A → DefValType)
+      → ((so_far : List A) (x : A) (rest : List ℕ) → P so_far x → Member so_far (f (length so_far) x ++ rest) x rest)
       → (xs : List A) (fuel : ℕ) (rest : List ℕ) → Ready P [] xs → 1 ≤ length xs → length xs ≤ max → length xs + 1 ≤ fuel
       → (left : ℕ) × (left + length xs ≡ fuel) × MadeMembers Member max of (script_members f 1 max xs ++ rest) fuel (of xs) rest left
   made_members Member f P max of one xs fuel rest ready some few lasts =
       let r = members_read Member f P one xs fuel rest ready some few lasts in
       (r.0, r.1, (xs, r.2, some_members of xs some))
 
-  labels_made : (max : ℕ) (of : List (List ℕ) → DefValType) (ns : List (List ℕ)) (fuel : ℕ) (rest : List ℕ) → Named ns → AreShort ns → 1 ≤ length ns
+  labels_made : (max : ℕ) (of : List (List ℕ) → DefValType) (ns : List (List ℕ)) (fuel : ℕ) (rest : List ℕ) → Named ns → AreReadableNames ns → 1 ≤ length ns
       → length ns ≤ max → length ns + 1 ≤ fuel → (left : ℕ) × (left + length ns ≡ fuel)
       × MadeMembers (ReadsNew 100) max of (script_members script_label 1 max ns ++ rest) fuel (of ns) rest left
-  labels_made max of ns fuel rest n s some most lasts =
+  labels_made max of ns fuel rest n r some most lasts =
       let same = sym (map-id ns) in
       made_members (ReadsNew 100) script_label (IsReady (λ y. y) (λ y. Unit {0})) max of label_read ns fuel rest
-      (named_ready (λ y. y) (λ y. Unit {0}) ns (subst Named same n) (subst AreShort same s) (all_unit ns)) some most lasts
+      (named_ready (λ y. y) (λ y. Unit {0}) ns (subst Named same n) (subst AreReadableNames same r) (all_unit ns)) some most lasts
 
-  defined_read : (fuel : ℕ) (t : DefValType) (rest : List ℕ) → FormedDefined t own → LastsDefined (fuel + 1) t
+  defined_read : (fuel : ℕ) (t : DefValType) (rest : List ℕ) → FormedDefined t own → IsReadableDefined t → LastsDefined (fuel + 1) t
       → (left : ℕ) × (left + defined_size t ≡ fuel) × MadeDefined own (script_defined own t ++ rest) fuel t rest left
-  defined_read fuel (primitive_type p) rest f l = (fuel, omega arith, kind_read own kind.Primitive _ rest fuel _ fuel (p, primitive_read p rest, refl, refl))
-  defined_read fuel (record_type fs) rest f l =
+  defined_read fuel (primitive_type p) rest f n l = (fuel, omega arith, kind_read own kind.Primitive _ rest fuel _ fuel (p, primitive_read p rest, refl, refl))
+  defined_read fuel (record_type fs) rest f n l =
       let r = made_members (ReadsNamed (ReadsVal own)) (script_field own) (IsReady (λ y. y.0) (λ y. FormedVal own y.1)) 100 record_type field_read fs fuel rest
-      (named_ready (λ y. y.0) (λ y. FormedVal own y.1) fs f.0 l.0 f.1) f.2 f.3 (omega (arith, l.1)) in
+      (named_ready (λ y. y.0) (λ y. FormedVal own y.1) fs f.0 n f.1) f.2 f.3 (omega (arith, l)) in
       (r.0, r.1, kind_read own kind.Record _ rest fuel _ r.0 r.2)
-  defined_read fuel (variant_type cs) rest f l =
+  defined_read fuel (variant_type cs) rest f n l =
       let r = made_members (ReadsNamed (ReadsMaybe own)) (script_case own) (IsReady (λ y. y.0) (λ y. FormedMaybe own y.1)) 100 variant_type case_read cs fuel
-      rest (named_ready (λ y. y.0) (λ y. FormedMaybe own y.1) cs f.0 l.0 f.1) f.2 f.3 (omega (arith, l.1)) in
+      rest (named_ready (λ y. y.0) (λ y. FormedMaybe own y.1) cs f.0 n f.1) f.2 f.3 (omega (arith, l)) in
       (r.0, r.1, kind_read own kind.Variant _ rest fuel _ r.0 r.2)
-  defined_read fuel (list_type v) rest f l = (fuel, omega arith, kind_read own kind.List _ rest fuel _ fuel (v, val_read v rest f, refl, refl))
-  defined_read fuel (tuple_type vs) rest f l =
-      let r = made_members (λ so_far. ReadsVal own) (script_val own) (λ so_far. FormedVal own) 100 tuple_type (λ so_far v more h. val_read v more h) vs fuel
+  defined_read fuel (list_type v) rest f n l = (fuel, omega arith, kind_read own kind.List _ rest fuel _ fuel (v, val_read v rest f, refl, refl))
+  defined_read fuel (tuple_type vs) rest f n l =
+      let r = made_members (λ so_far. ReadsVal own) (λ count v. script_val own v) (λ so_far. FormedVal own) 100 tuple_type (λ so_far v more h. val_read v more h) vs fuel
       rest (vals_ready vs [] f.0) f.1 f.2 (omega (arith, l)) in
       (r.0, r.1, kind_read own kind.Tuple _ rest fuel _ r.0 r.2)
-  defined_read fuel (flags_type ns) rest f l =
-      let r = labels_made 32 flags_type ns fuel rest f.0 l.0 f.1 f.2 (omega (arith, l.1)) in
+  defined_read fuel (flags_type ns) rest f n l =
+      let r = labels_made 32 flags_type ns fuel rest f.0 n f.1 f.2 (omega (arith, l)) in
       (r.0, r.1, kind_read own kind.Flags _ rest fuel _ r.0 r.2)
-  defined_read fuel (enum_type ns) rest f l =
-      let r = labels_made 100 enum_type ns fuel rest f.0 l.0 f.1 f.2 (omega (arith, l.1)) in
+  defined_read fuel (enum_type ns) rest f n l =
+      let r = labels_made 100 enum_type ns fuel rest f.0 n f.1 f.2 (omega (arith, l)) in
       (r.0, r.1, kind_read own kind.Enum _ rest fuel _ r.0 r.2)
-  defined_read fuel (option_type v) rest f l = (fuel, omega arith, kind_read own kind.Option _ rest fuel _ fuel (v, val_read v rest f, refl, refl))
-  defined_read fuel (result_type ok err) rest f l =
+  defined_read fuel (option_type v) rest f n l = (fuel, omega arith, kind_read own kind.Option _ rest fuel _ fuel (v, val_read v rest f, refl, refl))
+  defined_read fuel (result_type ok err) rest f n l =
       let first : List ℕ = script_maybe own ok in
       let second : List ℕ = script_maybe own err in
       let P : List ℕ → Type 0 = λ b. MadeAs own kind.Result b fuel (result_type ok err) rest fuel in
@@ -210,62 +212,63 @@ module _ (own : Scope) (few : length own.types ≤ 2 ^ 64) where
   at_most_one (Some v) = omega arith
 
   function_read : (outer : List Scope) (fuel : ℕ) (s : Signature) (rest : List ℕ) → FormedEntry (function s) own outer
-      → AreShort (map (λ p. p.0) s.params) × (size (function s) + 2 ≤ fuel + 1)
+      → AreReadableNames (map (λ p. p.0) s.params) → size (function s) + 2 ≤ fuel + 1
       → (left : ℕ) × (left + size (function s) ≡ fuel) × MadeFunction own (script_signature own s ++ rest) fuel s rest left
-  function_read outer fuel s rest f l =
+  function_read outer fuel s rest f n l =
       let said : List ℕ = script_members (script_field own) 0 16 s.params in
-      let gives : List ℕ = script_members (script_val own) 0 1 (option_to_list s.result) in
+      let gives : List ℕ = script_members (λ count v. script_val own v) 0 1 (option_to_list s.result) in
       let p = members_read {min = 0} {max = 16} (ReadsNamed (ReadsVal own)) (script_field own) (IsReady (λ y. y.0) (λ y. FormedVal own y.1)) field_read s.params
-      fuel (gives ++ rest) (named_ready (λ y. y.0) (λ y. FormedVal own y.1) s.params f.0 l.0 f.1) (omega arith) f.2 (omega (arith, l.1)) in
-      let g = members_read {min = 0} {max = 1} (λ so_far. ReadsVal own) (script_val own) (λ so_far. FormedVal own) (λ so_far v more h. val_read v more h)
+      fuel (gives ++ rest) (named_ready (λ y. y.0) (λ y. FormedVal own y.1) s.params f.0 n f.1) (omega arith) f.2 (omega (arith, l)) in
+      let g = members_read {min = 0} {max = 1} (λ so_far. ReadsVal own) (λ count v. script_val own v) (λ so_far. FormedVal own) (λ so_far v more h. val_read v more h)
       (option_to_list s.result) p.0 rest (vals_ready (option_to_list s.result) [] (one_all s.result f.3)) (omega arith) (at_most_one s.result)
-      (omega (arith, p.1, l.1)) in
+      (omega (arith, p.1, l)) in
       let P : List ℕ → Type 0 = λ b. MadeFunction own b fuel s rest g.0 in
       (g.0, omega (arith, p.1, g.1), subst P (sym (append_assoc said gives rest)) (record { mid = gives ++ rest; held = p.0; takes = p.2; gives = g.2 }))
 
   -- types
 
   -- a type of values with fuel for two turns, and with less
-  pub values_read : (config : Config) (outer : List Scope) (fuel : ℕ) (t : DefValType) (rest : List ℕ) → FormedDefined t own → LastsDefined fuel t → (b : Bool)
+  pub values_read : (config : Config) (outer : List Scope) (fuel : ℕ) (t : DefValType) (rest : List ℕ) → FormedDefined t own → IsReadableDefined t → LastsDefined fuel t → (b : Bool)
       → nat_le 2 fuel ≡ b
       → Made config own outer ((if b then script_type_kind Defined else []) ++ (script_defined own t ++ rest)) fuel (defined t) rest (fuel - cost (defined t))
-  values_read config outer fuel t rest f l true h =
+  values_read config outer fuel t rest f n l true h =
       let two : 2 ≤ fuel = grind (arith, nat_tests) in
       let same : fuel ≡ fuel - 1 + 1 = omega arith in
-      let r = defined_read (fuel - 1) t rest f (subst (λ n. LastsDefined n t) same l) in
+      let r = defined_read (fuel - 1) t rest f n (subst (λ k. LastsDefined k t) same l) in
       let left : r.0 ≡ fuel - cost (defined t) = omega (arith, r.1) in
       made_defined (omega arith) (type_kind_read Defined 0 (script_defined own t ++ rest) refl)
-      (subst (λ n. MadeDefined own (script_defined own t ++ rest) (fuel - 1) t rest n) left r.2) refl
-  values_read config outer fuel t rest f l false h =
+      (subst (λ k. MadeDefined own (script_defined own t ++ rest) (fuel - 1) t rest k) left r.2) refl
+  values_read config outer fuel t rest f n l false h =
       let less : fuel < 2 = grind (arith, nat_tests) in
-      let r = defined_read 0 t rest f (lasts_less fuel t less l) in
+      let r = defined_read 0 t rest f n (lasts_less fuel t less l) in
       let left : r.0 ≡ fuel - cost (defined t) = omega (arith, r.1) in
-      spent_type (omega arith) (subst (λ n. MadeDefined own (script_defined own t ++ rest) 0 t rest n) left r.2) refl
+      spent_type (omega arith) (subst (λ k. MadeDefined own (script_defined own t ++ rest) 0 t rest k) left r.2) refl
     where
       lasts_less : (fuel : ℕ) (t : DefValType) → fuel < 2 → LastsDefined fuel t → LastsDefined 1 t
       lasts_less fuel (primitive_type p) less l = tt
-      lasts_less fuel (record_type fs) less l = absurd (omega (arith, l.1))
-      lasts_less fuel (variant_type cs) less l = absurd (omega (arith, l.1))
+      lasts_less fuel (record_type fs) less l = absurd (omega arith)
+      lasts_less fuel (variant_type cs) less l = absurd (omega arith)
       lasts_less fuel (list_type v) less l = tt
       lasts_less fuel (tuple_type vs) less l = absurd (omega arith)
-      lasts_less fuel (flags_type ns) less l = absurd (omega (arith, l.1))
-      lasts_less fuel (enum_type ns) less l = absurd (omega (arith, l.1))
+      lasts_less fuel (flags_type ns) less l = absurd (omega arith)
+      lasts_less fuel (enum_type ns) less l = absurd (omega arith)
       lasts_less fuel (option_type v) less l = tt
       lasts_less fuel (result_type ok err) less l = tt
 
   -- What the script of a type of values or of functions says is made of it, and the rest is left.
-  pub type_values : (config : Config) (outer : List Scope) (fuel : ℕ) (t : DefValType) (rest : List ℕ) → FormedDefined t own → LastsDefined fuel t
+  pub type_values : (config : Config) (outer : List Scope) (fuel : ℕ) (t : DefValType) (rest : List ℕ) → FormedDefined t own → IsReadableDefined t
+      → LastsDefined fuel t
       → Made config own outer (script_type (defined t) config fuel own outer ++ rest) fuel (defined t) rest (fuel - cost (defined t))
-  type_values config outer fuel t rest f l =
+  type_values config outer fuel t rest f n l =
       let P : List ℕ → Type 0 = λ b. Made config own outer b fuel (defined t) rest (fuel - cost (defined t)) in
       subst P (sym (append_assoc (if nat_le 2 fuel then script_type_kind Defined else []) (script_defined own t) rest))
-      (values_read config outer fuel t rest f l (nat_le 2 fuel) refl)
+      (values_read config outer fuel t rest f n l (nat_le 2 fuel) refl)
 
   pub type_function : (config : Config) (outer : List Scope) (fuel : ℕ) (s : Signature) (rest : List ℕ) → FormedEntry (function s) own outer
-      → AreShort (map (λ p. p.0) s.params) → size (function s) + 2 ≤ fuel
+      → AreReadableNames (map (λ p. p.0) s.params) → size (function s) + 2 ≤ fuel
       → Made config own outer (script_type (function s) config fuel own outer ++ rest) fuel (function s) rest (fuel - cost (function s))
-  type_function config outer fuel s rest f short lasts =
-      let m = function_read outer (fuel - 1) s rest f (short, omega (arith, lasts)) in
+  type_function config outer fuel s rest f names lasts =
+      let m = function_read outer (fuel - 1) s rest f names (omega (arith, lasts)) in
       let left : m.0 ≡ fuel - cost (function s) = omega (arith, m.1) in
       let made : MadeFunction own (script_signature own s ++ rest) (fuel - 1) s rest (fuel - cost (function s)) =
       subst (λ n. MadeFunction own (script_signature own s ++ rest) (fuel - 1) s rest n) left m.2 in

@@ -2,16 +2,16 @@
 use Rattle.std.proofs.Common.{◌≡◌, ℕ, ◌+◌, ◌-◌, ◌<◌, ◌≤◌, ◌^◌, ◌&&◌, Bool, true, false, nat_eq, nat_le, List, [], ◌∷◌, ◌++◌, map, length}
 use Rattle.std.proofs.Common.{sym, subst, arith, Option, None, Some, lit≤}
 use Rattle.std.proofs.lemmas.Bool.Decides.{Decides-eqb}
-use Rattle.std.proofs.lemmas.List.{map-append}
 use Rattle.std.proofs.lemmas.Option.{slice_get_within}
 use Rattle.std.specs.List.{AllByRecursion}
 use Rattle.std.specs.Option.{option_to_list}
 use Rattle.std.specs.Prelude.{slice_get}
 use Rattle.smith_input.specs.Kebab.{Kebab}
+use Rattle.smith_input.specs.Loops.{Along}
 use Rattle.smith_input.specs.Script.{AreBytes, script_among}
 use Rattle.smith_input.proofs.Offered.{offers_few}
-use Rattle.smith_input.proofs.ScriptBytes.{Small, small_byte, small_end, small_few, small_found, small_if, small_join, small_more, small_name, small_none}
-use Rattle.smith_input.proofs.ScriptBytes.{small_pick, small_turns}
+use Rattle.smith_input.proofs.ScriptBytes.{Small, small_byte, small_end, small_few, small_found, small_if, small_join, small_loop, small_more, small_new, small_none}
+use Rattle.smith_input.proofs.ScriptBytes.{small_pick}
 use Rattle.smith_format.specs.declared.config.Config.{Config}
 use Rattle.smith_format.specs.declared.types.ValType.{ValType}
 use Rattle.smith_syntax.specs.Entries.{Decl, Decls, decl_count, core_type_decl, type_decl, type_alias, core_type_alias}
@@ -29,12 +29,13 @@ use Rattle.smith_syntax.specs.declared.deftype.ComponentTypeRef.{ComponentTypeRe
 use Rattle.smith_syntax.specs.declared.types.ComponentValType.{ComponentValType}
 use Rattle.smith_syntax.specs.declared.types.ComponentValType.TheVariants.{Primitive, Indexed}
 use Rattle.smith_syntax.specs.declared.types.PrimitiveValType.{PrimitiveValType}
-use Rattle.smith_scopes.proofs.Plain.{all_back, all_front}
 use Rattle.smith_core_types.proofs.ScriptBytes.{small_core, small_place}
 use Rattle.smith_types.specs.Offers.{aliases_of, declaration_items, declaration_offers, defined_kinds, has_reference, is_occupied, lifted}
 use Rattle.smith_types.specs.Offers.{primitives, ref_kinds, ref_offers, ref_places, type_kinds, uncounted}
 use Rattle.smith_types.specs.Needs.{decl_cost}
-use Rattle.smith_types.specs.Script.{AreShort, Fit, IsSayable, index_in, kind_in, Lasts, LastsDecl, LastsDecls, LastsDefined, script_alias, script_case}
+use Rattle.smith_types.specs.Readable.{IsReadableType, IsReadableDecl, AreReadableDecls}
+use Rattle.smith_types.specs.Sayable.{Fit, IsSayable, Lasts, LastsDecl, LastsDecls}
+use Rattle.smith_types.specs.Script.{Taken, none_taken, after_taken, index_in, kind_in, script_alias, script_case}
 use Rattle.smith_types.specs.Script.{script_decl, script_declares, script_decls, script_defined, script_entry, script_extern, script_field}
 use Rattle.smith_types.specs.Script.{script_kind, script_label, script_maybe, script_members, script_primitive, script_ref, script_signature, script_type}
 use Rattle.smith_types.specs.Script.{script_lifted, script_params, script_result, script_scalar, script_type_kind, script_val}
@@ -51,26 +52,34 @@ use Rattle.smith_types.specs.declared.make.defined.DefinedKind.TheVariants as ki
 use Rattle.smith_types.specs.declared.make.references.RefTotals.{RefTotals}
 use Rattle.smith_types.proofs.LiftingRead.{lifted_few}
 use Rattle.smith_types.proofs.ReferencesRead.{IsFew, above_zero, aliases_count, few_at, in_split, places_few, ref_index}
-use Rattle.smith_types.proofs.ScopedScript.{Holding, after_holding}
+use Rattle.smith_types.proofs.ScopedScript.{Holding, Kebabs, after_holding, kebabs_split}
 use Rattle.smith_types.proofs.Script.{one_all}
 
 -- Types of values and of functions.
 
-small_members : {A : Type 0} (f : A → List ℕ) (min max : ℕ) (xs : List A) → AllByRecursion (λ x. (s : Unit {0}) → Small (f x)) xs
-    → Small (script_members f min max xs)
-small_members f min max xs all = small_turns (λ (s : Unit {0}) x. f x) (λ s x. s) min max 0 tt xs all
+small_label : (count : ℕ) (n : List ℕ) → Kebab n → Small (script_label count n)
+small_label count n kebab = small_new 100 count n (omega arith) kebab
 
-small_labels : (ns : List (List ℕ)) → AllByRecursion Kebab ns → AreShort ns → AllByRecursion (λ n. (s : Unit {0}) → Small (script_label n)) ns
-small_labels [] kebab short = tt
-small_labels (n ∷ ns) kebab short = (λ s. small_name 100 n (omega arith) kebab.0 short.0, small_labels ns kebab.1 short.1)
+-- members whose scripts are bytes however many stand before them
+small_members : {A : Type 0} (f : ℕ → A → List ℕ) (P : A → Type 0) → ((count : ℕ) (x : A) → P x → Small (f count x)) → (min max : ℕ) (xs : List A)
+    → AllByRecursion P xs → Small (script_members f min max xs)
+small_members {A} f P one min max xs all = small_loop f (λ count x. count + 1) min max 0 0 xs (each 0 xs all)
+  where
+    each : (count : ℕ) (xs : List A) → AllByRecursion P xs → Along (λ n x. Small (f n x)) (λ n x. n + 1) count xs
+    each count [] all = tt
+    each count (x ∷ xs) all = (one count x all.0, each (count + 1) xs all.1)
 
 -- what stands behind names
-small_named : {B : Type 0} (f : B → List ℕ) (P : B → Type 0) → ((x : B) → P x → Small (f x)) → (xs : List (List ℕ × B))
-    → AllByRecursion Kebab (map (λ x. x.0) xs) → AreShort (map (λ x. x.0) xs) → AllByRecursion (λ x. P x.1) xs
-    → AllByRecursion (λ x. (s : Unit {0}) → Small (script_label x.0 ++ f x.1)) xs
-small_named f P one [] kebab short formed = tt
-small_named f P one (x ∷ xs) kebab short formed =
-    (λ s. small_join (small_name 100 x.0 (omega arith) kebab.0 short.0) (one x.1 formed.0), small_named f P one xs kebab.1 short.1 formed.1)
+small_named : {B : Type 0} (f : B → List ℕ) (P : B → Type 0) → ((x : B) → P x → Small (f x)) → (min max : ℕ) (xs : List (List ℕ × B))
+    → AllByRecursion Kebab (map (λ x. x.0) xs) → AllByRecursion (λ x. P x.1) xs
+    → Small (script_members (λ count x. script_label count x.0 ++ f x.1) min max xs)
+small_named {B} f P one min max xs kebab formed =
+    small_members (λ count x. script_label count x.0 ++ f x.1) (λ x. Kebab x.0 × P x.1)
+    (λ count x h. small_join (small_label count x.0 h.0) (one x.1 h.1)) min max xs (both xs kebab formed)
+  where
+    both : (xs : List (List ℕ × B)) → AllByRecursion Kebab (map (λ x. x.0) xs) → AllByRecursion (λ x. P x.1) xs → AllByRecursion (λ x. Kebab x.0 × P x.1) xs
+    both [] kebab formed = tt
+    both (x ∷ xs) kebab formed = ((kebab.0, formed.0), both xs kebab.1 formed.1)
 
 small_primitive : (p : PrimitiveValType) → Small (script_primitive p)
 small_primitive p = small_few prims.eq primitives p (lit≤ tt)
@@ -91,29 +100,24 @@ module _ (own : Scope) (few : length own.types ≤ 2 ^ 64) where
   small_maybe None f = small_more 0 (omega arith) small_none
   small_maybe (Some v) f = small_more 1 (omega arith) (small_val v f)
 
-  small_vals : (vs : List ComponentValType) → AllByRecursion (FormedVal own) vs → AllByRecursion (λ v. (s : Unit {0}) → Small (script_val own v)) vs
-  small_vals [] f = tt
-  small_vals (v ∷ vs) f = (λ s. small_val v f.0, small_vals vs f.1)
+  small_vals : (min max : ℕ) (vs : List ComponentValType) → AllByRecursion (FormedVal own) vs → Small (script_members (λ count v. script_val own v) min max vs)
+  small_vals min max vs f = small_members (λ count v. script_val own v) (FormedVal own) (λ count v h. small_val v h) min max vs f
 
-  small_defined : (fuel : ℕ) (t : DefValType) → FormedDefined t own → LastsDefined fuel t → Small (script_defined own t)
-  small_defined fuel (primitive_type p) f l = small_join (small_kind kind.Primitive) (small_primitive p)
-  small_defined fuel (record_type fs) f l =
-      small_join (small_kind kind.Record) (small_members (script_field own) 1 100 fs (small_named (script_val own) (FormedVal own) small_val fs f.0.0 l.0 f.1))
-  small_defined fuel (variant_type cs) f l =
-      small_join (small_kind kind.Variant)
-      (small_members (script_case own) 1 100 cs (small_named (script_maybe own) (FormedMaybe own) small_maybe cs f.0.0 l.0 f.1))
-  small_defined fuel (list_type v) f l = small_join (small_kind kind.List) (small_val v f)
-  small_defined fuel (tuple_type vs) f l = small_join (small_kind kind.Tuple) (small_members (script_val own) 1 100 vs (small_vals vs f.0))
-  small_defined fuel (flags_type ns) f l = small_join (small_kind kind.Flags) (small_members script_label 1 32 ns (small_labels ns f.0.0 l.0))
-  small_defined fuel (enum_type ns) f l = small_join (small_kind kind.Enum) (small_members script_label 1 100 ns (small_labels ns f.0.0 l.0))
-  small_defined fuel (option_type v) f l = small_join (small_kind kind.Option) (small_val v f)
-  small_defined fuel (result_type ok err) f l = small_join (small_kind kind.Result) (small_join (small_maybe ok f.0) (small_maybe err f.1))
+  small_defined : (t : DefValType) → FormedDefined t own → Small (script_defined own t)
+  small_defined (primitive_type p) f = small_join (small_kind kind.Primitive) (small_primitive p)
+  small_defined (record_type fs) f = small_join (small_kind kind.Record) (small_named (script_val own) (FormedVal own) small_val 1 100 fs f.0.0 f.1)
+  small_defined (variant_type cs) f = small_join (small_kind kind.Variant) (small_named (script_maybe own) (FormedMaybe own) small_maybe 1 100 cs f.0.0 f.1)
+  small_defined (list_type v) f = small_join (small_kind kind.List) (small_val v f)
+  small_defined (tuple_type vs) f = small_join (small_kind kind.Tuple) (small_vals 1 100 vs f.0)
+  small_defined (flags_type ns) f = small_join (small_kind kind.Flags) (small_members script_label Kebab small_label 1 32 ns f.0.0)
+  small_defined (enum_type ns) f = small_join (small_kind kind.Enum) (small_members script_label Kebab small_label 1 100 ns f.0.0)
+  small_defined (option_type v) f = small_join (small_kind kind.Option) (small_val v f)
+  small_defined (result_type ok err) f = small_join (small_kind kind.Result) (small_join (small_maybe ok f.0) (small_maybe err f.1))
 
-  small_signature : (outer : List Scope) (s : Signature) → FormedEntry (function s) own outer → AreShort (map (λ p. p.0) s.params)
-      → Small (script_signature own s)
-  small_signature outer s f short =
-      small_join (small_members (script_field own) 0 16 s.params (small_named (script_val own) (FormedVal own) small_val s.params f.0.0 short f.1))
-      (small_members (script_val own) 0 1 (option_to_list s.result) (small_vals (option_to_list s.result) (one_all own few s.result f.3)))
+  small_signature : (outer : List Scope) (s : Signature) → FormedEntry (function s) own outer → Small (script_signature own s)
+  small_signature outer s f =
+      small_join (small_named (script_val own) (FormedVal own) small_val 0 16 s.params f.0.0 f.1)
+      (small_vals 0 1 (option_to_list s.result) (one_all own few s.result f.3))
 
 -- The signature of a lift.
 
@@ -125,17 +129,16 @@ small_scalar (Primitive p) = by_flat (flat_primitive p)
     by_flat (Some v) = let few : length (lifted v) ≤ 8 = lifted_few v in small_few prims.eq (lifted v) p (omega (arith, few))
 small_scalar (Indexed i) = small_none
 
-small_params : (fs : List Field) → AllByRecursion Kebab (map (λ p. p.0) fs) → AreShort (map (λ p. p.0) fs) → Small (script_params fs)
-small_params [] kebab short = small_none
-small_params (f ∷ fs) kebab short =
-    small_join (small_name 100 f.0 (omega arith) kebab.0 short.0) (small_join (small_scalar f.1) (small_params fs kebab.1 short.1))
+small_params : (count : ℕ) (fs : List Field) → AllByRecursion Kebab (map (λ p. p.0) fs) → Small (script_params count fs)
+small_params count [] kebab = small_none
+small_params count (f ∷ fs) kebab = small_join (small_label count f.0 kebab.0) (small_join (small_scalar f.1) (small_params (count + 1) fs kebab.1))
 
 small_result : (o : Option ComponentValType) → Small (script_result o)
 small_result None = small_none
 small_result (Some v) = small_scalar v
 
-pub small_lifted : (s : Signature) → AllByRecursion Kebab (map (λ p. p.0) s.params) → AreShort (map (λ p. p.0) s.params) → Small (script_lifted s)
-small_lifted s kebab short = small_join (small_params s.params kebab short) (small_result s.result)
+pub small_lifted : (s : Signature) → AllByRecursion Kebab (map (λ p. p.0) s.params) → Small (script_lifted s)
+small_lifted s kebab = small_join (small_params 0 s.params kebab) (small_result s.result)
 
 -- References, names and outer aliases.
 
@@ -147,8 +150,8 @@ small_ref config own totals for_import for_type_def few r formed =
     small_join (small_few refs.eq (ref_kinds config own totals for_import for_type_def) (kind_in r) (omega (arith, count)))
     (small_found nat_eq Decides-eqb (ref_places own (kind_in r)) at.0 (index_in r) (omega (arith, few, places_few own (kind_in r))) at.1)
 
-pub small_extern : (name : List ℕ) → Kebab name → length name ≤ 100 → Small (script_extern name)
-small_extern name kebab short = small_join (small_name 100 name (omega arith) kebab short) (small_more 0 (omega arith) small_none)
+pub small_extern : (count : ℕ) (name : List ℕ) → Kebab name → Small (script_extern count name)
+small_extern count name kebab = small_join (small_label count name kebab) (small_more 0 (omega arith) small_none)
 
 -- what an outer alias names, by where it stands among what the scope holds
 small_alias : {A : Type 0} (of : Scope → List A) (place : Scope → ℕ) (scopes : List Scope) → Fit scopes → (count i : ℕ) (x : A)
@@ -167,15 +170,6 @@ small_alias of place scopes fit count i x h within =
 
 -- Types with declarations.
 
--- names with nothing beside them, all in kebab case
-abbrev Kebabs : List (List ℕ × Unit {0}) → Type 0
-Kebabs xs = AllByRecursion Kebab (names xs)
-
-kebabs_split : (one later : List (List ℕ × Unit {0})) → Kebabs (one ++ later) → Kebabs one × Kebabs later
-kebabs_split one later k =
-    let both : AllByRecursion Kebab (names one ++ names later) = subst (AllByRecursion Kebab) (map-append (λ x. x.0) one later) k in
-    (all_front Kebab (names one) (names later) both, all_back Kebab (names one) (names later) both)
-
 module _ (config : Config) (deep : config.max_nesting_depth ≤ 1000) where
   small_declares : (importing : Bool) (own : Scope) (outer : List Scope) (i : DeclarationItem) → Small (script_declares config importing own outer i)
   small_declares importing own outer i =
@@ -185,54 +179,59 @@ module _ (config : Config) (deep : config.max_nesting_depth ≤ 1000) where
 
   mutual
     pub small_type : (e : Entry) (own : Scope) (outer : List Scope) (fuel : ℕ) → FormedEntry e own outer → EntryLimits config e
-        → Lasts e config (length (own ∷ outer)) fuel → Fit (own ∷ outer) → length (own ∷ outer) ≤ 1000 → Small (script_type e config fuel own outer)
-    small_type (defined t) own outer fuel f m l fit few =
-        small_join (small_if (nat_le 2 fuel) (small_type_kind Defined) small_none) (small_defined own (let z = fit.each.0 in omega (arith, z)) fuel t f l)
-    small_type (function s) own outer fuel f m l fit few =
-        small_join (small_type_kind Function) (small_signature own (let z = fit.each.0 in omega (arith, z)) outer s f l.0)
-    small_type (component_type ds) own outer fuel f m l fit few =
+        → IsReadableType e → Lasts e config (length (own ∷ outer)) fuel → Fit (own ∷ outer) → length (own ∷ outer) ≤ 1000
+        → Small (script_type e config fuel own outer)
+    small_type (defined t) own outer fuel f m n l fit few =
+        small_join (small_if (nat_le 2 fuel) (small_type_kind Defined) small_none) (small_defined own (let z = fit.each.0 in omega (arith, z)) t f)
+    small_type (function s) own outer fuel f m n l fit few =
+        small_join (small_type_kind Function) (small_signature own (let z = fit.each.0 in omega (arith, z)) outer s f)
+    small_type (component_type ds) own outer fuel f m n l fit few =
         let around : Fit (empty_scope ∷ (own ∷ outer)) = record { many = omega (arith, few); each = (omega arith, fit.each) } in
         small_join (small_type_kind Component)
-        (small_decls ds true (own ∷ outer) empty_scope (fuel - 1) 0 f.0 m.1 l.1 f.1.0 f.2.0 (omega (arith, m.0)) (omega arith) around)
-    small_type (instance_type ds) own outer fuel f m l fit few =
+        (small_decls ds true (own ∷ outer) empty_scope (fuel - 1) 0 none_taken [] [] f.0 m.1 n l.1 f.1.0 f.2.0 (omega (arith, m.0)) (omega arith) around)
+    small_type (instance_type ds) own outer fuel f m n l fit few =
         let around : Fit (empty_scope ∷ (own ∷ outer)) = record { many = omega (arith, few); each = (omega arith, fit.each) } in
         let none : decl_imports ds ≡ [] = f.1 in
         small_join (small_type_kind Instance)
-        (small_decls ds false (own ∷ outer) empty_scope (fuel - 1) 0 f.0 m.1 l.1 (subst Kebabs (sym none) tt) f.2.0 (omega (arith, m.0)) (omega arith) around)
+        (small_decls ds false (own ∷ outer) empty_scope (fuel - 1) 0 none_taken [] [] f.0 m.1 n l.1 (subst Kebabs (sym none) tt) f.2.0 (omega (arith, m.0)) (omega arith) around)
 
-    small_decl : (d : Decl) (importing : Bool) (outer : List Scope) (own : Scope) (fuel : ℕ) → FormedDeclaration d own outer → DeclLimits config d
-        → LastsDecl d config (length (own ∷ outer)) fuel → Kebabs (import_of d) → Kebabs (export_of d) → Holding 100 own → Fit (own ∷ outer)
-        → Small (script_decl d config importing fuel own outer)
-    small_decl (core_type_decl t k) importing outer own fuel f m l is es held fit =
-        small_join (small_declares importing own outer item.CoreType) (small_core config own fuel t f m l.1 l.0 (omega (arith, held)))
-    small_decl (type_decl e) importing outer own fuel f m l is es held fit =
-        small_join (small_declares importing own outer item.«Type») (small_type e own outer fuel f m l.1 fit (omega (arith, l.0, deep)))
-    small_decl (type_alias count i k) importing outer own fuel f m l is es held fit =
+    small_decl : (d : Decl) (importing : Bool) (outer : List Scope) (own : Scope) (fuel : ℕ) (taken : Taken) (imported exported : List (List ℕ))
+        → FormedDeclaration d own outer → DeclLimits config d → IsReadableDecl d imported exported → LastsDecl d config (length (own ∷ outer)) fuel
+        → Kebabs (import_of d) → Kebabs (export_of d) → Holding 100 own → Fit (own ∷ outer) → Small (script_decl d config importing fuel taken own outer)
+    small_decl (core_type_decl t k) importing outer own fuel taken imported exported f m n l is es held fit =
+        small_join (small_declares importing own outer item.CoreType) (small_core config own fuel t f m n l (omega (arith, held)))
+    small_decl (type_decl e) importing outer own fuel taken imported exported f m n l is es held fit =
+        small_join (small_declares importing own outer item.«Type») (small_type e own outer fuel f m n l.1 fit (omega (arith, l.0, deep)))
+    small_decl (type_alias count i k) importing outer own fuel taken imported exported f m n l is es held fit =
         small_join (small_declares importing own outer item.Alias) (small_alias (λ s. s.types) (λ s. i) (own ∷ outer) fit count i f.0 f.1 (λ s h. omega arith))
-    small_decl (core_type_alias count i k) importing outer own fuel f m l is es held fit =
+    small_decl (core_type_alias count i k) importing outer own fuel taken imported exported f m n l is es held fit =
         small_join (small_declares importing own outer item.Alias)
         (small_alias (λ s. s.core_types) (λ s. length s.types + i) (own ∷ outer) fit count i f.0 f.1 (λ s h. omega arith))
-    small_decl (import_decl name u r) importing outer own fuel f m l is es held fit =
+    small_decl (import_decl name u r) importing outer own fuel taken imported exported f m n l is es held fit =
         small_join (small_byte 4 0 (omega arith) (omega arith))
-        (small_join (small_ref config own uncounted true true fit.each.0 r f.0) (small_extern name is.0 l))
-    small_decl (export_decl name u r) importing outer own fuel f m l is es held fit =
+        (small_join (small_ref config own uncounted true true fit.each.0 r f.0) (small_extern taken.imports name is.0))
+    small_decl (export_decl name u r) importing outer own fuel taken imported exported f m n l is es held fit =
         small_join (small_declares importing own outer item.Export)
-        (small_join (small_ref config own uncounted false true fit.each.0 r f) (small_extern name es.0 l))
+        (small_join (small_ref config own uncounted false true fit.each.0 r f) (small_extern taken.exports name es.0))
 
-    small_decls : (ds : Decls) (importing : Bool) (outer : List Scope) (own : Scope) (fuel done : ℕ) → FormedDeclarations ds own outer
-        → DeclsLimits config ds → LastsDecls ds config (length (own ∷ outer)) fuel → Kebabs (decl_imports ds) → Kebabs (decl_exports ds)
-        → done + decl_count ds ≤ 100 → Holding done own → Fit (own ∷ outer) → Small (script_decls ds config importing fuel done own outer)
-    small_decls no_decls importing outer own fuel done f m l is es few held fit = small_end done 100
-    small_decls (then_decls d ds) importing outer own fuel done f m l is es few held fit =
+    small_decls : (ds : Decls) (importing : Bool) (outer : List Scope) (own : Scope) (fuel done : ℕ) (taken : Taken) (imported exported : List (List ℕ))
+        → FormedDeclarations ds own outer → DeclsLimits config ds → AreReadableDecls ds imported exported → LastsDecls ds config (length (own ∷ outer)) fuel
+        → Kebabs (decl_imports ds) → Kebabs (decl_exports ds) → done + decl_count ds ≤ 100 → Holding done own → Fit (own ∷ outer)
+        → Small (script_decls ds config importing fuel done taken own outer)
+    small_decls no_decls importing outer own fuel done taken imported exported f m n l is es few held fit = small_end done 100
+    small_decls (then_decls d ds) importing outer own fuel done taken imported exported f m n l is es few held fit =
         let i = kebabs_split (import_of d) (decl_imports ds) is in
         let e = kebabs_split (export_of d) (decl_exports ds) es in
         let next : Scope = after_decl outer own d in
         let holds : Holding (done + 1) next = after_holding outer done own d held in
         let around : Fit (next ∷ outer) = record { many = fit.many; each = (omega (arith, holds, few), fit.each.1) } in
-        small_more 1 (omega arith) (small_join (small_decl d importing outer own (fuel - 1) f.0 m.0 l.1 i.0 e.0 (omega (arith, held, few)) fit)
-        (small_decls ds importing outer next (fuel - 1 - decl_cost d) (done + 1) f.1 m.1 l.2 i.1 e.1 (omega (arith, few)) holds around))
+        small_more 1 (omega arith)
+        (small_join (small_decl d importing outer own (fuel - 1) taken imported exported f.0 m.0 n.0 l.1 i.0 e.0 (omega (arith, held, few)) fit)
+        (small_decls ds importing outer next (fuel - 1 - decl_cost d) (done + 1) (after_taken taken d) (imported ++ names (import_of d))
+        (exported ++ names (export_of d)) f.1 m.1 n.1 l.2 i.1 e.1 (omega (arith, few)) holds around))
 
 -- The script of a type that can be said.
 pub type_bytes : (config : Config) (own : Scope) (outer : List Scope) (fuel : ℕ) (e : Entry) → config.max_nesting_depth ≤ 1000
     → IsSayable config own outer fuel e → AreBytes (script_type e config fuel own outer)
-type_bytes config own outer fuel e deep said = (small_type config deep e own outer fuel said.formed said.limits said.lasts said.fit said.shallow).are
+type_bytes config own outer fuel e deep said =
+    (small_type config deep e own outer fuel said.formed said.limits said.readable said.lasts said.fit said.shallow).are

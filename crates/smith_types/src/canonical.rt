@@ -12,7 +12,8 @@ ghost use Rattle.smith_syntax.specs.Signature.{named};
 ghost use Rattle.smith_syntax.specs.WellFormed.{Named};
 ghost use Rattle.smith_types.specs.Lifting.{IsLiftable, IsLiftableFunction, ReadsParams, ReadsLifted};
 ghost use Rattle.smith_types.specs.Offers.{lifted};
-ghost use Rattle.smith_types.specs.Script.{AreShort, script_lifted};
+ghost use Rattle.smith_types.specs.Readable.{AreReadableNames};
+ghost use Rattle.smith_types.specs.Script.{script_lifted};
 
 use smith_format::ValType;
 use smith_input::{Error, Unstructured, new_kebab_string};
@@ -151,7 +152,8 @@ pub fn inverse_scalar_canonical_abi_for(
     ensures named { IfOk result (λ f. Named (map (λ p. p.0) f.params)) }
     // The script of a function type that flattens to the core function type gives that type.
     ensures script { (s : Signature) (rest : List ℕ) → Flattens s (shown_func core.now)
-        → Named (map (λ p. p.0) s.params) → AreShort (map (λ p. p.0) s.params) → u.old ≡ script_lifted s ++ rest
+        → Named (map (λ p. p.0) s.params) → AreReadableNames (map (λ p. p.0) s.params)
+        → u.old ≡ script_lifted s ++ rest
         → IfOk result (λ f. (f ≡ s) × (u.new ≡ rest)) }
     ensures memory { IfErr result (λ e. e ≡ Error.OutOfMemory) }
     ensures tail { IsTail u.new u.old }

@@ -11,11 +11,12 @@ ghost use Rattle.smith_syntax.specs.Scope.{Scope, is_component, is_core_module, 
 ghost use Rattle.smith_syntax.specs.TypeLimits.{EntryLimits};
 ghost use Rattle.smith_syntax.specs.WellFormed.{FormedEntry, FormedRef, core_size, size};
 ghost use Rattle.smith_syntax.specs.declared.deftype.ComponentTypeRef.TheVariants.{Func};
-ghost use Rattle.smith_types.specs.Brief.{Brief};
 ghost use Rattle.smith_types.specs.Made.{Made, MadeWith};
 ghost use Rattle.smith_types.specs.Needs.{need, Nests};
 ghost use Rattle.smith_types.specs.Offers.{IsAllowed};
-ghost use Rattle.smith_types.specs.Script.{Fit, IsSayable, script_ref, script_type};
+ghost use Rattle.smith_types.specs.Readable.{IsReadableType};
+ghost use Rattle.smith_types.specs.Sayable.{Fit, IsSayable};
+ghost use Rattle.smith_types.specs.Script.{script_ref, script_type};
 ghost use Rattle.smith_types.specs.declared.make.references.RefTotals.{RefTotals};
 
 pub use smith_core_types::laws::{
@@ -30,8 +31,8 @@ pub fn types_are_decided()
         → IsDecided (λ bytes (made : FullEntry × ℕ) rest. Made config own outer bytes fuel made.0 rest made.1) }
 {}
 
-/// The script of a type that is well formed in its scopes and within the limits, and for which the fuel lasts, is read
-/// as that type.
+/// The script of a type that is well formed in its scopes and within the limits, whose names can be read, and for which
+/// the fuel lasts, is read as that type.
 pub fn scripts_are_read()
     ensures { (config : Config) (own : Scope) (outer : List Scope) (fuel : ℕ) (e : Entry)
         → config.max_nesting_depth ≤ 1000 → IsSayable config own outer fuel e
@@ -56,12 +57,12 @@ pub fn function_imports_choose_no_kind()
 {}
 
 /// A type that is read, on any input, needs no more fuel than there was, and declares types only where one more scope
-/// may nest.
+/// may nest. All names within it can be read.
 pub fn answers_need_no_more()
     ensures { (config : Config) (own : Scope) (outer : List Scope) (bytes : List ℕ) (fuel : ℕ) (made : FullEntry)
         (rest : List ℕ) (left : ℕ)
         → Made config own outer bytes fuel made rest left
-        → (need (plain made) ≤ fuel) × Nests (plain made) config (length (own ∷ outer)) }
+        → (need (plain made) ≤ fuel) × Nests (plain made) config (length (own ∷ outer)) × IsReadableType (plain made) }
 {}
 
 /// No type is larger than the fuel that it needs.
@@ -70,12 +71,12 @@ pub fn sizes_are_needed()
     ensures core_types { (t : CoreEntry) → core_size t ≤ core_need t }
 {}
 
-/// A type whose names can be read, well formed in its scopes and within the limits, is read on some input exactly if
-/// there is fuel for it and it declares types only where one more scope may nest.
+/// A type is read on some input exactly if it is well formed in its scopes and within the limits, its names can be
+/// read, there is fuel for it, and it declares types only where one more scope may nest.
 pub fn types_are_exact()
     ensures { (config : Config) (own : Scope) (outer : List Scope) (fuel : ℕ) (e : Entry)
-        → config.max_nesting_depth ≤ 1000 → FormedEntry e own outer → EntryLimits config e → Brief e
-        → Fit (own ∷ outer) → length (own ∷ outer) ≤ 1000
+        → config.max_nesting_depth ≤ 1000 → Fit (own ∷ outer) → length (own ∷ outer) ≤ 1000
         → ((bytes rest : List ℕ) × MadeWith config own outer fuel bytes e rest)
-        ↔ ((need e ≤ fuel) × Nests e config (length (own ∷ outer))) }
+        ↔ (FormedEntry e own outer × EntryLimits config e × IsReadableType e × (need e ≤ fuel)
+        × Nests e config (length (own ∷ outer))) }
 {}

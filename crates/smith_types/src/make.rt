@@ -16,7 +16,8 @@ ghost use Rattle.std.specs.Prelude.{◌≡◌, ◌+◌, ◌≤◌, ◌++◌, ℕ
 ghost use Rattle.smith_input.specs.Reading.{IsTail};
 ghost use Rattle.smith_format.specs.Limits.{configured, IsConsistent};
 ghost use Rattle.smith_types.specs.Made.{Made};
-ghost use Rattle.smith_types.specs.Script.{IsSayable, script_type};
+ghost use Rattle.smith_types.specs.Sayable.{IsSayable};
+ghost use Rattle.smith_types.specs.Script.{script_type};
 ghost use Rattle.smith_scopes.specs.Scopes.{own_scope, outer_scopes};
 ghost use Rattle.smith_syntax.specs.Entries.{Entry};
 ghost use Rattle.smith_syntax.specs.Shown.{full_type, shown_shared};

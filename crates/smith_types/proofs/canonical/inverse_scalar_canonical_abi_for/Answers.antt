@@ -18,5 +18,5 @@ returns-clause-named c =
     params_named (omega (arith, ap length c.deref.ensures.value, held.ok.0, held.ok.1, held.small)) c.in_ok-params.ensures.reads
 
 pub returns-clause-script : goal.returns-clause-script
-returns-clause-script c s rest flat names short begins = lifted_scripted (shown_func c.args.core.now) s _ _ rest _ flat names short begins
+returns-clause-script c s rest flat names readable begins = lifted_scripted (shown_func c.args.core.now) s _ _ rest _ flat names readable begins
     (returns-clause-reads c)
