@@ -2,10 +2,10 @@ pub mod Alike
 pub mod Declaring
 pub mod ModuleAlike
 pub mod ModuleTurns
-pub mod Names
 pub mod Nodes
 pub mod Picking
 pub mod Placing
+pub mod ReadableTexts
 pub mod Saying
 pub mod Sorts
 pub mod StandIns

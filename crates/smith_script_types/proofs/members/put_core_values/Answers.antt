@@ -1,3 +1,4 @@
+use Rattle.std.proofs.Common.{◌+◌}
 use Rattle.smith_input.specs.Script.{script_among}
 use Rattle.smith_format.specs.Equality.{same_val}
 use Rattle.smith_script_types.proofs.Turns.{any_state}
