@@ -129,7 +129,6 @@ record SameExports (t : Tree) (s : Standing) (z : List ExportEntry) : Type 0 whe
   count : s.exports ≡ length (exports_of t) + length z
 
 module _ (config : Config) (scopes : List Scope) (t : Tree) where
-
   export_same : (s : Standing) (z : List ExportEntry) (x : ExportEntry) → SameExports t s z → export_says config scopes s x ≡ script_export t z x
   export_same s z x r =
       ap (λ fs. pick (length fs) x.func ++ script_new 100 s.exports x.name) r.functions

@@ -1,5 +1,5 @@
 -- Stand-ins as they are read from their bytes, step by step.
-use Rattle.std.proofs.Common.{◌≡◌, ℕ, zero, suc, ◌+◌, ◌-◌, List, [], ◌∷◌, ◌++◌, ap, sym, ◌∙◌, append-nil, arith}
+use Rattle.std.proofs.Common.{◌≡◌, ℕ, zero, suc, ◌+◌, List, [], ◌∷◌, ◌++◌, ap, sym, ◌∙◌, append-nil, arith}
 use Rattle.std.specs.Prelude.{min}
 use Rattle.smith_input.specs.Script.{script_end, script_more}
 use Rattle.smith_format.specs.CoreScript.{script_function}

@@ -1,5 +1,4 @@
-use Rattle.std.proofs.Common.{◌≡◌, ◌+◌, ◌≤◌, ◌^◌, ◌<◌, ◌/◌, length, sym, arith}
-use Rattle.std.specs.Fmt.{decimal}
+use Rattle.std.proofs.Common.{sym, arith}
 use Rattle.smith_script_types.proofs.ReadableTexts.{few_digits, more_digits, one_digit}
 use Rattle.smith_script_types.proofs.names.+decimal_len.Goals as goal
 

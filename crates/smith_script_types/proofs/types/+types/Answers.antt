@@ -1,4 +1,4 @@
-use Rattle.std.proofs.Common.{◌≡◌, ◌+◌, ◌∷◌, [], refl, sym, ◌∙◌, ap, map, length, arith}
+use Rattle.std.proofs.Common.{◌≡◌, ◌+◌, ◌∷◌, [], refl, ◌∙◌, ap, map, length, arith}
 use Rattle.smith_read_types.specs.TypeNodes.{shown_decl_node}
 use Rattle.smith_types.specs.Script.{after_taken}
 use Rattle.smith_script_types.proofs.Declaring.{decls_at, decls_over, decls_step}
