@@ -19,7 +19,8 @@ use Rattle.smith_syntax.specs.Scope.{Scope, places, with_type}
 use Rattle.smith_syntax.specs.Shown.{is_of_signature}
 use Rattle.smith_syntax.specs.SameSignature.{same_signature_Decides}
 use Rattle.smith_syntax.specs.WellFormed.{FormedTypes, Named}
-use Rattle.smith_types.specs.Script.{AreShort, Lasts, script_lifted}
+use Rattle.smith_types.specs.Readable.{AreReadableNames, IsReadableType}
+use Rattle.smith_types.specs.Script.{script_lifted}
 use Rattle.smith_component.specs.CanonScript.{canon_item_of, script_canon, script_canon_rest, script_lift}
 use Rattle.smith_component.specs.Canonicals.{CanonTurn, Growing, NoCanon, ReadsCanon, spaces_at, to_equal, with_canon}
 use Rattle.smith_component.specs.Offers.{canon_items, canon_offers, is_scalar_entry, is_scalar_type, scalar_functions}
@@ -44,21 +45,17 @@ item_Decides a b = (same_true canon_item_type tt a b, true_same canon_item_type 
 -- The parameters of a function type can be said.
 abbrev pub Spoken : Entry → Type 0
 Spoken (defined t) = Unit {0}
-Spoken (function s) = Named (map (λ p. p.0) s.params) × AreShort (map (λ p. p.0) s.params)
+Spoken (function s) = Named (map (λ p. p.0) s.params) × AreReadableNames (map (λ p. p.0) s.params)
 Spoken (component_type ds) = Unit {0}
 Spoken (instance_type ds) = Unit {0}
 
--- Those of a plan can.
-pub types_spoken : (es : List Entry) (own : Scope) (outer : List Scope) (config : Config) (scopes fuel : ℕ) → FormedTypes es own outer
-    → AllByRecursion (λ e. Lasts e config scopes fuel) es → AllByRecursion Spoken es
-types_spoken [] own outer config scopes fuel f l = tt
-types_spoken (defined t ∷ es) own outer config scopes fuel f l = (tt, types_spoken es (with_type own (defined t)) outer config scopes fuel f.1 l.1)
-types_spoken (function s ∷ es) own outer config scopes fuel f l =
-    ((f.0.0, l.0.0), types_spoken es (with_type own (function s)) outer config scopes fuel f.1 l.1)
-types_spoken (component_type ds ∷ es) own outer config scopes fuel f l =
-    (tt, types_spoken es (with_type own (component_type ds)) outer config scopes fuel f.1 l.1)
-types_spoken (instance_type ds ∷ es) own outer config scopes fuel f l =
-    (tt, types_spoken es (with_type own (instance_type ds)) outer config scopes fuel f.1 l.1)
+-- Those of types that can be read can.
+pub types_spoken : (es : List Entry) (own : Scope) (outer : List Scope) → FormedTypes es own outer → AllByRecursion IsReadableType es → AllByRecursion Spoken es
+types_spoken [] own outer f r = tt
+types_spoken (defined t ∷ es) own outer f r = (tt, types_spoken es (with_type own (defined t)) outer f.1 r.1)
+types_spoken (function s ∷ es) own outer f r = ((f.0.0, r.0), types_spoken es (with_type own (function s)) outer f.1 r.1)
+types_spoken (component_type ds ∷ es) own outer f r = (tt, types_spoken es (with_type own (component_type ds)) outer f.1 r.1)
+types_spoken (instance_type ds ∷ es) own outer f r = (tt, types_spoken es (with_type own (instance_type ds)) outer f.1 r.1)
 
 -- the choice of an item that is offered
 item_read : (s : Spaces) (k : ℕ) (b : Bool) (item : CanonItem) (rest : List ℕ) → slice_get (canon_offers s) k ≡ Some (b, item) → b ≡ true

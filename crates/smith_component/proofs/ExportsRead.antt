@@ -1,20 +1,21 @@
 -- The script of exports is read as them.
-use Rattle.std.proofs.Common.{◌≡◌, ℕ, ◌+◌, ◌-◌, ◌<◌, ◌≤◌, ◌^◌, false, List, [], ◌∷◌, ◌++◌, length, arith, refl, sym, subst, append_assoc}
-use Rattle.std.proofs.Common.{length-append}
+use Rattle.std.proofs.Common.{◌≡◌, ℕ, ◌+◌, ◌-◌, ◌<◌, ◌≤◌, ◌^◌, List, [], ◌∷◌, ◌++◌, length, arith, refl, sym, subst, append_assoc}
+use Rattle.std.proofs.Common.{append-nil, length-append, ◌∙◌}
+use Rattle.std.proofs.lemmas.List.{length-map}
 use Rattle.std.specs.List.{AllByRecursion}
 use Rattle.smith_input.specs.Kebab.{Kebab}
 use Rattle.smith_input.specs.Loops.{Along, Loop}
-use Rattle.smith_input.specs.NewNames.{is_among}
-use Rattle.smith_input.specs.Script.{pick, script_name}
+use Rattle.smith_input.specs.Names.{ReadsNew}
+use Rattle.smith_input.specs.NameScript.{AreReachable, IsReachable, script_new}
+use Rattle.smith_input.specs.Script.{pick}
 use Rattle.smith_input.proofs.Loops.{loop_read}
-use Rattle.smith_input.proofs.NewNames.{new_read}
+use Rattle.smith_input.proofs.NameScript.{new_script_read}
 use Rattle.smith_input.proofs.Picks.{reads-pick}
 use Rattle.smith_format.specs.declared.config.Config.{Config}
 use Rattle.smith_syntax.specs.WellFormed.{Named}
-use Rattle.smith_core_types.proofs.Names.{AreNew}
 use Rattle.smith_component.specs.Exports.{NoExport, ReadsExport, ReadsExports}
 use Rattle.smith_component.specs.Offers.{with_exports}
-use Rattle.smith_component.specs.Script.{IsPlanExport, script_export, script_exports}
+use Rattle.smith_component.specs.Script.{script_export, script_exports}
 use Rattle.smith_component.specs.Spaces.{functions_of, spaces_of}
 use Rattle.smith_component.specs.Tree.{ExportEntry, Tree, exports, exports_in, exports_of, function_count}
 use Rattle.smith_component.specs.WellFormed.{FormedExports, export_names}
@@ -28,23 +29,26 @@ module _ (t : Tree) where
   abbrev names_at : List ExportEntry → List (List ℕ)
   names_at s = export_names (exports_of t ++ s)
 
+  names_count : (s : List ExportEntry) → length (names_at s) ≡ length (exports_of t) + length s
+  names_count s = length-map (exports_of t ++ s) (λ (e : ExportEntry). e.name) ∙ length-append (exports_of t) s
+
   -- an export that can be said behind others
   record Sayable (s : List ExportEntry) (x : ExportEntry) : Type 0 where
-    planned : IsPlanExport x
+    reachable : IsReachable 100 (names_at s) x.name
     stands : x.func < length (functions_of (with_exports t s))
     few : length (functions_of (with_exports t s)) ≤ 2 ^ 64
     kebab : Kebab x.name
-    new : is_among (names_at s) x.name ≡ false
 
   export_read : (s : List ExportEntry) (x : ExportEntry) (rest : List ℕ) → Sayable s x
       → ReadsExport t s (script_export t s x ++ rest) x rest (s ++ x ∷ [])
   export_read s x rest h =
       let p : List ℕ = pick (length (functions_of (with_exports t s))) x.func in
-      let n : List ℕ = script_name 100 x.name in
+      let n : List ℕ = script_new 100 (length (exports_of t) + length s) x.name in
       subst (λ z. ReadsExport t s z x rest (s ++ x ∷ [])) (sym (append_assoc p n rest)) (record {
         mid = n ++ rest;
         of = reads-pick (length (functions_of (with_exports t s))) x.func (n ++ rest) h.few h.stands;
-        named = new_read 100 (names_at s) x.name rest (omega arith) h.kebab h.planned h.new;
+        named = subst (λ c. ReadsNew 100 (names_at s) (script_new 100 c x.name ++ rest) x.name rest) (names_count s)
+            (new_script_read 100 (names_at s) x.name rest (omega arith) h.kebab h.reachable);
         next_is = refl;
       })
 
@@ -54,25 +58,28 @@ module _ (t : Tree) where
   few_functions s h =
       omega (arith, h, (functions_counted (with_exports t s)).most, function_count-add t (exports s), length-own-add exports_in t (exports s))
 
-  all_sayable : (s xs : List ExportEntry) → AllByRecursion IsPlanExport xs → FormedExports xs (spaces_of (with_exports t s))
-      → AllByRecursion Kebab (export_names xs) → AreNew (names_at s) (export_names xs)
+  all_sayable : (s xs : List ExportEntry) → AreReachable 100 (names_at s) (export_names xs) → FormedExports xs (spaces_of (with_exports t s))
+      → AllByRecursion Kebab (export_names xs)
       → function_count t + (length (exports_of t) + (length s + length xs)) ≤ 2 ^ 64 → Along Sayable (λ u x. u ++ x ∷ []) s xs
-  all_sayable s [] p f k n h = tt
-  all_sayable s (x ∷ xs) p f k n h = (
-    record { planned = p.0; stands = f.0; few = few_functions s (omega (arith, h)); kebab = k.0; new = n.0 },
-    all_sayable (s ++ x ∷ []) xs p.1 (subst (FormedExports xs) (sym (spaces_export t s x)) f.1) k.1
-        (subst (λ z. AreNew z (export_names xs))
-        (sym (names_with_more (λ (e : ExportEntry). e.name) (exports_of t) s x)) n.1) (omega (arith, h, length-append s (x ∷ []))),
+  all_sayable s [] p f k h = tt
+  all_sayable s (x ∷ xs) p f k h = (
+    record { reachable = p.0; stands = f.0; few = few_functions s (omega (arith, h)); kebab = k.0 },
+    all_sayable (s ++ x ∷ []) xs
+        (subst (λ z. AreReachable 100 z (export_names xs)) (sym (names_with_more (λ (e : ExportEntry). e.name) (exports_of t) s x)) p.1)
+        (subst (FormedExports xs) (sym (spaces_export t s x)) f.1) k.1 (omega (arith, h, length-append s (x ∷ []))),
   )
 
   -- The script of the exports of a plan is read as them.
-  pub exports_read : (config : Config) (es : List ExportEntry) (rest : List ℕ) → AllByRecursion IsPlanExport es → FormedExports es (spaces_of t)
+  pub exports_read : (config : Config) (es : List ExportEntry) (rest : List ℕ)
+      → AreReachable 100 (export_names (exports_of t)) (export_names es) → FormedExports es (spaces_of t)
       → Named (export_names (exports_of t ++ es)) → length es ≤ config.max_exports - length (exports_of t)
       → function_count t + (length (exports_of t) + length es) ≤ 2 ^ 64 → ReadsExports config t (script_exports config t es ++ rest) es rest
-  exports_read config es rest planned formed named fits few =
+  exports_read config es rest reachable formed named fits few =
       let behind = named_behind (λ (e : ExportEntry). e.name) (exports_of t) es named in
       let start : FormedExports es (spaces_of (with_exports t [])) = subst (FormedExports es) (sym (spaces-add t (exports []))) formed in
-      let all = all_sayable [] es planned start behind.0 behind.1 (omega (arith, few)) in
+      let from : AreReachable 100 (names_at []) (export_names es) =
+      subst (λ z. AreReachable 100 (export_names z) (export_names es)) (sym (append-nil (exports_of t))) reachable in
+      let all = all_sayable [] es from start behind.0 (omega (arith, few)) in
       let B : List ℕ = script_exports config t es ++ rest in
       let L : List ExportEntry → Type 0 = λ u. Loop (NoExport t) (ReadsExport t) 0 (config.max_exports - length (exports_of t)) 0 [] B es rest u in
       subst L (all_of_them [] es) (loop_read (script_export t) (λ u x. u ++ x ∷ []) Sayable export_read es 0 [] rest all (omega arith) (omega (arith, fits)))

@@ -2,20 +2,20 @@
 use Rattle.std.proofs.Common.{◌≡◌, ℕ, ◌+◌, ◌-◌, ◌<◌, ◌≤◌, ◌^◌, true, false, List, [], ◌∷◌, ◌++◌, map, length, arith, refl, sym, ap, ◌∙◌, subst, append_assoc}
 use Rattle.std.proofs.Common.{append-nil, nat_lt, None}
 use Rattle.std.proofs.lemmas.Bool.Decides.{nat_tests}
+use Rattle.std.proofs.lemmas.List.{length-append, length-map}
 use Rattle.std.specs.List.{AllByRecursion}
 use Rattle.smith_input.specs.Kebab.{Kebab}
 use Rattle.smith_input.specs.Loops.{Along, Loop, after_all}
-use Rattle.smith_input.specs.NewNames.{is_among}
-use Rattle.smith_input.specs.Script.{script_name}
+use Rattle.smith_input.specs.Names.{ReadsNew}
+use Rattle.smith_input.specs.NameScript.{AreReachable, IsReachable, script_new}
 use Rattle.smith_input.proofs.Loops.{loop_read}
-use Rattle.smith_input.proofs.NewNames.{new_read}
+use Rattle.smith_input.proofs.NameScript.{new_script_read}
 use Rattle.smith_input.proofs.Reading.{flips_zero}
 use Rattle.smith_format.specs.declared.config.Config.{Config}
 use Rattle.smith_syntax.specs.Entries.{ImportEntry}
 use Rattle.smith_syntax.specs.WellFormed.{Named, names, is_type_eq}
 use Rattle.smith_syntax.specs.declared.deftype.ComponentTypeRef.{ComponentTypeRef}
 use Rattle.smith_syntax.specs.declared.deftype.ComponentTypeRef.TheVariants as to
-use Rattle.smith_core_types.proofs.Names.{AreNew}
 use Rattle.smith_types.specs.Declarations.{NamedExtern, no_url}
 use Rattle.smith_types.specs.Script.{script_ref}
 use Rattle.smith_types.specs.declared.make.references.RefTotals.{RefTotals}
@@ -24,7 +24,7 @@ use Rattle.smith_types.specs.Offers.{IsAllowed}
 use Rattle.smith_component.specs.Imports.{NoImport, ReadsImport, ReadsImports}
 use Rattle.smith_component.specs.Offers.{totals_of, with_imports}
 use Rattle.smith_component.specs.Open.{Open}
-use Rattle.smith_component.specs.Script.{script_import, script_imports, IsPlanImport}
+use Rattle.smith_component.specs.Script.{script_import, script_imports}
 use Rattle.smith_component.specs.Spaces.{core_types_of, types_of}
 use Rattle.smith_component.specs.Tree.{module_of, function_of, component_of, instance_of, imports_of}
 use Rattle.smith_component.specs.WellFormed.{FormedImport, import_names, scope_of}
@@ -56,22 +56,24 @@ module _ (config : Config) (stack : Open) (few : length (types_of stack.inner) +
   abbrev names_at : List ImportEntry → List (List ℕ)
   names_at s = import_names (imports_of stack.inner ++ s)
 
+  names_count : (s : List ImportEntry) → length (names_at s) ≡ length (imports_of stack.inner) + length s
+  names_count s = length-map (imports_of stack.inner ++ s) (λ (i : ImportEntry). i.name) ∙ length-append (imports_of stack.inner) s
+
   abbrev totals_at : List ImportEntry → RefTotals
   totals_at s = totals_of (with_imports stack s)
 
   -- an import that can be said behind others
   record Sayable (s : List ImportEntry) (x : ImportEntry) : Type 0 where
-    planned : IsPlanImport x
     formed : FormedImport (scope_of stack.inner) x
     kebab : Kebab x.name
-    new : is_among (names_at s) x.name ≡ false
+    reachable : IsReachable 100 (names_at s) x.name
     room : IsAllowed config (scope_of stack.inner) (totals_at s) true false x.to
 
   import_read : (s : List ImportEntry) (x : ImportEntry) (rest : List ℕ) → Sayable s x
       → ReadsImport config stack s (script_import config stack s x ++ rest) x rest (s ++ x ∷ [])
   import_read s x rest h =
       let a : List ℕ = script_ref config (scope_of stack.inner) (totals_at s) true false x.to in
-      let n : List ℕ = script_name 100 x.name in
+      let n : List ℕ = script_new 100 (length (imports_of stack.inner) + length s) x.name in
       let whole : (a ++ (n ++ 0 ∷ [])) ++ rest ≡ a ++ (n ++ (0 ∷ rest)) = append_assoc a (n ++ 0 ∷ []) rest ∙ ap (λ z. a ++ z) (append_assoc n (0 ∷ []) rest) in
       let so_far : List NamedExtern = plain_names (names_at s) in
       let same : names so_far ≡ names_at s = plain_names_are (names_at s) in
@@ -83,7 +85,9 @@ module _ (config : Config) (stack : Open) (few : length (types_of stack.inner) +
         names_are = same;
         named = record {
           mid = 0 ∷ rest;
-          name = new_read 100 (names so_far) x.name (0 ∷ rest) (omega arith) h.kebab h.planned (subst (λ z. is_among z x.name ≡ false) (sym same) h.new);
+          name = subst (λ z. ReadsNew 100 z (n ++ (0 ∷ rest)) x.name (0 ∷ rest)) (sym same)
+              (subst (λ c. ReadsNew 100 (names_at s) (script_new 100 c x.name ++ (0 ∷ rest)) x.name (0 ∷ rest)) (names_count s)
+              (new_script_read 100 (names_at s) x.name (0 ∷ rest) (omega arith) h.kebab h.reachable));
           url = no_url (flips_zero rest);
         };
         next_is = refl;
@@ -113,25 +117,28 @@ module _ (config : Config) (stack : Open) (few : length (types_of stack.inner) +
   one_allowed s x (to.Component i) e f r = below _ _ (omega (arith, r.components, components_more stack s x, ap (λ z. length (component_of z)) e))
   one_allowed s x (to.Instance i) e f r = below _ _ (omega (arith, r.instances, instances_more stack s x, ap (λ z. length (instance_of z)) e))
 
-  all_sayable : (s xs : List ImportEntry) → AllByRecursion IsPlanImport xs → AllByRecursion (FormedImport (scope_of stack.inner)) xs
-      → AllByRecursion Kebab (import_names xs) → AreNew (names_at s) (import_names xs)
+  all_sayable : (s xs : List ImportEntry) → AreReachable 100 (names_at s) (import_names xs) → AllByRecursion (FormedImport (scope_of stack.inner)) xs
+      → AllByRecursion Kebab (import_names xs)
       → Room config (totals_at (s ++ xs)) → Along Sayable (λ t x. t ++ x ∷ []) s xs
-  all_sayable s [] p f k n h = tt
-  all_sayable s (x ∷ xs) p f k n h =
+  all_sayable s [] p f k h = tt
+  all_sayable s (x ∷ xs) p f k h =
       let next : List ImportEntry = s ++ x ∷ [] in
       let all : Room config (totals_at (next ++ xs)) = subst (λ z. Room config (totals_at z)) (sym (append_assoc s (x ∷ []) xs)) h in (
-        record { planned = p.0; formed = f.0; kebab = k.0; new = n.0; room = one_allowed s x x.to refl f.0.1 (room_before next xs all) },
-        all_sayable next xs p.1 f.1 k.1
-            (subst (λ z. AreNew z (import_names xs)) (sym (names_with_more (λ (i : ImportEntry). i.name) (imports_of stack.inner) s x)) n.1) all,
+        record { formed = f.0; kebab = k.0; reachable = p.0; room = one_allowed s x x.to refl f.0.1 (room_before next xs all) },
+        all_sayable next xs
+            (subst (λ z. AreReachable 100 z (import_names xs)) (sym (names_with_more (λ (i : ImportEntry). i.name) (imports_of stack.inner) s x)) p.1)
+            f.1 k.1 all,
       )
 
   -- The script of the imports of a plan is read as them.
-  pub imports_read : (is : List ImportEntry) (rest : List ℕ) → AllByRecursion IsPlanImport is → AllByRecursion (FormedImport (scope_of stack.inner)) is
+  pub imports_read : (is : List ImportEntry) (rest : List ℕ) → AreReachable 100 (import_names (imports_of stack.inner)) (import_names is) → AllByRecursion (FormedImport (scope_of stack.inner)) is
       → Named (import_names (imports_of stack.inner ++ is)) → Room config (totals_at is)
       → length is ≤ config.max_imports - length (imports_of stack.inner) → ReadsImports config 0 stack (script_imports config stack is ++ rest) is rest
-  imports_read is rest planned formed named room fits =
+  imports_read is rest reachable formed named room fits =
       let behind = named_behind (λ (i : ImportEntry). i.name) (imports_of stack.inner) is named in
-      let all = all_sayable [] is planned formed behind.0 behind.1 room in
+      let start : AreReachable 100 (names_at []) (import_names is) =
+      subst (λ z. AreReachable 100 (import_names z) (import_names is)) (sym (append-nil (imports_of stack.inner))) reachable in
+      let all = all_sayable [] is start formed behind.0 room in
       let B : List ℕ = script_imports config stack is ++ rest in
       let L : List ImportEntry → Type 0 = λ t. Loop (NoImport config stack) (ReadsImport config stack) 0 (config.max_imports - length (imports_of stack.inner))
       0 [] B is rest t in

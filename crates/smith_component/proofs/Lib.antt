@@ -44,3 +44,7 @@ pub mod TooLong
 pub mod Tree
 pub mod Turn
 pub mod WellFormed
+pub mod Encoded
+pub mod Plan
+pub mod Planned
+pub mod RunsReadable

@@ -11,7 +11,9 @@ use Rattle.smith_types.specs.Needs.{declaring, need}
 use Rattle.smith_types.proofs.MadeTypes.{made_tail, made_limits, made_nesting}
 use Rattle.smith_types.proofs.MadeFormed.{made_formed}
 use Rattle.smith_types.proofs.MadeSame.{made_same}
+use Rattle.smith_types.specs.Readable.{IsReadableType}
 use Rattle.smith_types.proofs.Needs.{declared_within, made_needs}
+use Rattle.smith_types.proofs.MadeReadable.{made_readable}
 
 module _ {config : Config} {own : Scope} {outer : List Scope} {fuel : ℕ} {b rest : List ℕ} {e : Entry} (m : MadeWith config own outer fuel b e rest) where
   pub made_with_tail : IsTail rest b
@@ -37,6 +39,9 @@ module _ {config : Config} {own : Scope} {outer : List Scope} {fuel : ℕ} {b re
   made_with_declared =
       let n = made_needs config own outer b fuel m.full rest m.left m.made in
       omega (arith, ap declaring m.shown, declared_within (plain m.full) config (length (own ∷ outer)) n.nests)
+
+  pub made_with_readable : IsReadableType e
+  made_with_readable = subst IsReadableType (sym m.shown) (made_readable config own outer b fuel m.full rest m.left m.made)
 
   -- It is determined.
   pub made_with_same : {f : Entry} {other : List ℕ} → MadeWith config own outer fuel b f other → (e ≡ f) × (rest ≡ other)

@@ -8,6 +8,8 @@ use Rattle.smith_input.specs.Loops.{Loop}
 use Rattle.smith_input.specs.Names.{ReadsNew}
 use Rattle.smith_input.specs.NewNames.{is_among}
 use Rattle.smith_input.proofs.Loops.{loop_gives}
+use Rattle.smith_input.specs.NameScript.{AreReachable}
+use Rattle.smith_input.proofs.NameScript.{new_reachable}
 use Rattle.smith_input.proofs.NewNames.{new_kebab}
 use Rattle.smith_format.specs.declared.config.Config.{Config}
 use Rattle.smith_format.specs.Limits.{max_u32}
@@ -54,10 +56,9 @@ module _ {A : Type 0} (name : A → List ℕ) (before : List A) where
 
   -- an entry that is read under a name which is new among them all
   pub record NewEntry (s : List A) (x : A) (t : List A) : Type 0 where
-    pub max : ℕ
     pub bytes : List ℕ
     pub rest : List ℕ
-    pub read : ReadsNew max (names_with s) bytes (name x) rest
+    pub read : ReadsNew 100 (names_with s) bytes (name x) rest
     pub next_is : t ≡ s ++ x ∷ []
 
   -- The names stay distinct and in kebab case, where there are few.
@@ -80,6 +81,20 @@ module _ {A : Type 0} (name : A → List ℕ) (before : List A) where
     loop_named {b = b} {rest = rest} {xs = xs} few h r =
         loop_gives KeepsNames (λ s k n. n) (λ s c q t e k n. subst (λ z. Named (names_with z)) (sym (ends s c q t e)) n) keeps_names 0 [] b xs rest xs r
         (omega (arith, few)) (subst (λ z. Named (map name z)) (sym (append-nil before)) h)
+
+  -- Each name that a loop reads can be read behind those before it.
+  module _ {Ends : List A → List ℕ → List ℕ → List A → Type 0} {Item : List A → List ℕ → A → List ℕ → List A → Type 0}
+      (items : (s : List A) (b : List ℕ) (x : A) (r : List ℕ) (t : List A) → Item s b x r t → NewEntry s x t) where
+    pub loop_reachable : {min max : ℕ} {b rest : List ℕ} {xs : List A} → Loop Ends Item min max 0 [] b xs rest xs
+        → AreReachable 100 (map name before) (map name xs)
+    loop_reachable {b = b} {rest = rest} {xs = xs} r =
+        let all : AreReachable 100 (names_with []) (map name xs) =
+        loop_gives (λ s ys t. AreReachable 100 (names_with s) (map name ys)) (λ s. tt) (λ s c q t e. tt)
+        (λ s t u c x q ys i later.
+        let new : NewEntry s x t = items s c x q t i in
+        (new_reachable new.read, subst (λ ns. AreReachable 100 ns (map name ys)) (ap names_with new.next_is ∙ names_with_more s x) later))
+        0 [] b xs rest xs r in
+        subst (λ z. AreReachable 100 (map name z) (map name xs)) (append-nil before) all
 
 formed_inner : (us : List Tree) (outer : List Scope) (t : Tree) → Formed (tree_so_far us t) outer ends → (around : List Scope) × Formed t around ends
 formed_inner [] outer t f = (outer, f)

@@ -1,5 +1,5 @@
 -- The script of a part of a plan is read as that part, and a component that lacks nothing is finished as it is.
-use Rattle.std.proofs.Common.{◌≡◌, ℕ, suc, ◌+◌, ◌-◌, ◌≤◌, ◌^◌, List, [], ◌∷◌, ◌++◌, map, length, arith, refl, sym, subst, inl, append_assoc}
+use Rattle.std.proofs.Common.{◌≡◌, ℕ, suc, ◌+◌, ◌-◌, ◌≤◌, ◌^◌, List, [], ◌∷◌, ◌++◌, map, length, arith, refl, sym, ap, subst, inl, append_assoc}
 use Rattle.std.proofs.Common.{length-append}
 use Rattle.std.specs.List.{AllByRecursion}
 use Rattle.std.specs.Str.{IsUtf8}
@@ -15,11 +15,13 @@ use Rattle.smith_component.specs.Canonicals.{empty_section}
 use Rattle.smith_component.specs.Offers.{totals_of, with_imports}
 use Rattle.smith_component.specs.Limits.{Maxima, Minima, OwnLimits}
 use Rattle.smith_syntax.specs.TypeLimits.{EntryLimits}
-use Rattle.smith_types.specs.Script.{Lasts}
+use Rattle.smith_types.specs.Sayable.{Lasts}
 use Rattle.smith_component.specs.Open.{Open, scopes_from, scopes_in, tree_so_far}
-use Rattle.smith_component.specs.Script.{item_of, script_part, IsPlanPart}
+use Rattle.smith_component.specs.Readable.{IsReadablePart}
+use Rattle.smith_component.specs.Script.{item_of, script_part}
+use Rattle.smith_component.specs.Shown.{bytes_of, shown_module}
 use Rattle.smith_component.specs.Spaces.{after_part, core_types_of, spaces_of, types_of}
-use Rattle.smith_component.specs.Tree.{Canon, Tree, Part, custom, core_types, component, types, canons, imports, exports, add, own, inside}
+use Rattle.smith_component.specs.Tree.{Canon, Tree, Part, custom, core_module, core_types, component, types, canons, imports, exports, add, own, inside}
 use Rattle.smith_component.specs.Tree.{components_in, no_depth}
 use Rattle.smith_component.specs.Tree.{ExportEntry, exports_in, exports_of, names_in, imports_of, imports_in, function_count}
 use Rattle.smith_component.specs.Turn.{Does, with_part}
@@ -29,11 +31,16 @@ use Rattle.smith_component.specs.WellFormed.{FormedPart, scope_of}
 use Rattle.smith_component.proofs.CanonsRead.{Spoken, canons_from, types_spoken}
 use Rattle.smith_component.proofs.ExportsRead.{exports_read}
 use Rattle.smith_component.proofs.ImportsRead.{imports_read, Room}
+use Rattle.smith_component.proofs.Plan.{PartStands}
 use Rattle.smith_component.proofs.ReadsCoreTypes.{core_types_read}
 use Rattle.smith_component.proofs.ReadsTypes.{types_read}
 use Rattle.smith_component.proofs.Fits.{Fits, Short, fits_behind, own_limits-front}
 use Rattle.smith_component.proofs.Growth.{functions_counted, spaces-add, types_past}
 use Rattle.smith_component.proofs.Sound.{length-scopes_from}
+use Rattle.smith_core.specs.StandIn.{ReadsStandIn}
+use Rattle.smith_core.specs.StandInScript.{script_stand_in, stand_in_of}
+use Rattle.smith_core.proofs.StandInExact.{text_read as module_text_read}
+use Rattle.smith_core.proofs.StandInTold.{stand_in_told}
 use Rattle.smith_component.proofs.Tree.{all_of, anywhere-add, depth-outer, function_count-add, own-add, length-own-add}
 use Rattle.smith_scopes.proofs.Plain.{all_back}
 
@@ -81,30 +88,31 @@ around config consistent outer t m =
 module _ (config : Config) (stack : Open) (rest : List ℕ) where
   abbrev pub IsRead : Part → Type 0
   IsRead p =
-      IsPlanPart config (suc (length stack.outer)) p → FormedPart p (scopes_in stack.outer) stack.inner → OwnLimits config (add stack.inner p)
+      IsReadablePart config p stack.inner → PartStands config (suc (length stack.outer)) p → FormedPart p (scopes_in stack.outer) stack.inner
+      → OwnLimits config (add stack.inner p)
       → Does config (item_of p) stack (script_part p config stack.outer stack.inner ++ rest) (with_part stack p) rest
 
   pub custom_part : (name contents : List ℕ) → IsRead (custom name contents)
-  custom_part name contents plan formed limits =
+  custom_part name contents readable stands formed limits =
       let short : Short (name ∷ []) = all_back _ (own names_in stack.inner) (name ∷ [])
       (subst Short (own-add names_in stack.inner (custom name contents)) limits.names) in
-      (name, contents, custom_read name contents rest plan short.0, refl)
+      (name, contents, custom_read name contents rest readable short.0, refl)
 
   pub core_types_part : IsConsistent config → (ts : List CoreEntry) → IsRead (core_types ts)
-  core_types_part consistent ts plan formed limits =
+  core_types_part consistent ts readable stands formed limits =
       let fits : Fits config (after_part (spaces_of stack.inner) (core_types ts)) = fits_behind config stack.inner (core_types ts) limits in
       let few : length (core_types_of stack.inner) + length ts ≤ config.max_types =
       omega (arith, fits.core_types, length-append (core_types_of stack.inner) ts) in
       let limited : AllByRecursion (CoreLimits config) ts = all_back _ (core_types_of stack.inner) ts fits.within_core_types in (
         ts,
         _,
-        core_types_read config ts (config.max_types - length (core_types_of stack.inner)) (scope_of stack.inner) rest formed limited plan
+        core_types_read config ts (config.max_types - length (core_types_of stack.inner)) (scope_of stack.inner) rest formed limited stands readable
             (omega (arith, few)) (omega (arith, few, consistent.types)),
         refl,
       )
 
   pub types_part : IsConsistent config → (ts : List Entry) → Maxima config (tree_so_far stack.outer (add stack.inner (types ts))) → IsRead (types ts)
-  types_part consistent ts maxima plan formed limits =
+  types_part consistent ts maxima readable stands formed limits =
       let here = around config consistent stack.outer (add stack.inner (types ts)) maxima in
       let fits : Fits config (after_part (spaces_of stack.inner) (types ts)) = fits_behind config stack.inner (types ts) limits in
       let few : length (types_of stack.inner) + length ts ≤ config.max_types = omega (arith, fits.types, length-append (types_of stack.inner) ts) in
@@ -112,15 +120,25 @@ module _ (config : Config) (stack : Open) (rest : List ℕ) where
       let limited : AllByRecursion (EntryLimits config) ts = all_back _ (types_of stack.inner) ts fits.within_types in
       let count : length (scopes_in stack.outer) ≡ length stack.outer = omega (arith, length-scopes_from stack.outer []) in
       let lasts : AllByRecursion (λ e. Lasts e config (suc (length (scopes_in stack.outer))) config.max_type_size) ts =
-      subst (λ n. AllByRecursion (λ e. Lasts e config (suc n) config.max_type_size) ts) (sym count) plan in
+      subst (λ n. AllByRecursion (λ e. Lasts e config (suc n) config.max_type_size) ts) (sym count) stands in
       let read = types_read config (scopes_in stack.outer) here.few (omega (arith, here.shallow, count)) consistent.nesting ts
-      (config.max_types - length (types_of stack.inner)) (scope_of stack.inner) rest formed limited lasts (omega (arith, few))
+      (config.max_types - length (types_of stack.inner)) (scope_of stack.inner) rest formed limited lasts readable (omega (arith, few))
       (omega (arith, few, cores, consistent.types)) in
       (add stack.inner (types ts), (ts, _, read, refl), refl)
 
+  -- The text tells the module that it is of.
+  pub module_part : (text : List ℕ) → IsRead (core_module text)
+  module_part text readable (s, is, e) formed limits =
+      let told : stand_in_of text ≡ s = stand_in_told config s text is e in
+      let r = module_text_read config s text is e rest in
+      let shown : shown_module r.0 ≡ text = ap bytes_of r.2 in
+      let read : ReadsStandIn config (script_stand_in config (stand_in_of text) ++ rest) r.0 rest =
+      subst (λ z. ReadsStandIn config (script_stand_in config z ++ rest) r.0 rest) (sym told) r.1 in
+      (r.0, read, ap (λ z. with_part stack (core_module z)) (sym shown))
+
   pub imports_part : IsConsistent config → (is : List ImportEntry) → Maxima config (tree_so_far stack.outer (add stack.inner (imports is)))
       → IsRead (imports is)
-  imports_part consistent is maxima plan formed limits =
+  imports_part consistent is maxima readable stands formed limits =
       let before : OwnLimits config stack.inner = own_limits-front config stack.inner (imports is) limits in
       let few : length (types_of stack.inner) + length (core_types_of stack.inner) ≤ 2 ^ 64 =
       omega (arith, consistent.types, before.types, before.core_types) in
@@ -128,10 +146,10 @@ module _ (config : Config) (stack : Open) (rest : List ℕ) where
       record { modules = maxima.modules; funcs = limits.functions; components = maxima.components; instances = maxima.instances } in
       let fits : length (imports_of stack.inner) + length is ≤ config.max_imports =
       omega (arith, limits.imports, length-own-add imports_in stack.inner (imports is)) in
-      (add stack.inner (imports is), (is, imports_read config stack few is rest plan formed.0 formed.1 room (omega (arith, fits)), refl), refl)
+      (add stack.inner (imports is), (is, imports_read config stack few is rest readable formed.0 formed.1 room (omega (arith, fits)), refl), refl)
 
   pub canons_part : IsConsistent config → AllByRecursion Spoken (types_of stack.inner) → (fs : List Canon) → IsRead (canons fs)
-  canons_part consistent spoken fs plan formed limits =
+  canons_part consistent spoken fs readable stands formed limits =
       let inner : Tree = stack.inner in
       let count : function_count inner + length fs ≤ config.max_funcs =
       omega (arith, limits.functions, function_count-add inner (canons fs)) in
@@ -144,18 +162,19 @@ module _ (config : Config) (stack : Open) (rest : List ℕ) where
       (add inner (canons fs), (map canon_item_of fs, record { before = inner; funcs = fs }, read, refl), refl)
 
   pub exports_part : IsConsistent config → (es : List ExportEntry) → IsRead (exports es)
-  exports_part consistent es plan formed limits =
+  exports_part consistent es readable stands formed limits =
       let inner : Tree = stack.inner in
       let most : length (exports_of inner) + length es ≤ config.max_exports =
       omega (arith, limits.exports, length-own-add exports_in inner (exports es)) in
       let before : OwnLimits config inner = own_limits-front config inner (exports es) limits in
-      (es, exports_read inner config es rest plan.1 formed.0 formed.1 (omega (arith, most)) (omega (arith, most, before.functions, consistent.funcs)), refl)
+      (es, exports_read inner config es rest readable.1 formed.0 formed.1 (omega (arith, most)) (omega (arith, most, before.functions, consistent.funcs)), refl)
 
 -- The types of a plan can be said behind one part more.
-pub spoken_past : (config : Config) (p : Part) (outer : List Scope) (before : Tree) (scopes : ℕ) → IsPlanPart config scopes p → FormedPart p outer before
+pub spoken_past : (config : Config) (p : Part) (outer : List Scope) (before : Tree) → IsReadablePart config p before → FormedPart p outer before
     → AllByRecursion Spoken (types_of before) → AllByRecursion Spoken (types_of (add before p))
-spoken_past config p outer before scopes plan formed h =
-    types_past Spoken before p h (λ ts e. said ts (subst (λ q. FormedPart q outer before) e formed) (subst (IsPlanPart config scopes) e plan))
+spoken_past config p outer before readable formed h =
+    types_past Spoken before p h
+    (λ ts e. said ts (subst (λ q. FormedPart q outer before) e formed) (subst (λ q. IsReadablePart config q before) e readable))
   where
-    said : (ts : List Entry) → FormedPart (types ts) outer before → IsPlanPart config scopes (types ts) → AllByRecursion Spoken ts
-    said ts f l = types_spoken ts (scope_of before) outer config scopes config.max_type_size f l
+    said : (ts : List Entry) → FormedPart (types ts) outer before → IsReadablePart config (types ts) before → AllByRecursion Spoken ts
+    said ts f r = types_spoken ts (scope_of before) outer f r

@@ -19,7 +19,8 @@ use Rattle.smith_syntax.specs.WellFormed.{FormedEntry, FormedTypes, size}
 use Rattle.smith_types.specs.Needs.{need}
 use Rattle.smith_syntax.specs.declared.types.ComponentValType.{ComponentValType}
 use Rattle.smith_syntax.proofs.Flat.{flattens_params}
-use Rattle.smith_types.proofs.Lifting.{lifted_tail, lifted_flattens, lifted_formed}
+use Rattle.smith_types.specs.Readable.{IsReadableType}
+use Rattle.smith_types.proofs.Lifting.{lifted_readable, lifted_tail, lifted_flattens, lifted_formed}
 use Rattle.smith_component.specs.Canonicals.{Growing, grown, spaces_at, with_canon, with_defined, LiftsTo, to_equal, to_defined, given_up, ReadsLift, CanonTurn}
 use Rattle.smith_component.specs.Canonicals.{empty_section, ReadsCanons}
 use Rattle.smith_component.specs.Open.{Open, scopes_in, tree_so_far, with_inner}
@@ -93,6 +94,7 @@ pub record Defines (config : Config) (s : Growing) (c : ℕ) (signature : Signat
   pub of : HasSignature (spaces_at s) f lowered
   pub flat : Flat signature lowered
   pub formed : length lowered.params ≤ 16 → (own : Scope) (outer : List Scope) → FormedEntry (function signature) own outer
+  pub readable : IsReadableType (function signature)
   pub small : size (function signature) ≤ size (function lowered)
   pub room : length (spaces_at s).types < config.max_types
 
@@ -130,6 +132,7 @@ lift_turned r (to_defined none room left e) =
       of = r.of;
       flat = (r.core, lifted_flattens r.reads, r.flattens);
       formed = λ h. lifted_formed r.reads (omega (arith, h, flattens_params r.flattens));
+      readable = lifted_readable r.reads;
       small = omega (arith, same_size (lifted_flattens r.reads) r.flattens);
       room = room;
     }) e
@@ -183,7 +186,7 @@ defined_canon {s = s} {c = c} {signature = signature} d =
     subst P (sym (spaces_signature s signature)) (signature, d.lowered, d.f, get_last (spaces_at s).types (function signature), d.lowers, of, d.flat)
 
 -- What a turn keeps, by what a canonical function and a type keep.
-turn_keeps : (P : ℕ → Growing → Type 0) (config : Config) (n : ℕ) (s next : Growing)
+pub turn_keeps : (P : ℕ → Growing → Type 0) (config : Config) (n : ℕ) (s next : Growing)
     → ((u : Growing) (c : Canon) → FormedCanon (spaces_at u) c → P n u → P (n + 1) (with_canon u c))
     → ((c : ℕ) (signature : Signature) → Defines config s c signature → P n s → P n (with_signature s signature))
     → (config.max_types ≤ length (spaces_at s).types → P n s → P (n + 1) s) → P n s → Turned config s next → P (n + 1) next

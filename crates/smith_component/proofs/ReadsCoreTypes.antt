@@ -12,11 +12,12 @@ use Rattle.smith_syntax.specs.Scope.{Scope, with_core_type, with_core_types}
 use Rattle.smith_syntax.specs.WellFormed.{FormedCore, FormedCores}
 use Rattle.smith_core_types.proofs.MadeCore.{made_core_tail, made_core_formed, made_core_limits, made_core_same}
 use Rattle.smith_scopes.proofs.Stack.{with_core_none}
+use Rattle.smith_core_types.specs.Needs.{core_need}
 use Rattle.smith_component.specs.Limits.{SmallCoreTypes}
 use Rattle.smith_component.specs.Script.{script_core_types}
 use Rattle.smith_core_types.specs.Script.{script_core}
 use Rattle.smith_core_types.proofs.CoreScript.{core_read}
-use Rattle.smith_types.specs.Script.{LastsCore}
+use Rattle.smith_core_types.specs.Readable.{IsReadableCore}
 use Rattle.smith_core_types.proofs.Needs.{core_needed}
 use Rattle.smith_component.specs.AddedSections.{ReadsCoreType, ReadsCoreTypes}
 
@@ -69,24 +70,24 @@ module _ (config : Config) where
 
   -- A core type may stand in a scope, and its script can say it.
   abbrev pub Said : Scope → CoreEntry → Type 0
-  Said s x = FormedCore x s.core_types × CoreLimits config x × LastsCore config.max_type_size x × (length s.core_types ≤ 2 ^ 63)
+  Said s x = FormedCore x s.core_types × CoreLimits config x × (core_need x ≤ config.max_type_size) × IsReadableCore x × (length s.core_types ≤ 2 ^ 63)
 
   pub all_said : (xs : List CoreEntry) (own : Scope) → FormedCores xs own → AllByRecursion (CoreLimits config) xs
-      → AllByRecursion (LastsCore config.max_type_size) xs → length own.core_types + length xs ≤ 2 ^ 63 → Along Said with_core_type own xs
-  all_said [] own f m l small = tt
-  all_said (x ∷ xs) own f m l small = (
-    (f.0, m.0, l.0, omega arith),
-    all_said xs (with_core_type own x) f.1 m.1 l.1 (omega (arith, length-append own.core_types (x ∷ []))),
+      → SmallCoreTypes config xs → AllByRecursion IsReadableCore xs → length own.core_types + length xs ≤ 2 ^ 63 → Along Said with_core_type own xs
+  all_said [] own f m l r small = tt
+  all_said (x ∷ xs) own f m l r small = (
+    (f.0, m.0, l.0, r.0, omega arith),
+    all_said xs (with_core_type own x) f.1 m.1 l.1 r.1 (omega (arith, length-append own.core_types (x ∷ []))),
   )
 
   one_read : (s : Scope) (x : CoreEntry) (rest : List ℕ) → Said s x
       → ReadsCoreType config s (script_core config s config.max_type_size x ++ rest) x rest (with_core_type s x)
-  one_read s x rest (formed, limits, lasts, small) = (_, core_read config s config.max_type_size x rest formed limits lasts.1 lasts.0 small, refl)
+  one_read s x rest (formed, limits, lasts, readable, small) = (_, core_read config s config.max_type_size x rest formed limits readable lasts small, refl)
 
   -- Their script is read as them.
   pub core_types_read : (xs : List CoreEntry) (max : ℕ) (own : Scope) (rest : List ℕ) → FormedCores xs own → AllByRecursion (CoreLimits config) xs
-      → AllByRecursion (LastsCore config.max_type_size) xs → length xs ≤ max → length own.core_types + length xs ≤ 2 ^ 63
+      → SmallCoreTypes config xs → AllByRecursion IsReadableCore xs → length xs ≤ max → length own.core_types + length xs ≤ 2 ^ 63
       → ReadsCoreTypes config max own (script_core_types config max own xs ++ rest) xs rest (after_all with_core_type own xs)
-  core_types_read xs max own rest f m l few small =
-      loop_read (λ s x. script_core config s config.max_type_size x) with_core_type Said one_read xs 0 own rest (all_said xs own f m l small)
+  core_types_read xs max own rest f m l r few small =
+      loop_read (λ s x. script_core config s config.max_type_size x) with_core_type Said one_read xs 0 own rest (all_said xs own f m l r small)
       (omega arith) (omega arith)

@@ -57,9 +57,9 @@ module _ (config : Config) (t : Tree) where
   no_export_same : (s : List ExportEntry) (b r : List ℕ) (u : List ExportEntry) → NoExport t s b r u → u ≡ s
   no_export_same s b r u e = e.2
 
-  export_new : (s : List ExportEntry) (b : List ℕ) (x : ExportEntry) (r : List ℕ) (u : List ExportEntry) → ReadsExport t s b x r u
+  pub export_new : (s : List ExportEntry) (b : List ℕ) (x : ExportEntry) (r : List ℕ) (u : List ExportEntry) → ReadsExport t s b x r u
       → NewEntry (λ (e : ExportEntry). e.name) (exports_of t) s x u
-  export_new s b x r u i = record { max = 100; bytes = i.mid; rest = r; read = i.named; next_is = i.next_is }
+  export_new s b x r u i = record { bytes = i.mid; rest = r; read = i.named; next_is = i.next_is }
 
   exports_named : {b rest : List ℕ} {es : List ExportEntry} → length (exports_of t) + length es ≤ max_u32 → Named (export_names (exports_of t))
       → ReadsExports config t b es rest → Named (export_names (exports_of t ++ es))

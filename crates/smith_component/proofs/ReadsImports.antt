@@ -95,10 +95,9 @@ module _ (config : Config) (stack : Open) where
   no_import_same : (s : List ImportEntry) (b r : List ℕ) (t : List ImportEntry) → NoImport config stack s b r t → t ≡ s
   no_import_same s b r t e = e.2
 
-  import_new : (s : List ImportEntry) (b : List ℕ) (x : ImportEntry) (r : List ℕ) (t : List ImportEntry) → ReadsImport config stack s b x r t
+  pub import_new : (s : List ImportEntry) (b : List ℕ) (x : ImportEntry) (r : List ℕ) (t : List ImportEntry) → ReadsImport config stack s b x r t
       → NewEntry (λ (i : ImportEntry). i.name) (imports_of stack.inner) s x t
   import_new s b x r t i = record {
-    max = 100;
     bytes = i.mid;
     rest = i.named.mid;
     read = subst (λ ns. ReadsNew 100 ns i.mid x.name i.named.mid) i.names_are i.named.name;

@@ -8,7 +8,9 @@ use Rattle.smith_input.proofs.Loops.{loop_tail, loop_gives, loop_all, loop_enoug
 use Rattle.smith_format.specs.declared.config.Config.{Config}
 use Rattle.smith_syntax.specs.Entries.{Entry}
 use Rattle.smith_syntax.specs.Scope.{Scope, with_type, with_types}
-use Rattle.smith_types.specs.Script.{script_type, Fit, IsSayable, Lasts}
+use Rattle.smith_types.specs.Readable.{IsReadableType}
+use Rattle.smith_types.specs.Sayable.{Fit, IsSayable, Lasts}
+use Rattle.smith_types.specs.Script.{script_type}
 use Rattle.smith_syntax.specs.TypeLimits.{EntryLimits, nesting}
 use Rattle.smith_syntax.specs.WellFormed.{FormedEntry, FormedTypes}
 use Rattle.smith_scopes.proofs.Stack.{with_none}
@@ -108,31 +110,31 @@ module _ (config : Config) (outer : List Scope) where
 
   -- A type may stand in a scope, and its script can say it.
   abbrev pub Said : Scope → Entry → Type 0
-  Said s x = FormedEntry x s outer × EntryLimits config x × Lasts x config (suc (length outer)) config.max_type_size × IsFew s
+  Said s x = FormedEntry x s outer × EntryLimits config x × Lasts x config (suc (length outer)) config.max_type_size × IsReadableType x × IsFew s
 
   pub all_said : (xs : List Entry) (own : Scope) → FormedTypes xs own outer → AllByRecursion (EntryLimits config) xs
-      → AllByRecursion (λ e. Lasts e config (suc (length outer)) config.max_type_size) xs → length own.types + length own.core_types + length xs ≤ 2 ^ 64
-      → Along Said with_type own xs
-  all_said [] own f m l small = tt
-  all_said (x ∷ xs) own f m l small = (
-    (f.0, m.0, l.0, omega arith),
-    all_said xs (with_type own x) f.1 m.1 l.1 (omega (arith, length-append own.types (x ∷ []))),
+      → AllByRecursion (λ e. Lasts e config (suc (length outer)) config.max_type_size) xs → AllByRecursion IsReadableType xs
+      → length own.types + length own.core_types + length xs ≤ 2 ^ 64 → Along Said with_type own xs
+  all_said [] own f m l r small = tt
+  all_said (x ∷ xs) own f m l r small = (
+    (f.0, m.0, l.0, r.0, omega arith),
+    all_said xs (with_type own x) f.1 m.1 l.1 r.1 (omega (arith, length-append own.types (x ∷ []))),
   )
 
   pub sayable : AllByRecursion IsFew outer → suc (length outer) ≤ 1000 → (s : Scope) (x : Entry) → Said s x
       → IsSayable config s outer config.max_type_size x
-  sayable around shallow s x (formed, limits, lasts, small) =
+  sayable around shallow s x (formed, limits, lasts, readable, small) =
       let fit : Fit (s ∷ outer) = record { many = omega (arith, shallow); each = (small, around) } in
-      record { formed = formed; limits = limits; lasts = lasts; fit = fit; shallow = shallow }
+      record { formed = formed; limits = limits; readable = readable; lasts = lasts; fit = fit; shallow = shallow }
 
   -- Their script is read as them.
   pub types_read : AllByRecursion IsFew outer → suc (length outer) ≤ 1000 → config.max_nesting_depth ≤ 1000
       → (xs : List Entry) (max : ℕ) (own : Scope) (rest : List ℕ) → FormedTypes xs own outer → AllByRecursion (EntryLimits config) xs
-      → AllByRecursion (λ e. Lasts e config (suc (length outer)) config.max_type_size) xs → length xs ≤ max
+      → AllByRecursion (λ e. Lasts e config (suc (length outer)) config.max_type_size) xs → AllByRecursion IsReadableType xs → length xs ≤ max
       → length own.types + length own.core_types + length xs ≤ 2 ^ 64
       → ReadsTypes config outer 0 max own (script_types config max own outer xs ++ rest) xs rest (after_all with_type own xs)
-  types_read around shallow deep xs max own rest f m l few small =
-      loop_read (λ s e. script_type e config config.max_type_size s outer) with_type Said one xs 0 own rest (all_said xs own f m l small) (omega arith)
+  types_read around shallow deep xs max own rest f m l r few small =
+      loop_read (λ s e. script_type e config config.max_type_size s outer) with_type Said one xs 0 own rest (all_said xs own f m l r small) (omega arith)
       (omega arith)
     where
       one : (s : Scope) (x : Entry) (rest : List ℕ) → Said s x

@@ -1,5 +1,5 @@
 -- What a run leads to is well formed and within the limits, whatever it reads.
-use Rattle.std.proofs.Common.{◌≡◌, ℕ, zero, suc, ◌+◌, ◌-◌, ◌≤◌, List, [], length, arith, refl, sym, subst, inl, inr, true}
+use Rattle.std.proofs.Common.{ℕ, zero, suc, ◌+◌, ◌-◌, ◌≤◌, List, [], length, arith, refl, sym, subst, inl, inr}
 use Rattle.smith_input.proofs.Loops.{loop_few}
 use Rattle.smith_format.specs.Limits.{IsConsistent}
 use Rattle.smith_format.specs.declared.config.Config.{Config}
@@ -8,7 +8,7 @@ use Rattle.smith_syntax.specs.Scope.{Scope}
 use Rattle.smith_component.specs.AddedSections.{Adds, ReadsCoreTypes, ReadsTypes}
 use Rattle.smith_component.specs.Fills.{Fills, FillsAll}
 use Rattle.smith_component.specs.Limits.{Limits, Minima, Sized}
-use Rattle.smith_component.specs.Open.{Open, is_component_offered, is_module_offered, root, scopes_in, with_inner}
+use Rattle.smith_component.specs.Open.{Open, root, scopes_in, with_inner}
 use Rattle.smith_component.specs.Runs.{RunsTo, Turns}
 use Rattle.smith_component.specs.Shown.{shown_module}
 use Rattle.smith_component.specs.Sound.{IsAddable, Sound}
@@ -29,7 +29,7 @@ use Rattle.smith_component.proofs.ReadsImports.{imports_addable}
 use Rattle.smith_component.proofs.ReadsTypes.{types_read_declared, types_read_formed, types_read_limited, types_read_nested, types_read_small}
 use Rattle.smith_component.proofs.Sound.{addable_core_types, addable_custom, addable_module, addable_types, component_offered_is, length-scopes_from}
 use Rattle.smith_component.proofs.Sound.{module_offered_is, own_limits-ends, own_limits_of, part_sound, root_kept, sound_close, sound_open}
-use Rattle.smith_component.proofs.Turn.{chosen}
+use Rattle.smith_component.proofs.Turn.{WasOffered, chosen}
 
 -- What comes next is sound: what is open, or the answer.
 abbrev pub SoundNext : Config → Next → Type 0
@@ -91,8 +91,7 @@ closes_sound config stack next enough (inr (outers, parent, around, is)) s =
 
 -- what an item does, where it was offered
 does_sound : (config : Config) (item : Item) (stack : Open) (b : List ℕ) (next : Next) (rest : List ℕ)
-    → (item ≡ Module → is_module_offered config stack ≡ true) × (item ≡ Component → is_component_offered config stack ≡ true)
-    → Does config item stack b next rest → Sound config stack → SoundNext config next
+    → WasOffered config stack item → Does config item stack b next rest → Sound config stack → SoundNext config next
 does_sound config Finish stack b next rest offered (full, f, c) s =
     closes_sound config (with_inner stack full) next (filled_minima config stack b rest full s.consistent f) c
     (all_filled_sound config stack b full rest f s)

@@ -17,23 +17,25 @@ use Rattle.smith_format.specs.declared.config.Config.{Config}
 use Rattle.smith_syntax.specs.Scope.{Scope}
 use Rattle.smith_component.specs.Spaces.{types_of}
 use Rattle.smith_component.specs.Tree.{Tree, ends, first, Part, custom, core_module, core_types, component, types, canons, imports, exports, add, join, inside}
-use Rattle.smith_component.specs.Tree.{component_count, no_depth, most_declaring, most_nested}
+use Rattle.smith_component.specs.Tree.{component_count, module_count, no_depth, most_declaring, most_nested}
 use Rattle.smith_component.specs.WellFormed.{Formed, FormedPart}
 use Rattle.smith_component.specs.Limits.{OwnLimits, Maxima, Minima}
 use Rattle.smith_component.specs.Open.{Open, root, items, items_with_input, offers, is_module_offered, is_component_offered, is_export_offered, tree_so_far}
 use Rattle.smith_component.specs.Open.{scopes_in}
 use Rattle.smith_component.specs.Turn.{Next, building, answered, Closes, Does, Turn, with_open, with_part}
 use Rattle.smith_component.specs.Runs.{Turns}
-use Rattle.smith_component.specs.Script.{Continues, item_of, script_item, script_part, script_from, script, IsPlan, IsPlanPart, Within}
+use Rattle.smith_component.specs.Script.{Continues, item_of, script_item, script_part, script_from, script}
+use Rattle.smith_component.specs.Readable.{Comes, IsReadablePart, IsReadableRest}
 use Rattle.smith_component.specs.contracts.item.Item.{the_type}
 use Rattle.smith_component.specs.contracts.item.ItemPartialEq.TheImpl.{ghosts as equal}
 use Rattle.smith_component.specs.declared.item.Item.{Item}
-use Rattle.smith_component.specs.declared.item.Item.TheVariants.{Finish, Custom, CoreTypes, Types, Imports, Canonical, Component, Exports}
+use Rattle.smith_component.specs.declared.item.Item.TheVariants.{Finish, Custom, CoreTypes, Types, Imports, Canonical, Module, Component, Exports}
 use Rattle.smith_component.proofs.Tree.{all_before, all_inner, depth-outer, depth-so_far, join-add, join-ends, tree_so_far-close}
 use Rattle.smith_scopes.proofs.Plain.{all_front, all_back}
 use Rattle.smith_component.proofs.CanonsRead.{Spoken}
 use Rattle.smith_component.proofs.PartsRead.{fills_nothing, spoken_past, custom_part, core_types_part, types_part, imports_part, canons_part}
-use Rattle.smith_component.proofs.PartsRead.{exports_part}
+use Rattle.smith_component.proofs.PartsRead.{exports_part, module_part}
+use Rattle.smith_component.proofs.Plan.{PartStands, Stands}
 use Rattle.smith_component.proofs.Fits.{own_limits-front, own_limits_swap}
 use Rattle.smith_component.proofs.Sound.{module_count-so_far, component_count-so_far, instance_count-so_far, scopes_from-snoc}
 use Rattle.smith_component.proofs.Turn.{items_some, not_empty, last_same}
@@ -71,6 +73,12 @@ component_item config stack offered =
     offers_found (offers (is_module_offered config stack) (is_component_offered config stack) (is_export_offered config)) 7
     (is_component_offered config stack) Component refl offered
 
+module_item : (config : Config) (stack : Open) → is_module_offered config stack ≡ true
+    → (place : ℕ) × (slice_get (items_with_input config stack) place ≡ Some Module)
+module_item config stack offered =
+    offers_found (offers (is_module_offered config stack) (is_component_offered config stack) (is_export_offered config)) 6
+    (is_module_offered config stack) Module refl offered
+
 exports_item : (config : Config) (stack : Open) → 0 < config.max_exports → (place : ℕ) × (slice_get (items_with_input config stack) place ≡ Some Exports)
 exports_item config stack some =
     let offered : is_export_offered config ≡ true = grind (arith, nat_tests, some) in
@@ -101,6 +109,14 @@ offered_from config outer inner u l =
     omega (arith, l.depth, depth-so_far no_depth outer inner (component u), depth-outer no_depth [] u) in
     let few : component_count (tree_so_far outer inner) < config.max_components =
     omega (arith, l.components, component_count-so_far outer inner (component u)) in
+    grind (arith, nat_tests)
+
+-- A core module that the limits allow is offered.
+module_offered : (config : Config) (outer : List Tree) (inner : Tree) (text : List ℕ) → Maxima config (tree_so_far outer (add inner (core_module text)))
+    → is_module_offered config (record { outer = outer; inner = inner }) ≡ true
+module_offered config outer inner text l =
+    let few : module_count (tree_so_far outer inner) < config.max_modules =
+    omega (arith, l.modules, module_count-so_far outer inner (core_module text)) in
     grind (arith, nat_tests)
 
 split_last : (a : Tree) (rest : List Tree) → (o : List Tree) × (p : Tree) × (a ∷ rest ≡ o ++ p ∷ [])
@@ -163,12 +179,13 @@ part_limits p t config outer before l = all_inner (OwnLimits config) outer (add 
     (limits_front t config outer (add before p) (limits_past p t config outer before l)).each
 
 reach_from : (t : Tree) (config : Config) (consistent : IsConsistent config) (outer : List Tree) (before : Tree)
-    (spoken : AllByRecursion Spoken (types_of before)) (rest : List ℕ) (next : Next) (left : List ℕ) (k : ℕ) → IsPlan config (suc (length outer)) t
+    (spoken : AllByRecursion Spoken (types_of before)) (rest : List ℕ) (next : Next) (left : List ℕ) (k : ℕ) → IsReadableRest config t before
+    → Stands config (suc (length outer)) t
     → Formed t (scopes_in outer) before → Maxima config (tree_so_far outer (join before t))
     → AllByRecursion (Minima config) (inside t) → Minima config (join before t)
     → ((n : Next) → Closes (record { outer = outer; inner = join before t }) n → Turns config n rest next left k)
     → Leads config outer before next left before (script_from t config outer before ++ rest)
-reach_from ends config consistent outer before spoken rest next left k plan formed l each enough after =
+reach_from ends config consistent outer before spoken rest next left k readable stands formed l each enough after =
     let c = closes_some outer before in
     let P : Tree → Type 0 = λ x. Closes (record { outer = outer; inner = x }) c.0 in (
       suc k,
@@ -184,72 +201,81 @@ reach_from ends config consistent outer before spoken rest next left k plan form
         after c.0 (subst P (sym (join-ends before)) c.1),
       ),
     )
-reach_from (first (custom name contents) t) config consistent outer before spoken rest next left k plan formed l each enough after =
+reach_from (first (custom name contents) t) config consistent outer before spoken rest next left k readable stands formed l each enough after =
     let p : Part = custom name contents in
     adds config outer before next left p 1 (script_from t config outer (add before p)) rest (front config outer before).1
-    (custom_part config (record { outer = outer; inner = before }) (script_from t config outer (add before p) ++ rest) name contents plan.0 formed.0
+    (custom_part config (record { outer = outer; inner = before }) (script_from t config outer (add before p) ++ rest) name contents readable.0 stands.0 formed.0
     (part_limits p t config outer before l))
-    (reach_from t config consistent outer (add before p) (spoken_past config p (scopes_in outer) before (suc (length outer)) plan.0 formed.0 spoken) rest next
-    left k plan.1 formed.1 (limits_past p t config outer before l) each (enough_past p t config before enough)
+    (reach_from t config consistent outer (add before p) (spoken_past config p (scopes_in outer) before readable.0 formed.0 spoken) rest next
+    left k readable.1 stands.1 formed.1 (limits_past p t config outer before l) each (enough_past p t config before enough)
     (after_past p t config outer before next left k rest after))
-reach_from (first (core_types ts) t) config consistent outer before spoken rest next left k plan formed l each enough after =
+reach_from (first (core_types ts) t) config consistent outer before spoken rest next left k readable stands formed l each enough after =
     let p : Part = core_types ts in
     adds config outer before next left p 2 (script_from t config outer (add before p)) rest (front config outer before).2
-    (core_types_part config (record { outer = outer; inner = before }) (script_from t config outer (add before p) ++ rest) consistent ts plan.0 formed.0
+    (core_types_part config (record { outer = outer; inner = before }) (script_from t config outer (add before p) ++ rest) consistent ts readable.0 stands.0 formed.0
     (part_limits p t config outer before l))
-    (reach_from t config consistent outer (add before p) (spoken_past config p (scopes_in outer) before (suc (length outer)) plan.0 formed.0 spoken) rest next
-    left k plan.1 formed.1 (limits_past p t config outer before l) each (enough_past p t config before enough)
+    (reach_from t config consistent outer (add before p) (spoken_past config p (scopes_in outer) before readable.0 formed.0 spoken) rest next
+    left k readable.1 stands.1 formed.1 (limits_past p t config outer before l) each (enough_past p t config before enough)
     (after_past p t config outer before next left k rest after))
-reach_from (first (types es) t) config consistent outer before spoken rest next left k plan formed l each enough after =
+reach_from (first (types es) t) config consistent outer before spoken rest next left k readable stands formed l each enough after =
     let p : Part = types es in
     adds config outer before next left p 3 (script_from t config outer (add before p)) rest (front config outer before).3
     (types_part config (record { outer = outer; inner = before }) (script_from t config outer (add before p) ++ rest) consistent es
-    (limits_front t config outer (add before p) (limits_past p t config outer before l)) plan.0 formed.0 (part_limits p t config outer before l))
-    (reach_from t config consistent outer (add before p) (spoken_past config p (scopes_in outer) before (suc (length outer)) plan.0 formed.0 spoken) rest next
-    left k plan.1 formed.1 (limits_past p t config outer before l) each (enough_past p t config before enough)
+    (limits_front t config outer (add before p) (limits_past p t config outer before l)) readable.0 stands.0 formed.0 (part_limits p t config outer before l))
+    (reach_from t config consistent outer (add before p) (spoken_past config p (scopes_in outer) before readable.0 formed.0 spoken) rest next
+    left k readable.1 stands.1 formed.1 (limits_past p t config outer before l) each (enough_past p t config before enough)
     (after_past p t config outer before next left k rest after))
-reach_from (first (imports is) t) config consistent outer before spoken rest next left k plan formed l each enough after =
+reach_from (first (imports is) t) config consistent outer before spoken rest next left k readable stands formed l each enough after =
     let p : Part = imports is in
     adds config outer before next left p 4 (script_from t config outer (add before p)) rest (front config outer before).4
     (imports_part config (record { outer = outer; inner = before }) (script_from t config outer (add before p) ++ rest) consistent is
-    (limits_front t config outer (add before p) (limits_past p t config outer before l)) plan.0 formed.0 (part_limits p t config outer before l))
-    (reach_from t config consistent outer (add before p) (spoken_past config p (scopes_in outer) before (suc (length outer)) plan.0 formed.0 spoken) rest next
-    left k plan.1 formed.1 (limits_past p t config outer before l) each (enough_past p t config before enough)
+    (limits_front t config outer (add before p) (limits_past p t config outer before l)) readable.0 stands.0 formed.0 (part_limits p t config outer before l))
+    (reach_from t config consistent outer (add before p) (spoken_past config p (scopes_in outer) before readable.0 formed.0 spoken) rest next
+    left k readable.1 stands.1 formed.1 (limits_past p t config outer before l) each (enough_past p t config before enough)
     (after_past p t config outer before next left k rest after))
-reach_from (first (canons fs) t) config consistent outer before spoken rest next left k plan formed l each enough after =
+reach_from (first (canons fs) t) config consistent outer before spoken rest next left k readable stands formed l each enough after =
     let p : Part = canons fs in
     adds config outer before next left p 5 (script_from t config outer (add before p)) rest (front config outer before).5
-    (canons_part config (record { outer = outer; inner = before }) (script_from t config outer (add before p) ++ rest) consistent spoken fs plan.0 formed.0
+    (canons_part config (record { outer = outer; inner = before }) (script_from t config outer (add before p) ++ rest) consistent spoken fs readable.0 stands.0 formed.0
     (part_limits p t config outer before l))
-    (reach_from t config consistent outer (add before p) (spoken_past config p (scopes_in outer) before (suc (length outer)) plan.0 formed.0 spoken) rest next
-    left k plan.1 formed.1 (limits_past p t config outer before l) each (enough_past p t config before enough)
+    (reach_from t config consistent outer (add before p) (spoken_past config p (scopes_in outer) before readable.0 formed.0 spoken) rest next
+    left k readable.1 stands.1 formed.1 (limits_past p t config outer before l) each (enough_past p t config before enough)
     (after_past p t config outer before next left k rest after))
-reach_from (first (exports es) t) config consistent outer before spoken rest next left k plan formed l each enough after =
+reach_from (first (exports es) t) config consistent outer before spoken rest next left k readable stands formed l each enough after =
     let p : Part = exports es in
-    let last = exports_item config (record { outer = outer; inner = before }) plan.0.0 in
+    let last = exports_item config (record { outer = outer; inner = before }) readable.0.0 in
     adds config outer before next left p last.0 (script_from t config outer (add before p)) rest last.1
-    (exports_part config (record { outer = outer; inner = before }) (script_from t config outer (add before p) ++ rest) consistent es plan.0 formed.0
+    (exports_part config (record { outer = outer; inner = before }) (script_from t config outer (add before p) ++ rest) consistent es readable.0 stands.0 formed.0
     (part_limits p t config outer before l))
-    (reach_from t config consistent outer (add before p) (spoken_past config p (scopes_in outer) before (suc (length outer)) plan.0 formed.0 spoken) rest next
-    left k plan.1 formed.1 (limits_past p t config outer before l) each (enough_past p t config before enough)
+    (reach_from t config consistent outer (add before p) (spoken_past config p (scopes_in outer) before readable.0 formed.0 spoken) rest next
+    left k readable.1 stands.1 formed.1 (limits_past p t config outer before l) each (enough_past p t config before enough)
     (after_past p t config outer before next left k rest after))
-reach_from (first (core_module text) t) config consistent outer before spoken rest next left k plan formed l each enough after = absurd plan.0
-reach_from (first (component u) t) config consistent outer before spoken rest next left k plan formed l each enough after =
+reach_from (first (core_module text) t) config consistent outer before spoken rest next left k readable stands formed l each enough after =
+    let p : Part = core_module text in
+    let last = module_item config (record { outer = outer; inner = before }) (module_offered config outer before text
+    (limits_front t config outer (add before p) (limits_past p t config outer before l))) in
+    adds config outer before next left p last.0 (script_from t config outer (add before p)) rest last.1
+    (module_part config (record { outer = outer; inner = before }) (script_from t config outer (add before p) ++ rest) text readable.0 stands.0 formed.0
+    (part_limits p t config outer before l))
+    (reach_from t config consistent outer (add before p) (spoken_past config p (scopes_in outer) before readable.0 formed.0 spoken) rest next
+    left k readable.1 stands.1 formed.1 (limits_past p t config outer before l) each (enough_past p t config before enough)
+    (after_past p t config outer before next left k rest after))
+reach_from (first (component u) t) config consistent outer before spoken rest next left k readable stands formed l each enough after =
     let p : Part = component u in
     let minima : AllByRecursion (Minima config) ((u ∷ inside u) ++ inside t) = each in
     let in_it : AllByRecursion (Minima config) (u ∷ inside u) = all_front (Minima config) (u ∷ inside u) (inside t) minima in
     let st : List ℕ = script_from t config outer (add before p) in
     let su : List ℕ = script_from u config (outer ++ before ∷ []) ends in
     let choice : List ℕ = script_item config outer before Component in
-    let m = reach_from t config consistent outer (add before p) (spoken_past config p (scopes_in outer) before (suc (length outer)) plan.0 formed.0 spoken) rest
-    next left k plan.1 formed.1 (limits_past p t config outer before l) (all_back (Minima config) (u ∷ inside u) (inside t) minima)
+    let m = reach_from t config consistent outer (add before p) (spoken_past config p (scopes_in outer) before readable.0 formed.0 spoken) rest
+    next left k readable.1 stands.1 formed.1 (limits_past p t config outer before l) (all_back (Minima config) (u ∷ inside u) (inside t) minima)
     (enough_past p t config before enough) (after_past p t config outer before next left k rest after) in
     let here : Maxima config (tree_so_far outer (add before p)) = limits_front t config outer (add before p) (limits_past p t config outer before l) in
     let there : Maxima config (tree_so_far (outer ++ before ∷ []) u) = subst (Maxima config) (sym (tree_so_far-close outer before u)) here in
     let F : List Scope → Type 0 = λ ss. Formed u ss ends in
     let inner : Formed u (scopes_in (outer ++ before ∷ [])) ends = subst F (sym (scopes_from-snoc outer before [])) formed.0 in
     let longer : length (outer ++ before ∷ []) ≡ suc (length outer) = omega (arith, length-append outer (before ∷ [])) in
-    let deeper : IsPlan config (suc (length (outer ++ before ∷ []))) u = subst (λ n. IsPlan config (suc n) u) (sym longer) plan.0 in
+    let deeper : Stands config (suc (length (outer ++ before ∷ []))) u = subst (λ n. Stands config (suc n) u) (sym longer) stands.0 in
     let back : (x : Next) → Closes (record { outer = outer ++ before ∷ []; inner = u }) x → Turns config x (st ++ rest) next left m.0 = λ x c.
     elim c [
       | inl (a, b) ↦ absurd (not_empty outer before a)
@@ -259,7 +285,7 @@ reach_from (first (component u) t) config consistent outer before spoken rest ne
           subst T (ap (λ z. building (record { outer = z; inner = add before p })) s.0 ∙ ap (λ z. building (record { outer = o; inner = add z p })) s.1 ∙ sym b)
           m.1
     ] in
-    let i = reach_from u config consistent (outer ++ before ∷ []) ends tt (st ++ rest) next left m.0 deeper inner there in_it.1 in_it.0 back in
+    let i = reach_from u config consistent (outer ++ before ∷ []) ends tt (st ++ rest) next left m.0 readable.0 deeper inner there in_it.1 in_it.0 back in
     let last = component_item config (record { outer = outer; inner = before }) (offered_from config outer before u here) in
     let now : Next = building (record { outer = outer; inner = before }) in
     let R : List ℕ → Type 0 = λ z. Turns config now z next left (suc i.0) in
@@ -278,11 +304,11 @@ reach_from (first (component u) t) config consistent outer before spoken rest ne
       ),
     )
 
-pub reach : (config : Config) (plan : Tree) (rest : List ℕ) → IsConsistent config → Within config plan
+pub reach : (config : Config) (plan : Tree) (rest : List ℕ) → IsConsistent config → Comes config plan → Stands config 1 plan
     → (k : ℕ) × Turns config (building root) (script config plan ++ rest) (answered plan) rest k
-reach config plan rest consistent w =
-    reach_from plan config consistent [] ends tt rest (answered plan) rest zero w.scripted w.formed w.limits.maxima w.limits.minima.1 w.limits.minima.0
-    (λ n c. elim c [ inl (x, y) ↦ (sym y, refl) | inr (o, p, x, y) ↦ absurd (not_empty o p (sym x)) ])
+reach config plan rest consistent c stands =
+    reach_from plan config consistent [] ends tt rest (answered plan) rest zero c.readable stands c.formed c.limits.maxima c.limits.minima.1 c.limits.minima.0
+    (λ n d. elim d [ inl (x, y) ↦ (sym y, refl) | inr (o, p, x, y) ↦ absurd (not_empty o p (sym x)) ])
 
 -- Turns of a script by themselves.
 
@@ -295,17 +321,13 @@ turn_of config stack item place said rest next named does =
     subst (λ z. Turn config stack z next rest) (sym (append_assoc choice said rest))
     (record { item = item; after = said ++ rest; chooses = item_read config stack.outer stack.inner item place (said ++ rest) named; does = does })
 
-plan_front : (t : Tree) (p : Part) (config : Config) (scopes : ℕ) → IsPlan config scopes (add t p) → IsPlan config scopes t × IsPlanPart config scopes p
-plan_front ends p config scopes plan = (tt, plan.0)
-plan_front (first q t) p config scopes plan = let r = plan_front t p config scopes plan.1 in ((plan.0, r.0), r.1)
-
 -- the types of a plan can be said
-spoken_in : (t : Tree) (config : Config) (outer : List Scope) (before : Tree) (scopes : ℕ) → IsPlan config scopes t → Formed t outer before
+spoken_in : (t : Tree) (config : Config) (outer : List Scope) (before : Tree) → IsReadableRest config t before → Formed t outer before
     → AllByRecursion Spoken (types_of before) → AllByRecursion Spoken (types_of (join before t))
-spoken_in ends config outer before scopes plan formed spoken = subst (λ x. AllByRecursion Spoken (types_of x)) (sym (join-ends before)) spoken
-spoken_in (first p t) config outer before scopes plan formed spoken =
+spoken_in ends config outer before readable formed spoken = subst (λ x. AllByRecursion Spoken (types_of x)) (sym (join-ends before)) spoken
+spoken_in (first p t) config outer before readable formed spoken =
     subst (λ x. AllByRecursion Spoken (types_of x)) (join-add before p t)
-    (spoken_in t config outer (add before p) scopes plan.1 formed.1 (spoken_past config p outer before scopes plan.0 formed.0 spoken))
+    (spoken_in t config outer (add before p) readable.1 formed.1 (spoken_past config p outer before readable.0 formed.0 spoken))
 
 module _ (config : Config) (consistent : IsConsistent config) (stack : Open) where
   at : (config : Config) (stack : Open) → let xs = items_with_input config stack in
@@ -314,34 +336,36 @@ module _ (config : Config) (consistent : IsConsistent config) (stack : Open) whe
   at config stack = (refl, refl, refl, refl, refl)
 
   pub part_turn : (p : Part) (rest : List ℕ) → ¬ (item_of p ≡ Component) → Continues config stack p
+      → PartStands config (suc (length stack.outer)) p
       → Turn config stack ((script_item config stack.outer stack.inner (item_of p) ++ script_part p config stack.outer stack.inner) ++ rest) (with_part stack p)
       rest
-  part_turn p rest flat c =
-      let plan = plan_front stack.inner p config (suc (length stack.outer)) c.plan in
+  part_turn p rest flat c stands =
       let formed = formed_front stack.inner p (scopes_in stack.outer) ends c.formed in
       let own : OwnLimits config (add stack.inner p) = all_inner (OwnLimits config) stack.outer (add stack.inner p) c.maxima.each in
-      let spoken = spoken_in stack.inner config (scopes_in stack.outer) ends (suc (length stack.outer)) plan.0 formed.0 tt in
-      does p flat c.maxima plan.1 formed.1 own spoken
+      let spoken = spoken_in stack.inner config (scopes_in stack.outer) ends c.before formed.0 tt in
+      does p flat c.maxima c.readable stands formed.1 own spoken
     where
       does : (p : Part) → ¬ (item_of p ≡ Component) → Maxima config (tree_so_far stack.outer (add stack.inner p))
-          → IsPlanPart config (suc (length stack.outer)) p → FormedPart p (scopes_in stack.outer) stack.inner → OwnLimits config (add stack.inner p)
+          → IsReadablePart config p stack.inner → PartStands config (suc (length stack.outer)) p → FormedPart p (scopes_in stack.outer) stack.inner → OwnLimits config (add stack.inner p)
           → AllByRecursion Spoken (types_of stack.inner) → Turn config stack
           ((script_item config stack.outer stack.inner (item_of p) ++ script_part p config stack.outer stack.inner) ++ rest) (with_part stack p) rest
-      does (custom name contents) flat m plan formed own spoken =
-          turn_of config stack Custom 1 _ rest _ (at config stack).0 (custom_part config stack rest name contents plan formed own)
-      does (core_module text) flat m plan formed own spoken = absurd plan
-      does (core_types ts) flat m plan formed own spoken = turn_of config stack CoreTypes 2 _ rest _ (at config stack).1
-          (core_types_part config stack rest consistent ts plan formed own)
-      does (component t) flat m plan formed own spoken = absurd (flat refl)
-      does (types ts) flat m plan formed own spoken = turn_of config stack Types 3 _ rest _ (at config stack).2
-          (types_part config stack rest consistent ts m plan formed own)
-      does (canons fs) flat m plan formed own spoken = turn_of config stack Canonical 5 _ rest _ (at config stack).4
-          (canons_part config stack rest consistent spoken fs plan formed own)
-      does (imports is) flat m plan formed own spoken = turn_of config stack Imports 4 _ rest _ (at config stack).3
-          (imports_part config stack rest consistent is m plan formed own)
-      does (exports es) flat m plan formed own spoken =
-          let last = exports_item config stack plan.0 in
-          turn_of config stack Exports last.0 _ rest _ last.1 (exports_part config stack rest consistent es plan formed own)
+      does (custom name contents) flat m readable stands formed own spoken =
+          turn_of config stack Custom 1 _ rest _ (at config stack).0 (custom_part config stack rest name contents readable stands formed own)
+      does (core_module text) flat m readable stands formed own spoken =
+          let last = module_item config stack (module_offered config stack.outer stack.inner text m) in
+          turn_of config stack Module last.0 _ rest _ last.1 (module_part config stack rest text readable stands formed own)
+      does (core_types ts) flat m readable stands formed own spoken = turn_of config stack CoreTypes 2 _ rest _ (at config stack).1
+          (core_types_part config stack rest consistent ts readable stands formed own)
+      does (component t) flat m readable stands formed own spoken = absurd (flat refl)
+      does (types ts) flat m readable stands formed own spoken = turn_of config stack Types 3 _ rest _ (at config stack).2
+          (types_part config stack rest consistent ts m readable stands formed own)
+      does (canons fs) flat m readable stands formed own spoken = turn_of config stack Canonical 5 _ rest _ (at config stack).4
+          (canons_part config stack rest consistent spoken fs readable stands formed own)
+      does (imports is) flat m readable stands formed own spoken = turn_of config stack Imports 4 _ rest _ (at config stack).3
+          (imports_part config stack rest consistent is m readable stands formed own)
+      does (exports es) flat m readable stands formed own spoken =
+          let last = exports_item config stack readable.0 in
+          turn_of config stack Exports last.0 _ rest _ last.1 (exports_part config stack rest consistent es readable stands formed own)
 
 pub opening_turn : (config : Config) (stack : Open) (rest : List ℕ) → is_component_offered config stack ≡ true
     → Turn config stack (script_item config stack.outer stack.inner Component ++ rest) (with_open stack) rest

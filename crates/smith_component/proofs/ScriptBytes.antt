@@ -7,22 +7,26 @@ use Rattle.smith_input.specs.Kebab.{Kebab}
 use Rattle.smith_input.specs.Loops.{Along}
 use Rattle.smith_input.specs.Script.{AreBytes, script_among}
 use Rattle.smith_input.proofs.Offered.{offers_few}
-use Rattle.smith_input.proofs.ScriptBytes.{Small, small_bytes, small_few, small_join, small_loop, small_name, small_none, small_pick, small_text, small_turns}
+use Rattle.smith_input.proofs.ScriptBytes.{Small, small_bytes, small_few, small_join, small_loop, small_new, small_pick, small_text, small_turns}
 use Rattle.smith_format.specs.Limits.{IsConsistent}
-use Rattle.smith_format.specs.Piece.{Piece, ◌⊕◌, byte, bytes, framed, raw, sized, text}
+use Rattle.smith_format.specs.Piece.{bytes}
 use Rattle.smith_format.specs.declared.config.Config.{Config}
-use Rattle.smith_format.proofs.Piece.{parts_are, raw_whole}
+use Rattle.smith_format.proofs.Piece.{parts_are}
 use Rattle.smith_syntax.specs.Entries.{CoreEntry, Entry, function, ImportEntry}
 use Rattle.smith_syntax.specs.SameSignature.{same_signature_Decides}
 use Rattle.smith_syntax.specs.Scope.{Scope, with_core_type, with_type}
 use Rattle.smith_syntax.specs.Shown.{is_of_signature}
 use Rattle.smith_syntax.specs.CoreLimits.{CoreLimits}
 use Rattle.smith_syntax.specs.TypeLimits.{EntryLimits}
-use Rattle.smith_core.proofs.BytesTypes.{are_raw}
+use Rattle.smith_core.specs.StandInScript.{IsStandIn, script_stand_in, stand_in_of}
+use Rattle.smith_core.specs.StandInText.{StandIn, stand_in_text}
+use Rattle.smith_core.proofs.StandInMade.{small_stand_in}
+use Rattle.smith_core.proofs.StandInTold.{stand_in_told}
 use Rattle.smith_scopes.proofs.Plain.{all_back, all_front}
 use Rattle.smith_core_types.specs.Script.{script_core}
 use Rattle.smith_core_types.proofs.ScriptBytes.{small_core, small_place, small_said}
-use Rattle.smith_types.specs.Script.{Lasts, script_type}
+use Rattle.smith_types.specs.Sayable.{Lasts}
+use Rattle.smith_types.specs.Script.{script_type}
 use Rattle.smith_types.proofs.ReferencesRead.{IsFew}
 use Rattle.smith_types.proofs.ScriptBytes.{small_extern, small_lifted, small_ref, type_bytes}
 use Rattle.smith_component.specs.CanonScript.{canon_item_of, script_canon, script_lift}
@@ -30,7 +34,8 @@ use Rattle.smith_component.specs.Grammar.{part, parts, preamble}
 use Rattle.smith_component.specs.Limits.{OwnLimits}
 use Rattle.smith_component.specs.Offers.{canon_items, canon_offers, is_scalar_entry, is_scalar_type, totals_of, with_exports, with_imports}
 use Rattle.smith_component.specs.Open.{is_component_offered, is_export_offered, is_module_offered, items_with_input, offers, Open, scopes_in}
-use Rattle.smith_component.specs.Script.{IsPlan, IsPlanExport, IsPlanImport, item_of, script, script_export, script_from, script_import, script_item}
+use Rattle.smith_component.specs.Readable.{IsReadableRest}
+use Rattle.smith_component.specs.Script.{item_of, script, script_export, script_from, script_import, script_item}
 use Rattle.smith_component.specs.Script.{script_part, Within}
 use Rattle.smith_component.specs.Spaces.{after_canon, after_part, core_types_of, functions_of, Spaces, spaces_of, types_of}
 use Rattle.smith_component.specs.Tables.{functions_at}
@@ -46,7 +51,10 @@ use Rattle.smith_component.specs.declared.item.Item.TheVariants.{Finish}
 use Rattle.smith_component.proofs.CanonsRead.{Spoken}
 use Rattle.smith_component.proofs.Fits.{Fits, fits_behind, own_limits-front, Short}
 use Rattle.smith_component.proofs.Growth.{canon_keeps, functions_after, functions_counted, spaces-add, spaces_export}
+use Rattle.smith_component.proofs.Encoded.{Encoded, component_encoded, contents_bytes}
 use Rattle.smith_component.proofs.Named.{named_behind}
+use Rattle.smith_component.proofs.Plan.{Stands}
+use Rattle.smith_component.proofs.Planned.{plan_stands}
 use Rattle.smith_component.proofs.PartsRead.{spoken_past}
 use Rattle.smith_component.proofs.Sound.{length-scopes_from, scopes_from-snoc}
 use Rattle.smith_component.proofs.Spaces.{all_at}
@@ -54,40 +62,14 @@ use Rattle.smith_component.proofs.Tree.{function_count-add, join-add, join-ends,
 use Rattle.smith_component.proofs.ReadsCoreTypes as core_sections
 use Rattle.smith_component.proofs.ReadsTypes as type_sections
 
--- What has an encoding.
-
-abbrev Encoded : Piece → Type 0
-Encoded p = (b : List ℕ) × (p ≡ Some b)
-
-framed_encoded : (p : Piece) → Encoded (framed p) → Encoded p
-unfolding framed
-framed_encoded None (b, e) = absurd (let z : None ≡ Some b = e in cc)
-framed_encoded (Some c) e = (c, refl)
-
-sized_encoded : (id : ℕ) (p : Piece) → Encoded (sized id p) → Encoded p
-sized_encoded id p (b, e) = let z = parts_are (byte id) (framed p) b e in framed_encoded p (z.right, z.q_is)
-
--- the contents of a custom section that has one are bytes
-contents_bytes : (name contents : List ℕ) → Encoded (part (custom name contents)) → AreBytes contents
-contents_bytes name contents e =
-    let inner = sized_encoded 0 (text name ⊕ raw contents) e in
-    let z = parts_are (text name) (raw contents) inner.0 inner.1 in
-    subst AreBytes (sym (raw_whole contents z.right z.q_is)) ((are_raw contents).law z.right z.q_is)
-
-component_encoded : (t : Tree) → Encoded (part (component t)) → Encoded (parts t)
-component_encoded t e =
-    let inner = sized_encoded 4 (bytes preamble ⊕ parts t) e in
-    let z = parts_are (bytes preamble) (parts t) inner.0 inner.1 in
-    (z.right, z.q_is)
-
 -- Imports.
-small_imports : (config : Config) (stack : Open) → IsFew (scope_of stack.inner) → (is : List ImportEntry) → AllByRecursion IsPlanImport is
+small_imports : (config : Config) (stack : Open) → IsFew (scope_of stack.inner) → (is : List ImportEntry)
     → AllByRecursion (FormedImport (scope_of stack.inner)) is → AllByRecursion Kebab (import_names is)
     → AllByRecursion (λ x. (s : List ImportEntry) → Small (script_import config stack s x)) is
-small_imports config stack few [] p f k = tt
-small_imports config stack few (x ∷ is) p f k = (
-  λ s. small_join (small_ref config (scope_of stack.inner) (totals_of (with_imports stack s)) true false few x.to f.0.0) (small_extern x.name k.0 p.0),
-  small_imports config stack few is p.1 f.1 k.1,
+small_imports config stack few [] f k = tt
+small_imports config stack few (x ∷ is) f k = (
+  λ s. small_join (small_ref config (scope_of stack.inner) (totals_of (with_imports stack s)) true false few x.to f.0.0) (small_extern (length (imports_of stack.inner) + length s) x.name k.0),
+  small_imports config stack few is f.1 k.1,
 )
 
 -- Exports.
@@ -98,14 +80,14 @@ few_functions : (t : Tree) (s : List ExportEntry) → function_count t + (length
 few_functions t s h =
     omega (arith, h, (functions_counted (with_exports t s)).most, function_count-add t (exports s), length-own-add exports_in t (exports s))
 
-small_exports : (t : Tree) (s xs : List ExportEntry) → AllByRecursion IsPlanExport xs → FormedExports xs (spaces_of (with_exports t s))
+small_exports : (t : Tree) (s xs : List ExportEntry) → FormedExports xs (spaces_of (with_exports t s))
     → AllByRecursion Kebab (export_names xs) → function_count t + (length (exports_of t) + (length s + length xs)) ≤ 2 ^ 64
     → Along (λ u x. Small (script_export t u x)) (λ u x. u ++ x ∷ []) s xs
-small_exports t s [] p f k few = tt
-small_exports t s (x ∷ xs) p f k few = (
+small_exports t s [] f k few = tt
+small_exports t s (x ∷ xs) f k few = (
   small_join (small_pick (length (functions_of (with_exports t s))) x.func (few_functions t s (omega (arith, few))) f.0)
-      (small_name 100 x.name (omega arith) k.0 p.0),
-  small_exports t (s ++ x ∷ []) xs p.1 (subst (FormedExports xs) (sym (spaces_export t s x)) f.1) k.1
+      (small_new 100 (length (exports_of t) + length s) x.name (omega arith) k.0),
+  small_exports t (s ++ x ∷ []) xs (subst (FormedExports xs) (sym (spaces_export t s x)) f.1) k.1
       (omega (arith, few, length-append s (x ∷ []))),
 )
 
@@ -125,7 +107,7 @@ small_canon s (lift c t) (signature, lowered, f, is, lowers, has, flat) spoken f
     let below : c < length s.core_functions = slice_get_within s.core_functions c f lowers in
     let said : Spoken (function signature) = all_at Spoken s.types t (function signature) spoken is in
     let type : Small (script_lift s t (Some (function signature))) =
-    small_join (small_lifted signature said.0.0 said.1)
+    small_join (small_lifted signature said.0.0)
     (small_place (is_of_signature signature) s.types t (function signature) many is ((same_signature_Decides signature signature).1 refl)) in
     small_join (small_canon_item s (canon_item_of (lift c t))) (small_join (small_pick (length s.core_functions) c (omega (arith, few)) below)
     (subst (λ o. Small (script_lift s t o)) (sym is) type))
@@ -151,7 +133,8 @@ small_item config outer before item =
 -- What has the rest of a component of a plan, where these components are open around it and these parts stand before it.
 record Said (config : Config) (outer : List Tree) (before t : Tree) : Type 0 where
   spoken : AllByRecursion Spoken (types_of before)
-  plan : IsPlan config (suc (length outer)) t
+  readable : IsReadableRest config t before
+  stands : Stands config (suc (length outer)) t
   formed : Formed t (scopes_in outer) before
   whole : OwnLimits config (join before t)
   each : AllByRecursion (OwnLimits config) (inside t)
@@ -177,8 +160,9 @@ module _ (config : Config) (consistent : IsConsistent config) (outer : List Tree
   said_past p t said =
       let z = parts_are (part p) (parts t) said.spelled.0 said.spelled.1 in
       record {
-        spoken = spoken_past config p (scopes_in outer) before (suc (length outer)) said.plan.0 said.formed.0 said.spoken;
-        plan = said.plan.1;
+        spoken = spoken_past config p (scopes_in outer) before said.readable.0 said.formed.0 said.spoken;
+        readable = said.readable.1;
+        stands = said.stands.1;
         formed = said.formed.1;
         whole = subst (OwnLimits config) (sym (join-add before p t)) said.whole;
         each = all_back (OwnLimits config) (anywhere_in components_in p) (inside t) said.each;
@@ -196,7 +180,8 @@ module _ (config : Config) (consistent : IsConsistent config) (outer : List Tree
       let longer : length (outer ++ before ∷ []) ≡ suc (length outer) = omega (arith, length-append outer (before ∷ [])) in
       record {
         spoken = tt;
-        plan = subst (λ n. IsPlan config (suc n) u) (sym longer) said.plan.0;
+        readable = said.readable.0;
+        stands = subst (λ n. Stands config (suc n) u) (sym longer) said.stands.0;
         formed = subst (λ ss. Formed u ss ends) (sym scopes) said.formed.0;
         whole = in_it.0;
         each = in_it.1;
@@ -213,7 +198,7 @@ module _ (config : Config) (consistent : IsConsistent config) (outer : List Tree
       let short : Short (name ∷ []) = all_back _ (own names_in before) (name ∷ [])
       (subst Short (own-add names_in before (custom name contents)) limits.names) in
       let z = parts_are (part (custom name contents)) (parts t) said.spelled.0 said.spelled.1 in
-      small_join (small_text 1000 name (omega arith) said.plan.0 short.0) (small_bytes contents (contents_bytes name contents (z.left, z.p_is)))
+      small_join (small_text 1000 name (omega arith) said.readable.0 short.0) (small_bytes contents (contents_bytes name contents (z.left, z.p_is)))
 
   small_core_part : (ts : List CoreEntry) (t : Tree) → Said config outer before (first (core_types ts) t)
       → Small (script_part (core_types ts) config outer before)
@@ -223,10 +208,10 @@ module _ (config : Config) (consistent : IsConsistent config) (outer : List Tree
       let limited : AllByRecursion (CoreLimits config) ts = all_back _ (core_types_of before) ts fits.within_core_types in
       small_said (λ s x. script_core config s config.max_type_size x) with_core_type (core_sections.Said config) one 0
       (config.max_types - length (core_types_of before)) 0 (scope_of before) ts
-      (core_sections.all_said config ts (scope_of before) said.formed.0 limited said.plan.0 (omega (arith, few, consistent.types)))
+      (core_sections.all_said config ts (scope_of before) said.formed.0 limited said.stands.0 said.readable.0 (omega (arith, few, consistent.types)))
     where
       one : (s : Scope) (x : CoreEntry) → core_sections.Said config s x → Small (script_core config s config.max_type_size x)
-      one s x (formed, limits, lasts, small) = small_core config s config.max_type_size x formed limits lasts.1 lasts.0 small
+      one s x (formed, limits, lasts, readable, small) = small_core config s config.max_type_size x formed limits readable lasts small
 
   small_type_part : (ts : List Entry) (t : Tree) → Said config outer before (first (types ts) t) → Small (script_part (types ts) config outer before)
   small_type_part ts t said =
@@ -235,12 +220,12 @@ module _ (config : Config) (consistent : IsConsistent config) (outer : List Tree
       let limited : AllByRecursion (EntryLimits config) ts = all_back _ (types_of before) ts fits.within_types in
       let count : length (scopes_in outer) ≡ length outer = omega (arith, length-scopes_from outer []) in
       let lasts : AllByRecursion (λ e. Lasts e config (suc (length (scopes_in outer))) config.max_type_size) ts =
-      subst (λ n. AllByRecursion (λ e. Lasts e config (suc n) config.max_type_size) ts) (sym count) said.plan.0 in
+      subst (λ n. AllByRecursion (λ e. Lasts e config (suc n) config.max_type_size) ts) (sym count) said.stands.0 in
       let can = type_sections.sayable config (scopes_in outer) said.around (omega (arith, said.shallow, count)) in
       small_said (λ s e. script_type e config config.max_type_size s (scopes_in outer)) with_type (type_sections.Said config (scopes_in outer))
       (λ s e h. record { are = type_bytes config s (scopes_in outer) config.max_type_size e consistent.nesting (can s e h) }) 0
       (config.max_types - length (types_of before)) 0 (scope_of before) ts
-      (type_sections.all_said config (scopes_in outer) ts (scope_of before) said.formed.0 limited lasts (omega (arith, few, fits.core_types, consistent.types)))
+      (type_sections.all_said config (scopes_in outer) ts (scope_of before) said.formed.0 limited lasts said.readable.0 (omega (arith, few, fits.core_types, consistent.types)))
 
   small_import_part : (is : List ImportEntry) (t : Tree) → Said config outer before (first (imports is) t)
       → Small (script_part (imports is) config outer before)
@@ -248,7 +233,7 @@ module _ (config : Config) (consistent : IsConsistent config) (outer : List Tree
       let behind = named_behind (λ (i : ImportEntry). i.name) (imports_of before) is said.formed.0.1 in
       let stack : Open = record { outer = outer; inner = before } in
       small_turns (script_import config stack) (λ s x. s ++ x ∷ []) 0 (config.max_imports - length (imports_of before)) 0 [] is
-      (small_imports config stack (few_here (first (imports is) t) said) is said.plan.0 said.formed.0.0 behind.0)
+      (small_imports config stack (few_here (first (imports is) t) said) is said.formed.0.0 behind.0)
 
   small_canon_part : (fs : List Canon) (t : Tree) → Said config outer before (first (canons fs) t) → Small (script_part (canons fs) config outer before)
   small_canon_part fs t said =
@@ -269,7 +254,13 @@ module _ (config : Config) (consistent : IsConsistent config) (outer : List Tree
       let behind = named_behind (λ (e : ExportEntry). e.name) (exports_of before) es said.formed.0.1 in
       let start : FormedExports es (spaces_of (with_exports before [])) = subst (FormedExports es) (sym (spaces-add before (exports []))) said.formed.0.0 in
       small_loop (script_export before) (λ u x. u ++ x ∷ []) 0 (config.max_exports - length (exports_of before)) 0 [] es
-      (small_exports before [] es said.plan.0.1 start behind.0 (omega (arith, most, front.functions, consistent.funcs)))
+      (small_exports before [] es start behind.0 (omega (arith, most, front.functions, consistent.funcs)))
+
+-- The text tells the module that it is of.
+small_module : (config : Config) → IsConsistent config → (text : List ℕ) → (s : StandIn) × IsStandIn config s × (stand_in_text s ≡ Some text)
+    → Small (script_stand_in config (stand_in_of text))
+small_module config consistent text (s, is, e) =
+    subst (λ z. Small (script_stand_in config z)) (sym (stand_in_told config s text is e)) (small_stand_in config s is)
 
 mutual
   small_from : (t : Tree) (config : Config) (outer : List Tree) (before : Tree) → IsConsistent config → Said config outer before t
@@ -282,7 +273,7 @@ mutual
   small_part : (p : Part) (t : Tree) (config : Config) (outer : List Tree) (before : Tree) → IsConsistent config → Said config outer before (first p t)
       → Small (script_part p config outer before)
   small_part (custom name contents) t config outer before consistent said = small_custom config consistent outer before name contents t said
-  small_part (core_module text) t config outer before consistent said = small_none
+  small_part (core_module text) t config outer before consistent said = small_module config consistent text said.stands.0
   small_part (core_types ts) t config outer before consistent said = small_core_part config consistent outer before ts t said
   small_part (component u) t config outer before consistent said =
       small_from u config (outer ++ before ∷ []) ends consistent (said_inside config consistent outer before u t said)
@@ -295,11 +286,12 @@ mutual
 pub plan_bytes : (config : Config) (plan : Tree) → IsConsistent config → Within config plan → AreBytes (script config plan)
 plan_bytes config plan consistent w =
     let z = parts_are (bytes preamble) (parts plan) w.spelled.0 w.spelled.1 in
-    let m = w.limits.maxima in
+    let m = w.comes.limits.maxima in
     (small_from plan config [] ends consistent (record {
       spoken = tt;
-      plan = w.scripted;
-      formed = w.formed;
+      readable = w.comes.readable;
+      stands = plan_stands config plan w;
+      formed = w.comes.formed;
       whole = m.each.0;
       each = m.each.1;
       around = tt;

@@ -127,27 +127,37 @@ does_length config Component stack next b r e m (d, c) =
 does_length config Exports stack next b r e m (es, read, c) =
     (omega (arith, part_length config stack next (exports es) c), tail_length r b (exports_tail config stack.inner read))
 
+-- An item that has a condition was offered.
+abbrev pub WasOffered : Config → Open → Item → Type 0
+WasOffered config stack item =
+    (item ≡ Module → is_module_offered config stack ≡ true) × (item ≡ Component → is_component_offered config stack ≡ true)
+    × (item ≡ Exports → is_export_offered config ≡ true)
+
 -- What is chosen was offered.
 pub chosen : (config : Config) (stack : Open) (left after : List ℕ) (item : Item) → ReadsAmong (items config stack left) left item after
-    → (item ≡ Module → is_module_offered config stack ≡ true) × (item ≡ Component → is_component_offered config stack ≡ true)
-chosen config stack [] after item r = let f = only_finish r.place item r.named in (λ e. absurd (cc), λ e. absurd (cc))
+    → WasOffered config stack item
+chosen config stack [] after item r = let f = only_finish r.place item r.named in (λ e. absurd (cc), λ e. absurd (cc), λ e. absurd (cc))
 chosen config stack (x ∷ xs) after item r =
-    let P : Item → Type 0 = λ i. (i ≡ Module → is_module_offered config stack ≡ true) × (i ≡ Component → is_component_offered config stack ≡ true) in
-    let other : (i : Item) → (i ≡ Module → ⊥) → (i ≡ Component → ⊥) → P i = λ i m c. (λ e. absurd (m e), λ e. absurd (c e)) in
+    let P : Item → Type 0 = WasOffered config stack in
+    let other : (i : Item) → (i ≡ Module → ⊥) → (i ≡ Component → ⊥) → (i ≡ Exports → ⊥) → P i = λ i m c x.
+    (λ e. absurd (m e), λ e. absurd (c e), λ e. absurd (x e)) in
     let all : AllByRecursion (λ o. o.0 ≡ true → P o.1) (offers
     (is_module_offered config stack) (is_component_offered config stack) (is_export_offered config)) = (
-      λ h. other Finish (λ e. cc) (λ e. cc),
+      λ h. other Finish (λ e. cc) (λ e. cc) (λ e. cc),
       (
-        λ h. other Custom (λ e. cc) (λ e. cc),
+        λ h. other Custom (λ e. cc) (λ e. cc) (λ e. cc),
         (
-          λ h. other CoreTypes (λ e. cc) (λ e. cc),
+          λ h. other CoreTypes (λ e. cc) (λ e. cc) (λ e. cc),
           (
-            λ h. other Types (λ e. cc) (λ e. cc),
+            λ h. other Types (λ e. cc) (λ e. cc) (λ e. cc),
             (
-              λ h. other Imports (λ e. cc) (λ e. cc),
+              λ h. other Imports (λ e. cc) (λ e. cc) (λ e. cc),
               (
-                λ h. other Canonical (λ e. cc) (λ e. cc),
-                (λ h. (λ e. h, λ e. absurd (cc)), (λ h. (λ e. absurd (cc), λ e. h), (λ h. other Exports (λ e. cc) (λ e. cc), tt))),
+                λ h. other Canonical (λ e. cc) (λ e. cc) (λ e. cc),
+                (
+                  λ h. (λ e. h, λ e. absurd (cc), λ e. absurd (cc)),
+                  (λ h. (λ e. absurd (cc), λ e. h, λ e. absurd (cc)), (λ h. (λ e. absurd (cc), λ e. absurd (cc), λ e. h), tt)),
+                ),
               ),
             ),
           ),

@@ -14,16 +14,15 @@ ghost use Rattle.smith_input.specs.declared.error.Error.{Error};
 ghost use Rattle.smith_input.specs.declared.error.Error.TheVariants.{OutOfMemory};
 ghost use Rattle.smith_component.specs.Grammar.{Spells, component_text};
 ghost use Rattle.smith_component.specs.Refusals.{IsGenerateRefusal};
-ghost use Rattle.smith_component.specs.Limits.{Limits, Minima, Sized};
+ghost use Rattle.smith_component.specs.Limits.{Minima};
 ghost use Rattle.smith_component.specs.Open.{Open, is_component_offered};
 ghost use Rattle.smith_component.specs.Script.{Continues, Within, item_of, script, script_item, script_part};
 ghost use Rattle.smith_component.specs.Shown.{shown_module};
 ghost use Rattle.smith_component.specs.TooLong.{PartTooLong, TreeTooLong};
 ghost use Rattle.smith_component.specs.Tree.{Part, Tree, core_module};
 ghost use Rattle.smith_component.specs.Turn.{Closes, Next, Turn, with_open, with_part};
-ghost use Rattle.smith_component.specs.Readable.{IsReadable};
+ghost use Rattle.smith_component.specs.Readable.{Comes};
 ghost use Rattle.smith_component.specs.Runs.{RunsTo};
-ghost use Rattle.smith_component.specs.WellFormed.{WellFormed};
 ghost use Rattle.smith_component.specs.declared.item.Item.TheVariants.{Component as ItemComponent, Finish};
 
 /// No bytes have two readings.
@@ -50,10 +49,11 @@ pub fn runs_are_decided()
     ensures { (config : Config) → IsDecided (RunsTo config) }
 {}
 
-/// A run over any input leads to a component that is well formed and within the limits, within what its types may need.
+/// A run over any input leads to a component that is well formed, within the limits and within what its types may need,
+/// and that can be read.
 pub fn runs_are_sound()
     ensures { (config : Config) (input : List ℕ) (tree : Tree) (left : List ℕ) → IsConsistent config
-        → RunsTo config input tree left → WellFormed tree × Limits config tree × Sized config tree }
+        → RunsTo config input tree left → Comes config tree }
 {}
 
 /// The script of a plan, followed by any bytes, leads to that plan, and leaves those bytes.
@@ -68,17 +68,10 @@ pub fn scripts_are_bytes()
         → AreBytes (script config plan) }
 {}
 
-/// Of the components that can be read, exactly those come, on some bytes, that are well formed and within the limits.
+/// Exactly those components that have bytes come on some input that are well formed, within the limits and readable.
 pub fn components_are_exact()
-    ensures { (config : Config) (tree : Tree) → IsConsistent config → IsReadable config tree
-        → ((input left : List ℕ) × AreBytes input × RunsTo config input tree left)
-        ↔ (WellFormed tree × Limits config tree × Sized config tree) }
-{}
-
-/// A component that can be read, and is well formed and within the limits, is a plan, so that it has a script.
-pub fn readable_components_are_plans()
-    ensures { (config : Config) (tree : Tree) → IsReadable config tree → WellFormed tree → Limits config tree
-        → Sized config tree → Within config tree }
+    ensures { (config : Config) (tree : Tree) (b : List ℕ) → IsConsistent config → Spells tree b
+        → ((input left : List ℕ) × AreBytes input × RunsTo config input tree left) ↔ Comes config tree }
 {}
 
 /// Where a run leads to a component that has bytes, nothing is refused but for want of memory.

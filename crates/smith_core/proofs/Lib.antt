@@ -9,6 +9,7 @@ pub mod SubTypes
 pub mod Tiles
 pub mod TooLong
 pub mod StandInSame
+pub mod StandInExact
 pub mod StandInMade
 pub mod StandInRead
 pub mod StandInTold

@@ -1,7 +1,6 @@
 -- What stands for a generated module is function types and memories within the limits, and the scripts of those are bytes.
-use Rattle.std.proofs.Common.{◌≡◌, ℕ, ◌+◌, ◌≤◌, List, [], ◌∷◌, map, length, arith, min, Bool, true, false, if◌then◌else◌, Option, Some, None}
+use Rattle.std.proofs.Common.{◌≡◌, ℕ, ◌+◌, ◌≤◌, List, [], ◌∷◌, map, length, arith, min, Bool, true, false, if◌then◌else◌}
 use Rattle.std.specs.List.{AllByRecursion}
-use Rattle.std.specs.Prelude.{IfSome}
 use Rattle.smith_input.specs.Loops.{Loop, Never}
 use Rattle.smith_input.proofs.Loops.{loop_all, loop_enough, loop_few, loop_map}
 use Rattle.smith_input.proofs.ScriptBytes.{Small, small_join, small_turns}
@@ -15,7 +14,7 @@ use Rattle.smith_format.proofs.CoreReading.{function_formed, memory_formed}
 use Rattle.smith_format.proofs.ScriptBytes.{small_function, small_memory, all_of}
 use Rattle.smith_core.specs.Module.{module_text}
 use Rattle.smith_core.specs.StandIn.{ReadsStandIn}
-use Rattle.smith_core.specs.StandInScript.{IsStandIn, IsStandInFunction, IsStandInMaximum, IsStandInMemory, script_stand_in}
+use Rattle.smith_core.specs.StandInScript.{IsStandIn, script_stand_in}
 use Rattle.smith_core.specs.StandInText.{StandIn, stand_in_text}
 use Rattle.smith_core.specs.declared.module.parts.ModuleParts.{ModuleParts}
 use Rattle.smith_core.proofs.StandInSame.{function_at, is_plain, shown_read, shown_stand_in, text_is, ReadsShown, IsPlain}
@@ -24,28 +23,6 @@ use Rattle.smith_core.proofs.StandInSame.{function_at, is_plain, shown_read, sho
 pub few_results : (multi : Bool) → (if multi then 20 else 1) ≤ 20
 few_results true = omega arith
 few_results false = omega arith
-
-stand_in_function : (config : Config) (f : Function) → FormedFunction (configured config) (max_results config) f → IsStandInFunction config f
-stand_in_function config f h = record { params = h.params; few_params = h.few_params; results = h.results; few_results = h.few_results }
-
-pub function_of_stand_in : (config : Config) (f : Function) → IsStandInFunction config f → FormedFunction (configured config) (max_results config) f
-function_of_stand_in config f h = record { params = h.params; few_params = h.few_params; results = h.results; few_results = h.few_results }
-
-stand_in_maximum : (minimum : ℕ) (maximum : Option ℕ) → IfSome maximum (λ n. (minimum ≤ n) × (n ≤ 20)) → IsStandInMaximum minimum maximum
-stand_in_maximum minimum None h = tt
-stand_in_maximum minimum (Some n) h = h
-
-maximum_of : (minimum : ℕ) (maximum : Option ℕ) → IsStandInMaximum minimum maximum → IfSome maximum (λ n. (minimum ≤ n) × (n ≤ 20))
-maximum_of minimum None h = tt
-maximum_of minimum (Some n) h = h
-
-stand_in_memory : (m : MemoryType) → FormedMemory m → IsStandInMemory m
-stand_in_memory m h = let limits = h.limits in
-    record { minimum = limits.least; maximum = stand_in_maximum m.minimum m.maximum limits.most; shared = h.shared; memory64 = h.memory64 }
-
-pub memory_of_stand_in : (m : MemoryType) → IsStandInMemory m → FormedMemory m
-memory_of_stand_in m h =
-    record { limits = record { least = h.minimum; most = maximum_of m.minimum m.maximum h.maximum }; shared = h.shared; memory64 = h.memory64 }
 
 pub stand_in_made : (config : Config) (b : List ℕ) (m : ModuleParts) (rest : List ℕ) → ReadsStandIn config b m rest
     → (s : StandIn) × IsStandIn config s × (module_text m ≡ stand_in_text s)
@@ -62,17 +39,17 @@ stand_in_made config b m rest r =
       shown_stand_in m,
       record {
         few_types = omega (arith, count);
-        types = loop_all (IsStandInFunction config) (λ s c f q t i. stand_in_function config f (function_formed i)) 0 tt b fs r.mid tt types;
+        types = loop_all (FormedFunction (configured config) (max_results config)) (λ s c f q t i. function_formed i) 0 tt b fs r.mid tt types;
         enough_memories = omega (arith, some);
         few_memories = omega (arith, most_memories);
-        memories = loop_all IsStandInMemory (λ s c t q u i. stand_in_memory t (memory_formed i)) 0 tt r.mid ms rest tt r.memories;
+        memories = loop_all FormedMemory (λ s c t q u i. memory_formed i) 0 tt r.mid ms rest tt r.memories;
       },
       text_is m r.parts plain,
     )
 
-small_memories : (ms : List MemoryType) → AllByRecursion IsStandInMemory ms → AllByRecursion (λ m. (u : Unit {0}) → Small (script_memory m)) ms
+small_memories : (ms : List MemoryType) → AllByRecursion FormedMemory ms → AllByRecursion (λ m. (u : Unit {0}) → Small (script_memory m)) ms
 small_memories [] all = tt
-small_memories (m ∷ ms) all = (λ u. small_memory m (memory_of_stand_in m all.0), small_memories ms all.1)
+small_memories (m ∷ ms) all = (λ u. small_memory m all.0, small_memories ms all.1)
 
 pub small_stand_in : (config : Config) (s : StandIn) → IsStandIn config s → Small (script_stand_in config s)
 small_stand_in config s h =

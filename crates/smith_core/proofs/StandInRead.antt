@@ -16,12 +16,12 @@ use Rattle.smith_format.proofs.CoreScript.{function_read, memory_read}
 use Rattle.smith_format.proofs.ScriptBytes.{few_values}
 use Rattle.smith_core.specs.Module.{has_any, module_text}
 use Rattle.smith_core.specs.StandIn.{HasTypesAndMemories, IsFunction, ReadsMemoryType, ReadsStandIn, ReadsSubType, groups_from}
-use Rattle.smith_core.specs.StandInScript.{IsStandIn, IsStandInFunction, IsStandInMemory, script_stand_in}
+use Rattle.smith_core.specs.StandInScript.{IsStandIn, script_stand_in}
 use Rattle.smith_core.specs.StandInText.{StandIn, stand_in_text}
 use Rattle.smith_core.specs.declared.module.parts.ModuleParts.{ModuleParts}
 use Rattle.smith_core.specs.declared.module.types.CompositeType.TheVariants.{Func}
 use Rattle.smith_core.specs.declared.module.types.SubType.{SubType}
-use Rattle.smith_core.proofs.StandInMade.{few_results, function_of_stand_in, memory_of_stand_in}
+use Rattle.smith_core.proofs.StandInMade.{few_results}
 use Rattle.smith_core.proofs.StandInSame.{function_at, is_plain, text_is, IsPlain}
 
 -- a list of the program with these items
@@ -85,13 +85,9 @@ parts_listed bulk_memory ts ms few_types few_memories = record {
   no_data = refl;
 }
 
-memories_formed : (ms : List MemoryType) → AllByRecursion IsStandInMemory ms → AllByRecursion FormedMemory ms
-memories_formed [] all = tt
-memories_formed (m ∷ ms) all = (memory_of_stand_in m all.0, memories_formed ms all.1)
-
 module _ (config : Config) where
   -- a function type as a final type with no supertype
-  abbrev sub_of : (f : Function) → IsStandInFunction config f → SubType
+  abbrev sub_of : (f : Function) → FormedFunction (configured config) (max_results config) f → SubType
   sub_of f h =
       let few : max_results config ≤ 20 = few_results config.multi_value_enabled in
       record {
@@ -100,15 +96,15 @@ module _ (config : Config) where
         composite_type = Func (record { params = vec_of f.0 (omega (arith, h.few_params)); results = vec_of f.1 (omega (arith, h.few_results, few)) });
       }
 
-  abbrev sub_types : (fs : List Function) → AllByRecursion (IsStandInFunction config) fs → List SubType
+  abbrev sub_types : (fs : List Function) → AllByRecursion (FormedFunction (configured config) (max_results config)) fs → List SubType
   sub_types [] all = []
   sub_types (f ∷ fs) all = sub_of f all.0 ∷ sub_types fs all.1
 
-  types_shown : (fs : List Function) (all : AllByRecursion (IsStandInFunction config) fs) → map function_at (sub_types fs all) ≡ fs
+  types_shown : (fs : List Function) (all : AllByRecursion (FormedFunction (configured config) (max_results config)) fs) → map function_at (sub_types fs all) ≡ fs
   types_shown [] all = refl
   types_shown (f ∷ fs) all = ap (λ gs. f ∷ gs) (types_shown fs all.1)
 
-  types_count : (fs : List Function) (all : AllByRecursion (IsStandInFunction config) fs) → length (sub_types fs all) ≡ length fs
+  types_count : (fs : List Function) (all : AllByRecursion (FormedFunction (configured config) (max_results config)) fs) → length (sub_types fs all) ≡ length fs
   types_count [] all = refl
   types_count (f ∷ fs) all = ap suc (types_count fs all.1)
 
@@ -118,9 +114,9 @@ module _ (config : Config) where
       FormedFunction (configured config) (max_results config) (function_at t) × (t.is_final ≡ true) × (t.supertype ≡ None)
       × IsFunction t.composite_type (function_at t)
 
-  types_readable : (fs : List Function) (all : AllByRecursion (IsStandInFunction config) fs) → AllByRecursion IsReadable (sub_types fs all)
+  types_readable : (fs : List Function) (all : AllByRecursion (FormedFunction (configured config) (max_results config)) fs) → AllByRecursion IsReadable (sub_types fs all)
   types_readable [] all = tt
-  types_readable (f ∷ fs) all = ((function_of_stand_in config f all.0, refl, refl, refl), types_readable fs all.1)
+  types_readable (f ∷ fs) all = ((all.0, refl, refl, refl), types_readable fs all.1)
 
   sub_type_read : (s : Unit {0}) (t : SubType) (rest : List ℕ) → IsReadable t
       → ReadsSubType config s (script_function (configured config) (max_results config) (function_at t) ++ rest) t rest s
@@ -173,7 +169,7 @@ module _ (config : Config) where
           mid = b ++ rest;
           ordered = omega (arith, h.enough_memories, h.few_memories);
           types = subst (λ z. Loop Never (ReadsSubType config) 0 most 0 tt z ts (b ++ rest) tt) (sym (append_assoc a b rest)) types;
-          memories = memories_read config.min_memories config.max_memories ms rest (memories_formed ms h.memories) h.enough_memories h.few_memories;
+          memories = memories_read config.min_memories config.max_memories ms rest h.memories h.enough_memories h.few_memories;
           bulk_memory = refl;
           parts = parts;
         },

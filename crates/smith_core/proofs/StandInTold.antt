@@ -1,10 +1,11 @@
 -- Function types and memories are found again from the bytes of the module that they are.
 use Rattle.std.proofs.Common.{◌≡◌, ◌⊎◌, inl, inr, ℕ, zero, suc, ◌+◌, ◌/◌, ◌%◌, ◌<◌, ◌≤◌, ◌^◌, Bool, true, false, nat_le, nat_lt, if◌then◌else◌, List, [], ◌∷◌, ◌++◌}
-use Rattle.std.proofs.Common.{map, take, drop, length, refl, sym, ap, ◌∙◌, subst, arith, Option, Some, None, append_assoc}
+use Rattle.std.proofs.Common.{IfSome, map, take, drop, length, refl, sym, ap, ◌∙◌, subst, arith, Option, Some, None, append_assoc}
 use Rattle.std.proofs.Math.Seq.{take-append_seam, drop-append_seam}
 use Rattle.std.proofs.lemmas.Bool.Decides.{nat_tests}
 use Rattle.std.specs.List.{AllByRecursion, Contains, slice_index_or}
 use Rattle.smith_input.specs.Offers.{offered}
+use Rattle.smith_format.specs.CoreFormed.{FormedFunction, FormedMemory}
 use Rattle.smith_format.specs.CoreTypes.{Function, core_function, core_val}
 use Rattle.smith_format.specs.Entities.{limits, memory_type}
 use Rattle.smith_format.specs.Limits.{configured, max_results}
@@ -18,7 +19,7 @@ use Rattle.smith_format.specs.declared.types.ValType.TheVariants.{I32, I64, F32,
 use Rattle.smith_format.proofs.Digits.{digits_last, digits_more, unsigned_last}
 use Rattle.smith_format.proofs.Piece.{joined, left_none, number_fits, parts_are, u_cases, u_fits}
 use Rattle.smith_core.specs.Preamble.{core_preamble}
-use Rattle.smith_core.specs.StandInScript.{IsStandIn, IsStandInFunction, IsStandInMaximum, IsStandInMemory, all_memories, counted_functions, function_of}
+use Rattle.smith_core.specs.StandInScript.{IsStandIn, all_memories, counted_functions, function_of}
 use Rattle.smith_core.specs.StandInScript.{functions_of, memories_of, memory_of, past_number, stand_in_of, types_of, value_of, values_of}
 use Rattle.smith_core.proofs.StandInMade.{few_results}
 use Rattle.smith_core.specs.StandInText.{StandIn, listed, stand_in_text}
@@ -146,7 +147,7 @@ module _ (config : Config) where
             λ i. ((ap (map value_of) taken ∙ t.shown) i, left i);
       }
 
-  function_told : (f : Function) → IsStandInFunction config f → Told (core_function f) function_of f
+  function_told : (f : Function) → FormedFunction (configured config) (max_results config) f → Told (core_function f) function_of f
   function_told f h =
       let few : max_results config ≤ 20 = few_results config.multi_value_enabled in
       let p = values_told f.0 h.params h.few_params in
@@ -160,7 +161,7 @@ module _ (config : Config) where
             ap (λ (z : List ValType × List ℕ). let o = values_of z.1 in ((z.0, o.0), o.1)) params ∙ ap (λ (o : List ValType × List ℕ). ((f.0, o.0), o.1)) results;
       }
 
-  functions_told : (fs : List Function) → AllByRecursion (IsStandInFunction config) fs → Told (each core_function fs) (functions_of (length fs)) fs
+  functions_told : (fs : List Function) → AllByRecursion (FormedFunction (configured config) (max_results config)) fs → Told (each core_function fs) (functions_of (length fs)) fs
   functions_told [] all = record { are = []; is = refl; found = λ rest. refl }
   functions_told (f ∷ fs) all =
       let one = function_told f all.0 in
@@ -175,7 +176,7 @@ module _ (config : Config) where
             ∙ ap (λ (o : List Function × List ℕ). (f ∷ o.0, o.1)) (more.found rest);
       }
 
-  counted_told : (fs : List Function) → AllByRecursion (IsStandInFunction config) fs → length fs ≤ 20 → Told (many core_function fs) counted_functions fs
+  counted_told : (fs : List Function) → AllByRecursion (FormedFunction (configured config) (max_results config)) fs → length fs ≤ 20 → Told (many core_function fs) counted_functions fs
   counted_told fs all few =
       let t = functions_told fs all in
       record {
@@ -192,11 +193,11 @@ record ToldMemories (ms : List MemoryType) : Type 0 where
   pub found : all_memories are ≡ ms
 
 -- a memory type in front of others
-memory_told : (m : MemoryType) (ms : List MemoryType) → IsStandInMemory m → ToldMemories ms → ToldMemories (m ∷ ms)
+memory_told : (m : MemoryType) (ms : List MemoryType) → FormedMemory m → ToldMemories ms → ToldMemories (m ∷ ms)
 memory_told m ms h more = by_maximum m.maximum refl
   where
     least : number m.minimum ≡ byte m.minimum
-    least = number_small m.minimum (let low = h.minimum in omega (arith, low))
+    least = number_small m.minimum (let low = h.limits.least in omega (arith, low))
 
     same : (most : Option ℕ) → most ≡ m.maximum → memory_of m.minimum most ≡ m
     same most e = λ i. record { minimum = m.minimum; maximum = e i; shared = sym h.shared i; memory64 = sym h.memory64 i }
@@ -214,7 +215,7 @@ memory_told m ms h more = by_maximum m.maximum refl
           found = λ i. same None e i ∷ more.found i;
         }
     by_maximum (Some n) e =
-        let few : (m.minimum ≤ n) × (n ≤ 20) = subst (IsStandInMaximum m.minimum) (sym e) h.maximum in
+        let few : (m.minimum ≤ n) × (n ≤ 20) = subst (λ o. IfSome o (λ n. (m.minimum ≤ n) × (n ≤ 20))) (sym e) h.limits.most in
         let whole : memory_type m ≡ Some (1 ∷ m.minimum ∷ n ∷ []) =
         plain (Some n) e ∙ (λ i. byte 1 ⊕ least i ⊕ number_small n few.1 i) ∙ ap (λ z. byte 1 ⊕ z) (joined (m.minimum ∷ []) (n ∷ []))
         ∙ joined (1 ∷ []) (m.minimum ∷ n ∷ []) in
@@ -224,14 +225,14 @@ memory_told m ms h more = by_maximum m.maximum refl
           found = λ i. same (Some n) e i ∷ more.found i;
         }
 
-memories_told : (ms : List MemoryType) → AllByRecursion IsStandInMemory ms → ToldMemories ms
+memories_told : (ms : List MemoryType) → AllByRecursion FormedMemory ms → ToldMemories ms
 memories_told [] all = record { are = []; is = refl; found = refl }
 memories_told (m ∷ ms) all = memory_told m ms all.0 (memories_told ms all.1)
 
 -- The two sections.
 
 module _ (config : Config) where
-  types_told : (fs : List Function) (t m : List ℕ) → AllByRecursion (IsStandInFunction config) fs → length fs ≤ 20
+  types_told : (fs : List Function) (t m : List ℕ) → AllByRecursion (FormedFunction (configured config) (max_results config)) fs → length fs ≤ 20
       → types_of m ≡ ([], m) → listed 1 core_function fs ≡ Some t → types_of (t ++ m) ≡ (fs, m)
   types_told [] t m all few none e = let f : [] ≡ t = let g : Some [] ≡ Some t = e in cc in ap (λ z. types_of (z ++ m)) (sym f) ∙ none
   types_told (f ∷ fs) t m all few none e =
@@ -242,7 +243,7 @@ module _ (config : Config) where
       ∙ ap counted_functions (past_unsigned (length c.are) (c.are ++ m))
       ∙ c.found m
 
-memory_section_told : (ms : List MemoryType) (m : List ℕ) → AllByRecursion IsStandInMemory ms → listed 5 memory_type ms ≡ Some m
+memory_section_told : (ms : List MemoryType) (m : List ℕ) → AllByRecursion FormedMemory ms → listed 5 memory_type ms ≡ Some m
     → (memories_of m ≡ ms) × (types_of m ≡ ([], m))
 memory_section_told [] m all e = let f : [] ≡ m = let g : Some [] ≡ Some m = e in cc in (ap memories_of (sym f), subst (λ z. types_of z ≡ ([], z)) f refl)
 memory_section_told (x ∷ xs) m all e =

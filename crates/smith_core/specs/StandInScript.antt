@@ -1,7 +1,8 @@
 -- Which core modules stand for generated ones, the input that each is read from, and how each is found again from its bytes.
-use Rattle.std.specs.Prelude.{◌≡◌, ℕ, zero, suc, ◌≤◌, false, nat_eq, nat_le, if◌then◌else◌, List, [], ◌∷◌, ◌++◌, length, map, take, drop, min, Option, Some, None}
-use Rattle.std.specs.List.{AllByRecursion, Contains}
+use Rattle.std.specs.Prelude.{ℕ, zero, suc, ◌≤◌, false, nat_eq, nat_le, if◌then◌else◌, List, [], ◌∷◌, ◌++◌, length, map, take, drop, min, Option, Some, None}
+use Rattle.std.specs.List.{AllByRecursion}
 use Rattle.smith_input.specs.Script.{script_loop}
+use Rattle.smith_format.specs.CoreFormed.{FormedFunction, FormedMemory}
 use Rattle.smith_format.specs.CoreScript.{script_function, script_memory}
 use Rattle.smith_format.specs.CoreTypes.{Function}
 use Rattle.smith_format.specs.Limits.{configured, max_results}
@@ -12,32 +13,13 @@ use Rattle.smith_format.specs.declared.types.ValType.{ValType}
 use Rattle.smith_format.specs.declared.types.ValType.TheVariants.{I32, I64, F32, F64, V128, Ref}
 use Rattle.smith_core.specs.StandInText.{StandIn}
 
--- at most 20 parameters and so many results, all of value types that the limits allow
-pub record IsStandInFunction (config : Config) (f : Function) : Type 0 where
-  pub params : AllByRecursion (λ v. Contains (configured config) v) f.0
-  pub few_params : length f.0 ≤ 20
-  pub results : AllByRecursion (λ v. Contains (configured config) v) f.1
-  pub few_results : length f.1 ≤ max_results config
-
--- no maximum, or one from the minimum to 20
-abbrev pub IsStandInMaximum : ℕ → Option ℕ → Type 0
-IsStandInMaximum minimum None = Unit {0}
-IsStandInMaximum minimum (Some n) = (minimum ≤ n) × (n ≤ 20)
-
--- a minimum of at most 10
-pub record IsStandInMemory (m : MemoryType) : Type 0 where
-  pub minimum : m.minimum ≤ 10
-  pub maximum : IsStandInMaximum m.minimum m.maximum
-  pub shared : m.shared ≡ false
-  pub memory64 : m.memory64 ≡ false
-
 -- at most 20 function types, and as many memories as the limits allow
 pub record IsStandIn (config : Config) (s : StandIn) : Type 0 where
   pub few_types : length s.types ≤ min config.max_types 20
-  pub types : AllByRecursion (IsStandInFunction config) s.types
+  pub types : AllByRecursion (FormedFunction (configured config) (max_results config)) s.types
   pub enough_memories : config.min_memories ≤ length s.memories
   pub few_memories : length s.memories ≤ config.max_memories
-  pub memories : AllByRecursion IsStandInMemory s.memories
+  pub memories : AllByRecursion FormedMemory s.memories
 
 -- the function types, and then the memories
 abbrev pub script_stand_in : Config → StandIn → List ℕ

@@ -1,7 +1,7 @@
 //! Laws of core modules, and those of numbers, texts, lists and core types. Each function does nothing: its contract is
 //! the law.
 
-ghost use Rattle.std.specs.Prelude.{◌≡◌, ◌↔◌, ◌++◌, ℕ, ◌<◌, ◌^◌, List, map, length, Some, None};
+ghost use Rattle.std.specs.Prelude.{◌≡◌, ◌↔◌, ◌++◌, ℕ, ◌<◌, List, map, Some, None};
 ghost use Rattle.smith_format.specs.declared.config.Config.{Config};
 ghost use Rattle.std.specs.List.{AllByRecursion};
 ghost use Rattle.smith_input.specs.Script.{AreBytes};
@@ -55,17 +55,25 @@ pub fn stand_ins_are_made()
         → (s : StandIn) × IsStandIn config s × (module_text m ≡ stand_in_text s) }
 {}
 
-/// From the script of function types and memories within the limits a module of their bytes is read, whatever follows,
-/// if there are no more memories than a list of the program can hold.
+/// From the script of function types and memories within the limits, which have bytes, a module of these bytes is read,
+/// and what follows is left.
 pub fn stand_ins_are_read()
-    ensures { (config : Config) (s : StandIn) → IsStandIn config s → length s.memories < 2 ^ 63 → (rest : List ℕ)
-        → (m : ModuleParts) × ReadsStandIn config (script_stand_in config s ++ rest) m rest
-        × (module_text m ≡ stand_in_text s) }
+    ensures { (config : Config) (s : StandIn) (b : List ℕ) → IsStandIn config s → stand_in_text s ≡ Some b
+        → (rest : List ℕ)
+        → (m : ModuleParts) × ReadsStandIn config (script_stand_in config s ++ rest) m rest × (module_text m ≡ Some b) }
 {}
 
 /// The script of function types and memories within the limits is bytes.
 pub fn stand_in_scripts_are_bytes()
     ensures { (config : Config) (s : StandIn) → IsStandIn config s → AreBytes (script_stand_in config s) }
+{}
+
+/// Exactly those bytes are of a module that stands for a generated one, on some input, that are of function types and
+/// memories within the limits.
+pub fn stand_ins_are_exact()
+    ensures { (config : Config) (b : List ℕ)
+        → ((input rest : List ℕ) × (m : ModuleParts) × ReadsStandIn config input m rest × (module_text m ≡ Some b))
+        ↔ ((s : StandIn) × IsStandIn config s × (stand_in_text s ≡ Some b)) }
 {}
 
 /// The function types and memories that stand for a generated module are found again from their bytes.

@@ -24,7 +24,8 @@ use Rattle.smith_core_types.specs.Offers.{Declared, undeclared, with_front}
 use Rattle.smith_core_types.specs.ModuleScript.{front_before, in_front, may_declare, script_asked, script_front, script_line}
 use Rattle.smith_core_types.proofs.FrontFound.{Fronted, first_line, first_lines, free_same, function_decls, realloc_same, whole_front}
 use Rattle.smith_core_types.proofs.ModuleFronts.{front_decls, front_own, front_state, memory_decls}
-use Rattle.smith_core_types.proofs.ModuleScript.{below, both_hold, limits_read}
+use Rattle.smith_format.proofs.CoreScript.{limits_read}
+use Rattle.smith_core_types.proofs.ModuleScript.{below, both_hold}
 
 -- the states
 

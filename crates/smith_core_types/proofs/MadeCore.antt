@@ -1,6 +1,6 @@
 -- Core types that are made: they leave a tail of the bytes, are no larger than their fuel, determined, well formed and within
 -- the limits; and scripts are read as them.
-use Rattle.std.proofs.Common.{◌≡◌, inl, inr, ℕ, ◌+◌, ◌-◌, ◌<◌, ◌≤◌, Bool, true, false, List, [], ◌∷◌, ◌++◌, map, length, length-append, refl, sym, ap, ◌∙◌}
+use Rattle.std.proofs.Common.{◌≡◌, inl, inr, ℕ, ◌+◌, ◌-◌, ◌<◌, ◌≤◌, true, false, List, [], ◌∷◌, ◌++◌, map, length, refl, sym, ap, ◌∙◌}
 use Rattle.std.proofs.Common.{subst, arith, append-nil, append_assoc}
 use Rattle.std.proofs.lemmas.Bool.{false≢true, ltb-true}
 use Rattle.std.specs.Prelude.{Some, None, IfSome, slice_get, codes}
@@ -9,7 +9,6 @@ use Rattle.smith_input.specs.Loops.{Loop}
 use Rattle.smith_input.specs.NewNames.{IsMadeUnique, is_among}
 use Rattle.smith_input.specs.Reading.{Reads, Flips, IsTail}
 use Rattle.smith_input.specs.Script.{pick}
-use Rattle.smith_input.specs.Offers.{offered}
 use Rattle.smith_input.proofs.Choices.{among_tail, among_same, among_contains}
 use Rattle.smith_input.proofs.Loops.{loop_tail, loop_gives, loop_few, loop_same}
 use Rattle.smith_input.proofs.NewNames.{made_unique_same}
@@ -28,8 +27,6 @@ use Rattle.smith_format.specs.declared.types.EntityType.TheVariants.{Func, Table
 use Rattle.smith_format.specs.declared.types.ExportKind.{ExportKind}
 use Rattle.smith_format.specs.declared.types.ExportKind.TheVariants as kind
 use Rattle.smith_format.specs.declared.types.RefType.{RefType}
-use Rattle.smith_format.specs.declared.types.RefType.TheVariants.{FuncRef, ExternRef}
-use Rattle.smith_format.specs.declared.types.ValType.TheVariants.{I32, I64, F32, F64, V128, Ref}
 use Rattle.smith_format.proofs.CoreReading.{limits_tail, limits_formed, element_formed, function_tail, function_formed, function_unique, memory_unique}
 use Rattle.smith_format.proofs.CoreReading.{table_unique, tag_unique}
 use Rattle.smith_format.proofs.CoreScript.{function_read}
@@ -49,7 +46,9 @@ use Rattle.smith_syntax.specs.WellFormed.{FormedEntity, FormedDecl, FormedCore, 
 use Rattle.smith_core_types.specs.declared.module_types.ModuleItem.{ModuleItem}
 use Rattle.smith_core_types.specs.declared.module_types.ModuleItem.TheVariants as item
 use Rattle.smith_core_types.proofs.MadeCoreSame.{Same}
-use Rattle.smith_core_types.proofs.ModuleFronts.{memory_formed, front_is, front_size}
+use Rattle.smith_format.proofs.CoreReading.{memory_formed}
+use Rattle.smith_format.proofs.ScriptBytes.{few_values}
+use Rattle.smith_core_types.proofs.ModuleFronts.{front_is, front_size}
 use Rattle.smith_core_types.proofs.ModuleTypes.{HasNewName, Judged, judged_more, judged_names, judged_front, limit_of, EntityFits, DeclFits, Within}
 use Rattle.smith_core_types.proofs.ModuleTypes.{within_more, within_none, within_front}
 use Rattle.smith_scopes.proofs.Places.{place_stands, get_either, get_mapped}
@@ -538,19 +537,6 @@ made_core_limits {config} {around} (of_module {ds = ds} f c m i) =
     (subst (Within config m.whole.own) (sym m.decls) (module_within config around m)) few)
 
 -- scripts
-
-offered_few : {A : Type 0} (b : Bool) (xs : List A) → length (offered b xs) ≤ length xs
-offered_few true xs = omega arith
-offered_few false xs = omega arith
-
-few_append : {A : Type 0} (a b c d : List A) → length a ≤ 2 → length b ≤ 2 → length c ≤ 1 → length d ≤ 2 → length (a ++ b ++ c ++ d) ≤ 7
-few_append a b c d h i j k = omega (arith, length-append (a ++ b ++ c) d, length-append (a ++ b) c, length-append a b, h, i, j, k)
-
-pub few_values : (config : Config) → length (configured config) ≤ 7
-few_values config =
-    few_append (I32 ∷ I64 ∷ []) (offered config.allow_floats (F32 ∷ F64 ∷ [])) (offered config.simd_enabled (V128 ∷ []))
-    (offered config.reference_types_enabled (Ref FuncRef ∷ Ref ExternRef ∷ []))
-    (omega arith) (offered_few config.allow_floats _) (offered_few config.simd_enabled _) (offered_few config.reference_types_enabled _)
 
 pub core_type_read : (config : Config) (around : Scope) (fuel : ℕ) (f : Function) (rest : List ℕ) → 2 ≤ fuel
     → FormedFunction (configured config) (max_results config) f → MadeCore config around (script_core_type config f ++ rest) fuel (core_func f) rest (fuel - 1)

@@ -3,14 +3,13 @@ use Rattle.std.proofs.Common.{◌≡◌, ℕ, ◌<◌, ◌≤◌, Bool, true, fa
 use Rattle.std.proofs.lemmas.Bool.{false≢true, ltb-true, lt-ltb}
 use Rattle.std.proofs.lemmas.Bool.Decides.{nat_tests}
 use Rattle.std.specs.Prelude.{Option, Some, None, IfSome, codes, nat_lt, if◌then◌else◌}
+use Rattle.smith_format.proofs.CoreReading.{memory_formed}
 use Rattle.smith_format.specs.CoreFormed.{FormedMemory}
-use Rattle.smith_format.specs.CoreReading.{ReadsMemory}
 use Rattle.smith_format.specs.CoreTypes.{Function}
 use Rattle.smith_format.specs.declared.config.Config.{Config}
 use Rattle.smith_format.specs.declared.types.EntityType.TheVariants.{Func, Memory}
 use Rattle.smith_format.specs.declared.types.ExportKind.TheVariants as kind
 use Rattle.smith_format.specs.declared.types.MemoryType.{MemoryType}
-use Rattle.smith_format.proofs.CoreReading.{limits_formed}
 use Rattle.smith_syntax.specs.Entries.{ModuleDecl, declares, exports}
 use Rattle.smith_scopes.proofs.Plain.{both_true}
 use Rattle.smith_core_types.specs.MadeCore.{ReadsLine, not_allowed, declined, taken, MemoryLine}
@@ -54,9 +53,6 @@ pub record IsFront (config : Config) (fuel : ℕ) (s : Declared) : Type 0 where
 
 both_below : (n m a b : ℕ) → (nat_lt n a && nat_lt m b) ≡ true → (n < a) × (m < b)
 both_below n m a b e = let t = both_true (nat_lt n a) (nat_lt m b) e in (ltb-true n a t.0, ltb-true m b t.1)
-
-pub memory_formed : {b rest : List ℕ} {m : MemoryType} → ReadsMemory b m rest → FormedMemory m
-memory_formed r = record { limits = limits_formed r.limits; shared = r.shared; memory64 = r.memory64 }
 
 module _ (config : Config) (fuel : ℕ) where
   memory_is : (b rest : List ℕ) (t : Declared) → ReadsLine (nat_lt 0 config.max_memories) MemoryLine (undeclared fuel) b t rest

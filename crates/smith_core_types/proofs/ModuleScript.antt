@@ -4,7 +4,7 @@ use Rattle.std.proofs.Common.{◌∙◌, subst, arith, append_assoc, nat_eq, nat
 use Rattle.std.proofs.lemmas.Bool.{false≢true}
 use Rattle.std.proofs.lemmas.Bool.Decides.{nat_tests, Decides-eqb}
 use Rattle.std.proofs.lemmas.Option.{slice_get_within}
-use Rattle.std.specs.Prelude.{Option, IfSome, slice_get, if◌then◌else◌}
+use Rattle.std.specs.Prelude.{Option, slice_get, if◌then◌else◌}
 use denote.Enum.Bare.{same_true, true_same}
 use Rattle.smith_input.specs.NameScript.{script_new_text}
 use Rattle.smith_input.specs.Reading.{Flips}
@@ -15,8 +15,8 @@ use Rattle.smith_input.proofs.Offered.{offers_few, offers_found}
 use Rattle.smith_input.proofs.Picks.{reads-pick}
 use Rattle.smith_input.proofs.Reading.{flips_one, flips_zero}
 use Rattle.smith_input.proofs.ReadsTexts.{text_read}
-use Rattle.smith_format.specs.CoreFormed.{FormedLimits}
-use Rattle.smith_format.specs.CoreReading.{ReadsBetween, ReadsMaximum, unbounded, bounded, ReadsLimits, ReadsElement, only_functions, either, ReadsTable}
+use Rattle.smith_format.proofs.CoreScript.{limits_read}
+use Rattle.smith_format.specs.CoreReading.{ReadsElement, only_functions, either, ReadsTable}
 use Rattle.smith_format.specs.CoreScript as core
 use Rattle.smith_format.specs.CoreScript.{script_between, script_limits, script_maximum}
 use Rattle.smith_format.specs.CoreTypes.{Function}
@@ -50,7 +50,7 @@ use Rattle.smith_core_types.specs.contracts.module_types.ModuleItem.{the_type as
 use Rattle.smith_core_types.specs.contracts.module_types.ModuleItemPartialEq.TheImpl.{ghosts as items}
 use Rattle.smith_core_types.specs.declared.module_types.ModuleItem.{ModuleItem}
 use Rattle.smith_core_types.specs.declared.module_types.ModuleItem.TheVariants as item
-use Rattle.smith_core_types.proofs.MadeCore.{few_values}
+use Rattle.smith_format.proofs.ScriptBytes.{few_values}
 use Rattle.smith_core_types.proofs.MakingCore.{choice_around, choice_own, choices_count, length-indexes, own_at}
 use Rattle.smith_core_types.proofs.ModuleTypes.{DeclFits, EntityFits}
 
@@ -78,31 +78,6 @@ pub record IsSayable (config : Config) (around : Scope) (s : Declared) (d : Modu
   pub fits : DeclFits config around.core_types s.own s.decls d
   pub formed : FormedDecl around.core_types s.own d
   pub text : IsReadableModuleDecl s.decls d
-
--- limits
-
-between_read : (low high n : ℕ) (rest : List ℕ) → low ≤ n → n ≤ high → high ≤ 1000 → ReadsBetween low high (script_between low high n ++ rest) n rest
-between_read low high n rest l h small = record {
-  place = n - low;
-  is = omega (arith, l);
-  reads = reads-pick (high - low + 1) (n - low) rest (omega (arith, small)) (omega (arith, l, h));
-}
-
-maximum_read : (minimum : ℕ) (maximum : Option ℕ) (rest : List ℕ) → IfSome maximum (λ n. (minimum ≤ n) × (n ≤ 20))
-    → ReadsMaximum minimum (script_maximum minimum maximum ++ rest) maximum rest
-maximum_read minimum None rest f = unbounded (flips_zero rest)
-maximum_read minimum (Some n) rest f = bounded (flips_one (script_between minimum 20 n ++ rest)) (between_read minimum 20 n rest f.0 f.1 (omega arith))
-
-pub limits_read : (minimum : ℕ) (maximum : Option ℕ) (rest : List ℕ) → FormedLimits minimum maximum
-    → ReadsLimits (script_limits minimum maximum ++ rest) minimum maximum rest
-limits_read minimum maximum rest f =
-    let a : List ℕ = script_between 0 10 minimum in
-    let b : List ℕ = script_maximum minimum maximum in
-    subst (λ z. ReadsLimits z minimum maximum rest) (sym (append_assoc a b rest)) (record {
-      mid = b ++ rest;
-      least = between_read 0 10 minimum (b ++ rest) (omega arith) f.least (omega arith);
-      most = maximum_read minimum maximum rest f.most;
-    })
 
 element_read : (references_too : Bool) (t : RefType) (rest : List ℕ) → (t ≡ FuncRef) ⊎ (references_too ≡ true)
     → (t ≡ FuncRef) ⊎ ((true ≡ true) × (t ≡ ExternRef))

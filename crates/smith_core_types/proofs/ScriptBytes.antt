@@ -3,21 +3,18 @@ use Rattle.std.proofs.Common.{◌≡◌, ℕ, ◌+◌, ◌-◌, ◌<◌, ◌≤�
 use Rattle.std.proofs.Common.{refl, sym, subst, arith, Option, None, Some}
 use Rattle.std.proofs.lemmas.Bool.Decides.{nat_tests, Decides-eqb}
 use Rattle.std.proofs.lemmas.Option.{slice_get_within}
-use Rattle.std.specs.List.{AllByRecursion}
 use Rattle.std.specs.Prelude.{IfSome, codes, slice_get}
 use Rattle.smith_input.specs.Loops.{Along}
 use Rattle.smith_input.specs.NameScript.{script_new_text}
 use Rattle.smith_input.specs.Script.{pick, script_among, script_loop}
 use Rattle.smith_input.proofs.Offered.{offers_few}
 use Rattle.smith_input.proofs.ScriptBytes.{Small, small_byte, small_few, small_found, small_if, small_join, small_loop, small_more, small_none, small_pick}
-use Rattle.smith_input.proofs.ScriptBytes.{small_new_text, small_text, small_turns}
+use Rattle.smith_input.proofs.ScriptBytes.{small_new_text, small_text}
 use Rattle.smith_input.proofs.Utf8Bytes.{utf8_bytes}
+use Rattle.smith_format.proofs.ScriptBytes.{small_function, small_limits, small_value}
 use Rattle.smith_format.specs.CoreFormed.{FormedLimits, FormedMemory}
-use Rattle.smith_format.specs.CoreScript.{script_between, script_function, script_limits, script_maximum, script_values}
 use Rattle.smith_format.specs.CoreTypes.{Function}
 use Rattle.smith_format.specs.Entities.{kind_of}
-use Rattle.smith_format.specs.Equality.{same_val}
-use Rattle.smith_format.specs.Limits.{configured, max_results}
 use Rattle.smith_format.specs.contracts.types.ExportKindPartialEq.TheImpl.{ghosts as kinds}
 use Rattle.smith_format.specs.contracts.types.RefTypePartialEq.TheImpl.{ghosts as references}
 use Rattle.smith_format.specs.declared.config.Config.{Config}
@@ -25,7 +22,6 @@ use Rattle.smith_format.specs.declared.types.EntityType.{EntityType}
 use Rattle.smith_format.specs.declared.types.EntityType.TheVariants.{Func, Table, Memory, Global, Tag}
 use Rattle.smith_format.specs.declared.types.MemoryType.{MemoryType}
 use Rattle.smith_format.specs.declared.types.RefType.TheVariants.{FuncRef, ExternRef}
-use Rattle.smith_format.specs.declared.types.ValType.{ValType}
 use Rattle.smith_syntax.specs.CoreLimits.{CoreLimits, ModuleLimits}
 use Rattle.smith_syntax.specs.Entries.{CoreEntry, ModuleDecl, core_func, core_module, imports, declares, aliases, exports}
 use Rattle.smith_syntax.specs.ModuleTypes.{after_front, export_names, free, is_tag_type, names_from, realloc}
@@ -45,7 +41,6 @@ use Rattle.smith_core_types.specs.declared.module_types.ModuleItem.TheVariants a
 use Rattle.smith_core_types.proofs.CoreScript.{begun, behind_sayable, lasting}
 use Rattle.smith_core_types.proofs.FrontFound.{Fronted, fronted, whole_front}
 use Rattle.smith_core_types.proofs.FrontScript.{front_formed, line_absent, line_stands}
-use Rattle.smith_core_types.proofs.MadeCore.{few_values}
 use Rattle.smith_core_types.proofs.MakingCore.{choices_count}
 use Rattle.smith_core_types.proofs.ModuleFronts.{free_decls, front_state, memory_decls, realloc_decls}
 use Rattle.smith_core_types.proofs.ModuleScript.{IsSayable, alias_at}
@@ -56,11 +51,6 @@ pub small_place : {A : Type 0} (test : A → Bool) (xs : List A) (i : ℕ) (x : 
 small_place test xs i x few stands passes =
     let at = place_found test xs i x stands passes in
     small_found nat_eq Decides-eqb (places test 0 xs) at.0 i (omega (arith, few, length-places test 0 xs)) at.1
-
--- what all items are, those of a list are
-all_of : {A : Type 0} (P : A → Type 0) → ((x : A) → P x) → (xs : List A) → AllByRecursion P xs
-all_of P one [] = tt
-all_of P one (x ∷ xs) = (one x, all_of P one xs)
 
 -- a loop of items that can be said where they stand
 pub small_said : {S A : Type 0} (script : S → A → List ℕ) (next : S → A → S) (Said : S → A → Type 0) → ((s : S) (x : A) → Said s x → Small (script s x))
@@ -73,28 +63,7 @@ small_said {S} {A} script next Said one min max done s xs all = small_loop scrip
 
 -- Function types.
 
-small_value : (config : Config) (x : ValType) → Small (script_among same_val (configured config) x)
-small_value config x = let few = few_values config in small_few same_val (configured config) x (omega (arith, few))
-
-small_values : (config : Config) (max : ℕ) (xs : List ValType) → Small (script_values (configured config) max xs)
-small_values config max xs =
-    let said : ValType → List ℕ = λ x. script_among same_val (configured config) x in
-    small_turns (λ (s : Unit {0}) x. said x) (λ s x. tt) 0 max 0 tt xs (all_of (λ x. (s : Unit {0}) → Small (said x)) (λ x s. small_value config x) xs)
-
-small_function : (config : Config) (f : Function) → Small (script_function (configured config) (max_results config) f)
-small_function config f = small_join (small_values config 20 f.0) (small_values config (max_results config) f.1)
-
 -- Entities.
-
-small_between : (low high n : ℕ) → n ≤ high → high ≤ 20 → Small (script_between low high n)
-small_between low high n h small = small_byte (high - low + 1) (n - low) (omega (arith, small)) (omega (arith, h, small))
-
-small_maximum : (minimum : ℕ) (maximum : Option ℕ) → IfSome maximum (λ n. (minimum ≤ n) × (n ≤ 20)) → Small (script_maximum minimum maximum)
-small_maximum minimum None f = small_more 0 (omega arith) small_none
-small_maximum minimum (Some n) f = small_more 1 (omega arith) (small_between minimum 20 n f.1 (omega arith))
-
-small_limits : (minimum : ℕ) (maximum : Option ℕ) → FormedLimits minimum maximum → Small (script_limits minimum maximum)
-small_limits minimum maximum f = small_join (small_between 0 10 minimum f.least (omega arith)) (small_maximum minimum maximum f.most)
 
 small_bit : (b : Bool) → Small (script_bit b)
 small_bit b = small_if b (small_more 1 (omega arith) small_none) (small_more 0 (omega arith) small_none)

@@ -11,9 +11,11 @@ use Rattle.smith_format.specs.declared.types.ValType.{ValType}
 use Rattle.smith_format.specs.declared.types.ValType.TheVariants.{I32, I64, F32, F64, V128, Ref}
 use Rattle.smith_input.specs.Choices.{ReadsAmong}
 use Rattle.smith_input.specs.Kebab.{Kebab}
+use Rattle.smith_input.specs.NameScript.{AreReachable}
 use Rattle.smith_input.specs.Names.{ReadsNew}
 use Rattle.smith_input.specs.Reading.{IsTail}
 use Rattle.smith_input.proofs.Choices.{among_tail}
+use Rattle.smith_input.proofs.NameScript.{new_reachable}
 use Rattle.smith_input.proofs.NewNames.{new_tail, new_kebab}
 use Rattle.smith_input.proofs.Reading.{tail_same, tail_trans}
 use Rattle.smith_syntax.specs.Entries.{Field, Signature, function}
@@ -26,6 +28,7 @@ use Rattle.smith_syntax.specs.declared.types.PrimitiveValType.{PrimitiveValType}
 use Rattle.smith_syntax.specs.declared.types.PrimitiveValType.TheVariants as prim
 use Rattle.smith_types.specs.Lifting.{IsLiftable, IsLiftableFunction, ReadsParams, no_params, a_param, ReadsLifted}
 use Rattle.smith_types.specs.Offers.{lifted}
+use Rattle.smith_types.specs.Readable.{AreReadableNames}
 use Rattle.smith_core_types.proofs.Names.{AreNew, new_distinct}
 
 -- core value types
@@ -117,6 +120,11 @@ params_kebab {names = names} {vs = vs} h (a_param {vs = us} {name = name} n p la
     let more : length (names ++ name ∷ []) + length us < 2 ^ 64 = omega (arith, h, length-append names (name ∷ [])) in
     (new_kebab (omega (arith, h)) n, params_kebab more later)
 
+params_readable : {names : List (List ℕ)} {vs : List ValType} {b rest : List ℕ} {fs : List Field} → ReadsParams names vs b fs rest
+    → AreReachable 100 names (map (λ p. p.0) fs)
+params_readable no_params = tt
+params_readable (a_param n p later) = (new_reachable n, params_readable later)
+
 -- Names of parameters are in kebab case and distinct.
 pub params_named : {vs : List ValType} {b rest : List ℕ} {fs : List Field} → length vs < 2 ^ 64 → ReadsParams [] vs b fs rest → Named (map (λ p. p.0) fs)
 params_named {fs = fs} h r = (params_kebab (omega (arith, h)) r, new_distinct [] (map (λ p. p.0) fs) (params_new r))
@@ -141,6 +149,9 @@ module _ {f : Function} {b : List ℕ} {s : Signature} {rest : List ℕ} (r : Re
 
   pub lifted_named : length f.0 < 2 ^ 64 → Named (map (λ p. p.0) s.params)
   lifted_named h = params_named h r.params
+
+  pub lifted_readable : AreReadableNames (map (λ p. p.0) s.params)
+  lifted_readable = params_readable r.params
 
   -- All parameters and the result are primitives, so that they are well formed in every scope.
   pub lifted_prims : (own : Scope) → AllByRecursion (λ p. FormedVal own p.1) s.params × FormedMaybe own s.result

@@ -1,6 +1,5 @@
 -- The names within a type that is made can be read.
-use Rattle.std.proofs.Common.{◌≡◌, ℕ, ◌+◌, ◌-◌, Bool, List, [], ◌∷◌, ◌++◌, refl, sym, ap, ◌∙◌, subst}
-use Rattle.std.proofs.lemmas.List.{map-append}
+use Rattle.std.proofs.Common.{◌≡◌, ℕ, ◌+◌, ◌-◌, Bool, true, false, List, [], ◌∷◌, ◌++◌, sym, subst}
 use Rattle.smith_input.proofs.NameScript.{new_reachable}
 use Rattle.smith_format.specs.declared.config.Config.{Config}
 use Rattle.smith_syntax.specs.Entries.{DefValType, record_type, variant_type, tuple_type, flags_type, enum_type}
@@ -8,13 +7,14 @@ use Rattle.smith_syntax.specs.Entries.{FullEntry, FullDecl, FullDecls, plain, pl
 use Rattle.smith_syntax.specs.Scope.{Scope}
 use Rattle.smith_syntax.specs.WellFormed.{names, import_of, export_of}
 use Rattle.smith_core_types.proofs.Readable.{made_core_readable}
-use Rattle.smith_types.specs.Declarations.{NamedExtern, SoFar, nothing_so_far, after_one}
+use Rattle.smith_types.specs.Declarations.{SoFar, nothing_so_far, after_one}
 use Rattle.smith_types.specs.Made.{or_bool, MadeAs, MadeDefined, Made, spent_type, made_defined, made_function, made_component, made_instance}
 use Rattle.smith_types.specs.Made.{MadeDeclaration, made_import, made_export, made_alias, made_core_type, made_type, MadeDeclarations, no_more_decls}
 use Rattle.smith_types.specs.Made.{spent_decls, one_decl}
 use Rattle.smith_types.specs.Readable.{IsReadableDefined, IsReadableType, IsReadableDecl, AreReadableDecls}
 use Rattle.smith_types.specs.declared.make.defined.DefinedKind.{DefinedKind}
 use Rattle.smith_types.specs.declared.make.defined.DefinedKind.TheVariants as kind
+use Rattle.smith_types.proofs.Externs.{names_behind}
 use Rattle.smith_types.proofs.MadeFormed.{import_plain, export_plain}
 use Rattle.smith_types.proofs.Members.{labels_readable, members_readable, named_name}
 use Rattle.smith_types.proofs.ReadsDeclarations.{alias_holds}
@@ -42,10 +42,6 @@ as_readable own kind.Result b fuel t rest left (ok, mid, r, err, s, i, _) = subs
 defined_readable : (own : Scope) (b : List ℕ) (fuel : ℕ) (t : DefValType) (rest : List ℕ) (left : ℕ) → MadeDefined own b fuel t rest left
     → IsReadableDefined t
 defined_readable own b fuel t rest left d = as_readable own d.kind d.mid fuel t rest left d.made
-
--- the names with those of one declaration more
-names_behind : (so_far more : List NamedExtern) (one : List (List ℕ × Unit {0})) → names one ≡ names more → names (so_far ++ more) ≡ names so_far ++ names one
-names_behind so_far more one same = map-append (λ x. x.0) so_far more ∙ ap (λ z. names so_far ++ z) (sym same)
 
 mutual
   pub made_readable : (config : Config) (own : Scope) (outer : List Scope) (b : List ℕ) (fuel : ℕ) (e : FullEntry) (rest : List ℕ) (left : ℕ)
@@ -83,8 +79,8 @@ mutual
   declarations_readable config importing outer done s b fuel ds rest left (spent_decls m f l) = tt
   declarations_readable config importing outer done s b fuel _ rest left (one_decl {mid = mid} {low = low} {held = held} {d = d} {ds = ds} m f one later) =
       let next : SoFar = after_one outer s d in
-      let imports = names_behind s.imports (import_of d) (import_of (plain_decl d)) (import_plain d) in
-      let exports = names_behind s.exports (export_of d) (export_of (plain_decl d)) (export_plain d) in
+      let imports = sym (names_behind s.imports (import_of d) (import_of (plain_decl d)) (import_plain d)) in
+      let exports = sym (names_behind s.exports (export_of d) (export_of (plain_decl d)) (export_plain d)) in
       let behind = declarations_readable config importing outer (done + 1) next low held ds rest left later in (
         declaration_readable config importing outer s mid (fuel - 1) d low held one,
         subst (λ z. AreReadableDecls (plain_decls ds) z (names s.exports ++ names (export_of (plain_decl d)))) imports

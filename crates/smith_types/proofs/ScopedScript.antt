@@ -41,6 +41,7 @@ use Rattle.smith_types.specs.Script.{script_type_kind}
 use Rattle.smith_types.specs.declared.make.TypeKind.TheVariants.{Component, Instance}
 use Rattle.smith_types.specs.declared.make.declarations.DeclarationItem.{DeclarationItem}
 use Rattle.smith_types.specs.declared.make.declarations.DeclarationItem.TheVariants as item
+use Rattle.smith_types.proofs.Externs.{names_behind}
 use Rattle.smith_types.proofs.MadeFormed.{after_plain}
 use Rattle.smith_types.proofs.MadeSame.{made_same}
 use Rattle.smith_types.proofs.ReferencesRead.{type_alias_read, core_alias_read, alias_there, item_read, no_import_read, extern_read, ref_read, ref_there}
@@ -64,10 +65,6 @@ pub kebabs_split : (one later : List (List ℕ × Unit {0})) → Kebabs (one ++ 
 kebabs_split one later k =
     let both : AllByRecursion Kebab (names one ++ names later) = subst (AllByRecursion Kebab) (map-append (λ x. x.0) one later) k in
     (all_front Kebab (names one) (names later) both, all_back Kebab (names one) (names later) both)
-
--- the names with those of one declaration more
-names_behind : (so_far more : List NamedExtern) (one : List (List ℕ × Unit {0})) → names one ≡ names more → names so_far ++ names one ≡ names (so_far ++ more)
-names_behind so_far more one same = ap (λ z. names so_far ++ z) same ∙ sym (map-append (λ x. x.0) so_far more)
 
 count_behind : (so_far more : List NamedExtern) (one : List (List ℕ × Unit {0})) → names one ≡ names more
     → length so_far + length one ≡ length (so_far ++ more)

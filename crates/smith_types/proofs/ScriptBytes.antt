@@ -35,8 +35,8 @@ use Rattle.smith_types.specs.Offers.{primitives, ref_kinds, ref_offers, ref_plac
 use Rattle.smith_types.specs.Needs.{decl_cost}
 use Rattle.smith_types.specs.Readable.{IsReadableType, IsReadableDecl, AreReadableDecls}
 use Rattle.smith_types.specs.Sayable.{Fit, IsSayable, Lasts, LastsDecl, LastsDecls}
-use Rattle.smith_types.specs.Script.{Taken, none_taken, after_taken, index_in, kind_in, script_alias, script_case}
-use Rattle.smith_types.specs.Script.{script_decl, script_declares, script_decls, script_defined, script_entry, script_extern, script_field}
+use Rattle.smith_types.specs.Script.{Taken, none_taken, after_taken, index_in, kind_in, script_alias}
+use Rattle.smith_types.specs.Script.{script_decl, script_declares, script_decls, script_defined, script_entry, script_extern}
 use Rattle.smith_types.specs.Script.{script_kind, script_label, script_maybe, script_members, script_primitive, script_ref, script_signature, script_type}
 use Rattle.smith_types.specs.Script.{script_lifted, script_params, script_result, script_scalar, script_type_kind, script_val}
 use Rattle.smith_types.specs.contracts.make.TypeKindPartialEq.TheImpl.{ghosts as types}

@@ -1,5 +1,5 @@
 -- The input that a type is read from: what a script says of it.
-use Rattle.std.specs.Prelude.{ℕ, ◌+◌, ◌-◌, Bool, true, false, ◌&&◌, List, [], ◌∷◌, ◌++◌, map, length, Option, Some, None, slice_get}
+use Rattle.std.specs.Prelude.{ℕ, ◌+◌, ◌-◌, Bool, true, false, ◌&&◌, List, [], ◌∷◌, ◌++◌, length, Option, Some, None, slice_get}
 use Rattle.std.specs.Prelude.{nat_eq, nat_le, if◌then◌else◌}
 use Rattle.std.specs.Option.{option_to_list}
 use Rattle.smith_input.specs.NameScript.{script_new}
@@ -7,7 +7,7 @@ use Rattle.smith_input.specs.Script.{script_among, script_end, script_loop, pick
 use Rattle.smith_core_types.specs.Script.{script_core}
 use Rattle.smith_format.specs.declared.config.Config.{Config}
 use Rattle.smith_syntax.specs.Entries.{DefValType, primitive_type, record_type, variant_type, list_type, tuple_type, flags_type, enum_type, option_type}
-use Rattle.smith_syntax.specs.Entries.{result_type, Field, Case, Signature, Entry, defined, function, component_type, instance_type, CoreEntry}
+use Rattle.smith_syntax.specs.Entries.{result_type, Field, Case, Signature, Entry, defined, function, component_type, instance_type}
 use Rattle.smith_syntax.specs.Entries.{Decl, Decls, core_type_decl, type_decl, type_alias, core_type_alias, import_decl, export_decl, no_decls}
 use Rattle.smith_syntax.specs.Entries.{then_decls}
 use Rattle.smith_syntax.specs.Scope.{Scope, empty_scope, defined_places, after_decl}

@@ -20,7 +20,7 @@ ghost use Rattle.smith_types.specs.Script.{script_ref, script_type};
 ghost use Rattle.smith_types.specs.declared.make.references.RefTotals.{RefTotals};
 
 pub use smith_core_types::laws::{
-    core_scripts_are_bytes, core_scripts_are_read, core_types_are_decided,
+    core_scripts_are_bytes, core_scripts_are_read, core_types_are_decided, core_types_are_exact,
     made_core_types_are_readable,
 };
 

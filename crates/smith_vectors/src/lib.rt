@@ -31,7 +31,11 @@ mod limits;
 #[cfg(test)]
 mod limits_at_ends;
 #[cfg(test)]
+mod long_names;
+#[cfg(test)]
 mod module_parts;
+#[cfg(test)]
+mod module_scripts;
 #[cfg(test)]
 mod module_sections;
 #[cfg(test)]

@@ -2,4 +2,4 @@ use Rattle.smith_component.proofs.Exact.{exact}
 use Rattle.smith_component.proofs.laws.components_are_exact.Goals as goal
 
 pub returns : goal.returns
-returns c config tree consistent r = exact config tree consistent r
+returns c = exact

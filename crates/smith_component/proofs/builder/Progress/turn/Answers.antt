@@ -12,7 +12,9 @@ use Rattle.smith_component.proofs.builder.Progress.turn.Goals as goal
 pub do_item-requires : goal.do_item-requires
 do_item-requires c = record {
   sound = c.requires.sound;
-  offered = chosen c.args.self.now.config (stack_of c.args.self.now) _ _ _ c.choose_item-item.ensures.chooses;
+  offered =
+      let was = chosen c.args.self.now.config (stack_of c.args.self.now) _ _ _ c.choose_item-item.ensures.chooses in
+      (was.0, was.1);
 }
 
 pub returns-clause-turn : goal.returns-clause-turn
