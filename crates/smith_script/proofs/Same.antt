@@ -1,9 +1,11 @@
 -- What is said of what stands before each place is the script of a component.
 use Rattle.std.proofs.Common.{◌≡◌, ℕ, ◌+◌, ◌-◌, ◌&&◌, List, [], ◌∷◌, ◌++◌, length, refl, ap, sym, subst, ◌∙◌, nat_lt, true, false, arith}
+use Rattle.std.proofs.Common.{length-append}
 use Rattle.std.proofs.lemmas.List.{length-map}
 use Rattle.std.specs.Option.{option_to_list}
 use Rattle.std.specs.Prelude.{slice_get}
-use Rattle.smith_input.specs.Script.{pick, script_among, script_loop, script_name}
+use Rattle.smith_input.specs.NameScript.{script_new}
+use Rattle.smith_input.specs.Script.{pick, script_among, script_loop}
 use Rattle.smith_format.specs.declared.config.Config.{Config}
 use Rattle.smith_syntax.specs.Entries.{Entry, CoreEntry, ImportEntry}
 use Rattle.smith_syntax.specs.Scope.{Scope, with_core_type, with_type}
@@ -95,13 +97,15 @@ canons_same config scopes max s z cs r =
 record SameImports (stack : Open) (s : Standing) (z : List ImportEntry) : Type 0 where
   scope : Alike s.scope (scope_of stack.inner)
   totals : s.totals ≡ totals_of (with_imports stack z)
+  count : s.imports ≡ length (imports_of stack.inner) + length z
 
 module _ (config : Config) (scopes : List Scope) (stack : Open) where
   import_same : (s : Standing) (z : List ImportEntry) (x : ImportEntry) → SameImports stack s z → import_says config scopes s x ≡ script_import config stack z x
   import_same s z x r =
-      ap (λ b. b ++ script_extern x.name)
+      ap (λ b. b ++ script_extern s.imports x.name)
       (ap (λ t. script_ref config s.scope t true false x.to) r.totals
       ∙ script_ref_alike s.scope (scope_of stack.inner) r.scope config (totals_of (with_imports stack z)) true false x.to)
+      ∙ ap (λ n. script_ref config (scope_of stack.inner) (totals_of (with_imports stack z)) true false x.to ++ script_extern n x.name) r.count
 
   import_stays : (s : Standing) (z : List ImportEntry) (x : ImportEntry) → SameImports stack s z → SameImports stack (after_import s x) (z ++ x ∷ [])
   import_stays s z x r = record {
@@ -110,6 +114,7 @@ module _ (config : Config) (scopes : List Scope) (stack : Open) where
         ap (λ t. with_import t x.to) r.totals
         ∙ totals_are (with_import (totals_of (with_imports stack z)) x.to) (totals_of (with_imports stack (z ++ x ∷ []))) (sym (modules_more stack z x))
         (sym (funcs_more stack z x)) (sym (components_more stack z x)) (sym (instances_more stack z x));
+    count = omega (arith, r.count, length-append z (x ∷ []));
   }
 
   imports_same : (max : ℕ) (s : Standing) (is : List ImportEntry) → SameImports stack s []
@@ -119,21 +124,26 @@ module _ (config : Config) (scopes : List Scope) (stack : Open) where
       0 max 0 s [] is r
 
 -- Exports.
+record SameExports (t : Tree) (s : Standing) (z : List ExportEntry) : Type 0 where
+  functions : s.functions ≡ functions_of (with_exports t z)
+  count : s.exports ≡ length (exports_of t) + length z
+
 module _ (config : Config) (scopes : List Scope) (t : Tree) where
-  abbrev SameExports : Standing → List ExportEntry → Type 0
-  SameExports s z = s.functions ≡ functions_of (with_exports t z)
+  export_same : (s : Standing) (z : List ExportEntry) (x : ExportEntry) → SameExports t s z → export_says config scopes s x ≡ script_export t z x
+  export_same s z x r =
+      ap (λ fs. pick (length fs) x.func ++ script_new 100 s.exports x.name) r.functions
+      ∙ ap (λ n. pick (length (functions_of (with_exports t z))) x.func ++ script_new 100 n x.name) r.count
 
-  export_same : (s : Standing) (z : List ExportEntry) (x : ExportEntry) → SameExports s z → export_says config scopes s x ≡ script_export t z x
-  export_same s z x r = ap (λ fs. pick (length fs) x.func ++ script_name 100 x.name) r
+  export_stays : (s : Standing) (z : List ExportEntry) (x : ExportEntry) → SameExports t s z → SameExports t (after_export s x) (z ++ x ∷ [])
+  export_stays s z x r = record {
+    functions = ap (λ fs. fs ++ option_to_list (slice_get fs x.func)) r.functions ∙ ap (λ s. s.functions) (sym (spaces_export t z x));
+    count = omega (arith, r.count, length-append z (x ∷ []));
+  }
 
-  export_stays : (s : Standing) (z : List ExportEntry) (x : ExportEntry) → SameExports s z → SameExports (after_export s x) (z ++ x ∷ [])
-  export_stays s z x r =
-      ap (λ fs. fs ++ option_to_list (slice_get fs x.func)) r ∙ ap (λ s. s.functions) (sym (spaces_export t z x))
-
-  exports_same : (max : ℕ) (s : Standing) (es : List ExportEntry) → SameExports s []
+  exports_same : (max : ℕ) (s : Standing) (es : List ExportEntry) → SameExports t s []
       → rows_say (export_says config scopes) after_export max s es ≡ script_loop (script_export t) (λ z x. z ++ x ∷ []) 0 max 0 [] es
   exports_same max s es r =
-      loops_agree (export_says config scopes) after_export (script_export t) (λ z x. z ++ x ∷ []) SameExports export_same export_stays 0 max 0 s [] es r
+      loops_agree (export_says config scopes) after_export (script_export t) (λ z x. z ++ x ∷ []) (SameExports t) export_same export_stays 0 max 0 s [] es r
 
 -- where an empty section is added
 no_imports : (outer : List Tree) (t : Tree)
@@ -190,9 +200,10 @@ mutual
       (record { types = refl; functions = refl; core_functions = refl })
   part_same (imports is) config outer t scopes h =
       imports_same config scopes (record { outer = outer; inner = t }) (config.max_imports - length (imports_of t)) (standing_at outer t) is
-      (record { scope = sorted_alike (scope_of t); totals = no_imports outer t })
+      (record { scope = sorted_alike (scope_of t); totals = no_imports outer t; count = omega arith })
   part_same (exports es) config outer t scopes h =
-      exports_same config scopes t (config.max_exports - length (exports_of t)) (standing_at outer t) es (no_exports outer t)
+      exports_same config scopes t (config.max_exports - length (exports_of t)) (standing_at outer t) es
+      (record { functions = no_exports outer t; count = omega arith })
 
 -- The whole component.
 pub whole_same : (u : Tree) (config : Config) → tree_says u config [] (standing_at [] ends) ≡ script_from u config [] ends

@@ -2,11 +2,11 @@
 use Rattle.std.proofs.Common.{◌≡◌, ℕ, zero, suc, ◌+◌, ◌<◌, ◌≤◌, List, [], ◌∷◌, ◌++◌, drop, get_or, map, length, ap, sym, refl, ◌∙◌, arith, append_assoc, cond}
 use Rattle.std.specs.Prelude.{Bool, String, string_bytes}
 use Rattle.std.specs.declared.alloc.Global.{Global}
-use Rattle.smith_input.specs.Script.{script_end, script_loop, script_more, script_name}
+use Rattle.smith_input.specs.Script.{script_end, script_loop, script_more}
 use Rattle.smith_syntax.specs.Scope.{places}
 use Rattle.smith_syntax.specs.Signature.{named}
 use Rattle.smith_syntax.specs.declared.types.ComponentValType.{ComponentValType}
-use Rattle.smith_types.specs.Script.{script_params, script_scalar}
+use Rattle.smith_types.specs.Script.{script_label, script_params, script_scalar}
 
 pub map_drop : {A B : Type 0} (f : A → B) (xs : List A) (i : ℕ) (x : A) → i < length xs → x ≡ get_or xs i x
     → map f (drop i xs) ≡ f x ∷ map f (drop (i + 1) xs)
@@ -32,10 +32,12 @@ pub rows_end : {S A B : Type 0} (f : A → B) (says : S → B → List ℕ) (aft
 rows_end f says after max done s xs i h = ap (script_loop says after 0 max done s) (map_dropped f xs i h)
 
 -- a parameter of a lift, and those behind it
-pub params_at : (xs : List (String Global × ComponentValType)) (i : ℕ) (x : String Global × ComponentValType) → i < length xs → x ≡ get_or xs i x
-    → script_params (map named (drop i xs)) ≡ script_name 100 (string_bytes x.0) ++ script_scalar x.1 ++ script_params (map named (drop (i + 1) xs))
-params_at xs i x h e =
-    ap script_params (map_drop named xs i x h e) ∙ sym (append_assoc (script_name 100 (string_bytes x.0)) (script_scalar x.1) (script_params (map named (drop (i + 1) xs))))
+pub params_at : (xs : List (String Global × ComponentValType)) (count i : ℕ) (x : String Global × ComponentValType) → i < length xs → x ≡ get_or xs i x
+    → script_params count (map named (drop i xs))
+    ≡ script_label count (string_bytes x.0) ++ script_scalar x.1 ++ script_params (count + 1) (map named (drop (i + 1) xs))
+params_at xs count i x h e =
+    ap (script_params count) (map_drop named xs i x h e)
+    ∙ sym (append_assoc (script_label count (string_bytes x.0)) (script_scalar x.1) (script_params (count + 1) (map named (drop (i + 1) xs))))
 
 -- What passes a test of what the items show stands at the same places.
 pub places_shown : {A B : Type 0} (test : B → Bool) (f : A → B) (i : ℕ) (xs : List A) → places (λ x. test (f x)) i xs ≡ places test i (map f xs)

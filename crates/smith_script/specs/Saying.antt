@@ -1,6 +1,8 @@
 -- The script of a component, said of what stands before each place.
 use Rattle.std.specs.Prelude.{ℕ, ◌+◌, ◌-◌, ◌&&◌, true, false, List, [], ◌∷◌, ◌++◌, length, map, nat_lt}
-use Rattle.smith_input.specs.Script.{pick, script_among, script_bytes, script_loop, script_name, script_text}
+use Rattle.smith_input.specs.NameScript.{script_new}
+use Rattle.smith_input.specs.Script.{pick, script_among, script_bytes, script_loop, script_text}
+use Rattle.smith_core.specs.StandInScript.{script_stand_in, stand_in_of}
 use Rattle.smith_format.specs.declared.config.Config.{Config}
 use Rattle.smith_syntax.specs.Entries.{Entry, CoreEntry, ImportEntry}
 use Rattle.smith_syntax.specs.Scope.{Scope}
@@ -33,10 +35,10 @@ abbrev pub canon_says : Config → List Scope → Standing → Canon → List �
 canon_says config outer s c = script_canon (spaces_in s) c
 
 abbrev pub import_says : Config → List Scope → Standing → ImportEntry → List ℕ
-import_says config outer s x = script_ref config s.scope s.totals true false x.to ++ script_extern x.name
+import_says config outer s x = script_ref config s.scope s.totals true false x.to ++ script_extern s.imports x.name
 
 abbrev pub export_says : Config → List Scope → Standing → ExportEntry → List ℕ
-export_says config outer s x = pick (length s.functions) x.func ++ script_name 100 x.name
+export_says config outer s x = pick (length s.functions) x.func ++ script_new 100 s.exports x.name
 
 -- a section of entries
 abbrev pub rows_say : {A : Type 0} → (Standing → A → List ℕ) → (Standing → A → Standing) → ℕ → Standing → List A → List ℕ
@@ -59,7 +61,7 @@ abbrev mutual
 
   pub part_says : Part → Config → List Scope → Standing → List ℕ
   part_says (custom name contents) config outer s = script_text 1000 name ++ script_bytes contents
-  part_says (core_module text) config outer s = []
+  part_says (core_module text) config outer s = script_stand_in config (stand_in_of text)
   part_says (core_types ts) config outer s = rows_say (core_type_says config outer) after_core_type (config.max_types - length s.scope.core_types) s ts
   part_says (component t) config outer s = tree_says t config (s.scope ∷ outer) (empty_in (opened s.totals))
   part_says (types ts) config outer s = rows_say (type_says config outer) after_type (config.max_types - length s.types) s ts

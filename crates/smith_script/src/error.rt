@@ -6,7 +6,7 @@ use std::fmt;
 /// Why a component has no script, as far as a look at its sections tells.
 #[derive(Clone, Copy, Debug, PartialEq, Eq, thiserror::Error)]
 pub enum Reason {
-    /// A core module stands there, and none is read as it is.
+    /// A core module stands there that is none of those that are read.
     #[error("a core module has no script")]
     CoreModule,
     /// A name is longer than those that are read.

@@ -66,10 +66,11 @@ fn put_scalar(out: &mut Vec<u8>, ty: ComponentValType) -> Result<(), Unsaid>
 }
 
 fn put_params(out: &mut Vec<u8>, params: &[(String, ComponentValType)]) -> Result<(), Unsaid>
-    ensures { Says result out.old out.new (script_params (map named params.now)) }
+    ensures { Says result out.old out.new (script_params 0 (map named params.now)) }
 {
-    for param in params {
-        put_name(out, &param.0)?;
+    for done in 0..params.len() {
+        let param = &params[done];
+        put_name(out, done, &param.0)?;
         put_scalar(out, param.1)?;
     }
     Ok(())

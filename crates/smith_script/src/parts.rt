@@ -2,6 +2,7 @@
 
 ghost use Rattle.std.specs.Prelude.{◌≡◌, ◌++◌, ◌∷◌, IfOk, IfErr, OnOk, map};
 ghost use Rattle.smith_input.specs.Script.{script_bytes, script_text};
+ghost use Rattle.smith_core.specs.StandInScript.{script_stand_in, stand_in_of};
 ghost use Rattle.smith_component.specs.Script.{script};
 ghost use Rattle.smith_component.specs.Tree.{component, tree_of};
 ghost use Rattle.smith_read.specs.PartNodes.{shown_part_node, shown_tree};
@@ -9,7 +10,7 @@ ghost use Rattle.smith_script_types.specs.Says.{Says};
 ghost use Rattle.smith_script_types.specs.Scopes.{shown_scope};
 ghost use Rattle.smith_script_types.specs.declared.error.Unsaid.TheVariants.{OutOfMemory};
 ghost use Rattle.smith_script.specs.Saying.{outer_in, part_says, tree_says};
-ghost use Rattle.smith_script.specs.Standing.{after_part, after_tree, empty_in, opened, standing};
+ghost use Rattle.smith_script.specs.Standing.{after_module, after_part, after_tree, empty_in, opened, standing};
 
 use crate::around::{Around, scopes_around};
 use crate::items::{put_finish, put_item};
@@ -17,7 +18,7 @@ use crate::rows::put_rows;
 use crate::standing::{Open, one_more};
 use smith_format::Config;
 use smith_read::{ComponentTree, PartNode};
-use smith_script_types::{Scope, Unsaid, put_contents, put_text};
+use smith_script_types::{Scope, Unsaid, put_contents, put_stand_in, put_text};
 use smith_types::RefTotals;
 use std::alloc::Global;
 
@@ -42,6 +43,20 @@ fn put_custom(out: &mut Vec<u8>, name: &str, contents: &[u8]) -> Result<(), Unsa
     put_contents(out, contents)
 }
 
+// A core module, which is added to what stands there.
+fn put_module(
+    around: Around<'_>,
+    out: &mut Vec<u8>,
+    here: &mut Open<'_>,
+    text: &[u8],
+) -> Result<(), Unsaid>
+    ensures said { Says result out.old out.new (script_stand_in around.entry.config.now (stand_in_of text.now)) }
+    ensures added { OnOk result (standing here.new ≡ after_module (standing here.old)) }
+{
+    put_stand_in(around.alloc, out, around.config, text)?;
+    here.add_module()
+}
+
 // What follows the choice of the item of a part, which is added to what stands there.
 #[cycle(parts)]
 fn put_part<'a>(
@@ -57,7 +72,7 @@ fn put_part<'a>(
     let config = around.config;
     match part {
         PartNode::Custom { name, contents } => put_custom(out, name, contents),
-        PartNode::CoreModule(_) => here.add_module(),
+        PartNode::CoreModule(text) => put_module(around, out, here, text),
         PartNode::CoreTypes(types) => {
             let most = config.max_types.saturating_sub(here.scope.core_types.len());
             put_rows(around, out, here, most, types)

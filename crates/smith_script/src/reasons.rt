@@ -1,10 +1,13 @@
 //! Where a component has no script, as far as a look tells. What is told is no part of a contract.
 
 use crate::error::{Reason, ScriptError};
+use smith_core::Module;
 use smith_format::Config;
+use smith_input::{Error, Unstructured};
 use smith_read::{ComponentTree, CoreNode, DeclNode, ImportNode, ModuleNode, PartNode, TypeNode};
+use smith_script_types::{Unsaid, put_stand_in};
 use smith_syntax::{ComponentTypeRef, DefinedType, FuncType};
-use std::alloc::{AllocError, Global};
+use std::alloc::Global;
 
 /// The longest name of a custom section.
 const MOST_TEXT: usize = 1000;
@@ -97,7 +100,37 @@ fn in_decls(decls: &[DeclNode]) -> Option<Reason> {
     None
 }
 
-// What is wrong with a section by itself, of a component that stands so deep, the root at 1.
+// The bytes of the core module that is read from a script.
+fn read_module(alloc: Global, config: &Config, script: &[u8]) -> Result<Vec<u8>, Error> {
+    let mut left = Unstructured::new(script);
+    let module = Module::new_internal(alloc, *config, &mut left)?;
+    module.to_bytes(alloc)
+}
+
+// Is a core module the one that is read from its script?
+fn is_stand_in(alloc: Global, config: &Config, text: &[u8]) -> Result<bool, ScriptError> {
+    let mut script = Vec::new(alloc);
+    match put_stand_in(alloc, &mut script, config, text) {
+        Ok(_) => {}
+        Err(Unsaid::OutOfMemory) => return Err(ScriptError::OutOfMemory),
+        Err(Unsaid::NoBytes) => return Ok(false),
+    }
+    match read_module(alloc, config, &script) {
+        Ok(bytes) => Ok(bytes.as_slice() == text),
+        Err(Error::OutOfMemory) => Err(ScriptError::OutOfMemory),
+        Err(_) => Ok(false),
+    }
+}
+
+// What is wrong with a core module by itself.
+fn in_module(alloc: Global, config: &Config, text: &[u8]) -> Result<Option<Reason>, ScriptError> {
+    if is_stand_in(alloc, config, text)? {
+        return Ok(None);
+    }
+    Ok(Some(Reason::CoreModule))
+}
+
+// What is wrong with another section by itself, of a component that stands so deep, the root at 1.
 fn in_part(config: &Config, depth: usize, part: &PartNode) -> Option<Reason> {
     let (count, most) = match part {
         PartNode::CoreTypes(types) => (types.len(), config.max_types),
@@ -113,30 +146,32 @@ fn in_part(config: &Config, depth: usize, part: &PartNode) -> Option<Reason> {
     }
     match part {
         PartNode::Custom { name, .. } => long_name(name, MOST_TEXT),
-        PartNode::CoreModule(_) => Some(Reason::CoreModule),
         PartNode::CoreTypes(types) => types.iter().find_map(|ty| in_core_type(ty)),
         PartNode::Types(types) => types.iter().find_map(|ty| in_type(ty)),
         PartNode::Imports(imports) => imports.iter().find_map(|import| in_import(import)),
         PartNode::Exports(exports) => exports
             .iter()
             .find_map(|export| long_name(export.name.as_str(), MOST_NAME)),
-        PartNode::Component(_) | PartNode::Canons(_) => None,
+        PartNode::CoreModule(_) | PartNode::Component(_) | PartNode::Canons(_) => None,
     }
 }
 
 // The first section in which something is wrong, behind the path to the component.
 fn in_parts(
+    alloc: Global,
     config: &Config,
     path: &mut Vec<usize>,
     parts: &[PartNode],
-) -> Result<Option<Reason>, AllocError> {
+) -> Result<Option<Reason>, ScriptError> {
     for (index, part) in parts.iter().enumerate() {
         path.push(index)?;
         let mut reason = in_part(config, path.len(), part);
-        if let PartNode::Component(inner) = part {
-            if reason.is_none() {
-                reason = in_parts(config, path, inner)?;
-            }
+        if reason.is_none() {
+            reason = match part {
+                PartNode::CoreModule(text) => in_module(alloc, config, text)?,
+                PartNode::Component(inner) => in_parts(alloc, config, path, inner)?,
+                _ => None,
+            };
         }
         if reason.is_some() {
             return Ok(reason);
@@ -149,7 +184,7 @@ fn in_parts(
 /// That there is none, and why.
 pub(crate) fn no_script(alloc: Global, config: &Config, tree: &ComponentTree) -> ScriptError {
     let mut part = Vec::new(alloc);
-    match in_parts(config, &mut part, &tree.parts) {
+    match in_parts(alloc, config, &mut part, &tree.parts) {
         Ok(Some(reason)) => ScriptError::NoScript { part, reason },
         Ok(None) => ScriptError::NoScript {
             part,

@@ -163,7 +163,7 @@ impl Row for ImportNode {
             false,
             self.to,
         )?;
-        put_extern(out, &self.name)?;
+        put_extern(out, here.imports, &self.name)?;
         here.add_import(self)
     }
 }
@@ -184,7 +184,7 @@ impl Row for ExportNode {
         here: &mut Open<'a>,
     ) -> Result<(), Unsaid> {
         put_choice(out, here.functions.len(), self.func as usize)?;
-        put_name(out, &self.name)?;
+        put_name(out, here.exports, &self.name)?;
         here.add_export(self)
     }
 }

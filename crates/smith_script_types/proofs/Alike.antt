@@ -23,7 +23,7 @@ use Rattle.smith_types.specs.Script.{script_label}
 use Rattle.smith_types.specs.Script.{script_signature, script_ref, script_entry, script_alias, script_declares, script_type}
 use Rattle.smith_types.specs.Script.{script_decl}
 use Rattle.smith_types.specs.Needs.{decl_cost}
-use Rattle.smith_types.specs.Script.{script_decls, kind_in, index_in}
+use Rattle.smith_types.specs.Script.{script_decls, kind_in, index_in, Taken, none_taken, after_taken}
 use Rattle.smith_types.specs.contracts.make.declarations.DeclarationItemPartialEq.TheImpl.{ghosts as items}
 use Rattle.smith_types.specs.contracts.make.references.RefKindPartialEq.TheImpl.{ghosts as refs}
 use Rattle.smith_types.specs.declared.make.references.RefKind.{RefKind}
@@ -70,30 +70,33 @@ module _ (a b : Scope) (alike : Alike a b) where
   maybe_alike None = refl
   maybe_alike (Some v) = ap (λ t. 1 ∷ t) (val_alike v)
 
-turns_alike : {A : Type 0} (f g : A → List ℕ) → ((x : A) → f x ≡ g x) → (min max done : ℕ) (xs : List A)
-    → script_loop (λ (s : Unit {0}) x. f x) (λ s x. s) min max done tt xs ≡ script_loop (λ (s : Unit {0}) x. g x) (λ s x. s) min max done tt xs
-turns_alike f g same min max done [] = refl
-turns_alike f g same min max done (x ∷ xs) =
-    ap (λ t. script_more min done ++ t ++ script_loop (λ (s : Unit {0}) y. f y) (λ s y. s) min max (done + 1) tt xs) (same x)
-    ∙ ap (λ t. script_more min done ++ g x ++ t) (turns_alike f g same min max (done + 1) xs)
+turns_alike : {A : Type 0} (f g : ℕ → A → List ℕ) → ((n : ℕ) (x : A) → f n x ≡ g n x) → (min max done count : ℕ) (xs : List A)
+    → script_loop f (λ n x. n + 1) min max done count xs ≡ script_loop g (λ n x. n + 1) min max done count xs
+turns_alike f g same min max done count [] = refl
+turns_alike f g same min max done count (x ∷ xs) =
+    ap (λ t. script_more min done ++ t ++ script_loop f (λ n y. n + 1) min max (done + 1) (count + 1) xs) (same count x)
+    ∙ ap (λ t. script_more min done ++ g count x ++ t) (turns_alike f g same min max (done + 1) (count + 1) xs)
 
-members_alike : {A : Type 0} (f g : A → List ℕ) → ((x : A) → f x ≡ g x) → (min max : ℕ) (xs : List A)
+members_alike : {A : Type 0} (f g : ℕ → A → List ℕ) → ((n : ℕ) (x : A) → f n x ≡ g n x) → (min max : ℕ) (xs : List A)
     → script_members f min max xs ≡ script_members g min max xs
-members_alike f g same min max xs = turns_alike f g same min max 0 xs
+members_alike f g same min max xs = turns_alike f g same min max 0 0 xs
 
 module _ (a b : Scope) (alike : Alike a b) where
-  field_alike : (f : Field) → script_field a f ≡ script_field b f
-  field_alike f = behind (script_label f.0) (val_alike a b alike f.1)
+  field_alike : (n : ℕ) (f : Field) → script_field a n f ≡ script_field b n f
+  field_alike n f = behind (script_label n f.0) (val_alike a b alike f.1)
 
-  case_alike : (c : Case) → script_case a c ≡ script_case b c
-  case_alike c = behind (script_label c.0) (maybe_alike a b alike c.1)
+  case_alike : (n : ℕ) (c : Case) → script_case a n c ≡ script_case b n c
+  case_alike n c = behind (script_label n c.0) (maybe_alike a b alike c.1)
+
+  value_alike : (n : ℕ) (v : ComponentValType) → script_val a v ≡ script_val b v
+  value_alike n v = val_alike a b alike v
 
   defined_alike : (t : DefValType) → script_defined a t ≡ script_defined b t
   defined_alike (primitive_type p) = refl
   defined_alike (record_type fs) = behind _ (members_alike (script_field a) (script_field b) field_alike 1 100 fs)
   defined_alike (variant_type cs) = behind _ (members_alike (script_case a) (script_case b) case_alike 1 100 cs)
   defined_alike (list_type v) = behind _ (val_alike a b alike v)
-  defined_alike (tuple_type vs) = behind _ (members_alike (script_val a) (script_val b) (val_alike a b alike) 1 100 vs)
+  defined_alike (tuple_type vs) = behind _ (members_alike (λ n v. script_val a v) (λ n v. script_val b v) value_alike 1 100 vs)
   defined_alike (flags_type ns) = refl
   defined_alike (enum_type ns) = refl
   defined_alike (option_type v) = behind _ (val_alike a b alike v)
@@ -102,7 +105,7 @@ module _ (a b : Scope) (alike : Alike a b) where
   signature_alike : (s : Signature) → script_signature a s ≡ script_signature b s
   signature_alike s =
       both (members_alike (script_field a) (script_field b) field_alike 0 16 s.params)
-      (members_alike (script_val a) (script_val b) (val_alike a b alike) 0 1 (option_to_list s.result))
+      (members_alike (λ n v. script_val a v) (λ n v. script_val b v) value_alike 0 1 (option_to_list s.result))
 
   module _ (config : Config) (totals : RefTotals) (for_import for_type_def : Bool) where
     kinds_alike : ref_kinds config a totals for_import for_type_def ≡ ref_kinds config b totals for_import for_type_def
@@ -217,31 +220,31 @@ mutual
   script_type_alike (defined t) config fuel a b outer around alike all = behind _ (defined_alike a b alike t)
   script_type_alike (function s) config fuel a b outer around alike all = behind _ (signature_alike a b alike s)
   script_type_alike (component_type ds) config fuel a b outer around alike all =
-      behind _ (script_decls_alike ds config true (fuel - 1) 0 empty_scope empty_scope (a ∷ outer) (b ∷ around) (alike_same empty_scope) (alike, all))
+      behind _ (script_decls_alike ds config true (fuel - 1) 0 none_taken empty_scope empty_scope (a ∷ outer) (b ∷ around) (alike_same empty_scope) (alike, all))
   script_type_alike (instance_type ds) config fuel a b outer around alike all =
-      behind _ (script_decls_alike ds config false (fuel - 1) 0 empty_scope empty_scope (a ∷ outer) (b ∷ around) (alike_same empty_scope) (alike, all))
+      behind _ (script_decls_alike ds config false (fuel - 1) 0 none_taken empty_scope empty_scope (a ∷ outer) (b ∷ around) (alike_same empty_scope) (alike, all))
 
-  script_decl_alike : (d : Decl) (config : Config) (importing : Bool) (fuel : ℕ) (a b : Scope) (outer around : List Scope) → Alike a b → AllAlike outer around
-      → script_decl d config importing fuel a outer ≡ script_decl d config importing fuel b around
-  script_decl_alike (core_type_decl t k) config importing fuel a b outer around alike all =
+  script_decl_alike : (d : Decl) (config : Config) (importing : Bool) (fuel : ℕ) (taken : Taken) (a b : Scope) (outer around : List Scope) → Alike a b
+      → AllAlike outer around → script_decl d config importing fuel taken a outer ≡ script_decl d config importing fuel taken b around
+  script_decl_alike (core_type_decl t k) config importing fuel taken a b outer around alike all =
       both (declares_alike config importing a b outer around alike all item.CoreType) (script_core_alike a b alike config fuel t)
-  script_decl_alike (type_decl e) config importing fuel a b outer around alike all =
+  script_decl_alike (type_decl e) config importing fuel taken a b outer around alike all =
       both (declares_alike config importing a b outer around alike all item.«Type») (script_type_alike e config fuel a b outer around alike all)
-  script_decl_alike (type_alias count i k) config importing fuel a b outer around alike all =
+  script_decl_alike (type_alias count i k) config importing fuel taken a b outer around alike all =
       both (declares_alike config importing a b outer around alike all item.Alias)
       (alias_alike count (λ s. i) (λ s t h. refl) (a ∷ outer) (b ∷ around) (alike, all))
-  script_decl_alike (core_type_alias count i k) config importing fuel a b outer around alike all =
+  script_decl_alike (core_type_alias count i k) config importing fuel taken a b outer around alike all =
       both (declares_alike config importing a b outer around alike all item.Alias)
       (alias_alike count (λ s. length s.types + i) (λ s t h. ap (λ n. n + i) (same_types s t h)) (a ∷ outer) (b ∷ around) (alike, all))
-  script_decl_alike (import_decl name n r) config importing fuel a b outer around alike all =
+  script_decl_alike (import_decl name n r) config importing fuel taken a b outer around alike all =
       behind _ (both (script_ref_alike a b alike config uncounted true true r) refl)
-  script_decl_alike (export_decl name n r) config importing fuel a b outer around alike all =
+  script_decl_alike (export_decl name n r) config importing fuel taken a b outer around alike all =
       both (declares_alike config importing a b outer around alike all item.Export) (both (script_ref_alike a b alike config uncounted false true r) refl)
 
-  pub script_decls_alike : (ds : Decls) (config : Config) (importing : Bool) (fuel done : ℕ) (a b : Scope) (outer around : List Scope) → Alike a b
-      → AllAlike outer around → script_decls ds config importing fuel done a outer ≡ script_decls ds config importing fuel done b around
-  script_decls_alike no_decls config importing fuel done a b outer around alike all = refl
-  script_decls_alike (then_decls d ds) config importing fuel done a b outer around alike all =
-      ap (λ t. 1 ∷ t) (both (script_decl_alike d config importing (fuel - 1) a b outer around alike all)
-      (script_decls_alike ds config importing (fuel - 1 - decl_cost d) (done + 1) (after_decl outer a d) (after_decl around b d) outer around
+  pub script_decls_alike : (ds : Decls) (config : Config) (importing : Bool) (fuel done : ℕ) (taken : Taken) (a b : Scope) (outer around : List Scope) → Alike a b
+      → AllAlike outer around → script_decls ds config importing fuel done taken a outer ≡ script_decls ds config importing fuel done taken b around
+  script_decls_alike no_decls config importing fuel done taken a b outer around alike all = refl
+  script_decls_alike (then_decls d ds) config importing fuel done taken a b outer around alike all =
+      ap (λ t. 1 ∷ t) (both (script_decl_alike d config importing (fuel - 1) taken a b outer around alike all)
+      (script_decls_alike ds config importing (fuel - 1 - decl_cost d) (done + 1) (after_taken taken d) (after_decl outer a d) (after_decl around b d) outer around
       (after_alike a b alike outer around all d) all))

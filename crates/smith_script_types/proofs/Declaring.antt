@@ -10,7 +10,7 @@ use Rattle.smith_syntax.specs.Scope.{Scope, after_decl}
 use Rattle.smith_read_types.specs.TypeNodes.{shown_decl_node}
 use Rattle.smith_read_types.specs.declared.nodes.DeclNode.{DeclNode}
 use Rattle.smith_types.specs.Needs.{decl_cost}
-use Rattle.smith_types.specs.Script.{script_decl, script_decls}
+use Rattle.smith_types.specs.Script.{Taken, after_taken, script_decl, script_decls}
 use Rattle.smith_script_types.proofs.Alike.{all_same, script_decls_alike}
 use Rattle.smith_script_types.proofs.Saying.{Towards, towards_step}
 use Rattle.smith_script_types.specs.Says.{Adds}
@@ -18,40 +18,42 @@ use Rattle.smith_script_types.specs.Scopes.{Alike}
 
 module _ (config : Config) (importing : Bool) (outer : List Scope) where
   -- a declaration, and those behind it
-  pub decls_at : (xs : List DeclNode) (i fuel : ℕ) (own : Scope) (x : DeclNode) → i < length xs → x ≡ get_or xs i x
-      → script_decls (in_order (map shown_decl_node (drop i xs))) config importing fuel i own outer
-      ≡ (1 ∷ []) ++ (script_decl (shown_decl_node x) config importing (fuel - 1) own outer
+  pub decls_at : (xs : List DeclNode) (i fuel : ℕ) (taken : Taken) (own : Scope) (x : DeclNode) → i < length xs → x ≡ get_or xs i x
+      → script_decls (in_order (map shown_decl_node (drop i xs))) config importing fuel i taken own outer
+      ≡ (1 ∷ []) ++ (script_decl (shown_decl_node x) config importing (fuel - 1) taken own outer
       ++ script_decls (in_order (map shown_decl_node (drop (suc i) xs))) config importing (fuel - 1 - decl_cost (shown_decl_node x)) (i + 1)
-      (after_decl outer own (shown_decl_node x)) outer)
-  decls_at xs i fuel own x h e =
-      ap (λ ys. script_decls (in_order (map shown_decl_node ys)) config importing fuel i own outer) (drop-cons xs i x h)
-      ∙ ap (λ y. 1 ∷ (script_decl (shown_decl_node y) config importing (fuel - 1) own outer
+      (after_taken taken (shown_decl_node x)) (after_decl outer own (shown_decl_node x)) outer)
+  decls_at xs i fuel taken own x h e =
+      ap (λ ys. script_decls (in_order (map shown_decl_node ys)) config importing fuel i taken own outer) (drop-cons xs i x h)
+      ∙ ap (λ y. 1 ∷ (script_decl (shown_decl_node y) config importing (fuel - 1) taken own outer
       ++ script_decls (in_order (map shown_decl_node (drop (suc i) xs))) config importing (fuel - 1 - decl_cost (shown_decl_node y)) (i + 1)
-      (after_decl outer own (shown_decl_node y)) outer)) (sym e)
+      (after_taken taken (shown_decl_node y)) (after_decl outer own (shown_decl_node y)) outer)) (sym e)
 
   -- no declaration is left
-  pub decls_over : (xs : List DeclNode) (i done fuel : ℕ) (own : Scope) → length xs ≤ i
-      → script_decls (in_order (map shown_decl_node (drop i xs))) config importing fuel done own outer ≡ script_end done 100
-  decls_over [] zero done fuel own h = refl
-  decls_over [] (suc i) done fuel own h = refl
-  decls_over (x ∷ xs) zero done fuel own h = absurd (omega arith)
-  decls_over (x ∷ xs) (suc i) done fuel own h = decls_over xs i done fuel own (omega arith)
+  pub decls_over : (xs : List DeclNode) (i done fuel : ℕ) (taken : Taken) (own : Scope) → length xs ≤ i
+      → script_decls (in_order (map shown_decl_node (drop i xs))) config importing fuel done taken own outer ≡ script_end done 100
+  decls_over [] zero done fuel taken own h = refl
+  decls_over [] (suc i) done fuel taken own h = refl
+  decls_over (x ∷ xs) zero done fuel taken own h = absurd (omega arith)
+  decls_over (x ∷ xs) (suc i) done fuel taken own h = decls_over xs i done fuel taken own (omega arith)
 
   -- one declaration more
-  pub decls_step : {a b m c : Vec ℕ Global} {all : List ℕ} (xs : List DeclNode) (i fuel less left : ℕ) (own next : Scope) (x : DeclNode) → i < length xs
-      → x ≡ get_or xs i x → less ≡ fuel - 1 → left ≡ less - decl_cost (shown_decl_node x) → Alike next (after_decl outer own (shown_decl_node x))
-      → Towards a b all (script_decls (in_order (map shown_decl_node (drop i xs))) config importing fuel i own outer) → Adds b m (1 ∷ [])
-      → Adds m c (script_decl (shown_decl_node x) config importing less own outer)
-      → Towards a c all (script_decls (in_order (map shown_decl_node (drop (i + 1) xs))) config importing left (i + 1) next outer)
-  decls_step {a} {b} {m} {c} {all} xs i fuel less left own next x h e l k alike t g d =
-      let d1 : Adds m c (script_decl (shown_decl_node x) config importing (fuel - 1) own outer) =
-      subst (λ n. Adds m c (script_decl (shown_decl_node x) config importing n own outer)) l d in
-      let u = towards_step _ _ (towards_step (1 ∷ []) _ t (decls_at xs i fuel own x h e) g) refl d1 in
+  pub decls_step : {a b m c : Vec ℕ Global} {all : List ℕ} (xs : List DeclNode) (i fuel less left : ℕ) (taken more_taken : Taken) (own next : Scope) (x : DeclNode) → i < length xs
+      → x ≡ get_or xs i x → less ≡ fuel - 1 → left ≡ less - decl_cost (shown_decl_node x)
+      → more_taken ≡ after_taken taken (shown_decl_node x) → Alike next (after_decl outer own (shown_decl_node x))
+      → Towards a b all (script_decls (in_order (map shown_decl_node (drop i xs))) config importing fuel i taken own outer) → Adds b m (1 ∷ [])
+      → Adds m c (script_decl (shown_decl_node x) config importing less taken own outer)
+      → Towards a c all (script_decls (in_order (map shown_decl_node (drop (i + 1) xs))) config importing left (i + 1) more_taken next outer)
+  decls_step {a} {b} {m} {c} {all} xs i fuel less left taken more_taken own next x h e l k grown alike t g d =
+      let d1 : Adds m c (script_decl (shown_decl_node x) config importing (fuel - 1) taken own outer) =
+      subst (λ n. Adds m c (script_decl (shown_decl_node x) config importing n taken own outer)) l d in
+      let u = towards_step _ _ (towards_step (1 ∷ []) _ t (decls_at xs i fuel taken own x h e) g) refl d1 in
       let more : suc i ≡ i + 1 = omega arith in
       let burned : fuel - 1 - decl_cost (shown_decl_node x) ≡ left = ap (λ n. n - decl_cost (shown_decl_node x)) (sym l) ∙ sym k in
       let ds = in_order (map shown_decl_node (drop (i + 1) xs)) in
       subst (Towards a c all)
       (ap (λ j. script_decls (in_order (map shown_decl_node (drop j xs))) config importing (fuel - 1 - decl_cost (shown_decl_node x)) (i + 1)
-      (after_decl outer own (shown_decl_node x)) outer) more
-      ∙ ap (λ n. script_decls ds config importing n (i + 1) (after_decl outer own (shown_decl_node x)) outer) burned
-      ∙ sym (script_decls_alike ds config importing left (i + 1) next (after_decl outer own (shown_decl_node x)) outer outer alike (all_same outer))) u
+      (after_taken taken (shown_decl_node x)) (after_decl outer own (shown_decl_node x)) outer) more
+      ∙ ap (λ n. script_decls ds config importing n (i + 1) (after_taken taken (shown_decl_node x)) (after_decl outer own (shown_decl_node x)) outer) burned
+      ∙ ap (λ n. script_decls ds config importing left (i + 1) n (after_decl outer own (shown_decl_node x)) outer) (sym grown)
+      ∙ sym (script_decls_alike ds config importing left (i + 1) more_taken next (after_decl outer own (shown_decl_node x)) outer outer alike (all_same outer))) u

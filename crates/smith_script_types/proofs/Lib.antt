@@ -5,6 +5,8 @@ pub mod ModuleTurns
 pub mod Nodes
 pub mod Picking
 pub mod Placing
+pub mod ReadableTexts
 pub mod Saying
 pub mod Sorts
+pub mod StandIns
 pub mod Turns

@@ -1,6 +1,7 @@
 -- Scripts of module types say of the scope around, and of their own types, no more than the sorts of what stands there.
 use Rattle.std.proofs.Common.{◌≡◌, ℕ, zero, suc, ◌+◌, ◌-◌, true, cond, List, [], ◌∷◌, ◌++◌, map, length, refl, ap, ◌∙◌}
 use Rattle.std.specs.Prelude.{nat_eq, nat_le}
+use Rattle.smith_input.specs.NameScript.{script_new_text}
 use Rattle.smith_input.specs.Script.{script_among, script_loop, pick, rank_of}
 use Rattle.smith_format.specs.Entities.{kind_of}
 use Rattle.smith_format.specs.contracts.types.ExportKindPartialEq.TheImpl.{ghosts as kinds}
@@ -8,7 +9,7 @@ use Rattle.smith_format.specs.declared.config.Config.{Config}
 use Rattle.smith_format.specs.declared.types.EntityType.{EntityType}
 use Rattle.smith_format.specs.declared.types.EntityType.TheVariants.{Func, Table, Memory, Global, Tag}
 use Rattle.smith_syntax.specs.Entries.{CoreEntry, core_func, core_module, ModuleDecl, imports, declares, aliases, exports}
-use Rattle.smith_syntax.specs.ModuleTypes.{adds, is_tag_type}
+use Rattle.smith_syntax.specs.ModuleTypes.{adds, export_names, is_tag_type, names_from}
 use Rattle.smith_syntax.specs.Scope.{Scope, is_core_func, places}
 use Rattle.smith_core_types.specs.ModuleScript.{alias_place, script_decl, script_entity, script_entity_of, script_module}
 use Rattle.smith_core_types.specs.Offers.{Declared, alias_choices, entity_kinds, indexes, module_items, with_decl}
@@ -65,12 +66,14 @@ module _ (a b : Scope) (alike : Alike a b) where
     item_alike config i = ap (λ xs. script_among items.eq xs i) (items_alike config)
 
     decl_alike : (config : Config) (d : ModuleDecl) → script_decl config a s d ≡ script_decl config b t d
-    decl_alike config (imports from name e) = both (item_alike config item.Import) (behind _ (behind _ (entity_alike s t same config e)))
+    decl_alike config (imports from name e) = both (item_alike config item.Import)
+        (behind _ (both (ap (λ ds. script_new_text 100 (length (names_from from ds)) name) same.decls) (entity_alike s t same config e)))
     decl_alike config (declares f) = both (item_alike config item.«Type») refl
     decl_alike config (aliases count i) =
         both (item_alike config item.Alias)
         (ap (λ xs. pick (length xs) (alias_place a count i)) choices_alike ∙ ap (λ k. pick (length (alias_choices b t)) k) (place_alike count i))
-    decl_alike config (exports name e) = both (item_alike config item.Export) (behind _ (entity_alike s t same config e))
+    decl_alike config (exports name e) = both (item_alike config item.Export)
+        (both (ap (λ ds. script_new_text 100 (length (export_names ds)) name) same.decls) (entity_alike s t same config e))
 
     adds_alike : (d : ModuleDecl) → map func_sort_of (adds a.core_types s.own d) ≡ map func_sort_of (adds b.core_types t.own d)
     adds_alike (imports from name e) = refl

@@ -1,8 +1,7 @@
 -- Places in lists that are seen otherwise, and entries of scopes.
-use Rattle.std.proofs.Common.{◌≡◌, ℕ, zero, suc, ◌+◌, ◌-◌, ◌<◌, Bool, true, false, cond, List, [], ◌∷◌, ◌++◌, map, length, refl, ap, sym, ◌∙◌, arith}
+use Rattle.std.proofs.Common.{◌≡◌, ℕ, zero, suc, ◌+◌, ◌-◌, ◌<◌, Bool, true, false, cond, List, [], ◌∷◌, map, length, refl, ap, arith}
 use Rattle.std.proofs.Common.{length-append, get_or, Some, None, ◌≤◌}
 use Rattle.std.specs.Prelude.{slice_get}
-use Rattle.std.proofs.lemmas.List.{length-map}
 use Rattle.smith_syntax.specs.Scope.{Scope, places}
 use Rattle.smith_syntax.specs.Entries.{Entry, CoreEntry, FullDecl, core_type_alias, keeps_core_type, keeps_type, type_alias}
 use Rattle.smith_types.specs.Offers.{aliases_of, numbered}

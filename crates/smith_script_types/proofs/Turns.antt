@@ -1,5 +1,5 @@
 -- Loops over members as a script spells them.
-use Rattle.std.proofs.Common.{◌≡◌, ℕ, zero, suc, ◌+◌, ◌<◌, ◌≤◌, List, [], ◌∷◌, ◌++◌, drop, length, map, get_or, refl, ap, sym, ◌∙◌, arith, append_assoc}
+use Rattle.std.proofs.Common.{◌≡◌, ℕ, zero, suc, ◌+◌, ◌<◌, ◌≤◌, List, [], ◌∷◌, ◌++◌, drop, length, map, get_or, refl, ap, sym, ◌∙◌, arith}
 use Rattle.std.proofs.Math.Seq.{drop-cons}
 use Rattle.std.specs.Option.{option_to_list}
 use Rattle.std.specs.Prelude.{Option, String}
@@ -32,19 +32,26 @@ module _ {S A : Type 0} (script : S → A → List ℕ) (next : S → A → S) (
     over (y ∷ ys) zero h = absurd (omega arith)
     over (y ∷ ys) (suc j) h = over ys j (omega arith)
 
-module _ {A B : Type 0} (f : B → List ℕ) (g : A → B) (min max : ℕ) where
-  turns_map : (done : ℕ) (xs : List A)
-      → script_loop (λ (s : Unit {0}) x. f x) (λ s x. s) min max done tt (map g xs) ≡ script_loop (λ (s : Unit {0}) x. f (g x)) (λ s x. s) min max done tt xs
-  turns_map done [] = refl
-  turns_map done (x ∷ xs) = ap (λ t. script_more min done ++ f (g x) ++ t) (turns_map (done + 1) xs)
+-- a script that takes no heed of the state
+pub any_state : {S T A : Type 0} (f : A → List ℕ) (next : S → A → S) (other : T → A → T) (min max done : ℕ) (s : S) (t : T) (xs : List A)
+    → script_loop (λ u x. f x) next min max done s xs ≡ script_loop (λ u x. f x) other min max done t xs
+any_state f next other min max done s t [] = refl
+any_state f next other min max done s t (x ∷ xs) =
+    ap (λ later. script_more min done ++ f x ++ later) (any_state f next other min max (done + 1) (next s x) (other t x) xs)
+
+module _ {A B : Type 0} (f : ℕ → B → List ℕ) (g : A → B) (min max : ℕ) where
+  turns_map : (done count : ℕ) (xs : List A)
+      → script_loop f (λ n x. n + 1) min max done count (map g xs) ≡ script_loop (λ n x. f n (g x)) (λ n x. n + 1) min max done count xs
+  turns_map done count [] = refl
+  turns_map done count (x ∷ xs) = ap (λ t. script_more min done ++ f count (g x) ++ t) (turns_map (done + 1) (count + 1) xs)
 
   -- members that are seen otherwise
-  pub members_map : (xs : List A) → script_members f min max (map g xs) ≡ script_members (λ x. f (g x)) min max xs
-  members_map xs = turns_map 0 xs
+  pub members_map : (xs : List A) → script_members f min max (map g xs) ≡ script_members (λ n x. f n (g x)) min max xs
+  members_map xs = turns_map 0 0 xs
 
 -- a function type over the program's fields
 pub signature_is : (own : Scope) (v : Signature) (ps : List (String Global × ComponentValType)) (r : Option ComponentValType) → signature ps r ≡ v
-    → script_signature own v ≡ script_members (λ p. script_field own (named p)) 0 16 ps ++ script_members (script_val own) 0 1 (option_to_list r)
+    → script_signature own v ≡ script_members (λ n p. script_field own n (named p)) 0 16 ps ++ script_members (λ n v. script_val own v) 0 1 (option_to_list r)
 signature_is own v ps r e =
     ap (script_signature own) (sym e)
-    ∙ ap (λ t. t ++ script_members (script_val own) 0 1 (option_to_list r)) (members_map (script_field own) named 0 16 ps)
+    ∙ ap (λ t. t ++ script_members (λ n v. script_val own v) 0 1 (option_to_list r)) (members_map (script_field own) named 0 16 ps)

@@ -4,3 +4,5 @@ pub mod Modules
 pub mod Places
 pub mod Says
 pub mod Scopes
+pub mod StandIns
+pub mod Taken

@@ -1,18 +1,15 @@
-//! Choices, loops, texts and names as a script spells them.
+//! Choices, loops and texts as a script spells them.
 
 ghost use Rattle.std.specs.Prelude.{◌≡◌, ◌≤◌, ◌∷◌, [], ◌+◌, ◌++◌};
 ghost use Rattle.smith_input.specs.Script.{big_endian, code, pick, rank_of, script_among, script_bytes};
 ghost use Rattle.smith_input.specs.Script.{script_characters};
-ghost use Rattle.smith_input.specs.Script.{script_end, script_more, script_name, script_text, width_within};
+ghost use Rattle.smith_input.specs.Script.{script_end, script_more, script_text, width_within};
 ghost use Rattle.smith_script_types.specs.Says.{Says};
 
 use crate::error::Unsaid;
 
 /// The longest name of a custom section.
 const MOST_TEXT: usize = 1000;
-
-/// The longest name elsewhere.
-const MOST_NAME: usize = 100;
 
 pub fn put_byte(out: &mut Vec<u8>, value: u8) -> Result<(), Unsaid>
     ensures { Says result out.old out.new (value ∷ []) }
@@ -113,7 +110,8 @@ fn code(character: u8) -> usize
     }
 }
 
-fn put_characters(out: &mut Vec<u8>, name: &[u8]) -> Result<(), Unsaid>
+/// The characters of a name in kebab case.
+pub(crate) fn put_characters(out: &mut Vec<u8>, name: &[u8]) -> Result<(), Unsaid>
     ensures { Says result out.old out.new (script_characters name.now) }
 {
     for character in name {
@@ -122,35 +120,20 @@ fn put_characters(out: &mut Vec<u8>, name: &[u8]) -> Result<(), Unsaid>
     Ok(())
 }
 
-/// A name in kebab case.
-pub fn put_name(out: &mut Vec<u8>, name: &str) -> Result<(), Unsaid>
-    ensures { Says result out.old out.new (script_name 100 name.now) }
-{
-    put_choice(out, MOST_NAME + 1, name.len())?;
-    put_characters(out, name.as_bytes())
-}
-
-// A text of at most so many bytes, as the reader has them.
-fn put_text_within(out: &mut Vec<u8>, most: usize, text: &str) -> Result<(), Unsaid>
+/// A text of at most so many bytes, as the reader has them.
+pub(crate) fn put_text_within(out: &mut Vec<u8>, most: usize, text: &[u8]) -> Result<(), Unsaid>
     requires { most ≤ 1000 }
     ensures { Says result out.old out.new (script_text most text.now) }
 {
     put_choice(out, most + 1, text.len())?;
-    put_raw(out, text.as_bytes())
+    put_raw(out, text)
 }
 
 /// The name of a custom section.
 pub fn put_text(out: &mut Vec<u8>, name: &str) -> Result<(), Unsaid>
     ensures { Says result out.old out.new (script_text 1000 name.now) }
 {
-    put_text_within(out, MOST_TEXT, name)
-}
-
-/// A name of what a core module imports or exports.
-pub(crate) fn put_core_name(out: &mut Vec<u8>, name: &str) -> Result<(), Unsaid>
-    ensures { Says result out.old out.new (script_text 100 name.now) }
-{
-    put_text_within(out, MOST_NAME, name)
+    put_text_within(out, MOST_TEXT, name.as_bytes())
 }
 
 /// The contents of a custom section.

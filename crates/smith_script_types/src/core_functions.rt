@@ -23,8 +23,8 @@ pub(crate) fn valtypes_of(alloc: Global, config: &Config) -> Result<Vec<ValType>
     Ok(valtypes)
 }
 
-// The most results of a core function type.
-fn max_results(config: &Config) -> usize
+/// The most results of a core function type.
+pub(crate) fn max_results(config: &Config) -> usize
     ensures { result ≡ max_results config.now }
 {
     if config.multi_value_enabled { 20 } else { 1 }

@@ -11,12 +11,12 @@ use crate::choices::{put_among, put_end, put_more};
 use crate::error::Unsaid;
 use smith_format::ValType;
 
-/// What has a script in a context.
+/// What has a script in a context, behind so many.
 pub(crate) trait Scripted<Context> {
-    ghost script: { Context → Self → List ℕ };
+    ghost script: { Context → ℕ → Self → List ℕ };
 
-    fn say(&self, context: &Context, out: &mut Vec<u8>) -> Result<(), Unsaid>
-        ensures { Says result out.old out.new (script context.now self.now) };
+    fn say(&self, context: &Context, done: usize, out: &mut Vec<u8>) -> Result<(), Unsaid>
+        ensures { Says result out.old out.new (script context.now done self.now) };
 }
 
 /// A loop that makes these, at least min and at most max.
@@ -31,15 +31,15 @@ pub(crate) fn put_members<Context, T: Scripted<Context>>(
 {
     for done in 0..items.len() {
         put_more(out, min, done)?;
-        items[done].say(context, out)?;
+        items[done].say(context, done, out)?;
     }
     put_end(out, items.len(), max)
 }
 
 impl Scripted<Vec<ValType>> for ValType {
-    ghost script = { λ valtypes x. script_among same_val valtypes.items x };
+    ghost script = { λ valtypes _ x. script_among same_val valtypes.items x };
 
-    fn say(&self, context: &Vec<ValType>, out: &mut Vec<u8>) -> Result<(), Unsaid> {
+    fn say(&self, context: &Vec<ValType>, _done: usize, out: &mut Vec<u8>) -> Result<(), Unsaid> {
         put_among(out, context, self)
     }
 }

@@ -1,7 +1,9 @@
 //! Module types.
 
 ghost use Rattle.std.specs.Prelude.{◌≡◌, ◌≤◌, ◌++◌, ℕ, length, map, IfOk, IfErr};
+ghost use Rattle.smith_input.specs.NameScript.{script_new_text};
 ghost use Rattle.smith_input.specs.Script.{pick, script_text};
+ghost use Rattle.smith_syntax.specs.ModuleTypes.{names_from};
 ghost use Rattle.smith_read_types.specs.Nodes.{shown_module_node};
 ghost use Rattle.smith_core_types.specs.ModuleScript.{alias_place, script_decl, script_entity, script_item};
 ghost use Rattle.smith_core_types.specs.ModuleScript.{script_module};
@@ -11,13 +13,15 @@ ghost use Rattle.smith_script_types.specs.Places.{own_at};
 ghost use Rattle.smith_script_types.specs.Says.{Says};
 ghost use Rattle.smith_script_types.specs.declared.error.Unsaid.TheVariants.{OutOfMemory};
 
-use crate::choices::{place_of, put_choice, put_core_name, put_end, put_more};
+use crate::choices::{place_of, put_choice, put_end, put_more};
 use crate::core_functions::put_core_function;
 use crate::declared::{Declared, add, declared_sorts};
 use crate::entities::put_entity;
 use crate::error::Unsaid;
 use crate::fronts::after_front;
 use crate::module_fronts::put_front;
+use crate::module_names::{exports_in, imports_from};
+use crate::names::{put_core_name, put_new_core_name};
 use crate::offers::put_offered;
 use crate::place::Place;
 use smith_core_types::ModuleItem;
@@ -81,18 +85,19 @@ fn put_alias(
     put_choice(out, choices, alias_place(place, count, index)?)
 }
 
-// A name, and what is imported or exported by it.
+// A name behind so many, and what is imported or exported by it.
 fn put_named(
     out: &mut Vec<u8>,
     place: Place<'_>,
     declared: Declared<'_>,
+    count: usize,
     name: &str,
     entity: EntityType,
 ) -> Result<(), Unsaid>
     ensures { Says result out.old out.new
-        (script_text 100 name.now ++ script_entity place.entry.config.now (so_far declared.entry) entity) }
+        (script_new_text 100 count name.now ++ script_entity place.entry.config.now (so_far declared.entry) entity) }
 {
-    put_core_name(out, name)?;
+    put_new_core_name(out, count, name)?;
     put_entity(out, place, declared, entity)
 }
 
@@ -107,10 +112,18 @@ fn put_import(
 ) -> Result<(), Unsaid>
     ensures { Says result out.old out.new
         (script_text 100 from.now
-        ++ (script_text 100 name.now ++ script_entity place.entry.config.now (so_far declared.entry) entity)) }
+        ++ (script_new_text 100 (length (names_from from.now (so_far declared.entry).decls)) name.now
+        ++ script_entity place.entry.config.now (so_far declared.entry) entity)) }
 {
     put_core_name(out, from)?;
-    put_named(out, place, declared, name, entity)
+    put_named(
+        out,
+        place,
+        declared,
+        imports_from(declared.decls, from),
+        name,
+        entity,
+    )
 }
 
 // A declaration behind these.
@@ -135,7 +148,14 @@ fn put_decl(
         }
         ModuleNode::Export { name, entity } => {
             put_item(out, place, declared, ModuleItem::Export)?;
-            put_named(out, place, declared, name, *entity)
+            put_named(
+                out,
+                place,
+                declared,
+                exports_in(declared.decls),
+                name,
+                *entity,
+            )
         }
         ModuleNode::Func(ty) => {
             put_item(out, place, declared, ModuleItem::Type)?;

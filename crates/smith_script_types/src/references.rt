@@ -9,8 +9,9 @@ ghost use Rattle.smith_script_types.specs.Says.{Says};
 ghost use Rattle.smith_script_types.specs.Places.{own_at};
 ghost use Rattle.smith_script_types.specs.declared.error.Unsaid.TheVariants.{OutOfMemory};
 
-use crate::choices::{put_among, put_byte, put_name};
+use crate::choices::{put_among, put_byte};
 use crate::error::Unsaid;
+use crate::names::put_name;
 use crate::offers::put_offered;
 use crate::place::Place;
 use crate::scopes::Sort;
@@ -146,10 +147,10 @@ pub fn put_reference(
     put_among(out, &places, &(index_in(to) as usize))
 }
 
-/// The name of an import or an export, and that it has no URL.
-pub fn put_extern(out: &mut Vec<u8>, name: &str) -> Result<(), Unsaid>
-    ensures { Says result out.old out.new (script_extern name.now) }
+/// The name of an import or an export behind so many, and that it has no URL.
+pub fn put_extern(out: &mut Vec<u8>, count: usize, name: &str) -> Result<(), Unsaid>
+    ensures { Says result out.old out.new (script_extern count name.now) }
 {
-    put_name(out, name)?;
+    put_name(out, count, name)?;
     put_byte(out, 0)
 }

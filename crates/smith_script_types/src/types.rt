@@ -5,11 +5,12 @@ ghost use Rattle.smith_syntax.specs.Entries.{in_order};
 ghost use Rattle.smith_syntax.specs.Scope.{empty_scope};
 ghost use Rattle.smith_read_types.specs.TypeNodes.{shown_decl_node, shown_type_node};
 ghost use Rattle.smith_types.specs.Offers.{uncounted};
-ghost use Rattle.smith_types.specs.Script.{script_decl, script_decls, script_extern, script_ref, script_type};
+ghost use Rattle.smith_types.specs.Script.{none_taken, script_decl, script_decls, script_extern, script_ref, script_type};
 ghost use Rattle.smith_types.specs.Script.{script_type_kind};
 ghost use Rattle.smith_types.specs.declared.make.TypeKind.TheVariants.{Defined};
 ghost use Rattle.smith_script_types.specs.Places.{outer_at, own_at};
 ghost use Rattle.smith_script_types.specs.Says.{Says};
+ghost use Rattle.smith_script_types.specs.Taken.{shown_taken};
 
 use crate::choices::{put_among, put_byte, put_choice, put_end};
 use crate::core_types::put_core;
@@ -19,6 +20,7 @@ use crate::fuel::after_decl;
 use crate::place::Place;
 use crate::references::{put_extern, put_reference};
 use crate::scopes::Scope;
+use crate::taken::{Taken, export_count, import_count};
 use crate::values::{put_defined, put_signature};
 use smith_read_types::{DeclNode, TypeNode};
 use smith_syntax::ComponentTypeRef;
@@ -55,20 +57,21 @@ fn put_defined_kind(out: &mut Vec<u8>, fuel: u32) -> Result<(), Unsaid>
     put_type_kind(out, TypeKind::Defined)
 }
 
-// What is imported or exported within a type, and its name.
+// What is imported or exported within a type, and its name behind so many.
 fn put_declared(
     out: &mut Vec<u8>,
     place: Place<'_>,
     for_import: bool,
+    count: usize,
     name: &str,
     to: ComponentTypeRef,
 ) -> Result<(), Unsaid>
     ensures { Says result out.old out.new
         (script_ref place.entry.config.now (own_at place.entry) uncounted for_import true to
-        ++ script_extern name.now) }
+        ++ script_extern count name.now) }
 {
     put_reference(out, place, UNCOUNTED, for_import, true, to)?;
-    put_extern(out, name)
+    put_extern(out, count, name)
 }
 
 /// A type with so much fuel.
@@ -106,11 +109,12 @@ fn put_decl(
     place: Place<'_>,
     importing: bool,
     fuel: u32,
+    taken: Taken,
     decl: &DeclNode,
 ) -> Result<(), Unsaid>
     ensures { Says result out.old out.new
-        (script_decl (shown_decl_node decl.now) place.entry.config.now importing fuel (own_at place.entry)
-        (outer_at place.entry)) }
+        (script_decl (shown_decl_node decl.now) place.entry.config.now importing fuel (shown_taken taken)
+        (own_at place.entry) (outer_at place.entry)) }
 {
     match decl {
         DeclNode::Core(ty) => {
@@ -131,11 +135,11 @@ fn put_decl(
         }
         DeclNode::Import { name, to } => {
             put_choice(out, 4, 0)?;
-            put_declared(out, place, true, name, *to)
+            put_declared(out, place, true, taken.imports, name, *to)
         }
         DeclNode::Export { name, to } => {
             put_declares(out, place, importing, DeclarationItem::Export)?;
-            put_declared(out, place, false, name, *to)
+            put_declared(out, place, false, taken.exports, name, *to)
         }
     }
 }
@@ -151,10 +155,14 @@ fn put_decls(
     decls: &[DeclNode],
 ) -> Result<(), Unsaid>
     ensures { Says result out.old out.new (script_decls (in_order (map shown_decl_node decls.now))
-        around.entry.config.now importing fuel 0 empty_scope (own_at around.entry ∷ outer_at around.entry)) }
+        around.entry.config.now importing fuel 0 none_taken empty_scope (own_at around.entry ∷ outer_at around.entry)) }
 {
     let outer = around.scopes()?;
     let mut own = Scope::new(around.alloc);
+    let mut taken = Taken {
+        imports: 0,
+        exports: 0,
+    };
     let mut fuel = fuel;
     for decl in decls {
         put_byte(out, 1)?;
@@ -163,9 +171,13 @@ fn put_decls(
             outer: &outer,
             ..around
         };
-        put_decl(out, place, importing, fuel.saturating_sub(1), decl)?;
+        put_decl(out, place, importing, fuel.saturating_sub(1), taken, decl)?;
         let added = place.added(decl);
         own.add(added)?;
+        taken = Taken {
+            imports: taken.imports + import_count(decl),
+            exports: taken.exports + export_count(decl),
+        };
         fuel = after_decl(fuel.saturating_sub(1), decl);
     }
     put_end(out, decls.len(), 100)

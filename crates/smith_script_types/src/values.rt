@@ -11,9 +11,10 @@ ghost use Rattle.smith_types.specs.Script.{script_val};
 ghost use Rattle.smith_script_types.specs.Says.{Says};
 ghost use Rattle.smith_script_types.specs.Places.{own_at};
 
-use crate::choices::{put_among, put_byte, put_choice, put_name};
+use crate::choices::{put_among, put_byte, put_choice};
 use crate::error::Unsaid;
 use crate::members::{Scripted, put_members};
+use crate::names::put_name;
 use crate::place::Place;
 use crate::scopes::Sort;
 use smith_syntax::{ComponentValType, DefinedType, FuncType, PrimitiveValType, ResultType};
@@ -111,35 +112,35 @@ fn put_both(out: &mut Vec<u8>, place: Place<'_>, ty: &ResultType) -> Result<(), 
 }
 
 impl<'s> Scripted<Place<'s>> for ComponentValType {
-    ghost script = { λ place ty. script_val (own_at place) ty };
+    ghost script = { λ place _ ty. script_val (own_at place) ty };
 
-    fn say(&self, context: &Place<'s>, out: &mut Vec<u8>) -> Result<(), Unsaid> {
+    fn say(&self, context: &Place<'s>, _done: usize, out: &mut Vec<u8>) -> Result<(), Unsaid> {
         put_value(out, *context, *self)
     }
 }
 
 impl<'s> Scripted<Place<'s>> for String {
-    ghost script = { λ place name. script_label (string_bytes name) };
+    ghost script = { λ place count name. script_label count (string_bytes name) };
 
-    fn say(&self, _context: &Place<'s>, out: &mut Vec<u8>) -> Result<(), Unsaid> {
-        put_name(out, self)
+    fn say(&self, _context: &Place<'s>, done: usize, out: &mut Vec<u8>) -> Result<(), Unsaid> {
+        put_name(out, done, self)
     }
 }
 
 impl<'s> Scripted<Place<'s>> for (String, ComponentValType) {
-    ghost script = { λ place field. script_field (own_at place) (named field) };
+    ghost script = { λ place count field. script_field (own_at place) count (named field) };
 
-    fn say(&self, context: &Place<'s>, out: &mut Vec<u8>) -> Result<(), Unsaid> {
-        put_name(out, &self.0)?;
+    fn say(&self, context: &Place<'s>, done: usize, out: &mut Vec<u8>) -> Result<(), Unsaid> {
+        put_name(out, done, &self.0)?;
         put_value(out, *context, self.1)
     }
 }
 
 impl<'s> Scripted<Place<'s>> for (String, Option<ComponentValType>) {
-    ghost script = { λ place case. script_case (own_at place) (named case) };
+    ghost script = { λ place count case. script_case (own_at place) count (named case) };
 
-    fn say(&self, context: &Place<'s>, out: &mut Vec<u8>) -> Result<(), Unsaid> {
-        put_name(out, &self.0)?;
+    fn say(&self, context: &Place<'s>, done: usize, out: &mut Vec<u8>) -> Result<(), Unsaid> {
+        put_name(out, done, &self.0)?;
         put_maybe_value(out, *context, self.1)
     }
 }
@@ -196,7 +197,7 @@ fn put_result(
     place: Place<'_>,
     ty: Option<ComponentValType>,
 ) -> Result<(), Unsaid>
-    ensures { Says result out.old out.new (script_members (script_val (own_at place.entry)) 0 1 (option_to_list ty)) }
+    ensures { Says result out.old out.new (script_members (λ count v. script_val (own_at place.entry) v) 0 1 (option_to_list ty)) }
 {
     match ty {
         None => put_members(out, &place, 0, 1, &[] as &[ComponentValType]),

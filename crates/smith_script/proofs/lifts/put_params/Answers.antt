@@ -5,11 +5,11 @@ use Rattle.smith_script.proofs.lifts.put_params.Goals as goal
 pub returns-in_err-put_name : goal.returns-in_err-put_name
 returns-in_err-put_name c =
     gives_up _ _ _ _ c.from_residual.ensures.1
-    (towards_exit _ _ c.loop-param.invariant (params_at _ _ _ c.loop-param-test.true c.param-item.is)
+    (towards_exit _ _ c.loop-done.invariant (params_at _ _ _ _ c.loop-done-test.true c.index-params-done.is)
     (unsaid_left _ (rw c.deref.ensures at (c.in_err-put_name.ensures {u = tt}))))
 
 pub returns-in_err-put_scalar : goal.returns-in_err-put_scalar
 returns-in_err-put_scalar c =
     gives_up _ _ _ _ c.from_residual-in_err-put_scalar.ensures.1
-    (towards_exit _ _ c.loop-param.invariant (params_at _ _ _ c.loop-param-test.true c.param-item.is)
+    (towards_exit _ _ c.loop-done.invariant (params_at _ _ _ _ c.loop-done-test.true c.index-params-done.is)
     (unsaid_right _ (c.in_err-put_scalar.ensures {u = tt})))

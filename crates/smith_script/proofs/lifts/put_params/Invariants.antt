@@ -4,5 +4,5 @@ use Rattle.smith_types.specs.Script.{script_params}
 use Rattle.smith_script_types.proofs.Saying.{Towards}
 use Rattle.smith_script.proofs.lifts.put_params.Given as goal
 
-abbrev pub invariant-loop-param : goal.invariant-loop-param
-invariant-loop-param l = Towards l.initial.out l.out (script_params (map named l.params)) (script_params (map named (drop l.param-index l.params)))
+abbrev pub invariant-loop-done : goal.invariant-loop-done
+invariant-loop-done l = Towards l.initial.out l.out (script_params 0 (map named l.params)) (script_params l.done (map named (drop l.done l.params)))

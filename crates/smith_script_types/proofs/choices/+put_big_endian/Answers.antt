@@ -1,4 +1,4 @@
-use Rattle.std.proofs.Common.{arith, ◌≡◌, ◌/◌, ◌^◌, ◌-◌, ◌<◌, sym, rules}
+use Rattle.std.proofs.Common.{arith, ◌≡◌, ◌/◌, ◌^◌, ◌-◌, ◌<◌, sym}
 use Rattle.smith_script_types.proofs.Picking.{big_endian_more, power_fits, power_positive}
 use Rattle.smith_script_types.proofs.Saying.{ends}
 use Rattle.smith_script_types.proofs.choices.+put_big_endian.Goals as goal

@@ -1,4 +1,3 @@
-use Rattle.std.proofs.Common.{arith}
 use Rattle.smith_script_types.proofs.Picking.{characters_at}
 use Rattle.smith_script_types.proofs.Saying.{gives_up, towards_exit, towards_step}
 use Rattle.smith_script_types.proofs.choices.put_characters.Goals as goal

@@ -1,4 +1,4 @@
-use Rattle.std.proofs.Common.{arith, length, ◌≡◌}
+use Rattle.std.proofs.Common.{arith, length, ◌≡◌, ◌+◌}
 use Rattle.smith_script_types.proofs.Turns.{loop_at, loop_over}
 use Rattle.smith_script_types.proofs.Saying.{gives_up, towards_end, towards_exit, unsaid_right}
 use Rattle.smith_script_types.proofs.members.put_members.Goals as goal
@@ -14,7 +14,7 @@ returns g c =
     let all : c.loop-done.done ≡ length c.args.items.now = omega (arith, c.loop-done-test.false, c.loop-done.auto.done-end) in
     towards_end c.put_end.result _ c.loop-done.invariant
     (rw (
-      loop_over (λ (s : Unit {0}) x. g.T.Scripted.script c.args.context.now x) (λ s x. s) c.args.min c.args.max c.args.items.now c.loop-done.done tt
+      loop_over (g.T.Scripted.script c.args.context.now) (λ count x. count + 1) c.args.min c.args.max c.args.items.now c.loop-done.done c.loop-done.done
           c.loop-done-test.false,
       all,
     ) c.put_end.ensures)

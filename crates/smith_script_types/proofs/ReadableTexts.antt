@@ -1,0 +1,33 @@
+-- Texts that can be read, as the writer finds them.
+use Rattle.std.proofs.Common.{◌≡◌, ℕ, zero, suc, ◌+◌, ◌-◌, ◌/◌, ◌%◌, ◌<◌, ◌≤◌, ◌^◌, Bool, true, false, List, [], ◌∷◌, length, take, refl, ap, ◌∙◌, arith}
+use Rattle.std.proofs.Common.{length-append}
+use Rattle.std.proofs.lemmas.Fmt.{decimal_digit, decimal_step, length-decimal-le}
+use Rattle.std.specs.Fmt.{decimal}
+use Rattle.std.specs.Prelude.{if◌then◌else◌}
+use Rattle.smith_input.specs.NameScript.{first_readable}
+
+-- decimal digits
+
+pub one_digit : (n : ℕ) → n < 10 → length (decimal n) ≡ 1
+one_digit n h = ap length (decimal_digit n h)
+
+pub more_digits : (n : ℕ) → 10 ≤ n → n < 2 ^ 64 → length (decimal n) ≡ length (decimal (n / 10)) + 1
+more_digits n h k = ap length (decimal_step n h k) ∙ length-append (decimal (n / 10)) ((48 + n % 10) ∷ [])
+
+pub few_digits : (n : ℕ) → n < 2 ^ 64 → length (decimal n) ≤ 20
+few_digits n h = length-decimal-le 20 n (omega arith) (omega (arith, h)) h
+
+-- step by step
+
+module _ (can_read : List ℕ → Bool) (digits : ℕ) where
+  pub first_here : (fuel : ℕ) (name : List ℕ) → can_read name ≡ true → first_readable can_read digits fuel name ≡ name
+  first_here zero name c = refl
+  first_here (suc fuel) name c = ap (λ b. if b then name else first_readable can_read digits fuel (take (length name - digits) name)) c
+
+  pub first_further : (fuel less : ℕ) (name : List ℕ) → fuel ≡ less + 1 → can_read name ≡ false
+      → first_readable can_read digits fuel name ≡ first_readable can_read digits less (take (length name - digits) name)
+  first_further zero less name e c = absurd (omega (arith, e))
+  first_further (suc fuel) less name e c =
+      let same : fuel ≡ less = omega (arith, e) in
+      ap (λ b. if b then name else first_readable can_read digits fuel (take (length name - digits) name)) c
+      ∙ ap (λ n. first_readable can_read digits n (take (length name - digits) name)) same

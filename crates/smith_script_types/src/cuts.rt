@@ -1,0 +1,23 @@
+//! Parts of texts and of bytes.
+
+ghost use Rattle.std.specs.Prelude.{◌≡◌, drop, take};
+
+/// The first so many.
+pub(crate) fn front(text: &[u8], most: usize) -> &[u8]
+    ensures { result.now ≡ take most text.now }
+{
+    if text.len() <= most {
+        return text;
+    }
+    &text[..most]
+}
+
+/// What stands behind the first so many.
+pub(crate) fn behind(text: &[u8], most: usize) -> &[u8]
+    ensures { result.now ≡ drop most text.now }
+{
+    if text.len() <= most {
+        return &[];
+    }
+    &text[most..]
+}
