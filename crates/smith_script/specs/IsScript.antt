@@ -20,3 +20,7 @@ pub record IsScript (config : Config) (t : Tree) (b : List ℕ) : Type 0 where
   pub consistent : IsConsistent config
   pub spelled : (c : List ℕ) × Spells t c
   pub runs : RunsTo config b t []
+
+-- No input leads to the tree, of which there are bytes.
+abbrev pub ComesOnNone : Config → Tree → Type 0
+ComesOnNone config t = (input left c : List ℕ) → Spells t c → ¬ RunsTo config input t left

@@ -8,7 +8,7 @@ ghost use Rattle.smith_component.specs.Script.{Within, script};
 ghost use Rattle.smith_component.specs.Tree.{Tree};
 ghost use Rattle.smith_read.specs.PartNodes.{shown_tree};
 ghost use Rattle.smith_script_types.specs.Says.{IsUnsaid};
-ghost use Rattle.smith_script.specs.IsScript.{IsGiven, IsScript};
+ghost use Rattle.smith_script.specs.IsScript.{ComesOnNone, IsGiven, IsScript};
 ghost use Rattle.smith_script.specs.declared.error.ScriptError.TheVariants.{InconsistentLimits, OutOfMemory};
 
 use crate::error::ScriptError;
@@ -98,6 +98,9 @@ pub fn script(alloc: Global, config: &Config, tree: &ComponentTree) -> Result<Ve
     // A plan is refused for want of memory alone.
     ensures plans { IsConsistent config.now → Within config.now (shown_tree tree.now)
         → IfErr result (λ e. e ≡ OutOfMemory) }
+    // What is refused for another reason comes on no input.
+    ensures no_input { IsConsistent config.now
+        → IfErr result (λ e. ¬ (e ≡ OutOfMemory) → ComesOnNone config.now (shown_tree tree.now)) }
 {
     tried(alloc, config, tree)
 }
