@@ -1,5 +1,5 @@
 -- The script of a component, said of what stands before each place.
-use Rattle.std.specs.Prelude.{ℕ, ◌+◌, ◌-◌, ◌&&◌, true, false, List, [], ◌∷◌, ◌++◌, length, map, nat_lt}
+use Rattle.std.specs.Prelude.{ℕ, ◌+◌, ◌-◌, ◌&&◌, true, false, List, ◌∷◌, ◌++◌, length, map, nat_lt}
 use Rattle.smith_input.specs.NameScript.{script_new}
 use Rattle.smith_input.specs.Script.{pick, script_among, script_bytes, script_loop, script_text}
 use Rattle.smith_core.specs.StandInScript.{script_stand_in, stand_in_of}

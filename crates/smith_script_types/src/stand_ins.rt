@@ -1,6 +1,6 @@
 //! Core modules that stand for generated ones.
 
-ghost use Rattle.std.specs.Prelude.{◌≡◌, ◌≤◌, ◌<◌, [], ◌∷◌, length, map, min, IfOk, IfErr, MatchOption};
+ghost use Rattle.std.specs.Prelude.{◌≡◌, ◌≤◌, ◌<◌, [], ◌∷◌, length, map, IfOk, IfErr, MatchOption};
 ghost use Rattle.smith_format.specs.CoreScript.{script_function, script_values};
 ghost use Rattle.smith_core.specs.StandInScript.{all_memories, counted_functions, function_of, functions_of};
 ghost use Rattle.smith_core.specs.StandInScript.{memories_of, memory_of, past_number, script_stand_in, stand_in_of};
@@ -93,7 +93,7 @@ fn put_function<'b>(
     put_values(alloc, out, valtypes, most_results, results)
 }
 
-// So many function types, at most max. The answer is what is behind them.
+// So many function types. The answer is what is behind them.
 fn put_functions<'b>(
     alloc: Global,
     out: &mut Vec<u8>,
