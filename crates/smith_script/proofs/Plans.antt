@@ -3,7 +3,6 @@ use Rattle.std.proofs.Common.{◌≡◌, ℕ, List, [], refl, subst, append-nil}
 use Rattle.smith_format.specs.Limits.{IsConsistent}
 use Rattle.smith_format.specs.declared.config.Config.{Config}
 use Rattle.smith_component.specs.Runs.{RunsTo}
-use Rattle.smith_component.specs.Grammar.{Spells}
 use Rattle.smith_component.specs.Script.{Within, script}
 use Rattle.smith_component.specs.Tree.{Tree}
 use Rattle.smith_component.proofs.Plans.{script_runs}
