@@ -6,6 +6,7 @@ mod canons;
 mod error;
 mod items;
 mod lifts;
+mod long_names;
 mod parts;
 mod reasons;
 mod rows;

@@ -1,103 +1,216 @@
 //! Where a component has no script, as far as a look tells. What is told is no part of a contract.
 
 use crate::error::{Reason, ScriptError};
+use crate::long_names::{Form, MOST_NAME, comes};
 use smith_core::Module;
 use smith_format::Config;
 use smith_input::{Error, Unstructured};
-use smith_read::{ComponentTree, CoreNode, DeclNode, ImportNode, ModuleNode, PartNode, TypeNode};
+use smith_read::{
+    ComponentTree, CoreNode, DeclNode, ExportNode, ImportNode, ModuleNode, PartNode, TypeNode,
+};
 use smith_script_types::{Unsaid, put_stand_in};
-use smith_syntax::{ComponentTypeRef, DefinedType, FuncType};
+use smith_syntax::{ComponentTypeRef, DefinedType};
 use std::alloc::Global;
 
 /// The longest name of a custom section.
 const MOST_TEXT: usize = 1000;
 
-/// The longest name elsewhere.
-const MOST_NAME: usize = 100;
+// What is told, or nothing.
+type Told = Result<Option<Reason>, ScriptError>;
 
-fn long_name(name: &str, most: usize) -> Option<Reason> {
-    if most < name.len() {
-        return Some(Reason::LongName);
-    }
-    None
+// The names of imports and of exports that stand in front.
+#[derive(Drop)]
+struct Names<'a> {
+    imports: Vec<&'a [u8]>,
+    exports: Vec<&'a [u8]>,
 }
 
-fn in_module_decl(decl: &ModuleNode) -> Option<Reason> {
-    match decl {
-        ModuleNode::Import { module, name, .. } => {
-            long_name(module, MOST_NAME).or_else(|| long_name(name, MOST_NAME))
+impl<'a> Names<'a> {
+    fn new(alloc: Global) -> Names<'a> {
+        Names {
+            imports: Vec::new(alloc),
+            exports: Vec::new(alloc),
         }
-        ModuleNode::Export { name, .. } => long_name(name, MOST_NAME),
-        ModuleNode::Func(_) | ModuleNode::OuterAlias { .. } => None,
     }
 }
 
-fn in_core_type(ty: &CoreNode) -> Option<Reason> {
+// Whether a name is too long to be read.
+fn long_unless(comes: bool) -> Option<Reason> {
+    if comes {
+        return None;
+    }
+    Some(Reason::LongName)
+}
+
+// The next name in kebab case, which is put behind those before it.
+fn next_name<'a>(alloc: Global, before: &mut Vec<&'a [u8]>, name: &'a str) -> Told {
+    let comes = comes(alloc, Form::Kebab, before, name.as_bytes())?;
+    before.push(name.as_bytes())?;
+    Ok(long_unless(comes))
+}
+
+// The names of what these import from that module.
+fn imported<'a>(
+    alloc: Global,
+    decls: &'a [ModuleNode],
+    from: &str,
+) -> Result<Vec<&'a [u8]>, ScriptError> {
+    let mut names = Vec::new(alloc);
+    for decl in decls {
+        if let ModuleNode::Import { module, name, .. } = decl {
+            if module.as_str() == from {
+                names.push(name.as_bytes())?;
+            }
+        }
+    }
+    Ok(names)
+}
+
+// The names of what these export.
+fn exported<'a>(alloc: Global, decls: &'a [ModuleNode]) -> Result<Vec<&'a [u8]>, ScriptError> {
+    let mut names = Vec::new(alloc);
+    for decl in decls {
+        if let ModuleNode::Export { name, .. } = decl {
+            names.push(name.as_bytes())?;
+        }
+    }
+    Ok(names)
+}
+
+// A declaration of a module type, behind these.
+fn in_module_decl(alloc: Global, before: &[ModuleNode], decl: &ModuleNode) -> Told {
+    let comes = match decl {
+        ModuleNode::Import { module, name, .. } => {
+            let names = imported(alloc, before, module)?;
+            module.len() <= MOST_NAME && comes(alloc, Form::Text, &names, name.as_bytes())?
+        }
+        ModuleNode::Export { name, .. } => {
+            let names = exported(alloc, before)?;
+            comes(alloc, Form::Text, &names, name.as_bytes())?
+        }
+        ModuleNode::Func(_) | ModuleNode::OuterAlias { .. } => true,
+    };
+    Ok(long_unless(comes))
+}
+
+fn in_module_type(alloc: Global, decls: &[ModuleNode]) -> Told {
+    for place in 0..decls.len() {
+        let reason = in_module_decl(alloc, &decls[..place], &decls[place])?;
+        if reason.is_some() {
+            return Ok(reason);
+        }
+    }
+    Ok(None)
+}
+
+fn in_core_type(alloc: Global, ty: &CoreNode) -> Told {
     match ty {
-        CoreNode::Func(_) => None,
-        CoreNode::Module(decls) => decls.iter().find_map(|decl| in_module_decl(decl)),
+        CoreNode::Func(_) => Ok(None),
+        CoreNode::Module(decls) => in_module_type(alloc, decls),
     }
 }
 
-fn in_labels(labels: &[String]) -> Option<Reason> {
-    labels
-        .iter()
-        .find_map(|label| long_name(label.as_str(), MOST_NAME))
+fn in_core_types(alloc: Global, types: &[CoreNode]) -> Told {
+    for ty in types {
+        let reason = in_core_type(alloc, ty)?;
+        if reason.is_some() {
+            return Ok(reason);
+        }
+    }
+    Ok(None)
 }
 
-fn in_function(ty: &FuncType) -> Option<Reason> {
-    ty.params
-        .iter()
-        .find_map(|param| long_name(param.0.as_str(), MOST_NAME))
+fn in_labels(alloc: Global, labels: &[String]) -> Told {
+    let mut before = Vec::new(alloc);
+    for label in labels {
+        let reason = next_name(alloc, &mut before, label)?;
+        if reason.is_some() {
+            return Ok(reason);
+        }
+    }
+    Ok(None)
 }
 
-fn in_defined(ty: &DefinedType) -> Option<Reason> {
+fn in_members<T>(alloc: Global, members: &[(String, T)]) -> Told {
+    let mut before = Vec::new(alloc);
+    for member in members {
+        let reason = next_name(alloc, &mut before, &member.0)?;
+        if reason.is_some() {
+            return Ok(reason);
+        }
+    }
+    Ok(None)
+}
+
+fn in_defined(alloc: Global, ty: &DefinedType) -> Told {
     match ty {
-        DefinedType::Record(record) => record
-            .fields
-            .iter()
-            .find_map(|field| long_name(field.0.as_str(), MOST_NAME)),
-        DefinedType::Variant(variant) => variant
-            .cases
-            .iter()
-            .find_map(|case| long_name(case.0.as_str(), MOST_NAME)),
-        DefinedType::Flags(flags) => in_labels(&flags.fields),
-        DefinedType::Enum(labels) => in_labels(&labels.variants),
-        _ => None,
-    }
-}
-
-fn in_import(import: &ImportNode) -> Option<Reason> {
-    match import.to {
-        ComponentTypeRef::TypeEq(_) => Some(Reason::NotWellFormed),
-        _ => long_name(import.name.as_str(), MOST_NAME),
+        DefinedType::Record(record) => in_members(alloc, &record.fields),
+        DefinedType::Variant(variant) => in_members(alloc, &variant.cases),
+        DefinedType::Flags(flags) => in_labels(alloc, &flags.fields),
+        DefinedType::Enum(labels) => in_labels(alloc, &labels.variants),
+        _ => Ok(None),
     }
 }
 
 #[cycle(looks)]
-fn in_type(ty: &TypeNode) -> Option<Reason> {
+fn in_type(alloc: Global, ty: &TypeNode) -> Told {
     match ty {
-        TypeNode::Defined(ty) => in_defined(ty),
-        TypeNode::Func(ty) => in_function(ty),
-        TypeNode::Component(decls) | TypeNode::Instance(decls) => in_decls(decls),
+        TypeNode::Defined(ty) => in_defined(alloc, ty),
+        TypeNode::Func(ty) => in_members(alloc, &ty.params),
+        TypeNode::Component(decls) | TypeNode::Instance(decls) => in_decls(alloc, decls),
     }
 }
 
 #[cycle(looks)]
-fn in_decls(decls: &[DeclNode]) -> Option<Reason> {
+fn in_decls(alloc: Global, decls: &[DeclNode]) -> Told {
+    let mut names = Names::new(alloc);
     for decl in decls {
         let reason = match decl {
-            DeclNode::Core(ty) => in_core_type(ty),
-            DeclNode::Type(ty) => in_type(ty),
-            DeclNode::Import { name, .. } => long_name(name, MOST_NAME),
-            DeclNode::Export { name, .. } => long_name(name, MOST_NAME),
+            DeclNode::Core(ty) => in_core_type(alloc, ty)?,
+            DeclNode::Type(ty) => in_type(alloc, ty)?,
+            DeclNode::Import { name, .. } => next_name(alloc, &mut names.imports, name)?,
+            DeclNode::Export { name, .. } => next_name(alloc, &mut names.exports, name)?,
             DeclNode::TypeAlias { .. } | DeclNode::CoreTypeAlias { .. } => None,
         };
         if reason.is_some() {
-            return reason;
+            return Ok(reason);
         }
     }
-    None
+    Ok(None)
+}
+
+fn in_types(alloc: Global, types: &[TypeNode]) -> Told {
+    for ty in types {
+        let reason = in_type(alloc, ty)?;
+        if reason.is_some() {
+            return Ok(reason);
+        }
+    }
+    Ok(None)
+}
+
+fn in_imports<'a>(alloc: Global, before: &mut Vec<&'a [u8]>, imports: &'a [ImportNode]) -> Told {
+    for import in imports {
+        let long = next_name(alloc, before, &import.name)?;
+        let reason = match import.to {
+            ComponentTypeRef::TypeEq(_) => Some(Reason::NotWellFormed),
+            _ => long,
+        };
+        if reason.is_some() {
+            return Ok(reason);
+        }
+    }
+    Ok(None)
+}
+
+fn in_exports<'a>(alloc: Global, before: &mut Vec<&'a [u8]>, exports: &'a [ExportNode]) -> Told {
+    for export in exports {
+        let reason = next_name(alloc, before, &export.name)?;
+        if reason.is_some() {
+            return Ok(reason);
+        }
+    }
+    Ok(None)
 }
 
 // The bytes of the core module that is read from a script.
@@ -123,15 +236,15 @@ fn is_stand_in(alloc: Global, config: &Config, text: &[u8]) -> Result<bool, Scri
 }
 
 // What is wrong with a core module by itself.
-fn in_module(alloc: Global, config: &Config, text: &[u8]) -> Result<Option<Reason>, ScriptError> {
+fn in_module(alloc: Global, config: &Config, text: &[u8]) -> Told {
     if is_stand_in(alloc, config, text)? {
         return Ok(None);
     }
     Ok(Some(Reason::CoreModule))
 }
 
-// What is wrong with another section by itself, of a component that stands so deep, the root at 1.
-fn in_part(config: &Config, depth: usize, part: &PartNode) -> Option<Reason> {
+// Has a section more entries than a component may have, or stands it too deep, the root at 1?
+fn is_past(config: &Config, depth: usize, part: &PartNode) -> bool {
     let (count, most) = match part {
         PartNode::CoreTypes(types) => (types.len(), config.max_types),
         PartNode::Component(_) => (depth.saturating_add(1), config.max_nesting_depth),
@@ -141,38 +254,40 @@ fn in_part(config: &Config, depth: usize, part: &PartNode) -> Option<Reason> {
         PartNode::Exports(exports) => (exports.len(), config.max_exports),
         PartNode::Custom { .. } | PartNode::CoreModule(_) => (0, 0),
     };
-    if most < count {
-        return Some(Reason::Limit);
+    most < count
+}
+
+// What is wrong with a section, where these names stand in front of it in its component.
+#[cycle(looks)]
+fn in_part<'a>(
+    alloc: Global,
+    config: &Config,
+    path: &mut Vec<usize>,
+    names: &mut Names<'a>,
+    part: &'a PartNode,
+) -> Told {
+    if is_past(config, path.len(), part) {
+        return Ok(Some(Reason::Limit));
     }
     match part {
-        PartNode::Custom { name, .. } => long_name(name, MOST_TEXT),
-        PartNode::CoreTypes(types) => types.iter().find_map(|ty| in_core_type(ty)),
-        PartNode::Types(types) => types.iter().find_map(|ty| in_type(ty)),
-        PartNode::Imports(imports) => imports.iter().find_map(|import| in_import(import)),
-        PartNode::Exports(exports) => exports
-            .iter()
-            .find_map(|export| long_name(export.name.as_str(), MOST_NAME)),
-        PartNode::CoreModule(_) | PartNode::Component(_) | PartNode::Canons(_) => None,
+        PartNode::Custom { name, .. } => Ok(long_unless(name.len() <= MOST_TEXT)),
+        PartNode::CoreModule(text) => in_module(alloc, config, text),
+        PartNode::CoreTypes(types) => in_core_types(alloc, types),
+        PartNode::Component(parts) => in_parts(alloc, config, path, parts),
+        PartNode::Types(types) => in_types(alloc, types),
+        PartNode::Canons(_) => Ok(None),
+        PartNode::Imports(imports) => in_imports(alloc, &mut names.imports, imports),
+        PartNode::Exports(exports) => in_exports(alloc, &mut names.exports, exports),
     }
 }
 
 // The first section in which something is wrong, behind the path to the component.
-fn in_parts(
-    alloc: Global,
-    config: &Config,
-    path: &mut Vec<usize>,
-    parts: &[PartNode],
-) -> Result<Option<Reason>, ScriptError> {
+#[cycle(looks)]
+fn in_parts(alloc: Global, config: &Config, path: &mut Vec<usize>, parts: &[PartNode]) -> Told {
+    let mut names = Names::new(alloc);
     for (index, part) in parts.iter().enumerate() {
         path.push(index)?;
-        let mut reason = in_part(config, path.len(), part);
-        if reason.is_none() {
-            reason = match part {
-                PartNode::CoreModule(text) => in_module(alloc, config, text)?,
-                PartNode::Component(inner) => in_parts(alloc, config, path, inner)?,
-                _ => None,
-            };
-        }
+        let reason = in_part(alloc, config, path, &mut names, part)?;
         if reason.is_some() {
             return Ok(reason);
         }

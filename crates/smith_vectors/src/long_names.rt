@@ -237,6 +237,20 @@ fn other_longer_names_do_not_come(rt: HostRuntime) -> Result<(), Fail> {
                 reason: Reason::LongName,
             },
             NoScript {
+                name: "eleven types where there may be ten, behind a longer name that comes",
+                limits,
+                gives: &[
+                    TYPE,
+                    b"\x0a\x6a\x01\x00\x65",
+                    &[b'a'; 99],
+                    b"-a\x01\x00",
+                    b"\x07\x0c\x0b",
+                    &[0x7f; 11],
+                ],
+                part: &[2],
+                reason: Reason::Limit,
+            },
+            NoScript {
                 name: "a number behind a name that is not taken",
                 limits,
                 gives: &[
