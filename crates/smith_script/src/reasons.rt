@@ -258,7 +258,7 @@ fn is_past(config: &Config, depth: usize, part: &PartNode) -> bool {
 }
 
 // What is wrong with a section, where these names stand in front of it in its component.
-#[cycle(looks)]
+#[cycle(sections)]
 fn in_part<'a>(
     alloc: Global,
     config: &Config,
@@ -282,7 +282,7 @@ fn in_part<'a>(
 }
 
 // The first section in which something is wrong, behind the path to the component.
-#[cycle(looks)]
+#[cycle(sections)]
 fn in_parts(alloc: Global, config: &Config, path: &mut Vec<usize>, parts: &[PartNode]) -> Told {
     let mut names = Names::new(alloc);
     for (index, part) in parts.iter().enumerate() {
