@@ -42,9 +42,6 @@ module _ {A : Type 0} (name : A → List ℕ) (before : List A) where
   pub names_with_more : (s : List A) (x : A) → names_with (s ++ x ∷ []) ≡ names_with s ++ name x ∷ []
   names_with_more s x = ap (map name) (sym (append_assoc before s (x ∷ []))) ∙ map-append name (before ++ s) (x ∷ [])
 
-  length-names_with : (s : List A) → length (names_with s) ≡ length before + length s
-  length-names_with s = length-map (before ++ s) name ∙ length-append before s
-
   -- Where all are named, the later ones are in kebab case and new behind those before.
   pub named_behind : (s : List A) → Named (names_with s) → AllByRecursion Kebab (map name s) × AreNew (names_with []) (map name s)
   named_behind s named =
@@ -61,26 +58,26 @@ module _ {A : Type 0} (name : A → List ℕ) (before : List A) where
     pub read : ReadsNew 100 (names_with s) bytes (name x) rest
     pub next_is : t ≡ s ++ x ∷ []
 
-  -- The names stay distinct and in kebab case, where there are few.
+  -- The names stay distinct and in kebab case.
   abbrev KeepsNames : List A → List A → List A → Type 0
-  KeepsNames s xs t = length before + (length s + length xs) ≤ max_u32 → Named (names_with s) → Named (names_with t)
+  KeepsNames s xs t = Named (names_with s) → Named (names_with t)
 
   module _ {Ends : List A → List ℕ → List ℕ → List A → Type 0} {Item : List A → List ℕ → A → List ℕ → List A → Type 0}
       (ends : (s : List A) (b r : List ℕ) (t : List A) → Ends s b r t → t ≡ s)
       (items : (s : List A) (b : List ℕ) (x : A) (r : List ℕ) (t : List A) → Item s b x r t → NewEntry s x t) where
     keeps_names : (s t u : List A) (b : List ℕ) (x : A) (r : List ℕ) (xs : List A) → Item s b x r t → KeepsNames t xs u → KeepsNames s (x ∷ xs) u
-    keeps_names s t u b x r xs i later few h =
+    keeps_names s t u b x r xs i later h =
         let new : NewEntry s x t = items s b x r t i in
-        let kebab : Kebab (name x) = new_kebab (omega (arith, few, length-names_with s)) new.read in
+        let kebab : Kebab (name x) = new_kebab new.read in
         let named : Named (names_with s ++ name x ∷ []) = named_more (names_with s) (name x) h kebab new.read.unique.is_new in
-        later (omega (arith, few, ap length new.next_is, length-append s (x ∷ []))) (subst Named (sym (ap names_with new.next_is ∙ names_with_more s x)) named)
+        later (subst Named (sym (ap names_with new.next_is ∙ names_with_more s x)) named)
 
     -- The names of the entries that a loop reads are distinct and in kebab case.
-    pub loop_named : {min max : ℕ} {b rest : List ℕ} {xs : List A} → length before + length xs ≤ max_u32 → Named (map name before)
+    pub loop_named : {min max : ℕ} {b rest : List ℕ} {xs : List A} → Named (map name before)
         → Loop Ends Item min max 0 [] b xs rest xs → Named (names_with xs)
-    loop_named {b = b} {rest = rest} {xs = xs} few h r =
-        loop_gives KeepsNames (λ s k n. n) (λ s c q t e k n. subst (λ z. Named (names_with z)) (sym (ends s c q t e)) n) keeps_names 0 [] b xs rest xs r
-        (omega (arith, few)) (subst (λ z. Named (map name z)) (sym (append-nil before)) h)
+    loop_named {b = b} {rest = rest} {xs = xs} h r =
+        loop_gives KeepsNames (λ s n. n) (λ s c q t e n. subst (λ z. Named (names_with z)) (sym (ends s c q t e)) n) keeps_names 0 [] b xs rest xs r
+        (subst (λ z. Named (map name z)) (sym (append-nil before)) h)
 
   -- Each name that a loop reads can be read behind those before it.
   module _ {Ends : List A → List ℕ → List ℕ → List A → Type 0} {Item : List A → List ℕ → A → List ℕ → List A → Type 0}

@@ -9,6 +9,7 @@ use Rattle.smith_syntax.specs.Entries.{Entry}
 use Rattle.smith_syntax.specs.Scope.{Scope, with_type}
 use Rattle.smith_syntax.specs.WellFormed.{FormedTypes}
 use Rattle.smith_types.specs.Sayable.{Lasts}
+use Rattle.smith_types.specs.Needs.{declaring}
 use Rattle.smith_types.proofs.Exact.{lasts}
 use Rattle.smith_types.proofs.Needs.{nests_within}
 use Rattle.smith_scopes.proofs.Plain.{all_back}
@@ -19,7 +20,7 @@ use Rattle.smith_component.specs.Readable.{IsReadablePart, IsReadableRest}
 use Rattle.smith_component.specs.Script.{Within}
 use Rattle.smith_component.specs.Spaces.{core_types_of, types_of}
 use Rattle.smith_component.specs.Tree.{Tree, ends, first, Part, custom, core_module, core_types, component, types, canons, imports, exports, add, join}
-use Rattle.smith_component.specs.Tree.{most_declaring}
+use Rattle.smith_component.specs.Tree.{most}
 use Rattle.smith_component.specs.WellFormed.{Formed, FormedPart, scope_of}
 use Rattle.smith_component.proofs.Encoded.{Encoded, component_encoded, module_has_bytes}
 use Rattle.smith_component.proofs.Fits.{own_sizes_front, own_sizes_swap}
@@ -43,7 +44,7 @@ sized_past p t config outer before s = subst (λ x. Sized config (tree_so_far ou
 -- Where these types stand so deep, each may declare types as it does.
 module _ (config : Config) (outer : List Scope) (scopes : ℕ) where
   each_lasts : (es : List Entry) (own : Scope) → FormedTypes es own outer → SmallTypes config es
-      → scopes + most_declaring es ≤ max scopes config.max_nesting_depth → AllByRecursion (λ e. Lasts e config scopes config.max_type_size) es
+      → scopes + most declaring es ≤ max scopes config.max_nesting_depth → AllByRecursion (λ e. Lasts e config scopes config.max_type_size) es
   each_lasts [] own f s h = tt
   each_lasts (e ∷ es) own f s h = (
     lasts e config own outer scopes config.max_type_size f.0 (nests_within e config scopes (omega (arith, h))) s.0,
@@ -85,7 +86,7 @@ mutual
       let is = ap (λ z. z.types) (spaces-add before (types es)) in
       let small : SmallTypes config es = all_back _ (types_of before) es (subst (SmallTypes config) is whole.0) in
       each_lasts config (scopes_in outer) (suc (length outer)) es (scope_of before) f small
-      (omega (arith, m.declared, depth-so_far most_declaring outer before (types es)))
+      (omega (arith, m.declared, depth-so_far (most declaring) outer before (types es)))
   part_stands (canons fs) config outer before r f m s e = tt
   part_stands (imports is) config outer before r f m s e = tt
   part_stands (exports es) config outer before r f m s e = tt

@@ -61,9 +61,9 @@ module _ (config : Config) (t : Tree) where
       → NewEntry (λ (e : ExportEntry). e.name) (exports_of t) s x u
   export_new s b x r u i = record { bytes = i.mid; rest = r; read = i.named; next_is = i.next_is }
 
-  exports_named : {b rest : List ℕ} {es : List ExportEntry} → length (exports_of t) + length es ≤ max_u32 → Named (export_names (exports_of t))
+  exports_named : {b rest : List ℕ} {es : List ExportEntry} → Named (export_names (exports_of t))
       → ReadsExports config t b es rest → Named (export_names (exports_of t ++ es))
-  exports_named few h r = loop_named (λ (e : ExportEntry). e.name) (exports_of t) no_export_same export_new few h r
+  exports_named h r = loop_named (λ (e : ExportEntry). e.name) (exports_of t) no_export_same export_new h r
 
 -- What an export section reads may be added.
 pub exports_addable : (config : Config) (stack : Open) {b rest : List ℕ} {es : List ExportEntry} → Sound config stack
@@ -76,7 +76,7 @@ exports_addable config stack {es = es} sound r =
     let same : KeepsTypes (spaces_of inner) spaces = exports_keep (spaces_of inner) es in
     addable_level config stack (exports es) (
       exports_formed config inner r,
-      exports_named config inner (omega (arith, few, sound.consistent.funcs)) (exports_are_named config stack sound) r,
+      exports_named config inner (exports_are_named config stack sound) r,
     )
     (λ o.
     own_limits-add config inner (exports es) o (fits_kept config (spaces_of inner) spaces same (fits_of config inner o))

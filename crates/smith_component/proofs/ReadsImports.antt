@@ -104,10 +104,10 @@ module _ (config : Config) (stack : Open) where
     next_is = i.next_is;
   }
 
-  -- The names of the component's imports stay distinct and in kebab case, where there are few.
-  pub imports_named : {min : ℕ} {b rest : List ℕ} {is : List ImportEntry} → length (imports_of stack.inner) + length is ≤ max_u32
-      → Named (import_names (imports_of stack.inner)) → ReadsImports config min stack b is rest → Named (import_names (imports_of stack.inner ++ is))
-  imports_named few h r = loop_named (λ (i : ImportEntry). i.name) (imports_of stack.inner) no_import_same import_new few h r
+  -- The names of the component's imports stay distinct and in kebab case.
+  pub imports_named : {min : ℕ} {b rest : List ℕ} {is : List ImportEntry} → Named (import_names (imports_of stack.inner))
+      → ReadsImports config min stack b is rest → Named (import_names (imports_of stack.inner ++ is))
+  imports_named h r = loop_named (λ (i : ImportEntry). i.name) (imports_of stack.inner) no_import_same import_new h r
 
   -- What was within the limits stays within them.
   pub record KeepsTotals (s t : List ImportEntry) : Type 0 where
@@ -156,7 +156,7 @@ module _ (config : Config) (stack : Open) where
       let outer : List Tree = stack.outer in
       let inner : Tree = stack.inner in
       record {
-        formed = (imports_formed r, imports_named (omega (arith, few, sound.consistent.imports)) (imports_are_named config stack sound) r);
+        formed = (imports_formed r, imports_named (imports_are_named config stack sound) r);
         own = λ o.
             let start : function_count (add inner (imports [])) ≤ config.max_funcs =
             omega (arith, o.functions, function_count-add inner (imports [])) in

@@ -15,7 +15,7 @@ use Rattle.smith_syntax.specs.TypeLimits.{EntryLimits, nesting}
 use Rattle.smith_syntax.specs.WellFormed.{FormedEntry, FormedTypes}
 use Rattle.smith_scopes.proofs.Stack.{with_none}
 use Rattle.smith_component.specs.Limits.{SmallTypes}
-use Rattle.smith_component.specs.Tree.{most_declaring, most_nested}
+use Rattle.smith_component.specs.Tree.{most}
 use Rattle.smith_types.specs.Needs.{declaring}
 use Rattle.smith_component.specs.Script.{script_types}
 use Rattle.smith_component.specs.AddedSections.{ReadsType, ReadsTypes}
@@ -44,33 +44,28 @@ module _ (config : Config) (outer : List Scope) where
   types_read_limited {own = own} {next = next} {b = b} {rest = rest} {xs = xs} r =
       loop_all _ (λ s c x q t (made, e). made_with_limits made) 0 own b xs rest next r
 
-  -- Types that stand no deeper than so, each.
-  most_nested_below : (n : ℕ) (xs : List Entry) → AllByRecursion (λ x. nesting x ≤ n) xs → most_nested xs ≤ n
-  most_nested_below n [] h = omega arith
-  most_nested_below n (x ∷ xs) h = omega (arith, h.0, most_nested_below n xs h.1)
+  -- entries of which none has a greater number
+  most_below : (number : Entry → ℕ) (n : ℕ) (xs : List Entry) → AllByRecursion (λ x. number x ≤ n) xs → most number xs ≤ n
+  most_below number n [] h = omega arith
+  most_below number n (x ∷ xs) h = omega (arith, h.0, most_below number n xs h.1)
 
   -- how deep the scopes of these types stand
   pub types_read_nested : {min room : ℕ} {own next : Scope} {b rest : List ℕ} {xs : List Entry} → ReadsTypes config outer min room own b xs rest next
-      → length outer + 1 + most_nested xs ≤ max (length outer + 2) config.max_nesting_depth
+      → length outer + 1 + most nesting xs ≤ max (length outer + 2) config.max_nesting_depth
   types_read_nested {own = own} {next = next} {b = b} {rest = rest} {xs = xs} r =
       let deepest : ℕ = max (length outer + 2) config.max_nesting_depth - (length outer + 1) in
       let each : AllByRecursion (λ x. nesting x ≤ deepest) xs =
       loop_all _ (λ s c x q t (made, e). omega (arith, made_with_nesting made)) 0 own b xs rest next r in
-      omega (arith, most_nested_below deepest xs each)
-
-  -- Types that declare types no deeper than so, each.
-  most_declaring_below : (n : ℕ) (xs : List Entry) → AllByRecursion (λ x. declaring x ≤ n) xs → most_declaring xs ≤ n
-  most_declaring_below n [] h = omega arith
-  most_declaring_below n (x ∷ xs) h = omega (arith, h.0, most_declaring_below n xs h.1)
+      omega (arith, most_below nesting deepest xs each)
 
   -- how deep the types stand that these declare
   pub types_read_declared : {min room : ℕ} {own next : Scope} {b rest : List ℕ} {xs : List Entry} → ReadsTypes config outer min room own b xs rest next
-      → length outer + 1 + most_declaring xs ≤ max (length outer + 1) config.max_nesting_depth
+      → length outer + 1 + most declaring xs ≤ max (length outer + 1) config.max_nesting_depth
   types_read_declared {own = own} {next = next} {b = b} {rest = rest} {xs = xs} r =
       let deepest : ℕ = max (length outer + 1) config.max_nesting_depth - (length outer + 1) in
       let each : AllByRecursion (λ x. declaring x ≤ deepest) xs =
       loop_all _ (λ s c x q t (made, e). omega (arith, made_with_declared made)) 0 own b xs rest next r in
-      omega (arith, most_declaring_below deepest xs each)
+      omega (arith, most_below declaring deepest xs each)
 
   pub types_read_tail : {min max : ℕ} {own next : Scope} {b rest : List ℕ} {xs : List Entry} → ReadsTypes config outer min max own b xs rest next
       → IsTail rest b

@@ -15,9 +15,11 @@ use Rattle.smith_input.proofs.Picks.{pick-byte}
 use Rattle.smith_format.specs.Limits.{IsConsistent}
 use Rattle.smith_format.specs.declared.config.Config.{Config}
 use Rattle.smith_syntax.specs.Scope.{Scope}
+use Rattle.smith_syntax.specs.TypeLimits.{nesting}
+use Rattle.smith_types.specs.Needs.{declaring}
 use Rattle.smith_component.specs.Spaces.{types_of}
 use Rattle.smith_component.specs.Tree.{Tree, ends, first, Part, custom, core_module, core_types, component, types, canons, imports, exports, add, join, inside}
-use Rattle.smith_component.specs.Tree.{component_count, module_count, no_depth, most_declaring, most_nested}
+use Rattle.smith_component.specs.Tree.{component_count, module_count, no_depth, most}
 use Rattle.smith_component.specs.WellFormed.{Formed, FormedPart}
 use Rattle.smith_component.specs.Limits.{OwnLimits, Maxima, Minima}
 use Rattle.smith_component.specs.Open.{Open, root, items, items_with_input, offers, is_module_offered, is_component_offered, is_export_offered, tree_so_far}
@@ -97,8 +99,8 @@ limits_front (first p t) config outer a l =
       components = omega (arith, m.components, component_count-so_far outer a p);
       instances = omega (arith, m.instances, instance_count-so_far outer a p);
       depth = omega (arith, m.depth, depth-so_far no_depth outer a p);
-      scopes = omega (arith, m.scopes, depth-so_far most_nested outer a p);
-      declared = omega (arith, m.declared, depth-so_far most_declaring outer a p);
+      scopes = omega (arith, m.scopes, depth-so_far (most nesting) outer a p);
+      declared = omega (arith, m.declared, depth-so_far (most declaring) outer a p);
     }
 
 -- A component that the limits allow is offered.

@@ -7,12 +7,13 @@ use Rattle.smith_format.specs.declared.config.Config.{Config}
 use Rattle.smith_syntax.specs.CoreLimits.{CoreLimits}
 use Rattle.smith_syntax.specs.Entries.{Entry, CoreEntry}
 use Rattle.smith_syntax.specs.Scope.{Scope}
-use Rattle.smith_syntax.specs.TypeLimits.{EntryLimits}
+use Rattle.smith_syntax.specs.TypeLimits.{EntryLimits, nesting}
+use Rattle.smith_types.specs.Needs.{declaring}
 use Rattle.smith_component.specs.Spaces.{core_types_of, spaces_of, types_of}
 use Rattle.smith_component.specs.Tree.{Tree, ends, Part, custom, core_module, core_types, component, types, canons, imports, exports, add, inside, names_in}
 use Rattle.smith_component.specs.Tree.{components_in}
 use Rattle.smith_component.specs.Tree.{modules_in, imported_modules_in, imported_components_in, imported_instances_in, anywhere_in, depth_in, no_depth}
-use Rattle.smith_component.specs.Tree.{declared_depth_in, most_declaring, most_nested, scope_depth_in, module_count, component_count, instance_count}
+use Rattle.smith_component.specs.Tree.{declared_depth_in, scope_depth_in, module_count, component_count, instance_count, most}
 use Rattle.smith_component.specs.Counted.{count_of, maximum_of}
 use Rattle.smith_component.specs.ImportsState.{Totalled}
 use Rattle.smith_component.specs.Open.{Open, tree_so_far, is_module_offered, is_component_offered, scopes_in, scopes_from, with_inner}
@@ -104,9 +105,9 @@ part_sound config stack p a s =
         components = omega (arith, component_count-so_far outer inner p, a.components s.maxima.components, none, comps);
         instances = omega (arith, instance_count-so_far outer inner p, a.instances s.maxima.instances, insts);
         depth = omega (arith, depth-so_far no_depth outer inner p, deep, s.maxima.depth, a.flat);
-        scopes = omega (arith, depth-so_far most_nested outer inner p, s.maxima.scopes, a.scopes (omega (arith, deep, s.maxima.depth)));
+        scopes = omega (arith, depth-so_far (most nesting) outer inner p, s.maxima.scopes, a.scopes (omega (arith, deep, s.maxima.depth)));
         declared =
-            omega (arith, depth-so_far most_declaring outer inner p, s.maxima.declared, a.declared (omega (arith, deep, s.maxima.depth)));
+            omega (arith, depth-so_far (most declaring) outer inner p, s.maxima.declared, a.declared (omega (arith, deep, s.maxima.depth)));
       };
       minima = subst (λ x. AllByRecursion (Minima config) (flat_map inside outer ++ x)) (sym same) s.minima;
       sized =
@@ -179,8 +180,8 @@ sound_open config outer inner deep few s =
       components = omega (arith, component_count-so_far outer inner (component ends), few);
       instances = omega (arith, instance_count-so_far outer inner (component ends), s.maxima.instances);
       depth = omega (arith, depth-so_far no_depth outer inner (component ends), s.maxima.depth);
-      scopes = omega (arith, depth-so_far most_nested outer inner (component ends), s.maxima.scopes);
-      declared = omega (arith, deep, depth-so_far most_declaring outer inner (component ends), s.maxima.declared);
+      scopes = omega (arith, depth-so_far (most nesting) outer inner (component ends), s.maxima.scopes);
+      declared = omega (arith, deep, depth-so_far (most declaring) outer inner (component ends), s.maxima.declared);
     } in
     record {
       consistent = s.consistent;
@@ -248,8 +249,8 @@ addable_level config stack p formed own sizes count none flat scopes declared = 
 -- Types that find room.
 pub addable_types : (config : Config) (stack : Open) (es : List Entry) → FormedPart (types es) (scopes_in stack.outer) stack.inner
     → length (types_of stack.inner) + length es ≤ config.max_types
-    → AllByRecursion (EntryLimits config) es → length stack.outer + 1 + most_nested es ≤ max (length stack.outer + 2) config.max_nesting_depth
-    → length stack.outer + 1 + most_declaring es ≤ max (length stack.outer + 1) config.max_nesting_depth
+    → AllByRecursion (EntryLimits config) es → length stack.outer + 1 + most nesting es ≤ max (length stack.outer + 2) config.max_nesting_depth
+    → length stack.outer + 1 + most declaring es ≤ max (length stack.outer + 1) config.max_nesting_depth
     → SmallTypes config es → IsAddable config stack (types es)
 addable_types config stack es f room limited nested declared small =
     addable_level config stack (types es) f (λ o.

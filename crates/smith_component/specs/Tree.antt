@@ -235,24 +235,21 @@ depth t = depth_by no_depth t
 abbrev pub depth_in : Part → ℕ
 depth_in p = depth_by_in no_depth p
 
--- how deep scopes stand: those of components, and those that component types and instance types open
-abbrev pub most_nested : List Entry → ℕ
-most_nested [] = 0
-most_nested (t ∷ ts) = max (nesting t) (most_nested ts)
+-- the greatest number that an entry has
+abbrev pub most : (Entry → ℕ) → List Entry → ℕ
+most number [] = 0
+most number (t ∷ ts) = max (number t) (most number ts)
 
+-- how deep scopes stand: those of components, and those that component types and instance types open
 abbrev pub scope_depth : Tree → ℕ
-scope_depth t = depth_by most_nested t
+scope_depth t = depth_by (most nesting) t
 
 abbrev pub scope_depth_in : Part → ℕ
-scope_depth_in p = depth_by_in most_nested p
+scope_depth_in p = depth_by_in (most nesting) p
 
 -- how deep components stand, and the types that component types and instance types declare, each one below the scope that declares it
-abbrev pub most_declaring : List Entry → ℕ
-most_declaring [] = 0
-most_declaring (t ∷ ts) = max (declaring t) (most_declaring ts)
-
 abbrev pub declared_depth : Tree → ℕ
-declared_depth t = depth_by most_declaring t
+declared_depth t = depth_by (most declaring) t
 
 abbrev pub declared_depth_in : Part → ℕ
-declared_depth_in p = depth_by_in most_declaring p
+declared_depth_in p = depth_by_in (most declaring) p

@@ -6,12 +6,12 @@ use Rattle.std.proofs.lemmas.Bool.{false≢true, ltb-true}
 use Rattle.std.specs.Prelude.{Some, None, IfSome, slice_get, codes}
 use Rattle.smith_input.specs.Choices.{ReadsAmong}
 use Rattle.smith_input.specs.Loops.{Loop}
-use Rattle.smith_input.specs.NewNames.{IsMadeUnique, is_among}
 use Rattle.smith_input.specs.Reading.{Reads, Flips, IsTail}
 use Rattle.smith_input.specs.Script.{pick}
+use Rattle.smith_input.specs.Texts.{ReadsNewText}
 use Rattle.smith_input.proofs.Choices.{among_tail, among_same, among_contains}
 use Rattle.smith_input.proofs.Loops.{loop_tail, loop_gives, loop_few, loop_same}
-use Rattle.smith_input.proofs.NewNames.{made_unique_same}
+use Rattle.smith_input.proofs.NewNames.{new_text_tail, new_text_unique}
 use Rattle.smith_input.proofs.Offered.{offer_holds}
 use Rattle.smith_input.proofs.Picks.{reads-pick}
 use Rattle.smith_input.proofs.Reading.{tail_same, tail_is, tail_trans, reads_tail, reads_unique, flips_unique}
@@ -34,7 +34,7 @@ use Rattle.smith_syntax.specs.CoreLimits.{ModuleLimits, CoreLimits}
 use Rattle.smith_syntax.specs.Entries.{CoreEntry, ModuleDecl, core_func, core_module, imports, declares, aliases, exports}
 use Rattle.smith_core_types.specs.MadeCore.{with_fuel, ReadsEntityOf}
 use Rattle.smith_core_types.specs.Offers.{Declared, undeclared, with_decl, with_front, indexes, kind_offers, entity_kinds}
-use Rattle.smith_core_types.specs.MadeCore.{ReadsEntity, ReadsNewText, ReadsImportNames, ReadsExportName, ReadsDeclOf}
+use Rattle.smith_core_types.specs.MadeCore.{ReadsEntity, ReadsImportNames, ReadsExportName, ReadsDeclOf}
 use Rattle.smith_core_types.specs.Offers.{alias_choices, item_offers, module_items}
 use Rattle.smith_core_types.specs.MadeCore.{ReadsDecl}
 use Rattle.smith_core_types.specs.MadeCore.{ModuleEnds, no_fuel, no_import, no_export, ReadsLine, not_allowed, declined, taken, MemoryLine, ReadsFunctionLine}
@@ -70,9 +70,6 @@ module _ (config : Config) (s : Declared) where
 
   pub entity_tail : {b : List ℕ} {e : EntityType} {rest : List ℕ} → ReadsEntity config s b e rest → IsTail rest b
   entity_tail {e = e} {rest = rest} r = tail_trans (entity_of_tail r.kind r.mid e rest r.is) (among_tail r.choice)
-
-pub new_text_tail : {names : List (List ℕ)} {b name rest : List ℕ} → ReadsNewText names b name rest → IsTail rest b
-new_text_tail r = text_tail r.reads
 
 pub import_names_tail : (s : Declared) {b from name rest : List ℕ} → ReadsImportNames s b from name rest → IsTail rest b
 import_names_tail s (mid, r, n) = tail_trans (new_text_tail n) (text_tail r)
@@ -194,18 +191,12 @@ module _ (config : Config) (s : Declared) where
       let Q : List ℕ → Type 0 = λ z. ReadsEntityOf config s y.kind z d r in
       entity_of_same y.kind y.mid d e r q (subst Q c.1 (subst P c.0 x.is)) y.is
 
-new_text_same : (names : List (List ℕ)) (bytes a b r q : List ℕ) → ReadsNewText names bytes a r → ReadsNewText names bytes b q → (a ≡ b) × (r ≡ q)
-new_text_same names bytes a b r q x y =
-    let u = text_unique x.reads y.reads in
-    let P : List ℕ → Type 0 = λ t. IsMadeUnique (is_among names) (length names) t a in
-    (made_unique_same (is_among names) (length names) y.text a b (subst P u.0 x.unique) y.unique, u.1)
-
 import_names_same : (s : Declared) (bytes m n a b r q : List ℕ) → ReadsImportNames s bytes m a r → ReadsImportNames s bytes n b q → (m ≡ n) × (a ≡ b) × (r ≡ q)
 import_names_same s bytes m n a b r q (mid, t, x) (low, u, y) =
     let v = text_unique t u in
-    let P : List ℕ → Type 0 = λ z. ReadsNewText (names_from z s.decls) mid a r in
-    let Q : List ℕ → Type 0 = λ z. ReadsNewText (names_from n s.decls) z a r in
-    let w = new_text_same (names_from n s.decls) low a b r q (subst Q v.1 (subst P v.0 x)) y in
+    let P : List ℕ → Type 0 = λ z. ReadsNewText 100 (names_from z s.decls) mid a r in
+    let Q : List ℕ → Type 0 = λ z. ReadsNewText 100 (names_from n s.decls) z a r in
+    let w = new_text_unique (subst Q v.1 (subst P v.0 x)) y in
     (v.0, w.0, w.1)
 
 module _ (config : Config) (around : Scope) where
@@ -217,7 +208,7 @@ module _ (config : Config) (around : Scope) where
       let v = entity_same config s low x y r q (subst P u.2 c) a in
       (i ∙ (λ l. imports (u.0 l) (u.1 l) (v.0 l)) ∙ sym j, v.1)
   decl_of_same s item.Export b d e r q (name, mid, n, x, c, i) (nome, low, o, y, a, j) =
-      let u = new_text_same (export_names s.decls) b name nome mid low n o in
+      let u = new_text_unique n o in
       let P : List ℕ → Type 0 = λ z. ReadsEntity config s z x r in
       let v = entity_same config s low x y r q (subst P u.1 c) a in
       (i ∙ (λ l. exports (u.0 l) (v.0 l)) ∙ sym j, v.1)
@@ -265,7 +256,7 @@ module _ (config : Config) (around : Scope) where
   ends_same s b r q t u (no_export f c n none e) (no_import g a o some h) = absurd (item_apart s a c)
   ends_same s b r q t u (no_export {mid = mid} {name = x} f c n none e) (no_export {mid = low} {name = y} g a o some h) =
       let P : List ℕ → Type 0 = λ z. ReadsExportName s z x r in
-      ((new_text_same (export_names s.decls) low x y r q (subst P (among_same c a).1 n) o).1, e ∙ sym h)
+      ((new_text_unique (subst P (among_same c a).1 n) o).1, e ∙ sym h)
 
 line_same : {may : _} {Line : List ℕ → List ModuleDecl → List ℕ → Type 0}
     → ((b : List ℕ) (ds es : List ModuleDecl) (r q : List ℕ) → Line b ds r → Line b es q → (ds ≡ es) × (r ≡ q))

@@ -7,6 +7,7 @@ use Rattle.std.proofs.lemmas.Option.{slice_get_within}
 use Rattle.std.specs.Prelude.{Option, slice_get, if◌then◌else◌}
 use denote.Enum.Bare.{same_true, true_same}
 use Rattle.smith_input.specs.NameScript.{script_new_text}
+use Rattle.smith_input.specs.Texts.{ReadsNewText}
 use Rattle.smith_input.specs.Reading.{Flips}
 use Rattle.smith_input.specs.Script.{pick, rank_of, script_among, script_text}
 use Rattle.smith_input.proofs.Choices.{among_read, among_written, rank_found}
@@ -40,7 +41,7 @@ use Rattle.smith_syntax.specs.Scope.{Scope, is_core_func, places}
 use Rattle.smith_syntax.specs.WellFormed.{FormedDecl, FormedEntity}
 use Rattle.smith_scopes.proofs.Places.{place_found}
 use Rattle.smith_scopes.proofs.Stack.{length-places}
-use Rattle.smith_core_types.specs.MadeCore.{ReadsDecl, ReadsDeclOf, ReadsEntity, ReadsEntityOf, ReadsNewText}
+use Rattle.smith_core_types.specs.MadeCore.{ReadsDecl, ReadsDeclOf, ReadsEntity, ReadsEntityOf}
 use Rattle.smith_core_types.specs.Offers.{Declared, alias_choices}
 use Rattle.smith_core_types.specs.Offers.{entity_kinds, indexes, item_offers, kind_offers, module_items, with_decl}
 use Rattle.smith_core_types.specs.ModuleScript.{alias_place, script_bit, script_decl, script_element, script_entity, script_entity_of}
@@ -165,10 +166,8 @@ module _ (config : Config) (s : Declared) (few : length s.own ≤ 2 ^ 64) where
 -- texts
 
 new_read : (names : List (List ℕ)) (name rest : List ℕ) → IsReadableNewText names name
-    → ReadsNewText names (script_new_text 100 (length names) name ++ rest) name rest
-new_read names name rest (u, made) =
-    let r = new_text_read 100 names name rest (omega arith) u made in
-    record { text = r.text; reads = r.reads; unique = r.unique }
+    → ReadsNewText 100 names (script_new_text 100 (length names) name ++ rest) name rest
+new_read names name rest (u, made) = new_text_read 100 names name rest (omega arith) u made
 
 -- outer aliases
 

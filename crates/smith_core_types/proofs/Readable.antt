@@ -3,15 +3,14 @@ use Rattle.std.proofs.Common.{◌≡◌, ℕ, Bool, true, false, List, [], ◌�
 use Rattle.std.proofs.lemmas.List.{length-take}
 use Rattle.std.specs.Prelude.{Option, Some, None}
 use Rattle.smith_input.specs.NewNames.{is_among}
-use Rattle.smith_input.specs.Texts as input
-use Rattle.smith_input.specs.Texts.{ReadsText}
+use Rattle.smith_input.specs.Texts.{ReadsNewText, ReadsText}
 use Rattle.smith_input.proofs.NameScript.{new_text_reachable, new_text_utf8}
 use Rattle.smith_input.proofs.NameShapes.{is_most}
 use Rattle.smith_format.specs.declared.config.Config.{Config}
 use Rattle.smith_format.specs.declared.types.MemoryType.{MemoryType}
 use Rattle.smith_syntax.specs.Entries.{CoreEntry, ModuleDecl}
 use Rattle.smith_syntax.specs.Scope.{Scope}
-use Rattle.smith_core_types.specs.MadeCore.{MadeCore, MadeModule, ReadsDecl, ReadsDeclOf, ReadsNewText, of_function, of_module, spent_core}
+use Rattle.smith_core_types.specs.MadeCore.{MadeCore, MadeModule, ReadsDecl, ReadsDeclOf, of_function, of_module, spent_core}
 use Rattle.smith_core_types.specs.Offers.{Declared, with_decl}
 use Rattle.smith_core_types.specs.Readable.{AreReadableModuleDecls, IsReadableCore, IsReadableModuleDecl, IsReadableNewText, IsReadableText}
 use Rattle.smith_core_types.specs.declared.module_types.ModuleItem.{ModuleItem}
@@ -31,10 +30,8 @@ text_readable {text = text} r = (
   ),
 )
 
-new_readable : {names : List (List ℕ)} {b name rest : List ℕ} → ReadsNewText names b name rest → IsReadableNewText names name
-new_readable {names} {b} {name} {rest} n =
-    let r : input.ReadsNewText 100 names b name rest = record { text = n.text; reads = n.reads; unique = n.unique } in
-    (new_text_utf8 r, new_text_reachable r)
+new_readable : {names : List (List ℕ)} {b name rest : List ℕ} → ReadsNewText 100 names b name rest → IsReadableNewText names name
+new_readable r = (new_text_utf8 r, new_text_reachable r)
 
 -- a text that is new is made of itself
 made_of_itself : (names : List (List ℕ)) (name : List ℕ) → IsReadableText name → is_among names name ≡ false → IsReadableNewText names name

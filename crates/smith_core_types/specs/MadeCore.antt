@@ -4,9 +4,8 @@ use Rattle.std.specs.List.{flat_map}
 use Rattle.std.specs.Option.{option_to_list}
 use Rattle.smith_input.specs.Choices.{ReadsAmong}
 use Rattle.smith_input.specs.Loops.{Loop}
-use Rattle.smith_input.specs.NewNames.{IsMadeUnique, is_among}
 use Rattle.smith_input.specs.Reading.{Reads, Flips}
-use Rattle.smith_input.specs.Texts.{ReadsText}
+use Rattle.smith_input.specs.Texts.{ReadsNewText, ReadsText}
 use Rattle.smith_format.specs.CoreReading.{ReadsFunction, ReadsMemory, ReadsTable, ReadsTag}
 use Rattle.smith_format.specs.CoreTypes.{Function}
 use Rattle.smith_format.specs.Limits.{configured}
@@ -41,18 +40,12 @@ pub record ReadsEntity (config : Config) (s : Declared) (bytes : List ℕ) (e : 
   pub choice : ReadsAmong (entity_kinds config s) bytes kind mid
   pub is : ReadsEntityOf config s kind mid e rest
 
--- a text of at most 100 bytes that is made new among names
-pub record ReadsNewText (names : List (List ℕ)) (bytes name rest : List ℕ) : Type 0 where
-  pub text : List ℕ
-  pub reads : ReadsText 100 bytes text rest
-  pub unique : IsMadeUnique (is_among names) (length names) text name
-
--- the names of an import, and the name of an export
+-- the names of an import, and the name of an export, of at most 100 bytes before they are made new
 abbrev pub ReadsImportNames : Declared → List ℕ → List ℕ → List ℕ → List ℕ → Type 0
-ReadsImportNames s bytes from name rest = (mid : List ℕ) × ReadsText 100 bytes from mid × ReadsNewText (names_from from s.decls) mid name rest
+ReadsImportNames s bytes from name rest = (mid : List ℕ) × ReadsText 100 bytes from mid × ReadsNewText 100 (names_from from s.decls) mid name rest
 
 abbrev pub ReadsExportName : Declared → List ℕ → List ℕ → List ℕ → Type 0
-ReadsExportName s bytes name rest = ReadsNewText (export_names s.decls) bytes name rest
+ReadsExportName s bytes name rest = ReadsNewText 100 (export_names s.decls) bytes name rest
 
 -- a declaration of a sort
 abbrev pub ReadsDeclOf : Config → Scope → Declared → ModuleItem → List ℕ → ModuleDecl → List ℕ → Type 0

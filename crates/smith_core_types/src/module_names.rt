@@ -4,8 +4,7 @@ ghost use Rattle.std.specs.Prelude.{◌≡◌, ◌∷◌, ℕ, List, [], map, le
 ghost use Rattle.std.specs.Prelude.{MatchOption};
 ghost use Rattle.smith_input.specs.NewNames.{is_among};
 ghost use Rattle.smith_input.specs.Reading.{IsTail};
-ghost use Rattle.smith_input.specs.Texts.{ReadsText};
-ghost use Rattle.smith_core_types.specs.MadeCore.{ReadsNewText};
+ghost use Rattle.smith_input.specs.Texts.{ReadsNewText, ReadsText};
 ghost use Rattle.smith_core_types.specs.MakingCore.{names_taken};
 ghost use Rattle.smith_syntax.specs.ModuleTypes.{export_names, names_from};
 ghost use Rattle.smith_syntax.specs.Shown.{shown_decl};
@@ -121,7 +120,7 @@ pub(crate) fn import_names(
     defs: &[ModuleTypeDef],
 ) -> Result<(String, String), Error>
     ensures reads { IfOk result (λ n. (mid : List ℕ) × ReadsText 100 u.old (string_bytes n.0) mid
-        × ReadsNewText (names_from (string_bytes n.0) (map shown_decl defs.now)) mid (string_bytes n.1) u.new) }
+        × ReadsNewText 100 (names_from (string_bytes n.0) (map shown_decl defs.now)) mid (string_bytes n.1) u.new) }
     ensures memory { IfErr result (λ e. e ≡ Error.OutOfMemory) }
     ensures tail { IsTail u.new u.old }
 {
@@ -142,7 +141,7 @@ pub(crate) fn export_name(
     defs: &[ModuleTypeDef],
 ) -> Result<String, Error>
     ensures reads { IfOk result (λ n.
-        ReadsNewText (export_names (map shown_decl defs.now)) u.old (string_bytes n) u.new) }
+        ReadsNewText 100 (export_names (map shown_decl defs.now)) u.old (string_bytes n) u.new) }
     ensures memory { IfErr result (λ e. e ≡ Error.OutOfMemory) }
     ensures tail { IsTail u.new u.old }
 {

@@ -1,17 +1,14 @@
--- Names in kebab case.
-use Rattle.std.proofs.Common.{◌≡◌, nat_eq, ℕ, zero, suc, ◌+◌, ◌-◌, ◌<◌, ◌≤◌, ◌^◌, ◌⊎◌, Bool, true, false, List, [], ◌∷◌, ◌++◌, length, refl, sym, ap, subst}
-use Rattle.std.proofs.Common.{◌∙◌, arith, inl, inr, ⊎_elim, append_assoc, append-nil, map, ◌%◌}
+-- Names in kebab case that are read, and that are made unique.
+use Rattle.std.proofs.Common.{◌≡◌, nat_eq, ℕ, zero, suc, ◌+◌, ◌-◌, ◌<◌, ◌≤◌, ◌⊎◌, Bool, true, false, List, [], ◌∷◌, ◌++◌, length, refl, sym, ap, subst}
+use Rattle.std.proofs.Common.{◌∙◌, arith, inl, inr, ⊎_elim, append_assoc}
 use Rattle.std.proofs.lemmas.Bool.Decides.{nat_tests}
 use Rattle.std.proofs.lemmas.Bool.{cases_lt}
-use Rattle.std.proofs.lemmas.Fmt.{decimal_by_steps}
-use Rattle.std.proofs.lemmas.List.{map-append, length-map}
 use Rattle.std.specs.Fmt.{decimal}
 use Rattle.smith_input.specs.Reading.{Reads, IsTail}
-use Rattle.smith_input.specs.Script.{pick, code, script_characters, script_name}
 use Rattle.smith_input.specs.Kebab.{IsLetter, IsDigit, AreInWord, IsWord, Kebab, word, hyphen}
 use Rattle.smith_input.specs.Names.{character, characters, ReadsEach, none, next, ReadsKebab}
 use Rattle.smith_input.specs.NewNames.{appended, IsMadeUnique}
-use Rattle.smith_input.proofs.Picks.{reads-pick}
+use Rattle.smith_input.proofs.Digits.{are_digits, digits_in_word}
 use Rattle.smith_input.proofs.Reading.{tail_same, tail_trans, reads_tail, reads_unique}
 
 -- what may follow a prefix of a name, where a word must begin or goes on
@@ -30,7 +27,7 @@ in_word c cs l (inr s) = inr (c ∷ s.0, s.1, ap (λ k. c ∷ k) s.2, (l, s.3), 
 at_hyphen : (cs : List ℕ) → Follows true cs → Follows false (45 ∷ cs)
 at_hyphen cs k = inr ([], cs, refl, tt, k)
 
-not_hyphen : (c : ℕ) → (IsLetter c ⊎ IsDigit c) → nat_eq c 45 ≡ false
+pub not_hyphen : (c : ℕ) → (IsLetter c ⊎ IsDigit c) → nat_eq c 45 ≡ false
 not_hyphen c l = ⊎_elim (λ (a : IsLetter c). grind (arith, nat_tests)) (λ (d : IsDigit c). grind (arith, nat_tests)) l
 
 is_hyphen : (c : ℕ) → c ≡ 45 → nat_eq c 45 ≡ true
@@ -120,17 +117,9 @@ kebab_appended : (text ds : List ℕ) → AreInWord ds → Kebab text → (n : �
 kebab_appended text ds a k zero = k
 kebab_appended text ds a k (suc n) = kebab_more ds a (kebab_appended text ds a k n)
 
-pub digits_in_word : (n : ℕ) → n < 2 ^ 64 → AreInWord (decimal n)
-digits_in_word n h =
-    decimal_by_steps
-    (λ _ ds. AreInWord ds)
-    (λ k small. (inr (omega arith, omega arith), tt))
-    (λ k ds _ a. word_more ds ((48 + k % 10) ∷ []) a (inr (omega arith, omega arith), tt))
-    n
-    h
-
-pub kebab_is_kept : (has : List ℕ → Bool) (size : ℕ) (text name : List ℕ) → size < 2 ^ 64 → Kebab text → IsMadeUnique has size text name → Kebab name
-kebab_is_kept has size text name h k u = rw (u.name_is) (kebab_appended text (decimal size) (digits_in_word size h) k u.times)
+-- a name that is made unique
+pub kebab_is_kept : (has : List ℕ → Bool) (size : ℕ) (text name : List ℕ) → Kebab text → IsMadeUnique has size text name → Kebab name
+kebab_is_kept has size text name k u = rw (u.name_is) (kebab_appended text (decimal size) (digits_in_word (decimal size) (are_digits size)) k u.times)
 
 -- what is left, and that all is determined
 each_tail : {n : ℕ} {bytes ks rest : List ℕ} → ReadsEach n bytes ks rest → IsTail rest bytes
@@ -157,77 +146,3 @@ kebab_unique r s =
     let c = reads_unique r.counted s.counted in
     let same = each_unique r.chosen s.chosen c.1 c.0 in
     (r.spelt ∙ (ap (characters true) same.0 ∙ sym s.spelt), same.1)
-
--- spelled names
-abbrev CodesFit : List ℕ → Type 0
-CodesFit [] = Unit {0}
-CodesFit (c ∷ cs) = (code c < 37) × CodesFit cs
-
-letter_code : (c : ℕ) → IsLetter c → (code c < 26) × (97 + code c ≡ c)
-letter_code c l = let e : code c ≡ c - 97 = grind (arith, nat_tests) in (omega (arith, e), omega (arith, e))
-
-digit_code : (c : ℕ) → IsDigit c → (26 ≤ code c) × (code c < 36) × (48 + (code c - 26) ≡ c)
-digit_code c d = let e : code c ≡ 26 + (c - 48) = grind (arith, nat_tests) in (omega (arith, e), omega (arith, e), omega (arith, e))
-
-begun_spelt : (c : ℕ) → IsLetter c → character true (code c) ≡ c
-begun_spelt c l = let k = letter_code c l in letter_is true (code c) k.0 ∙ k.1
-
-inside_spelt : (c : ℕ) → (IsLetter c ⊎ IsDigit c) → character false (code c) ≡ c
-inside_spelt c (inl l) = let k = letter_code c l in letter_is false (code c) k.0 ∙ k.1
-inside_spelt c (inr d) = let k = digit_code c d in digit_is (code c) k.0 k.1 ∙ k.2
-
-inside_fits : (c : ℕ) → (IsLetter c ⊎ IsDigit c) → code c < 37
-inside_fits c (inl l) = let k = letter_code c l in omega (arith, k.0)
-inside_fits c (inr d) = let k = digit_code c d in omega (arith, k.1)
-
--- one choice in front
-spelt_more : (begins : Bool) (c : ℕ) (ks cs : List ℕ) → character begins (code c) ≡ c → (IsLetter c ⊎ IsDigit c) → characters false ks ≡ cs
-    → characters begins (code c ∷ ks) ≡ c ∷ cs
-spelt_more begins c ks cs e l h = rw (e, not_hyphen c l) (ap (λ x. c ∷ x) h)
-
-word_spelt : (cs ks : List ℕ) → AreInWord cs → characters false (map code cs ++ ks) ≡ cs ++ characters false ks
-word_spelt [] ks a = refl
-word_spelt (c ∷ cs) ks a = spelt_more false c (map code cs ++ ks) (cs ++ characters false ks) (inside_spelt c a.0) a.0 (word_spelt cs ks a.1)
-
-begun_word_spelt : (cs ks : List ℕ) → IsWord cs → characters true (map code cs ++ ks) ≡ cs ++ characters false ks
-begun_word_spelt [] ks a = elim a [ ]
-begun_word_spelt (c ∷ cs) ks a = spelt_more true c (map code cs ++ ks) (cs ++ characters false ks) (begun_spelt c a.0) (inl a.0) (word_spelt cs ks a.1)
-
-name_spelt : {cs : List ℕ} → Kebab cs → characters true (map code cs) ≡ cs
-name_spelt (word {cs = cs} w) = ap (characters true) (sym (append-nil (map code cs))) ∙ (begun_word_spelt cs [] w ∙ append-nil cs)
-name_spelt (hyphen cs ds w k) =
-    ap (characters true) (map-append code cs (45 ∷ ds)) ∙ (begun_word_spelt cs (36 ∷ map code ds) w ∙ ap (λ x. cs ++ 45 ∷ x) (name_spelt k))
-
-word_fits : (cs : List ℕ) → AreInWord cs → CodesFit cs
-word_fits [] a = tt
-word_fits (c ∷ cs) a = (inside_fits c a.0, word_fits cs a.1)
-
-begun_fits : (cs : List ℕ) → IsWord cs → CodesFit cs
-begun_fits [] a = elim a [ ]
-begun_fits (c ∷ cs) a = (inside_fits c (inl a.0), word_fits cs a.1)
-
-fits_more : (cs ds : List ℕ) → CodesFit cs → CodesFit ds → CodesFit (cs ++ ds)
-fits_more [] ds a b = b
-fits_more (c ∷ cs) ds a b = (a.0, fits_more cs ds a.1 b)
-
-name_fits : {cs : List ℕ} → Kebab cs → CodesFit cs
-name_fits (word {cs = cs} w) = begun_fits cs w
-name_fits (hyphen cs ds w k) = fits_more cs (45 ∷ ds) (begun_fits cs w) (omega arith, name_fits k)
-
-each_read : (cs rest : List ℕ) → CodesFit cs → ReadsEach 37 (script_characters cs ++ rest) (map code cs) rest
-each_read [] rest f = none
-each_read (c ∷ cs) rest f =
-    rw (append_assoc (pick 37 (code c)) (script_characters cs) rest)
-    (next (reads-pick 37 (code c) (script_characters cs ++ rest) (omega arith) f.0) (each_read cs rest f.1))
-
-pub name_read : (max : ℕ) (name rest : List ℕ) → max < 2 ^ 64 → Kebab name → length name ≤ max → ReadsKebab max (script_name max name ++ rest) name rest
-name_read max name rest h k l =
-    let counted : Reads (max + 1) (pick (max + 1) (length name) ++ (script_characters name ++ rest)) (length name) (script_characters name ++ rest) =
-    reads-pick (max + 1) (length name) (script_characters name ++ rest) (omega arith) (omega arith) in
-    record {
-      after_count = script_characters name ++ rest;
-      choices = map code name;
-      counted = rw (append_assoc (pick (max + 1) (length name)) (script_characters name) rest, length-map name code) counted;
-      chosen = each_read name rest (name_fits k);
-      spelt = sym (name_spelt k);
-    }

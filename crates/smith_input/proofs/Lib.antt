@@ -1,4 +1,5 @@
 pub mod Choices
+pub mod Digits
 pub mod Kebab
 pub mod Loops
 pub mod NameScript

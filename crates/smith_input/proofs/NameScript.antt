@@ -1,57 +1,21 @@
 -- Names that come from a text that can be read: the text before their digits, and their scripts.
-use Rattle.std.proofs.Common.{◌≡◌, ℕ, zero, suc, ◌+◌, ◌-◌, ◌/◌, ◌%◌, ◌<◌, ◌≤◌, ◌^◌, inr, Bool, true, false, if◌then◌else◌, List, [], ◌∷◌, ◌++◌, length}
+use Rattle.std.proofs.Common.{◌≡◌, ℕ, zero, suc, ◌+◌, ◌-◌, ◌<◌, ◌≤◌, ◌^◌, Bool, true, false, if◌then◌else◌, List, ◌++◌, length}
 use Rattle.std.proofs.Common.{take, refl, sym, ap, ◌∙◌, subst, arith}
-use Rattle.std.specs.Prelude.{nat_le, ◌==◌}
-use Rattle.std.specs.Fmt.{decimal, digits, digits_onto, digit_glyph}
+use Rattle.std.specs.Fmt.{decimal}
 use Rattle.std.specs.Str.{IsAscii, IsUtf8}
-use Rattle.std.proofs.lemmas.Bool.Decides.{nat_tests}
 use Rattle.std.proofs.lemmas.List.{length-append, length-take, take_all, take_at}
 use Rattle.std.proofs.lemmas.Str.{IsUtf8-append, IsUtf8-from_ascii, IsUtf8-take, IsCharBoundary-at_seam}
-use Rattle.smith_input.specs.Kebab.{IsDigit, AreInWord, Kebab}
+use Rattle.smith_input.specs.Kebab.{Kebab}
 use Rattle.smith_input.specs.Names.{ReadsNew}
 use Rattle.smith_input.specs.NewNames.{appended, IsMadeNew, is_among}
-use Rattle.smith_input.specs.NameScript.{is_within, last_word_is_a, is_short, IsMadeOf, IsReachable, IsReachableText, first_readable, text_of}
+use Rattle.smith_input.specs.NameScript.{is_within, is_short, IsMadeOf, IsReachable, IsReachableText, first_readable, text_of}
 use Rattle.smith_input.specs.Texts.{ReadsNewText}
 use Rattle.smith_input.specs.NameScript.{script_within, script_new, script_new_text}
 use Rattle.smith_input.specs.Script.{script_name, script_text}
 use Rattle.smith_input.specs.Texts.{ReadsText}
-use Rattle.smith_input.proofs.Kebab.{kebab_is_read, kebab_more}
-use Rattle.smith_input.proofs.NameShapes.{AreDigits, at_most, is_most, kebab_less, kebab_within, within_read}
+use Rattle.smith_input.proofs.Digits.{are_digits, digits_ascii, some_digits}
+use Rattle.smith_input.proofs.NameShapes.{at_most, is_most, kebab_less, kebab_within, short_within, within_read}
 use Rattle.smith_input.proofs.ReadsTexts.{text_read}
-
--- Digits.
-
-digit_is : (n : ℕ) → IsDigit (digit_glyph false (n % 10))
-digit_is n = (grind (arith, nat_tests), grind (arith, nat_tests))
-
--- what holds with each digit more, holds of all the digits
-onto : (P : List ℕ → Type 0) → ((n : ℕ) (ds : List ℕ) → P ds → P (digit_glyph false (n % 10) ∷ ds)) → (k n : ℕ) (ds : List ℕ) → P ds
-    → P (digits_onto k 10 false n ds)
-onto P more zero n ds p = p
-onto P more (suc k) n ds p = by_test (n / 10 == 0) (more n ds p) (onto P more k (n / 10) (digit_glyph false (n % 10) ∷ ds) (more n ds p))
-  where
-    by_test : (b : Bool) → P (digit_glyph false (n % 10) ∷ ds) → P (digits_onto k 10 false (n / 10) (digit_glyph false (n % 10) ∷ ds))
-        → P (if b then digit_glyph false (n % 10) ∷ ds else digits_onto k 10 false (n / 10) (digit_glyph false (n % 10) ∷ ds))
-    by_test true here later = here
-    by_test false here later = later
-
--- the decimal digits of any number
-pub are_digits : (n : ℕ) → AreDigits (decimal n)
-unfolding digits
-are_digits n = onto AreDigits (λ m ds a. (digit_is m, a)) 64 n [] tt
-
-some_digits : (n : ℕ) → 0 < length (decimal n)
-unfolding digits
-some_digits n = by_test (n / 10 == 0) (digit_glyph false (n % 10))
-  where
-    by_test : (b : Bool) (d : ℕ) → 0 < length (if b then d ∷ [] else digits_onto 63 10 false (n / 10) (d ∷ []))
-    by_test true d = omega arith
-    by_test false d = onto (λ ds. 0 < length ds) (λ m ds a. omega arith) 63 (n / 10) (d ∷ []) (omega arith)
-
-are_ascii : (ds : List ℕ) → AreDigits ds → IsAscii ds
-are_ascii [] d i = omega arith
-are_ascii (c ∷ cs) d zero = omega (arith, d.0)
-are_ascii (c ∷ cs) d (suc i) = are_ascii cs d.1 i
 
 -- Texts with digits behind them.
 
@@ -143,13 +107,6 @@ text_of_read can_read count name c = by_fuel (length (decimal count)) (length na
     by_fuel n zero = refl
     by_fuel n (suc fuel) = ap (λ b. if b then name else first_readable can_read n fuel (take (length name - n) name)) c
 
-short_within : (max : ℕ) (name : List ℕ) → length name ≤ max → is_within max name ≡ true
-short_within max name l = by_end (last_word_is_a name)
-  where
-    by_end : (b : Bool) → nat_le (length name) (if b then max + 1 else max) ≡ true
-    by_end true = is_most (length name) (max + 1) (omega (arith, l))
-    by_end false = is_most (length name) max l
-
 pub short_script : (max count : ℕ) (name : List ℕ) → length name ≤ max → script_new max count name ≡ script_name max name
 short_script max count name l =
     ap (script_within max) (text_of_read (is_within max) count name (short_within max name l)) ∙ ap (script_name max) (take_all max name l)
@@ -164,24 +121,12 @@ made_kebab_less names {text} u k =
     let ds = decimal (length names) in
     kept_less Kebab text ds (λ front. kebab_less front ds (are_digits (length names))) u.times (subst Kebab u.name_is k)
 
-in_word : (ds : List ℕ) → AreDigits ds → AreInWord ds
-in_word [] d = tt
-in_word (c ∷ cs) d = (inr d.0, in_word cs d.1)
-
-pub made_kebab_more : (names : List (List ℕ)) {text name : List ℕ} → IsMadeNew names text name → Kebab text → Kebab name
-made_kebab_more names {text} u k =
-    let ds = decimal (length names) in
-    subst Kebab (sym u.name_is) (kept_more Kebab text ds (λ front. kebab_more ds (in_word ds (are_digits (length names)))) u.times k)
-
 pub new_script_read : (max : ℕ) (names : List (List ℕ)) (name rest : List ℕ) → max < 2 ^ 64 → Kebab name → IsReachable max names name
     → ReadsNew max names (script_new max (length names) name ++ rest) name rest
 new_script_read max names name rest h k made =
     let text = text_of (is_within max) (length names) name in
     let m = made_of (is_within max) names name made in
     record { text = text; reads = within_read max text rest h (made_kebab_less names m.1 k) m.0; unique = m.1 }
-
-pub new_kebab_all : {max : ℕ} {names : List (List ℕ)} {bytes name rest : List ℕ} → ReadsNew max names bytes name rest → Kebab name
-new_kebab_all {names = names} r = made_kebab_more names r.unique (kebab_is_read r.reads)
 
 pub new_reachable : {max : ℕ} {names : List (List ℕ)} {bytes name rest : List ℕ} → ReadsNew max names bytes name rest → IsReachable max names name
 new_reachable r = (r.text, kebab_within r.reads, r.unique)
@@ -196,13 +141,13 @@ utf8_less front ds a u =
 pub made_utf8_less : (names : List (List ℕ)) {text name : List ℕ} → IsMadeNew names text name → IsUtf8 name → IsUtf8 text
 made_utf8_less names {text} u k =
     let ds = decimal (length names) in
-    let a : IsAscii ds = are_ascii ds (are_digits (length names)) in
+    let a : IsAscii ds = digits_ascii ds (are_digits (length names)) in
     kept_less IsUtf8 text ds (λ front. utf8_less front ds a) u.times (subst IsUtf8 u.name_is k)
 
 pub made_utf8_more : (names : List (List ℕ)) {text name : List ℕ} → IsMadeNew names text name → IsUtf8 text → IsUtf8 name
 made_utf8_more names {text} u k =
     let ds = decimal (length names) in
-    let a : IsAscii ds = are_ascii ds (are_digits (length names)) in
+    let a : IsAscii ds = digits_ascii ds (are_digits (length names)) in
     subst IsUtf8 (sym u.name_is) (kept_more IsUtf8 text ds (λ front f. IsUtf8-append front ds f (IsUtf8-from_ascii ds a)) u.times k)
 
 pub new_text_read : (max : ℕ) (names : List (List ℕ)) (name rest : List ℕ) → max < 2 ^ 64 → IsUtf8 name → IsReachableText max names name

@@ -1,17 +1,17 @@
 -- Which names in kebab case can be read at a length of at most max, and the choices of each.
 use Rattle.std.proofs.Common.{◌≡◌, ℕ, zero, suc, ◌+◌, ◌-◌, ◌<◌, ◌≤◌, ◌^◌, ◌⊎◌, inl, inr, Bool, true, false, nat_eq, nat_le, if◌then◌else◌, List, [], ◌∷◌, ◌++◌}
 use Rattle.std.proofs.Common.{length, take, drop, map, refl, sym, ap, ◌∙◌, subst, arith, append_assoc, append-nil, ⊎_elim}
-use Rattle.std.specs.List.{AllByRecursion}
 use Rattle.std.proofs.lemmas.Bool.Decides.{nat_tests}
 use Rattle.std.proofs.lemmas.Bool.{cases_lt}
-use Rattle.std.proofs.lemmas.List.{length-append, length-map, length-take, take-append-drop, drop_at}
+use Rattle.std.proofs.lemmas.List.{length-append, length-map, length-take, take-append-drop, take_all, drop_at}
 use Rattle.std.proofs.lemmas.Slice.Eq.{bytes_eq-Decides}
 use Rattle.smith_input.specs.Reading.{Reads}
-use Rattle.smith_input.specs.Script.{pick, code, script_characters}
+use Rattle.smith_input.specs.Script.{pick, code, script_characters, script_name}
 use Rattle.smith_input.specs.Kebab.{IsLetter, IsDigit, AreInWord, IsWord, Kebab, word, hyphen}
 use Rattle.smith_input.specs.Names.{character, characters, ReadsEach, none, next, ReadsKebab}
 use Rattle.smith_input.specs.NameScript.{last_word_is_a, is_within, script_within}
-use Rattle.smith_input.proofs.Kebab.{Follows}
+use Rattle.smith_input.proofs.Digits.{AreDigits}
+use Rattle.smith_input.proofs.Kebab.{Follows, not_hyphen}
 use Rattle.smith_input.proofs.Picks.{reads-pick}
 
 -- a character where a word must begin, or goes on
@@ -24,10 +24,6 @@ abbrev pub Goes : Bool → List ℕ → Type 0
 Goes true [] = ⊥
 Goes false [] = Unit {0}
 Goes begins (c ∷ cs) = Fits begins c × Goes (nat_eq c 45) cs
-
-not_hyphen : (c : ℕ) → (IsLetter c ⊎ IsDigit c) → nat_eq c 45 ≡ false
-not_hyphen c (inl l) = grind (arith, nat_tests)
-not_hyphen c (inr d) = grind (arith, nat_tests)
 
 goes_word : (cs ds : List ℕ) → AreInWord cs → Goes false ds → Goes false (cs ++ ds)
 goes_word [] ds w g = g
@@ -151,6 +147,22 @@ within_read max name rest h k w =
       spelt = sym (spelt max true name g (within_suffices max name g w));
     }
 
+-- a name that is short enough is within, and spelled as it stands
+
+pub short_within : (max : ℕ) (name : List ℕ) → length name ≤ max → is_within max name ≡ true
+short_within max name l = by_end (last_word_is_a name)
+  where
+    by_end : (b : Bool) → nat_le (length name) (if b then max + 1 else max) ≡ true
+    by_end true = is_most (length name) (max + 1) (omega (arith, l))
+    by_end false = is_most (length name) max l
+
+pub name_read : (max : ℕ) (name rest : List ℕ) → max < 2 ^ 64 → Kebab name → length name ≤ max → ReadsKebab max (script_name max name ++ rest) name rest
+name_read max name rest h k l =
+    subst
+    (λ s. ReadsKebab max (s ++ rest) name rest)
+    (ap (script_name max) (take_all max name l))
+    (within_read max name rest h k (short_within max name l))
+
 -- What choices give is as long as they are, or has an `a` more behind a hyphen; p stands in front.
 abbrev Shaped : ℕ → List ℕ → Type 0
 Shaped p ks =
@@ -190,9 +202,6 @@ kebab_within {max} {name = name} r =
         subst (λ b. nat_le (length cs) (if b then max + 1 else max) ≡ true) (sym (front_a cs front e)) (is_most (length cs) (max + 1) (omega (arith, l, few)))
 
 -- a name in kebab case that ends in digits is one without them
-
-abbrev pub AreDigits : List ℕ → Type 0
-AreDigits ds = AllByRecursion IsDigit ds
 
 goes_less : (begins : Bool) (cs ds : List ℕ) → AreDigits ds → Goes begins (cs ++ ds) → Goes begins cs
 goes_less true [] [] d g = g

@@ -10,7 +10,10 @@ use Rattle.smith_input.specs.Kebab.{Kebab}
 use Rattle.smith_input.specs.Names.{GainsName, Holds, ReadsKebab, ReadsNew}
 use Rattle.smith_input.specs.NewNames.{IsMadeUnique, appended, is_among}
 use Rattle.smith_input.specs.Script.{script_name}
-use Rattle.smith_input.proofs.Kebab.{kebab_is_read, kebab_is_kept, kebab_tail, kebab_unique, name_read}
+use Rattle.smith_input.specs.Texts.{ReadsNewText}
+use Rattle.smith_input.proofs.Kebab.{kebab_is_read, kebab_is_kept, kebab_tail, kebab_unique}
+use Rattle.smith_input.proofs.NameShapes.{name_read}
+use Rattle.smith_input.proofs.ReadsTexts.{text_tail, text_unique}
 
 or_turned : (a b c : Bool) → (a || (b || c)) ≡ (b || (a || c))
 or_turned true true c = refl
@@ -55,8 +58,18 @@ new_unique {names = names} {a = a} {b = b} r s =
     let P : List ℕ → Type 0 = λ t. IsMadeUnique (is_among names) (length names) t a in
     (made_unique_same (is_among names) (length names) s.text a b (subst P same.0 r.unique) s.unique, same.1)
 
-pub new_kebab : {max : ℕ} {names : List (List ℕ)} {bytes name rest : List ℕ} → length names < 2 ^ 64 → ReadsNew max names bytes name rest → Kebab name
-new_kebab h r = kebab_is_kept _ _ _ _ h (kebab_is_read r.reads) r.unique
+pub new_kebab : {max : ℕ} {names : List (List ℕ)} {bytes name rest : List ℕ} → ReadsNew max names bytes name rest → Kebab name
+new_kebab r = kebab_is_kept _ _ _ _ (kebab_is_read r.reads) r.unique
+
+pub new_text_tail : {max : ℕ} {names : List (List ℕ)} {bytes name rest : List ℕ} → ReadsNewText max names bytes name rest → IsTail rest bytes
+new_text_tail r = text_tail r.reads
+
+pub new_text_unique : {max : ℕ} {names : List (List ℕ)} {bytes a b left rest : List ℕ} → ReadsNewText max names bytes a left
+    → ReadsNewText max names bytes b rest → (a ≡ b) × (left ≡ rest)
+new_text_unique {names = names} {a = a} {b = b} r s =
+    let same = text_unique r.reads s.reads in
+    let P : List ℕ → Type 0 = λ t. IsMadeUnique (is_among names) (length names) t a in
+    (made_unique_same (is_among names) (length names) s.text a b (subst P same.0 r.unique) s.unique, same.1)
 
 -- a spelled name that is none of those before it is read as itself
 pub new_read : (max : ℕ) (names : List (List ℕ)) (name rest : List ℕ) → max < 2 ^ 64 → Kebab name → length name ≤ max → is_among names name ≡ false

@@ -105,7 +105,7 @@ pub fn names_are_kebab()
 
 /// A name in kebab case that is made unique stays in kebab case.
 pub fn unique_names_are_kebab()
-    ensures { (has : List ℕ → Bool) (size : ℕ) (text name : List ℕ) → size < 2 ^ 64 → Kebab text
+    ensures { (has : List ℕ → Bool) (size : ℕ) (text name : List ℕ) → Kebab text
         → IsMadeUnique has size text name → Kebab name }
 {}
 

@@ -4,7 +4,7 @@ ghost use Rattle.std.specs.Prelude.{◌≡◌, ◌<◌, ◌≤◌, ◌++◌, ℕ
 ghost use Rattle.std.specs.Prelude.{string_bytes, IfOk, IfErr, OnErr};
 ghost use Rattle.std.specs.BTreeSet.{contains_text};
 ghost use Rattle.smith_input.specs.Reading.{IsTail};
-ghost use Rattle.smith_input.specs.Texts.{ReadsText};
+ghost use Rattle.smith_input.specs.Texts.{ReadsNewText, ReadsText};
 ghost use Rattle.smith_input.specs.Kebab.{Kebab};
 ghost use Rattle.smith_input.specs.Names.{character, ReadsKebab, ReadsNew, ReadsUnique, ReadsUrl};
 ghost use Rattle.smith_input.specs.NewNames.{is_among, IsMadeNew};
@@ -150,8 +150,7 @@ pub fn new_string<N: TakenNames>(
     names: &N,
     u: &mut Unstructured,
 ) -> Result<String, Error>
-    ensures read { IfOk result (λ name. (text : List ℕ) × ReadsText max u.old text u.new
-        × IsMadeNew (N.texts names.now) text (string_bytes name)) }
+    ensures read { IfOk result (λ name. ReadsNewText max (N.texts names.now) u.old (string_bytes name) u.new) }
     ensures memory { IfErr result (λ e. e ≡ Error.OutOfMemory) }
     ensures tail { IsTail u.new u.old }
 {

@@ -8,7 +8,7 @@ use Rattle.smith_format.proofs.Piece.{assoc, joined, parts_are, raw_whole}
 use Rattle.smith_core.specs.Preamble.{core_preamble}
 use Rattle.smith_component.specs.Grammar.{preamble, embedded, canon, export_entry, part, parts, component_text, Spells}
 use Rattle.smith_component.specs.Tree.{Canon, lift, lower, Part, Tree, ends, first, custom, core_module, core_types, component, types, canons}
-use Rattle.smith_component.specs.Tree.{imports, exports, tree_of, most_nested, scope_depth, scope_depth_in}
+use Rattle.smith_component.specs.Tree.{imports, exports, tree_of, scope_depth, scope_depth_in, most}
 use Rattle.smith_read_types.specs.Levels.{entry_in, types_at}
 use Rattle.smith_read_types.specs.Reading.{Found, ◌>>=◌, byte_at, behind, both_at, u_at, skip_at, text_at}
 use Rattle.smith_read_types.specs.Tells.{Begins, Tells, TellsAll}
@@ -20,6 +20,7 @@ use Rattle.std.proofs.lemmas.Slice.Eq.{starts_is}
 use Rattle.std.proofs.lemmas.Bool.Decides.{Decides-eqb}
 use Rattle.smith_read_types.proofs.Inner.{NestWithin, Under, under_then, many_under, many_same}
 use Rattle.smith_syntax.specs.Entries.{Entry}
+use Rattle.smith_syntax.specs.TypeLimits.{nesting}
 use Rattle.smith_read_types.proofs.TellingLevels.{tells_entry}
 use Rattle.smith_read_types.proofs.TellingFrames.{tells_all, tells_framed}
 use Rattle.smith_read.specs.PartNodes.{export_of}
@@ -291,7 +292,7 @@ component_found n b t e = under_spells _ _ b (component_under n t) ((tells_compo
 
 -- what is spelled is spelled within levels
 
-nest_within : (n : ℕ) (ts : List Entry) → most_nested ts ≤ n → NestWithin n ts
+nest_within : (n : ℕ) (ts : List Entry) → most nesting ts ≤ n → NestWithin n ts
 nest_within n [] h = tt
 nest_within n (t ∷ ts) h = (omega (arith, h), nest_within n ts (omega (arith, h)))
 

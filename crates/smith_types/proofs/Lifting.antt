@@ -113,12 +113,10 @@ params_new : {names : List (List ℕ)} {vs : List ValType} {b rest : List ℕ} {
 params_new no_params = tt
 params_new (a_param n p later) = (n.unique.is_new, params_new later)
 
-params_kebab : {names : List (List ℕ)} {vs : List ValType} {b rest : List ℕ} {fs : List Field} → length names + length vs < 2 ^ 64
+params_kebab : {names : List (List ℕ)} {vs : List ValType} {b rest : List ℕ} {fs : List Field}
     → ReadsParams names vs b fs rest → AllByRecursion Kebab (map (λ p. p.0) fs)
-params_kebab h no_params = tt
-params_kebab {names = names} {vs = vs} h (a_param {vs = us} {name = name} n p later) =
-    let more : length (names ++ name ∷ []) + length us < 2 ^ 64 = omega (arith, h, length-append names (name ∷ [])) in
-    (new_kebab (omega (arith, h)) n, params_kebab more later)
+params_kebab no_params = tt
+params_kebab (a_param n p later) = (new_kebab n, params_kebab later)
 
 params_readable : {names : List (List ℕ)} {vs : List ValType} {b rest : List ℕ} {fs : List Field} → ReadsParams names vs b fs rest
     → AreReachable 100 names (map (λ p. p.0) fs)
@@ -126,8 +124,8 @@ params_readable no_params = tt
 params_readable (a_param n p later) = (new_reachable n, params_readable later)
 
 -- Names of parameters are in kebab case and distinct.
-pub params_named : {vs : List ValType} {b rest : List ℕ} {fs : List Field} → length vs < 2 ^ 64 → ReadsParams [] vs b fs rest → Named (map (λ p. p.0) fs)
-params_named {fs = fs} h r = (params_kebab (omega (arith, h)) r, new_distinct [] (map (λ p. p.0) fs) (params_new r))
+pub params_named : {vs : List ValType} {b rest : List ℕ} {fs : List Field} → ReadsParams [] vs b fs rest → Named (map (λ p. p.0) fs)
+params_named {fs = fs} r = (params_kebab r, new_distinct [] (map (λ p. p.0) fs) (params_new r))
 
 -- signatures
 
@@ -147,8 +145,8 @@ module _ {f : Function} {b : List ℕ} {s : Signature} {rest : List ℕ} (r : Re
   pub lifted_params : length s.params ≡ length f.0
   lifted_params = params_count r.params
 
-  pub lifted_named : length f.0 < 2 ^ 64 → Named (map (λ p. p.0) s.params)
-  lifted_named h = params_named h r.params
+  pub lifted_named : Named (map (λ p. p.0) s.params)
+  lifted_named = params_named r.params
 
   pub lifted_readable : AreReadableNames (map (λ p. p.0) s.params)
   lifted_readable = params_readable r.params
@@ -162,7 +160,7 @@ module _ {f : Function} {b : List ℕ} {s : Signature} {rest : List ℕ} (r : Re
   lifted_formed few own outer =
       let prims = lifted_prims own in
       let count = lifted_params in
-      (lifted_named (omega (arith, few)), prims.0, omega (arith, few, count), prims.1)
+      (lifted_named, prims.0, omega (arith, few, count), prims.1)
 
 -- The same parameter by parameter, as the program reads them: whatever is read from here, all is read with the parameters so far.
 

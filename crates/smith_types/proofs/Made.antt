@@ -79,7 +79,7 @@ as_formed own kind.Primitive b fuel t rest left (p, r, i, _) = subst (λ x. Form
 as_formed own kind.Record b fuel t rest left (xs, r, i) =
     or_bool_formed record_type own t xs i
     (λ some. (
-      members_named (λ f. f.0) named_name b fuel xs rest left (omega arith) r,
+      members_named (λ f. f.0) named_name b fuel xs rest left r,
       members_all b fuel xs rest left r (λ f. FormedVal own f.1) (λ so_far c x d h. val_formed own h.mid x.1 d h.after),
       some,
       members_few b fuel xs rest left r,
@@ -87,7 +87,7 @@ as_formed own kind.Record b fuel t rest left (xs, r, i) =
 as_formed own kind.Variant b fuel t rest left (xs, r, i) =
     or_bool_formed variant_type own t xs i
     (λ some. (
-      members_named (λ c. c.0) named_name b fuel xs rest left (omega arith) r,
+      members_named (λ c. c.0) named_name b fuel xs rest left r,
       members_all b fuel xs rest left r (λ c. FormedMaybe own c.1) (λ so_far c x d h. maybe_formed own h.mid x.1 d h.after),
       some,
       members_few b fuel xs rest left r,
@@ -100,9 +100,9 @@ as_formed own kind.Tuple b fuel t rest left (xs, r, i) =
       members_few b fuel xs rest left r,
     ))
 as_formed own kind.Flags b fuel t rest left (xs, r, i) = or_bool_formed flags_type own t xs i
-    (λ some. (labels_named b fuel xs rest left (omega arith) r, some, members_few b fuel xs rest left r))
+    (λ some. (labels_named b fuel xs rest left r, some, members_few b fuel xs rest left r))
 as_formed own kind.Enum b fuel t rest left (xs, r, i) = or_bool_formed enum_type own t xs i
-    (λ some. (labels_named b fuel xs rest left (omega arith) r, some, members_few b fuel xs rest left r))
+    (λ some. (labels_named b fuel xs rest left r, some, members_few b fuel xs rest left r))
 as_formed own kind.Option b fuel t rest left (v, r, i, _) = subst (λ x. FormedDefined x own) (sym i) (val_formed own b v rest r)
 as_formed own kind.Result b fuel t rest left (ok, mid, r, err, s, i, _) =
     subst (λ x. FormedDefined x own) (sym i) (maybe_formed own b ok mid r, maybe_formed own mid err rest s)
@@ -118,7 +118,7 @@ defined_formed own b fuel t rest left d = as_formed own d.kind d.mid fuel t rest
 pub function_formed : (own : Scope) (outer : List Scope) (b : List ℕ) (fuel : ℕ) (s : Signature) (rest : List ℕ) (left : ℕ)
     → MadeFunction own b fuel s rest left → FormedEntry (function s) own outer
 function_formed own outer b fuel s rest left f = (
-  members_named (λ p. p.0) named_name b fuel s.params f.mid f.held (omega arith) f.takes,
+  members_named (λ p. p.0) named_name b fuel s.params f.mid f.held f.takes,
   members_all b fuel s.params f.mid f.held f.takes (λ p. FormedVal own p.1) (λ so_far c x d h. val_formed own h.mid x.1 d h.after),
   members_few b fuel s.params f.mid f.held f.takes,
   one_formed own s.result

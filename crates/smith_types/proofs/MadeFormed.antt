@@ -116,48 +116,35 @@ module _ (config : Config) (importing : Bool) (outer : List Scope) (s : SoFar) (
 abbrev NewNames : List NamedExtern → List NamedExtern → Type 0
 NewNames so_far more = AreNew (names so_far) (names more) × AllByRecursion Kebab (names more)
 
-names_more : (so_far one later : List NamedExtern) → length so_far ≤ 100 → MaybeNew so_far one → NewNames (so_far ++ one) later → NewNames so_far (one ++ later)
-names_more so_far one later few (inl none) after =
+names_more : (so_far one later : List NamedExtern) → MaybeNew so_far one → NewNames (so_far ++ one) later → NewNames so_far (one ++ later)
+names_more so_far one later (inl none) after =
     let P : List NamedExtern → Type 0 = λ z. NewNames (so_far ++ z) later in
     let Q : List NamedExtern → Type 0 = λ z. NewNames so_far (z ++ later) in
     subst Q (sym none) (subst (λ z. NewNames z later) (append-nil so_far) (subst P none after))
-names_more so_far one later few (inr (x, is, b, rest, new)) after =
+names_more so_far one later (inr (x, is, b, rest, new)) after =
     let P : List NamedExtern → Type 0 = λ z. NewNames (so_far ++ z) later in
     let Q : List NamedExtern → Type 0 = λ z. NewNames so_far (z ++ later) in
     let then_new = subst P is after in
-    let below : length (names so_far) < 2 ^ 64 = omega (arith, length-map so_far (λ y. y.0), few) in
     subst Q (sym is) (
       (new.unique.is_new, subst (λ z. AreNew z (names later)) (map-append (λ y. y.0) so_far (x ∷ [])) then_new.0),
-      (new_kebab below new, then_new.1),
+      (new_kebab new, then_new.1),
     )
 
-at_most_one : (so_far one : List NamedExtern) → MaybeNew so_far one → length (so_far ++ one) ≤ length so_far + 1
-at_most_one so_far one (inl none) = omega (arith, length-append so_far one, ap length none)
-at_most_one so_far one (inr (x, is, b, rest, new)) = omega (arith, length-append so_far one, ap length is)
-
 pub imports_new : (config : Config) (importing : Bool) (outer : List Scope) (done : ℕ) (s : SoFar) (b : List ℕ) (fuel : ℕ) (ds : FullDecls) (rest : List ℕ)
-    (left : ℕ) → length s.imports ≤ done
-    → MadeDeclarations config importing outer done s b fuel ds rest left → NewNames s.imports (decl_imports ds)
-imports_new config importing outer done s b fuel ds rest left few (no_more_decls m l) = (tt, tt)
-imports_new config importing outer done s b fuel ds rest left few (spent_decls m f l) = (tt, tt)
-imports_new config importing outer done s b fuel _ rest left few (one_decl {mid = mid} {low = low} {held = held} {d = d} {ds = ds} m f one later) =
+    (left : ℕ) → MadeDeclarations config importing outer done s b fuel ds rest left → NewNames s.imports (decl_imports ds)
+imports_new config importing outer done s b fuel ds rest left (no_more_decls m l) = (tt, tt)
+imports_new config importing outer done s b fuel ds rest left (spent_decls m f l) = (tt, tt)
+imports_new config importing outer done s b fuel _ rest left (one_decl {mid = mid} {low = low} {held = held} {d = d} {ds = ds} m f one later) =
     let new = declaration_imports config importing outer s mid (fuel - 1) d low held one in
-    let lt : done < 100 = more_within m in
-    names_more s.imports (import_of d) (decl_imports ds) (omega (arith, few, lt)) new
-    (imports_new config importing outer (done + 1) (after_one outer s d) low held ds rest left (omega (arith, few, at_most_one s.imports (import_of d) new))
-    later)
+    names_more s.imports (import_of d) (decl_imports ds) new (imports_new config importing outer (done + 1) (after_one outer s d) low held ds rest left later)
 
 pub exports_new : (config : Config) (importing : Bool) (outer : List Scope) (done : ℕ) (s : SoFar) (b : List ℕ) (fuel : ℕ) (ds : FullDecls) (rest : List ℕ)
-    (left : ℕ) → length s.exports ≤ done
-    → MadeDeclarations config importing outer done s b fuel ds rest left → NewNames s.exports (decl_exports ds)
-exports_new config importing outer done s b fuel ds rest left few (no_more_decls m l) = (tt, tt)
-exports_new config importing outer done s b fuel ds rest left few (spent_decls m f l) = (tt, tt)
-exports_new config importing outer done s b fuel _ rest left few (one_decl {mid = mid} {low = low} {held = held} {d = d} {ds = ds} m f one later) =
+    (left : ℕ) → MadeDeclarations config importing outer done s b fuel ds rest left → NewNames s.exports (decl_exports ds)
+exports_new config importing outer done s b fuel ds rest left (no_more_decls m l) = (tt, tt)
+exports_new config importing outer done s b fuel ds rest left (spent_decls m f l) = (tt, tt)
+exports_new config importing outer done s b fuel _ rest left (one_decl {mid = mid} {low = low} {held = held} {d = d} {ds = ds} m f one later) =
     let new = declaration_exports config importing outer s mid (fuel - 1) d low held one in
-    let lt : done < 100 = more_within m in
-    names_more s.exports (export_of d) (decl_exports ds) (omega (arith, few, lt)) new
-    (exports_new config importing outer (done + 1) (after_one outer s d) low held ds rest left (omega (arith, few, at_most_one s.exports (export_of d) new))
-    later)
+    names_more s.exports (export_of d) (decl_exports ds) new (exports_new config importing outer (done + 1) (after_one outer s d) low held ds rest left later)
 
 pub no_imports : (config : Config) (importing : Bool) (outer : List Scope) (done : ℕ) (s : SoFar) (b : List ℕ) (fuel : ℕ) (ds : FullDecls) (rest : List ℕ)
     (left : ℕ) → importing ≡ false
@@ -185,13 +172,13 @@ named_more xs ys n new =
 
 module _ (config : Config) (importing : Bool) (outer : List Scope) (done : ℕ) (s : SoFar) (b : List ℕ) (fuel : ℕ) (ds : FullDecls) (rest : List ℕ)
     (left : ℕ) where
-  pub imports_named : length s.imports ≤ done → Named (names s.imports) → MadeDeclarations config importing outer done s b fuel ds rest left
+  pub imports_named : Named (names s.imports) → MadeDeclarations config importing outer done s b fuel ds rest left
       → Named (names (s.imports ++ decl_imports ds))
-  imports_named few n m = named_more s.imports (decl_imports ds) n (imports_new config importing outer done s b fuel ds rest left few m)
+  imports_named n m = named_more s.imports (decl_imports ds) n (imports_new config importing outer done s b fuel ds rest left m)
 
-  pub exports_named : length s.exports ≤ done → Named (names s.exports) → MadeDeclarations config importing outer done s b fuel ds rest left
+  pub exports_named : Named (names s.exports) → MadeDeclarations config importing outer done s b fuel ds rest left
       → Named (names (s.exports ++ decl_exports ds))
-  exports_named few n m = named_more s.exports (decl_exports ds) n (exports_new config importing outer done s b fuel ds rest left few m)
+  exports_named n m = named_more s.exports (decl_exports ds) n (exports_new config importing outer done s b fuel ds rest left m)
 
 none_named : Named []
 none_named = (tt, new_distinct [] [] tt)
@@ -209,14 +196,14 @@ mutual
   made_formed config own outer b fuel e rest left (made_component {mid = mid} {ds = ds} f c d i) =
       subst (λ z. FormedEntry (plain z) own outer) (sym i) (
         declarations_formed config true (own ∷ outer) 0 nothing_so_far mid (fuel - 1) ds rest left d,
-        subst Named (sym (imports_plain ds)) (imports_named config true (own ∷ outer) 0 nothing_so_far mid (fuel - 1) ds rest left (omega arith) none_named d),
-        subst Named (sym (exports_plain ds)) (exports_named config true (own ∷ outer) 0 nothing_so_far mid (fuel - 1) ds rest left (omega arith) none_named d),
+        subst Named (sym (imports_plain ds)) (imports_named config true (own ∷ outer) 0 nothing_so_far mid (fuel - 1) ds rest left none_named d),
+        subst Named (sym (exports_plain ds)) (exports_named config true (own ∷ outer) 0 nothing_so_far mid (fuel - 1) ds rest left none_named d),
       )
   made_formed config own outer b fuel e rest left (made_instance {mid = mid} {ds = ds} f c d i) =
       subst (λ z. FormedEntry (plain z) own outer) (sym i) (
         declarations_formed config false (own ∷ outer) 0 nothing_so_far mid (fuel - 1) ds rest left d,
         no_imports config false (own ∷ outer) 0 nothing_so_far mid (fuel - 1) ds rest left refl d,
-        subst Named (sym (exports_plain ds)) (exports_named config false (own ∷ outer) 0 nothing_so_far mid (fuel - 1) ds rest left (omega arith) none_named d),
+        subst Named (sym (exports_plain ds)) (exports_named config false (own ∷ outer) 0 nothing_so_far mid (fuel - 1) ds rest left none_named d),
       )
 
   pub declaration_formed : (config : Config) (importing : Bool) (outer : List Scope) (s : SoFar) (b : List ℕ) (fuel : ℕ) (d : FullDecl) (rest : List ℕ)

@@ -81,17 +81,14 @@ module _ {A : Type 0} {Member : List A → List ℕ → A → List ℕ → Type 
       (xs, left)
       l
 
-  members_kebab : (b : List ℕ) (fuel : ℕ) (xs : List A) (rest : List ℕ) (left : ℕ) → max ≤ 100 → ReadsMembers Member min max b fuel xs rest left
+  members_kebab : (b : List ℕ) (fuel : ℕ) (xs : List A) (rest : List ℕ) (left : ℕ) → ReadsMembers Member min max b fuel xs rest left
       → AllByRecursion Kebab (map name xs)
-  members_kebab b fuel xs rest left h l =
+  members_kebab b fuel xs rest left l =
       loop_gives
-      (λ s ys t. length s.0 + length ys ≤ 100 → AllByRecursion Kebab (map name ys))
-      (λ s few. tt)
-      (λ s c r t e few. tt)
-      (λ s t u c x r ys i later few.
-      let more : length t.0 ≡ length s.0 + 1 = ap (λ z. length z.0) i.state ∙ length-append s.0 (x ∷ []) in
-      let below : length (map name s.0) < 2 ^ 64 = omega (arith, length-map s.0 name, few) in
-      (new_kebab below (one s.0 c x r i.member).1, later (omega (arith, more, few))))
+      (λ s ys t. AllByRecursion Kebab (map name ys))
+      (λ s. tt)
+      (λ s c r t e. tt)
+      (λ s t u c x r ys i later. (new_kebab (one s.0 c x r i.member).1, later))
       0
       ([], fuel)
       b
@@ -99,11 +96,10 @@ module _ {A : Type 0} {Member : List A → List ℕ → A → List ℕ → Type 
       rest
       (xs, left)
       l
-      (let most = members_few b fuel xs rest left l in omega (arith, most, h))
 
-  pub members_named : (b : List ℕ) (fuel : ℕ) (xs : List A) (rest : List ℕ) (left : ℕ) → max ≤ 100 → ReadsMembers Member min max b fuel xs rest left
+  pub members_named : (b : List ℕ) (fuel : ℕ) (xs : List A) (rest : List ℕ) (left : ℕ) → ReadsMembers Member min max b fuel xs rest left
       → Named (map name xs)
-  members_named b fuel xs rest left h l = (members_kebab b fuel xs rest left h l, new_distinct [] (map name xs) (members_new b fuel xs rest left l))
+  members_named b fuel xs rest left l = (members_kebab b fuel xs rest left l, new_distinct [] (map name xs) (members_new b fuel xs rest left l))
 
   -- the names of members can be read, each behind those before it
   pub members_readable : (b : List ℕ) (fuel : ℕ) (xs : List A) (rest : List ℕ) (left : ℕ) → ReadsMembers Member min max b fuel xs rest left
@@ -131,9 +127,9 @@ named_name so_far b x rest r = (r.mid, r.name)
 label_name : (so_far : List (List ℕ)) (b x rest : List ℕ) → ReadsNew 100 so_far b x rest → (mid : List ℕ) × ReadsNew 100 (map (λ y. y) so_far) b x mid
 label_name so_far b x rest r = (rest, subst (λ ns. ReadsNew 100 ns b x rest) (sym (map-id so_far)) r)
 
-pub labels_named : {min max : ℕ} (b : List ℕ) (fuel : ℕ) (xs : List (List ℕ)) (rest : List ℕ) (left : ℕ) → max ≤ 100
+pub labels_named : {min max : ℕ} (b : List ℕ) (fuel : ℕ) (xs : List (List ℕ)) (rest : List ℕ) (left : ℕ)
     → ReadsMembers (ReadsNew 100) min max b fuel xs rest left → Named xs
-labels_named b fuel xs rest left h l = subst Named (map-id xs) (members_named (λ x. x) label_name b fuel xs rest left h l)
+labels_named b fuel xs rest left l = subst Named (map-id xs) (members_named (λ x. x) label_name b fuel xs rest left l)
 
 pub labels_readable : {min max : ℕ} (b : List ℕ) (fuel : ℕ) (xs : List (List ℕ)) (rest : List ℕ) (left : ℕ)
     → ReadsMembers (ReadsNew 100) min max b fuel xs rest left → AreReadableNames xs

@@ -1,8 +1,8 @@
 use Rattle.std.proofs.Common.{ℕ, ◌-◌, List, refl, sym, subst, append-nil, string_bytes, map}
-use Rattle.smith_input.specs.Texts.{ReadsText}
+use Rattle.smith_input.specs.Texts.{ReadsNewText, ReadsText}
 use Rattle.smith_input.proofs.Reading.{tail_trans}
 use Rattle.smith_syntax.specs.Entries.{imports}
-use Rattle.smith_core_types.specs.MadeCore.{ReadsImportNames, ReadsNewText}
+use Rattle.smith_core_types.specs.MadeCore.{ReadsImportNames}
 use Rattle.smith_core_types.specs.MakingCore.{MaybeEntity, shown_funcs, so_far}
 use Rattle.smith_syntax.specs.ModuleTypes.{names_from}
 use Rattle.smith_syntax.specs.Shown.{shown_decl}
@@ -18,7 +18,7 @@ returns-in-None-clause-adds c around fuel =
     let from = string_bytes c.in_ok-module.module in
     let name = string_bytes c.in_ok-module.name in
     let N : List _ → Type 0 = λ ds. (mid : List ℕ) × ReadsText 100 c.args.u.now from mid
-    × ReadsNewText (names_from from (map shown_decl ds)) mid name c.import_names.new.u in
+    × ReadsNewText 100 (names_from from (map shown_decl ds)) mid name c.import_names.new.u in
     let R : List ℕ → Type 0 = λ r. ReadsImportNames s c.args.u.now from name r in
     ((from, name, subst R (sym none.1) (subst N c.deref.ensures.value c.in_ok-module.ensures.reads), none.0), refl)
 
@@ -33,7 +33,7 @@ returns-in_ok-push-in-Some-clause-adds c around fuel =
     let from = string_bytes c.in_ok-module.module in
     let name = string_bytes c.in_ok-module.name in
     let N : List _ → Type 0 = λ ds. (mid : List ℕ) × ReadsText 100 c.args.u.now from mid
-    × ReadsNewText (names_from from (map shown_decl ds)) mid name c.import_names.new.u in
+    × ReadsNewText 100 (names_from from (map shown_decl ds)) mid name c.import_names.new.u in
     let decls = pushed shown_decl old.defs.items c.push.new.self.items _ c.in_ok-push-in-Some.ensures.items in (
       imports from name c.in-Some.entity_type,
       (

@@ -1,4 +1,4 @@
-use Rattle.smith_input.proofs.Kebab.{name_read}
+use Rattle.smith_input.proofs.NameShapes.{name_read}
 use Rattle.smith_input.proofs.laws.name_is_read.Goals as goal
 
 pub returns : goal.returns

@@ -1,7 +1,8 @@
 use Rattle.std.proofs.Common.{◌≡◌, suc, length, refl, sym, ap, ◌∙◌, arith, string_bytes, decimal, length-append, true, ◌++◌, ⊎_elim, rules}
 use Rattle.std.proofs.lemmas.Bool.{cases_lt}
 use Rattle.smith_input.specs.NewNames.{appended, is_among}
-use Rattle.smith_input.proofs.Kebab.{kebab_more, digits_in_word}
+use Rattle.smith_input.proofs.Digits.{are_digits, digits_in_word}
+use Rattle.smith_input.proofs.Kebab.{kebab_more}
 use Rattle.smith_input.proofs.NameSets.{longest_has}
 use Rattle.smith_input.proofs.names.made_unique.Goals as goal
 
@@ -43,7 +44,7 @@ loop-alloc-preserved g c =
           ap (λ k. is_among texts (appended (string_bytes c.args.name) all k)) here
           ∙ (ap (is_among texts) (sym c.loop-alloc.invariant.name_is) ∙ had))
           (cases_lt n c.loop-alloc.invariant.times);
-      kebab = λ k. rw longer (kebab_more all (digits_in_word (length texts) (omega (arith, c.name_count.ensures))) (c.loop-alloc.invariant.kebab k));
+      kebab = λ k. rw longer (kebab_more all (digits_in_word all (are_digits (length texts))) (c.loop-alloc.invariant.kebab k));
     }
 
 pub loop-alloc-init : goal.loop-alloc-init

@@ -1,4 +1,3 @@
-use Rattle.std.proofs.Common.{ap, arith, length}
 use Rattle.smith_format.specs.Shown.{shown_func}
 use Rattle.smith_types.proofs.LiftingRead.{lifted_scripted}
 use Rattle.smith_types.proofs.Lifting.{all_lifted, lifted_flattens, params_named}
@@ -13,9 +12,7 @@ pub returns-clause-flattens : goal.returns-clause-flattens
 returns-clause-flattens c = lifted_flattens (returns-clause-reads c)
 
 pub returns-clause-named : goal.returns-clause-named
-returns-clause-named c =
-    let held = c.args.core.now.params in
-    params_named (omega (arith, ap length c.deref.ensures.value, held.ok.0, held.ok.1, held.small)) c.in_ok-params.ensures.reads
+returns-clause-named c = params_named c.in_ok-params.ensures.reads
 
 pub returns-clause-script : goal.returns-clause-script
 returns-clause-script c s rest flat names readable begins = lifted_scripted (shown_func c.args.core.now) s _ _ rest _ flat names readable begins
