@@ -4,7 +4,6 @@ use Rattle.smith_input.specs.Reading.{IsTail}
 use Rattle.smith_input.proofs.Loops.{loop_few, loop_gives, loop_tail}
 use Rattle.smith_input.proofs.NewNames.{new_tail}
 use Rattle.smith_input.proofs.Reading.{reads_tail, tail_is, tail_trans}
-use Rattle.smith_format.specs.Limits.{max_u32}
 use Rattle.smith_format.specs.declared.config.Config.{Config}
 use Rattle.smith_syntax.specs.WellFormed.{Named}
 use Rattle.smith_component.specs.Exports.{NoExport, ReadsExport, ReadsExports}

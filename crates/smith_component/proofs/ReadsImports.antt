@@ -12,7 +12,6 @@ use Rattle.smith_input.specs.Offers.{offers_of}
 use Rattle.smith_input.proofs.Loops.{loop_all, loop_few, loop_gives, loop_tail}
 use Rattle.smith_input.proofs.Reading.{more_past, tail_is, tail_trans}
 use Rattle.smith_format.specs.declared.config.Config.{Config}
-use Rattle.smith_format.specs.Limits.{max_u32}
 use Rattle.smith_syntax.specs.Entries.{ImportEntry}
 use Rattle.smith_syntax.specs.Scope.{is_func, places}
 use Rattle.smith_syntax.specs.WellFormed.{Named}

@@ -1,5 +1,5 @@
 -- The limits of a config within a core type.
-use Rattle.std.specs.Prelude.{◌≡◌, ◌⊎◌, ℕ, ◌≤◌, true, List}
+use Rattle.std.specs.Prelude.{◌≡◌, ◌⊎◌, ◌≤◌, true, List}
 use Rattle.std.specs.List.{AllByRecursion, Contains}
 use Rattle.smith_format.specs.Limits.{configured, max_results}
 use Rattle.smith_format.specs.CoreFormed.{FormedFunction}
