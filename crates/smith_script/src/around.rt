@@ -1,9 +1,9 @@
 //! What stands around a component.
 
 ghost use Rattle.std.specs.Prelude.{◌≡◌, ◌∷◌, map, IfOk, IfErr};
+ghost use Rattle.smith_script_core.specs.declared.error.Unsaid.TheVariants.{OutOfMemory};
 ghost use Rattle.smith_script_types.specs.Places.{outer_at, own_at};
 ghost use Rattle.smith_script_types.specs.Scopes.{shown_scope};
-ghost use Rattle.smith_script_types.specs.declared.error.Unsaid.TheVariants.{OutOfMemory};
 ghost use Rattle.smith_script.specs.Saying.{outer_in};
 
 use smith_format::Config;

@@ -9,8 +9,8 @@ ghost use Rattle.smith_component.specs.CanonScript.{canon_item_of, script_canon,
 ghost use Rattle.smith_component.specs.Offers.{is_scalar_entry, is_scalar_type, scalar_functions};
 ghost use Rattle.smith_component.specs.contracts.item.CanonItemPartialEq.TheImpl.{ghosts as equal};
 ghost use Rattle.smith_component.specs.declared.item.CanonItem.TheVariants.{Lift, Lower};
-ghost use Rattle.smith_script_types.specs.Says.{Says};
-ghost use Rattle.smith_script_types.specs.declared.error.Unsaid.TheVariants.{OutOfMemory};
+ghost use Rattle.smith_script_core.specs.Says.{Says};
+ghost use Rattle.smith_script_core.specs.declared.error.Unsaid.TheVariants.{OutOfMemory};
 ghost use Rattle.smith_script.specs.Standing.{spaces_in, standing};
 
 use crate::lifts::put_lifted;

@@ -7,7 +7,7 @@ ghost use Rattle.smith_component.specs.Open.{is_export_offered, more_items};
 ghost use Rattle.smith_component.specs.Script.{item_of};
 ghost use Rattle.smith_component.specs.contracts.item.ItemPartialEq.TheImpl.{ghosts as equal};
 ghost use Rattle.smith_component.specs.declared.item.Item.TheVariants as item;
-ghost use Rattle.smith_script_types.specs.Says.{Says};
+ghost use Rattle.smith_script_core.specs.Says.{Says};
 ghost use Rattle.smith_script.specs.Saying.{item_says, outer_in};
 ghost use Rattle.smith_script.specs.Standing.{standing};
 

@@ -1,5 +1,5 @@
 //! The script of a component: the input on which `generate` gives it.
-#![tactic(auto, using(smith_script_types::proofs::Saying::saying))]
+#![tactic(auto, using(smith_script_core::proofs::Saying::saying))]
 
 mod around;
 mod canons;

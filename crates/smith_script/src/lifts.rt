@@ -8,7 +8,7 @@ ghost use Rattle.smith_syntax.specs.Signature.{named};
 ghost use Rattle.smith_read_types.specs.TypeNodes.{shown_type_node};
 ghost use Rattle.smith_types.specs.Script.{script_lifted, script_params, script_result, script_scalar};
 ghost use Rattle.smith_component.specs.CanonScript.{script_lift};
-ghost use Rattle.smith_script_types.specs.Says.{Says};
+ghost use Rattle.smith_script_core.specs.Says.{Says};
 ghost use Rattle.smith_script.specs.Lifted.{flat_like};
 ghost use Rattle.smith_script.specs.Standing.{spaces_in, standing};
 

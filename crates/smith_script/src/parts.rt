@@ -6,9 +6,9 @@ ghost use Rattle.smith_core.specs.StandInScript.{script_stand_in, stand_in_of};
 ghost use Rattle.smith_component.specs.Script.{script};
 ghost use Rattle.smith_component.specs.Tree.{component, tree_of};
 ghost use Rattle.smith_read.specs.PartNodes.{shown_part_node, shown_tree};
-ghost use Rattle.smith_script_types.specs.Says.{Says};
+ghost use Rattle.smith_script_core.specs.Says.{Says};
+ghost use Rattle.smith_script_core.specs.declared.error.Unsaid.TheVariants.{OutOfMemory};
 ghost use Rattle.smith_script_types.specs.Scopes.{shown_scope};
-ghost use Rattle.smith_script_types.specs.declared.error.Unsaid.TheVariants.{OutOfMemory};
 ghost use Rattle.smith_script.specs.Saying.{outer_in, part_says, tree_says};
 ghost use Rattle.smith_script.specs.Standing.{after_module, after_part, after_tree, empty_in, opened, standing};
 

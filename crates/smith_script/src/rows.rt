@@ -8,7 +8,7 @@ ghost use Rattle.smith_read_types.specs.Nodes.{shown_core_node};
 ghost use Rattle.smith_read_types.specs.TypeNodes.{shown_type_node};
 ghost use Rattle.smith_read.specs.PartNodes.{shown_canon_node, shown_export_node, shown_import_node};
 ghost use Rattle.smith_component.specs.Tree.{Canon, ExportEntry};
-ghost use Rattle.smith_script_types.specs.Says.{Says};
+ghost use Rattle.smith_script_core.specs.Says.{Says};
 ghost use Rattle.smith_script.specs.Saying.{canon_says, core_type_says, export_says, import_says, outer_in, rows_say};
 ghost use Rattle.smith_script.specs.Saying.{type_says};
 ghost use Rattle.smith_script.specs.Standing.{Standing, after_canon, after_core_type, after_export, after_import};

@@ -7,7 +7,7 @@ ghost use Rattle.smith_component.specs.Grammar.{Spells};
 ghost use Rattle.smith_component.specs.Script.{Within, script};
 ghost use Rattle.smith_component.specs.Tree.{Tree};
 ghost use Rattle.smith_read.specs.PartNodes.{shown_tree};
-ghost use Rattle.smith_script_types.specs.Says.{IsUnsaid};
+ghost use Rattle.smith_script_core.specs.Says.{IsUnsaid};
 ghost use Rattle.smith_script.specs.IsScript.{ComesOnNone, IsGiven, IsScript};
 ghost use Rattle.smith_script.specs.declared.error.ScriptError.TheVariants.{InconsistentLimits, OutOfMemory};
 

@@ -6,7 +6,7 @@ ghost use Rattle.smith_read_types.specs.Nodes.{shown_core_node};
 ghost use Rattle.smith_read_types.specs.TypeNodes.{shown_type_node};
 ghost use Rattle.smith_read.specs.PartNodes.{shown_export_node, shown_import_node};
 ghost use Rattle.smith_component.specs.Tree.{lift, lower};
-ghost use Rattle.smith_script_types.specs.declared.error.Unsaid.TheVariants.{OutOfMemory};
+ghost use Rattle.smith_script_core.specs.declared.error.Unsaid.TheVariants.{OutOfMemory};
 ghost use Rattle.smith_script.specs.Standing.{after_canon, after_core_type, after_export, after_import, after_module};
 ghost use Rattle.smith_script.specs.Standing.{after_type, empty_in, standing, with_import};
 

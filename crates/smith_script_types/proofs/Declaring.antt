@@ -11,9 +11,9 @@ use Rattle.smith_read_types.specs.TypeNodes.{shown_decl_node}
 use Rattle.smith_read_types.specs.declared.nodes.DeclNode.{DeclNode}
 use Rattle.smith_types.specs.Needs.{decl_cost}
 use Rattle.smith_types.specs.Script.{Taken, after_taken, script_decl, script_decls}
+use Rattle.smith_script_core.proofs.Saying.{Towards, towards_step}
+use Rattle.smith_script_core.specs.Says.{Adds}
 use Rattle.smith_script_types.proofs.Alike.{all_same, script_decls_alike}
-use Rattle.smith_script_types.proofs.Saying.{Towards, towards_step}
-use Rattle.smith_script_types.specs.Says.{Adds}
 use Rattle.smith_script_types.specs.Scopes.{Alike}
 
 module _ (config : Config) (importing : Bool) (outer : List Scope) where

@@ -3,10 +3,6 @@ pub mod Declaring
 pub mod ModuleAlike
 pub mod ModuleTurns
 pub mod Nodes
-pub mod Picking
 pub mod Placing
-pub mod ReadableTexts
-pub mod Saying
 pub mod Sorts
-pub mod StandIns
 pub mod Turns

@@ -22,11 +22,11 @@ use Rattle.smith_core_types.proofs.FrontFound.{fronted, whole_front}
 use Rattle.smith_core_types.proofs.ModuleScript.{below}
 use Rattle.smith_core_types.specs.ModuleScript.{front_before, in_front, script_asked, script_decl, script_line}
 use Rattle.smith_core_types.specs.Offers.{Declared, undeclared, with_decl, with_front}
+use Rattle.smith_script_core.proofs.Saying.{Towards, adds_then, towards_step}
+use Rattle.smith_script_core.specs.Says.{Adds}
 use Rattle.smith_script_types.proofs.ModuleAlike.{loop_alike}
-use Rattle.smith_script_types.proofs.Saying.{Towards, adds_then, towards_step}
 use Rattle.smith_script_types.proofs.Sorts.{func_sorts_back}
 use Rattle.smith_script_types.specs.Modules.{DeclaredAlike, script_behind, with_sorts}
-use Rattle.smith_script_types.specs.Says.{Adds}
 use Rattle.smith_script_types.specs.Scopes.{Alike, func_sort_of, function_of}
 use Rattle.smith_script_types.specs.declared.scopes.FuncSort.{FuncSort}
 

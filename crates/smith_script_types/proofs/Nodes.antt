@@ -17,7 +17,7 @@ use Rattle.smith_read_types.specs.declared.nodes.DeclNode.TheFolds.{the_lemmas}
 use Rattle.smith_read_types.specs.declared.nodes.DeclNode.TheVariants as declared
 use Rattle.smith_read_types.specs.declared.nodes.TypeNode.{TypeNode}
 use Rattle.smith_read_types.specs.declared.nodes.TypeNode.TheVariants as node
-use Rattle.smith_script_types.proofs.Saying.{saying}
+use Rattle.smith_script_core.proofs.Saying.{saying}
 
 pub shown_values : (t : DefinedType) → shown_type_node (node.Defined t) ≡ defined (shown_defined t)
 shown_values t = search (rules, the_lemmas)

@@ -6,16 +6,14 @@ ghost use Rattle.smith_format.specs.Shown.{shown_func};
 ghost use Rattle.smith_read_types.specs.Nodes.{shown_core_node, shown_module_node};
 ghost use Rattle.smith_core_types.specs.ModuleScript.{script_module};
 ghost use Rattle.smith_core_types.specs.Script.{script_core, script_core_type};
+ghost use Rattle.smith_script_core.specs.Says.{Says};
 ghost use Rattle.smith_script_types.specs.Places.{own_at};
-ghost use Rattle.smith_script_types.specs.Says.{Says};
 
-use crate::choices::put_choice;
-use crate::core_functions::put_core_function;
-use crate::error::Unsaid;
 use crate::modules::put_module;
 use crate::place::Place;
 use smith_format::FuncType;
 use smith_read_types::{CoreNode, ModuleNode};
+use smith_script_core::{Unsaid, put_choice, put_core_function};
 
 // A core function type: the first of two, and then its parameters and its results.
 fn put_core_func(out: &mut Vec<u8>, place: Place<'_>, ty: &FuncType) -> Result<(), Unsaid>

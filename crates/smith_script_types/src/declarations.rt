@@ -4,15 +4,13 @@ ghost use Rattle.std.specs.Prelude.{◌≡◌, ◌∷◌, ◌+◌, length, nat_e
 ghost use Rattle.smith_input.specs.Script.{script_among};
 ghost use Rattle.smith_types.specs.Offers.{occupied};
 ghost use Rattle.smith_types.specs.Script.{script_alias, script_declaration_item, script_declares, script_no_import};
+ghost use Rattle.smith_script_core.specs.Says.{Says};
+ghost use Rattle.smith_script_core.specs.declared.error.Unsaid.TheVariants.{OutOfMemory};
 ghost use Rattle.smith_script_types.specs.Places.{outer_at, own_at};
-ghost use Rattle.smith_script_types.specs.Says.{Says};
-ghost use Rattle.smith_script_types.specs.declared.error.Unsaid.TheVariants.{OutOfMemory};
 
-use crate::choices::{put_among, put_choice};
-use crate::error::Unsaid;
-use crate::offers::put_offered;
 use crate::place::Place;
 use crate::scopes::occupied_places;
+use smith_script_core::{Unsaid, put_among, put_choice, put_offered};
 use smith_types::DeclarationItem;
 
 // That no import is declared, where one might be.

@@ -7,15 +7,14 @@ ghost use Rattle.smith_syntax.specs.ModuleTypes.{adds, count_of_kind, declared_i
 ghost use Rattle.smith_syntax.specs.Scope.{places};
 ghost use Rattle.smith_core_types.specs.Offers.{allows_function, allows_type, indexes};
 ghost use Rattle.smith_read_types.specs.Nodes.{shown_module_node};
+ghost use Rattle.smith_script_core.specs.declared.error.Unsaid.TheVariants.{OutOfMemory};
 ghost use Rattle.smith_script_types.specs.Modules.{so_far};
 ghost use Rattle.smith_script_types.specs.Scopes.{func_sort_of, function_of, shown_scope};
-ghost use Rattle.smith_script_types.specs.declared.error.Unsaid.TheVariants.{OutOfMemory};
 
-use crate::error::Unsaid;
-use crate::places::{Any, Test, places_of};
 use crate::scopes::{FuncSort, Scope, func_sort_of};
 use smith_format::{Config, EntityType, ExportKind};
 use smith_read_types::ModuleNode;
+use smith_script_core::{Any, Test, Unsaid, places_of};
 use std::alloc::Global;
 
 /// A module type so far: the sorts of its own types, and its declarations.

@@ -1,6 +1,6 @@
 //! What a module type imports and exports.
 
-ghost use Rattle.std.specs.Prelude.{◌≡◌, ◌≤◌, ◌&&◌, ◌++◌, length, nat_lt, IfOk, IfErr};
+ghost use Rattle.std.specs.Prelude.{◌≡◌, ◌&&◌, ◌++◌, length, nat_lt, IfOk, IfErr};
 ghost use Rattle.smith_input.specs.Script.{script_among};
 ghost use Rattle.smith_format.specs.Equality.{same_val};
 ghost use Rattle.smith_format.specs.Limits.{configured};
@@ -8,57 +8,17 @@ ghost use Rattle.smith_format.specs.contracts.types.ExportKindPartialEq.TheImpl.
 ghost use Rattle.smith_format.specs.declared.types.ExportKind.TheVariants as kind;
 ghost use Rattle.smith_syntax.specs.ModuleTypes.{count_of_kind, is_tag_type};
 ghost use Rattle.smith_syntax.specs.Scope.{places};
-ghost use Rattle.smith_format.specs.CoreScript.{script_between, script_limits, script_maximum};
 ghost use Rattle.smith_core_types.specs.ModuleScript.{script_bit, script_element, script_entity, script_entity_of};
 ghost use Rattle.smith_core_types.specs.Offers.{entity_kinds};
+ghost use Rattle.smith_script_core.specs.Says.{Says};
+ghost use Rattle.smith_script_core.specs.declared.error.Unsaid.TheVariants.{OutOfMemory};
 ghost use Rattle.smith_script_types.specs.Modules.{so_far};
-ghost use Rattle.smith_script_types.specs.Says.{Says};
-ghost use Rattle.smith_script_types.specs.declared.error.Unsaid.TheVariants.{OutOfMemory};
 
-use crate::choices::{put_among, put_byte, put_choice};
-use crate::core_functions::valtypes_of;
 use crate::declared::Declared;
-use crate::error::Unsaid;
-use crate::offers::put_offered;
 use crate::place::Place;
 use smith_format::{Config, EntityType, ExportKind, GlobalType, RefType};
+use smith_script_core::{Unsaid, put_among, put_byte, put_limits, put_offered, valtypes_of};
 use std::alloc::Global;
-
-// A number from low to high.
-fn put_between(out: &mut Vec<u8>, low: u64, high: u64, n: u64) -> Result<(), Unsaid>
-    requires { high ≤ 20 }
-    ensures { Says result out.old out.new (script_between low high n) }
-{
-    put_choice(
-        out,
-        high.saturating_sub(low) as usize + 1,
-        n.saturating_sub(low) as usize,
-    )
-}
-
-fn put_maximum(out: &mut Vec<u8>, minimum: u64, maximum: Option<u64>) -> Result<(), Unsaid>
-    ensures { Says result out.old out.new (script_maximum minimum maximum) }
-{
-    match maximum {
-        None => put_byte(out, 0),
-        Some(maximum) => {
-            put_byte(out, 1)?;
-            put_between(out, minimum, 20, maximum)
-        }
-    }
-}
-
-/// Limits: the minimum, and the maximum or none.
-pub(crate) fn put_limits(
-    out: &mut Vec<u8>,
-    minimum: u64,
-    maximum: Option<u64>,
-) -> Result<(), Unsaid>
-    ensures { Says result out.old out.new (script_limits minimum maximum) }
-{
-    put_between(out, 0, 10, minimum)?;
-    put_maximum(out, minimum, maximum)
-}
 
 // What a table holds, where there is a choice.
 fn put_element(out: &mut Vec<u8>, config: &Config, ty: RefType) -> Result<(), Unsaid>

@@ -8,8 +8,8 @@ ghost use Rattle.smith_read_types.specs.Nodes.{shown_core_node};
 ghost use Rattle.smith_read_types.specs.TypeNodes.{shown_decl_node, shown_type_node};
 ghost use Rattle.smith_types.specs.Needs.{cost, decl_cost, decls_cost};
 
-use crate::fronts::core_size;
 use smith_read_types::{DeclNode, TypeNode};
+use smith_script_core::core_size;
 use smith_syntax::{DefinedType, FuncType};
 
 // What so many turns leave of the fuel.

@@ -6,17 +6,14 @@ ghost use Rattle.smith_syntax.specs.ModuleTypes.{after_front, after_memory, afte
 ghost use Rattle.smith_read_types.specs.Nodes.{shown_module_node};
 ghost use Rattle.smith_core_types.specs.ModuleScript.{front_before, in_front, may_declare, script_asked, script_front};
 ghost use Rattle.smith_core_types.specs.ModuleScript.{script_line};
-ghost use Rattle.smith_script_types.specs.Says.{Says};
-ghost use Rattle.smith_script_types.specs.declared.error.Unsaid.TheVariants.{OutOfMemory};
+ghost use Rattle.smith_script_core.specs.Says.{Says};
+ghost use Rattle.smith_script_core.specs.declared.error.Unsaid.TheVariants.{OutOfMemory};
 
-use crate::choices::put_choice;
 use crate::declared::{Declared, declared_sorts, entity_in};
-use crate::entities::put_limits;
-use crate::error::Unsaid;
-use crate::fronts::{after_front, after_memory, after_realloc};
 use crate::place::Place;
 use smith_format::EntityType;
 use smith_read_types::ModuleNode;
+use smith_script_core::{Unsaid, after_front, after_memory, after_realloc, put_choice, put_limits};
 
 // The declarations in front of these.
 fn in_front<'b>(decls: &'b [ModuleNode], behind: &[ModuleNode]) -> &'b [ModuleNode]

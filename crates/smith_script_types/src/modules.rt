@@ -8,25 +8,22 @@ ghost use Rattle.smith_read_types.specs.Nodes.{shown_module_node};
 ghost use Rattle.smith_core_types.specs.ModuleScript.{alias_place, script_decl, script_entity, script_item};
 ghost use Rattle.smith_core_types.specs.ModuleScript.{script_module};
 ghost use Rattle.smith_core_types.specs.Offers.{alias_choices};
+ghost use Rattle.smith_script_core.specs.Says.{Says};
+ghost use Rattle.smith_script_core.specs.declared.error.Unsaid.TheVariants.{OutOfMemory};
 ghost use Rattle.smith_script_types.specs.Modules.{script_behind, so_far};
 ghost use Rattle.smith_script_types.specs.Places.{own_at};
-ghost use Rattle.smith_script_types.specs.Says.{Says};
-ghost use Rattle.smith_script_types.specs.declared.error.Unsaid.TheVariants.{OutOfMemory};
 
-use crate::choices::{place_of, put_choice, put_end, put_more};
-use crate::core_functions::put_core_function;
 use crate::declared::{Declared, add, declared_sorts};
 use crate::entities::put_entity;
-use crate::error::Unsaid;
-use crate::fronts::after_front;
 use crate::module_fronts::put_front;
-use crate::module_names::{exports_in, imports_from};
-use crate::names::{put_core_name, put_new_core_name};
-use crate::offers::put_offered;
 use crate::place::Place;
 use smith_core_types::ModuleItem;
 use smith_format::EntityType;
 use smith_read_types::ModuleNode;
+use smith_script_core::{
+    Unsaid, after_front, exports_in, imports_from, place_of, put_choice, put_core_function,
+    put_core_name, put_end, put_more, put_new_core_name, put_offered,
+};
 
 // How many function types an outer alias is among.
 fn alias_count(place: Place<'_>, declared: Declared<'_>) -> Result<usize, Unsaid>

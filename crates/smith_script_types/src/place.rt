@@ -3,15 +3,15 @@
 ghost use Rattle.std.specs.Prelude.{◌≡◌, ◌∷◌, map, slice_get, None, Some, IfOk, IfErr, MatchOption};
 ghost use Rattle.smith_syntax.specs.Scope.{after_decl, core_type_named, exported_type, type_named};
 ghost use Rattle.smith_read_types.specs.TypeNodes.{shown_decl_node};
+ghost use Rattle.smith_script_core.specs.declared.error.Unsaid.TheVariants.{OutOfMemory};
 ghost use Rattle.smith_script_types.specs.Places.{own_at, outer_at};
 ghost use Rattle.smith_script_types.specs.Added.{added_core_type, added_type, with_added};
 ghost use Rattle.smith_script_types.specs.Scopes.{Alike, core_entry_of, entry_of, shown_scope};
-ghost use Rattle.smith_script_types.specs.declared.error.Unsaid.TheVariants.{OutOfMemory};
 
-use crate::error::Unsaid;
 use crate::scopes::{Added, CoreSort, Scope, Sort, core_sort_of, sort_of};
 use smith_format::Config;
 use smith_read_types::DeclNode;
+use smith_script_core::Unsaid;
 use smith_syntax::ComponentTypeRef;
 use std::alloc::Global;
 

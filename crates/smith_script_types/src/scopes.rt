@@ -7,15 +7,14 @@ ghost use Rattle.smith_syntax.specs.Scope.{empty_scope, is_core_func, is_core_mo
 ghost use Rattle.smith_read_types.specs.Nodes.{shown_core_node};
 ghost use Rattle.smith_read_types.specs.TypeNodes.{shown_type_node};
 ghost use Rattle.smith_types.specs.Offers.{aliases_of, is_occupied};
+ghost use Rattle.smith_script_core.specs.declared.error.Unsaid.TheVariants.{OutOfMemory};
 ghost use Rattle.smith_script_types.specs.Scopes.{core_entry_of, core_sort_of, entry_of, func_sort_of, function_of};
 ghost use Rattle.smith_script_types.specs.Scopes.{is_of, shown_scope, sort_of};
 ghost use Rattle.smith_script_types.specs.Added.{with_added};
-ghost use Rattle.smith_script_types.specs.declared.error.Unsaid.TheVariants.{OutOfMemory};
 
-use crate::error::Unsaid;
-use crate::places::{Any, Test, places_of};
 use smith_format::FuncType;
 use smith_read_types::{CoreNode, TypeNode};
+use smith_script_core::{Any, Test, Unsaid, places_of};
 use std::alloc::Global;
 
 /// What a type is of. Public since contracts speak of it.

@@ -8,14 +8,12 @@ ghost use Rattle.smith_types.specs.Offers.{uncounted};
 ghost use Rattle.smith_types.specs.Script.{none_taken, script_decl, script_decls, script_extern, script_ref, script_type};
 ghost use Rattle.smith_types.specs.Script.{script_type_kind};
 ghost use Rattle.smith_types.specs.declared.make.TypeKind.TheVariants.{Defined};
+ghost use Rattle.smith_script_core.specs.Says.{Says};
 ghost use Rattle.smith_script_types.specs.Places.{outer_at, own_at};
-ghost use Rattle.smith_script_types.specs.Says.{Says};
 ghost use Rattle.smith_script_types.specs.Taken.{shown_taken};
 
-use crate::choices::{put_among, put_byte, put_choice, put_end};
 use crate::core_types::put_core;
 use crate::declarations::{put_core_type_alias, put_declares, put_type_alias};
-use crate::error::Unsaid;
 use crate::fuel::after_decl;
 use crate::place::Place;
 use crate::references::{put_extern, put_reference};
@@ -23,6 +21,7 @@ use crate::scopes::Scope;
 use crate::taken::{Taken, export_count, import_count};
 use crate::values::{put_defined, put_signature};
 use smith_read_types::{DeclNode, TypeNode};
+use smith_script_core::{Unsaid, put_among, put_byte, put_choice, put_end};
 use smith_syntax::ComponentTypeRef;
 use smith_types::{DeclarationItem, RefTotals, TypeKind};
 

@@ -8,15 +8,12 @@ ghost use Rattle.smith_types.specs.Script.{script_case, script_defined, script_e
 ghost use Rattle.smith_types.specs.Script.{script_label};
 ghost use Rattle.smith_types.specs.Script.{script_maybe, script_members, script_primitive, script_signature};
 ghost use Rattle.smith_types.specs.Script.{script_val};
-ghost use Rattle.smith_script_types.specs.Says.{Says};
+ghost use Rattle.smith_script_core.specs.Says.{Says};
 ghost use Rattle.smith_script_types.specs.Places.{own_at};
 
-use crate::choices::{put_among, put_byte, put_choice};
-use crate::error::Unsaid;
-use crate::members::{Scripted, put_members};
-use crate::names::put_name;
 use crate::place::Place;
 use crate::scopes::Sort;
+use smith_script_core::{Scripted, Unsaid, put_among, put_byte, put_choice, put_members, put_name};
 use smith_syntax::{ComponentValType, DefinedType, FuncType, PrimitiveValType, ResultType};
 use smith_types::DefinedKind;
 

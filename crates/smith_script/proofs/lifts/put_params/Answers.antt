@@ -1,4 +1,4 @@
-use Rattle.smith_script_types.proofs.Saying.{gives_up, towards_exit, unsaid_left, unsaid_right}
+use Rattle.smith_script_core.proofs.Saying.{gives_up, towards_exit, unsaid_left, unsaid_right}
 use Rattle.smith_script.proofs.Steps.{params_at}
 use Rattle.smith_script.proofs.lifts.put_params.Goals as goal
 

@@ -1,4 +1,4 @@
-use Rattle.smith_script_types.proofs.Saying.{gives_up, towards_end, towards_exit, unsaid_left, unsaid_right}
+use Rattle.smith_script_core.proofs.Saying.{gives_up, towards_end, towards_exit, unsaid_left, unsaid_right}
 use Rattle.smith_script.proofs.Turns.{parts_at, parts_end}
 use Rattle.smith_script.proofs.parts.+parts.Goals as goal
 

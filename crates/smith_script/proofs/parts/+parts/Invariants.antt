@@ -1,7 +1,7 @@
 use Rattle.std.proofs.Common.{◌≡◌, drop, map}
 use Rattle.smith_component.specs.Tree.{tree_of}
 use Rattle.smith_read.specs.PartNodes.{shown_part_node}
-use Rattle.smith_script_types.proofs.Saying.{Towards}
+use Rattle.smith_script_core.proofs.Saying.{Towards}
 use Rattle.smith_script.specs.Saying.{outer_in, tree_says}
 use Rattle.smith_script.specs.Standing.{after_tree, standing}
 use Rattle.smith_script.proofs.parts.+parts.Given as goal

@@ -1,6 +1,6 @@
 use Rattle.std.proofs.Common.{subst}
 use Rattle.smith_read.specs.PartNodes.{shown_tree}
-use Rattle.smith_script_types.specs.Says.{Says}
+use Rattle.smith_script_core.specs.Says.{Says}
 use Rattle.smith_script.proofs.Same.{whole_same}
 use Rattle.smith_script.proofs.parts.put_tree.Goals as goal
 

@@ -1,4 +1,4 @@
-use Rattle.smith_script_types.proofs.Saying.{gives_up, towards_end, towards_exit, unsaid_left, unsaid_right}
+use Rattle.smith_script_core.proofs.Saying.{gives_up, towards_end, towards_exit, unsaid_left, unsaid_right}
 use Rattle.smith_script.proofs.Steps.{rows_at, rows_end}
 use Rattle.smith_script.proofs.rows.put_rows.Goals as goal
 

@@ -1,6 +1,6 @@
 use Rattle.std.proofs.Common.{◌≡◌, drop, fold, map}
 use Rattle.smith_input.specs.Script.{script_loop}
-use Rattle.smith_script_types.proofs.Saying.{Towards}
+use Rattle.smith_script_core.proofs.Saying.{Towards}
 use Rattle.smith_script.specs.Saying.{outer_in, rows_say}
 use Rattle.smith_script.specs.Standing.{standing}
 use Rattle.smith_script.proofs.rows.put_rows.Given as goal

@@ -1,5 +1,5 @@
+use Rattle.smith_script_core.proofs.Saying.{gives_up, towards_exit, towards_step}
 use Rattle.smith_script_types.proofs.ModuleTurns.{asked_at}
-use Rattle.smith_script_types.proofs.Saying.{gives_up, towards_exit, towards_step}
 use Rattle.smith_script_types.proofs.module_fronts.put_all_asked.Goals as goal
 
 pub returns-in_err-put_asked : goal.returns-in_err-put_asked

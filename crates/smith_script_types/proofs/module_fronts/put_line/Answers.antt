@@ -1,8 +1,8 @@
 use Rattle.std.proofs.Common.{map, arith}
 use Rattle.std.proofs.lemmas.List.{length-map}
 use Rattle.smith_read_types.specs.Nodes.{shown_module_node}
+use Rattle.smith_script_core.proofs.Saying.{ends}
 use Rattle.smith_script_types.proofs.ModuleTurns.{line_taken}
-use Rattle.smith_script_types.proofs.Saying.{ends}
 use Rattle.smith_script_types.proofs.module_fronts.put_line.Goals as goal
 
 pub returns-then-behind-decls : goal.returns-then-behind-decls

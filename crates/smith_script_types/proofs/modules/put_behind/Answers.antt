@@ -1,7 +1,7 @@
 use Rattle.std.proofs.Common.{◌≡◌, length, arith}
 use Rattle.std.proofs.Common.{subst}
+use Rattle.smith_script_core.proofs.Saying.{Towards, gives_up, memory_unsaid, towards_end, towards_exit, towards_start, unsaid_left, unsaid_right}
 use Rattle.smith_script_types.proofs.ModuleTurns.{module_at, module_over, module_start, module_step}
-use Rattle.smith_script_types.proofs.Saying.{Towards, gives_up, memory_unsaid, towards_end, towards_exit, towards_start, unsaid_left, unsaid_right}
 use Rattle.smith_script_types.specs.Places.{own_at}
 use Rattle.smith_script_types.proofs.modules.put_behind.Goals as goal
 

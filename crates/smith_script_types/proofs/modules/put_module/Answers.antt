@@ -2,8 +2,8 @@ use Rattle.std.proofs.Common.{◌≡◌, ap, length, map, sym, ◌∙◌, arith}
 use Rattle.std.proofs.lemmas.List.{length-map}
 use Rattle.smith_syntax.specs.ModuleTypes.{after_front}
 use Rattle.smith_read_types.specs.Nodes.{shown_module_node}
+use Rattle.smith_script_core.proofs.Saying.{ends, gives_up, unsaid_left}
 use Rattle.smith_script_types.proofs.ModuleTurns.{behind_is, behind_within}
-use Rattle.smith_script_types.proofs.Saying.{ends, gives_up, unsaid_left}
 use Rattle.smith_script_types.specs.Places.{own_at}
 use Rattle.smith_script_types.proofs.modules.put_module.Goals as goal
 

@@ -1,4 +1,4 @@
-use Rattle.smith_script_types.proofs.Saying.{gives_up, unsaid_right}
+use Rattle.smith_script_core.proofs.Saying.{gives_up, unsaid_right}
 use Rattle.smith_script.proofs.rows.ImportNodeRow.put.Goals as goal
 
 pub returns-in_err-put_extern-clause-said : goal.returns-in_err-put_extern-clause-said

@@ -1,0 +1,5 @@
+pub mod Picking
+pub mod ReadableTexts
+pub mod Saying
+pub mod StandIns
+pub mod Turns

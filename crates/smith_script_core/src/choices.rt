@@ -1,0 +1,147 @@
+//! Choices, loops and texts as a script spells them.
+
+ghost use Rattle.std.specs.Prelude.{◌≡◌, ◌≤◌, ◌∷◌, [], ◌+◌, ◌++◌};
+ghost use Rattle.smith_input.specs.Script.{big_endian, code, pick, rank_of, script_among, script_bytes};
+ghost use Rattle.smith_input.specs.Script.{script_characters};
+ghost use Rattle.smith_input.specs.Script.{script_end, script_more, script_text, width_within};
+ghost use Rattle.smith_script_core.specs.Says.{Says};
+
+use crate::error::Unsaid;
+
+/// The longest name of a custom section.
+const MOST_TEXT: usize = 1000;
+
+pub fn put_byte(out: &mut Vec<u8>, value: u8) -> Result<(), Unsaid>
+    ensures { Says result out.old out.new (value ∷ []) }
+{
+    out.push(value)?;
+    Ok(())
+}
+
+pub fn put_raw(out: &mut Vec<u8>, contents: &[u8]) -> Result<(), Unsaid>
+    ensures { Says result out.old out.new contents.now }
+{
+    out.extend_from_slice(contents)?;
+    Ok(())
+}
+
+// How many bytes tell n things apart, at most so many.
+fn width_within(most: u32, n: u64) -> u32
+    ensures width { result ≡ width_within most n }
+    ensures few { result ≤ most }
+{
+    if most == 0 || n <= 1 {
+        return 0;
+    }
+    width_within(most - 1, n.div_ceil(256)) + 1
+}
+
+// A number in so many bytes, the most significant first.
+fn put_big_endian(out: &mut Vec<u8>, width: u32, k: u64) -> Result<(), Unsaid>
+    requires { width ≤ 8 }
+    ensures { Says result out.old out.new (big_endian width k) }
+{
+    if width == 0 {
+        return Ok(());
+    }
+    let unit = 256u64.pow(width - 1);
+    let Ok(first) = u8::try_from(k / unit) else {
+        return Err(Unsaid::NoBytes);
+    };
+    put_byte(out, first)?;
+    put_big_endian(out, width - 1, k % unit)
+}
+
+/// A choice of k among n.
+pub fn put_choice(out: &mut Vec<u8>, n: usize, k: usize) -> Result<(), Unsaid>
+    ensures { Says result out.old out.new (pick n k) }
+{
+    let width = width_within(8, n as u64);
+    put_big_endian(out, width, k as u64)
+}
+
+/// The place of the first item that is equal to that one, or how many there are.
+pub fn place_of<T: PartialEq>(items: &[T], item: &T) -> usize
+    ensures { result ≡ rank_of T.eq items.now item.now }
+{
+    for place in 0..items.len() {
+        if items[place] == *item {
+            return place;
+        }
+    }
+    items.len()
+}
+
+/// A choice of an item among these.
+pub fn put_among<T: PartialEq>(out: &mut Vec<u8>, items: &[T], item: &T) -> Result<(), Unsaid>
+    ensures { Says result out.old out.new (script_among T.eq items.now item.now) }
+{
+    put_choice(out, items.len(), place_of(items, item))
+}
+
+/// That a loop makes another turn, where it might end.
+pub fn put_more(out: &mut Vec<u8>, min: usize, done: usize) -> Result<(), Unsaid>
+    ensures { Says result out.old out.new (script_more min done) }
+{
+    if done < min {
+        return Ok(());
+    }
+    put_byte(out, 1)
+}
+
+/// That a loop ends, where it might make another turn.
+pub fn put_end(out: &mut Vec<u8>, done: usize, max: usize) -> Result<(), Unsaid>
+    ensures { Says result out.old out.new (script_end done max) }
+{
+    if done < max {
+        return put_byte(out, 0);
+    }
+    Ok(())
+}
+
+// The choice that gives a character of a name.
+fn code(character: u8) -> usize
+    ensures { result ≡ code character }
+{
+    match character {
+        97.. => usize::from(character) - 97,
+        48.. => usize::from(character) - 48 + 26,
+        _ => 36,
+    }
+}
+
+/// The characters of a name in kebab case.
+pub(crate) fn put_characters(out: &mut Vec<u8>, name: &[u8]) -> Result<(), Unsaid>
+    ensures { Says result out.old out.new (script_characters name.now) }
+{
+    for character in name {
+        put_choice(out, 37, code(*character))?;
+    }
+    Ok(())
+}
+
+/// A text of at most so many bytes, as the reader has them.
+pub(crate) fn put_text_within(out: &mut Vec<u8>, most: usize, text: &[u8]) -> Result<(), Unsaid>
+    requires { most ≤ 1000 }
+    ensures { Says result out.old out.new (script_text most text.now) }
+{
+    put_choice(out, most + 1, text.len())?;
+    put_raw(out, text)
+}
+
+/// The name of a custom section.
+pub fn put_text(out: &mut Vec<u8>, name: &str) -> Result<(), Unsaid>
+    ensures { Says result out.old out.new (script_text 1000 name.now) }
+{
+    put_text_within(out, MOST_TEXT, name.as_bytes())
+}
+
+/// The contents of a custom section.
+pub fn put_contents(out: &mut Vec<u8>, contents: &[u8]) -> Result<(), Unsaid>
+    ensures { Says result out.old out.new (script_bytes contents.now) }
+{
+    for byte in contents {
+        put_raw(out, &[1, *byte])?;
+    }
+    put_byte(out, 0)
+}

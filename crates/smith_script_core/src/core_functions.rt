@@ -1,0 +1,58 @@
+//! Core function types.
+
+ghost use Rattle.std.specs.Prelude.{◌≡◌, ℕ, List, ◌++◌, IfOk, IfErr};
+ghost use Rattle.smith_format.specs.CoreScript.{script_function};
+ghost use Rattle.smith_format.specs.Limits.{configured, max_results};
+ghost use Rattle.smith_format.specs.Shown.{shown_func};
+ghost use Rattle.smith_script_core.specs.Says.{Says};
+ghost use Rattle.smith_script_core.specs.declared.error.Unsaid.TheVariants.{OutOfMemory};
+
+use crate::error::Unsaid;
+use crate::members::put_core_values;
+use smith_format::{Config, FuncType, ValType, configured_valtypes};
+use std::alloc::Global;
+
+/// The core value types that the limits allow.
+pub fn valtypes_of(alloc: Global, config: &Config) -> Result<Vec<ValType>, Unsaid>
+    ensures list { IfOk result (λ v. v.items ≡ configured config.now) }
+    ensures memory { IfErr result (λ e. e ≡ OutOfMemory) }
+{
+    let Ok(valtypes) = configured_valtypes(alloc, config) else {
+        return Err(Unsaid::OutOfMemory);
+    };
+    Ok(valtypes)
+}
+
+/// The most results of a core function type.
+pub(crate) fn max_results(config: &Config) -> usize
+    ensures { result ≡ max_results config.now }
+{
+    if config.multi_value_enabled { 20 } else { 1 }
+}
+
+// The parameters of a core function type, and then its results.
+fn put_values(
+    out: &mut Vec<u8>,
+    valtypes: &Vec<ValType>,
+    most_results: usize,
+    ty: &FuncType,
+) -> Result<(), Unsaid>
+    ensures { Says result out.old out.new (script_function valtypes.now.items most_results (shown_func ty.now)) }
+{
+    put_core_values(out, valtypes, 20, &ty.params)?;
+    put_core_values(out, valtypes, most_results, &ty.results)
+}
+
+/// A core function type behind what says that it is one.
+pub fn put_core_function(
+    alloc: Global,
+    out: &mut Vec<u8>,
+    config: &Config,
+    ty: &FuncType,
+) -> Result<(), Unsaid>
+    ensures { Says result out.old out.new
+        (script_function (configured config.now) (max_results config.now) (shown_func ty.now)) }
+{
+    let valtypes = valtypes_of(alloc, config)?;
+    put_values(out, &valtypes, max_results(config), ty)
+}

@@ -1,0 +1,30 @@
+//! Scripts of choices, texts and names, and of core modules: the input from which something that somebody wants is
+//! read. What is public here is so for the crates above alone.
+#![tactic(auto, using(crate::proofs::Saying::saying))]
+
+mod choices;
+mod core_functions;
+mod cuts;
+mod error;
+mod fronts;
+mod limits;
+mod members;
+mod module_names;
+mod names;
+mod offers;
+mod places;
+mod stand_ins;
+
+pub use choices::{
+    place_of, put_among, put_byte, put_choice, put_contents, put_end, put_more, put_text,
+};
+pub use core_functions::{put_core_function, valtypes_of};
+pub use error::Unsaid;
+pub use fronts::{after_front, after_memory, after_realloc, core_size};
+pub use limits::put_limits;
+pub use members::{Scripted, put_members};
+pub use module_names::{exports_in, imports_from};
+pub use names::{put_core_name, put_name, put_new_core_name};
+pub use offers::put_offered;
+pub use places::{Any, Test, places_of};
+pub use stand_ins::put_stand_in;

@@ -1,0 +1,57 @@
+//! Loops over members that have a script each.
+
+ghost use Rattle.std.specs.Prelude.{◌≡◌, ℕ, List, ◌++◌};
+ghost use Rattle.smith_input.specs.Script.{script_among};
+ghost use Rattle.smith_format.specs.Equality.{same_val};
+ghost use Rattle.smith_format.specs.CoreScript.{script_values};
+ghost use Rattle.smith_types.specs.Script.{script_members};
+ghost use Rattle.smith_script_core.specs.Says.{Says};
+
+use crate::choices::{put_among, put_end, put_more};
+use crate::error::Unsaid;
+use smith_format::ValType;
+
+/// What has a script in a context, behind so many.
+pub trait Scripted<Context> {
+    ghost script: { Context → ℕ → Self → List ℕ };
+
+    fn say(&self, context: &Context, done: usize, out: &mut Vec<u8>) -> Result<(), Unsaid>
+        ensures { Says result out.old out.new (script context.now done self.now) };
+}
+
+/// A loop that makes these, at least min and at most max.
+pub fn put_members<Context, T: Scripted<Context>>(
+    out: &mut Vec<u8>,
+    context: &Context,
+    min: usize,
+    max: usize,
+    items: &[T],
+) -> Result<(), Unsaid>
+    ensures { Says result out.old out.new (script_members (T.script context.now) min max items.now) }
+{
+    for done in 0..items.len() {
+        put_more(out, min, done)?;
+        items[done].say(context, done, out)?;
+    }
+    put_end(out, items.len(), max)
+}
+
+impl Scripted<Vec<ValType>> for ValType {
+    ghost script = { λ valtypes _ x. script_among same_val valtypes.items x };
+
+    fn say(&self, context: &Vec<ValType>, _done: usize, out: &mut Vec<u8>) -> Result<(), Unsaid> {
+        put_among(out, context, self)
+    }
+}
+
+/// At most max core value types, each one of these.
+pub(crate) fn put_core_values(
+    out: &mut Vec<u8>,
+    valtypes: &Vec<ValType>,
+    max: usize,
+    items: &[ValType],
+) -> Result<(), Unsaid>
+    ensures { Says result out.old out.new (script_values valtypes.now.items max items.now) }
+{
+    put_members(out, valtypes, 0, max, items)
+}

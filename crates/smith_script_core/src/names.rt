@@ -1,0 +1,102 @@
+//! Names as a script spells them: by a text that can be read and becomes the name.
+
+ghost use Rattle.std.specs.Fmt.{decimal};
+ghost use Rattle.std.specs.Prelude.{◌≡◌, ◌≤◌, ℕ, List, Bool, length};
+ghost use Rattle.smith_input.specs.NameScript.{is_short, is_within, script_new, script_new_text, script_within, text_of};
+ghost use Rattle.smith_input.specs.Script.{script_name, script_text};
+ghost use Rattle.smith_script_core.specs.Says.{Says};
+
+use crate::choices::{put_characters, put_choice, put_text_within};
+use crate::cuts::front;
+use crate::error::Unsaid;
+
+/// How many bytes of a name are read, but for the last letter of one in kebab case.
+const MOST_NAME: usize = 100;
+
+// Which texts can be read.
+trait Readable {
+    ghost can_read: { Self → List ℕ → Bool };
+
+    fn reads(&self, text: &[u8]) -> bool
+        ensures { result ≡ can_read self.now text.now };
+}
+
+// Texts that become names in kebab case.
+#[derive(Drop)]
+struct Label {}
+
+impl Readable for Label {
+    ghost can_read = { λ _ text. is_within 100 text };
+
+    fn reads(&self, text: &[u8]) -> bool {
+        text.len() <= MOST_NAME || text.len() == MOST_NAME + 1 && text.ends_with(&[b'-', b'a'])
+    }
+}
+
+// Texts that become other names.
+#[derive(Drop)]
+struct Text {}
+
+impl Readable for Text {
+    ghost can_read = { λ _ text. is_short 100 text };
+
+    fn reads(&self, text: &[u8]) -> bool {
+        text.len() <= MOST_NAME
+    }
+}
+
+// How many decimal digits a number has.
+fn decimal_len(n: usize) -> usize
+    ensures count { result ≡ length (decimal n) }
+    ensures few { result ≤ 20 }
+{
+    if n < 10 {
+        return 1;
+    }
+    decimal_len(n / 10) + 1
+}
+
+// The longest text that can be read and becomes the name, where so many names are there.
+fn text_of<'b, R: Readable>(rule: &R, count: usize, name: &'b [u8]) -> &'b [u8]
+    ensures { result.now ≡ text_of (R.can_read rule.now) count name.now }
+{
+    let digits = decimal_len(count);
+    let mut text = name;
+    for _turn in 0..name.len() {
+        if rule.reads(text) {
+            return text;
+        }
+        text = &text[..text.len().saturating_sub(digits)];
+    }
+    text
+}
+
+// A name in kebab case, of which so many bytes are chosen.
+fn put_kebab(out: &mut Vec<u8>, name: &[u8]) -> Result<(), Unsaid>
+    ensures { Says result out.old out.new (script_name 100 name.now) }
+{
+    put_choice(out, MOST_NAME + 1, name.len())?;
+    put_characters(out, name)
+}
+
+/// A name in kebab case, where so many names are there.
+pub fn put_name(out: &mut Vec<u8>, count: usize, name: &str) -> Result<(), Unsaid>
+    ensures { Says result out.old out.new (script_new 100 count name.now) }
+{
+    let text = text_of(&Label {}, count, name.as_bytes());
+    put_kebab(out, front(text, MOST_NAME))
+}
+
+/// The name of a core module from which something is imported.
+pub fn put_core_name(out: &mut Vec<u8>, name: &str) -> Result<(), Unsaid>
+    ensures { Says result out.old out.new (script_text 100 name.now) }
+{
+    put_text_within(out, MOST_NAME, name.as_bytes())
+}
+
+/// A name of what a core module imports or exports, where so many names are there.
+pub fn put_new_core_name(out: &mut Vec<u8>, count: usize, name: &str) -> Result<(), Unsaid>
+    ensures { Says result out.old out.new (script_new_text 100 count name.now) }
+{
+    put_text_within(out, MOST_NAME, text_of(&Text {}, count, name.as_bytes()))
+}

@@ -1,0 +1,190 @@
+//! Core modules that stand for generated ones.
+
+ghost use Rattle.std.specs.Prelude.{◌≡◌, ◌≤◌, ◌<◌, [], ◌∷◌, length, map, IfOk, IfErr, MatchOption};
+ghost use Rattle.smith_format.specs.CoreScript.{script_function, script_values};
+ghost use Rattle.smith_core.specs.StandInScript.{all_memories, counted_functions, function_of, functions_of};
+ghost use Rattle.smith_core.specs.StandInScript.{memories_of, memory_of, past_number, script_stand_in, stand_in_of};
+ghost use Rattle.smith_core.specs.StandInScript.{types_of, value_of, values_of};
+ghost use Rattle.smith_script_core.specs.Says.{Says};
+ghost use Rattle.smith_script_core.specs.StandIns.{script_functions, script_memories};
+ghost use Rattle.smith_script_core.specs.declared.error.Unsaid.TheVariants.{OutOfMemory};
+
+use crate::choices::{put_end, put_more};
+use crate::core_functions::{max_results, valtypes_of};
+use crate::cuts::{behind, front};
+use crate::error::Unsaid;
+use crate::limits::put_limits;
+use crate::members::put_core_values;
+use smith_format::{Config, RefType, ValType};
+use std::alloc::Global;
+
+// The value type of a byte.
+fn value_of(byte: u8) -> ValType
+    ensures { result ≡ value_of byte }
+{
+    match byte {
+        0x7f => ValType::I32,
+        0x7e => ValType::I64,
+        0x7d => ValType::F32,
+        0x7c => ValType::F64,
+        0x7b => ValType::V128,
+        0x70 => ValType::Ref(RefType::FuncRef),
+        _ => ValType::Ref(RefType::ExternRef),
+    }
+}
+
+// The value types of these bytes.
+fn values_in(alloc: Global, bytes: &[u8]) -> Result<Vec<ValType>, Unsaid>
+    ensures list { IfOk result (λ v. v.items ≡ map value_of bytes.now) }
+    ensures memory { IfErr result (λ e. e ≡ OutOfMemory) }
+{
+    let mut values = Vec::new(alloc);
+    for byte in bytes {
+        values.push(value_of(*byte))?;
+    }
+    Ok(values)
+}
+
+// What is behind a number.
+fn past_number(bytes: &[u8]) -> &[u8]
+    ensures { result.now ≡ past_number bytes.now }
+{
+    for place in 0..bytes.len() {
+        if bytes[place] < 128 {
+            return &bytes[place + 1..];
+        }
+    }
+    &[]
+}
+
+// The value types behind their count. The answer is what is behind them.
+fn put_values<'b>(
+    alloc: Global,
+    out: &mut Vec<u8>,
+    valtypes: &Vec<ValType>,
+    most: usize,
+    bytes: &'b [u8],
+) -> Result<&'b [u8], Unsaid>
+    ensures said { Says result out.old out.new (script_values valtypes.now.items most (values_of bytes.now).0) }
+    ensures left { IfOk result (λ left. left.now ≡ (values_of bytes.now).1) }
+{
+    let Some((count, rest)) = bytes.split_first() else {
+        put_core_values(out, valtypes, most, &[])?;
+        return Ok(bytes);
+    };
+    let values = values_in(alloc, front(rest, usize::from(*count)))?;
+    put_core_values(out, valtypes, most, &values)?;
+    Ok(behind(rest, usize::from(*count)))
+}
+
+// A function type. The answer is what is behind it.
+fn put_function<'b>(
+    alloc: Global,
+    out: &mut Vec<u8>,
+    valtypes: &Vec<ValType>,
+    most_results: usize,
+    bytes: &'b [u8],
+) -> Result<&'b [u8], Unsaid>
+    ensures said { Says result out.old out.new
+        (script_function valtypes.now.items most_results (function_of bytes.now).0) }
+    ensures left { IfOk result (λ left. left.now ≡ (function_of bytes.now).1) }
+{
+    let results = put_values(alloc, out, valtypes, 20, behind(bytes, 1))?;
+    put_values(alloc, out, valtypes, most_results, results)
+}
+
+// So many function types. The answer is what is behind them.
+fn put_functions<'b>(
+    alloc: Global,
+    out: &mut Vec<u8>,
+    config: &Config,
+    count: usize,
+    bytes: &'b [u8],
+) -> Result<&'b [u8], Unsaid>
+    ensures said { Says result out.old out.new (script_functions config.now 0 (functions_of count bytes.now).0) }
+    ensures left { IfOk result (λ left. left.now ≡ (functions_of count bytes.now).1) }
+{
+    let valtypes = valtypes_of(alloc, config)?;
+    let most_results = max_results(config);
+    let mut left = bytes;
+    for done in 0..count {
+        put_more(out, 0, done)?;
+        left = put_function(alloc, out, &valtypes, most_results, left)?;
+    }
+    put_end(out, count, config.max_types.min(20))?;
+    Ok(left)
+}
+
+// How many function types there are, and what is behind their count.
+fn counted_functions(bytes: &[u8]) -> (usize, &[u8])
+    ensures { functions_of result.0 result.1.now ≡ counted_functions bytes.now }
+{
+    match bytes.split_first() {
+        Some((count, rest)) => (usize::from(*count), rest),
+        None => (0, bytes),
+    }
+}
+
+// The same of a type section, if there is one.
+fn types_of(bytes: &[u8]) -> (usize, &[u8])
+    ensures { functions_of result.0 result.1.now ≡ types_of bytes.now }
+{
+    match bytes.split_first() {
+        Some((1, rest)) => counted_functions(past_number(rest)),
+        _ => (0, bytes),
+    }
+}
+
+// A memory type, by its minimum and its maximum, and what is behind it.
+fn next_memory(bytes: &[u8]) -> Option<(u64, Option<u64>, &[u8])>
+    ensures one { MatchOption result (all_memories bytes.now ≡ [])
+        (λ m. all_memories bytes.now ≡ memory_of m.0 m.1 ∷ all_memories m.2.now) }
+    ensures less { MatchOption result (0 ≤ length bytes.now) (λ m. length m.2.now < length bytes.now) }
+{
+    let (flag, rest) = bytes.split_first()?;
+    let (minimum, rest) = rest.split_first()?;
+    if *flag == 0 {
+        return Some((u64::from(*minimum), None, rest));
+    }
+    let (maximum, rest) = rest.split_first()?;
+    Some((u64::from(*minimum), Some(u64::from(*maximum)), rest))
+}
+
+// The memory types to the end.
+fn put_memories(out: &mut Vec<u8>, config: &Config, bytes: &[u8]) -> Result<(), Unsaid>
+    ensures { Says result out.old out.new (script_memories config.now 0 (all_memories bytes.now)) }
+{
+    let mut done = 0;
+    let mut left = bytes;
+    while let Some((minimum, maximum, rest)) = next_memory(left) {
+        put_more(out, config.min_memories, done)?;
+        put_limits(out, minimum, maximum)?;
+        left = rest;
+        done += 1;
+    }
+    put_end(out, done, config.max_memories)
+}
+
+// The memory types of a memory section, if there is one.
+fn memories_of(bytes: &[u8]) -> &[u8]
+    ensures { all_memories result.now ≡ memories_of bytes.now }
+{
+    match bytes.split_first() {
+        Some((5, rest)) => past_number(past_number(rest)),
+        _ => &[],
+    }
+}
+
+/// A core module of these bytes, by what it has if it stands for a generated one.
+pub fn put_stand_in(
+    alloc: Global,
+    out: &mut Vec<u8>,
+    config: &Config,
+    text: &[u8],
+) -> Result<(), Unsaid>
+    ensures { Says result out.old out.new (script_stand_in config.now (stand_in_of text.now)) }
+{
+    let (count, types) = types_of(behind(text, 8));
+    let left = put_functions(alloc, out, config, count, types)?;
+    put_memories(out, config, memories_of(left))
+}
