@@ -1,6 +1,6 @@
 //! Choices, loops and texts as a script spells them.
 
-ghost use Rattle.std.specs.Prelude.{◌≡◌, ◌≤◌, ◌∷◌, [], ◌+◌, ◌++◌};
+ghost use Rattle.std.specs.Prelude.{◌≡◌, ◌≤◌, ◌∷◌, [], ◌+◌};
 ghost use Rattle.smith_input.specs.Script.{big_endian, code, pick, rank_of, script_among, script_bytes};
 ghost use Rattle.smith_input.specs.Script.{script_characters};
 ghost use Rattle.smith_input.specs.Script.{script_end, script_more, script_text, width_within};

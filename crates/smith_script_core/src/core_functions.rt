@@ -1,6 +1,6 @@
 //! Core function types.
 
-ghost use Rattle.std.specs.Prelude.{◌≡◌, ℕ, List, ◌++◌, IfOk, IfErr};
+ghost use Rattle.std.specs.Prelude.{◌≡◌, IfOk, IfErr};
 ghost use Rattle.smith_format.specs.CoreScript.{script_function};
 ghost use Rattle.smith_format.specs.Limits.{configured, max_results};
 ghost use Rattle.smith_format.specs.Shown.{shown_func};

@@ -1,12 +1,12 @@
 //! What a module type begins with for the canonical ABI (CanonicalABI.md, memory management): it takes no fuel.
 
-ghost use Rattle.std.specs.Prelude.{◌≡◌, ℕ, codes, map};
+ghost use Rattle.std.specs.Prelude.{◌≡◌, codes, map};
 ghost use Rattle.smith_format.specs.declared.types.ExportKind.TheVariants as kind;
 ghost use Rattle.smith_read_types.specs.Nodes.{shown_core_node, shown_module_node};
 ghost use Rattle.smith_syntax.specs.ModuleTypes.{after_front, after_function, after_memory, after_realloc};
-ghost use Rattle.smith_syntax.specs.ModuleTypes.{free, is_export};
+ghost use Rattle.smith_syntax.specs.ModuleTypes.{is_export};
 ghost use Rattle.smith_syntax.specs.ModuleTypes.{is_function_of};
-ghost use Rattle.smith_syntax.specs.ModuleTypes.{is_of_kind, is_type, realloc, same_i32s};
+ghost use Rattle.smith_syntax.specs.ModuleTypes.{is_of_kind, is_type, same_i32s};
 ghost use Rattle.smith_syntax.specs.WellFormed.{core_size};
 ghost use Rattle.smith_script_core.specs.Fronts.{i32s, i32_function};
 

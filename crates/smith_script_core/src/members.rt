@@ -1,6 +1,6 @@
 //! Loops over members that have a script each.
 
-ghost use Rattle.std.specs.Prelude.{◌≡◌, ℕ, List, ◌++◌};
+ghost use Rattle.std.specs.Prelude.{ℕ, List};
 ghost use Rattle.smith_input.specs.Script.{script_among};
 ghost use Rattle.smith_format.specs.Equality.{same_val};
 ghost use Rattle.smith_format.specs.CoreScript.{script_values};

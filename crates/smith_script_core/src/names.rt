@@ -2,7 +2,7 @@
 
 ghost use Rattle.std.specs.Fmt.{decimal};
 ghost use Rattle.std.specs.Prelude.{◌≡◌, ◌≤◌, ℕ, List, Bool, length};
-ghost use Rattle.smith_input.specs.NameScript.{is_short, is_within, script_new, script_new_text, script_within, text_of};
+ghost use Rattle.smith_input.specs.NameScript.{is_short, is_within, script_new, script_new_text, text_of};
 ghost use Rattle.smith_input.specs.Script.{script_name, script_text};
 ghost use Rattle.smith_script_core.specs.Says.{Says};
 

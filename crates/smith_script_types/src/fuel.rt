@@ -4,7 +4,6 @@ ghost use Rattle.std.specs.Prelude.{◌≡◌, ◌-◌, ◌+◌, map};
 ghost use Rattle.smith_syntax.specs.Entries.{function, in_order};
 ghost use Rattle.smith_syntax.specs.Shown.{shown_defined};
 ghost use Rattle.smith_syntax.specs.WellFormed.{core_size, defined_size, size};
-ghost use Rattle.smith_read_types.specs.Nodes.{shown_core_node};
 ghost use Rattle.smith_read_types.specs.TypeNodes.{shown_decl_node, shown_type_node};
 ghost use Rattle.smith_types.specs.Needs.{cost, decl_cost, decls_cost};
 

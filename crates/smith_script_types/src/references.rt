@@ -1,6 +1,6 @@
 //! What imports and exports are of, and their names.
 
-ghost use Rattle.std.specs.Prelude.{◌≡◌, ◌&&◌, ◌++◌, ◌∷◌, [], List, IfOk, IfErr};
+ghost use Rattle.std.specs.Prelude.{◌≡◌, ◌&&◌, IfOk, IfErr};
 ghost use Rattle.smith_input.specs.Script.{script_among};
 ghost use Rattle.smith_types.specs.Offers.{allows_equal, allows_one, has_place, has_reference, ref_kinds, ref_places};
 ghost use Rattle.smith_types.specs.Script.{index_in, kind_in, script_extern, script_ref};

@@ -1,6 +1,6 @@
 //! Types of values and of functions.
 
-ghost use Rattle.std.specs.Prelude.{ℕ, List, ◌++◌, string_bytes};
+ghost use Rattle.std.specs.Prelude.{List, ◌++◌, string_bytes};
 ghost use Rattle.std.specs.Option.{option_to_list};
 ghost use Rattle.smith_syntax.specs.Shown.{shown_defined};
 ghost use Rattle.smith_syntax.specs.Signature.{named};
