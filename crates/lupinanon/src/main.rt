@@ -1,11 +1,8 @@
 //! Turns a fuzzer's bytes into a WebAssembly component, from a file to a file, and back; shows the components in files.
 #![tactic(auto)]
 
-mod default_limits;
 mod generating;
 mod inspecting;
-mod keys;
-mod limits;
 mod limits_file;
 mod options;
 mod places;
@@ -14,8 +11,8 @@ mod show;
 #[cfg(test)]
 mod tests;
 
-use default_limits::DEFAULT_LIMITS;
 use options::Task;
+use smith_limits::DEFAULT_LIMITS;
 use std::io;
 use std::process::ExitCode;
 

@@ -1,13 +1,12 @@
 //! What no clause says: what words ask for, the texts of faults, and the default limits as text.
 
-use crate::default_limits::DEFAULT_LIMITS;
-use crate::keys::Key;
-use crate::limits::{Fault, Pair, Wrong, limits_of, line_of};
+use crate::limits_file::line_of;
 use crate::options::{Options, ScriptOptions, Task, command, task_of};
 use crate::scripting::status_of;
 use crate::show::Shown;
 use clap::error::ErrorKind;
 use smith_component::Config;
+use smith_limits::{DEFAULT_LIMITS, Fault, Key, Pair, Wrong, limits_of};
 use smith_read::read;
 use smith_run::Form;
 use smith_script::{Reason, ScriptError};

@@ -1,8 +1,8 @@
 use Rattle.std.proofs.lemmas.Result.{IfOk-weaker}
 use Rattle.toml.specs.View.{table_view}
-use Rattle.lupinanon.specs.Limits.{IsBounded, SameNumbers}
-use Rattle.lupinanon.proofs.Told.{bounded}
-use Rattle.lupinanon.proofs.limits.told.Goals as goal
+use Rattle.smith_limits.specs.Limits.{IsBounded, SameNumbers}
+use Rattle.smith_limits.proofs.Told.{bounded}
+use Rattle.smith_limits.proofs.limits.told.Goals as goal
 
 pub returns-clause-bounded : goal.returns-clause-bounded
 returns-clause-bounded c =

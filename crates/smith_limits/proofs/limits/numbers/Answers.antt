@@ -1,10 +1,10 @@
 use Rattle.std.proofs.Common.{arith}
 use Rattle.toml.specs.View.{table_view}
 use Rattle.smith_format.specs.declared.config.Config.{Config}
-use Rattle.lupinanon.specs.Limits.{IsRefused}
-use Rattle.lupinanon.specs.declared.limits.Fault.{Fault}
-use Rattle.lupinanon.proofs.Told.{number_within, refused}
-use Rattle.lupinanon.proofs.limits.numbers.Goals as goal
+use Rattle.smith_limits.specs.Limits.{IsRefused}
+use Rattle.smith_limits.specs.declared.limits.Fault.{Fault}
+use Rattle.smith_limits.proofs.Told.{number_within, refused}
+use Rattle.smith_limits.proofs.limits.numbers.Goals as goal
 
 pub overflow_cast-result : goal.overflow_cast-result
 overflow_cast-result c =

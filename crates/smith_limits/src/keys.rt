@@ -3,7 +3,7 @@
 ghost use Rattle.std.specs.Prelude.{◌≡◌, eqb};
 ghost use Rattle.std.specs.List.{list_any};
 ghost use lib.Pointwise.{pointwise};
-ghost use Rattle.lupinanon.specs.Keys.{all_keys, is_name, most_of, name_of};
+ghost use Rattle.smith_limits.specs.Keys.{all_keys, is_name, most_of, name_of};
 
 /// A limit, by its name.
 #[derive(Debug, Clone, Copy, PartialEq, Eq)]

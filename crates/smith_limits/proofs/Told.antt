@@ -12,10 +12,10 @@ use Rattle.std.proofs.lemmas.Result.{err_from_is_err_and}
 use Rattle.smith_format.specs.Limits.{IsDefault}
 use Rattle.smith_format.specs.declared.config.Config.{Config}
 use Rattle.toml.specs.Data.{Members}
-use Rattle.lupinanon.specs.Keys.{is_name, most_of}
-use Rattle.lupinanon.specs.Limits.{IsBounded, IsInteger, IsNumber, SameNumbers, TellsNumbers, told, unknown_in}
-use Rattle.lupinanon.specs.declared.keys.Key.{Key}
-use Rattle.lupinanon.specs.declared.keys.Key.TheVariants.{MaxTypes, MaxImports, MaxFuncs, MaxExports, MaxModules, MaxComponents, MaxInstances, MaxNestingDepth}
+use Rattle.smith_limits.specs.Keys.{is_name, most_of}
+use Rattle.smith_limits.specs.Limits.{IsBounded, IsInteger, IsNumber, SameNumbers, TellsNumbers, told, unknown_in}
+use Rattle.smith_limits.specs.declared.keys.Key.{Key}
+use Rattle.smith_limits.specs.declared.keys.Key.TheVariants.{MaxTypes, MaxImports, MaxFuncs, MaxExports, MaxModules, MaxComponents, MaxInstances, MaxNestingDepth}
 
 integer_within : (most : ℕ) (z : Option ℤ) (n : ℕ) → IsInteger most z n → n ≤ most
 integer_within most (Some (pos told)) n e = e.1

@@ -3,15 +3,15 @@ use Rattle.std.specs.Prelude.{if◌then◌else◌, ◌≡◌, ◌≢◌, ℕ, �
 use Rattle.toml.specs.Data.{Data, as_bool, as_integer, Members, no_members, member, get_member}
 use Rattle.smith_format.specs.Limits.{IsConsistent}
 use Rattle.smith_format.specs.declared.config.Config.{Config}
-use Rattle.lupinanon.specs.Keys.{is_name, most_of, name_of}
-use Rattle.lupinanon.specs.declared.keys.Key.{Key}
-use Rattle.lupinanon.specs.declared.keys.Key.TheVariants.{MinTypes, MinImports, MinFuncs, MinMemories, MaxTypes, MaxImports, MaxFuncs, MaxExports, MaxGlobals, MaxTables, MaxTags, MaxMemories, MaxModules, MaxComponents, MaxInstances, MaxNestingDepth, MaxTypeSize, MultiValueEnabled, ExceptionsEnabled, ReferenceTypesEnabled, SimdEnabled, AllowFloats, BulkMemoryEnabled}
-use Rattle.lupinanon.specs.declared.limits.Fault.{Fault}
-use Rattle.lupinanon.specs.declared.limits.Fault.TheVariants.{Unknown, At, Apart, OutOfMemory}
-use Rattle.lupinanon.specs.declared.limits.Pair.{Pair}
-use Rattle.lupinanon.specs.declared.limits.Pair.TheVariants.{Types, Imports, Funcs, Exports}
-use Rattle.lupinanon.specs.declared.limits.Wrong.{Wrong}
-use Rattle.lupinanon.specs.declared.limits.Wrong.TheVariants.{NoInteger, NoBoolean, Negative, TooLarge}
+use Rattle.smith_limits.specs.Keys.{is_name, most_of, name_of}
+use Rattle.smith_limits.specs.declared.keys.Key.{Key}
+use Rattle.smith_limits.specs.declared.keys.Key.TheVariants.{MinTypes, MinImports, MinFuncs, MinMemories, MaxTypes, MaxImports, MaxFuncs, MaxExports, MaxGlobals, MaxTables, MaxTags, MaxMemories, MaxModules, MaxComponents, MaxInstances, MaxNestingDepth, MaxTypeSize, MultiValueEnabled, ExceptionsEnabled, ReferenceTypesEnabled, SimdEnabled, AllowFloats, BulkMemoryEnabled}
+use Rattle.smith_limits.specs.declared.limits.Fault.{Fault}
+use Rattle.smith_limits.specs.declared.limits.Fault.TheVariants.{Unknown, At, Apart, OutOfMemory}
+use Rattle.smith_limits.specs.declared.limits.Pair.{Pair}
+use Rattle.smith_limits.specs.declared.limits.Pair.TheVariants.{Types, Imports, Funcs, Exports}
+use Rattle.smith_limits.specs.declared.limits.Wrong.{Wrong}
+use Rattle.smith_limits.specs.declared.limits.Wrong.TheVariants.{NoInteger, NoBoolean, Negative, TooLarge}
 
 -- the first key of a table that no limit has
 abbrev pub unknown_in : Members → Option (List ℕ)
@@ -87,6 +87,19 @@ pub record TellsSwitches (members : Members) (default config : Config) : Type 0 
 pub record Tells (members : Members) (default config : Config) : Type 0 where
   pub numbers : TellsNumbers members default config
   pub switches : TellsSwitches members default config
+
+-- the two limits of a pair: of a minimum and its maximum, the minimum first
+abbrev pub lower_of : Pair → Key
+lower_of Types = MinTypes
+lower_of Imports = MinImports
+lower_of Funcs = MinFuncs
+lower_of Exports = MaxExports
+
+abbrev pub upper_of : Pair → Key
+upper_of Types = MaxTypes
+upper_of Imports = MaxImports
+upper_of Funcs = MaxFuncs
+upper_of Exports = MaxFuncs
 
 -- The two do not fit together: a minimum passes its maximum, or functions and exports together pass 32 bits.
 abbrev pub IsApart : Config → Pair → Type 0

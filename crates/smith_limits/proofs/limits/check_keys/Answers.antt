@@ -1,8 +1,8 @@
 use Rattle.std.proofs.Common.{◌≡◌, ◌∙◌, ap, sym, List, ℕ, Option, Some, None, option_map, string_bytes}
 use Rattle.toml.specs.View.{table_view}
-use Rattle.lupinanon.specs.Limits.{unknown_in}
-use Rattle.lupinanon.proofs.Told.{unknown_in-entries}
-use Rattle.lupinanon.proofs.limits.check_keys.Goals as goal
+use Rattle.smith_limits.specs.Limits.{unknown_in}
+use Rattle.smith_limits.proofs.Told.{unknown_in-entries}
+use Rattle.smith_limits.proofs.limits.check_keys.Goals as goal
 
 pub returns-in-None-clause-known : goal.returns-in-None-clause-known
 returns-in-None-clause-known c =

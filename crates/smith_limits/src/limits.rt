@@ -7,13 +7,13 @@ ghost use Rattle.toml.specs.Data.{as_integer};
 ghost use Rattle.toml.specs.View.{table_view, view};
 ghost use Rattle.smith_format.specs.declared.config.Config.{Config};
 ghost use Rattle.smith_format.specs.Limits.{IsConsistent, IsDefault};
-ghost use Rattle.lupinanon.specs.Keys.{is_name, most_of};
-ghost use Rattle.lupinanon.specs.Limits.{told, unknown_in, IsApart, IsBounded, IsInteger, IsNoInteger, IsNoNumber, IsNoSwitch};
-ghost use Rattle.lupinanon.specs.Limits.{IsNumber, IsRefused, IsSwitch, SameNumbers, SameSwitches, Tells, TellsNumbers};
-ghost use Rattle.lupinanon.specs.Limits.{TellsSwitches};
+ghost use Rattle.smith_limits.specs.Keys.{is_name, most_of};
+ghost use Rattle.smith_limits.specs.Limits.{lower_of, told, unknown_in, upper_of, IsApart, IsBounded, IsInteger, IsNoInteger, IsNoNumber, IsNoSwitch};
+ghost use Rattle.smith_limits.specs.Limits.{IsNumber, IsRefused, IsSwitch, SameNumbers, SameSwitches, Tells, TellsNumbers};
+ghost use Rattle.smith_limits.specs.Limits.{TellsSwitches};
 
 use crate::keys::{Key, is_known};
-use smith_component::Config;
+use smith_format::Config;
 use std::alloc::{AllocError, Global};
 use std::fmt;
 use toml::{Table, Value};
@@ -46,7 +46,10 @@ pub enum Pair {
 
 impl Pair {
     /// Its two limits.
-    pub fn keys(self) -> (Key, Key) {
+    pub fn keys(self) -> (Key, Key)
+        ensures lower { result.0 ≡ lower_of self }
+        ensures upper { result.1 ≡ upper_of self }
+    {
         match self {
             Pair::Types => (Key::MinTypes, Key::MaxTypes),
             Pair::Imports => (Key::MinImports, Key::MaxImports),
@@ -250,22 +253,4 @@ pub fn limits_of(alloc: Global, table: &Table) -> Result<Config, Fault>
         None => Ok(config),
         Some(pair) => Err(Fault::Apart(pair)),
     }
-}
-
-/// The line of a text, from 1, at which its first expression with a key begins: a line that begins with the key,
-/// or with a `[` and the key.
-pub fn line_of(text: &str, key: &str) -> Option<usize> {
-    let mut number = 0usize;
-    for line in text.lines() {
-        number = number.saturating_add(1);
-        let line = line
-            .trim_start()
-            .trim_start_matches(|c: char| matches!(c, '[' | '"' | '\''));
-        if let Some(rest) = line.strip_prefix(key) {
-            if rest.starts_with(|c: char| matches!(c, ' ' | '\t' | '=' | '.' | ']' | '"' | '\'')) {
-                return Some(number);
-            }
-        }
-    }
-    None
 }
