@@ -88,7 +88,7 @@ pub record Tells (members : Members) (default config : Config) : Type 0 where
   pub numbers : TellsNumbers members default config
   pub switches : TellsSwitches members default config
 
--- the two limits of a pair: of a minimum and its maximum, the minimum first
+-- the two limits of a pair: of a minimum and its maximum, the minimum first; of exports and functions, the exports
 abbrev pub lower_of : Pair → Key
 lower_of Types = MinTypes
 lower_of Imports = MinImports

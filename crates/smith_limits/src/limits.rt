@@ -8,9 +8,9 @@ ghost use Rattle.toml.specs.View.{table_view, view};
 ghost use Rattle.smith_format.specs.declared.config.Config.{Config};
 ghost use Rattle.smith_format.specs.Limits.{IsConsistent, IsDefault};
 ghost use Rattle.smith_limits.specs.Keys.{is_name, most_of};
-ghost use Rattle.smith_limits.specs.Limits.{lower_of, told, unknown_in, upper_of, IsApart, IsBounded, IsInteger, IsNoInteger, IsNoNumber, IsNoSwitch};
-ghost use Rattle.smith_limits.specs.Limits.{IsNumber, IsRefused, IsSwitch, SameNumbers, SameSwitches, Tells, TellsNumbers};
-ghost use Rattle.smith_limits.specs.Limits.{TellsSwitches};
+ghost use Rattle.smith_limits.specs.Limits.{lower_of, told, unknown_in, upper_of, IsApart, IsBounded, IsInteger};
+ghost use Rattle.smith_limits.specs.Limits.{IsNoInteger, IsNoNumber, IsNoSwitch, IsNumber, IsRefused, IsSwitch};
+ghost use Rattle.smith_limits.specs.Limits.{SameNumbers, SameSwitches, Tells, TellsNumbers, TellsSwitches};
 
 use crate::keys::{Key, is_known};
 use smith_format::Config;
