@@ -1,37 +1,36 @@
-"""Prints which files of specs/ a reader of the headline has to believe, with their lines: the transitive closure of what the contract of
-`generate` cites, the first half of the headline first, then what the second half adds, then what runs and refusals add.
+"""Prints which definitions a reader has to believe, with their lines, and checks where they are.
+
+The headline is what `Generates` and `Script` of smith_tree say. This follows their imports, and checks that every file is in the
+specs/ folder of a crate that has no builder and no maker of types, and that the specs/ folders of these crates import nothing else.
+Then it prints what the clauses on runs and refusals add, which know the builder. It exits with 1 where the check fails.
 
 Run it at the top of the repository: python3 docs/closure.py
 """
 
 import os
 import re
+import sys
 
 CRATES = "crates"
-PARTS = [
-    ("The first half: one reading, well formed, within the limits", ["Generates"]),
-    ("The second half: scripts and plans", ["Script"]),
-    ("Runs and refusals", ["Runs", "Refusals"]),
+BELOW_THE_MAKERS = {"smith_input", "smith_format", "smith_core", "smith_syntax", "smith_tree"}
+HEADLINE = [
+    ("The first half: one reading, well formed, within the limits", ["smith_tree/specs/Generates.antt"]),
+    ("The second half: scripts and plans", ["smith_tree/specs/Script.antt"]),
 ]
-IMPORT = re.compile(r"\s*(?:pub )?use Rattle\.(smith_\w+)\.specs\.([\w.]+?)(?:\.\{.*| as .*)?$")
-
-
-def path_of(crate, module):
-    """The file of a module of specs/, or none where the toolchain writes it from the program's types."""
-    path = f"{crate}/specs/{module}.antt"
-    return path if os.path.exists(f"{CRATES}/{path}") else None
+BUILDER = ("Runs and refusals", ["smith_component/specs/Runs.antt", "smith_component/specs/Refusals.antt"])
+IMPORT = re.compile(r"\s*(?:pub )?use Rattle\.(\w+)\.(specs|proofs)\.([\w.]+?)(?:\.\{.*| as .*)?$")
 
 
 def imports(path):
-    """The files that this one imports."""
-    found = []
+    """The crates and the files that this file imports. The toolchain writes a file of its own for each of the program's types, so
+    an import may have no file here."""
     with open(f"{CRATES}/{path}", encoding="utf-8") as file:
         for line in file:
             match = IMPORT.match(line.rstrip())
-            imported = match and path_of(*match.groups())
-            if imported:
-                found.append(imported)
-    return found
+            if match:
+                crate, folder, module = match.groups()
+                imported = f"{crate}/{folder}/{module}.antt"
+                yield crate, imported if os.path.exists(f"{CRATES}/{imported}") else None
 
 
 def closure(starts):
@@ -41,7 +40,7 @@ def closure(starts):
         path = left.pop()
         if path not in seen:
             seen.add(path)
-            left += imports(path)
+            left += [imported for _, imported in imports(path) if imported]
     return seen
 
 
@@ -50,14 +49,38 @@ def lines(path):
         return sum(1 for _ in file)
 
 
+def print_files(title, files):
+    print(f"{title}: {sum(map(lines, files))} lines")
+    for path in sorted(files):
+        print(f"  {lines(path):4} {path}")
+
+
+def faults(files):
+    """The imports that reach beyond the crates below the makers."""
+    for path in sorted(files):
+        for crate, _ in imports(path):
+            if crate != "std" and crate not in BELOW_THE_MAKERS:
+                yield f"{path} imports {crate}"
+
+
 def main():
-    told = set()
-    for title, modules in PARTS:
-        files = closure(f"smith_component/specs/{module}.antt" for module in modules) - told
-        told |= files
-        print(f"{title}: {sum(map(lines, files))} lines")
-        for path in sorted(files):
-            print(f"  {lines(path):4} {path}")
+    headline, printed = set(), set()
+    for title, starts in HEADLINE:
+        headline = closure(starts) | headline
+        print_files(title, headline - printed)
+        printed |= headline
+    print_files(BUILDER[0], closure(BUILDER[1]) - printed)
+    folders = {
+        f"{crate}/specs/{name}"
+        for crate in BELOW_THE_MAKERS
+        for name in os.listdir(f"{CRATES}/{crate}/specs")
+        if name.endswith(".antt")
+    }
+    found = list(faults(headline | folders))
+    for fault in found:
+        print(f"closure: {fault}")
+    print(f"closure: {'FAILED' if found else 'passed'}")
+    return 1 if found else 0
 
 
-main()
+sys.exit(main())

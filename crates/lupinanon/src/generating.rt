@@ -8,7 +8,7 @@ use smith_component::Config;
 use smith_run::{LONGEST_INPUT, RunError};
 use std::process::ExitCode;
 
-fn run(rt: &HostRuntime, options: Options<'_>, config: Config) -> ExitCode {
+fn generate_within(rt: &HostRuntime, options: Options<'_>, config: Config) -> ExitCode {
     let mut source = match Source::open(rt, options.input) {
         Ok(source) => source,
         Err(error) => {
@@ -17,7 +17,7 @@ fn run(rt: &HostRuntime, options: Options<'_>, config: Config) -> ExitCode {
         }
     };
     let mut sink = Sink::new(rt, options.output);
-    let answer = smith_run::run(rt.alloc(), &mut source, &mut sink, config, options.form);
+    let answer = smith_run::convert(rt.alloc(), &mut source, &mut sink, config, options.form);
     let error = match answer {
         Ok(left) => {
             if options.tells_left {
@@ -47,7 +47,7 @@ pub fn generate(rt: &HostRuntime, options: Options<'_>) -> ExitCode {
         return ExitCode::from(FAULT);
     }
     match config_of(rt, options.limits) {
-        Ok(config) => run(rt, options, config),
+        Ok(config) => generate_within(rt, options, config),
         Err(status) => status,
     }
 }

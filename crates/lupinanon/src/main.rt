@@ -8,8 +8,6 @@ mod options;
 mod places;
 mod scripting;
 mod show;
-#[cfg(test)]
-mod tests;
 
 use options::Task;
 use smith_limits::DEFAULT_LIMITS;

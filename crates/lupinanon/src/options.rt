@@ -6,7 +6,7 @@ use std::alloc::{AllocError, Global};
 use std::convert::AsStr;
 
 /// What is to be done.
-#[derive(Debug, Clone, Copy, PartialEq, Eq)]
+#[derive(Clone, Copy)]
 pub enum Task<'a> {
     /// Print the default limits as TOML.
     PrintLimits,
@@ -21,7 +21,7 @@ pub enum Task<'a> {
 }
 
 /// How a component is made. A file that is absent is standard input or output, and absent limits are the default ones.
-#[derive(Debug, Clone, Copy, PartialEq, Eq)]
+#[derive(Clone, Copy)]
 pub struct Options<'a> {
     pub input: Option<&'a str>,
     pub output: Option<&'a str>,
@@ -31,7 +31,7 @@ pub struct Options<'a> {
 }
 
 /// How a component's script is written. Files and limits that are absent are as in `Options`.
-#[derive(Debug, Clone, Copy, PartialEq, Eq)]
+#[derive(Clone, Copy)]
 pub struct ScriptOptions<'a> {
     pub component: Option<&'a str>,
     pub output: Option<&'a str>,

@@ -22,7 +22,7 @@ pub fn status_of(error: &ScriptError) -> u8 {
 }
 
 // What is written of the component's script. Nothing of it is left.
-fn text_of(
+fn script_text(
     alloc: Global,
     config: &Config,
     tree: &ComponentTree,
@@ -45,12 +45,12 @@ fn write_text(rt: &HostRuntime, path: Option<&str>, text: &[u8]) -> ExitCode {
 }
 
 // Writes the script within these limits.
-fn run(rt: &HostRuntime, options: ScriptOptions<'_>, config: &Config) -> ExitCode {
+fn script_within(rt: &HostRuntime, options: ScriptOptions<'_>, config: &Config) -> ExitCode {
     let tree = match component_in(rt, options.component) {
         Ok(tree) => tree,
         Err(status) => return status,
     };
-    match text_of(rt.alloc(), config, &tree, options.form) {
+    match script_text(rt.alloc(), config, &tree, options.form) {
         Ok(text) => write_text(rt, options.output, &text),
         Err(error) => {
             let path = options.component.unwrap_or(STANDARD_INPUT);
@@ -66,7 +66,7 @@ pub fn script(rt: &HostRuntime, options: ScriptOptions<'_>) -> ExitCode {
         return ExitCode::from(FAULT);
     }
     match config_of(rt, options.limits) {
-        Ok(config) => run(rt, options, &config),
+        Ok(config) => script_within(rt, options, &config),
         Err(status) => status,
     }
 }

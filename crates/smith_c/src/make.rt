@@ -3,9 +3,9 @@
 ghost use Rattle.std.specs.Prelude.{◌≡◌, ℕ, ◌++◌, List, length, IfOk, IfErr};
 ghost use Rattle.smith_format.specs.Limits.{IsConsistent};
 ghost use Rattle.smith_format.specs.declared.config.Config.{Config};
-ghost use Rattle.smith_component.specs.Grammar.{Spells};
-ghost use Rattle.smith_component.specs.Script.{Within, script};
-ghost use Rattle.smith_component.specs.Tree.{Tree};
+ghost use Rattle.smith_tree.specs.Grammar.{Spells};
+ghost use Rattle.smith_tree.specs.Script.{Within, script};
+ghost use Rattle.smith_tree.specs.Tree.{Tree};
 ghost use Rattle.smith_c.specs.Limits.{limits_of};
 ghost use Rattle.smith_c.specs.Makes.{Makes, Stops};
 ghost use Rattle.smith_input.specs.declared.error.Error.TheVariants.{OutOfMemory};

@@ -1,11 +1,9 @@
 //! What no clause says: the answers of whole runs, faults of readers and writers, and the texts of the program.
 
 mod doubles;
-mod scarcity;
 
-use crate::run::{report, run, run_by_default};
+use crate::convert::{convert, convert_by_default, report};
 use doubles::{Endless, Pieces, Sheet};
-use scarcity::{LOANS, Scarcity};
 use smith_component::{Config, Error};
 use smith_run::{LONGEST_INPUT, RunError};
 use std::alloc::{AllocError, Global};
@@ -24,7 +22,7 @@ fn run_over<R: Read>(
     reader: &mut R,
 ) -> Result<(Result<(), RunError>, Vec<u8>), AllocError> {
     let mut text = Vec::from_slice(alloc, b"*")?;
-    let answer = run(alloc, reader, &mut text, Config::default());
+    let answer = convert(alloc, reader, &mut text, Config::default());
     Ok((answer, text))
 }
 
@@ -108,7 +106,7 @@ fn a_failed_write_is_a_write_fault(rt: HostRuntime) -> Result<(), Fail> {
     let mut whole = Sheet::new(rt.alloc(), 4, usize::MAX);
     let mut reader = DEFINED_TYPE;
     assert_eq!(rt;
-        run(rt.alloc(), &mut reader, &mut whole, Config::default()),
+        convert(rt.alloc(), &mut reader, &mut whole, Config::default()),
         Ok(())
     );
     assert!(rt; whole.calls > 4);
@@ -116,7 +114,7 @@ fn a_failed_write_is_a_write_fault(rt: HostRuntime) -> Result<(), Fail> {
         let fails_at = done + 1;
         let mut sheet = Sheet::new(rt.alloc(), 4, fails_at);
         let mut reader = DEFINED_TYPE;
-        let answer = run(rt.alloc(), &mut reader, &mut sheet, Config::default());
+        let answer = convert(rt.alloc(), &mut reader, &mut sheet, Config::default());
         assert_eq!(rt; answer, Err(RunError::WriteFault), "at call {fails_at}");
         assert!(rt; whole.text.starts_with(&sheet.text));
     }
@@ -171,7 +169,7 @@ fn limits_that_do_not_fit_together_are_refused(rt: HostRuntime) -> Result<(), Fa
     for input in [&[] as &[u8], DEFINED_TYPE] {
         let mut reader = input;
         let mut text = Vec::new(rt.alloc());
-        let answer = run(rt.alloc(), &mut reader, &mut text, config);
+        let answer = convert(rt.alloc(), &mut reader, &mut text, config);
         assert_eq!(rt; answer, Err(RunError::Refused(Error::InconsistentLimits)));
         assert_eq!(rt; text.len(), 0);
     }
@@ -192,7 +190,7 @@ fn the_program_runs_within_the_default_limits(rt: HostRuntime) -> Result<(), Fai
         let mut reader = input;
         let mut text = Vec::new(rt.alloc());
         let mut errors = Vec::new(rt.alloc());
-        let status = run_by_default(rt.alloc(), &mut reader, &mut text, &mut errors);
+        let status = convert_by_default(rt.alloc(), &mut reader, &mut text, &mut errors);
         assert_eq!(rt; status, 0);
         assert_eq!(rt; text.as_slice(), page);
         assert_eq!(rt; errors.len(), 0);
@@ -205,32 +203,8 @@ fn the_program_tells_its_faults(rt: HostRuntime) {
     let mut reader = Pieces::failing(DEFINED_TYPE, 3, 1);
     let mut text = Vec::new(rt.alloc());
     let mut errors = Vec::new(rt.alloc());
-    let status = run_by_default(rt.alloc(), &mut reader, &mut text, &mut errors);
+    let status = convert_by_default(rt.alloc(), &mut reader, &mut text, &mut errors);
     assert_eq!(rt; status, 2);
     assert_eq!(rt; text.len(), 0);
     assert_eq!(rt; errors.as_slice(), b"ReadFault\n".as_slice());
-}
-
-// The page is written to room that stood before.
-#[test]
-fn nothing_is_written_while_memory_wants(rt: HostRuntime) -> Result<(), Fail> {
-    let alloc = rt.alloc();
-    let mut text = Vec::with_capacity(alloc, 100)?;
-    let mut memory = Scarcity::new(alloc)?;
-    for refused in 0..LOANS {
-        memory.lend();
-        let mut reader = DEFINED_TYPE;
-        let answer = run(alloc, &mut reader, &mut text, Config::default());
-        if answer.is_ok() {
-            assert_eq!(rt;
-                text.as_slice(),
-                b"00 61 73 6d 0d 00 01 00 07 02 01 79\nleft 1\n".as_slice()
-            );
-            assert!(rt; 0 < refused);
-            return Ok(());
-        }
-        assert_eq!(rt; answer, Err(RunError::Refused(Error::OutOfMemory)));
-        assert_eq!(rt; text.len(), 0);
-    }
-    panic!(rt; "there is never enough")
 }

@@ -13,6 +13,7 @@ use Rattle.smith_input.specs.Loops.{Loop}
 use Rattle.smith_input.specs.Reading.{Reads}
 use Rattle.smith_input.proofs.Choices.{among}
 use Rattle.smith_format.specs.CoreTypes.{Function}
+use Rattle.smith_format.specs.Limits.{IsConsistent}
 use Rattle.smith_format.specs.declared.config.Config.{Config}
 use Rattle.smith_syntax.specs.Entries.{Entry, Signature, function, plain}
 use Rattle.smith_syntax.specs.Flat.{Flattens, is_scalar}
@@ -25,28 +26,28 @@ use Rattle.smith_syntax.specs.declared.deftype.InstanceType.{InstanceType}
 use Rattle.smith_syntax.specs.declared.func.FuncType.{FuncType}
 use Rattle.smith_syntax.specs.declared.types.DefinedType.{DefinedType}
 use Rattle.smith_syntax.proofs.Shown.{full_defined, full_func, full_component, full_instance}
-use Rattle.smith_types.specs.Lifting.{ReadsLifted}
+use Rattle.smith_types.specs.Lifting.{ReadsLiftedType}
 use Rattle.smith_types.specs.MakingTypes.{HoldsExterns}
 use Rattle.smith_scopes.specs.Scopes.{AddsType, Changes, Contents, last_of, own_scope}
 use Rattle.smith_types.proofs.Declaring.{equal_shown}
 use Rattle.smith_scopes.proofs.Stack.{grown as scopes_grown, length-last}
 use Rattle.smith_component.specs.Canonicals.{CanonTurn, Growing, NoCanon, ReadsCanons, empty_section, equal_types, grown, spaces_at, with_canon, with_defined}
 use Rattle.smith_component.specs.Canonicals.{LiftsTo, to_equal, to_defined, given_up, ReadsLift, ReadsLower}
-use Rattle.smith_component.specs.CanonicalsState.{CanonicalsState, DraftsOn, IsDraft, IsDrafted, IsLowered, KeepsFront, LiftsAs, SameLoans}
+use Rattle.smith_component.specs.CanonicalsState.{CanonicalsState, DraftsOn, IsDraft, IsDrafted, IsLowered, KeepsFront, ReadsLiftedTypeOf, SameLoans}
 use Rattle.smith_component.specs.CanonicalsState.{draft_of, growing}
 use Rattle.smith_component.specs.SectionValues.{externs_in, externs_of}
 use Rattle.smith_component.specs.Shown.{shown_canon, shown_sections}
 use Rattle.smith_component.specs.Tables.{AddsCoreFunction, AddsFunction, IsLowerable, Tabled, functions_at}
-use Rattle.smith_component.specs.Spaces.{core_functions_of, spaces_of}
-use Rattle.smith_component.specs.Tree.{Tree, Canon, add, canons, exports_of, types, lift, lower, function_count}
-use Rattle.smith_component.specs.WellFormed.{scope_of}
+use Rattle.smith_tree.specs.Spaces.{core_functions_of, spaces_of}
+use Rattle.smith_tree.specs.Tree.{Tree, Canon, add, canons, exports_of, types, lift, lower, function_count}
+use Rattle.smith_tree.specs.WellFormed.{scope_of}
 use Rattle.smith_component.specs.declared.builder.canonicals.CanonicalDraft.{CanonicalDraft}
 use Rattle.smith_component.specs.declared.builder.open.OpenComponent.{OpenComponent}
 use Rattle.smith_component.specs.declared.builder.tables.Tables.{Tables}
 use Rattle.smith_component.specs.declared.component.Func.{Func}
 use Rattle.smith_component.specs.declared.component.Func.TheVariants.{CanonLift, CanonLower}
 use Rattle.smith_component.specs.declared.component.Section.{Section}
-use Rattle.smith_component.specs.declared.item.CanonItem.{CanonItem}
+use Rattle.smith_tree.specs.declared.choices.CanonItem.{CanonItem}
 use Rattle.smith_component.proofs.ReadsCanons.{canon_count, empty_count, signature_count, spaces_signature, with_signature}
 use Rattle.smith_component.proofs.Growth.{scope_at, spaces-add, spaces_canon}
 use Rattle.smith_component.proofs.Spaces.{IsScalarFunction, all_at, equal_at, equal_own, exports_canons, exports_types, scope_canons}
@@ -109,10 +110,12 @@ module _ (old new : OpenComponent) (fs gs : List Func) (items b rest : List ℕ)
       let scalar = scalar_at (grown s) chosen.0 f (ap (λ xs. slice_get xs chosen.0) (sym (are ∙ tabled.scalars)) ∙ chosen.2) in
       subst (λ z. Tabled new.tables (grown z)) (sym (growing_more old new fs gs (CanonLower f) same more)) (tabled_lower s f scalar tabled adds)
 
-  pub lower_draft : (scopes : List Contents) → CanonicalsState scopes old fs → AddsCoreFunction old.tables f new.tables → CanonicalsState scopes new gs
+  pub lower_draft : {config : Config} (scopes : List Contents) → CanonicalsState config scopes old fs → AddsCoreFunction old.tables f new.tables
+      → CanonicalsState config scopes new gs
   lower_draft scopes d adds =
       let e = growing_more old new fs gs (CanonLower f) same more in
       record {
+        consistent = d.consistent;
         scope_is = d.scope_is ∙ sym (ap (λ z. scope_of (grown z)) e ∙ scope_canon (growing old fs) (lower f));
         tabled = lower_tabled adds;
       }
@@ -175,7 +178,7 @@ module _ (scopes : List Contents) (tables : Tables) (c i t : ℕ) (known : IsLow
 
       -- It is read how the core function is lifted.
       pub lifts_as : (core : Function) (lowered signature : Signature) (b rest : List ℕ) → lowered ≡ f.value → Flattens lowered core
-          → ReadsLifted core b signature rest → LiftsAs (own_scope scopes) tables c b signature rest
+          → ReadsLiftedType core b signature rest → ReadsLiftedTypeOf (own_scope scopes) tables c b signature rest
       lifts_as core lowered signature b rest e flat reads = record {
         lowered = lowered;
         core = core;
@@ -237,7 +240,7 @@ module _ (draft : CanonicalDraft) (d : IsDraft draft) where
   -- A lift is read by where it leads.
   module _ (config : Config) (n c : ℕ) (signature : Signature) (b mid low rest : List ℕ) (next : Growing)
       (count : n ≡ length tables.core_functions.items) (chosen : Reads n b c mid)
-      (lifts : LiftsAs (own_scope held) tables c mid signature low) where
+      (lifts : ReadsLiftedTypeOf (own_scope held) tables c mid signature low) where
     pub lift_reads : LiftsTo config s c signature low rest next → ReadsLift config s b rest next
     lift_reads to = record {
       c = c;
@@ -282,8 +285,9 @@ module _ (draft : CanonicalDraft) (d : IsDraft draft) where
 
   -- It stays a draft where a core function is lifted to a type that is there.
   pub lift_draft : (new : OpenComponent) (more : List Func) (c t : ℕ) → t < length (own_scope held).types
-      → AddsFunction (own_scope held) 1 tables t new.tables → growing new more ≡ with_canon s (lift c t) → CanonicalsState held new more
+      → AddsFunction (own_scope held) 1 tables t new.tables → growing new more ≡ with_canon s (lift c t) → CanonicalsState draft.config.now held new more
   lift_draft new more c t known adds e = record {
+    consistent = d.consistent;
     scope_is = d.scope_is ∙ sym (ap (λ z. scope_of (grown z)) e ∙ scope_canon s (lift c t));
     tabled = subst (λ z. Tabled new.tables (grown z)) (sym e) (tabled_lift s c t d.scope_is known d.tabled adds);
   }
@@ -295,7 +299,7 @@ module _ (draft : CanonicalDraft) (d : IsDraft draft) where
     scope_after = (scopes_grown held after ty grows).own ∙ (ap (with_type (own_scope held)) shows
         ∙ (ap (λ z. with_type z (function signature)) d.scope_is ∙ sym (scope_signature s signature)))
 
-    pub define_draft : t ≡ length (last_of held).types → AddsFunction (own_scope after) 1 tables t new.tables → CanonicalsState after new more
+    pub define_draft : t ≡ length (last_of held).types → AddsFunction (own_scope after) 1 tables t new.tables → CanonicalsState draft.config.now after new more
     define_draft index adds =
         let u : Growing = with_signature s signature in
         let at : t ≡ length (spaces_at s).types = omega (arith, index, length-last held, ap (λ z. length z.types) d.scope_is) in
@@ -309,6 +313,7 @@ module _ (draft : CanonicalDraft) (d : IsDraft draft) where
         let tabled = tabled_lift u c t scope_after known (tabled_signature s signature d.tabled) adds in
         let same : growing new more ≡ with_canon u (lift c t) = e ∙ ap (λ n. with_canon u (lift c n)) (sym at) in
         record {
+          consistent = d.consistent;
           scope_is = scope_after ∙ sym (ap (λ z. scope_of (grown z)) same ∙ scope_canon u (lift c t));
           tabled = subst (λ z. Tabled new.tables (grown z)) (sym same) tabled;
         }
@@ -335,14 +340,15 @@ pub first_growing : (component : OpenComponent) (funcs : List Func) → funcs �
     → growing component funcs ≡ empty_section (shown_sections component.sections.items)
 first_growing component funcs none = let e = ap (map shown_canon) none in λ i. record { before = shown_sections component.sections.items; funcs = e i }
 
-pub first_draft : (scopes : List Contents) (component : OpenComponent) (funcs : List Func) → funcs ≡ []
+pub first_draft : (config : Config) (scopes : List Contents) (component : OpenComponent) (funcs : List Func) → IsConsistent config → funcs ≡ []
     → own_scope scopes ≡ scope_of (shown_sections component.sections.items) → Tabled component.tables (shown_sections component.sections.items)
-    → CanonicalsState scopes component funcs
-first_draft scopes component funcs none is tabled =
+    → CanonicalsState config scopes component funcs
+first_draft config scopes component funcs consistent none is tabled =
     let t : Tree = shown_sections component.sections.items in
     let e = spaces-add t (canons []) in
     let same = first_growing component funcs none in
     record {
+      consistent = consistent;
       scope_is = is ∙ sym (ap (λ z. scope_of (grown z)) same ∙ scope_canons t []);
       tabled = subst (λ z. Tabled component.tables (grown z)) (sym same)
           (tabled_quiet t (add t (canons [])) tabled (ap (λ z. z.types) e) (ap (λ z. z.functions) e) (ap (λ z. z.core_functions) e) (empty_count t)
@@ -386,7 +392,12 @@ front_push old mid new section f e none names =
 -- A draft that goes on, and on again.
 
 pub drafts_none : (d : CanonicalDraft) → IsDraft d → DraftsOn d d
-drafts_none d draft = record { draft = draft; front = front_same d.component.now d.component.now refl refl; outer = refl; depth = refl }
+drafts_none d draft = record {
+  draft = draft;
+  front = front_same d.component.now d.component.now refl refl;
+  outer = refl;
+  depth = refl;
+}
 
 pub loans_then : {a b c : CanonicalDraft} → SameLoans a b → SameLoans b c → SameLoans a c
 loans_then f g = record {

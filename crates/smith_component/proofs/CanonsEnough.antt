@@ -9,13 +9,13 @@ use Rattle.smith_input.proofs.Reading.{more_within, more_past}
 use Rattle.smith_format.specs.declared.config.Config.{Config}
 use Rattle.smith_syntax.specs.Entries.{Entry, Signature, function}
 use Rattle.smith_component.specs.Canonicals.{Growing, grown, spaces_at, with_canon, with_defined, NoCanon, empty_section, ReadsCanons}
-use Rattle.smith_component.specs.Offers.{scalar_functions}
+use Rattle.smith_tree.specs.Offers.{scalar_functions}
 use Rattle.smith_component.specs.Tables.{IsGrounded}
-use Rattle.smith_component.specs.Spaces.{spaces_of, types_of}
-use Rattle.smith_component.specs.Tree.{Canon, lift, Tree, canons, function_count}
-use Rattle.smith_component.specs.WellFormed.{FormedCanon}
-use Rattle.smith_component.specs.declared.item.CanonItem.{CanonItem}
-use Rattle.smith_component.specs.declared.item.CanonItem.TheVariants.{Lower, Lift}
+use Rattle.smith_tree.specs.Spaces.{spaces_of, types_of}
+use Rattle.smith_tree.specs.Tree.{Canon, lift, Tree, canons, function_count}
+use Rattle.smith_tree.specs.WellFormed.{FormedCanon}
+use Rattle.smith_tree.specs.declared.choices.CanonItem.{CanonItem}
+use Rattle.smith_tree.specs.declared.choices.CanonItem.TheVariants.{Lower, Lift}
 use Rattle.smith_component.proofs.Growth.{canon_keeps, spaces-add, spaces_canon}
 use Rattle.smith_component.proofs.Spaces.{Grounded, grounded_spaces, grounded_entries, grounded_canon, formed_names}
 use Rattle.smith_component.proofs.Spaces.{scalars_entries, scalars_grow}

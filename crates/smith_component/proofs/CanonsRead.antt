@@ -19,23 +19,23 @@ use Rattle.smith_syntax.specs.Scope.{Scope, places, with_type}
 use Rattle.smith_syntax.specs.Shown.{is_of_signature}
 use Rattle.smith_syntax.specs.SameSignature.{same_signature_Decides}
 use Rattle.smith_syntax.specs.WellFormed.{FormedTypes, Named}
-use Rattle.smith_types.specs.Readable.{AreReadableNames, IsReadableType}
-use Rattle.smith_types.specs.Script.{script_lifted}
-use Rattle.smith_component.specs.CanonScript.{canon_item_of, script_canon, script_canon_rest, script_lift}
+use Rattle.smith_tree.specs.ReadableTypes.{AreReadableNames, IsReadableType}
+use Rattle.smith_tree.specs.TypeScript.{script_lifted}
+use Rattle.smith_tree.specs.CanonScript.{canon_item_of, script_canon, script_canon_rest, script_lift}
 use Rattle.smith_component.specs.Canonicals.{CanonTurn, Growing, NoCanon, ReadsCanon, spaces_at, to_equal, with_canon}
-use Rattle.smith_component.specs.Offers.{canon_items, canon_offers, is_scalar_entry, is_scalar_type, scalar_functions}
-use Rattle.smith_component.specs.Tree.{Canon, lift, lower}
-use Rattle.smith_component.specs.Spaces.{Spaces, after_canon}
+use Rattle.smith_tree.specs.Offers.{canon_items, canon_offers, is_scalar_entry, is_scalar_type, scalar_functions}
+use Rattle.smith_tree.specs.Tree.{Canon, lift, lower}
+use Rattle.smith_tree.specs.Spaces.{Spaces, after_canon}
 use Rattle.smith_component.specs.Tables.{functions_at}
-use Rattle.smith_component.specs.WellFormed.{FormedCanon, FormedCanons}
-use Rattle.smith_component.specs.contracts.item.CanonItem.{the_type as canon_item_type}
-use Rattle.smith_component.specs.contracts.item.CanonItemPartialEq.TheImpl.{ghosts as equal}
-use Rattle.smith_component.specs.declared.item.CanonItem.{CanonItem}
-use Rattle.smith_component.specs.declared.item.CanonItem.TheVariants.{Lower, Lift}
+use Rattle.smith_tree.specs.WellFormed.{FormedCanon, FormedCanons}
+use Rattle.smith_tree.specs.contracts.choices.CanonItem.{the_type as canon_item_type}
+use Rattle.smith_tree.specs.contracts.choices.CanonItemPartialEq.TheImpl.{ghosts as equal}
+use Rattle.smith_tree.specs.declared.choices.CanonItem.{CanonItem}
+use Rattle.smith_tree.specs.declared.choices.CanonItem.TheVariants.{Lower, Lift}
 use Rattle.smith_input.proofs.Offered.{offers_few, offers_found}
 use Rattle.smith_scopes.proofs.Places.{place_found}
 use Rattle.smith_types.proofs.LiftingRead.{lifted_read}
-use Rattle.smith_types.proofs.ReferencesRead.{above_zero}
+use Rattle.std.proofs.lemmas.Bool.{lt-ltb}
 use Rattle.smith_component.proofs.Growth.{canon_keeps, functions_after, spaces_canon}
 use Rattle.smith_component.proofs.Spaces.{all_at}
 
@@ -84,7 +84,7 @@ module _ (config : Config) (s : Growing) where
       let found = place_found (is_scalar_type sp.types) sp.functions f has.ty has.stands yes in
       let some : found.0 < length fs = slice_get_within fs found.0 f found.1 in
       let said : List ℕ = script_among nat_eq fs f in
-      turn_read Lower said rest (with_canon s (lower f)) (item_read sp 0 _ Lower (said ++ rest) refl (above_zero (length fs) (omega (arith, some))))
+      turn_read Lower said rest (with_canon s (lower f)) (item_read sp 0 _ Lower (said ++ rest) refl (lt-ltb 0 (length fs) (omega (arith, some))))
       (f, among_read nat_eq Decides-eqb fs f found.0 rest (omega (arith, few, length-places (is_scalar_type sp.types) 0 sp.functions)) found.1, refl)
 
   lift_read : (c t : ℕ) (rest : List ℕ) → FormedCanon (spaces_at s) (lift c t) → AllByRecursion Spoken (spaces_at s).types
@@ -120,7 +120,7 @@ module _ (config : Config) (s : Growing) where
       let all : ReadsCanon config s Lift (script_canon_rest sp (lift c t) ++ rest) rest (with_canon s (lift c t)) =
       subst (λ z. ReadsCanon config s Lift z rest (with_canon s (lift c t))) (sym (ap (λ z. z ++ rest) which ∙ whole)) does in
       turn_read Lift (script_canon_rest sp (lift c t)) rest (with_canon s (lift c t))
-      (item_read sp 1 _ Lift _ refl (above_zero (length sp.core_functions) (omega (arith, below)))) all
+      (item_read sp 1 _ Lift _ refl (lt-ltb 0 (length sp.core_functions) (omega (arith, below)))) all
 
   canon_read : (c : Canon) (rest : List ℕ) → FormedCanon (spaces_at s) c → AllByRecursion Spoken (spaces_at s).types → functions_at (spaces_at s) ≤ 2 ^ 64
       → length (spaces_at s).types ≤ 2 ^ 64

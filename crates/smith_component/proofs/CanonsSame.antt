@@ -10,14 +10,14 @@ use Rattle.smith_syntax.specs.Entries.{Signature, function}
 use Rattle.smith_syntax.specs.Flat.{Flattens}
 use Rattle.smith_syntax.proofs.Flat.{flattens_same}
 use Rattle.smith_types.proofs.LiftingSame.{lifted_same}
-use Rattle.smith_types.specs.Lifting.{ReadsLifted}
+use Rattle.smith_types.specs.Lifting.{ReadsLiftedType}
 use Rattle.smith_component.specs.Canonicals.{Growing, spaces_at, with_canon, LiftsTo, to_equal, to_defined, given_up, ReadsLift, ReadsCanon, CanonTurn, NoCanon}
 use Rattle.smith_component.specs.Canonicals.{empty_section, ReadsCanons}
-use Rattle.smith_component.specs.Tree.{lift, lower, Tree}
-use Rattle.smith_component.specs.Spaces.{Spaces}
-use Rattle.smith_component.specs.WellFormed.{HasSignature}
-use Rattle.smith_component.specs.declared.item.CanonItem.{CanonItem}
-use Rattle.smith_component.specs.declared.item.CanonItem.TheVariants.{Lower, Lift}
+use Rattle.smith_tree.specs.Tree.{lift, lower, Tree}
+use Rattle.smith_tree.specs.Spaces.{Spaces}
+use Rattle.smith_tree.specs.WellFormed.{HasSignature}
+use Rattle.smith_tree.specs.declared.choices.CanonItem.{CanonItem}
+use Rattle.smith_tree.specs.declared.choices.CanonItem.TheVariants.{Lower, Lift}
 
 signature_same : {s : Spaces} {f : ℕ} {a b : Signature} → HasSignature s f a → HasSignature s f b → a ≡ b
 signature_same {s} {f} {a} {b} x y =
@@ -46,8 +46,8 @@ module _ (config : Config) where
       let f : x.f ≡ y.f = cc in
       let l : x.lowered ≡ y.lowered = signature_same (subst (λ z. HasSignature (spaces_at s) z x.lowered) f x.of) y.of in
       let k : x.core ≡ y.core = flattens_same (subst (λ z. Flattens z x.core) l x.flattens) y.flattens in
-      let R : Function → Type 0 = λ z. ReadsLifted z x.mid x.signature x.low in
-      let M : List ℕ → Type 0 = λ z. ReadsLifted y.core z x.signature x.low in
+      let R : Function → Type 0 = λ z. ReadsLiftedType z x.mid x.signature x.low in
+      let M : List ℕ → Type 0 = λ z. ReadsLiftedType y.core z x.signature x.low in
       let g = lifted_same (subst M c.1 (subst R k x.reads)) y.reads in
       let C : ℕ → Type 0 = λ z. LiftsTo config s z x.signature x.low r t in
       let S : Signature → Type 0 = λ z. LiftsTo config s y.c z x.low r t in

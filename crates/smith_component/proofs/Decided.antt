@@ -6,18 +6,18 @@ use Rattle.smith_input.proofs.ReadsTexts.{bytes_unique, text_unique}
 use Rattle.smith_format.specs.declared.config.Config.{Config}
 use Rattle.smith_core.proofs.StandInSame.{stand_in_same}
 use Rattle.smith_component.specs.Canonicals.{grown}
-use Rattle.smith_component.specs.Open.{Open, items, root, scopes_in, with_inner}
-use Rattle.smith_component.specs.Refusals.{Comes, LacksOn, RefusesModuleOn}
-use Rattle.smith_component.specs.Shown.{bytes_of}
-use Rattle.smith_component.specs.Tree.{Tree, custom, core_module, core_types, types, imports, exports, add, imports_of, function_count}
+use Rattle.smith_tree.specs.Open.{Open, items, root, scopes_in, with_inner}
+use Rattle.smith_component.specs.Refusals.{RunReaches, LacksOn, RefusesModuleOn}
+use Rattle.smith_format.specs.Piece.{bytes_of}
+use Rattle.smith_tree.specs.Tree.{Tree, custom, core_module, core_types, types, imports, exports, add, imports_of, function_count}
 use Rattle.smith_component.specs.Turn.{Next, building, answered, Closes, Does, Turn, LacksAt, RefusesModuleAt, with_part}
 use Rattle.smith_component.specs.AddedSections.{ReadsCustom, Adds}
 use Rattle.smith_component.specs.Fills.{Fills, FillsAll, Lacks, of_imports, of_functions}
 use Rattle.smith_component.specs.Runs.{Turns, RunsTo}
 use Rattle.smith_component.specs.declared.item.Counted.{Counted}
 use Rattle.smith_component.specs.declared.item.Counted.TheVariants as counted
-use Rattle.smith_component.specs.declared.item.Item.{Item}
-use Rattle.smith_component.specs.declared.item.Item.TheVariants.{Finish, Custom, CoreTypes, Types, Imports, Canonical, Module, Component, Exports}
+use Rattle.smith_tree.specs.declared.choices.Item.{Item}
+use Rattle.smith_tree.specs.declared.choices.Item.TheVariants.{Finish, Custom, CoreTypes, Types, Imports, Canonical, Module, Component, Exports}
 use Rattle.smith_component.proofs.CanonsSame.{canons_same}
 use Rattle.smith_component.proofs.ExportsSame.{exports_same}
 use Rattle.smith_component.proofs.ImportsSame.{imports_same}
@@ -172,7 +172,7 @@ refuses_no_turn {config} {stack} {left} {next} {rest} (after, choice, crossed) t
 
 never_comes : (At : Open → List ℕ → Type 0) (config : Config) (input : List ℕ) (c : Tree) (r : List ℕ) (k : ℕ)
     → ((stack : Open) (left : List ℕ) (next : Next) (rest : List ℕ) → At stack left → Turn config stack left next rest → ⊥)
-    → Turns config (building root) input (answered c) r k → Comes config At input → ⊥
+    → Turns config (building root) input (answered c) r k → RunReaches config At input → ⊥
 never_comes At config input c r k never run l =
     let h = runs_along l.turns config (building root) input l.stack l.left c r k l.run run in
     stuck h.0 h.1

@@ -4,9 +4,9 @@ use Rattle.smith_input.specs.Script.{AreBytes}
 use Rattle.smith_format.specs.Piece.{Piece, ◌⊕◌, byte, bytes, framed, raw, sized, text}
 use Rattle.smith_format.proofs.Piece.{parts_are, raw_whole}
 use Rattle.smith_core.proofs.BytesTypes.{are_raw}
-use Rattle.smith_component.specs.Grammar.{embedded, part, parts, preamble}
-use Rattle.smith_component.specs.Shown.{bytes_of}
-use Rattle.smith_component.specs.Tree.{Tree, component, core_module, custom}
+use Rattle.smith_tree.specs.Grammar.{embedded, part, parts, preamble}
+use Rattle.smith_format.specs.Piece.{bytes_of}
+use Rattle.smith_tree.specs.Tree.{Tree, component, core_module, custom}
 
 -- It has bytes.
 abbrev pub Encoded : Piece → Type 0

@@ -14,11 +14,11 @@ use Rattle.smith_input.proofs.Picks.{reads-pick}
 use Rattle.smith_format.specs.declared.config.Config.{Config}
 use Rattle.smith_syntax.specs.WellFormed.{Named}
 use Rattle.smith_component.specs.Exports.{NoExport, ReadsExport, ReadsExports}
-use Rattle.smith_component.specs.Offers.{with_exports}
-use Rattle.smith_component.specs.Script.{script_export, script_exports}
-use Rattle.smith_component.specs.Spaces.{functions_of, spaces_of}
-use Rattle.smith_component.specs.Tree.{ExportEntry, Tree, exports, exports_in, exports_of, function_count}
-use Rattle.smith_component.specs.WellFormed.{FormedExports, export_names}
+use Rattle.smith_tree.specs.Offers.{with_exports}
+use Rattle.smith_tree.specs.Script.{script_export, script_exports}
+use Rattle.smith_tree.specs.Spaces.{functions_of, spaces_of}
+use Rattle.smith_tree.specs.Tree.{ExportEntry, Tree, exports, exports_in, exports_of, function_count}
+use Rattle.smith_tree.specs.WellFormed.{FormedExports, export_names}
 use Rattle.smith_component.proofs.Growth.{functions_counted, spaces-add, spaces_export}
 use Rattle.smith_component.proofs.ImportsRead.{all_of_them}
 use Rattle.smith_component.proofs.Named.{named_behind, names_with_more}

@@ -6,8 +6,8 @@ use Rattle.smith_input.proofs.NewNames.{new_unique}
 use Rattle.smith_input.proofs.Reading.{reads_unique}
 use Rattle.smith_format.specs.declared.config.Config.{Config}
 use Rattle.smith_component.specs.Exports.{NoExport, ReadsExport, ReadsExports}
-use Rattle.smith_component.specs.Tree.{ExportEntry, Tree, exports_of}
-use Rattle.smith_component.specs.WellFormed.{export_names}
+use Rattle.smith_tree.specs.Tree.{ExportEntry, Tree, exports_of}
+use Rattle.smith_tree.specs.WellFormed.{export_names}
 
 module _ (t : Tree) where
   export_same : (s : List ExportEntry) (b : List ℕ) (x y : ExportEntry) (r q : List ℕ) (u v : List ExportEntry) → ReadsExport t s b x r u

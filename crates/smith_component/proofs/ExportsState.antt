@@ -15,12 +15,12 @@ use Rattle.smith_scopes.proofs.Plain.{all_both}
 use Rattle.smith_types.proofs.Externs.{new_among}
 use Rattle.smith_component.specs.Exports.{ReadsExport}
 use Rattle.smith_component.specs.ExportsState.{ExportsState}
-use Rattle.smith_component.specs.Offers.{is_scalar_type, with_exports}
+use Rattle.smith_tree.specs.Offers.{is_scalar_type, with_exports}
 use Rattle.smith_component.specs.Shown.{shown_export}
-use Rattle.smith_component.specs.Spaces.{functions_of, spaces_of, types_of}
+use Rattle.smith_tree.specs.Spaces.{functions_of, spaces_of, types_of}
 use Rattle.smith_component.specs.Tables.{AddsFunction, IsKnown}
-use Rattle.smith_component.specs.Tree.{ExportEntry, Tree, exports, exports_in, exports_of, function_count}
-use Rattle.smith_component.specs.WellFormed.{export_names}
+use Rattle.smith_tree.specs.Tree.{ExportEntry, Tree, exports, exports_in, exports_of, function_count}
+use Rattle.smith_tree.specs.WellFormed.{export_names}
 use Rattle.smith_component.specs.declared.builder.tables.Tables.{Tables}
 use Rattle.smith_component.specs.declared.component.Export.{Export}
 use Rattle.smith_component.proofs.Growth.{exports_keep, scope_bare, spaces_export}

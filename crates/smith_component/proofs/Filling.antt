@@ -5,13 +5,13 @@ use Rattle.smith_format.specs.declared.config.Config.{Config}
 use Rattle.smith_syntax.specs.Entries.{Entry, ImportEntry}
 use Rattle.smith_syntax.specs.Scope.{places, is_func}
 use Rattle.smith_scopes.proofs.Stack.{places-append}
-use Rattle.smith_component.specs.Offers.{scalar_functions}
+use Rattle.smith_tree.specs.Offers.{scalar_functions}
 use Rattle.smith_component.specs.Counted.{count_of, minimum_of}
 use Rattle.smith_component.specs.Filling.{CanFill}
-use Rattle.smith_component.specs.Open.{Open, with_inner}
+use Rattle.smith_tree.specs.Open.{Open, with_inner}
 use Rattle.smith_component.specs.Tables.{IsGrounded}
-use Rattle.smith_component.specs.Spaces.{spaces_of, types_of}
-use Rattle.smith_component.specs.Tree.{Tree, types, imports, add, imports_of, imports_in, function_count}
+use Rattle.smith_tree.specs.Spaces.{spaces_of, types_of}
+use Rattle.smith_tree.specs.Tree.{Tree, types, imports, add, imports_of, imports_in, function_count}
 use Rattle.smith_component.specs.Fills.{Fills, Lacks, of_imports, of_functions}
 use Rattle.smith_component.specs.declared.item.Counted.{Counted}
 use Rattle.smith_component.specs.declared.item.Counted.TheVariants as counted

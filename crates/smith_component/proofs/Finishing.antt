@@ -7,12 +7,12 @@ use Rattle.smith_input.specs.declared.error.Error.{Error}
 use Rattle.smith_format.specs.Limits.{IsConsistent}
 use Rattle.smith_format.specs.declared.config.Config.{Config}
 use Rattle.smith_component.specs.Building.{Building, open_of}
-use Rattle.smith_component.specs.Limits.{Minima}
-use Rattle.smith_component.specs.Open.{Open, scopes_in, with_inner}
+use Rattle.smith_tree.specs.Limits.{Minima}
+use Rattle.smith_tree.specs.Open.{Open, scopes_in, with_inner}
 use Rattle.smith_component.specs.Shown.{shown_sections}
 use Rattle.smith_component.specs.Steps.{AddsSections, ClosesSections, KeepsSections}
-use Rattle.smith_component.specs.Spaces.{spaces_of, types_of}
-use Rattle.smith_component.specs.Tree.{Tree, types, imports, imports_of}
+use Rattle.smith_tree.specs.Spaces.{spaces_of, types_of}
+use Rattle.smith_tree.specs.Tree.{Tree, types, imports, imports_of}
 use Rattle.smith_component.specs.Turn.{Closes, Next}
 use Rattle.smith_component.specs.Fills.{Fills, FillsAll}
 use Rattle.smith_component.specs.declared.builder.Step.{Step}

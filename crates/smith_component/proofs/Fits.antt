@@ -5,10 +5,10 @@ use Rattle.smith_format.specs.declared.config.Config.{Config}
 use Rattle.smith_syntax.specs.CoreLimits.{CoreLimits}
 use Rattle.smith_syntax.specs.TypeLimits.{EntryLimits}
 use Rattle.smith_scopes.proofs.Plain.{all_both, all_front}
-use Rattle.smith_component.specs.Limits.{SmallTypes, SmallCoreTypes, OwnSizes, OwnLimits}
-use Rattle.smith_component.specs.Spaces.{Spaces, after_part, core_types_of, spaces_of, types_of}
-use Rattle.smith_component.specs.Tree.{Tree, Part, component, add, own, names_in, imports_in, imports_of, canons_in, exports_in, exports_of}
-use Rattle.smith_component.specs.Tree.{function_count}
+use Rattle.smith_tree.specs.Limits.{SmallTypes, SmallCoreTypes, OwnSizes, OwnLimits}
+use Rattle.smith_tree.specs.Spaces.{Spaces, after_part, core_types_of, spaces_of, types_of}
+use Rattle.smith_tree.specs.Tree.{Tree, Part, component, add, own, names_in, imports_in, imports_of, canons_in, exports_in, exports_of}
+use Rattle.smith_tree.specs.Tree.{function_count}
 use Rattle.smith_component.proofs.Growth.{Extends, KeepsTypes, extends-add, prefix_longer, spaces-add}
 use Rattle.smith_component.proofs.Tree.{Swaps, function_count-add, functions_in, length-own-add, no_functions_in, own-add}
 

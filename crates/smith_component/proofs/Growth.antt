@@ -2,17 +2,18 @@
 use Rattle.std.proofs.Common.{◌≡◌, ℕ, ◌+◌, ◌≤◌, List, [], ◌∷◌, ◌++◌, fold, length, refl, sym, ap, ◌∙◌, subst, arith, append-nil, append_assoc, length-append}
 use Rattle.std.specs.List.{AllByRecursion, flat_map}
 use Rattle.std.specs.Option.{option_to_list}
-use Rattle.std.specs.Prelude.{Option, None, Some, slice_get}
+use Rattle.std.specs.Prelude.{slice_get}
 use Rattle.std.proofs.lemmas.List.Sums.{fold-append}
 use Rattle.smith_scopes.proofs.Plain.{all_both}
 use Rattle.smith_syntax.specs.Entries.{Entry, ImportEntry}
 use Rattle.smith_syntax.specs.Scope.{Scope}
-use Rattle.smith_component.specs.Spaces.{Spaces, no_spaces, after_canon, after_export, after_import, after_part, core_types_of, spaces_of, types_of}
+use Rattle.smith_tree.specs.Spaces.{Spaces, no_spaces, after_canon, after_export, after_import, after_part, core_types_of, spaces_of, types_of}
 use Rattle.smith_component.specs.Tables.{functions_at}
-use Rattle.smith_component.specs.Tree.{Canon, lift, lower, Tree, ends, first, Part, custom, core_module, core_types, component, types, canons, imports, exports}
-use Rattle.smith_component.specs.Tree.{ExportEntry, add, canons_in, exports_in, exports_of, function_count, function_of, imported_functions_in, own, parts_of}
-use Rattle.smith_component.specs.WellFormed.{scope_of}
+use Rattle.smith_tree.specs.Tree.{Canon, lift, lower, Tree, ends, first, Part, custom, core_module, core_types, component, types, canons, imports, exports}
+use Rattle.smith_tree.specs.Tree.{ExportEntry, add, canons_in, exports_in, exports_of, function_count, function_of, imported_functions_in, own, parts_of}
+use Rattle.smith_tree.specs.WellFormed.{scope_of}
 use Rattle.smith_component.proofs.Tree.{functions_in}
+use Rattle.smith_input.proofs.Lists.{one_at_most}
 
 behind-add : (s : Spaces) (t : Tree) (p : Part) → fold after_part s (parts_of (add t p)) ≡ after_part (fold after_part s (parts_of t)) p
 behind-add s ends p = refl
@@ -61,10 +62,6 @@ functions_imported s (i ∷ is) = omega (
   length-append s.functions (function_of i.to),
   length-append (function_of i.to) (flat_map (λ (i : ImportEntry). function_of i.to) is),
 )
-
-one_at_most : {A : Type 0} (o : Option A) → length (option_to_list o) ≤ 1
-one_at_most None = omega arith
-one_at_most (Some x) = omega arith
 
 -- Between two places so many functions are counted, and so many exported.
 pub record Counts (s u : Spaces) (counted exported : ℕ) : Type 0 where

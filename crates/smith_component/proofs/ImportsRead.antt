@@ -17,17 +17,17 @@ use Rattle.smith_syntax.specs.WellFormed.{Named, names, is_type_eq}
 use Rattle.smith_syntax.specs.declared.deftype.ComponentTypeRef.{ComponentTypeRef}
 use Rattle.smith_syntax.specs.declared.deftype.ComponentTypeRef.TheVariants as to
 use Rattle.smith_types.specs.Declarations.{NamedExtern, no_url}
-use Rattle.smith_types.specs.Script.{script_ref}
-use Rattle.smith_types.specs.declared.make.references.RefTotals.{RefTotals}
+use Rattle.smith_tree.specs.TypeScript.{script_ref}
+use Rattle.smith_tree.specs.declared.totals.RefTotals.{RefTotals}
 use Rattle.smith_types.proofs.ReferencesRead.{ref_read}
-use Rattle.smith_types.specs.Offers.{IsAllowed}
+use Rattle.smith_tree.specs.TypeOffers.{IsAllowed}
 use Rattle.smith_component.specs.Imports.{NoImport, ReadsImport, ReadsImports}
-use Rattle.smith_component.specs.Offers.{totals_of, with_imports}
-use Rattle.smith_component.specs.Open.{Open}
-use Rattle.smith_component.specs.Script.{script_import, script_imports}
-use Rattle.smith_component.specs.Spaces.{core_types_of, types_of}
-use Rattle.smith_component.specs.Tree.{module_of, function_of, component_of, instance_of, imports_of}
-use Rattle.smith_component.specs.WellFormed.{FormedImport, import_names, scope_of}
+use Rattle.smith_tree.specs.Offers.{totals_of, with_imports}
+use Rattle.smith_tree.specs.Open.{Open}
+use Rattle.smith_tree.specs.Script.{script_import, script_imports}
+use Rattle.smith_tree.specs.Spaces.{core_types_of, types_of}
+use Rattle.smith_tree.specs.Tree.{module_of, function_of, component_of, instance_of, imports_of}
+use Rattle.smith_tree.specs.WellFormed.{FormedImport, import_names, scope_of}
 use Rattle.smith_component.proofs.ImportsState.{modules_more, funcs_more, components_more, instances_more}
 use Rattle.smith_component.proofs.Named.{named_behind, names_with_more}
 

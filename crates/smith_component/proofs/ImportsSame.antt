@@ -11,10 +11,10 @@ use Rattle.smith_syntax.specs.Entries.{ImportEntry}
 use Rattle.smith_types.specs.Declarations.{ReadsMaybeUrl, no_url, a_url, url_names}
 use Rattle.smith_types.proofs.ReadsDeclarations.{ref_same}
 use Rattle.smith_component.specs.Imports.{NoImport, ReadsImport, ReadsImports}
-use Rattle.smith_component.specs.Offers.{totals_of, with_imports}
-use Rattle.smith_component.specs.Open.{Open}
-use Rattle.smith_component.specs.Tree.{imports_of}
-use Rattle.smith_component.specs.WellFormed.{scope_of, import_names}
+use Rattle.smith_tree.specs.Offers.{totals_of, with_imports}
+use Rattle.smith_tree.specs.Open.{Open}
+use Rattle.smith_tree.specs.Tree.{imports_of}
+use Rattle.smith_tree.specs.WellFormed.{scope_of, import_names}
 
 -- What a URL leaves does not depend on those that were used.
 url_left : {used others : List (List ℕ)} {b r s : List ℕ} {u v : Option (List ℕ)} → ReadsMaybeUrl used b u r → ReadsMaybeUrl others b v s → r ≡ s

@@ -9,13 +9,13 @@ use Rattle.smith_syntax.specs.Entries.{ImportEntry}
 use Rattle.smith_syntax.specs.Scope.{Scope}
 use Rattle.smith_syntax.specs.declared.deftype.ComponentTypeRef.{ComponentTypeRef}
 use Rattle.smith_types.specs.References.{ReadsRef, ref_to}
-use Rattle.smith_types.specs.Offers.{allows_one, has_place, ref_offers}
-use Rattle.smith_types.specs.declared.make.references.RefKind.TheVariants as kind
-use Rattle.smith_types.specs.declared.make.references.RefTotals.{RefTotals}
+use Rattle.smith_tree.specs.TypeOffers.{allows_one, has_place, ref_offers}
+use Rattle.smith_tree.specs.declared.choices.RefKind.TheVariants as kind
+use Rattle.smith_tree.specs.declared.totals.RefTotals.{RefTotals}
 use Rattle.smith_scopes.proofs.Plain.{both_true}
-use Rattle.smith_component.specs.Offers.{totals_of, with_imports}
-use Rattle.smith_component.specs.Open.{Open}
-use Rattle.smith_component.specs.Tree.{imports, function_of, module_of, component_of, instance_of}
+use Rattle.smith_tree.specs.Offers.{totals_of, with_imports}
+use Rattle.smith_tree.specs.Open.{Open}
+use Rattle.smith_tree.specs.Tree.{imports, function_of, module_of, component_of, instance_of}
 use Rattle.smith_component.proofs.Sound.{component_count-so_far, instance_count-so_far, module_count-so_far}
 use Rattle.smith_component.proofs.Tables.{flat_map_more}
 use Rattle.smith_component.proofs.Tree.{function_count-add}

@@ -1,25 +1,33 @@
 -- What the items do, where the inner component grows.
-use Rattle.std.proofs.Common.{◌≡◌, ℕ, List, [], ap, sym, subst, ◌∙◌, refl, append-nil, inl}
+use Rattle.std.proofs.Common.{◌≡◌, ℕ, ◌<◌, List, [], ◌∷◌, ◌++◌, length, arith, ap, sym, subst, ◌∙◌, refl, append-nil, inl}
 use Rattle.std.specs.Prelude.{Option, None}
 use Rattle.smith_format.specs.declared.config.Config.{Config}
+use Rattle.smith_scopes.specs.Scopes.{Contents, inward, outer_scopes, own_scope}
+use Rattle.smith_scopes.proofs.Stack.{length-inward, split_scopes}
+use Rattle.smith_syntax.specs.Scope.{outer_of}
+use Rattle.smith_component.specs.AddedSections.{Adds, AddsCanons}
 use Rattle.smith_component.specs.BuilderView.{building_of, stack_of, IsSound}
-use Rattle.smith_component.specs.Counted.{item_for}
 use Rattle.smith_component.specs.Fills.{FillsAll}
-use Rattle.smith_component.specs.Open.{with_inner}
-use Rattle.smith_component.specs.SectionValues.{AddsSection}
+use Rattle.smith_tree.specs.Open.{with_inner}
+use Rattle.smith_component.specs.SectionValues.{AddsImportSection, AddsTypeSection}
 use Rattle.smith_component.specs.Shown.{shown_section, shown_sections}
+use Rattle.smith_component.specs.Sound.{Sound, Totalled}
 use Rattle.smith_component.specs.Steps.{next_of, step_of, AddsValues, ClosesInner, DoesItem, Grows, GrowsBy, StaysSound}
-use Rattle.smith_component.specs.Tree.{Tree}
+use Rattle.smith_component.specs.Tables.{IsTabled}
+use Rattle.smith_tree.specs.Tree.{Tree}
 use Rattle.smith_component.specs.Turn.{building, with_part, AddsAny, Does}
+use Rattle.smith_tree.specs.WellFormed.{scope_of}
 use Rattle.smith_component.specs.declared.builder.Progress.{Progress}
+use Rattle.smith_component.specs.declared.builder.open.OpenComponent.{OpenComponent}
+use Rattle.smith_component.specs.declared.builder.totals.TreeTotals.{TreeTotals}
 use Rattle.smith_component.specs.declared.builder.Step.TheVariants.{StillBuilding}
 use Rattle.smith_component.specs.declared.component.Section.{Section}
 use Rattle.smith_component.specs.declared.item.Counted.{Counted}
 use Rattle.smith_component.specs.declared.item.Counted.TheVariants.{Types, Imports, Functions}
-use Rattle.smith_component.specs.declared.item.Item.{Item}
-use Rattle.smith_component.specs.declared.item.Item.TheVariants as item
+use Rattle.smith_tree.specs.declared.choices.Item.{Item}
+use Rattle.smith_tree.specs.declared.choices.Item.TheVariants as item
 use Rattle.smith_component.proofs.Finishing.{adds_trans, closes_after, closes_filled}
-use Rattle.smith_component.proofs.SectionValues.{section_shown}
+use Rattle.smith_component.proofs.SectionValues.{import_section_shown, type_section_shown}
 use Rattle.smith_component.proofs.Shown.{shown_push}
 use Rattle.smith_component.proofs.Turn.{still_building}
 
@@ -29,6 +37,30 @@ grows_none b sound = record {
   keeps = refl;
   sections = record { more = []; outer = refl; inner = sym (append-nil b.inner.sections.items) };
 }
+
+-- The inner component has more sections, and what is kept beside it is theirs.
+pub grows : (b : Progress) (scopes : List Contents) (totals : TreeTotals) (inner : OpenComponent) (more : List Section) → IsSound b
+    → inner.sections.items ≡ b.inner.sections.items ++ more → Sound b.config (with_inner (stack_of b) (shown_sections inner.sections.items))
+    → own_scope scopes ≡ scope_of (shown_sections inner.sections.items) → outer_scopes scopes ≡ outer_scopes b.scopes → length scopes ≡ length b.scopes
+    → Totalled totals (with_inner (stack_of b) (shown_sections inner.sections.items)) → IsTabled inner
+    → Grows b (record b { scopes = scopes; totals = totals; inner = inner })
+grows b scopes totals inner more i items sound own outer depth totalled tabled =
+    let some : 0 < length (inward scopes) = omega (arith, depth, length-inward b.scopes, length-inward scopes, ap length i.0.scopes_are) in
+    let around = outer ∙ ap outer_of i.0.scopes_are in
+    record {
+      sound = (
+        record {
+          sound = sound;
+          valtypes_are = i.0.valtypes_are;
+          scopes_are = split_scopes (inward scopes) some ∙ (ap (λ s. s ∷ outer_scopes scopes) own
+              ∙ ap (λ ss. scope_of (shown_sections inner.sections.items) ∷ ss) around);
+          totalled = totalled;
+        },
+        (tabled, i.1.1),
+      );
+      keeps = refl;
+      sections = record { more = more; outer = refl; inner = items };
+    }
 
 pub grows_trans : {a b c : Progress} → Grows a b → Grows b c → Grows a c
 grows_trans f g = record { sound = g.sound; keeps = g.keeps ∙ f.keeps; sections = adds_trans f.sections g.sections }
@@ -44,20 +76,24 @@ pub grown_does : (i : Item) (old new : Progress) (b rest : List ℕ) → Grows o
     → AddsValues old.config i (building_of old) b (StillBuilding (building_of new)) rest → DoesItem i old b new None rest
 grown_does i old new b rest g does values = record { does = does; values = values; sound = g.sound; keeps = g.keeps; sections = inl g.sections }
 
--- one that adds what has a minimum
+-- those that add what has a minimum
 module _ (old new : Progress) (b rest : List ℕ) (g : Grows old new) where
-  adds_any : (what : Counted) → AddsSection what old.config 0 (building_of old) b (building_of new) rest
+  adds_any : (what : Counted) → Adds what old.config 0 (stack_of old) b (stack_of new).inner rest
       → AddsAny what old.config (stack_of old) b (building (stack_of new)) rest
-  adds_any what a = (
-    (stack_of new).inner,
-    section_shown what old.config 0 (building_of old) (building_of new) b rest a,
-    still_building (building_of old) (building_of new) g.sections,
-  )
+  adds_any what a = ((stack_of new).inner, a, still_building (building_of old) (building_of new) g.sections)
 
-  pub counted_does : (what : Counted) → AddsSection what old.config 0 (building_of old) b (building_of new) rest → DoesItem (item_for what) old b new None rest
-  counted_does Types a = grown_does item.Types old new b rest g (adds_any Types a) (building_of new, refl, a)
-  counted_does Imports a = grown_does item.Imports old new b rest g (adds_any Imports a) (building_of new, refl, a)
-  counted_does Functions a = grown_does item.Canonical old new b rest g (adds_any Functions a) tt
+  pub types_do : AddsTypeSection old.config 0 (building_of old) b (building_of new) rest → DoesItem item.Types old b new None rest
+  types_do a =
+      grown_does item.Types old new b rest g (adds_any Types (type_section_shown old.config 0 (building_of old) (building_of new) b rest a))
+      (building_of new, refl, a)
+
+  pub imports_do : AddsImportSection old.config 0 (building_of old) b (building_of new) rest → DoesItem item.Imports old b new None rest
+  imports_do a =
+      grown_does item.Imports old new b rest g (adds_any Imports (import_section_shown old.config 0 (building_of old) (building_of new) b rest a))
+      (building_of new, refl, a)
+
+  pub canonicals_do : AddsCanons old.config 0 (stack_of old) b (stack_of new).inner rest → DoesItem item.Canonical old b new None rest
+  canonicals_do a = grown_does item.Canonical old new b rest g (adds_any Functions a) tt
 
 -- the finish: the inner component is filled, and then closed
 pub finish_does : (old full new : Progress) (b rest : List ℕ) (c : Option Tree) → FillsAll old.config (stack_of old) b (stack_of full).inner rest

@@ -1,7 +1,6 @@
 pub mod CanonsEnough
 pub mod CanonsRead
 pub mod CanonsSame
-pub mod Clear
 pub mod Decided
 pub mod Exact
 pub mod ExportsRead
@@ -38,7 +37,7 @@ pub mod SectionValues
 pub mod Shown
 pub mod Sound
 pub mod Spaces
-pub mod Standing
+pub mod TracksStack
 pub mod Tables
 pub mod TooLong
 pub mod Tree

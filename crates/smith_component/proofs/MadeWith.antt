@@ -7,12 +7,13 @@ use Rattle.smith_syntax.specs.Scope.{Scope}
 use Rattle.smith_syntax.specs.TypeLimits.{EntryLimits, nesting}
 use Rattle.smith_syntax.specs.WellFormed.{FormedEntry}
 use Rattle.smith_types.specs.Made.{MadeWith}
-use Rattle.smith_types.specs.Needs.{declaring, need}
+use Rattle.smith_tree.specs.TypeNeeds.{declaring, need}
 use Rattle.smith_types.proofs.MadeTypes.{made_tail, made_limits, made_nesting}
 use Rattle.smith_types.proofs.MadeFormed.{made_formed}
 use Rattle.smith_types.proofs.MadeSame.{made_same}
-use Rattle.smith_types.specs.Readable.{IsReadableType}
-use Rattle.smith_types.proofs.Needs.{declared_within, made_needs}
+use Rattle.smith_tree.specs.ReadableTypes.{IsReadableType}
+use Rattle.smith_types.proofs.Needs.{made_needs}
+use Rattle.smith_tree.proofs.TypeNeeds.{declared_within}
 use Rattle.smith_types.proofs.MadeReadable.{made_readable}
 
 module _ {config : Config} {own : Scope} {outer : List Scope} {fuel : ℕ} {b rest : List ℕ} {e : Entry} (m : MadeWith config own outer fuel b e rest) where

@@ -14,11 +14,11 @@ use Rattle.smith_format.specs.declared.config.Config.{Config}
 use Rattle.smith_syntax.specs.Scope.{Scope}
 use Rattle.smith_syntax.specs.WellFormed.{Named}
 use Rattle.smith_core_types.proofs.Names.{AreNew, distinct_new, new_back, new_distinct, new_more, none_before}
-use Rattle.smith_component.specs.Open.{Open, tree_so_far}
+use Rattle.smith_tree.specs.Open.{Open, tree_so_far}
 use Rattle.smith_component.specs.Sound.{Sound}
-use Rattle.smith_component.specs.Tree.{Tree, Part, ends, first, custom, core_module, core_types, component, types, canons, imports, exports, add, join, own}
-use Rattle.smith_component.specs.Tree.{exports_in, exports_of, imports_in, imports_of}
-use Rattle.smith_component.specs.WellFormed.{Formed, FormedPart, export_names, import_names, scope_of}
+use Rattle.smith_tree.specs.Tree.{Tree, Part, ends, first, custom, core_module, core_types, component, types, canons, imports, exports, add, join, own}
+use Rattle.smith_tree.specs.Tree.{exports_in, exports_of, imports_in, imports_of}
+use Rattle.smith_tree.specs.WellFormed.{Formed, FormedPart, export_names, import_names, scope_of}
 use Rattle.smith_component.proofs.Tables.{own_bare}
 use Rattle.smith_component.proofs.Tree.{join-add, join-ends, own-add}
 use Rattle.smith_component.proofs.WellFormed.{formed_front}

@@ -8,26 +8,27 @@ use Rattle.smith_input.proofs.ReadsTexts.{text_read, bytes_read}
 use Rattle.smith_format.specs.Limits.{IsConsistent, max_u32}
 use Rattle.smith_format.specs.declared.config.Config.{Config}
 use Rattle.smith_syntax.specs.Scope.{Scope}
-use Rattle.smith_component.specs.CanonScript.{canon_item_of}
+use Rattle.smith_tree.specs.CanonScript.{canon_item_of}
 use Rattle.smith_syntax.specs.CoreLimits.{CoreLimits}
 use Rattle.smith_syntax.specs.Entries.{Entry, CoreEntry, ImportEntry}
 use Rattle.smith_component.specs.Canonicals.{empty_section}
-use Rattle.smith_component.specs.Offers.{totals_of, with_imports}
-use Rattle.smith_component.specs.Limits.{Maxima, Minima, OwnLimits}
+use Rattle.smith_tree.specs.Offers.{totals_of, with_imports}
+use Rattle.smith_tree.specs.Limits.{Maxima, Minima, OwnLimits}
 use Rattle.smith_syntax.specs.TypeLimits.{EntryLimits}
 use Rattle.smith_types.specs.Sayable.{Lasts}
-use Rattle.smith_component.specs.Open.{Open, scopes_from, scopes_in, tree_so_far}
-use Rattle.smith_component.specs.Readable.{IsReadablePart}
-use Rattle.smith_component.specs.Script.{item_of, script_part}
-use Rattle.smith_component.specs.Shown.{bytes_of, shown_module}
-use Rattle.smith_component.specs.Spaces.{after_part, core_types_of, spaces_of, types_of}
-use Rattle.smith_component.specs.Tree.{Canon, Tree, Part, custom, core_module, core_types, component, types, canons, imports, exports, add, own, inside}
-use Rattle.smith_component.specs.Tree.{components_in, no_depth}
-use Rattle.smith_component.specs.Tree.{ExportEntry, exports_in, exports_of, names_in, imports_of, imports_in, function_count}
+use Rattle.smith_tree.specs.Open.{Open, scopes_from, scopes_in, tree_so_far}
+use Rattle.smith_tree.specs.Readable.{IsReadablePart}
+use Rattle.smith_tree.specs.Script.{item_of, script_part}
+use Rattle.smith_component.specs.Shown.{shown_module}
+use Rattle.smith_format.specs.Piece.{bytes_of}
+use Rattle.smith_tree.specs.Spaces.{after_part, core_types_of, spaces_of, types_of}
+use Rattle.smith_tree.specs.Tree.{Canon, Tree, Part, custom, core_module, core_types, component, types, canons, imports, exports, add, own, inside}
+use Rattle.smith_tree.specs.Tree.{components_in, no_depth}
+use Rattle.smith_tree.specs.Tree.{ExportEntry, exports_in, exports_of, names_in, imports_of, imports_in, function_count}
 use Rattle.smith_component.specs.Turn.{Does, with_part}
 use Rattle.smith_component.specs.AddedSections.{ReadsCustom}
 use Rattle.smith_component.specs.Fills.{FillsAll}
-use Rattle.smith_component.specs.WellFormed.{FormedPart, scope_of}
+use Rattle.smith_tree.specs.WellFormed.{FormedPart, scope_of}
 use Rattle.smith_component.proofs.CanonsRead.{Spoken, canons_from, types_spoken}
 use Rattle.smith_component.proofs.ExportsRead.{exports_read}
 use Rattle.smith_component.proofs.ImportsRead.{imports_read, Room}

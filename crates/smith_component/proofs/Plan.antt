@@ -6,8 +6,8 @@ use Rattle.smith_format.specs.declared.config.Config.{Config}
 use Rattle.smith_core.specs.StandInScript.{IsStandIn}
 use Rattle.smith_core.specs.StandInText.{StandIn, stand_in_text}
 use Rattle.smith_types.specs.Sayable.{Lasts}
-use Rattle.smith_component.specs.Limits.{SmallCoreTypes}
-use Rattle.smith_component.specs.Tree.{Tree, ends, first, Part, custom, core_module, core_types, component, types, canons, imports, exports}
+use Rattle.smith_tree.specs.Limits.{SmallCoreTypes}
+use Rattle.smith_tree.specs.Tree.{Tree, ends, first, Part, custom, core_module, core_types, component, types, canons, imports, exports}
 
 -- The fuel lasts for each type where so many scopes are on the stack, and each core module has bytes and stands for a generated one.
 abbrev mutual

@@ -9,19 +9,19 @@ use Rattle.smith_syntax.specs.Entries.{Entry}
 use Rattle.smith_syntax.specs.Scope.{Scope, with_type}
 use Rattle.smith_syntax.specs.WellFormed.{FormedTypes}
 use Rattle.smith_types.specs.Sayable.{Lasts}
-use Rattle.smith_types.specs.Needs.{declaring}
+use Rattle.smith_tree.specs.TypeNeeds.{declaring}
 use Rattle.smith_types.proofs.Exact.{lasts}
-use Rattle.smith_types.proofs.Needs.{nests_within}
+use Rattle.smith_tree.proofs.TypeNeeds.{nests_within}
 use Rattle.smith_scopes.proofs.Plain.{all_back}
-use Rattle.smith_component.specs.Grammar.{part, parts, preamble}
-use Rattle.smith_component.specs.Limits.{Maxima, OwnSizes, Sized, SmallCoreTypes, SmallTypes}
-use Rattle.smith_component.specs.Open.{scopes_in, tree_so_far}
-use Rattle.smith_component.specs.Readable.{IsReadablePart, IsReadableRest}
-use Rattle.smith_component.specs.Script.{Within}
-use Rattle.smith_component.specs.Spaces.{core_types_of, types_of}
-use Rattle.smith_component.specs.Tree.{Tree, ends, first, Part, custom, core_module, core_types, component, types, canons, imports, exports, add, join}
-use Rattle.smith_component.specs.Tree.{most}
-use Rattle.smith_component.specs.WellFormed.{Formed, FormedPart, scope_of}
+use Rattle.smith_tree.specs.Grammar.{part, parts, preamble}
+use Rattle.smith_tree.specs.Limits.{Maxima, OwnSizes, Sized, SmallCoreTypes, SmallTypes}
+use Rattle.smith_tree.specs.Open.{scopes_in, tree_so_far}
+use Rattle.smith_tree.specs.Readable.{IsReadablePart, IsReadableRest}
+use Rattle.smith_tree.specs.Script.{Within}
+use Rattle.smith_tree.specs.Spaces.{core_types_of, types_of}
+use Rattle.smith_tree.specs.Tree.{Tree, ends, first, Part, custom, core_module, core_types, component, types, canons, imports, exports, add, join}
+use Rattle.smith_tree.specs.Tree.{most}
+use Rattle.smith_tree.specs.WellFormed.{Formed, FormedPart, scope_of}
 use Rattle.smith_component.proofs.Encoded.{Encoded, component_encoded, module_has_bytes}
 use Rattle.smith_component.proofs.Fits.{own_sizes_front, own_sizes_swap}
 use Rattle.smith_component.proofs.Growth.{spaces-add}
@@ -93,6 +93,6 @@ mutual
 
 pub plan_stands : (config : Config) (t : Tree) → Within config t → Stands config 1 t
 plan_stands config t w =
-    let c = w.comes in
+    let c = w.possible in
     let z = parts_are (bytes preamble) (parts t) w.spelled.0 w.spelled.1 in
     stands_from t config [] ends c.readable c.formed c.limits.maxima c.sized (z.right, z.q_is)

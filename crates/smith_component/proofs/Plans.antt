@@ -2,10 +2,10 @@
 use Rattle.std.proofs.Common.{◌≡◌, ℕ, List, ◌++◌, sym, subst}
 use Rattle.smith_format.specs.Limits.{IsConsistent}
 use Rattle.smith_format.specs.declared.config.Config.{Config}
-use Rattle.smith_component.specs.Open.{root}
+use Rattle.smith_tree.specs.Open.{root}
 use Rattle.smith_component.specs.Refusals.{LacksOn, RefusesModuleOn}
-use Rattle.smith_component.specs.Script.{script, Within}
-use Rattle.smith_component.specs.Tree.{Tree}
+use Rattle.smith_tree.specs.Script.{script, Within}
+use Rattle.smith_tree.specs.Tree.{Tree}
 use Rattle.smith_component.specs.Turn.{building}
 use Rattle.smith_component.specs.Runs.{RunsTo}
 use Rattle.smith_component.proofs.Decided.{runs_same, runs_lack_none, runs_refuse_no_module}
@@ -16,7 +16,7 @@ use Rattle.smith_component.proofs.Script.{reach}
 -- The script of a plan, followed by any bytes, leads to that plan and leaves them.
 pub script_runs : (config : Config) (plan : Tree) (rest : List ℕ) → IsConsistent config → Within config plan
     → RunsTo config (script config plan ++ rest) plan rest
-script_runs config plan rest consistent w = let r = reach config plan rest consistent w.comes (plan_stands config plan w) in runs_to config (script config plan ++ rest) plan rest r.0 r.1
+script_runs config plan rest consistent w = let r = reach config plan rest consistent w.possible (plan_stands config plan w) in runs_to config (script config plan ++ rest) plan rest r.0 r.1
 
 module _ (config : Config) (input : List ℕ) (plan : Tree) (rest : List ℕ) (consistent : IsConsistent config) (w : Within config plan)
     (begins : input ≡ script config plan ++ rest) where

@@ -16,21 +16,21 @@ use Rattle.smith_syntax.specs.Entries.{Entry, Signature, defined, function, comp
 use Rattle.smith_syntax.specs.Flat.{Flat, Flattens, flat_value}
 use Rattle.smith_syntax.specs.Scope.{Scope}
 use Rattle.smith_syntax.specs.WellFormed.{FormedEntry, FormedTypes, size}
-use Rattle.smith_types.specs.Needs.{need}
+use Rattle.smith_tree.specs.TypeNeeds.{need}
 use Rattle.smith_syntax.specs.declared.types.ComponentValType.{ComponentValType}
 use Rattle.smith_syntax.proofs.Flat.{flattens_params}
-use Rattle.smith_types.specs.Readable.{IsReadableType}
+use Rattle.smith_tree.specs.ReadableTypes.{IsReadableType}
 use Rattle.smith_types.proofs.Lifting.{lifted_readable, lifted_tail, lifted_flattens, lifted_formed}
 use Rattle.smith_component.specs.Canonicals.{Growing, grown, spaces_at, with_canon, with_defined, LiftsTo, to_equal, to_defined, given_up, ReadsLift, CanonTurn}
 use Rattle.smith_component.specs.Canonicals.{empty_section, ReadsCanons}
-use Rattle.smith_component.specs.Open.{Open, scopes_in, tree_so_far, with_inner}
+use Rattle.smith_tree.specs.Open.{Open, scopes_in, tree_so_far, with_inner}
 use Rattle.smith_component.specs.Sound.{Sound}
-use Rattle.smith_component.specs.Spaces.{Spaces, after_part, core_types_of, spaces_of, types_of}
+use Rattle.smith_tree.specs.Spaces.{Spaces, after_part, core_types_of, spaces_of, types_of}
 use Rattle.smith_component.specs.Tables.{functions_at}
-use Rattle.smith_component.specs.Tree.{Canon, lift, lower, Tree, Part, ends, first, component, types, canons, add, join, imports_of, function_count}
-use Rattle.smith_component.specs.WellFormed.{scope_of, HasSignature, FormedCanon, FormedCanons, Formed, FormedPart}
-use Rattle.smith_component.specs.declared.item.CanonItem.{CanonItem}
-use Rattle.smith_component.specs.declared.item.CanonItem.TheVariants.{Lower, Lift}
+use Rattle.smith_tree.specs.Tree.{Canon, lift, lower, Tree, Part, ends, first, component, types, canons, add, join, imports_of, function_count}
+use Rattle.smith_tree.specs.WellFormed.{scope_of, HasSignature, FormedCanon, FormedCanons, Formed, FormedPart}
+use Rattle.smith_tree.specs.declared.choices.CanonItem.{CanonItem}
+use Rattle.smith_tree.specs.declared.choices.CanonItem.TheVariants.{Lower, Lift}
 use Rattle.smith_component.proofs.Fits.{fits_kept, fits_of, own_limits-add, own_sizes-add, sizes_keep}
 use Rattle.smith_component.proofs.Growth.{KeepsTypes, canon_keeps, canons_keep, extends_part, functions_after, spaces-add, spaces_canon}
 use Rattle.smith_component.proofs.Growth.{types_past}

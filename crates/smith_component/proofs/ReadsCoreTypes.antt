@@ -12,12 +12,12 @@ use Rattle.smith_syntax.specs.Scope.{Scope, with_core_type, with_core_types}
 use Rattle.smith_syntax.specs.WellFormed.{FormedCore, FormedCores}
 use Rattle.smith_core_types.proofs.MadeCore.{made_core_tail, made_core_formed, made_core_limits, made_core_same}
 use Rattle.smith_scopes.proofs.Stack.{with_core_none}
-use Rattle.smith_core_types.specs.Needs.{core_need}
-use Rattle.smith_component.specs.Limits.{SmallCoreTypes}
-use Rattle.smith_component.specs.Script.{script_core_types}
-use Rattle.smith_core_types.specs.Script.{script_core}
+use Rattle.smith_tree.specs.CoreTypeNeeds.{core_need}
+use Rattle.smith_tree.specs.Limits.{SmallCoreTypes}
+use Rattle.smith_tree.specs.Script.{script_core_types}
+use Rattle.smith_tree.specs.CoreTypeScript.{script_core}
 use Rattle.smith_core_types.proofs.CoreScript.{core_read}
-use Rattle.smith_core_types.specs.Readable.{IsReadableCore}
+use Rattle.smith_tree.specs.ReadableCoreTypes.{IsReadableCore}
 use Rattle.smith_core_types.proofs.Needs.{core_needed}
 use Rattle.smith_component.specs.AddedSections.{ReadsCoreType, ReadsCoreTypes}
 

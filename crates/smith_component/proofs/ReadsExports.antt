@@ -7,14 +7,14 @@ use Rattle.smith_input.proofs.Reading.{reads_tail, tail_is, tail_trans}
 use Rattle.smith_format.specs.declared.config.Config.{Config}
 use Rattle.smith_syntax.specs.WellFormed.{Named}
 use Rattle.smith_component.specs.Exports.{NoExport, ReadsExport, ReadsExports}
-use Rattle.smith_component.specs.Limits.{OwnLimits}
-use Rattle.smith_component.specs.Offers.{with_exports}
-use Rattle.smith_component.specs.Open.{Open}
+use Rattle.smith_tree.specs.Limits.{OwnLimits}
+use Rattle.smith_tree.specs.Offers.{with_exports}
+use Rattle.smith_tree.specs.Open.{Open}
 use Rattle.smith_component.specs.Sound.{IsAddable, Sound}
-use Rattle.smith_component.specs.Spaces.{Spaces, after_part, spaces_of}
-use Rattle.smith_component.specs.Tree.{ExportEntry, Tree, exports}
-use Rattle.smith_component.specs.Tree.{exports_of}
-use Rattle.smith_component.specs.WellFormed.{FormedExports, export_names}
+use Rattle.smith_tree.specs.Spaces.{Spaces, after_part, spaces_of}
+use Rattle.smith_tree.specs.Tree.{ExportEntry, Tree, exports}
+use Rattle.smith_tree.specs.Tree.{exports_of}
+use Rattle.smith_tree.specs.WellFormed.{FormedExports, export_names}
 use Rattle.smith_component.proofs.Fits.{fits_kept, fits_of, own_limits-add, own_sizes-add, sizes_keep}
 use Rattle.smith_component.proofs.Growth.{KeepsTypes, exports_keep, spaces-add, spaces_export}
 use Rattle.smith_component.proofs.Named.{NewEntry, exports_are_named, loop_named}

@@ -1,9 +1,9 @@
 -- What an import section reads: well formed imports under names that are new, within the limits, and a tail of the bytes.
-use Rattle.std.proofs.Common.{◌≡◌, ℕ, ◌+◌, ◌-◌, ◌<◌, ◌≤◌, ◌&&◌, Bool, true, false, List, [], ◌∷◌, ◌++◌, length, arith, refl, sym, ap, ◌∙◌, subst}
+use Rattle.std.proofs.Common.{◌≡◌, ℕ, ◌+◌, ◌-◌, ◌<◌, ◌≤◌, Bool, true, false, List, [], ◌∷◌, ◌++◌, length, arith, refl, sym, ap, ◌∙◌, subst}
 use Rattle.std.proofs.Common.{nat_lt}
 use Rattle.std.specs.List.{AllByRecursion}
 use Rattle.std.specs.Prelude.{if◌then◌else◌}
-use Rattle.std.proofs.lemmas.Bool.{false≢true}
+use Rattle.std.proofs.lemmas.Bool.{false≢true, and_from}
 use Rattle.std.proofs.lemmas.Bool.Decides.{nat_tests}
 use Rattle.smith_input.specs.Loops.{Loop, no_more, by_itself, an_item}
 use Rattle.smith_input.specs.Names.{ReadsNew}
@@ -17,18 +17,18 @@ use Rattle.smith_syntax.specs.Scope.{is_func, places}
 use Rattle.smith_syntax.specs.WellFormed.{Named}
 use Rattle.smith_syntax.specs.declared.deftype.ComponentTypeRef.{ComponentTypeRef}
 use Rattle.smith_syntax.specs.declared.deftype.ComponentTypeRef.TheVariants as to
-use Rattle.smith_types.specs.Offers.{ref_offers}
+use Rattle.smith_tree.specs.TypeOffers.{ref_offers}
 use Rattle.smith_types.proofs.ReadsDeclarations.{extern_tail, ref_tail}
 use Rattle.smith_types.proofs.References.{import_not_equal, ref_formed}
 use Rattle.smith_component.specs.Imports.{NoImport, ReadsImport, ReadsImports}
-use Rattle.smith_component.specs.Offers.{import_kinds, totals_of, with_imports}
-use Rattle.smith_component.specs.Limits.{OwnLimits}
-use Rattle.smith_component.specs.Open.{Open, tree_so_far}
+use Rattle.smith_tree.specs.Offers.{import_kinds, totals_of, with_imports}
+use Rattle.smith_tree.specs.Limits.{OwnLimits}
+use Rattle.smith_tree.specs.Open.{Open, tree_so_far}
 use Rattle.smith_component.specs.Sound.{IsAddable, Sound}
-use Rattle.smith_component.specs.Spaces.{Spaces, after_part, spaces_of, types_of}
-use Rattle.smith_component.specs.Tree.{Tree, imports, add, function_count}
-use Rattle.smith_component.specs.Tree.{imports_of, module_count, component_count, instance_count, function_of}
-use Rattle.smith_component.specs.WellFormed.{FormedImport, import_names, scope_of}
+use Rattle.smith_tree.specs.Spaces.{Spaces, after_part, spaces_of, types_of}
+use Rattle.smith_tree.specs.Tree.{Tree, imports, add, function_count}
+use Rattle.smith_tree.specs.Tree.{imports_of, module_count, component_count, instance_count, function_of}
+use Rattle.smith_tree.specs.WellFormed.{FormedImport, import_names, scope_of}
 use Rattle.smith_component.proofs.Fits.{fits_kept, fits_of, own_limits-add, own_sizes-add, sizes_keep}
 use Rattle.smith_component.proofs.Growth.{KeepsTypes, imports_keep}
 use Rattle.smith_component.proofs.ImportsState.{RefRoom, components_more, funcs_more, import_room, instances_more, modules_more}
@@ -46,10 +46,6 @@ not_offered o os later false f g = (f, later g)
 pub none_offered : {A : Type 0} (os : List (Bool × A)) → offers_of os ≡ [] → AllByRecursion (λ o. o.0 ≡ false) os
 none_offered [] e = tt
 none_offered (o ∷ os) e = not_offered o os (none_offered os) o.0 refl e
-
-both_hold : (a b : Bool) → a ≡ true → b ≡ true → (a && b) ≡ true
-both_hold true b e f = f
-both_hold false b e f = absurd (false≢true e)
 
 -- an import of a function or of something else
 function_one : (r : ComponentTypeRef) → length (function_of r) ≤ 1
@@ -189,7 +185,7 @@ module _ (config : Config) (stack : Open) where
       let all = none_offered (ref_offers config (scope_of stack.inner) (totals_of (with_imports stack s)) true false) none in
       let there : nat_lt 0 (length (places is_func 0 (types_of stack.inner))) ≡ true = grind (arith, nat_tests, has) in
       let allowed : nat_lt (totals_of (with_imports stack s)).funcs config.max_funcs ≡ true = grind (arith, nat_tests, below) in
-      false≢true (sym all.1.1.0 ∙ both_hold _ _ there allowed)
+      false≢true (sym all.1.1.0 ∙ and_from _ _ there allowed)
 
   module _ (min most : ℕ) (ordered : min ≤ most) (has : 0 < length (places is_func 0 (types_of stack.inner)))
       (room : function_count stack.inner + min ≤ config.max_funcs) where

@@ -8,16 +8,16 @@ use Rattle.smith_input.proofs.Loops.{loop_tail, loop_gives, loop_all, loop_enoug
 use Rattle.smith_format.specs.declared.config.Config.{Config}
 use Rattle.smith_syntax.specs.Entries.{Entry}
 use Rattle.smith_syntax.specs.Scope.{Scope, with_type, with_types}
-use Rattle.smith_types.specs.Readable.{IsReadableType}
+use Rattle.smith_tree.specs.ReadableTypes.{IsReadableType}
 use Rattle.smith_types.specs.Sayable.{Fit, IsSayable, Lasts}
-use Rattle.smith_types.specs.Script.{script_type}
+use Rattle.smith_tree.specs.TypeScript.{script_type}
 use Rattle.smith_syntax.specs.TypeLimits.{EntryLimits, nesting}
 use Rattle.smith_syntax.specs.WellFormed.{FormedEntry, FormedTypes}
 use Rattle.smith_scopes.proofs.Stack.{with_none}
-use Rattle.smith_component.specs.Limits.{SmallTypes}
-use Rattle.smith_component.specs.Tree.{most}
-use Rattle.smith_types.specs.Needs.{declaring}
-use Rattle.smith_component.specs.Script.{script_types}
+use Rattle.smith_tree.specs.Limits.{SmallTypes}
+use Rattle.smith_tree.specs.Tree.{most}
+use Rattle.smith_tree.specs.TypeNeeds.{declaring}
+use Rattle.smith_tree.specs.Script.{script_types}
 use Rattle.smith_component.specs.AddedSections.{ReadsType, ReadsTypes}
 use Rattle.smith_types.proofs.ReferencesRead.{IsFew}
 use Rattle.smith_types.proofs.ScopedScript.{type_read}

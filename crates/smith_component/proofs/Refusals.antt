@@ -6,10 +6,10 @@ use Rattle.smith_input.specs.declared.error.Error.TheVariants.{InconsistentLimit
 use Rattle.smith_format.specs.Limits.{IsConsistent}
 use Rattle.smith_format.specs.declared.config.Config.{Config}
 use Rattle.smith_component.specs.Filling.{CanFill}
-use Rattle.smith_component.specs.Open.{Open, items}
+use Rattle.smith_tree.specs.Open.{Open, items}
 use Rattle.smith_component.specs.Refusals.{IsFillRefusal, IsStepRefusal, LacksOn, RefusesModuleOn, IsRefusal}
 use Rattle.smith_component.specs.Turn.{LacksAt, RefusesModuleAt}
-use Rattle.smith_component.specs.declared.item.Item.TheVariants.{Finish}
+use Rattle.smith_tree.specs.declared.choices.Item.TheVariants.{Finish}
 use Rattle.smith_component.specs.Tables.{IsGrounded}
 use Rattle.smith_component.proofs.Filling.{filled_surely}
 

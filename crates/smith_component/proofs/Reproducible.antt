@@ -5,13 +5,13 @@ use Rattle.smith_input.specs.declared.error.Error.{Error}
 use Rattle.smith_input.specs.declared.error.Error.TheVariants.{InconsistentLimits, MinimumNotMet, ModuleRefused, TooLong, OutOfMemory, PartsDisagree}
 use Rattle.smith_format.specs.Limits.{IsConsistent}
 use Rattle.smith_format.specs.declared.config.Config.{Config}
-use Rattle.smith_component.specs.Grammar.{Spells, component_text}
-use Rattle.smith_component.specs.Open.{Open, root}
+use Rattle.smith_tree.specs.Grammar.{Spells, component_text}
+use Rattle.smith_tree.specs.Open.{Open, root}
 use Rattle.smith_component.specs.Refusals.{IsGenerateRefusal, LacksOn, RefusesModuleOn}
-use Rattle.smith_component.specs.Tree.{Tree}
+use Rattle.smith_tree.specs.Tree.{Tree}
 use Rattle.smith_component.specs.Turn.{Next, building, answered, LacksAt, Turn}
 use Rattle.smith_component.specs.Runs.{RunsTo, Turns}
-use Rattle.smith_component.specs.declared.item.Item.TheVariants.{Finish, Module}
+use Rattle.smith_tree.specs.declared.choices.Item.TheVariants.{Finish, Module}
 use Rattle.smith_component.proofs.Decided.{lacks_no_turn, moves, refuses_no_turn, runs_lack_none, runs_refuse_no_module, runs_to_same, turn_same}
 
 -- A turn is stuck where none can be taken.

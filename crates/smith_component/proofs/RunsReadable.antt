@@ -7,24 +7,25 @@ use Rattle.smith_core.proofs.StandInMade.{stand_in_made}
 use Rattle.smith_format.specs.Limits.{IsConsistent}
 use Rattle.smith_format.specs.declared.config.Config.{Config}
 use Rattle.smith_syntax.specs.Entries.{function, ImportEntry}
-use Rattle.smith_core_types.specs.Readable.{IsReadableCore}
+use Rattle.smith_tree.specs.ReadableCoreTypes.{IsReadableCore}
 use Rattle.smith_core_types.proofs.Readable.{made_core_readable}
-use Rattle.smith_types.specs.Readable.{IsReadableType}
+use Rattle.smith_tree.specs.ReadableTypes.{IsReadableType}
 use Rattle.smith_component.specs.AddedSections.{Adds}
 use Rattle.smith_component.specs.Canonicals.{Growing, ReadsCanons, empty_section, grown}
 use Rattle.smith_component.specs.Fills.{Fills, FillsAll}
-use Rattle.smith_component.specs.Open.{Open, is_export_offered, root, with_inner}
-use Rattle.smith_component.specs.Readable.{Comes, IsReadable, IsReadablePart, IsReadableRest}
+use Rattle.smith_tree.specs.Open.{Open, is_export_offered, root, with_inner}
+use Rattle.smith_tree.specs.Readable.{CanBeGenerated, IsReadable, IsReadablePart, IsReadableRest}
 use Rattle.smith_component.specs.Runs.{RunsTo, Turns}
-use Rattle.smith_component.specs.Shown.{bytes_of, shown_module}
-use Rattle.smith_component.specs.Tree.{ExportEntry, Part, Tree, add, canons, component, core_module, core_types, custom, ends, exports, exports_of, first}
-use Rattle.smith_component.specs.Tree.{imports, imports_of, join, types}
+use Rattle.smith_component.specs.Shown.{shown_module}
+use Rattle.smith_format.specs.Piece.{bytes_of}
+use Rattle.smith_tree.specs.Tree.{ExportEntry, Part, Tree, add, canons, component, core_module, core_types, custom, ends, exports, exports_of, first}
+use Rattle.smith_tree.specs.Tree.{imports, imports_of, join, types}
 use Rattle.smith_component.specs.Turn.{Closes, Does, Next, Turn, answered, building}
-use Rattle.smith_component.specs.declared.item.CanonItem.{CanonItem}
+use Rattle.smith_tree.specs.declared.choices.CanonItem.{CanonItem}
 use Rattle.smith_component.specs.declared.item.Counted.{Counted}
 use Rattle.smith_component.specs.declared.item.Counted.TheVariants as counted
-use Rattle.smith_component.specs.declared.item.Item.{Item}
-use Rattle.smith_component.specs.declared.item.Item.TheVariants.{Finish, Custom, CoreTypes, Types, Imports, Canonical, Module, Component, Exports}
+use Rattle.smith_tree.specs.declared.choices.Item.{Item}
+use Rattle.smith_tree.specs.declared.choices.Item.TheVariants.{Finish, Custom, CoreTypes, Types, Imports, Canonical, Module, Component, Exports}
 use Rattle.smith_component.proofs.ReadsCanons.{loop_keeps}
 use Rattle.smith_component.proofs.MadeWith.{made_with_readable}
 use Rattle.smith_component.proofs.Named.{loop_reachable}
@@ -145,7 +146,7 @@ module _ (config : Config) where
       turns_readable k mid left1 next left2 later (turn_readable stack left mid left1 t r)
 
 -- A run leads to a component that comes.
-pub runs_come : (config : Config) (input : List ℕ) (tree : Tree) (left : List ℕ) → IsConsistent config → RunsTo config input tree left → Comes config tree
+pub runs_come : (config : Config) (input : List ℕ) (tree : Tree) (left : List ℕ) → IsConsistent config → RunsTo config input tree left → CanBeGenerated config tree
 runs_come config input tree left consistent r =
     let s = runs_sound config input tree left consistent r in
     record {

@@ -7,19 +7,19 @@ use Rattle.smith_syntax.specs.Entries.{CoreEntry, Entry}
 use Rattle.smith_syntax.specs.Scope.{Scope}
 use Rattle.smith_component.specs.AddedSections.{Adds, ReadsCoreTypes, ReadsTypes}
 use Rattle.smith_component.specs.Fills.{Fills, FillsAll}
-use Rattle.smith_component.specs.Limits.{Limits, Minima, Sized}
-use Rattle.smith_component.specs.Open.{Open, root, scopes_in, with_inner}
+use Rattle.smith_tree.specs.Limits.{Limits, Minima, Sized}
+use Rattle.smith_tree.specs.Open.{Open, root, scopes_in, with_inner}
 use Rattle.smith_component.specs.Runs.{RunsTo, Turns}
 use Rattle.smith_component.specs.Shown.{shown_module}
 use Rattle.smith_component.specs.Sound.{IsAddable, Sound}
-use Rattle.smith_component.specs.Spaces.{core_types_of, types_of}
-use Rattle.smith_component.specs.Tree.{Tree, core_module, core_types, custom, exports, imports, types}
+use Rattle.smith_tree.specs.Spaces.{core_types_of, types_of}
+use Rattle.smith_tree.specs.Tree.{Tree, core_module, core_types, custom, exports, imports, types}
 use Rattle.smith_component.specs.Turn.{Closes, Does, Next, Turn, answered, building}
-use Rattle.smith_component.specs.WellFormed.{WellFormed, scope_of}
+use Rattle.smith_tree.specs.WellFormed.{WellFormed, scope_of}
 use Rattle.smith_component.specs.declared.item.Counted.{Counted}
 use Rattle.smith_component.specs.declared.item.Counted.TheVariants as counted
-use Rattle.smith_component.specs.declared.item.Item.{Item}
-use Rattle.smith_component.specs.declared.item.Item.TheVariants.{Finish, Custom, CoreTypes, Types, Imports, Canonical, Module, Component, Exports}
+use Rattle.smith_tree.specs.declared.choices.Item.{Item}
+use Rattle.smith_tree.specs.declared.choices.Item.TheVariants.{Finish, Custom, CoreTypes, Types, Imports, Canonical, Module, Component, Exports}
 use Rattle.smith_component.proofs.Finishing.{filled_minima}
 use Rattle.smith_component.proofs.ReadsCanons.{canons_sound}
 use Rattle.smith_component.proofs.ReadsCoreTypes.{core_types_read_formed, core_types_read_limited, core_types_read_small}
@@ -50,7 +50,7 @@ types_addable config least stack {b} {rest} {xs} {scope} sound r =
     (types_read_limited config (scopes_in stack.outer) r) (omega (arith, deep, around)) (omega (arith, below, around))
     (types_read_small config (scopes_in stack.outer) r)
 
-core_types_addable : (config : Config) (stack : Open) {b rest : List ℕ} {xs : List CoreEntry} {scope : Scope} → Sound config stack
+pub core_types_addable : (config : Config) (stack : Open) {b rest : List ℕ} {xs : List CoreEntry} {scope : Scope} → Sound config stack
     → ReadsCoreTypes config (config.max_types - length (core_types_of stack.inner)) (scope_of stack.inner) b xs rest scope
     → IsAddable config stack (core_types xs)
 core_types_addable config stack {b} {rest} {xs} {scope} sound r =
@@ -61,7 +61,7 @@ core_types_addable config stack {b} {rest} {xs} {scope} sound r =
     (core_types_read_small config r)
 
 -- what the sections with a minimum add
-adds_sound : (what : Counted) (config : Config) (least : ℕ) (stack : Open) (b : List ℕ) (t : Tree) (rest : List ℕ) → Adds what config least stack b t rest
+pub adds_sound : (what : Counted) (config : Config) (least : ℕ) (stack : Open) (b : List ℕ) (t : Tree) (rest : List ℕ) → Adds what config least stack b t rest
     → Sound config stack → Sound config (with_inner stack t)
 adds_sound counted.Types config least stack b t rest (xs, scope, r, e) s =
     subst (λ u. Sound config (with_inner stack u)) (sym e) (part_sound config stack (types xs) (types_addable config least stack s r) s)

@@ -3,13 +3,13 @@ use Rattle.std.proofs.Common.{◌≡◌, ℕ, zero, suc, ◌+◌, ◌≤◌, Lis
 use Rattle.smith_input.specs.declared.error.Error.{Error}
 use Rattle.smith_format.specs.Limits.{IsConsistent}
 use Rattle.smith_format.specs.declared.config.Config.{Config}
-use Rattle.smith_component.specs.Tree.{Tree, no_depth}
+use Rattle.smith_tree.specs.Tree.{Tree, no_depth}
 use Rattle.smith_component.specs.Turn.{Next, building, answered, Turn, LacksAt, RefusesModuleAt}
 use Rattle.smith_component.specs.Runs.{Run, RunsTo, Turns, todo}
-use Rattle.smith_component.specs.Limits.{max_depth}
-use Rattle.smith_component.specs.Open.{Open, root}
+use Rattle.smith_tree.specs.Limits.{max_depth}
+use Rattle.smith_tree.specs.Open.{Open, root}
 use Rattle.smith_component.specs.Sound.{Sound}
-use Rattle.smith_component.specs.Refusals.{IsStepRefusal, Comes, IsRefusal}
+use Rattle.smith_component.specs.Refusals.{IsStepRefusal, RunReaches, IsRefusal}
 use Rattle.smith_component.proofs.Refusals.{step_refused}
 use Rattle.smith_component.proofs.Tree.{depth-outer}
 use Rattle.smith_component.proofs.Turn.{turn_falls, turn_shallow}
@@ -61,7 +61,7 @@ reached_end config input stack c left left2 r t =
 
 -- What is true where the run has come comes to be on the input.
 reached_there : (At : Open → List ℕ → Type 0) (config : Config) (input : List ℕ) (stack : Open) (left : List ℕ) → Reached config input stack left
-    → At stack left → Comes config At input
+    → At stack left → RunReaches config At input
 reached_there At config input stack left r there =
     let j = r.onward (building stack) left 0 (refl, refl) in
     record { stack = stack; left = left; turns = j.0; run = j.1; there = there }

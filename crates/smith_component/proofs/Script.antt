@@ -16,22 +16,22 @@ use Rattle.smith_format.specs.Limits.{IsConsistent}
 use Rattle.smith_format.specs.declared.config.Config.{Config}
 use Rattle.smith_syntax.specs.Scope.{Scope}
 use Rattle.smith_syntax.specs.TypeLimits.{nesting}
-use Rattle.smith_types.specs.Needs.{declaring}
-use Rattle.smith_component.specs.Spaces.{types_of}
-use Rattle.smith_component.specs.Tree.{Tree, ends, first, Part, custom, core_module, core_types, component, types, canons, imports, exports, add, join, inside}
-use Rattle.smith_component.specs.Tree.{component_count, module_count, no_depth, most}
-use Rattle.smith_component.specs.WellFormed.{Formed, FormedPart}
-use Rattle.smith_component.specs.Limits.{OwnLimits, Maxima, Minima}
-use Rattle.smith_component.specs.Open.{Open, root, items, items_with_input, offers, is_module_offered, is_component_offered, is_export_offered, tree_so_far}
-use Rattle.smith_component.specs.Open.{scopes_in}
+use Rattle.smith_tree.specs.TypeNeeds.{declaring}
+use Rattle.smith_tree.specs.Spaces.{types_of}
+use Rattle.smith_tree.specs.Tree.{Tree, ends, first, Part, custom, core_module, core_types, component, types, canons, imports, exports, add, join, inside}
+use Rattle.smith_tree.specs.Tree.{component_count, module_count, no_depth, most}
+use Rattle.smith_tree.specs.WellFormed.{Formed, FormedPart}
+use Rattle.smith_tree.specs.Limits.{OwnLimits, Maxima, Minima}
+use Rattle.smith_tree.specs.Open.{Open, root, items, items_with_input, offers, is_module_offered, is_component_offered, is_export_offered, tree_so_far}
+use Rattle.smith_tree.specs.Open.{scopes_in}
 use Rattle.smith_component.specs.Turn.{Next, building, answered, Closes, Does, Turn, with_open, with_part}
 use Rattle.smith_component.specs.Runs.{Turns}
-use Rattle.smith_component.specs.Script.{Continues, item_of, script_item, script_part, script_from, script}
-use Rattle.smith_component.specs.Readable.{Comes, IsReadablePart, IsReadableRest}
-use Rattle.smith_component.specs.contracts.item.Item.{the_type}
-use Rattle.smith_component.specs.contracts.item.ItemPartialEq.TheImpl.{ghosts as equal}
-use Rattle.smith_component.specs.declared.item.Item.{Item}
-use Rattle.smith_component.specs.declared.item.Item.TheVariants.{Finish, Custom, CoreTypes, Types, Imports, Canonical, Module, Component, Exports}
+use Rattle.smith_tree.specs.Script.{Continues, item_of, script_item, script_part, script_from, script}
+use Rattle.smith_tree.specs.Readable.{CanBeGenerated, IsReadablePart, IsReadableRest}
+use Rattle.smith_tree.specs.contracts.choices.Item.{the_type}
+use Rattle.smith_tree.specs.contracts.choices.ItemPartialEq.TheImpl.{ghosts as equal}
+use Rattle.smith_tree.specs.declared.choices.Item.{Item}
+use Rattle.smith_tree.specs.declared.choices.Item.TheVariants.{Finish, Custom, CoreTypes, Types, Imports, Canonical, Module, Component, Exports}
 use Rattle.smith_component.proofs.Tree.{all_before, all_inner, depth-outer, depth-so_far, join-add, join-ends, tree_so_far-close}
 use Rattle.smith_scopes.proofs.Plain.{all_front, all_back}
 use Rattle.smith_component.proofs.CanonsRead.{Spoken}
@@ -306,7 +306,7 @@ reach_from (first (component u) t) config consistent outer before spoken rest ne
       ),
     )
 
-pub reach : (config : Config) (plan : Tree) (rest : List ℕ) → IsConsistent config → Comes config plan → Stands config 1 plan
+pub reach : (config : Config) (plan : Tree) (rest : List ℕ) → IsConsistent config → CanBeGenerated config plan → Stands config 1 plan
     → (k : ℕ) × Turns config (building root) (script config plan ++ rest) (answered plan) rest k
 reach config plan rest consistent c stands =
     reach_from plan config consistent [] ends tt rest (answered plan) rest zero c.readable stands c.formed c.limits.maxima c.limits.minima.1 c.limits.minima.0

@@ -23,31 +23,31 @@ use Rattle.smith_core.specs.StandInText.{StandIn, stand_in_text}
 use Rattle.smith_core.proofs.StandInMade.{small_stand_in}
 use Rattle.smith_core.proofs.StandInTold.{stand_in_told}
 use Rattle.smith_scopes.proofs.Plain.{all_back, all_front}
-use Rattle.smith_core_types.specs.Script.{script_core}
+use Rattle.smith_tree.specs.CoreTypeScript.{script_core}
 use Rattle.smith_core_types.proofs.ScriptBytes.{small_core, small_place, small_said}
 use Rattle.smith_types.specs.Sayable.{Lasts}
-use Rattle.smith_types.specs.Script.{script_type}
+use Rattle.smith_tree.specs.TypeScript.{script_type}
 use Rattle.smith_types.proofs.ReferencesRead.{IsFew}
 use Rattle.smith_types.proofs.ScriptBytes.{small_extern, small_lifted, small_ref, type_bytes}
-use Rattle.smith_component.specs.CanonScript.{canon_item_of, script_canon, script_lift}
-use Rattle.smith_component.specs.Grammar.{part, parts, preamble}
-use Rattle.smith_component.specs.Limits.{OwnLimits}
-use Rattle.smith_component.specs.Offers.{canon_items, canon_offers, is_scalar_entry, is_scalar_type, totals_of, with_exports, with_imports}
-use Rattle.smith_component.specs.Open.{is_component_offered, is_export_offered, is_module_offered, items_with_input, offers, Open, scopes_in}
-use Rattle.smith_component.specs.Readable.{IsReadableRest}
-use Rattle.smith_component.specs.Script.{item_of, script, script_export, script_from, script_import, script_item}
-use Rattle.smith_component.specs.Script.{script_part, Within}
-use Rattle.smith_component.specs.Spaces.{after_canon, after_part, core_types_of, functions_of, Spaces, spaces_of, types_of}
+use Rattle.smith_tree.specs.CanonScript.{canon_item_of, script_canon, script_lift}
+use Rattle.smith_tree.specs.Grammar.{part, parts, preamble}
+use Rattle.smith_tree.specs.Limits.{OwnLimits}
+use Rattle.smith_tree.specs.Offers.{canon_items, canon_offers, is_scalar_entry, is_scalar_type, totals_of, with_exports, with_imports}
+use Rattle.smith_tree.specs.Open.{is_component_offered, is_export_offered, is_module_offered, items_with_input, offers, Open, scopes_in}
+use Rattle.smith_tree.specs.Readable.{IsReadableRest}
+use Rattle.smith_tree.specs.Script.{item_of, script, script_export, script_from, script_import, script_item}
+use Rattle.smith_tree.specs.Script.{script_part, Within}
+use Rattle.smith_tree.specs.Spaces.{after_canon, after_part, core_types_of, functions_of, Spaces, spaces_of, types_of}
 use Rattle.smith_component.specs.Tables.{functions_at}
-use Rattle.smith_component.specs.Tree.{add, anywhere_in, Canon, canons, component, components_in, core_module, core_types, custom, depth, ends, ExportEntry}
-use Rattle.smith_component.specs.Tree.{exports, exports_in, exports_of, first, function_count, imports, imports_of, inside, join, lift, lower}
-use Rattle.smith_component.specs.Tree.{names_in, own, Part, Tree, types}
-use Rattle.smith_component.specs.WellFormed.{export_names, Formed, FormedCanon, FormedCanons, FormedExports, FormedImport, import_names, scope_of}
-use Rattle.smith_component.specs.contracts.item.CanonItemPartialEq.TheImpl.{ghosts as canon_equal}
-use Rattle.smith_component.specs.contracts.item.ItemPartialEq.TheImpl.{ghosts as equal}
-use Rattle.smith_component.specs.declared.item.CanonItem.{CanonItem}
-use Rattle.smith_component.specs.declared.item.Item.{Item}
-use Rattle.smith_component.specs.declared.item.Item.TheVariants.{Finish}
+use Rattle.smith_tree.specs.Tree.{add, anywhere_in, Canon, canons, component, components_in, core_module, core_types, custom, depth, ends, ExportEntry}
+use Rattle.smith_tree.specs.Tree.{exports, exports_in, exports_of, first, function_count, imports, imports_of, inside, join, lift, lower}
+use Rattle.smith_tree.specs.Tree.{names_in, own, Part, Tree, types}
+use Rattle.smith_tree.specs.WellFormed.{export_names, Formed, FormedCanon, FormedCanons, FormedExports, FormedImport, import_names, scope_of}
+use Rattle.smith_tree.specs.contracts.choices.CanonItemPartialEq.TheImpl.{ghosts as canon_equal}
+use Rattle.smith_tree.specs.contracts.choices.ItemPartialEq.TheImpl.{ghosts as equal}
+use Rattle.smith_tree.specs.declared.choices.CanonItem.{CanonItem}
+use Rattle.smith_tree.specs.declared.choices.Item.{Item}
+use Rattle.smith_tree.specs.declared.choices.Item.TheVariants.{Finish}
 use Rattle.smith_component.proofs.CanonsRead.{Spoken}
 use Rattle.smith_component.proofs.Fits.{Fits, fits_behind, own_limits-front, Short}
 use Rattle.smith_component.proofs.Growth.{canon_keeps, functions_after, functions_counted, spaces-add, spaces_export}
@@ -286,12 +286,12 @@ mutual
 pub plan_bytes : (config : Config) (plan : Tree) → IsConsistent config → Within config plan → AreBytes (script config plan)
 plan_bytes config plan consistent w =
     let z = parts_are (bytes preamble) (parts plan) w.spelled.0 w.spelled.1 in
-    let m = w.comes.limits.maxima in
+    let m = w.possible.limits.maxima in
     (small_from plan config [] ends consistent (record {
       spoken = tt;
-      readable = w.comes.readable;
+      readable = w.possible.readable;
       stands = plan_stands config plan w;
-      formed = w.comes.formed;
+      formed = w.possible.formed;
       whole = m.each.0;
       each = m.each.1;
       around = tt;

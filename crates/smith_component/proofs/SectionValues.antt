@@ -17,23 +17,21 @@ use Rattle.smith_types.specs.Declarations.{NamedExtern}
 use Rattle.smith_types.specs.MakingTypes.{HoldsExterns}
 use Rattle.smith_component.specs.Building.{Building, open_of}
 use Rattle.smith_component.specs.Imports.{NoImport, ReadsImport, ReadsImports}
-use Rattle.smith_component.specs.Open.{Open}
-use Rattle.smith_component.specs.SectionValues.{AddsSection, NoImportValue, ReadsCoreTypeValue, ReadsImportValue}
+use Rattle.smith_tree.specs.Open.{Open}
+use Rattle.smith_component.specs.SectionValues.{AddsImportSection, AddsTypeSection, NoImportValue, ReadsCoreTypeValue, ReadsImportValue}
 use Rattle.smith_component.specs.SectionValues.{ReadsTypeValue, extern_of, externs_in, externs_of}
 use Rattle.smith_component.specs.Shown.{shown_section, shown_sections}
 use Rattle.smith_component.specs.Tables.{IsTabled, Tabled}
-use Rattle.smith_component.specs.Spaces.{after_part, core_functions_of, functions_of, spaces_of}
-use Rattle.smith_component.specs.Tree.{canons_in, exports_in, imports_in, imports_of}
-use Rattle.smith_component.specs.AddedSections.{Adds, ReadsCoreTypes, ReadsTypes}
-use Rattle.smith_component.specs.WellFormed.{import_names}
+use Rattle.smith_tree.specs.Spaces.{after_part, core_functions_of, functions_of, spaces_of}
+use Rattle.smith_tree.specs.Tree.{canons_in, exports_in, imports_in, imports_of}
+use Rattle.smith_component.specs.AddedSections.{AddsImports, AddsTypes, ReadsCoreTypes, ReadsTypes}
+use Rattle.smith_tree.specs.WellFormed.{import_names}
 use Rattle.smith_component.specs.declared.builder.open.OpenComponent.{OpenComponent}
 use Rattle.smith_component.specs.declared.builder.tables.Tables.{Tables}
 use Rattle.smith_component.specs.declared.component.Section.{Section}
 use Rattle.smith_component.specs.declared.component.Section.TheVariants.{Custom, CoreModule, CoreTypes, Types, Canonical, Imports, Exports, Component}
-use Rattle.smith_component.specs.declared.item.Counted.{Counted}
-use Rattle.smith_component.specs.declared.item.Counted.TheVariants as counted
 use Rattle.smith_component.proofs.Shown.{shown_push}
-use Rattle.smith_component.proofs.Standing.{tabled_added}
+use Rattle.smith_component.proofs.TracksStack.{tabled_added}
 use Rattle.smith_component.proofs.Tables.{flat_map_more}
 use Rattle.smith_component.proofs.Tree.{no_functions_in}
 
@@ -125,16 +123,19 @@ module _ (config : Config) (stack : Open) (before : List NamedExtern) (are : nam
       an_item m (import_is_shown s mid x after t i) (imports_shown (done + 1) t after ys rest u l)
 
 -- What a section with a minimum adds, as a plain tree.
-pub section_shown : (what : Counted) (config : Config) (min : ℕ) (old new : Building) (b rest : List ℕ) → AddsSection what config min old b new rest
-    → Adds what config min (open_of old) b (open_of new).inner rest
-section_shown counted.Types config min old new b rest a =
+
+pub type_section_shown : (config : Config) (min : ℕ) (old new : Building) (b rest : List ℕ) → AddsTypeSection config min old b new rest
+    → AddsTypes config min (open_of old) b (open_of new).inner rest
+type_section_shown config min old new b rest a =
     (map shown_shared a.section.types.items, a.scope, types_shown config _ a.reads, ap shown_sections a.added ∙ shown_push old.inner (Types a.section))
-section_shown counted.Imports config min old new b rest a =
+
+pub import_section_shown : (config : Config) (min : ℕ) (old new : Building) (b rest : List ℕ) → AddsImportSection config min old b new rest
+    → AddsImports config min (open_of old) b (open_of new).inner rest
+import_section_shown config min old new b rest a =
     let is : List Import = a.section.imports.items in
     let reads : ReadsImports config min (open_of old) b (map import_shown is) rest =
     imports_shown config (open_of old) (externs_of old.inner) (externs_named old.inner) 0 [] b is rest is a.reads in
     (map import_shown is, reads, ap shown_sections a.added ∙ shown_push old.inner (Imports a.section))
-section_shown counted.Functions config min old new b rest a = a
 
 -- What is kept of a component to which a section without functions and imports is added.
 

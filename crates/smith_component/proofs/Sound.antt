@@ -8,22 +8,18 @@ use Rattle.smith_syntax.specs.CoreLimits.{CoreLimits}
 use Rattle.smith_syntax.specs.Entries.{Entry, CoreEntry}
 use Rattle.smith_syntax.specs.Scope.{Scope}
 use Rattle.smith_syntax.specs.TypeLimits.{EntryLimits, nesting}
-use Rattle.smith_types.specs.Needs.{declaring}
-use Rattle.smith_component.specs.Spaces.{core_types_of, spaces_of, types_of}
-use Rattle.smith_component.specs.Tree.{Tree, ends, Part, custom, core_module, core_types, component, types, canons, imports, exports, add, inside, names_in}
-use Rattle.smith_component.specs.Tree.{components_in}
-use Rattle.smith_component.specs.Tree.{modules_in, imported_modules_in, imported_components_in, imported_instances_in, anywhere_in, depth_in, no_depth}
-use Rattle.smith_component.specs.Tree.{declared_depth_in, scope_depth_in, module_count, component_count, instance_count, most}
-use Rattle.smith_component.specs.Counted.{count_of, maximum_of}
-use Rattle.smith_component.specs.ImportsState.{Totalled}
-use Rattle.smith_component.specs.Open.{Open, tree_so_far, is_module_offered, is_component_offered, scopes_in, scopes_from, with_inner}
+use Rattle.smith_tree.specs.TypeNeeds.{declaring}
+use Rattle.smith_tree.specs.Spaces.{core_types_of, spaces_of, types_of}
+use Rattle.smith_tree.specs.Tree.{Tree, ends, Part, custom, core_module, core_types, component, types, canons, imports, exports, add, inside, names_in}
+use Rattle.smith_tree.specs.Tree.{components_in}
+use Rattle.smith_tree.specs.Tree.{modules_in, imported_modules_in, imported_components_in, imported_instances_in, anywhere_in, depth_in, no_depth}
+use Rattle.smith_tree.specs.Tree.{declared_depth_in, scope_depth_in, module_count, component_count, instance_count, most}
+use Rattle.smith_tree.specs.Open.{Open, tree_so_far, is_module_offered, is_component_offered, scopes_in, scopes_from, with_inner}
 use Rattle.smith_component.specs.Turn.{building, Closes}
-use Rattle.smith_component.specs.WellFormed.{FormedPart, WellFormed, scope_of}
-use Rattle.smith_component.specs.Limits.{max_depth, SmallTypes, SmallCoreTypes, OwnSizes, Sized, OwnLimits, Maxima, Minima, Limits}
-use Rattle.smith_component.specs.Sound.{IsAddable, IsQuiet, Sound, finished_in}
+use Rattle.smith_tree.specs.WellFormed.{FormedPart, WellFormed, scope_of}
+use Rattle.smith_tree.specs.Limits.{max_depth, SmallTypes, SmallCoreTypes, OwnSizes, Sized, OwnLimits, Maxima, Minima, Limits}
+use Rattle.smith_component.specs.Sound.{IsAddable, IsQuiet, Sound, Totalled, finished_in}
 use Rattle.smith_component.specs.declared.builder.totals.TreeTotals.{TreeTotals}
-use Rattle.smith_component.specs.declared.item.Counted.{Counted}
-use Rattle.smith_component.specs.declared.item.Counted.TheVariants.{Types, Imports, Functions}
 use Rattle.smith_component.proofs.Fits.{Fits, IsSized, Short, fits_of, no_counted, own_limits-add, own_limits-component, own_limits_swap}
 use Rattle.smith_component.proofs.Fits.{own_sizes-add, own_sizes_swap}
 use Rattle.smith_component.proofs.WellFormed.{formed_so_far}
@@ -73,12 +69,6 @@ own_sizes_of config stack s = all_inner (OwnSizes config) stack.outer stack.inne
 -- The inner component keeps its own limits.
 pub own_limits_of : (config : Config) (stack : Open) → Sound config stack → OwnLimits config stack.inner
 own_limits_of config stack s = all_inner (OwnLimits config) stack.outer stack.inner s.maxima.each
-
--- A component has at most as many as it may.
-pub counted_within : (what : Counted) (config : Config) (t : Tree) → OwnLimits config t → count_of what t ≤ maximum_of what config
-counted_within Types config t limits = limits.types
-counted_within Imports config t limits = limits.imports
-counted_within Functions config t limits = limits.functions
 
 -- A part that may be added keeps all that is true.
 pub part_sound : (config : Config) (stack : Open) (p : Part) → IsAddable config stack p → Sound config stack

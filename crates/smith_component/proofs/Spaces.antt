@@ -1,5 +1,5 @@
 -- What stands in index spaces, and stays where they grow.
-use Rattle.std.proofs.Common.{◌≡◌, ℕ, zero, suc, ◌+◌, ◌<◌, ◌≤◌, Bool, true, false, cond, List, [], ◌∷◌, ◌++◌, fold, map, length, refl, sym, ap, ◌∙◌, subst}
+use Rattle.std.proofs.Common.{◌≡◌, ℕ, ◌+◌, ◌<◌, ◌≤◌, Bool, true, false, cond, List, [], ◌∷◌, ◌++◌, fold, map, length, refl, sym, ap, ◌∙◌}
 use Rattle.std.proofs.Common.{arith, append-nil, length-append, Some, None}
 use Rattle.std.proofs.lemmas.Bool.{false≢true}
 use Rattle.std.proofs.lemmas.Option.{slice_get_within}
@@ -14,24 +14,20 @@ use Rattle.smith_syntax.specs.declared.deftype.DefType.{DefType}
 use Rattle.smith_scopes.specs.Scopes.{Contents, last_of, own_scope}
 use Rattle.smith_scopes.proofs.Places.{get_left, place_stands}
 use Rattle.smith_scopes.proofs.Stack.{own_last, places-append}
-use Rattle.smith_component.specs.Offers.{is_scalar_entry, is_scalar_type, scalar_functions}
+use Rattle.smith_tree.specs.Offers.{is_scalar_entry, is_scalar_type, scalar_functions}
 use Rattle.smith_component.specs.Tables.{IsGrounded}
-use Rattle.smith_component.specs.Spaces.{Spaces, after_canon, spaces_of}
-use Rattle.smith_component.specs.Tree.{Tree, Canon, lift, lower, types, canons, add, exports_in, exports_of, imports_in, imports_of}
-use Rattle.smith_component.specs.WellFormed.{scope_of, HasSignature, FormedCanon, FormedCanons}
+use Rattle.smith_tree.specs.Spaces.{Spaces, after_canon, spaces_of}
+use Rattle.smith_tree.specs.Tree.{Tree, Canon, lift, lower, types, canons, add, exports_in, exports_of, imports_in, imports_of}
+use Rattle.smith_tree.specs.WellFormed.{scope_of, HasSignature, FormedCanon, FormedCanons}
 use Rattle.smith_component.proofs.Growth.{Extends, canons_keep, extends_canon, extends_part, scope_bare}
 use Rattle.smith_component.proofs.Tables.{all_weaker, get_longer, places_agree}
 use Rattle.smith_component.proofs.Tree.{own-add}
 use Rattle.smith_scopes.proofs.Plain.{all_both}
+pub use Rattle.smith_input.proofs.Lists.{all_at}
 
 pub get_last : {A : Type 0} (xs : List A) (x : A) → slice_get (xs ++ x ∷ []) (length xs) ≡ Some x
 get_last [] x = refl
 get_last (z ∷ xs) x = get_last xs x
-
-pub all_at : {A : Type 0} (P : A → Type 0) (xs : List A) (k : ℕ) (x : A) → AllByRecursion P xs → slice_get xs k ≡ Some x → P x
-all_at P [] k x all e = absurd (let z : None ≡ Some x = e in cc)
-all_at P (y ∷ ys) zero x all e = let z : y ≡ x = cc in subst P z all.0
-all_at P (y ∷ ys) (suc k) x all e = all_at P ys k x all.1 e
 
 -- A canonical section leaves the scope and the imports as they are.
 

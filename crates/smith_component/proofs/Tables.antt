@@ -12,11 +12,11 @@ use Rattle.smith_syntax.specs.Flat.{is_scalar}
 use Rattle.smith_syntax.specs.Scope.{Scope, places}
 use Rattle.smith_scopes.proofs.Places.{get_left, place_stands}
 use Rattle.smith_scopes.proofs.Stack.{places-append}
-use Rattle.smith_component.specs.Offers.{is_scalar_entry, is_scalar_type, scalar_functions}
+use Rattle.smith_tree.specs.Offers.{is_scalar_entry, is_scalar_type, scalar_functions}
 use Rattle.smith_component.specs.Tables.{AddsCoreFunction, AddsFunction, IsGrounded, IsLowerable, Tabled}
-use Rattle.smith_component.specs.Spaces.{core_functions_of, functions_of, spaces_of, types_of}
-use Rattle.smith_component.specs.Tree.{Tree, Part, add, exports_of, function_count, own}
-use Rattle.smith_component.specs.WellFormed.{export_names, scope_of}
+use Rattle.smith_tree.specs.Spaces.{core_functions_of, functions_of, spaces_of, types_of}
+use Rattle.smith_tree.specs.Tree.{Tree, Part, add, exports_of, function_count, own}
+use Rattle.smith_tree.specs.WellFormed.{export_names, scope_of}
 use Rattle.smith_component.specs.declared.builder.tables.Tables.{Tables}
 use Rattle.smith_component.proofs.Tree.{own-add}
 use Rattle.smith_scopes.proofs.Plain.{all_both}

@@ -3,11 +3,11 @@ use Rattle.std.proofs.Common.{◌≡◌, ℕ, ◌+◌, ◌≤◌, max, List, [],
 use Rattle.std.specs.List.{AllByRecursion, flat_map}
 use Rattle.smith_scopes.proofs.Plain.{all_back, all_both, all_front}
 use Rattle.smith_syntax.specs.Entries.{Entry, ImportEntry}
-use Rattle.smith_component.specs.Tree.{Tree, ends, first, Part, custom, core_module, core_types, component, types, canons, imports, exports, add}
-use Rattle.smith_component.specs.Tree.{join, own, anywhere}
-use Rattle.smith_component.specs.Tree.{anywhere_in, inside, components_in, depth_by, depth_by_in}
-use Rattle.smith_component.specs.Tree.{canons_in, function_count, function_of, imported_functions_in, imports_in}
-use Rattle.smith_component.specs.Open.{tree_so_far}
+use Rattle.smith_tree.specs.Tree.{Tree, ends, first, Part, custom, core_module, core_types, component, types, canons, imports, exports, add}
+use Rattle.smith_tree.specs.Tree.{join, own, anywhere}
+use Rattle.smith_tree.specs.Tree.{anywhere_in, inside, components_in, depth_by, depth_by_in}
+use Rattle.smith_tree.specs.Tree.{canons_in, function_count, function_of, imported_functions_in, imports_in}
+use Rattle.smith_tree.specs.Open.{tree_so_far}
 
 -- What is open is closed.
 pub tree_so_far-close : (outer : List Tree) (u t : Tree) → tree_so_far (outer ++ u ∷ []) t ≡ tree_so_far outer (add u (component t))

@@ -8,10 +8,10 @@ use Rattle.smith_input.specs.Reading.{IsWidth, Reads, IsTail}
 use Rattle.smith_input.proofs.Offered.{offer_holds, offers_few}
 use Rattle.smith_input.proofs.Reading.{width_unique, tail_is, tail_trans}
 use Rattle.smith_format.specs.declared.config.Config.{Config}
-use Rattle.smith_component.specs.Tree.{Tree, ends, Part, custom, core_module, core_types, component, exports, add}
+use Rattle.smith_tree.specs.Tree.{Tree, ends, Part, custom, core_module, core_types, component, exports, add}
 use Rattle.smith_component.specs.Building.{Building, open_of}
-use Rattle.smith_component.specs.Limits.{max_depth}
-use Rattle.smith_component.specs.Open.{Open, more_items, is_component_offered, is_export_offered, is_module_offered, items, offers, with_inner}
+use Rattle.smith_tree.specs.Limits.{max_depth}
+use Rattle.smith_tree.specs.Open.{Open, more_items, is_component_offered, is_export_offered, is_module_offered, items, offers, with_inner}
 use Rattle.smith_component.specs.Shown.{shown_module, shown_sections}
 use Rattle.smith_component.specs.Steps.{AddsSections}
 use Rattle.smith_component.specs.Turn.{Next, building, answered, Turn, Closes, Does, with_part}
@@ -20,8 +20,8 @@ use Rattle.smith_component.specs.Fills.{Fills, FillsAll}
 use Rattle.smith_component.specs.Runs.{todo, Falls}
 use Rattle.smith_component.specs.declared.item.Counted.{Counted}
 use Rattle.smith_component.specs.declared.item.Counted.TheVariants as counted
-use Rattle.smith_component.specs.declared.item.Item.{Item}
-use Rattle.smith_component.specs.declared.item.Item.TheVariants.{Finish, Custom, CoreTypes, Types, Imports, Canonical, Module, Component, Exports}
+use Rattle.smith_tree.specs.declared.choices.Item.{Item}
+use Rattle.smith_tree.specs.declared.choices.Item.TheVariants.{Finish, Custom, CoreTypes, Types, Imports, Canonical, Module, Component, Exports}
 use Rattle.smith_component.proofs.ReadsCustom.{custom_tail}
 use Rattle.smith_component.proofs.ReadsCoreTypes.{core_types_read_tail}
 use Rattle.smith_component.proofs.ReadsModule.{stand_in_tail}

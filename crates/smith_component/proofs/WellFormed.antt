@@ -1,9 +1,9 @@
 -- Well formed trees grow at the inner component.
 use Rattle.std.proofs.Common.{List, [], ◌∷◌, sym, subst}
 use Rattle.smith_syntax.specs.Scope.{Scope}
-use Rattle.smith_component.specs.Tree.{Tree, ends, first, Part, component, add, join}
-use Rattle.smith_component.specs.Open.{tree_so_far, scopes_from}
-use Rattle.smith_component.specs.WellFormed.{Formed, FormedPart, scope_of}
+use Rattle.smith_tree.specs.Tree.{Tree, ends, first, Part, component, add, join}
+use Rattle.smith_tree.specs.Open.{tree_so_far, scopes_from}
+use Rattle.smith_tree.specs.WellFormed.{Formed, FormedPart, scope_of}
 use Rattle.smith_component.proofs.Tree.{join-ends, join-add}
 
 pub formed-add : (t : Tree) (p : Part) (outer : List Scope) (before : Tree) → Formed t outer before → FormedPart p outer (join before t)

@@ -7,13 +7,13 @@ use Rattle.smith_syntax.specs.Entries.{Entry, CoreEntry, ImportEntry}
 use Rattle.smith_types.specs.Made.{MadeWith}
 use Rattle.smith_core_types.specs.MadeCore.{MadeCore}
 use Rattle.smith_syntax.specs.Scope.{Scope, with_type, with_core_type}
-use Rattle.smith_component.specs.Spaces.{types_of}
-use Rattle.smith_component.specs.Tree.{Tree, types, imports, add}
+use Rattle.smith_tree.specs.Spaces.{types_of}
+use Rattle.smith_tree.specs.Tree.{Tree, types, imports, add}
 use Rattle.smith_component.specs.Canonicals.{Growing, ReadsCanons, grown}
 use Rattle.smith_component.specs.Imports.{ReadsImports}
-use Rattle.smith_component.specs.Open.{Open, scopes_in}
-use Rattle.smith_component.specs.WellFormed.{scope_of}
-use Rattle.smith_component.specs.declared.item.CanonItem.{CanonItem}
+use Rattle.smith_tree.specs.Open.{Open, scopes_in}
+use Rattle.smith_tree.specs.WellFormed.{scope_of}
+use Rattle.smith_tree.specs.declared.choices.CanonItem.{CanonItem}
 use Rattle.smith_component.specs.declared.item.Counted.{Counted}
 use Rattle.smith_component.specs.declared.item.Counted.TheVariants as counted
 

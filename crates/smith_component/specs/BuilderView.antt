@@ -3,10 +3,10 @@ use Rattle.std.specs.Prelude.{◌∷◌, map}
 use Rattle.std.specs.List.{AllByRecursion}
 use Rattle.smith_scopes.specs.Scopes.{inward}
 use Rattle.smith_component.specs.Building.{Building, open_of}
-use Rattle.smith_component.specs.Sound.{Standing}
+use Rattle.smith_component.specs.Sound.{TracksStack}
 use Rattle.smith_component.specs.Tables.{IsTabled}
 use Rattle.smith_component.specs.declared.builder.Progress.{Progress}
-use Rattle.smith_component.specs.Open.{Open}
+use Rattle.smith_tree.specs.Open.{Open}
 
 abbrev pub building_of : Progress → Building
 building_of b = record { config = b.config; outer = map (λ c. c.sections.items) b.outer.items; inner = b.inner.sections.items }
@@ -16,4 +16,4 @@ abbrev pub stack_of : Progress → Open
 stack_of b = open_of (building_of b)
 
 abbrev pub IsSound : Progress → Type 0
-IsSound b = Standing b.config b.valtypes.items (inward b.scopes) b.totals (open_of (building_of b)) × AllByRecursion IsTabled (b.inner ∷ b.outer.items)
+IsSound b = TracksStack b.config b.valtypes.items (inward b.scopes) b.totals (open_of (building_of b)) × AllByRecursion IsTabled (b.inner ∷ b.outer.items)

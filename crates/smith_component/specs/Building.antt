@@ -2,7 +2,7 @@
 use Rattle.std.specs.Prelude.{List, map}
 use Rattle.smith_format.specs.declared.config.Config.{Config}
 use Rattle.smith_component.specs.Shown.{shown_sections}
-use Rattle.smith_component.specs.Open.{Open}
+use Rattle.smith_tree.specs.Open.{Open}
 use Rattle.smith_component.specs.declared.component.Section.{Section}
 
 -- a builder: its config, the components around the inner one, outermost first, and the inner one, each as its sections so far

@@ -9,13 +9,13 @@ use Rattle.smith_syntax.specs.Entries.{function, Signature}
 use Rattle.smith_syntax.specs.Flat.{Flattens}
 use Rattle.smith_syntax.specs.Scope.{places}
 use Rattle.smith_syntax.specs.Shown.{is_of_signature}
-use Rattle.smith_types.specs.Lifting.{ReadsLifted}
-use Rattle.smith_component.specs.Spaces.{Spaces, spaces_of}
-use Rattle.smith_component.specs.Tree.{Canon, lift, lower, Tree, types, canons, add, function_count}
-use Rattle.smith_component.specs.WellFormed.{HasSignature}
-use Rattle.smith_component.specs.declared.item.CanonItem.{CanonItem}
-use Rattle.smith_component.specs.declared.item.CanonItem.TheVariants.{Lower, Lift}
-use Rattle.smith_component.specs.Offers.{canon_items, scalar_functions}
+use Rattle.smith_types.specs.Lifting.{ReadsLiftedType}
+use Rattle.smith_tree.specs.Spaces.{Spaces, spaces_of}
+use Rattle.smith_tree.specs.Tree.{Canon, lift, lower, Tree, types, canons, add, function_count}
+use Rattle.smith_tree.specs.WellFormed.{HasSignature}
+use Rattle.smith_tree.specs.declared.choices.CanonItem.{CanonItem}
+use Rattle.smith_tree.specs.declared.choices.CanonItem.TheVariants.{Lower, Lift}
+use Rattle.smith_tree.specs.Offers.{canon_items, scalar_functions}
 
 -- A canonical section that grows: the parts in front of it, and what it has so far.
 pub record Growing : Type 0 where
@@ -67,7 +67,7 @@ pub record ReadsLift (config : Config) (s : Growing) (bytes rest : List ℕ) (ne
   pub lowers : slice_get (spaces_at s).core_functions c ≡ Some f
   pub of : HasSignature (spaces_at s) f lowered
   pub flattens : Flattens lowered core
-  pub reads : ReadsLifted core mid signature low
+  pub reads : ReadsLiftedType core mid signature low
   pub lifts : LiftsTo config s c signature low rest next
 
 -- a turn by what was chosen

@@ -2,31 +2,33 @@
 use Rattle.std.specs.Prelude.{◌≡◌, ℕ, Bool, true, false, List, [], ◌∷◌, ◌++◌, map, length, nat_lt, Some, slice_get}
 use Rattle.smith_input.specs.Offers.{offers_of}
 use Rattle.smith_format.specs.CoreTypes.{Function}
+use Rattle.smith_format.specs.Limits.{IsConsistent}
 use Rattle.smith_format.specs.declared.config.Config.{Config}
 use Rattle.smith_syntax.specs.Entries.{Signature, function}
 use Rattle.smith_syntax.specs.Flat.{Flattens, is_scalar}
 use Rattle.smith_syntax.specs.Scope.{Scope}
-use Rattle.smith_types.specs.Lifting.{ReadsLifted}
+use Rattle.smith_types.specs.Lifting.{ReadsLiftedType}
 use Rattle.smith_scopes.specs.Scopes.{Contents, outer_scopes, own_scope}
 use Rattle.smith_component.specs.Canonicals.{CanonTurn, Growing, NoCanon, grown}
 use Rattle.smith_component.specs.SectionValues.{externs_of}
 use Rattle.smith_component.specs.Shown.{shown_canon, shown_sections}
 use Rattle.smith_component.specs.Tables.{Tabled}
-use Rattle.smith_component.specs.WellFormed.{scope_of}
+use Rattle.smith_tree.specs.WellFormed.{scope_of}
 use Rattle.smith_component.specs.declared.builder.canonicals.CanonicalDraft.{CanonicalDraft}
 use Rattle.smith_component.specs.declared.builder.open.OpenComponent.{OpenComponent}
 use Rattle.smith_component.specs.declared.builder.tables.Tables.{Tables}
 use Rattle.smith_component.specs.declared.component.Func.{Func}
 use Rattle.smith_component.specs.declared.component.Section.{Section}
-use Rattle.smith_component.specs.declared.item.CanonItem.{CanonItem}
-use Rattle.smith_component.specs.declared.item.CanonItem.TheVariants.{Lower, Lift}
+use Rattle.smith_tree.specs.declared.choices.CanonItem.{CanonItem}
+use Rattle.smith_tree.specs.declared.choices.CanonItem.TheVariants.{Lower, Lift}
 
 -- the section that grows behind the sections of a component
 abbrev pub growing : OpenComponent → List Func → Growing
 growing component funcs = record { before = shown_sections component.sections.items; funcs = map shown_canon funcs }
 
--- The last scope and the tables are those of the component with that section.
-pub record CanonicalsState (scopes : List Contents) (component : OpenComponent) (funcs : List Func) : Type 0 where
+-- The limits fit together, and the last scope and the tables are those of the component with that section.
+pub record CanonicalsState (config : Config) (scopes : List Contents) (component : OpenComponent) (funcs : List Func) : Type 0 where
+  pub consistent : IsConsistent config
   pub scope_is : own_scope scopes ≡ scope_of (grown (growing component funcs))
   pub tabled : Tabled component.tables (grown (growing component funcs))
 
@@ -42,7 +44,7 @@ abbrev pub draft_of : CanonicalDraft → Growing
 draft_of d = growing d.component.now d.funcs.now.items
 
 abbrev pub IsDraft : CanonicalDraft → Type 0
-IsDraft d = CanonicalsState d.scopes.now d.component.now d.funcs.now.items
+IsDraft d = CanonicalsState d.config.now d.scopes.now d.component.now d.funcs.now.items
 
 -- It still borrows what it borrowed.
 pub record SameLoans (old new : CanonicalDraft) : Type 0 where
@@ -75,12 +77,12 @@ abbrev pub IsLowered : Scope → Tables → ℕ → Type 0
 IsLowered own tables c = (signature : Signature) × LowersAs own tables c signature × (is_scalar signature ≡ true)
 
 -- A signature is read that flattens as that of the function which the core function lowers.
-pub record LiftsAs (own : Scope) (tables : Tables) (c : ℕ) (bytes : List ℕ) (signature : Signature) (rest : List ℕ) : Type 0 where
+pub record ReadsLiftedTypeOf (own : Scope) (tables : Tables) (c : ℕ) (bytes : List ℕ) (signature : Signature) (rest : List ℕ) : Type 0 where
   pub lowered : Signature
   pub core : Function
   pub of : LowersAs own tables c lowered
   pub flattens : Flattens lowered core
-  pub reads : ReadsLifted core bytes signature rest
+  pub reads : ReadsLiftedType core bytes signature rest
 
 -- a turn that is made, or none because no function can be lowered or lifted
 abbrev pub IsDrafted : Config → Growing → List ℕ → Bool → List ℕ → Growing → Type 0

@@ -1,12 +1,10 @@
 -- What a component has a minimum of: its types, its imports and its functions.
 use Rattle.std.specs.Prelude.{ℕ, length}
 use Rattle.smith_format.specs.declared.config.Config.{Config}
-use Rattle.smith_component.specs.Spaces.{types_of}
-use Rattle.smith_component.specs.Tree.{Tree, imports_of, function_count}
+use Rattle.smith_tree.specs.Spaces.{types_of}
+use Rattle.smith_tree.specs.Tree.{Tree, imports_of, function_count}
 use Rattle.smith_component.specs.declared.item.Counted.{Counted}
 use Rattle.smith_component.specs.declared.item.Counted.TheVariants.{Types, Imports, Functions}
-use Rattle.smith_component.specs.declared.item.Item.{Item}
-use Rattle.smith_component.specs.declared.item.Item.TheVariants as item
 
 -- how many of them a component has
 abbrev pub count_of : Counted → Tree → ℕ
@@ -19,15 +17,3 @@ abbrev pub minimum_of : Counted → Config → ℕ
 minimum_of Types config = config.min_types
 minimum_of Imports config = config.min_imports
 minimum_of Functions config = config.min_funcs
-
--- the most that it may have
-abbrev pub maximum_of : Counted → Config → ℕ
-maximum_of Types config = config.max_types
-maximum_of Imports config = config.max_imports
-maximum_of Functions config = config.max_funcs
-
--- the item that adds them
-abbrev pub item_for : Counted → Item
-item_for Types = item.Types
-item_for Imports = item.Imports
-item_for Functions = item.Canonical

@@ -4,10 +4,10 @@ use Rattle.smith_input.specs.Loops.{Loop}
 use Rattle.smith_input.specs.Names.{ReadsNew}
 use Rattle.smith_input.specs.Reading.{Reads}
 use Rattle.smith_format.specs.declared.config.Config.{Config}
-use Rattle.smith_component.specs.Offers.{with_exports}
-use Rattle.smith_component.specs.Spaces.{functions_of}
-use Rattle.smith_component.specs.Tree.{ExportEntry, Tree, exports_of}
-use Rattle.smith_component.specs.WellFormed.{export_names}
+use Rattle.smith_tree.specs.Offers.{with_exports}
+use Rattle.smith_tree.specs.Spaces.{functions_of}
+use Rattle.smith_tree.specs.Tree.{ExportEntry, Tree, exports_of}
+use Rattle.smith_tree.specs.WellFormed.{export_names}
 
 -- An export behind these of its section: a choice among the component functions, those that the section exports too, and a name that is new
 -- among the component's exports.

@@ -2,11 +2,11 @@
 use Rattle.std.specs.Prelude.{◌≡◌, ℕ, List, ◌∷◌, [], ◌++◌, Option, Some, None}
 use Rattle.smith_syntax.specs.Scope.{Scope}
 use Rattle.smith_component.specs.Exports.{NoExport, ReadsExport}
-use Rattle.smith_component.specs.Offers.{with_exports}
+use Rattle.smith_tree.specs.Offers.{with_exports}
 use Rattle.smith_component.specs.Shown.{shown_export}
 use Rattle.smith_component.specs.Tables.{Tabled}
-use Rattle.smith_component.specs.Tree.{ExportEntry, Tree}
-use Rattle.smith_component.specs.WellFormed.{scope_of}
+use Rattle.smith_tree.specs.Tree.{ExportEntry, Tree}
+use Rattle.smith_tree.specs.WellFormed.{scope_of}
 use Rattle.smith_component.specs.declared.builder.tables.Tables.{Tables}
 use Rattle.smith_component.specs.declared.component.Export.{Export}
 

@@ -2,9 +2,9 @@
 use Rattle.std.specs.Prelude.{ℕ, ◌+◌, ◌-◌, ◌<◌, ◌≤◌, ◌⊎◌, length}
 use Rattle.smith_format.specs.declared.config.Config.{Config}
 use Rattle.smith_syntax.specs.Scope.{places, is_func}
-use Rattle.smith_component.specs.Offers.{scalar_functions}
-use Rattle.smith_component.specs.Spaces.{spaces_of, types_of}
-use Rattle.smith_component.specs.Tree.{Tree, imports_of, function_count}
+use Rattle.smith_tree.specs.Offers.{scalar_functions}
+use Rattle.smith_tree.specs.Spaces.{spaces_of, types_of}
+use Rattle.smith_tree.specs.Tree.{Tree, imports_of, function_count}
 
 -- how many imports lack
 abbrev pub missing_imports : Config → Tree → ℕ

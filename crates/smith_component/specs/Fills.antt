@@ -1,9 +1,9 @@
 -- How what lacks of a minimum is filled where a component is finished.
 use Rattle.std.specs.Prelude.{◌≡◌, ℕ, ◌-◌, ◌<◌, ◌≤◌, List, length, ◌⊎◌}
 use Rattle.smith_format.specs.declared.config.Config.{Config}
-use Rattle.smith_component.specs.Tree.{Tree, imports_of, function_count}
+use Rattle.smith_tree.specs.Tree.{Tree, imports_of, function_count}
 use Rattle.smith_component.specs.Counted.{count_of, minimum_of}
-use Rattle.smith_component.specs.Open.{Open, with_inner}
+use Rattle.smith_tree.specs.Open.{Open, with_inner}
 use Rattle.smith_component.specs.declared.item.Counted.{Counted}
 use Rattle.smith_component.specs.declared.item.Counted.TheVariants as counted
 use Rattle.smith_component.specs.AddedSections.{Adds}

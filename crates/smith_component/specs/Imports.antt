@@ -6,10 +6,10 @@ use Rattle.smith_syntax.specs.Entries.{ImportEntry}
 use Rattle.smith_syntax.specs.WellFormed.{names}
 use Rattle.smith_types.specs.Declarations.{NamedExtern, ReadsNamedExtern}
 use Rattle.smith_types.specs.References.{ReadsRef}
-use Rattle.smith_component.specs.Open.{Open}
-use Rattle.smith_component.specs.Tree.{imports_of}
-use Rattle.smith_component.specs.WellFormed.{scope_of, import_names}
-use Rattle.smith_component.specs.Offers.{with_imports, totals_of, import_kinds}
+use Rattle.smith_tree.specs.Open.{Open}
+use Rattle.smith_tree.specs.Tree.{imports_of}
+use Rattle.smith_tree.specs.WellFormed.{scope_of, import_names}
+use Rattle.smith_tree.specs.Offers.{with_imports, totals_of, import_kinds}
 
 -- An import behind these of its section: what it is of, a name that is new among the component's imports, and a URL or none, which is
 -- new among some of which a plain tree knows nothing.

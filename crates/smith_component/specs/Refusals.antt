@@ -5,11 +5,11 @@ use Rattle.smith_format.specs.Limits.{IsConsistent}
 use Rattle.smith_format.specs.declared.config.Config.{Config}
 use Rattle.smith_input.specs.declared.error.Error.{Error}
 use Rattle.smith_input.specs.declared.error.Error.TheVariants.{InconsistentLimits, MinimumNotMet, ModuleRefused, TooLong, OutOfMemory, PartsDisagree}
-use Rattle.smith_component.specs.Grammar.{component_text}
-use Rattle.smith_component.specs.Tree.{Tree}
-use Rattle.smith_component.specs.declared.item.Item.{Item}
-use Rattle.smith_component.specs.Limits.{Minima}
-use Rattle.smith_component.specs.Open.{Open, items, root}
+use Rattle.smith_tree.specs.Grammar.{component_text}
+use Rattle.smith_tree.specs.Tree.{Tree}
+use Rattle.smith_tree.specs.declared.choices.Item.{Item}
+use Rattle.smith_tree.specs.Limits.{Minima}
+use Rattle.smith_tree.specs.Open.{Open, items, root}
 use Rattle.smith_component.specs.Turn.{LacksAt, RefusesModuleAt, building}
 use Rattle.smith_component.specs.Fills.{Lacks}
 use Rattle.smith_component.specs.Runs.{RunsTo, Turns}
@@ -47,7 +47,7 @@ IsStepRefusal config stack left OutOfMemory = Unit {0}
 IsStepRefusal config stack left PartsDisagree = ⊥
 
 -- Turns in a row lead from the input to components that are open and bytes that are left, of which something is true.
-pub record Comes (config : Config) (At : Open → List ℕ → Type 0) (input : List ℕ) : Type 0 where
+pub record RunReaches (config : Config) (At : Open → List ℕ → Type 0) (input : List ℕ) : Type 0 where
   pub stack : Open
   pub left : List ℕ
   pub turns : ℕ
@@ -56,11 +56,11 @@ pub record Comes (config : Config) (At : Open → List ℕ → Type 0) (input : 
 
 -- the input leads to a component that is to be finished, of which imports or functions lack
 abbrev pub LacksOn : Config → List ℕ → Type 0
-LacksOn config input = Comes config (LacksAt config) input
+LacksOn config input = RunReaches config (LacksAt config) input
 
 -- the input leads to a core module that the limits on memories do not leave
 abbrev pub RefusesModuleOn : Config → List ℕ → Type 0
-RefusesModuleOn config input = Comes config (RefusesModuleAt config) input
+RefusesModuleOn config input = RunReaches config (RefusesModuleAt config) input
 
 -- Limits that do not fit together are refused as such; a component is refused that lacks of a minimum, or that is to have a core module
 -- that the limits do not leave, and all else only for want of memory.

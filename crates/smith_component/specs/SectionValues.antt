@@ -18,19 +18,17 @@ use Rattle.smith_types.specs.Declarations.{NamedExtern, ReadsNamedExtern}
 use Rattle.smith_types.specs.Made.{Made}
 use Rattle.smith_types.specs.References.{ReadsRef}
 use Rattle.smith_component.specs.Building.{Building, open_of}
-use Rattle.smith_component.specs.Offers.{import_kinds, totals_of, with_imports}
-use Rattle.smith_component.specs.Open.{Open, scopes_in}
-use Rattle.smith_component.specs.Spaces.{core_types_of, types_of}
-use Rattle.smith_component.specs.Tree.{imports_of}
-use Rattle.smith_component.specs.AddedSections.{AddsCanons, ReadsCoreType}
-use Rattle.smith_component.specs.WellFormed.{scope_of}
+use Rattle.smith_tree.specs.Offers.{import_kinds, totals_of, with_imports}
+use Rattle.smith_tree.specs.Open.{Open, scopes_in}
+use Rattle.smith_tree.specs.Spaces.{core_types_of, types_of}
+use Rattle.smith_tree.specs.Tree.{imports_of}
+use Rattle.smith_component.specs.AddedSections.{ReadsCoreType}
+use Rattle.smith_tree.specs.WellFormed.{scope_of}
 use Rattle.smith_component.specs.declared.component.CoreTypeSection.{CoreTypeSection}
 use Rattle.smith_component.specs.declared.component.ImportSection.{ImportSection}
 use Rattle.smith_component.specs.declared.component.Section.{Section}
 use Rattle.smith_component.specs.declared.component.Section.TheVariants.{Custom, CoreModule, CoreTypes, Types, Canonical, Imports, Exports, Component}
 use Rattle.smith_component.specs.declared.component.TypeSection.{TypeSection}
-use Rattle.smith_component.specs.declared.item.Counted.{Counted}
-use Rattle.smith_component.specs.declared.item.Counted.TheVariants as counted
 
 -- A type of a type section as `ReadsType` says, URLs and what outer aliases keep included.
 abbrev pub ReadsTypeValue : Config → List Scope → Scope → List ℕ → Rc DefType Global → List ℕ → Scope → Type 0
@@ -103,9 +101,3 @@ pub record AddsModule (config : Config) (old : Building) (b : List ℕ) (new : B
   pub parts : ModuleParts
   pub added : new.inner ≡ old.inner ++ CoreModule parts ∷ []
   pub reads : ReadsStandIn config b parts rest
-
--- a section of what has a minimum; a canonical function and the type that a lift defines have nothing that a tree leaves out
-abbrev pub AddsSection : Counted → Config → ℕ → Building → List ℕ → Building → List ℕ → Type 0
-AddsSection counted.Types config min old b new rest = AddsTypeSection config min old b new rest
-AddsSection counted.Imports config min old b new rest = AddsImportSection config min old b new rest
-AddsSection counted.Functions config min old b new rest = AddsCanons config min (open_of old) b (open_of new).inner rest

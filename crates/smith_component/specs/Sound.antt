@@ -5,14 +5,13 @@ use Rattle.smith_format.specs.Limits.{IsConsistent, configured}
 use Rattle.smith_format.specs.declared.config.Config.{Config}
 use Rattle.smith_format.specs.declared.types.ValType.{ValType}
 use Rattle.smith_syntax.specs.Scope.{Scope}
-use Rattle.smith_component.specs.ImportsState.{Totalled}
-use Rattle.smith_component.specs.Limits.{max_depth, OwnLimits, OwnSizes, Maxima, Minima, Sized}
-use Rattle.smith_component.specs.Open.{Open, tree_so_far, scopes_in}
-use Rattle.smith_component.specs.Spaces.{Spaces, after_part}
-use Rattle.smith_component.specs.Tree.{Tree, Part, add, inside, module_count, component_count, instance_count, imports_in, modules_in, imported_modules_in}
-use Rattle.smith_component.specs.Tree.{imported_components_in, imported_instances_in, anywhere_in, canons_in, components_in, depth_in, exports_in}
-use Rattle.smith_component.specs.Tree.{declared_depth_in, scope_depth_in}
-use Rattle.smith_component.specs.WellFormed.{WellFormed, FormedPart, scope_of}
+use Rattle.smith_tree.specs.Limits.{max_depth, OwnLimits, OwnSizes, Maxima, Minima, Sized}
+use Rattle.smith_tree.specs.Open.{Open, tree_so_far, scopes_in}
+use Rattle.smith_tree.specs.Spaces.{Spaces, after_part}
+use Rattle.smith_tree.specs.Tree.{Tree, Part, add, inside, module_count, component_count, instance_count, imports_in, modules_in, imported_modules_in}
+use Rattle.smith_tree.specs.Tree.{imported_components_in, imported_instances_in, anywhere_in, canons_in, components_in, depth_in, exports_in}
+use Rattle.smith_tree.specs.Tree.{declared_depth_in, scope_depth_in}
+use Rattle.smith_tree.specs.WellFormed.{WellFormed, FormedPart, scope_of}
 use Rattle.smith_component.specs.declared.builder.totals.TreeTotals.{TreeTotals}
 
 -- the components that are finished
@@ -28,9 +27,15 @@ pub record Sound (config : Config) (stack : Open) : Type 0 where
   pub minima : AllByRecursion (Minima config) (finished_in stack)
   pub sized : Sized config (tree_so_far stack.outer stack.inner)
 
+-- The running totals are those of the tree so far.
+pub record Totalled (totals : TreeTotals) (stack : Open) : Type 0 where
+  pub modules : totals.modules ≡ module_count (tree_so_far stack.outer stack.inner)
+  pub components : totals.components ≡ component_count (tree_so_far stack.outer stack.inner)
+  pub instances : totals.instances ≡ instance_count (tree_so_far stack.outer stack.inner)
+
 -- The running totals are those of the tree so far, the scopes are those of the open components too, and the core value types those
 -- that the config allows.
-pub record Standing (config : Config) (valtypes : List ValType) (scopes : List Scope) (totals : TreeTotals) (stack : Open) : Type 0 where
+pub record TracksStack (config : Config) (valtypes : List ValType) (scopes : List Scope) (totals : TreeTotals) (stack : Open) : Type 0 where
   pub sound : Sound config stack
   pub valtypes_are : valtypes ≡ configured config
   pub scopes_are : scopes ≡ scope_of stack.inner ∷ scopes_in stack.outer

@@ -2,22 +2,22 @@
 use Rattle.std.specs.Prelude.{◌≡◌, ℕ, ◌⊎◌, List, [], ◌∷◌, ◌++◌, Option, Some, None, IsTrue}
 use Rattle.smith_input.specs.Choices.{ReadsAmong}
 use Rattle.smith_format.specs.declared.config.Config.{Config}
-use Rattle.smith_component.specs.Open.{Open, is_component_offered, is_module_offered, items}
+use Rattle.smith_tree.specs.Open.{Open, is_component_offered, is_module_offered, items}
 use Rattle.smith_component.specs.SectionValues.{AddsCoreTypeSection, AddsImportSection, AddsModule, AddsTypeSection}
-use Rattle.smith_component.specs.Turn.{Next, building, answered, Closes, Does}
-use Rattle.smith_component.specs.WellFormed.{WellFormed}
-use Rattle.smith_component.specs.Limits.{Limits, Sized}
+use Rattle.smith_component.specs.Turn.{Next, Turn, building, answered, Closes, Does}
+use Rattle.smith_tree.specs.WellFormed.{WellFormed}
+use Rattle.smith_tree.specs.Limits.{Limits, Sized}
 use Rattle.smith_component.specs.Building.{Building, open_of}
 use Rattle.smith_component.specs.BuilderView.{building_of, stack_of, IsSound}
 use Rattle.smith_component.specs.Shown.{shown_sections}
-use Rattle.smith_component.specs.Tree.{Tree}
+use Rattle.smith_tree.specs.Tree.{Tree}
 use Rattle.smith_component.specs.declared.builder.Progress.{Progress}
 use Rattle.smith_component.specs.declared.component.Section.{Section}
 use Rattle.smith_component.specs.declared.component.Section.TheVariants.{Component}
 use Rattle.smith_component.specs.declared.builder.Step.{Step}
 use Rattle.smith_component.specs.declared.builder.Step.TheVariants.{StillBuilding, Finished}
-use Rattle.smith_component.specs.declared.item.Item.{Item}
-use Rattle.smith_component.specs.declared.item.Item.TheVariants as item
+use Rattle.smith_tree.specs.declared.choices.Item.{Item}
+use Rattle.smith_tree.specs.declared.choices.Item.TheVariants as item
 
 abbrev pub next_of : Step → Next
 next_of (StillBuilding b) = building (open_of b)
@@ -75,6 +75,13 @@ pub record TurnAdds (config : Config) (old : Building) (left : List ℕ) (step :
 abbrev pub StaysSound : Config → Step → Type 0
 StaysSound config (StillBuilding b) = b.config ≡ config
 StaysSound config (Finished c) = Limits config c × WellFormed c × Sized config c
+
+-- A step: a turn that leads to it, what it keeps, and what it adds.
+pub record IsStep (old : Building) (left : List ℕ) (step : Step) (left2 : List ℕ) : Type 0 where
+  pub turn : Turn old.config (open_of old) left (next_of step) left2
+  pub keeps : StaysSound old.config step
+  pub sections : KeepsSections old step
+  pub values : TurnAdds old.config old left step left2
 
 -- what a turn leads to: the component, if it is finished
 abbrev pub step_of : Progress → Option Tree → Step

@@ -6,12 +6,12 @@ use Rattle.smith_syntax.specs.Flat.{is_scalar}
 use Rattle.smith_syntax.specs.Scope.{Scope}
 use Rattle.smith_input.specs.Names.{Holds}
 use Rattle.smith_types.specs.MakingTypes.{HoldsExterns}
-use Rattle.smith_component.specs.Offers.{is_scalar_type, scalar_functions}
+use Rattle.smith_tree.specs.Offers.{is_scalar_type, scalar_functions}
 use Rattle.smith_component.specs.SectionValues.{externs_of}
 use Rattle.smith_component.specs.Shown.{shown_sections}
-use Rattle.smith_component.specs.Spaces.{Spaces, core_functions_of, functions_of, spaces_of, types_of}
-use Rattle.smith_component.specs.Tree.{Tree, exports_of, function_count}
-use Rattle.smith_component.specs.WellFormed.{HasSignature, export_names}
+use Rattle.smith_tree.specs.Spaces.{Spaces, core_functions_of, functions_of, spaces_of, types_of}
+use Rattle.smith_tree.specs.Tree.{Tree, exports_of, function_count}
+use Rattle.smith_tree.specs.WellFormed.{HasSignature, export_names}
 use Rattle.smith_component.specs.declared.builder.open.OpenComponent.{OpenComponent}
 use Rattle.smith_component.specs.declared.builder.tables.Tables.{Tables}
 

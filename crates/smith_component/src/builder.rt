@@ -1,21 +1,17 @@
 //! The builder, turn by turn.
 
-ghost use Rattle.std.specs.Prelude.{◌≡◌, ℕ, List, [], ◌+◌, ◌≤◌, length, IfOk, IfErr};
+ghost use Rattle.std.specs.Prelude.{◌≡◌, ℕ, List, [], IfOk, IfErr};
 ghost use Rattle.smith_input.specs.Reading.{IsTail};
 ghost use Rattle.smith_format.specs.Limits.{IsConsistent};
 ghost use Rattle.smith_component.specs.Building.{open_of};
 ghost use Rattle.smith_component.specs.BuilderView.{building_of, stack_of, IsSound};
 ghost use Rattle.smith_component.specs.Filling.{CanFill};
-ghost use Rattle.smith_component.specs.Limits.{max_depth, Minima};
+ghost use Rattle.smith_tree.specs.Limits.{max_depth, Minima};
 ghost use Rattle.smith_component.specs.Refusals.{IsAnswered, IsChosen, IsNewRefusal, IsReady, IsStepRefusal};
-ghost use Rattle.smith_component.specs.Shown.{shown_sections};
-ghost use Rattle.smith_component.specs.Steps.{next_of, step_of, DoesItem, IsOffered, KeepsSections, SoundUnlessDone};
-ghost use Rattle.smith_component.specs.Steps.{StaysSound, TurnAdds};
-ghost use Rattle.smith_component.specs.Tree.{ends};
-ghost use Rattle.smith_component.specs.Turn.{Next, Turn};
+ghost use Rattle.smith_component.specs.Steps.{next_of, step_of, DoesItem, IsOffered, IsStep, SoundUnlessDone};
 ghost use Rattle.smith_component.specs.Runs.{Falls};
-ghost use Rattle.smith_component.specs.Open.{root};
-ghost use Rattle.smith_component.specs.declared.item.Item.TheVariants.{Finish, Module};
+ghost use Rattle.smith_tree.specs.Open.{root};
+ghost use Rattle.smith_tree.specs.declared.choices.Item.TheVariants.{Finish, Module};
 
 mod canonicals;
 mod choose;
@@ -31,10 +27,10 @@ mod tables;
 mod totals;
 
 use crate::component::Component;
-use crate::item::{Counted, Item};
 use open::OpenComponent;
 use smith_format::{Config, ValType, configured_valtypes};
 use smith_input::{Error, Unstructured};
+use smith_tree::Item;
 use smith_types::Scopes;
 use std::alloc::Global;
 use std::marker::Model;
@@ -109,13 +105,8 @@ impl Progress {
     // One turn. It answers the component, if that is finished.
     pub(crate) fn turn(&mut self, u: &mut Unstructured) -> Result<Option<Component>, Error>
         requires sound { IsSound self.old }
-        ensures turn { IfOk result
-            (λ c. Turn self.old.config (stack_of self.old) u.old (next_of (step_of self.new c)) u.new) }
+        ensures steps { IfOk result (λ c. IsStep (building_of self.old) u.old (step_of self.new c) u.new) }
         ensures sound { IfOk result (λ c. SoundUnlessDone self.new c) }
-        ensures keeps { IfOk result (λ c. StaysSound self.old.config (step_of self.new c)) }
-        ensures sections { IfOk result (λ c. KeepsSections (building_of self.old) (step_of self.new c)) }
-        ensures values { IfOk result
-            (λ c. TurnAdds self.old.config (building_of self.old) u.old (step_of self.new c) u.new) }
         ensures refuses { IfErr result (IsStepRefusal self.old.config (stack_of self.old) u.old) }
         ensures unread { IfErr result (λ e. e ≡ Error.ModuleRefused
             → IsChosen self.old.config (stack_of self.old) u.old Module u.new) }
@@ -142,9 +133,9 @@ impl Progress {
             Item::Finish => return self.finish(u),
             Item::Custom => self.add_custom(u)?,
             Item::CoreTypes => self.add_core_types(u)?,
-            Item::Types => self.section_turn(Counted::Types, u)?,
-            Item::Imports => self.section_turn(Counted::Imports, u)?,
-            Item::Canonical => self.section_turn(Counted::Functions, u)?,
+            Item::Types => self.add_types(0, u)?,
+            Item::Imports => self.add_imports(0, u)?,
+            Item::Canonical => self.add_canonicals(0, u)?,
             Item::Module => self.add_module(u)?,
             Item::Component => self.open_component()?,
             Item::Exports => self.add_exports(u)?,
@@ -170,11 +161,7 @@ impl Builder {
     /// component is finished, and `MinimumNotMet` is answered only there. Where the choice is a core module, and the
     /// limits on memories leave none, it is `ModuleRefused`. Nothing else is refused but for want of memory.
     pub fn step(self, u: &mut Unstructured) -> Result<Step, Error>
-        ensures turn { IfOk result (λ s. Turn self.config (open_of self) u.old (next_of s) u.new) }
-        ensures keeps { IfOk result (StaysSound self.config) }
-        ensures sections { IfOk result (KeepsSections self) }
-        // URLs, what outer aliases keep, and the parts of a core module are those that the input gives.
-        ensures values { IfOk result (λ s. TurnAdds self.config self u.old s u.new) }
+        ensures steps { IfOk result (λ s. IsStep self u.old s u.new) }
         ensures falls { IfOk result (λ s. Falls self.config u.old (open_of self) u.new (next_of s)) }
         ensures accepted { IsConsistent self.config }
         ensures refuses { IfErr result (IsStepRefusal self.config (open_of self) u.old) }

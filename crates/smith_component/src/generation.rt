@@ -3,12 +3,12 @@
 ghost use Rattle.std.specs.Prelude.{◌≡◌, ℕ, List, ◌++◌, IfOk, IfErr, OnOk};
 ghost use Rattle.smith_input.specs.Reading.{IsTail};
 ghost use Rattle.smith_format.specs.Limits.{IsConsistent};
-ghost use Rattle.smith_component.specs.Generates.{Generates};
+ghost use Rattle.smith_tree.specs.Generates.{Generates};
 ghost use Rattle.smith_component.specs.Runs.{RunsTo};
 ghost use Rattle.smith_component.specs.Refusals.{IsGenerateRefusal};
-ghost use Rattle.smith_component.specs.Grammar.{Spells};
-ghost use Rattle.smith_component.specs.Script.{Within, script};
-ghost use Rattle.smith_component.specs.Tree.{Tree};
+ghost use Rattle.smith_tree.specs.Grammar.{Spells};
+ghost use Rattle.smith_tree.specs.Script.{Within, script};
+ghost use Rattle.smith_tree.specs.Tree.{Tree};
 
 use crate::component::Component;
 use smith_format::Config;
@@ -27,7 +27,7 @@ pub struct Generated {
 /// Limits that do not fit together are refused with `InconsistentLimits` before a byte is read. A component that is to
 /// be finished and lacks imports or functions of a minimum, though what can be filled is, is refused with
 /// `MinimumNotMet`; one that is to have a core module where the limits on memories leave none with `ModuleRefused`; one
-/// of which a written length or count passes 4,294,967,295 with `TooLong`. Nothing else is refused but for want of
+/// of which a written length or count exceeds 4,294,967,295 with `TooLong`. Nothing else is refused but for want of
 /// memory.
 pub fn generate(alloc: Global, config: Config, u: &mut Unstructured) -> Result<Generated, Error>
     // The bytes have one reading, the component, which is well formed and within the limits.

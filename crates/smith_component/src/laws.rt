@@ -12,30 +12,18 @@ ghost use Rattle.smith_input.specs.Reading.{IsDecided, IsReadAs};
 ghost use Rattle.smith_input.specs.Script.{AreBytes};
 ghost use Rattle.smith_input.specs.declared.error.Error.{Error};
 ghost use Rattle.smith_input.specs.declared.error.Error.TheVariants.{OutOfMemory};
-ghost use Rattle.smith_component.specs.Grammar.{Spells, component_text};
+ghost use Rattle.smith_tree.specs.Grammar.{Spells, component_text};
 ghost use Rattle.smith_component.specs.Refusals.{IsGenerateRefusal};
-ghost use Rattle.smith_component.specs.Limits.{Minima};
-ghost use Rattle.smith_component.specs.Open.{Open, is_component_offered};
-ghost use Rattle.smith_component.specs.Script.{Continues, Within, item_of, script, script_item, script_part};
+ghost use Rattle.smith_tree.specs.Limits.{Minima};
+ghost use Rattle.smith_tree.specs.Open.{Open, is_component_offered};
+ghost use Rattle.smith_tree.specs.Script.{Continues, Within, item_of, script, script_item, script_part};
 ghost use Rattle.smith_component.specs.Shown.{shown_module};
-ghost use Rattle.smith_component.specs.TooLong.{PartTooLong, TreeTooLong};
-ghost use Rattle.smith_component.specs.Tree.{Part, Tree, core_module};
+ghost use Rattle.smith_tree.specs.TooLong.{PartTooLong, TreeTooLong};
+ghost use Rattle.smith_tree.specs.Tree.{Part, Tree, core_module};
 ghost use Rattle.smith_component.specs.Turn.{Closes, Next, Turn, with_open, with_part};
-ghost use Rattle.smith_component.specs.Readable.{Comes};
+ghost use Rattle.smith_tree.specs.Readable.{CanBeGenerated};
 ghost use Rattle.smith_component.specs.Runs.{RunsTo};
-ghost use Rattle.smith_component.specs.declared.item.Item.TheVariants.{Component as ItemComponent, Finish};
-
-/// No bytes have two readings.
-pub fn one_reading()
-    ensures { (t r : Tree) (b : List ℕ) → Spells t b → Spells r b → t ≡ r }
-{}
-
-/// A component has no bytes exactly where a count, the length of a name or of a section, or an index in it passes
-/// 4,294,967,295, or a module in it has no bytes itself; its names being UTF-8, its bytes bytes and its bounds of
-/// limits numbers of 64 bits, as those of the program are.
-pub fn long_components_have_no_encoding()
-    ensures { (t : Tree) → (component_text t ≡ None) ↔ TreeTooLong t }
-{}
+ghost use Rattle.smith_tree.specs.declared.choices.Item.TheVariants.{Component as ItemComponent, Finish};
 
 /// A section with a core module whose parts agree has no bytes exactly where the module has none, or has more than
 /// 4,294,967,295.
@@ -53,7 +41,7 @@ pub fn runs_are_decided()
 /// and that can be read.
 pub fn runs_are_sound()
     ensures { (config : Config) (input : List ℕ) (tree : Tree) (left : List ℕ) → IsConsistent config
-        → RunsTo config input tree left → Comes config tree }
+        → RunsTo config input tree left → CanBeGenerated config tree }
 {}
 
 /// The script of a plan, followed by any bytes, leads to that plan, and leaves those bytes.
@@ -71,7 +59,7 @@ pub fn scripts_are_bytes()
 /// Exactly those components that have bytes come on some input that are well formed, within the limits and readable.
 pub fn components_are_exact()
     ensures { (config : Config) (tree : Tree) (b : List ℕ) → IsConsistent config → Spells tree b
-        → ((input left : List ℕ) × AreBytes input × RunsTo config input tree left) ↔ Comes config tree }
+        → ((input left : List ℕ) × AreBytes input × RunsTo config input tree left) ↔ CanBeGenerated config tree }
 {}
 
 /// Where a run leads to a component that has bytes, nothing is refused but for want of memory.

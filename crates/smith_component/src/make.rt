@@ -4,12 +4,12 @@ ghost use Rattle.std.specs.Prelude.{◌≡◌, ℕ, List, ◌+◌, ◌≤◌, �
 ghost use Rattle.smith_input.specs.Reading.{IsTail};
 ghost use Rattle.smith_format.specs.Limits.{IsConsistent};
 ghost use Rattle.smith_format.specs.Limits.{IsDefault};
-ghost use Rattle.smith_component.specs.Runs.{RunsTo};
-ghost use Rattle.smith_component.specs.Limits.{Limits, Sized};
+ghost use Rattle.smith_component.specs.Runs.{IsMade, RunsTo};
+ghost use Rattle.smith_tree.specs.Limits.{Limits, Sized};
 ghost use Rattle.smith_component.specs.Refusals.{IsRefusal};
-ghost use Rattle.smith_component.specs.Script.{Within, script};
-ghost use Rattle.smith_component.specs.Tree.{Tree};
-ghost use Rattle.smith_component.specs.WellFormed.{WellFormed};
+ghost use Rattle.smith_tree.specs.Script.{Within, script};
+ghost use Rattle.smith_tree.specs.Tree.{Tree};
+ghost use Rattle.smith_tree.specs.WellFormed.{WellFormed};
 ghost use Rattle.smith_format.specs.declared.config.Config.{Config};
 
 use crate::builder::Progress;
@@ -25,10 +25,7 @@ impl Component {
     /// functions of a minimum with `MinimumNotMet`. Where a core module is chosen, and the limits on memories leave
     /// none, that is `ModuleRefused`. Nothing else is refused but for want of memory.
     pub fn new(alloc: Global, config: Config, u: &mut Unstructured) -> Result<Component, Error>
-        ensures limits { IfOk result (λ c. Limits config c) }
-        ensures formed { IfOk result (λ c. WellFormed c) }
-        ensures sizes { IfOk result (λ c. Sized config c) }
-        ensures run { IfOk result (λ c. RunsTo config u.old c u.new) }
+        ensures made { IfOk result (λ c. IsMade config u.old c u.new) }
         ensures reach { (plan : Tree) (rest : List ℕ) → Within config plan → u.old ≡ script config plan ++ rest
             → IfOk result (λ c. (c ≡ plan) × (u.new ≡ rest)) }
         // It is answered, want of memory aside.

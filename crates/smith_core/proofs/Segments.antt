@@ -16,25 +16,20 @@ use Rattle.smith_format.proofs.Steps.{gains_then, due_left, due_right, framed_by
 use Rattle.smith_core.specs.Segments.{data_form, named_type, offset}
 use Rattle.smith_core.specs.declared.module.segments.DataSegmentKind.TheVariants as data_kind
 use Rattle.smith_core.specs.declared.module.segments.Offset.{Offset}
+use Rattle.std.proofs.lemmas.Option.{slice_get_read}
+use Rattle.smith_input.proofs.Lists.{all_at}
+use Rattle.std.proofs.lemmas.List.{get_or_default}
 
 -- what holds of each holds of the one at an index
-pub all_at : {A : Type 0} (P : A → Type 0) (xs : List A) (i : ℕ) (x : A) → AllByRecursion P xs → i < length xs → x ≡ get_or xs i x → P x
-all_at P [] i x all h e = absurd (omega arith)
-all_at P (y ∷ ys) zero x all h e = rw e all.0
-all_at P (y ∷ ys) (suc i) x all h e = all_at P ys i x all.1 (omega arith) e
-
--- what stands at an index, whatever stands where there is nothing
-found : {A : Type 0} (xs : List A) (i : ℕ) (d e : A) → i < length xs → get_or xs i d ≡ get_or xs i e
-found [] i d e h = absurd (omega arith)
-found (x ∷ xs) zero d e h = refl
-found (x ∷ xs) (suc i) d e h = found xs i d e (omega arith)
+pub all_read : {A : Type 0} (P : A → Type 0) (xs : List A) (i : ℕ) (x : A) → AllByRecursion P xs → i < length xs → x ≡ get_or xs i x → P x
+all_read P xs i x all h e = all_at P xs i x all (slice_get_read xs (length xs) i x refl h e)
 
 -- the pair at an index of two lists of one length
 pub pair_at : {A B : Type 0} (xs : List A) (ys : List B) (i : ℕ) (d : A) (y : B) → length xs ≡ length ys → i < length ys → y ≡ get_or ys i y
     → (get_or xs i d, y) ≡ get_or (zip xs ys) i (get_or xs i d, y)
 pair_at {A} {B} xs ys i d y l h e =
     let x : A = get_or xs i d in
-    sym (get_or-zip xs ys i (x, y) (omega arith) h ∙ ap (λ z. (z, get_or ys i y)) (found xs i x d (omega arith)) ∙ ap (λ z. (x, z)) (sym e))
+    sym (get_or-zip xs ys i (x, y) (omega arith) h ∙ ap (λ z. (z, get_or ys i y)) (get_or_default xs i x d (omega arith)) ∙ ap (λ z. (x, z)) (sym e))
 
 pub pairs_long : {A B : Type 0} (xs : List A) (ys : List B) → length xs ≡ length ys → length (zip xs ys) ≡ length ys
 pairs_long xs ys l = omega (arith, length-zip xs ys)

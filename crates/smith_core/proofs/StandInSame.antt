@@ -1,5 +1,5 @@
 -- The bytes decide the module that stands for a generated one, up to the room of its lists: they decide its bytes, and what is left.
-use Rattle.std.proofs.Common.{◌≡◌, ℕ, suc, ◌+◌, ◌-◌, Bool, true, false, ◌&&◌, List, [], ◌∷◌, ◌++◌, map, length, take, drop, refl, sym, ap, ◌∙◌, subst, arith}
+use Rattle.std.proofs.Common.{◌≡◌, ℕ, suc, ◌+◌, ◌-◌, false, ◌&&◌, List, [], ◌∷◌, ◌++◌, map, length, take, drop, refl, sym, ap, ◌∙◌, subst, arith}
 use Rattle.std.proofs.Common.{append-nil, append_assoc, length-append, nat_lt, Some, None}
 use Rattle.std.proofs.lemmas.List.{drop_at}
 use Rattle.std.specs.List.{AllByRecursion, slice_range}
@@ -28,6 +28,7 @@ use Rattle.smith_core.specs.declared.module.sections.SectionKind.TheVariants as 
 use Rattle.smith_core.specs.declared.module.types.CompositeType.{CompositeType}
 use Rattle.smith_core.specs.declared.module.types.CompositeType.TheVariants.{Func, Array, Struct}
 use Rattle.smith_core.specs.declared.module.types.SubType.{SubType}
+use Rattle.std.proofs.Math.Bool.{and-false}
 
 -- the function type that a composite type is
 abbrev pub as_function : CompositeType → Function
@@ -97,10 +98,6 @@ any_length (x ∷ xs) = grind (arith, nat_tests)
 last_all : {A : Type 0} (xs : List A) → last (length xs) xs ≡ xs
 last_all xs = let none : length xs - length xs ≡ 0 = omega arith in ap (λ n. drop n xs) none
 
-and_false : (b : Bool) → b && false ≡ false
-and_false true = refl
-and_false false = refl
-
 -- what is written of these types and memories
 abbrev written : StandIn → SectionKind → Piece
 written s kind.Types = listed 1 core_function s.types
@@ -156,7 +153,7 @@ module _ (m : ModuleParts) (h : HasTypesAndMemories m) (all : AllByRecursion IsP
   section_is kind.Exports = not_written kind.Exports (ap has_any h.no_exports)
   section_is kind.Start = not_written kind.Start (ap is_there h.no_start)
   section_is kind.Elements = not_written kind.Elements (ap has_any h.no_elements)
-  section_is kind.DataCount = not_written kind.DataCount (ap (λ xs. m.bulk_memory_enabled && has_any xs) h.no_data ∙ and_false m.bulk_memory_enabled)
+  section_is kind.DataCount = not_written kind.DataCount (ap (λ xs. m.bulk_memory_enabled && has_any xs) h.no_data ∙ and-false m.bulk_memory_enabled)
   section_is kind.Code = not_written kind.Code (ap has_any h.no_code)
   section_is kind.Data = not_written kind.Data (ap has_any h.no_data)
 

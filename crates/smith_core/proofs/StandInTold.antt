@@ -23,6 +23,7 @@ use Rattle.smith_core.specs.StandInScript.{IsStandIn, all_memories, counted_func
 use Rattle.smith_core.specs.StandInScript.{functions_of, memories_of, memory_of, past_number, stand_in_of, types_of, value_of, values_of}
 use Rattle.smith_core.proofs.StandInMade.{few_results}
 use Rattle.smith_core.specs.StandInText.{StandIn, listed, stand_in_text}
+use Rattle.smith_input.proofs.Lists.{all_both}
 
 -- Numbers.
 
@@ -88,20 +89,16 @@ contained P [] k x all h e = absurd (omega (arith, h))
 contained P (y ∷ ys) zero x all h e = subst P e all.0
 contained P (y ∷ ys) (suc k) x all h e = contained P ys k x all.1 (omega (arith, h)) e
 
-append_all : {A : Type 0} (P : A → Type 0) (xs ys : List A) → AllByRecursion P xs → AllByRecursion P ys → AllByRecursion P (xs ++ ys)
-append_all P [] ys all more = more
-append_all P (x ∷ xs) ys all more = (all.0, append_all P xs ys all.1 more)
-
 offered_all : {A : Type 0} (P : A → Type 0) (b : Bool) (xs : List A) → AllByRecursion P xs → AllByRecursion P (offered b xs)
 offered_all P true xs all = all
 offered_all P false xs all = tt
 
 values_told_all : (config : Config) → AllByRecursion ToldValue (configured config)
 values_told_all config =
-    append_all ToldValue ((I32 ∷ I64 ∷ []) ++ offered config.allow_floats (F32 ∷ F64 ∷ []) ++ offered config.simd_enabled (V128 ∷ []))
+    all_both ToldValue ((I32 ∷ I64 ∷ []) ++ offered config.allow_floats (F32 ∷ F64 ∷ []) ++ offered config.simd_enabled (V128 ∷ []))
     (offered config.reference_types_enabled (Ref FuncRef ∷ Ref ExternRef ∷ []))
-    (append_all ToldValue ((I32 ∷ I64 ∷ []) ++ offered config.allow_floats (F32 ∷ F64 ∷ [])) (offered config.simd_enabled (V128 ∷ []))
-    (append_all ToldValue (I32 ∷ I64 ∷ []) (offered config.allow_floats (F32 ∷ F64 ∷ []))
+    (all_both ToldValue ((I32 ∷ I64 ∷ []) ++ offered config.allow_floats (F32 ∷ F64 ∷ [])) (offered config.simd_enabled (V128 ∷ []))
+    (all_both ToldValue (I32 ∷ I64 ∷ []) (offered config.allow_floats (F32 ∷ F64 ∷ []))
     ((0x7f, refl, refl), ((0x7e, refl, refl), tt))
     (offered_all ToldValue config.allow_floats (F32 ∷ F64 ∷ []) ((0x7d, refl, refl), ((0x7c, refl, refl), tt))))
     (offered_all ToldValue config.simd_enabled (V128 ∷ []) ((0x7b, refl, refl), tt)))

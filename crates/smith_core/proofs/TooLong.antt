@@ -12,7 +12,7 @@ use Rattle.smith_format.specs.Shown.{shown_func}
 use Rattle.smith_format.specs.Entities.{entity, memory_type, table_type, tag_type, core_import}
 use Rattle.smith_format.specs.Shown.{shown_import}
 use Rattle.smith_format.specs.Piece.{Piece, ◌⊕◌, byte, bytes, u, raw, framed, text, many}
-use Rattle.smith_format.specs.TooLong.{Passes, NoBytes, ListTooLong, ContentsTooLong, RefTooLong, ValTooLong}
+use Rattle.smith_format.specs.TooLong.{IsTooLarge, NoBytes, ListTooLong, ContentsTooLong, RefTooLong, ValTooLong}
 use Rattle.smith_format.specs.declared.types.ExportKind.{ExportKind}
 use Rattle.smith_format.specs.declared.types.GlobalType.{GlobalType}
 use Rattle.smith_format.specs.declared.types.Import.{Import}
@@ -58,7 +58,7 @@ use Rattle.smith_core.specs.declared.module.types.StorageType.TheVariants.{I8, I
 use Rattle.smith_core.specs.declared.module.types.SubType.{SubType}
 use Rattle.smith_core.proofs.Segments.{framed_raw}
 
--- a list of one: its count never passes
+-- a list of one: its count never exceeds
 one_none : {A : Type 0} (f : A → Piece) {P : A → Type 0} → ((x : A) → (f x ≡ None) ↔ P x) → (x : A)
     → (f x ≡ None) ↔ ListTooLong P (x ∷ [])
 one_none f {P} one x = (λ e. inr (0, x, omega arith, refl, (one x).0 e), back)
@@ -86,10 +86,10 @@ composite_none (Func f) = function_none_where (shown_func f)
 composite_none (Array f) = after_bytes (0x5e ∷ []) (field f) (field_none f)
 composite_none (Struct fs) = after_bytes (0x5f ∷ []) (many field fs.items) (many_none_where field field_none fs.items)
 
-index_none : (i : ℕ) → (many u (i ∷ []) ≡ None) ↔ Passes i
+index_none : (i : ℕ) → (many u (i ∷ []) ≡ None) ↔ IsTooLarge i
 index_none i = (λ e. elim (parts.0 e) [ inl h ↦ absurd h | inr h ↦ h ], λ h. parts.1 (inr h))
   where
-    parts : (many u (i ∷ []) ≡ None) ↔ (⊥ ⊎ Passes i)
+    parts : (many u (i ∷ []) ≡ None) ↔ (⊥ ⊎ IsTooLarge i)
     parts = join_none (u 1) (u i ⊕ Some []) (small_none 1 (omega arith)) (before_bytes (u i) [] (u_none_where i))
 
 no_index_none : (many u [] ≡ None) ↔ ⊥
@@ -232,7 +232,7 @@ form_none (data_kind.Active (suc m) o) =
 data_none : (d : DataSegment) → (data_segment d ≡ None) ↔ DataTooLong d
 data_none d = join_none (data_form d.kind) (framed (raw d.init.items)) (form_none d.kind) (init_none d.init.items)
   where
-    init_none : (bs : List ℕ) → (framed (raw bs) ≡ None) ↔ (Passes (length bs) ⊎ NoBytes bs)
+    init_none : (bs : List ℕ) → (framed (raw bs) ≡ None) ↔ (IsTooLarge (length bs) ⊎ NoBytes bs)
     init_none bs = rw (framed_raw bs) (join_none (u (length bs)) (raw bs) (u_none_where (length bs)) (raw_none bs))
 
 -- the contents of a section, one line for each

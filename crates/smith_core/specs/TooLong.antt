@@ -1,5 +1,5 @@
 -- Which core modules have no encoding, since a count, an index or the length of a name, of a body, of a data segment
--- or of a section in them passes 4,294,967,295. Names that are no UTF-8, bytes that are no bytes, and bounds of limits
+-- or of a section in them exceeds 4,294,967,295. Names that are no UTF-8, bytes that are no bytes, and bounds of limits
 -- of more than 64 bits stand in no module of the program.
 use Rattle.std.specs.Prelude.{◌≡◌, ◌⊎◌, ℕ, true, length, Option, Some, None, string_bytes}
 use Rattle.std.specs.List.{Any, slice_get, slice_range, zip}
@@ -8,7 +8,7 @@ use Rattle.std.specs.declared.alloc.Global.{Global}
 use Rattle.std.specs.declared.string.String.{String}
 use Rattle.smith_format.specs.Shown.{shown_func}
 use Rattle.smith_format.specs.Piece.{◌⊕◌, many}
-use Rattle.smith_format.specs.TooLong.{Passes, NameTooLong, NoBytes, ListTooLong, ContentsTooLong, RefTooLong, ValTooLong, FunctionTooLong, EntityTooLong}
+use Rattle.smith_format.specs.TooLong.{IsTooLarge, NameTooLong, NoBytes, ListTooLong, ContentsTooLong, RefTooLong, ValTooLong, FunctionTooLong, EntityTooLong}
 use Rattle.smith_format.specs.TooLong.{MemoryTypeTooLong, TableTypeTooLong}
 use Rattle.smith_format.specs.declared.types.ExportKind.{ExportKind}
 use Rattle.smith_format.specs.declared.types.GlobalType.{GlobalType}
@@ -43,7 +43,7 @@ use Rattle.smith_core.specs.declared.module.types.SubType.{SubType}
 -- an index, where there is one
 abbrev pub IndexTooLong : Option ℕ → Type 0
 IndexTooLong None = ⊥
-IndexTooLong (Some i) = Passes i
+IndexTooLong (Some i) = IsTooLarge i
 
 abbrev pub StorageTooLong : StorageType → Type 0
 StorageTooLong I8 = ⊥
@@ -74,12 +74,12 @@ NamedTooLong None = ⊥
 NamedTooLong (Some g) = ValTooLong g.val_type
 
 abbrev pub ExportTooLong : String Global × ExportKind × ℕ → Type 0
-ExportTooLong e = NameTooLong (string_bytes e.0) ⊎ Passes e.2
+ExportTooLong e = NameTooLong (string_bytes e.0) ⊎ IsTooLarge e.2
 
 abbrev pub OffsetTooLong : Offset → Type 0
 OffsetTooLong (Const32 n) = ⊥
 OffsetTooLong (Const64 n) = ⊥
-OffsetTooLong (GlobalOffset g) = Passes g
+OffsetTooLong (GlobalOffset g) = IsTooLarge g
 
 -- the index of the table that an element segment names, and the offset
 abbrev pub PlaceTooLong : ElementKind → Type 0
@@ -89,7 +89,7 @@ PlaceTooLong Declared = ⊥
 
 -- the functions of an element segment, or the type and the expressions
 abbrev pub ItemsTooLong : RefType → Items → Type 0
-ItemsTooLong t (items.Functions fs) = ListTooLong Passes fs.items
+ItemsTooLong t (items.Functions fs) = ListTooLong IsTooLarge fs.items
 ItemsTooLong t (items.Expressions es) = RefTooLong t ⊎ ListTooLong (λ e. NoBytes e.items) es.items
 
 abbrev pub ElementTooLong : ElementSegment → Type 0
@@ -107,28 +107,28 @@ CodeTooLong c =
 
 -- the index of a memory, and the offset
 abbrev pub DataFormTooLong : DataSegmentKind → Type 0
-DataFormTooLong (data_kind.Active m o) = Passes m ⊎ OffsetTooLong o
+DataFormTooLong (data_kind.Active m o) = IsTooLarge m ⊎ OffsetTooLong o
 DataFormTooLong data_kind.Passive = ⊥
 
 abbrev pub DataTooLong : DataSegment → Type 0
-DataTooLong d = DataFormTooLong d.kind ⊎ (Passes (length d.init.items) ⊎ NoBytes d.init.items)
+DataTooLong d = DataFormTooLong d.kind ⊎ (IsTooLarge (length d.init.items) ⊎ NoBytes d.init.items)
 
 -- what is in a section
 abbrev pub SectionTooLong : ModuleParts → SectionKind → Type 0
 SectionTooLong m Types =
     ListTooLong (λ g. ListTooLong SubTypeTooLong (slice_range m.types.items g.0 g.1)) m.rec_groups.items
 SectionTooLong m Imports = ListTooLong CoreImportTooLong m.imports.items
-SectionTooLong m Functions = ListTooLong Passes (last m.num_defined_funcs m.funcs.items)
+SectionTooLong m Functions = ListTooLong IsTooLarge (last m.num_defined_funcs m.funcs.items)
 SectionTooLong m Tables =
     ListTooLong TableTooLong (zip (last (length m.defined_tables.items) m.tables.items) m.defined_tables.items)
 SectionTooLong m Memories = ListTooLong MemoryTypeTooLong (last m.num_defined_memories m.memories.items)
-SectionTooLong m Tags = ListTooLong (λ t. Passes t.func_type_idx) (last m.num_defined_tags m.tags.items)
+SectionTooLong m Tags = ListTooLong (λ t. IsTooLarge t.func_type_idx) (last m.num_defined_tags m.tags.items)
 SectionTooLong m Globals =
     ListTooLong (λ g. NamedTooLong (slice_get m.globals.items g.0) ⊎ NoBytes g.1.items) m.defined_globals.items
 SectionTooLong m Exports = ListTooLong ExportTooLong m.exports.items
 SectionTooLong m Start = IndexTooLong m.start
 SectionTooLong m Elements = ListTooLong ElementTooLong m.elems.items
-SectionTooLong m DataCount = Passes (length m.data_segments.items)
+SectionTooLong m DataCount = IsTooLarge (length m.data_segments.items)
 SectionTooLong m Code = ListTooLong CodeTooLong m.code.items
 SectionTooLong m Data = ListTooLong DataTooLong m.data_segments.items
 

@@ -37,7 +37,7 @@ pub fn modules_are_bytes()
 {}
 
 /// A module whose parts agree has no bytes exactly where a count, an index or the length of a name, of a body, of data
-/// or of a section in it passes 4,294,967,295; its names being UTF-8, its bytes bytes and its bounds of limits numbers
+/// or of a section in it exceeds 4,294,967,295; its names being UTF-8, its bytes bytes and its bounds of limits numbers
 /// of 64 bits, as those of the program are.
 pub fn long_modules_have_no_encoding()
     ensures { (m : ModuleParts) → Agree m → (module_text m ≡ None) ↔ ModuleTooLong m }

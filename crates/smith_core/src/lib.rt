@@ -3,11 +3,13 @@
 
 pub mod laws;
 mod module;
+mod preamble;
 
 pub use module::{
     Code, CompositeType, DataSegment, DataSegmentKind, ElementKind, ElementSegment, Elements,
     FieldType, Instructions, Module, ModuleParts, Offset, StorageType, SubType,
 };
+pub use preamble::{COMPONENT_PREAMBLE, CORE_PREAMBLE};
 pub use smith_format::{
     Config, EntityType, ExportKind, FuncType, GlobalType, Import, MemoryType, RefType, TableType,
     TagType, ValType, arbitrary_func_type, arbitrary_memtype, arbitrary_table_type,

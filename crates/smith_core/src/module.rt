@@ -64,7 +64,7 @@ impl Module {
         Ok(Module { parts })
     }
 
-    /// The length of the module's bytes. It is too long exactly where a length or a count written in them passes
+    /// The length of the module's bytes. It is too long exactly where a length or a count written in them exceeds
     /// 4,294,967,295.
     pub fn measure(&self) -> Result<u64, Error>
         ensures { Measures result (module_text self.now) }

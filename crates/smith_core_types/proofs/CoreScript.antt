@@ -13,12 +13,12 @@ use Rattle.smith_syntax.specs.Entries.{CoreEntry, ModuleDecl, core_func, core_mo
 use Rattle.smith_syntax.specs.ModuleTypes.{after_front, after_memory, after_realloc}
 use Rattle.smith_syntax.specs.Scope.{Scope}
 use Rattle.smith_syntax.specs.WellFormed.{FormedCore, FormedDecls, core_size}
-use Rattle.smith_core_types.specs.MadeCore.{MadeCore, MadeModule, ModuleEnds, ReadsDecl, of_module, spent_core}
-use Rattle.smith_core_types.specs.Offers.{Declared, with_decl}
-use Rattle.smith_core_types.specs.ModuleScript.{front_before, script_decl, script_front, script_module}
-use Rattle.smith_core_types.specs.Needs.{core_cost, core_need}
-use Rattle.smith_core_types.specs.Script.{script_core}
-use Rattle.smith_core_types.specs.Readable.{AreReadableModuleDecls, IsReadableCore}
+use Rattle.smith_core_types.specs.MadeCore.{MadeCore, MadeModule, EndsModuleType, ReadsDecl, of_module, spent_core}
+use Rattle.smith_tree.specs.CoreTypeOffers.{Declared, with_decl}
+use Rattle.smith_tree.specs.ModuleScript.{front_before, script_decl, script_front, script_module}
+use Rattle.smith_tree.specs.CoreTypeNeeds.{core_cost, core_need}
+use Rattle.smith_tree.specs.CoreTypeScript.{script_core}
+use Rattle.smith_tree.specs.ReadableCoreTypes.{AreReadableModuleDecls, IsReadableCore}
 use Rattle.smith_core_types.proofs.FrontFound.{fronted, whole_front}
 use Rattle.smith_core_types.proofs.FrontScript.{asked_read, front_before_is, front_few, front_formed, front_types}
 use Rattle.smith_core_types.proofs.MadeCore.{core_type_read}
@@ -80,7 +80,7 @@ module _ (config : Config) (around : Scope) where
       let all : Along (IsSayable config around) (with_decl around.core_types) start more = behind_sayable fuel ds formed limits texts lasts few in
       let end = after_decls start more in
       let few_turns : 0 + length more ≤ 100 = omega (arith, limits.declarations) in
-      let loop = loop_read {Ends = ModuleEnds config around} {Item = ReadsDecl config around} {min = 0} {max = 100} (script_decl config around)
+      let loop = loop_read {Ends = EndsModuleType config around} {Item = ReadsDecl config around} {min = 0} {max = 100} (script_decl config around)
       (with_decl around.core_types) (IsSayable config around) (decl_read config around) more 0 start rest all (omega arith) few_turns in
       let P : List ℕ → Type 0 = λ z. MadeModule config around z fuel ds rest (fuel - core_size (core_module ds)) in
       subst P (sym said) (record {

@@ -1,7 +1,7 @@
 -- What declarations begin with for the canonical ABI, and what stands behind it.
 use Rattle.std.proofs.Common.{◌≡◌, ℕ, ◌<◌, Bool, true, false, ◌&&◌, ◌||◌, List, [], ◌∷◌, ◌++◌, length, refl, sym, ap, ◌∙◌}
 use Rattle.std.proofs.Common.{arith, nat_lt, bytes_eq}
-use Rattle.std.proofs.lemmas.Bool.{false≢true}
+use Rattle.std.proofs.lemmas.Bool.{false≢true, and_parts, lt-ltb}
 use Rattle.std.proofs.lemmas.Bool.Decides.{nat_tests}
 use Rattle.std.proofs.lemmas.Slice.Eq.{bytes_eq-Decides}
 use Rattle.std.specs.Prelude.{Option, Some, None, codes, if◌then◌else◌}
@@ -15,9 +15,7 @@ use Rattle.smith_format.specs.declared.types.ValType.TheVariants.{I32, I64, F32,
 use Rattle.smith_syntax.specs.Entries.{ModuleDecl, imports, declares, aliases, exports}
 use Rattle.smith_syntax.specs.ModuleTypes.{after_free, after_front, after_function, after_memory, after_realloc, free, is_export}
 use Rattle.smith_syntax.specs.ModuleTypes.{is_function_of, is_i32, is_of_kind, is_type, realloc, same_i32s}
-use Rattle.smith_scopes.proofs.Plain.{both_true}
 use Rattle.smith_core_types.proofs.ModuleFronts.{free_decls, front_decls, memory_decls, realloc_decls}
-use Rattle.smith_core_types.proofs.ModuleScript.{below}
 
 -- what stands in front
 
@@ -29,13 +27,13 @@ memory_export : (d : ModuleDecl) → is_export (codes "memory") (is_of_kind kind
 memory_export (imports m n e) t = absurd (false≢true t)
 memory_export (declares f) t = absurd (false≢true t)
 memory_export (aliases count i) t = absurd (false≢true t)
-memory_export (exports n (Func i)) t = absurd (false≢true (both_true (bytes_eq n (codes "memory")) false (either_false _ t)).1)
-memory_export (exports n (Table u)) t = absurd (false≢true (both_true (bytes_eq n (codes "memory")) false (either_false _ t)).1)
+memory_export (exports n (Func i)) t = absurd (false≢true (and_parts (bytes_eq n (codes "memory")) false (either_false _ t)).1)
+memory_export (exports n (Table u)) t = absurd (false≢true (and_parts (bytes_eq n (codes "memory")) false (either_false _ t)).1)
 memory_export (exports n (Memory m)) t =
-    let same : bytes_eq n (codes "memory") ≡ true = (both_true (bytes_eq n (codes "memory")) true (either_false _ t)).0 in
+    let same : bytes_eq n (codes "memory") ≡ true = (and_parts (bytes_eq n (codes "memory")) true (either_false _ t)).0 in
     (m, ap (λ z. exports z (Memory m)) ((bytes_eq-Decides n (codes "memory")).0 same))
-memory_export (exports n (Global g)) t = absurd (false≢true (both_true (bytes_eq n (codes "memory")) false (either_false _ t)).1)
-memory_export (exports n (Tag u)) t = absurd (false≢true (both_true (bytes_eq n (codes "memory")) false (either_false _ t)).1)
+memory_export (exports n (Global g)) t = absurd (false≢true (and_parts (bytes_eq n (codes "memory")) false (either_false _ t)).1)
+memory_export (exports n (Tag u)) t = absurd (false≢true (and_parts (bytes_eq n (codes "memory")) false (either_false _ t)).1)
 
 memory_cases : (d : ModuleDecl) (ds : List ModuleDecl) (b : Bool) → is_export (codes "memory") (is_of_kind kind.Memory) d ≡ b
     → (m : Option MemoryType) × (d ∷ ds ≡ memory_decls m ++ (if b then ds else d ∷ ds))
@@ -63,12 +61,12 @@ i32s_are : (xs ys : List ValType) → same_i32s xs ys ≡ true → xs ≡ ys
 i32s_are [] [] t = refl
 i32s_are [] (y ∷ ys) t = absurd (false≢true t)
 i32s_are (x ∷ xs) [] t = absurd (false≢true t)
-i32s_are (x ∷ xs) (y ∷ ys) t = let both = both_true _ _ t in (λ i. i32_is x y both.0 i ∷ i32s_are xs ys both.1 i)
+i32s_are (x ∷ xs) (y ∷ ys) t = let both = and_parts _ _ t in (λ i. i32_is x y both.0 i ∷ i32s_are xs ys both.1 i)
 
 type_is : (f : Function) (d : ModuleDecl) → is_type f d ≡ true → d ≡ declares f
 type_is f (imports m n e) t = absurd (false≢true t)
 type_is f (declares g) t =
-    let both = both_true (same_i32s f.0 g.0) (same_i32s f.1 g.1) (either_false _ t) in
+    let both = and_parts (same_i32s f.0 g.0) (same_i32s f.1 g.1) (either_false _ t) in
     (λ i. declares (sym (i32s_are f.0 g.0 both.0) i, sym (i32s_are f.1 g.1 both.1) i))
 type_is f (aliases count i) t = absurd (false≢true t)
 type_is f (exports n e) t = absurd (false≢true t)
@@ -85,7 +83,7 @@ function_export name i (imports m n e) t = absurd (false≢true t)
 function_export name i (declares f) t = absurd (false≢true t)
 function_export name i (aliases count j) t = absurd (false≢true t)
 function_export name i (exports n e) t =
-    let both = both_true (bytes_eq n name) (is_function_of i e) (either_false _ t) in
+    let both = and_parts (bytes_eq n name) (is_function_of i e) (either_false _ t) in
     (λ j. exports ((bytes_eq-Decides n name).0 both.0 j) (function_named i e both.1 j))
 
 -- a function type, and the export of a function of it, or nothing
@@ -96,7 +94,7 @@ module _ (name : List ℕ) (f : Function) (i : ℕ) where
   function_cases : (d e : ModuleDecl) (ds : List ModuleDecl) (b : Bool) → (is_type f d && is_export name (is_function_of i) e) ≡ b
       → (c : Bool) × (d ∷ e ∷ ds ≡ function_decls name f i c ++ (if b then ds else d ∷ e ∷ ds))
   function_cases d e ds true t =
-      let both = both_true (is_type f d) (is_export name (is_function_of i) e) t in
+      let both = and_parts (is_type f d) (is_export name (is_function_of i) e) t in
       (true, λ j. type_is f d both.0 j ∷ function_export name i e both.1 j ∷ ds)
   function_cases d e ds false t = (false, refl)
 
@@ -114,7 +112,7 @@ free_same r true = refl
 free_same r false = refl
 
 realloc_before : (r : Bool) (ds behind : List ModuleDecl) → ds ≡ realloc_decls r ++ behind → nat_lt (length behind) (length ds) ≡ r
-realloc_before true ds behind e = let long = ap length e in let lt : length behind < length ds = omega (arith, long) in below (length behind) (length ds) lt
+realloc_before true ds behind e = let long = ap length e in let lt : length behind < length ds = omega (arith, long) in lt-ltb (length behind) (length ds) lt
 realloc_before false ds behind e = let long : length ds ≡ length behind = ap length e in grind (arith, nat_tests)
 
 -- What declarations begin with for the canonical ABI, and what stands behind it.

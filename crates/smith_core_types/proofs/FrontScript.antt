@@ -1,7 +1,7 @@
 -- What a module type begins with for the canonical ABI is read where its script stands.
 use Rattle.std.proofs.Common.{◌≡◌, ℕ, ◌-◌, ◌<◌, ◌≤◌, Bool, true, false, List, [], ◌∷◌, ◌++◌, length, take, refl, sym, ap, ◌∙◌, subst}
 use Rattle.std.proofs.Common.{arith, append_assoc, append-nil, length-append, nat_lt}
-use Rattle.std.proofs.lemmas.Bool.{false≢true}
+use Rattle.std.proofs.lemmas.Bool.{false≢true, lt-ltb, and_from}
 use Rattle.std.proofs.lemmas.Bool.Decides.{nat_tests}
 use Rattle.std.specs.List.{flat_map}
 use Rattle.std.specs.Prelude.{Option, Some, None, IfSome, codes, if◌then◌else◌}
@@ -20,12 +20,11 @@ use Rattle.smith_syntax.specs.ModuleTypes.{entities_of, free}
 use Rattle.smith_syntax.specs.ModuleTypes.{realloc, type_count}
 use Rattle.smith_syntax.specs.WellFormed.{FormedDecls}
 use Rattle.smith_core_types.specs.MadeCore.{FunctionLine, MemoryLine, ReadsFront, ReadsFunctionLine, ReadsLine, declined, not_allowed, taken}
-use Rattle.smith_core_types.specs.Offers.{Declared, undeclared, with_front}
-use Rattle.smith_core_types.specs.ModuleScript.{front_before, in_front, may_declare, script_asked, script_front, script_line}
+use Rattle.smith_tree.specs.CoreTypeOffers.{Declared, undeclared, with_front}
+use Rattle.smith_tree.specs.ModuleScript.{front_before, in_front, may_declare, script_asked, script_front, script_line}
 use Rattle.smith_core_types.proofs.FrontFound.{Fronted, first_line, first_lines, free_same, function_decls, realloc_same, whole_front}
 use Rattle.smith_core_types.proofs.ModuleFronts.{front_decls, front_own, front_state, memory_decls}
 use Rattle.smith_format.proofs.CoreScript.{limits_read}
-use Rattle.smith_core_types.proofs.ModuleScript.{below, both_hold}
 
 -- the states
 
@@ -68,7 +67,7 @@ pub line_stands : (may : Bool) (ds : List ModuleDecl) (d : ModuleDecl) (front be
     → script_line may ds behind ≡ pick 100 0 ++ flat_map script_asked (entities_of (d ∷ front))
 line_stands may ds d front behind e =
     let long = ap length e ∙ length-append (d ∷ front) behind in
-    let some : nat_lt (length behind) (length ds) ≡ true = below (length behind) (length ds) (omega (arith, long)) in
+    let some : nat_lt (length behind) (length ds) ≡ true = lt-ltb (length behind) (length ds) (omega (arith, long)) in
     ap (λ b. if b then pick 100 0 ++ flat_map script_asked (entities_of (in_front ds behind)) else line_declined may) some
     ∙ ap (λ z. pick 100 0 ++ flat_map script_asked (entities_of z)) (in_front_is ds (d ∷ front) behind e)
 
@@ -95,7 +94,7 @@ memory_line config fuel (Some m) ds behind rest e h =
     record { limits = limits_read m.minimum m.maximum rest h.0.limits; shared = h.0.shared; memory64 = h.0.memory64 } in
     let P : List ℕ → Type 0 = λ z. ReadsLine may MemoryLine (undeclared fuel) z (front_state fuel (Some m) false false) rest in
     let choice = reads-pick 100 0 (said ++ rest) (omega arith) (omega arith) in
-    subst P (sym same) (taken (below 0 config.max_memories h.1) choice (omega arith) (m, reads, refl) refl)
+    subst P (sym same) (taken (lt-ltb 0 config.max_memories h.1) choice (omega arith) (m, reads, refl) refl)
 
 function_line : (may : Bool) (name : List ℕ) (f : Function) (s : Declared) (b : Bool) (ds behind : List ModuleDecl) (rest : List ℕ)
     → ds ≡ function_decls name f (length s.own) b ++ behind → (b ≡ true → may ≡ true)
@@ -114,15 +113,15 @@ function_line may name f s false ds behind rest e h =
 
 module _ (config : Config) (fuel : ℕ) where
   realloc_allowed : (m : Option MemoryType) → (0 < config.max_funcs) × (0 < config.max_types) → may_declare config (front_state fuel m false false) ≡ true
-  realloc_allowed None h = both_hold _ _ (below 0 config.max_funcs h.0) (below 0 config.max_types h.1)
-  realloc_allowed (Some m) h = both_hold _ _ (below 0 config.max_funcs h.0) (below 0 config.max_types h.1)
+  realloc_allowed None h = and_from _ _ (lt-ltb 0 config.max_funcs h.0) (lt-ltb 0 config.max_types h.1)
+  realloc_allowed (Some m) h = and_from _ _ (lt-ltb 0 config.max_funcs h.0) (lt-ltb 0 config.max_types h.1)
 
   free_allowed : (m : Option MemoryType) (r : Bool) → (length (front_own r false) < config.max_funcs) × (length (front_own r false) < config.max_types)
       → may_declare config (front_state fuel m r false) ≡ true
-  free_allowed None false h = both_hold _ _ (below 0 config.max_funcs h.0) (below 0 config.max_types h.1)
-  free_allowed None true h = both_hold _ _ (below 1 config.max_funcs h.0) (below 1 config.max_types h.1)
-  free_allowed (Some m) false h = both_hold _ _ (below 0 config.max_funcs h.0) (below 0 config.max_types h.1)
-  free_allowed (Some m) true h = both_hold _ _ (below 1 config.max_funcs h.0) (below 1 config.max_types h.1)
+  free_allowed None false h = and_from _ _ (lt-ltb 0 config.max_funcs h.0) (lt-ltb 0 config.max_types h.1)
+  free_allowed None true h = and_from _ _ (lt-ltb 1 config.max_funcs h.0) (lt-ltb 1 config.max_types h.1)
+  free_allowed (Some m) false h = and_from _ _ (lt-ltb 0 config.max_funcs h.0) (lt-ltb 0 config.max_types h.1)
+  free_allowed (Some m) true h = and_from _ _ (lt-ltb 1 config.max_funcs h.0) (lt-ltb 1 config.max_types h.1)
 
   after_realloc_line : (m : Option MemoryType) (r : Bool) → let s : Declared = front_state fuel m false false in
       (if r then with_front s (function_decls (codes "canonical_abi_realloc") realloc 0 true) else s) ≡ front_state fuel m r false

@@ -8,7 +8,7 @@ use Rattle.smith_syntax.specs.Entries.{CoreEntry}
 use Rattle.smith_core_types.specs.MadeCore.{functions_named, named_by_core}
 use Rattle.smith_core_types.specs.MakingCore.{KeepEach, KeepsNamed, KeepsAliased, own_after}
 use Rattle.smith_syntax.specs.ModuleTypes.{adds, aliased, alias_of}
-use Rattle.smith_syntax.specs.Shown.{shown_decl, shown_core, kept_decl, kept_core}
+use Rattle.smith_syntax.specs.Shown.{shown_decl, shown_core, aliased_functions, kept_core}
 use Rattle.smith_syntax.specs.declared.core_types.CoreType.{CoreType}
 use Rattle.smith_syntax.specs.declared.core_types.CoreType.TheVariants as core
 use Rattle.smith_syntax.specs.declared.core_types.ModuleTypeDef.{ModuleTypeDef}
@@ -35,14 +35,14 @@ keep_more around own later ds more d (all, types) one owns e = (
 -- What the outer aliases keep is what they name.
 
 one_kept : (around : List CoreEntry) (own : List Function) (d : ModuleTypeDef) → KeepsNamed around own d
-    → kept_decl d ≡ flat_map (λ a. option_to_list (aliased around own a.0 a.1)) (alias_of (shown_decl d))
+    → aliased_functions d ≡ flat_map (λ a. option_to_list (aliased around own a.0 a.1)) (alias_of (shown_decl d))
 one_kept around own (decl.FuncDef f) k = refl
 one_kept around own (decl.Import i) k = refl
 one_kept around own (decl.OuterAlias count i ty) k = sym (ap (λ o. option_to_list o ++ []) k)
 one_kept around own (decl.Export name e) k = refl
 
 pub kept_named : (around : List CoreEntry) (own : List Function) (ds : List ModuleTypeDef) → KeepEach around own ds
-    → flat_map kept_decl ds ≡ functions_named around own (map shown_decl ds)
+    → flat_map aliased_functions ds ≡ functions_named around own (map shown_decl ds)
 kept_named around own [] k = refl
 kept_named around own (d ∷ ds) k = λ i. one_kept around own d k.0 i ++ kept_named around (own ++ adds around own (shown_decl d)) ds k.1 i
 

@@ -2,7 +2,7 @@
 -- the limits; and scripts are read as them.
 use Rattle.std.proofs.Common.{◌≡◌, inl, inr, ℕ, ◌+◌, ◌-◌, ◌<◌, ◌≤◌, true, false, List, [], ◌∷◌, ◌++◌, map, length, refl, sym, ap, ◌∙◌}
 use Rattle.std.proofs.Common.{subst, arith, append-nil, append_assoc}
-use Rattle.std.proofs.lemmas.Bool.{false≢true, ltb-true}
+use Rattle.std.proofs.lemmas.Bool.{false≢true, ltb-true, and_parts}
 use Rattle.std.specs.Prelude.{Some, None, IfSome, slice_get, codes}
 use Rattle.smith_input.specs.Choices.{ReadsAmong}
 use Rattle.smith_input.specs.Loops.{Loop}
@@ -33,18 +33,18 @@ use Rattle.smith_format.proofs.CoreScript.{function_read}
 use Rattle.smith_syntax.specs.CoreLimits.{ModuleLimits, CoreLimits}
 use Rattle.smith_syntax.specs.Entries.{CoreEntry, ModuleDecl, core_func, core_module, imports, declares, aliases, exports}
 use Rattle.smith_core_types.specs.MadeCore.{with_fuel, ReadsEntityOf}
-use Rattle.smith_core_types.specs.Offers.{Declared, undeclared, with_decl, with_front, indexes, kind_offers, entity_kinds}
+use Rattle.smith_tree.specs.CoreTypeOffers.{Declared, undeclared, with_decl, with_front, indexes, kind_offers, entity_kinds}
 use Rattle.smith_core_types.specs.MadeCore.{ReadsEntity, ReadsImportNames, ReadsExportName, ReadsDeclOf}
-use Rattle.smith_core_types.specs.Offers.{alias_choices, item_offers, module_items}
+use Rattle.smith_tree.specs.CoreTypeOffers.{alias_choices, item_offers, module_items}
 use Rattle.smith_core_types.specs.MadeCore.{ReadsDecl}
-use Rattle.smith_core_types.specs.MadeCore.{ModuleEnds, no_fuel, no_import, no_export, ReadsLine, not_allowed, declined, taken, MemoryLine, ReadsFunctionLine}
+use Rattle.smith_core_types.specs.MadeCore.{EndsModuleType, no_fuel, no_import, no_export, ReadsLine, not_allowed, declined, taken, MemoryLine, ReadsFunctionLine}
 use Rattle.smith_core_types.specs.MadeCore.{ReadsFront, MadeModule, MadeCore, spent_core, of_function, of_module}
 use Rattle.smith_syntax.specs.ModuleTypes.{func_in, aliased, is_tag_type, count_of_kind, names_from, realloc, free}
 use Rattle.smith_syntax.specs.Scope.{Scope, is_core_func, places}
-use Rattle.smith_core_types.specs.Script.{script_core_type}
+use Rattle.smith_tree.specs.CoreTypeScript.{script_core_type}
 use Rattle.smith_syntax.specs.WellFormed.{FormedEntity, FormedDecl, FormedCore, core_size}
-use Rattle.smith_core_types.specs.declared.module_types.ModuleItem.{ModuleItem}
-use Rattle.smith_core_types.specs.declared.module_types.ModuleItem.TheVariants as item
+use Rattle.smith_tree.specs.declared.choices.ModuleItem.{ModuleItem}
+use Rattle.smith_tree.specs.declared.choices.ModuleItem.TheVariants as item
 use Rattle.smith_core_types.proofs.MadeCoreSame.{Same}
 use Rattle.smith_format.proofs.CoreReading.{memory_formed}
 use Rattle.smith_format.proofs.ScriptBytes.{few_values}
@@ -52,7 +52,6 @@ use Rattle.smith_core_types.proofs.ModuleFronts.{front_is, front_size}
 use Rattle.smith_core_types.proofs.ModuleTypes.{HasNewName, Judged, judged_more, judged_names, judged_front, limit_of, EntityFits, DeclFits, Within}
 use Rattle.smith_core_types.proofs.ModuleTypes.{within_more, within_none, within_front}
 use Rattle.smith_scopes.proofs.Places.{place_stands, get_either, get_mapped}
-use Rattle.smith_scopes.proofs.Plain.{both_true}
 
 -- tails
 
@@ -84,7 +83,7 @@ module _ (config : Config) (around : Scope) where
   pub decl_tail : (s : Declared) (b : List ℕ) (d : ModuleDecl) (rest : List ℕ) (t : Declared) → ReadsDecl config around s b d rest t → IsTail rest b
   decl_tail s b d rest t r = tail_trans (decl_of_tail s r.item r.mid d rest r.reads) (among_tail r.choice)
 
-  pub ends_tail : (s : Declared) (b rest : List ℕ) (t : Declared) → ModuleEnds config around s b rest t → IsTail rest b
+  pub ends_tail : (s : Declared) (b rest : List ℕ) (t : Declared) → EndsModuleType config around s b rest t → IsTail rest b
   ends_tail s b rest t (no_fuel f e) = tail_same b
   ends_tail s b rest t (no_import f c n none e) = tail_trans (import_names_tail s n) (among_tail c)
   ends_tail s b rest t (no_export f c n none e) = tail_trans (new_text_tail n) (among_tail c)
@@ -126,7 +125,7 @@ module _ (config : Config) (around : Scope) where
     pub decls : t.decls ≡ s.decls ++ ds
     pub fuel : length ds + t.fuel ≤ s.fuel
 
-  ends_grows : (s : Declared) (b rest : List ℕ) (t : Declared) → ModuleEnds config around s b rest t → Grows s [] t
+  ends_grows : (s : Declared) (b rest : List ℕ) (t : Declared) → EndsModuleType config around s b rest t → Grows s [] t
   ends_grows s b rest t (no_fuel f e) = record { decls = ap (λ u. u.decls) e ∙ sym (append-nil s.decls); fuel = omega (arith, ap (λ u. u.fuel) e) }
   ends_grows s b rest t (no_import f c n none e) = record { decls = ap (λ u. u.decls) e ∙ sym (append-nil s.decls); fuel = omega (arith, ap (λ u. u.fuel) e) }
   ends_grows s b rest t (no_export f c n none e) = record { decls = ap (λ u. u.decls) e ∙ sym (append-nil s.decls); fuel = omega (arith, ap (λ u. u.fuel) e) }
@@ -233,7 +232,7 @@ module _ (config : Config) (around : Scope) where
   item_told s k {rest = rest} {d = d} c x = let P : ModuleItem → Type 0 = λ z. ReadsDeclOf config around s z x.mid d rest in
       subst P (among_same x.choice c).0 x.reads
 
-  ends_apart : (s : Declared) (b : List ℕ) (d : ModuleDecl) (r q : List ℕ) (t u : Declared) → ModuleEnds config around s b r t
+  ends_apart : (s : Declared) (b : List ℕ) (d : ModuleDecl) (r q : List ℕ) (t u : Declared) → EndsModuleType config around s b r t
       → ReadsDecl config around s b d q u → ⊥
   ends_apart s b d r q t u (no_fuel f e) x = omega (arith, f, x.lasts)
   ends_apart s b d r q t u (no_import f c n none e) x = let (from, name, mid, n, y, a, i) = item_told s item.Import c x in no_entity s none a
@@ -243,7 +242,7 @@ module _ (config : Config) (around : Scope) where
       → ReadsAmong (module_items config around s) b item.Export low → ⊥
   item_apart s c a = let z : item.Import ≡ item.Export = (among_same c a).0 in cc
 
-  ends_same : (s : Declared) (b r q : List ℕ) (t u : Declared) → ModuleEnds config around s b r t → ModuleEnds config around s b q u → (r ≡ q) × (t ≡ u)
+  ends_same : (s : Declared) (b r q : List ℕ) (t u : Declared) → EndsModuleType config around s b r t → EndsModuleType config around s b q u → (r ≡ q) × (t ≡ u)
   ends_same s b r q t u (no_fuel f e) (no_fuel g h) = (refl, e ∙ sym h)
   ends_same s b r q t u (no_fuel f e) (no_import g c n none h) = absurd (omega (arith, f, g))
   ends_same s b r q t u (no_fuel f e) (no_export g c n none h) = absurd (omega (arith, f, g))
@@ -297,7 +296,7 @@ module_same : (config : Config) (around : Scope) (b : List ℕ) (fuel : ℕ) (ds
     → MadeModule config around b fuel ds r f → MadeModule config around b fuel es q g → Same ds es r q f g
 module_same config around b fuel ds es r q f g x y =
     let u = front_same config b fuel x.front y.front x.mid y.mid x.begins y.begins in
-    let P : Declared → List ℕ → Type 0 = λ s c. Loop (ModuleEnds config around) (ReadsDecl config around) 0 100 0 s c x.more r x.whole in
+    let P : Declared → List ℕ → Type 0 = λ s c. Loop (EndsModuleType config around) (ReadsDecl config around) 0 100 0 s c x.more r x.whole in
     let v = loop_same (ends_same config around) (ends_apart config around) (decl_same config around) 0 y.front y.mid x.more y.more r q x.whole y.whole
     (subst (P y.front) u.1 (subst (λ s. P s x.mid) u.0 x.goes_on)) y.goes_on in
     record { value = x.decls ∙ (ap (λ s. s.decls) v.2 ∙ sym y.decls); rest = v.1; left = x.fuel_left ∙ (ap (λ s. s.fuel) v.2 ∙ sym y.fuel_left) }
@@ -327,7 +326,7 @@ made_core_same {config} {around} {fuel = fuel} {r = r} {q = q} {f = f} {g = g} (
 module _ {config : Config} {around : Scope} (P : Declared → Type 0) (burnt : (s : Declared) (n : ℕ) → P s → P (with_fuel s n))
     (more : (s : Declared) (b : List ℕ) (d : ModuleDecl) (rest : List ℕ) (t : Declared) → P s → ReadsDecl config around s b d rest t
     → P (with_decl around.core_types s d)) where
-  ends_keep : (s : Declared) (b rest : List ℕ) (t : Declared) → ModuleEnds config around s b rest t → P s → P t
+  ends_keep : (s : Declared) (b rest : List ℕ) (t : Declared) → EndsModuleType config around s b rest t → P s → P t
   ends_keep s b rest t (no_fuel f e) p = subst P (sym e) (burnt s 0 p)
   ends_keep s b rest t (no_import f c n none e) p = subst P (sym e) (burnt s (s.fuel - 1) p)
   ends_keep s b rest t (no_export f c n none e) p = subst P (sym e) (burnt s (s.fuel - 1) p)
@@ -437,9 +436,9 @@ module _ (config : Config) (s : Declared) where
           (
             λ t. (ltb-true (count_of_kind kind.Memory s.decls) config.max_memories t, tt),
             (
-              λ t. let both = both_true _ _ (both_true _ _ t).0 in (ltb-true (count_of_kind kind.Tag s.decls) config.max_tags both.0, both.1),
+              λ t. let both = and_parts _ _ (and_parts _ _ t).0 in (ltb-true (count_of_kind kind.Tag s.decls) config.max_tags both.0, both.1),
               (
-                λ t. (ltb-true (count_of_kind kind.Func s.decls) config.max_funcs (both_true _ _ t).1, tt),
+                λ t. (ltb-true (count_of_kind kind.Func s.decls) config.max_funcs (and_parts _ _ t).1, tt),
                 tt,
               ),
             ),
@@ -475,7 +474,7 @@ module _ (config : Config) (around : Scope) where
           (
             ltb-true (length s.own) config.max_types,
             (
-              λ t. ltb-true (length s.own) config.max_types (both_true _ _ t).0,
+              λ t. ltb-true (length s.own) config.max_types (and_parts _ _ t).0,
               tt,
             ),
           ),

@@ -14,13 +14,12 @@ use Rattle.std.specs.Prelude.{◌↔◌, IsTrue, nat_lt, Some, option_map, slice
 use Rattle.smith_format.specs.CoreTypes.{Function}
 use Rattle.smith_format.specs.Entities.{CoreImport}
 use Rattle.smith_format.specs.declared.config.Config.{Config}
-use Rattle.smith_format.specs.declared.types.EntityType.{EntityType}
 use Rattle.smith_input.specs.Choices.{ReadsAmong}
 use Rattle.smith_input.specs.NewNames.{is_among}
 use Rattle.smith_syntax.specs.Entries.{CoreEntry, ModuleDecl, aliases, core_func, core_module}
 use Rattle.smith_core_types.specs.MadeCore.{no_export, no_import}
-use Rattle.smith_core_types.specs.Offers.{indexes, module_items}
-use Rattle.smith_core_types.specs.Offers.{Declared as SoFar}
+use Rattle.smith_tree.specs.CoreTypeOffers.{indexes, module_items}
+use Rattle.smith_tree.specs.CoreTypeOffers.{Declared as SoFar}
 use Rattle.smith_core_types.specs.MakingCore.{AddsDecl, DeclTurn, choices_among, names_taken}
 use Rattle.smith_syntax.specs.ModuleTypes.{adds, aliased, export_names, module_export_of, module_import_of, names_from}
 use Rattle.smith_syntax.specs.Scope.{Scope, is_core_func, own_of, places}
@@ -28,11 +27,12 @@ use Rattle.smith_scopes.specs.Scopes.{Contents, inward, last_of}
 use Rattle.smith_syntax.specs.Shown.{shown_core, shown_decl}
 use Rattle.smith_syntax.specs.declared.core_types.CoreType.{CoreType}
 use Rattle.smith_syntax.specs.declared.core_types.ModuleTypeDef.{ModuleTypeDef}
-use Rattle.smith_core_types.specs.declared.module_types.ModuleItem.{ModuleItem}
-use Rattle.smith_core_types.specs.declared.module_types.ModuleItem.TheVariants as item
+use Rattle.smith_tree.specs.declared.choices.ModuleItem.{ModuleItem}
+use Rattle.smith_tree.specs.declared.choices.ModuleItem.TheVariants as item
 use Rattle.smith_input.proofs.Rests.{drop_past, rest_at}
 use Rattle.smith_scopes.proofs.Stack.{length-last-core, own_last}
 use Rattle.smith_scopes.proofs.Places.{place_stands, get_left, get_right}
+use Rattle.std.proofs.Math.Bool.{or_assoc}
 
 -- indexes
 
@@ -49,9 +49,6 @@ pub own_at : {A : Type 0} (xs : List A) (k : ℕ) → k < length xs → slice_ge
 own_at xs k h = let e : 0 + k ≡ k = omega arith in index_at 0 xs k h ∙ ap Some e
 
 -- counts
-
-abbrev entities_in : ModuleDecl → List EntityType
-entities_in d = map (λ i. i.2) (module_import_of d) ++ map (λ x. x.1) (module_export_of d)
 
 -- names
 
@@ -79,11 +76,7 @@ taken_none false from = refl
 
 pub among_append : (xs ys : List (List ℕ)) (q : List ℕ) → is_among (xs ++ ys) q ≡ (is_among xs q || is_among ys q)
 among_append [] ys q = refl
-among_append (x ∷ xs) ys q = ap (λ b. bytes_eq x q || b) (among_append xs ys q) ∙ or_assoc (bytes_eq x q) (is_among xs q) (is_among ys q)
-  where
-    or_assoc : (a b c : Bool) → (a || (b || c)) ≡ ((a || b) || c)
-    or_assoc true b c = refl
-    or_assoc false b c = refl
+among_append (x ∷ xs) ys q = ap (λ b. bytes_eq x q || b) (among_append xs ys q) ∙ sym (or_assoc (bytes_eq x q) (is_among xs q) (is_among ys q))
 
 -- the names of the declarations from a place on
 module _ (imported : Bool) (from : List ℕ) (defs : List ModuleTypeDef) (i : ℕ) where
@@ -182,10 +175,6 @@ ratio_true b k h e = let t : 1 + k ≤ 99 = h.0 e in omega (arith, t)
 -- a core function type is no module type
 pub no_module : {f : Function} {e : CoreEntry} {ds : List ModuleDecl} → e ≡ core_func f → e ≡ core_module ds → ⊥
 no_module p q = false≢true (sym (ap is_core_func q) ∙ ap is_core_func p)
-
--- the first item of two that are one
-pub same_item : {A : Type 0} {x y : A} → Some x ≡ Some y → x ≡ y
-same_item e = cc
 
 -- a turn, by what it adds
 pub turns_of : (config : Config) (around : Scope) (s : SoFar) (i : ModuleItem) (b mid rest : List ℕ) (t : SoFar) → 0 < s.fuel - 1

@@ -1,6 +1,6 @@
 -- What a module type begins with for the canonical ABI: its shapes, and what stands after it.
 use Rattle.std.proofs.Common.{◌≡◌, ℕ, ◌<◌, ◌≤◌, Bool, true, false, ◌&&◌, List, [], ◌∷◌, ◌++◌, length, refl, sym, ap, ◌∙◌, subst, arith}
-use Rattle.std.proofs.lemmas.Bool.{false≢true, ltb-true, lt-ltb}
+use Rattle.std.proofs.lemmas.Bool.{false≢true, ltb-true, lt-ltb, and_parts}
 use Rattle.std.proofs.lemmas.Bool.Decides.{nat_tests}
 use Rattle.std.specs.Prelude.{Option, Some, None, IfSome, codes, nat_lt, if◌then◌else◌}
 use Rattle.smith_format.proofs.CoreReading.{memory_formed}
@@ -11,9 +11,8 @@ use Rattle.smith_format.specs.declared.types.EntityType.TheVariants.{Func, Memor
 use Rattle.smith_format.specs.declared.types.ExportKind.TheVariants as kind
 use Rattle.smith_format.specs.declared.types.MemoryType.{MemoryType}
 use Rattle.smith_syntax.specs.Entries.{ModuleDecl, declares, exports}
-use Rattle.smith_scopes.proofs.Plain.{both_true}
 use Rattle.smith_core_types.specs.MadeCore.{ReadsLine, not_allowed, declined, taken, MemoryLine}
-use Rattle.smith_core_types.specs.Offers.{Declared, undeclared, with_front, allows_function, allows_type}
+use Rattle.smith_tree.specs.CoreTypeOffers.{Declared, undeclared, with_front, allows_function, allows_type}
 use Rattle.smith_core_types.specs.MadeCore.{ReadsFunctionLine, ReadsFront}
 use Rattle.smith_syntax.specs.ModuleTypes.{realloc, free, is_export, is_of_kind, is_type, is_function_of, after_memory, after_function, after_realloc}
 use Rattle.smith_syntax.specs.ModuleTypes.{after_free, after_front}
@@ -52,7 +51,7 @@ pub record IsFront (config : Config) (fuel : ℕ) (s : Declared) : Type 0 where
   pub has_free : frees ≡ true → (length (front_own reallocs false) < config.max_funcs) × (length (front_own reallocs false) < config.max_types)
 
 both_below : (n m a b : ℕ) → (nat_lt n a && nat_lt m b) ≡ true → (n < a) × (m < b)
-both_below n m a b e = let t = both_true (nat_lt n a) (nat_lt m b) e in (ltb-true n a t.0, ltb-true m b t.1)
+both_below n m a b e = let t = and_parts (nat_lt n a) (nat_lt m b) e in (ltb-true n a t.0, ltb-true m b t.1)
 
 module _ (config : Config) (fuel : ℕ) where
   memory_is : (b rest : List ℕ) (t : Declared) → ReadsLine (nat_lt 0 config.max_memories) MemoryLine (undeclared fuel) b t rest

@@ -1,5 +1,5 @@
 -- A module type that is well formed and within the limits: each of its declarations can be said behind those before it.
-use Rattle.std.proofs.Common.{◌≡◌, ◌+◌, ◌<◌, ◌≤◌, ◌^◌, true, List, [], ◌∷◌, ◌++◌, map, length, refl, sym, ap, ◌∙◌, subst, arith, append_assoc}
+use Rattle.std.proofs.Common.{◌≡◌, ◌+◌, ◌<◌, ◌≤◌, ◌^◌, true, List, [], ◌∷◌, ◌++◌, length, refl, sym, ap, ◌∙◌, subst, arith, append_assoc}
 use Rattle.std.proofs.Common.{length-append}
 use Rattle.std.proofs.lemmas.Grind.{flat_map-append}
 use Rattle.std.proofs.lemmas.List.Elements.{filter-append}
@@ -17,21 +17,18 @@ use Rattle.smith_format.specs.declared.types.ExportKind.{ExportKind}
 use Rattle.smith_format.specs.declared.types.ExportKind.TheVariants as kind
 use Rattle.smith_syntax.specs.CoreLimits.{EntityLimits, ModuleLimits}
 use Rattle.smith_syntax.specs.Entries.{ModuleDecl, imports, declares, aliases, exports}
-use Rattle.smith_syntax.specs.ModuleTypes.{adds, alias_of, count_of_kind, declared_in, entities_of, func_of, is_of_kind}
-use Rattle.smith_syntax.specs.ModuleTypes.{module_export_of, module_import_of, type_count}
+use Rattle.smith_syntax.specs.ModuleTypes.{adds, alias_of, count_of_kind, declared_in, entities_of, func_of, is_of_kind, entities_in}
+use Rattle.smith_syntax.specs.ModuleTypes.{type_count}
 use Rattle.smith_syntax.specs.Scope.{Scope}
 use Rattle.smith_syntax.specs.WellFormed.{FormedDecl, FormedDecls}
-use Rattle.smith_scopes.proofs.Plain.{all_back}
-use Rattle.smith_core_types.specs.Offers.{Declared, with_decl}
-use Rattle.smith_core_types.specs.Readable.{AreReadableModuleDecls}
+use Rattle.smith_tree.specs.CoreTypeOffers.{Declared, with_decl}
+use Rattle.smith_tree.specs.ReadableCoreTypes.{AreReadableModuleDecls}
 use Rattle.smith_core_types.proofs.MakingCore.{alias_adds}
 use Rattle.smith_core_types.proofs.ModuleScript.{IsSayable}
 use Rattle.smith_core_types.proofs.ModuleTypes.{DeclFits, EntityFits, limit_of}
+use Rattle.smith_input.proofs.Lists.{all_back}
 
 -- declarations in two parts
-
-abbrev entities_in : ModuleDecl → List EntityType
-entities_in d = map (λ i. i.2) (module_import_of d) ++ map (λ x. x.1) (module_export_of d)
 
 entities_both : (xs ys : List ModuleDecl) → entities_of (xs ++ ys) ≡ entities_of xs ++ entities_of ys
 entities_both xs ys = flat_map-append entities_in xs ys

@@ -1,8 +1,8 @@
 -- Declarations of module types are read where their scripts stand.
-use Rattle.std.proofs.Common.{◌≡◌, ◌⊎◌, inl, inr, ℕ, zero, suc, ◌+◌, ◌-◌, ◌<◌, ◌≤◌, ◌^◌, Bool, true, false, ◌&&◌, List, [], ◌∷◌, ◌++◌, length, refl, sym, ap}
+use Rattle.std.proofs.Common.{◌≡◌, ◌⊎◌, inl, inr, ℕ, zero, suc, ◌+◌, ◌-◌, ◌<◌, ◌≤◌, ◌^◌, Bool, true, false, List, [], ◌∷◌, ◌++◌, length, refl, sym, ap}
 use Rattle.std.proofs.Common.{◌∙◌, subst, arith, append_assoc, nat_eq, nat_lt, Some, None, Decides}
-use Rattle.std.proofs.lemmas.Bool.{false≢true}
-use Rattle.std.proofs.lemmas.Bool.Decides.{nat_tests, Decides-eqb}
+use Rattle.std.proofs.lemmas.Bool.{false≢true, lt-ltb, and_from}
+use Rattle.std.proofs.lemmas.Bool.Decides.{Decides-eqb}
 use Rattle.std.proofs.lemmas.Option.{slice_get_within}
 use Rattle.std.specs.Prelude.{Option, slice_get, if◌then◌else◌}
 use denote.Enum.Bare.{same_true, true_same}
@@ -19,7 +19,7 @@ use Rattle.smith_input.proofs.ReadsTexts.{text_read}
 use Rattle.smith_format.proofs.CoreScript.{limits_read}
 use Rattle.smith_format.specs.CoreReading.{ReadsElement, only_functions, either, ReadsTable}
 use Rattle.smith_format.specs.CoreScript as core
-use Rattle.smith_format.specs.CoreScript.{script_between, script_limits, script_maximum}
+use Rattle.smith_format.specs.CoreScript.{script_limits}
 use Rattle.smith_format.specs.CoreTypes.{Function}
 use Rattle.smith_format.specs.Entities.{kind_of}
 use Rattle.smith_format.specs.Equality.{same_val}
@@ -42,31 +42,25 @@ use Rattle.smith_syntax.specs.WellFormed.{FormedDecl, FormedEntity}
 use Rattle.smith_scopes.proofs.Places.{place_found}
 use Rattle.smith_scopes.proofs.Stack.{length-places}
 use Rattle.smith_core_types.specs.MadeCore.{ReadsDecl, ReadsDeclOf, ReadsEntity, ReadsEntityOf}
-use Rattle.smith_core_types.specs.Offers.{Declared, alias_choices}
-use Rattle.smith_core_types.specs.Offers.{entity_kinds, indexes, item_offers, kind_offers, module_items, with_decl}
-use Rattle.smith_core_types.specs.ModuleScript.{alias_place, script_bit, script_decl, script_element, script_entity, script_entity_of}
-use Rattle.smith_core_types.specs.ModuleScript.{script_item}
-use Rattle.smith_core_types.specs.Readable.{IsReadableModuleDecl, IsReadableNewText}
-use Rattle.smith_core_types.specs.contracts.module_types.ModuleItem.{the_type as item_type}
-use Rattle.smith_core_types.specs.contracts.module_types.ModuleItemPartialEq.TheImpl.{ghosts as items}
-use Rattle.smith_core_types.specs.declared.module_types.ModuleItem.{ModuleItem}
-use Rattle.smith_core_types.specs.declared.module_types.ModuleItem.TheVariants as item
+use Rattle.smith_tree.specs.CoreTypeOffers.{Declared, alias_choices}
+use Rattle.smith_tree.specs.CoreTypeOffers.{entity_kinds, indexes, item_offers, kind_offers, module_items, with_decl}
+use Rattle.smith_tree.specs.ModuleScript.{alias_place, script_bit, script_decl, script_element, script_entity, script_entity_of}
+use Rattle.smith_tree.specs.ModuleScript.{script_item}
+use Rattle.smith_tree.specs.ReadableCoreTypes.{IsReadableModuleDecl, IsReadableNewText}
+use Rattle.smith_tree.specs.contracts.choices.ModuleItem.{the_type as item_type}
+use Rattle.smith_tree.specs.contracts.choices.ModuleItemPartialEq.TheImpl.{ghosts as items}
+use Rattle.smith_tree.specs.declared.choices.ModuleItem.{ModuleItem}
+use Rattle.smith_tree.specs.declared.choices.ModuleItem.TheVariants as item
 use Rattle.smith_format.proofs.ScriptBytes.{few_values}
 use Rattle.smith_core_types.proofs.MakingCore.{choice_around, choice_own, choices_count, length-indexes, own_at}
 use Rattle.smith_core_types.proofs.ModuleTypes.{DeclFits, EntityFits}
+use Rattle.smith_input.proofs.Lists.{some_there}
 
 kind_Decides : (a b : ExportKind) → Decides (kinds.eq a b) (a ≡ b)
 kind_Decides a b = (same_true kind_type tt a b, true_same kind_type a b)
 
 item_Decides : (a b : ModuleItem) → Decides (items.eq a b) (a ≡ b)
 item_Decides a b = (same_true item_type tt a b, true_same item_type a b)
-
-pub below : (n m : ℕ) → n < m → nat_lt n m ≡ true
-below n m h = grind (arith, nat_tests)
-
-pub both_hold : (a b : Bool) → a ≡ true → b ≡ true → (a && b) ≡ true
-both_hold true b e f = f
-both_hold false b e f = e
 
 -- What can be said of what is imported or exported, behind these declarations.
 abbrev pub IsSayableEntity : Config → Declared → EntityType → Type 0
@@ -130,24 +124,16 @@ module _ (config : Config) (s : Declared) (few : length s.own ≤ 2 ^ 64) where
       let count : length (places is_tag_type 0 s.own) ≤ 2 ^ 64 = omega (arith, few, length-places is_tag_type 0 s.own) in
       (t, among_read nat_eq Decides-eqb (places is_tag_type 0 s.own) t.func_type_idx found.0 rest count found.1, refl)
 
-  some_there : {A : Type 0} (xs : List A) (k : ℕ) (x : A) → slice_get xs k ≡ Some x → nat_lt 0 (length xs) ≡ true
-  some_there xs k x h = below 0 (length xs) (omega (arith, slice_get_within xs k x h))
-
-  all_three : (a b c : Bool) → a ≡ true → b ≡ true → c ≡ true → (a && b && c) ≡ true
-  all_three true true c d e f = f
-  all_three true false c d e f = e
-  all_three false b c d e f = d
-
   kind_offered : (e : EntityType) → IsSayableEntity config s e → (j : ℕ) × (slice_get (entity_kinds config s) j ≡ Some (kind_of e))
   kind_offered (Func i) (fits, (f, at)) =
-      offers_found (kind_offers config s) 4 _ kind.Func refl (both_hold _ _ (some_there s.own i f at) (below _ _ fits.1))
-  kind_offered (Table t) (fits, f) = offers_found (kind_offers config s) 1 _ kind.Table refl (below _ _ fits.1)
-  kind_offered (Memory m) (fits, f) = offers_found (kind_offers config s) 2 _ kind.Memory refl (below _ _ fits.1)
-  kind_offered (Global g) (fits, f) = offers_found (kind_offers config s) 0 _ kind.Global refl (below _ _ fits.1)
+      offers_found (kind_offers config s) 4 _ kind.Func refl (and_from _ _ (some_there s.own i f at) (lt-ltb _ _ fits.1))
+  kind_offered (Table t) (fits, f) = offers_found (kind_offers config s) 1 _ kind.Table refl (lt-ltb _ _ fits.1)
+  kind_offered (Memory m) (fits, f) = offers_found (kind_offers config s) 2 _ kind.Memory refl (lt-ltb _ _ fits.1)
+  kind_offered (Global g) (fits, f) = offers_found (kind_offers config s) 0 _ kind.Global refl (lt-ltb _ _ fits.1)
   kind_offered (Tag t) (fits, (f, at, is)) =
       let found = place_found is_tag_type s.own t.func_type_idx f at is in
       let some : nat_lt 0 (length (places is_tag_type 0 s.own)) ≡ true = some_there (places is_tag_type 0 s.own) found.0 t.func_type_idx found.1 in
-      offers_found (kind_offers config s) 3 _ kind.Tag refl (all_three _ _ _ (below _ _ fits.1) fits.0 some)
+      offers_found (kind_offers config s) 3 _ kind.Tag refl (and_from _ _ (and_from _ _ (lt-ltb _ _ fits.1) fits.0) some)
 
   entity_read : (e : EntityType) (rest : List ℕ) → IsSayableEntity config s e → ReadsEntity config s (script_entity config s e ++ rest) e rest
   entity_read e rest h =
@@ -229,14 +215,14 @@ module _ (config : Config) (around : Scope) where
       (subst P (sym (append_assoc b c rest)) (name, c ++ rest, new, e, entity, refl))
   decl_read s (declares f) rest h =
       let values : length (configured config) ≤ 7 = few_values config in
-      says s (declares f) item.Type 2 _ (core.script_function (configured config) (max_results config) f) rest h.lasts refl (below _ _ h.fits.1)
+      says s (declares f) item.Type 2 _ (core.script_function (configured config) (max_results config) f) rest h.lasts refl (lt-ltb _ _ h.fits.1)
       (f, function_read (configured config) (max_results config) f rest h.fits.0 (omega (arith, values)), refl)
   decl_read s (aliases count i) rest h =
       let cs : List (ℕ × ℕ) = alias_choices around s in
       let at = alias_at around s count i h.formed.0 h.formed.1 in
       let within : alias_place around count i < length cs = slice_get_within cs (alias_place around count i) (count, i) at in
-      let some : nat_lt 0 (length cs) ≡ true = below 0 (length cs) (omega (arith, within)) in
+      let some : nat_lt 0 (length cs) ≡ true = lt-ltb 0 (length cs) (omega (arith, within)) in
       let many : length cs ≤ 2 ^ 64 = omega (arith, h.few, choices_count around s.own, length-places is_core_func 0 around.core_types) in
       let read = reads-pick (length cs) (alias_place around count i) rest many within in
-      says s (aliases count i) item.Alias 3 _ (pick (length cs) (alias_place around count i)) rest h.lasts refl (both_hold _ _ (below _ _ h.fits.1) some)
+      says s (aliases count i) item.Alias 3 _ (pick (length cs) (alias_place around count i)) rest h.lasts refl (and_from _ _ (lt-ltb _ _ h.fits.1) some)
       ((count, i), record { place = alias_place around count i; reads = read; named = at }, refl)

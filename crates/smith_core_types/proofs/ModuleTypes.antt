@@ -23,14 +23,16 @@ use Rattle.smith_format.specs.declared.types.MemoryType.{MemoryType}
 use Rattle.smith_format.specs.declared.types.ValType.TheVariants.{I32}
 use Rattle.smith_syntax.specs.CoreLimits.{EntityLimits}
 use Rattle.smith_syntax.specs.Entries.{CoreEntry, ModuleDecl, imports, declares, aliases, exports}
-use Rattle.smith_core_types.specs.Offers.{Declared}
+use Rattle.smith_tree.specs.CoreTypeOffers.{Declared}
 use Rattle.smith_core_types.specs.MakingCore.{own_after}
 use Rattle.smith_syntax.specs.ModuleTypes.{adds, aliased, alias_of, func_of, module_import_of, module_export_of, declared_in, type_count, entities_of}
+use Rattle.smith_syntax.specs.ModuleTypes.{entities_in}
 use Rattle.smith_syntax.specs.ModuleTypes.{is_of_kind, count_of_kind}
 use Rattle.smith_syntax.specs.ModuleTypes.{names_from, export_names, HasNewNames, realloc, free}
 use Rattle.smith_syntax.specs.WellFormed.{FormedDecl, FormedDecls}
 use Rattle.smith_core_types.proofs.ModuleFronts.{front_own, front_decls, IsFront}
 use Rattle.smith_core_types.proofs.Names.{AreNew, new_distinct, new_more}
+use Rattle.smith_input.proofs.Lists.{all_both}
 
 -- one declaration more
 
@@ -142,10 +144,6 @@ judged_front around (Some m) true true h = record {
 
 -- within the limits
 
-all_append : {A : Type 0} (P : A → Type 0) (xs ys : List A) → AllByRecursion P xs → AllByRecursion P ys → AllByRecursion P (xs ++ ys)
-all_append P [] ys a b = b
-all_append P (x ∷ xs) ys a b = (a.0, all_append P xs ys a.1 b)
-
 -- how many of a kind there may be
 abbrev pub limit_of : Config → ExportKind → ℕ
 limit_of config kind.Func = config.max_funcs
@@ -161,10 +159,6 @@ same_kind kind.Memory kind.Memory e = refl
 same_kind kind.Global kind.Global e = refl
 same_kind kind.Tag kind.Tag e = refl
 same_kind j k e = absurd (false≢true e)
-
--- what a declaration imports or exports
-abbrev entities_in : ModuleDecl → List EntityType
-entities_in d = map (λ i. i.2) (module_import_of d) ++ map (λ x. x.1) (module_export_of d)
 
 -- there is room for one more of its kind, and a global is of the configured value types
 abbrev pub EntityFits : Config → List ModuleDecl → EntityType → Type 0
@@ -232,9 +226,9 @@ module _ (config : Config) where
         let long = length-append own (adds around own d) in
         record {
           functions = subst (AllByRecursion (FormedFunction (configured config) (max_results config))) (sym (snoc_flat func_of ds d))
-              (all_append _ (declared_in ds) (func_of d) w.functions a.functions);
+              (all_both _ (declared_in ds) (func_of d) w.functions a.functions);
           values = subst (AllByRecursion (EntityLimits config)) (sym entities)
-              (all_append (EntityLimits config) (entities_of ds) (entities_in d) w.values a.values);
+              (all_both (EntityLimits config) (entities_of ds) (entities_in d) w.values a.values);
           types = let t = ap length (snoc_flat func_of ds d) ∙ length-append (flat_map func_of ds) (func_of d) in
               let u = ap length (snoc_flat alias_of ds d) ∙ length-append (flat_map alias_of ds) (alias_of d) in
               let v = w.types in omega (arith, t, u, v, a.types, long);

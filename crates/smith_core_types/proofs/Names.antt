@@ -1,7 +1,7 @@
 -- Names that are new one after another, and names that are distinct.
-use Rattle.std.proofs.Common.{◌≡◌, ◌||◌, Bool, true, false, ℕ, List, [], ◌∷◌, ◌++◌, refl, append-nil, append_assoc, subst, sym, ap, ◌∙◌, bytes_eq}
+use Rattle.std.proofs.Common.{◌≡◌, ◌||◌, true, false, ℕ, List, [], ◌∷◌, ◌++◌, refl, append-nil, append_assoc, subst, sym, ap, ◌∙◌, bytes_eq}
 use Rattle.std.specs.List.{AllByRecursion, IsDistinct}
-use Rattle.std.proofs.lemmas.Bool.{false≢true}
+use Rattle.std.proofs.lemmas.Bool.{false≢true, or_right, or_left, false_from_ne_true}
 use Rattle.std.proofs.lemmas.Slice.Eq.{bytes_eq-Decides}
 use Rattle.smith_input.specs.NewNames.{is_among}
 use Rattle.smith_input.proofs.NewNames.{among_more}
@@ -11,31 +11,19 @@ abbrev pub AreNew : List (List ℕ) → List (List ℕ) → Type 0
 AreNew before [] = Unit {0}
 AreNew before (n ∷ ns) = (is_among before n ≡ false) × AreNew (before ++ n ∷ []) ns
 
-or_second : (a b : Bool) → b ≡ true → (a || b) ≡ true
-or_second true b e = refl
-or_second false b e = e
-
-or_first : (a b : Bool) → a ≡ true → (a || b) ≡ true
-or_first true b e = refl
-or_first false b e = absurd (false≢true e)
-
-differ : (b : Bool) → (b ≡ true → ⊥) → b ≡ false
-differ true h = absurd (h refl)
-differ false h = refl
-
 -- one of the names before is none of the new ones
 apart : (before ns : List (List ℕ)) (q : List ℕ) → is_among before q ≡ true → AreNew before ns → AllByRecursion (λ n. bytes_eq q n ≡ false) ns
 apart before [] q h a = tt
 apart before (n ∷ ns) q h a = (
-  differ (bytes_eq q n) (λ e. false≢true (sym (sym h ∙ (ap (is_among before) ((bytes_eq-Decides q n).0 e) ∙ a.0)))),
-  apart (before ++ n ∷ []) ns q (among_more before n q ∙ or_second (bytes_eq n q) (is_among before q) h) a.1,
+  false_from_ne_true (bytes_eq q n) (λ e. false≢true (sym (sym h ∙ (ap (is_among before) ((bytes_eq-Decides q n).0 e) ∙ a.0)))),
+  apart (before ++ n ∷ []) ns q (among_more before n q ∙ or_right (bytes_eq n q) (is_among before q) h) a.1,
 )
 
 pub new_distinct : (before ns : List (List ℕ)) → AreNew before ns → IsDistinct bytes_eq ns
 unfolding IsDistinct
 new_distinct before [] a = tt
 new_distinct before (n ∷ ns) a = (
-  apart (before ++ n ∷ []) ns n (among_more before n n ∙ or_first (bytes_eq n n) (is_among before n) ((bytes_eq-Decides n n).1 refl)) a.1,
+  apart (before ++ n ∷ []) ns n (among_more before n n ∙ or_left (bytes_eq n n) (is_among before n) ((bytes_eq-Decides n n).1 refl)) a.1,
   new_distinct (before ++ n ∷ []) ns a.1,
 )
 

@@ -5,8 +5,8 @@ use Rattle.smith_format.specs.declared.config.Config.{Config}
 use Rattle.smith_syntax.specs.Entries.{CoreEntry, ModuleDecl, core_module}
 use Rattle.smith_syntax.specs.Scope.{Scope}
 use Rattle.smith_syntax.specs.WellFormed.{core_size}
-use Rattle.smith_core_types.specs.MadeCore.{MadeCore, MadeModule, ModuleEnds, ReadsDecl, of_function, of_module, spent_core}
-use Rattle.smith_core_types.specs.Needs.{core_cost, core_need}
+use Rattle.smith_core_types.specs.MadeCore.{MadeCore, MadeModule, EndsModuleType, ReadsDecl, of_function, of_module, spent_core}
+use Rattle.smith_tree.specs.CoreTypeNeeds.{core_cost, core_need}
 use Rattle.smith_core_types.proofs.MadeCore.{module_after, module_size}
 use Rattle.smith_core_types.proofs.ModuleFronts.{front_is}
 
@@ -23,7 +23,7 @@ module _ (config : Config) (around : Scope) where
   module_used : (b : List ℕ) (fuel : ℕ) (ds : List ModuleDecl) (rest : List ℕ) (left : ℕ) → (m : MadeModule config around b fuel ds rest left)
       → used (length m.more) ≤ m.front.fuel
   module_used b fuel ds rest left m =
-      loop_gives {Ends = ModuleEnds config around} {Item = ReadsDecl config around}
+      loop_gives {Ends = EndsModuleType config around} {Item = ReadsDecl config around}
       (λ s xs t. used (length xs) ≤ s.fuel)
       (λ s. omega arith)
       (λ s c r t e. omega arith)

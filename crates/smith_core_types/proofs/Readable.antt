@@ -5,18 +5,18 @@ use Rattle.std.specs.Prelude.{Option, Some, None}
 use Rattle.smith_input.specs.NewNames.{is_among}
 use Rattle.smith_input.specs.Texts.{ReadsNewText, ReadsText}
 use Rattle.smith_input.proofs.NameScript.{new_text_reachable, new_text_utf8}
-use Rattle.smith_input.proofs.NameShapes.{is_most}
 use Rattle.smith_format.specs.declared.config.Config.{Config}
 use Rattle.smith_format.specs.declared.types.MemoryType.{MemoryType}
 use Rattle.smith_syntax.specs.Entries.{CoreEntry, ModuleDecl}
 use Rattle.smith_syntax.specs.Scope.{Scope}
 use Rattle.smith_core_types.specs.MadeCore.{MadeCore, MadeModule, ReadsDecl, ReadsDeclOf, of_function, of_module, spent_core}
-use Rattle.smith_core_types.specs.Offers.{Declared, with_decl}
-use Rattle.smith_core_types.specs.Readable.{AreReadableModuleDecls, IsReadableCore, IsReadableModuleDecl, IsReadableNewText, IsReadableText}
-use Rattle.smith_core_types.specs.declared.module_types.ModuleItem.{ModuleItem}
-use Rattle.smith_core_types.specs.declared.module_types.ModuleItem.TheVariants as item
+use Rattle.smith_tree.specs.CoreTypeOffers.{Declared, with_decl}
+use Rattle.smith_tree.specs.ReadableCoreTypes.{AreReadableModuleDecls, IsReadableCore, IsReadableModuleDecl, IsReadableNewText, IsReadableText}
+use Rattle.smith_tree.specs.declared.choices.ModuleItem.{ModuleItem}
+use Rattle.smith_tree.specs.declared.choices.ModuleItem.TheVariants as item
 use Rattle.smith_core_types.proofs.MadeCore.{module_keeps}
 use Rattle.smith_core_types.proofs.ModuleFronts.{front_decls, front_is}
+use Rattle.std.proofs.lemmas.Bool.{le-leb}
 
 text_readable : {b text rest : List ℕ} → ReadsText 100 b text rest → IsReadableText text
 text_readable {text = text} r = (
@@ -37,7 +37,7 @@ new_readable r = (new_text_utf8 r, new_text_reachable r)
 made_of_itself : (names : List (List ℕ)) (name : List ℕ) → IsReadableText name → is_among names name ≡ false → IsReadableNewText names name
 made_of_itself names name (utf8, short) new = (
   utf8,
-  (name, is_most (length name) 100 short, record { times = 0; name_is = refl; taken = λ m b. absurd (omega (arith, b)); is_new = new }),
+  (name, le-leb (length name) 100 short, record { times = 0; name_is = refl; taken = λ m b. absurd (omega (arith, b)); is_new = new }),
 )
 
 -- one declaration more

@@ -29,15 +29,15 @@ use Rattle.smith_syntax.specs.Scope.{Scope, is_core_func, places}
 use Rattle.smith_syntax.specs.WellFormed.{FormedCore, FormedDecls, FormedEntity, core_size}
 use Rattle.smith_scopes.proofs.Places.{place_found}
 use Rattle.smith_scopes.proofs.Stack.{length-places}
-use Rattle.smith_core_types.specs.ModuleScript.{alias_place, front_before, may_declare, script_bit, script_decl, script_entity}
-use Rattle.smith_core_types.specs.ModuleScript.{script_entity_of, script_front, script_item, script_line, script_module}
-use Rattle.smith_core_types.specs.Needs.{core_need}
-use Rattle.smith_core_types.specs.Offers.{Declared, alias_choices, entity_kinds, item_offers, kind_offers, module_items, with_decl}
-use Rattle.smith_core_types.specs.Script.{script_core}
-use Rattle.smith_core_types.specs.Readable.{AreReadableModuleDecls, IsReadableCore, IsReadableNewText}
-use Rattle.smith_core_types.specs.contracts.module_types.ModuleItemPartialEq.TheImpl.{ghosts as items}
-use Rattle.smith_core_types.specs.declared.module_types.ModuleItem.{ModuleItem}
-use Rattle.smith_core_types.specs.declared.module_types.ModuleItem.TheVariants as item
+use Rattle.smith_tree.specs.ModuleScript.{alias_place, front_before, may_declare, script_bit, script_decl, script_entity}
+use Rattle.smith_tree.specs.ModuleScript.{script_entity_of, script_front, script_item, script_line, script_module}
+use Rattle.smith_tree.specs.CoreTypeNeeds.{core_need}
+use Rattle.smith_tree.specs.CoreTypeOffers.{Declared, alias_choices, entity_kinds, item_offers, kind_offers, module_items, with_decl}
+use Rattle.smith_tree.specs.CoreTypeScript.{script_core}
+use Rattle.smith_tree.specs.ReadableCoreTypes.{AreReadableModuleDecls, IsReadableCore, IsReadableNewText}
+use Rattle.smith_tree.specs.contracts.choices.ModuleItemPartialEq.TheImpl.{ghosts as items}
+use Rattle.smith_tree.specs.declared.choices.ModuleItem.{ModuleItem}
+use Rattle.smith_tree.specs.declared.choices.ModuleItem.TheVariants as item
 use Rattle.smith_core_types.proofs.CoreScript.{begun, behind_sayable, lasting}
 use Rattle.smith_core_types.proofs.FrontFound.{Fronted, fronted, whole_front}
 use Rattle.smith_core_types.proofs.FrontScript.{front_formed, line_absent, line_stands}

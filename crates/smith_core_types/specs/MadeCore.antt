@@ -20,10 +20,10 @@ use Rattle.smith_format.specs.Limits.{max_results}
 use Rattle.smith_syntax.specs.Entries.{CoreEntry, ModuleDecl, core_func, core_module, imports, declares, aliases, exports}
 use Rattle.smith_syntax.specs.ModuleTypes.{adds, aliased, alias_of, export_names, free, is_tag_type, names_from, realloc}
 use Rattle.smith_syntax.specs.Scope.{Scope, places}
-use Rattle.smith_core_types.specs.Offers.{Declared, alias_choices, allows_function, allows_type, entity_kinds, indexes, module_items, undeclared, with_decl}
-use Rattle.smith_core_types.specs.Offers.{with_front}
-use Rattle.smith_core_types.specs.declared.module_types.ModuleItem.{ModuleItem}
-use Rattle.smith_core_types.specs.declared.module_types.ModuleItem.TheVariants as item
+use Rattle.smith_tree.specs.CoreTypeOffers.{Declared, alias_choices, allows_function, allows_type, entity_kinds, indexes, module_items, undeclared, with_decl}
+use Rattle.smith_tree.specs.CoreTypeOffers.{with_front}
+use Rattle.smith_tree.specs.declared.choices.ModuleItem.{ModuleItem}
+use Rattle.smith_tree.specs.declared.choices.ModuleItem.TheVariants as item
 
 -- an entity of a kind
 abbrev pub ReadsEntityOf : Config → Declared → ExportKind → List ℕ → EntityType → List ℕ → Type 0
@@ -70,14 +70,14 @@ abbrev pub with_fuel : Declared → ℕ → Declared
 with_fuel s fuel = record { own = s.own; decls = s.decls; fuel = fuel }
 
 -- The loop ends by itself where no fuel is left, and where nothing can be imported or exported; the names are read then.
-pub data ModuleEnds (config : Config) (around : Scope) (s : Declared) : List ℕ → List ℕ → Declared → Type 0 where
-  no_fuel : {bytes : List ℕ} {t : Declared} → s.fuel - 1 ≡ 0 → t ≡ with_fuel s 0 → ModuleEnds config around s bytes bytes t
+pub data EndsModuleType (config : Config) (around : Scope) (s : Declared) : List ℕ → List ℕ → Declared → Type 0 where
+  no_fuel : {bytes : List ℕ} {t : Declared} → s.fuel - 1 ≡ 0 → t ≡ with_fuel s 0 → EndsModuleType config around s bytes bytes t
   no_import : {bytes mid from name rest : List ℕ} {t : Declared} → 0 < s.fuel - 1 → ReadsAmong (module_items config around s) bytes item.Import mid
       → ReadsImportNames s mid from name rest → entity_kinds config s ≡ [] → t ≡ with_fuel s (s.fuel - 1)
-      → ModuleEnds config around s bytes rest t
+      → EndsModuleType config around s bytes rest t
   no_export : {bytes mid name rest : List ℕ} {t : Declared} → 0 < s.fuel - 1 → ReadsAmong (module_items config around s) bytes item.Export mid
       → ReadsExportName s mid name rest → entity_kinds config s ≡ [] → t ≡ with_fuel s (s.fuel - 1)
-      → ModuleEnds config around s bytes rest t
+      → EndsModuleType config around s bytes rest t
 
 -- A line of what the canonical ABI asks: where it is allowed, it is there in 99 of 100 choices.
 pub data ReadsLine (may : Bool) (Line : List ℕ → List ModuleDecl → List ℕ → Type 0) (s : Declared) : List ℕ → Declared → List ℕ → Type 0 where
@@ -113,7 +113,7 @@ pub record MadeModule (config : Config) (around : Scope) (bytes : List ℕ) (fue
   pub begins : ReadsFront config bytes fuel front mid
   pub more : List ModuleDecl
   pub whole : Declared
-  pub goes_on : Loop (ModuleEnds config around) (ReadsDecl config around) 0 100 0 front mid more rest whole
+  pub goes_on : Loop (EndsModuleType config around) (ReadsDecl config around) 0 100 0 front mid more rest whole
   pub decls : ds ≡ whole.decls
   pub fuel_left : left ≡ whole.fuel
 

@@ -10,11 +10,11 @@ use Rattle.smith_format.specs.declared.types.ExportKind.{ExportKind}
 use Rattle.smith_format.specs.declared.types.ExportKind.TheVariants as kind
 use Rattle.smith_format.specs.declared.types.FuncType.{FuncType}
 use Rattle.smith_syntax.specs.Entries.{CoreEntry, ModuleDecl}
-use Rattle.smith_core_types.specs.MadeCore.{ReadsDecl, ReadsDeclOf, ReadsEntity, ReadsImportNames, ReadsExportName, ModuleEnds}
-use Rattle.smith_core_types.specs.Offers.{alias_choices, entity_kinds}
+use Rattle.smith_core_types.specs.MadeCore.{ReadsDecl, ReadsDeclOf, ReadsEntity, ReadsImportNames, ReadsExportName, EndsModuleType}
+use Rattle.smith_tree.specs.CoreTypeOffers.{alias_choices, entity_kinds}
 use Rattle.smith_core_types.specs.MadeCore.{with_fuel}
-use Rattle.smith_core_types.specs.Offers.{with_decl}
-use Rattle.smith_core_types.specs.Offers.{Declared as SoFar}
+use Rattle.smith_tree.specs.CoreTypeOffers.{with_decl}
+use Rattle.smith_tree.specs.CoreTypeOffers.{Declared as SoFar}
 use Rattle.smith_syntax.specs.ModuleTypes.{adds, aliased, export_names, is_tag_type, names_from}
 use Rattle.smith_syntax.specs.Scope.{Scope, places}
 use Rattle.smith_syntax.specs.Shown.{shown_decl}
@@ -23,8 +23,8 @@ use Rattle.smith_syntax.specs.declared.core_types.CoreType.TheVariants as core
 use Rattle.smith_syntax.specs.declared.core_types.ModuleTypeDef.{ModuleTypeDef}
 use Rattle.smith_syntax.specs.declared.core_types.ModuleTypeDef.TheVariants as decl
 use Rattle.smith_core_types.specs.declared.declared.Declared.{Declared}
-use Rattle.smith_core_types.specs.declared.module_types.ModuleItem.{ModuleItem}
-use Rattle.smith_core_types.specs.declared.module_types.ModuleItem.TheVariants as item
+use Rattle.smith_tree.specs.declared.choices.ModuleItem.{ModuleItem}
+use Rattle.smith_tree.specs.declared.choices.ModuleItem.TheVariants as item
 
 -- shared function types as plain trees
 abbrev pub shown_funcs : List (Rc FuncType Global) → List Function
@@ -73,7 +73,7 @@ AddsDecl config around s i b false rest t = ReadsNamesAlone config s i b rest ×
 -- a turn of the loop: it adds a declaration, or the loop ends
 abbrev pub DeclTurn : Config → Scope → SoFar → List ℕ → Bool → List ℕ → SoFar → Type 0
 DeclTurn config around s b true rest t = (d : ModuleDecl) × ReadsDecl config around s b d rest t
-DeclTurn config around s b false rest t = ModuleEnds config around s b rest t
+DeclTurn config around s b false rest t = EndsModuleType config around s b rest t
 
 -- An outer alias keeps the function type that it names.
 abbrev pub KeepsNamed : List CoreEntry → List Function → ModuleTypeDef → Type 0

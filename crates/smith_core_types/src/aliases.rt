@@ -5,11 +5,11 @@ ghost use Rattle.std.specs.Prelude.{Some, OnOk, IfOk, IfErr};
 ghost use Rattle.smith_input.specs.Choices.{ReadsAmong};
 ghost use Rattle.smith_input.specs.Reading.{IsTail};
 ghost use Rattle.smith_format.specs.Shown.{shown_func};
-ghost use Rattle.smith_core_types.specs.Offers.{alias_choices};
+ghost use Rattle.smith_tree.specs.CoreTypeOffers.{alias_choices};
 ghost use Rattle.smith_core_types.specs.MakingCore.{AddsDecl, KeepsDeclared, choices_among, shown_funcs, so_far};
 ghost use Rattle.smith_syntax.specs.ModuleTypes.{aliased, func_in};
 ghost use Rattle.smith_scopes.specs.Scopes.{own_scope, kind_places};
-ghost use Rattle.smith_core_types.specs.declared.module_types.ModuleItem.TheVariants as item;
+ghost use Rattle.smith_tree.specs.declared.choices.ModuleItem.TheVariants as item;
 ghost use Rattle.smith_scopes.specs.declared.scopes.Kind.TheVariants as kind;
 
 use crate::declared::Declared;

@@ -6,7 +6,7 @@ ghost use Rattle.smith_input.specs.Choices.{ReadsAmong};
 ghost use Rattle.smith_input.specs.Reading.{IsTail, Flips};
 ghost use Rattle.smith_format.specs.declared.types.ExportKind.TheVariants as kind;
 ghost use Rattle.smith_core_types.specs.MadeCore.{ReadsEntityOf};
-ghost use Rattle.smith_core_types.specs.Offers.{entity_kinds, indexes};
+ghost use Rattle.smith_tree.specs.CoreTypeOffers.{entity_kinds, indexes};
 ghost use Rattle.smith_core_types.specs.MakingCore.{HasTypeFor, MaybeEntity, shown_funcs, so_far};
 ghost use Rattle.smith_syntax.specs.ModuleTypes.{count_of_kind, is_tag_type};
 ghost use Rattle.smith_syntax.specs.Scope.{places};

@@ -5,7 +5,7 @@ ghost use Rattle.std.specs.Prelude.{IfErr};
 ghost use Rattle.smith_input.specs.Reading.{IsTail};
 ghost use Rattle.smith_format.specs.Shown.{shown_func};
 ghost use Rattle.smith_core_types.specs.MadeCore.{MemoryLine};
-ghost use Rattle.smith_core_types.specs.Offers.{allows_function, allows_type};
+ghost use Rattle.smith_tree.specs.CoreTypeOffers.{allows_function, allows_type};
 ghost use Rattle.smith_core_types.specs.MadeCore.{ReadsFront, ReadsFunctionLine, ReadsLine};
 ghost use Rattle.smith_core_types.specs.MakingCore.{KeepsDeclared, so_far};
 ghost use Rattle.smith_syntax.specs.ModuleTypes.{realloc, free};

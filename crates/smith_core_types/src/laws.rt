@@ -9,9 +9,9 @@ ghost use Rattle.smith_syntax.specs.Entries.{CoreEntry};
 ghost use Rattle.smith_syntax.specs.Scope.{Scope};
 ghost use Rattle.smith_syntax.specs.WellFormed.{FormedCore};
 ghost use Rattle.smith_core_types.specs.MadeCore.{MadeCore};
-ghost use Rattle.smith_core_types.specs.Needs.{core_cost, core_need};
-ghost use Rattle.smith_core_types.specs.Readable.{IsReadableCore};
-ghost use Rattle.smith_core_types.specs.Script.{script_core};
+ghost use Rattle.smith_tree.specs.CoreTypeNeeds.{core_cost, core_need};
+ghost use Rattle.smith_tree.specs.ReadableCoreTypes.{IsReadableCore};
+ghost use Rattle.smith_tree.specs.CoreTypeScript.{script_core};
 
 /// The scopes, the bytes and the fuel alone decide which core type is made, and what is left of both.
 pub fn core_types_are_decided()

@@ -7,12 +7,9 @@ mod core_types;
 mod declared;
 mod entities;
 mod front;
-mod fuel;
 pub mod laws;
 mod making;
 mod module_names;
 mod module_types;
 
 pub use core_types::arbitrary_core_type;
-pub use fuel::burn;
-pub use module_types::ModuleItem;

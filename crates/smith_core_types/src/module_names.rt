@@ -9,7 +9,7 @@ ghost use Rattle.smith_core_types.specs.MakingCore.{names_taken};
 ghost use Rattle.smith_syntax.specs.ModuleTypes.{export_names, names_from};
 ghost use Rattle.smith_syntax.specs.Shown.{shown_decl};
 
-use smith_input::{Error, TakenNames, Unstructured, limited_string, new_string};
+use smith_input::{Error, MAX_NAME_LEN, TakenNames, Unstructured, limited_string, new_string};
 use smith_syntax::ModuleTypeDef;
 use std::alloc::Global;
 
@@ -124,13 +124,13 @@ pub(crate) fn import_names(
     ensures memory { IfErr result (λ e. e ≡ Error.OutOfMemory) }
     ensures tail { IsTail u.new u.old }
 {
-    let from = limited_string(alloc, 100, u)?;
+    let from = limited_string(alloc, MAX_NAME_LEN, u)?;
     let taken = Taken {
         defs,
         imported: true,
         from: from.as_str(),
     };
-    let name = new_string(alloc, 100, &taken, u)?;
+    let name = new_string(alloc, MAX_NAME_LEN, &taken, u)?;
     Ok((from, name))
 }
 
@@ -150,5 +150,5 @@ pub(crate) fn export_name(
         imported: false,
         from: "",
     };
-    new_string(alloc, 100, &taken, u)
+    new_string(alloc, MAX_NAME_LEN, &taken, u)
 }

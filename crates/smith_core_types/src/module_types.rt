@@ -6,35 +6,26 @@ ghost use Rattle.smith_input.specs.Choices.{ReadsAmong};
 ghost use Rattle.smith_input.specs.Loops.{Loop};
 ghost use Rattle.smith_input.specs.Reading.{IsTail};
 ghost use Rattle.smith_syntax.specs.Entries.{ModuleDecl};
-ghost use Rattle.smith_core_types.specs.MadeCore.{MadeModule, ModuleEnds, ReadsDecl};
-ghost use Rattle.smith_core_types.specs.Offers.{allows_type, alias_choices, module_items};
+ghost use Rattle.smith_core_types.specs.MadeCore.{MadeModule, EndsModuleType, ReadsDecl};
+ghost use Rattle.smith_tree.specs.CoreTypeOffers.{allows_type, alias_choices, module_items};
 ghost use Rattle.smith_core_types.specs.MakingCore.{AddsDecl, HasChoiceFor, KeepEach, KeepsDeclared, DeclTurn};
 ghost use Rattle.smith_core_types.specs.MakingCore.{shown_funcs, so_far};
 ghost use Rattle.smith_scopes.specs.Scopes.{own_scope};
 ghost use Rattle.smith_syntax.specs.Shown.{shown_decl};
-ghost use Rattle.smith_core_types.specs.declared.module_types.ModuleItem.TheVariants as item;
+ghost use Rattle.smith_tree.specs.declared.choices.ModuleItem.TheVariants as item;
 
 use crate::aliases::{add_alias, alias_count};
 use crate::core_functions::core_function;
 use crate::declared::{Declared, declare};
 use crate::entities::entity;
 use crate::front::front;
-use crate::fuel::burn;
 use crate::making::Making;
 use crate::module_names::{export_name, import_names};
-use smith_format::{Config, Import};
+use smith_format::{Config, Import, burn};
 use smith_input::{Error, Unstructured, choose_offered};
 use smith_scopes::Scopes;
 use smith_syntax::ModuleTypeDef;
-
-/// What a declaration of a module type is among. Public since contracts speak of it.
-#[derive(Debug, Clone, Copy, PartialEq, Eq)]
-pub enum ModuleItem {
-    Import,
-    Export,
-    Type,
-    Alias,
-}
+use smith_tree::ModuleItem;
 
 // Is one more type below the limit?
 fn allows_type(config: &Config, declared: &Declared) -> bool
@@ -182,7 +173,7 @@ fn declarations(
 ) -> Result<(), Error>
     requires few { length declared.old.own.items ≤ 2 }
     ensures reads { OnOk result ((more : List ModuleDecl) ×
-        Loop (ModuleEnds making.now.config.now (own_scope scopes.now))
+        Loop (EndsModuleType making.now.config.now (own_scope scopes.now))
         (ReadsDecl making.now.config.now (own_scope scopes.now)) 0 100 0 (so_far declared.old fuel.old)
         u.old more u.new (so_far declared.new fuel.new)) }
     ensures kept { KeepsDeclared (own_scope scopes.now).core_types declared.old

@@ -1,7 +1,7 @@
 -- Pieces: how they are joined, bytes as they are, texts, and numbers that have an encoding.
-use Rattle.std.proofs.Common.{◌≡◌, ℕ, ◌+◌, ◌⊎◌, inl, inr, length-append, List, [], ◌++◌, refl, ap, append_assoc, Some, None, append-nil, ◌<◌, length, get_or}
+use Rattle.std.proofs.Common.{◌≡◌, ℕ, ◌+◌, ◌⊎◌, inl, inr, length-append, List, [], ◌∷◌, ◌++◌, refl, ap, append_assoc, Some, None, append-nil, ◌<◌, length, get_or}
 use Rattle.std.proofs.Common.{sym, ◌∙◌, IsUtf8, Bool, true, false, cond, nat_lt, ◌^◌, ◌≤◌, pos}
-use Rattle.smith_format.specs.Piece.{Piece, ◌⊕◌, piece_length, raw, utf8, text, u, number, s_index}
+use Rattle.smith_format.specs.Piece.{Piece, ◌⊕◌, byte, bytes, piece_length, raw, utf8, text, u, number, s_index}
 use Rattle.std.specs.List.{list_all}
 use Rattle.std.specs.Str.{is_utf8}
 use Rattle.std.proofs.lemmas.Str.{is_utf8-from_IsUtf8}
@@ -40,6 +40,9 @@ left_nil (Some a) = refl
 pub joined : (a b : List ℕ) → Some a ⊕ Some b ≡ Some (a ++ b)
 unfolding ◌⊕◌
 joined a b = refl
+
+pub two_bytes : (m n : ℕ) (p : Piece) → bytes (m ∷ n ∷ []) ⊕ p ≡ byte m ⊕ (byte n ⊕ p)
+two_bytes m n p = ap (λ h. h ⊕ p) (sym (joined (m ∷ []) (n ∷ []))) ∙ assoc (byte m) (byte n) p
 
 -- the length of two pieces, if both have an encoding
 pub length_join : (p q : Piece) → (p ⊕ q ≡ None) ⊎ (piece_length (p ⊕ q) ≡ piece_length p + piece_length q)

@@ -10,7 +10,7 @@ use borrow.Author.Tests.{ltb-true}
 use Rattle.smith_format.specs.CoreTypes.{ref_val, core_val, core_function, Function}
 use Rattle.smith_format.specs.Entities.{maximum, limits, table_type, memory_type, global_type, tag_type, entity, CoreImport, core_import}
 use Rattle.smith_format.specs.Piece.{Piece, ◌⊕◌, number, u, s_index, raw, utf8, framed, text, each, many, sized}
-use Rattle.smith_format.specs.TooLong.{Passes, NameTooLong, NoBytes, ListTooLong, ContentsTooLong, RefTooLong, ValTooLong, FunctionTooLong, EntityTooLong}
+use Rattle.smith_format.specs.TooLong.{IsTooLarge, NameTooLong, NoBytes, ListTooLong, ContentsTooLong, RefTooLong, ValTooLong, FunctionTooLong, EntityTooLong}
 use Rattle.smith_format.specs.TooLong.{ImportTooLong, LimitsTooLong, MaximumTooLong, MemoryTypeTooLong, TableTypeTooLong}
 use Rattle.smith_format.specs.declared.types.EntityType.{EntityType}
 use Rattle.smith_format.specs.declared.types.EntityType.TheVariants.{Func, Table, Memory, Global, Tag}
@@ -123,7 +123,7 @@ memory_none m = limits_none m.shared m.memory64 m.minimum m.maximum
 pub global_none : (g : GlobalType) → (global_type g ≡ None) ↔ ValTooLong g.val_type
 global_none g = before_bytes (core_val g.val_type) _ (val_none_where g.val_type)
 
-pub tag_none : (t : TagType) → (tag_type t ≡ None) ↔ Passes t.func_type_idx
+pub tag_none : (t : TagType) → (tag_type t ≡ None) ↔ IsTooLarge t.func_type_idx
 tag_none t = after_bytes (0 ∷ []) (u t.func_type_idx) (u_none_where t.func_type_idx)
 
 pub entity_none_where : (e : EntityType) → (entity e ≡ None) ↔ EntityTooLong e

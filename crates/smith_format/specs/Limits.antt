@@ -10,7 +10,7 @@ use Rattle.smith_format.specs.declared.types.ValType.TheVariants.{I32, I64, F32,
 abbrev pub max_u32 : ℕ
 max_u32 = 4294967295
 
--- No minimum passes its maximum, what is counted in the written bytes fits 32 bits, and components nest at most 1000 deep.
+-- No minimum exceeds its maximum, what is counted in the written bytes fits 32 bits, and components nest at most 1000 deep.
 pub record IsConsistent (config : Config) : Type 0 where
   pub types_cross : config.min_types ≤ config.max_types
   pub imports_cross : config.min_imports ≤ config.max_imports

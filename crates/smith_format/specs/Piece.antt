@@ -20,6 +20,11 @@ abbrev pub piece_length : Piece → ℕ
 piece_length None = 0
 piece_length (Some b) = length b
 
+-- the bytes of a piece, and none where it has no encoding
+abbrev pub bytes_of : Piece → List ℕ
+bytes_of None = []
+bytes_of (Some b) = b
+
 abbrev pub byte : ℕ → Piece
 byte n = Some (n ∷ [])
 

@@ -1,4 +1,4 @@
--- What has no encoding, since a count, the length of a text or an index in it passes 4,294,967,295, or a bound of limits 64 bits.
+-- What has no encoding, since a count, the length of a text or an index in it exceeds 4,294,967,295, or a bound of limits 64 bits.
 use Rattle.std.specs.Prelude.{ℕ, ◌^◌, ◌<◌, ◌≤◌, ◌⊎◌, List, length, Option, Some, None}
 use Rattle.std.specs.List.{Any, AllByRecursion}
 use Rattle.std.specs.Str.{IsUtf8}
@@ -15,12 +15,12 @@ use Rattle.smith_format.specs.declared.types.ValType.{ValType}
 use Rattle.smith_format.specs.declared.types.ValType.TheVariants.{I32, I64, F32, F64, V128, Ref}
 
 -- it is no length, count or index
-abbrev pub Passes : ℕ → Type 0
-Passes n = 2 ^ 32 ≤ n
+abbrev pub IsTooLarge : ℕ → Type 0
+IsTooLarge n = 2 ^ 32 ≤ n
 
 -- a name that is too long, or is no UTF-8, which each name of the program is
 abbrev pub NameTooLong : List ℕ → Type 0
-NameTooLong n = Passes (length n) ⊎ (¬ IsUtf8 n)
+NameTooLong n = IsTooLarge (length n) ⊎ (¬ IsUtf8 n)
 
 -- numbers that are no bytes, which none of the program's bytes are
 abbrev pub NoBytes : List ℕ → Type 0
@@ -28,16 +28,16 @@ NoBytes bs = ¬ AllByRecursion (λ b. b < 256) bs
 
 -- the count of a list, or one of its items
 abbrev pub ListTooLong : {A : Type 0} → (A → Type 0) → List A → Type 0
-ListTooLong P xs = Passes (length xs) ⊎ Any P xs
+ListTooLong P xs = IsTooLarge (length xs) ⊎ Any P xs
 
 -- what stands after its length, as the contents of a section do
 abbrev pub ContentsTooLong : Piece → Type 0
-ContentsTooLong contents = Passes (piece_length contents)
+ContentsTooLong contents = IsTooLarge (piece_length contents)
 
 abbrev pub RefTooLong : RefType → Type 0
 RefTooLong FuncRef = ⊥
 RefTooLong ExternRef = ⊥
-RefTooLong (Concrete nullable i) = Passes i
+RefTooLong (Concrete nullable i) = IsTooLarge i
 
 abbrev pub ValTooLong : ValType → Type 0
 ValTooLong I32 = ⊥
@@ -49,7 +49,7 @@ ValTooLong (Ref r) = RefTooLong r
 
 -- the count of parameters or of results, or one of them
 abbrev pub FunctionTooLong : Function → Type 0
-FunctionTooLong f = (Passes (length f.0) ⊎ Any ValTooLong f.0) ⊎ (Passes (length f.1) ⊎ Any ValTooLong f.1)
+FunctionTooLong f = (IsTooLarge (length f.0) ⊎ Any ValTooLong f.0) ⊎ (IsTooLarge (length f.1) ⊎ Any ValTooLong f.1)
 
 -- bounds of more than 64 bits, which none of the program's are
 abbrev pub MaximumTooLong : Option ℕ → Type 0
@@ -66,11 +66,11 @@ abbrev pub MemoryTypeTooLong : MemoryType → Type 0
 MemoryTypeTooLong m = LimitsTooLong m.minimum m.maximum
 
 abbrev pub EntityTooLong : EntityType → Type 0
-EntityTooLong (Func i) = Passes i
+EntityTooLong (Func i) = IsTooLarge i
 EntityTooLong (Table t) = TableTypeTooLong t
 EntityTooLong (Memory m) = MemoryTypeTooLong m
 EntityTooLong (Global g) = ValTooLong g.val_type
-EntityTooLong (Tag t) = Passes t.func_type_idx
+EntityTooLong (Tag t) = IsTooLarge t.func_type_idx
 
 abbrev pub ImportTooLong : CoreImport → Type 0
-ImportTooLong i = Passes (length i.0) ⊎ (Passes (length i.1) ⊎ EntityTooLong i.2)
+ImportTooLong i = IsTooLarge (length i.0) ⊎ (IsTooLarge (length i.1) ⊎ EntityTooLong i.2)

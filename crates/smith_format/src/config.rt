@@ -98,7 +98,7 @@ impl Default for Config {
 impl Config {
     ghost use Rattle.smith_format.specs.Limits.{IsConsistent};
 
-    /// Accepts limits that fit together: no minimum passes its maximum, counts that are written are at most
+    /// Accepts limits that fit together: no minimum exceeds its maximum, counts that are written are at most
     /// 4,294,967,295, those of functions and of exports together, and the nesting depth is at most 1000. Others are
     /// refused with `InconsistentLimits`.
     pub fn check(&self) -> Result<(), Error>

@@ -96,7 +96,7 @@ impl Spelled<CoreFormat> for FuncType {
     }
 }
 
-/// Appends a function type. It is too long where a count in it passes 4,294,967,295. Public for the crates above
+/// Appends a function type. It is too long where a count in it exceeds 4,294,967,295. Public for the crates above
 /// alone.
 pub fn write_func_type(out: &mut Vec<u8>, ty: &FuncType) -> Result<(), Error>
     ensures { Appends result out.old out.new (core_function (shown_func ty.now)) }

@@ -198,7 +198,7 @@ impl Spelled<CoreFormat> for Import {
     }
 }
 
-/// Appends an import. Too long where the length of a name passes 4,294,967,295. Public for the crates above alone.
+/// Appends an import. Too long where the length of a name exceeds 4,294,967,295. Public for the crates above alone.
 pub fn write_core_import(out: &mut Vec<u8>, import: &Import) -> Result<(), Error>
     ensures { Appends result out.old out.new (core_import (shown_import import.now)) }
 {

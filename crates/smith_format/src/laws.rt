@@ -68,7 +68,7 @@ pub fn contents_are_exact<T>()
     ensures filled { (f : T → Piece) → IsClear f → IsExact (λ (x : T × List ℕ). f x.0 ⊕ raw x.1) }
 {}
 
-/// A number has no encoding as a length, a count or an index exactly where it passes 4,294,967,295; nor has a
+/// A number has no encoding as a length, a count or an index exactly where it exceeds 4,294,967,295; nor has a
 /// text or a section exactly where its length does.
 pub fn too_long_has_no_encoding()
     ensures count { (n : ℕ) → (u n ≡ None) ↔ (2 ^ 32 ≤ n) }
@@ -77,7 +77,7 @@ pub fn too_long_has_no_encoding()
     ensures section { (id : ℕ) (c : List ℕ) → (sized id (bytes c) ≡ None) ↔ (2 ^ 32 ≤ length c) }
 {}
 
-/// A list has no encoding exactly where its count passes 4,294,967,295 or one of its members has none.
+/// A list has no encoding exactly where its count exceeds 4,294,967,295 or one of its members has none.
 pub fn long_lists_have_no_encoding<T>()
     ensures { (f : T → Piece) (xs : List T) → (many f xs ≡ None) ↔ ((2 ^ 32 ≤ length xs) ⊎ Any (λ x. f x ≡ None) xs) }
 {}
@@ -87,9 +87,9 @@ pub fn bytes_have_an_encoding()
     ensures { (bs : List ℕ) → AllByRecursion (λ b. b < 256) bs → ¬ (raw bs ≡ None) }
 {}
 
-/// A core type has no encoding exactly where a count or an index in it passes 4,294,967,295; nor has what a core module
-/// imports or exports, or where a bound of its limits passes 64 bits, which those of the program never do; nor an
-/// import exactly where that has none or the length of a name passes 4,294,967,295.
+/// A core type has no encoding exactly where a count or an index in it exceeds 4,294,967,295; nor has what a core module
+/// imports or exports, or where a bound of its limits exceeds 64 bits, which those of the program never do; nor an
+/// import exactly where that has none or the length of a name exceeds 4,294,967,295.
 pub fn long_core_types_have_no_encoding()
     ensures values { (v : ValType) → (core_val v ≡ None) ↔ ValTooLong v }
     ensures functions { (f : Function) → (core_function f ≡ None) ↔ FunctionTooLong f }

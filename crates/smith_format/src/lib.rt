@@ -5,6 +5,7 @@ mod buffer;
 mod config;
 mod encode;
 mod entity;
+mod fuel;
 pub mod laws;
 mod lists;
 mod make;
@@ -16,6 +17,7 @@ pub use buffer::{CoreFormat, Spelled, settled, write_byte, write_bytes, write_sp
 pub use config::Config;
 pub use encode::{core_val_len, func_type_len, write_core_val, write_func_type};
 pub use entity::{core_import_len, entity_len, write_core_import, write_entity};
+pub use fuel::burn;
 pub use lists::{many_len, put_many, put_tagged, tagged_len};
 pub use make::{
     arbitrary_func_type, arbitrary_memtype, arbitrary_table_type, arbitrary_tag_type,

@@ -146,7 +146,7 @@ pub fn type_index_len(index: u32) -> u32
     s64_len(i64::from(index))
 }
 
-/// Appends a length or a count. It is too long where it passes 4,294,967,295. Public for the crates above alone.
+/// Appends a length or a count. It is too long where it exceeds 4,294,967,295. Public for the crates above alone.
 pub fn write_count(out: &mut Vec<u8>, count: usize) -> Result<(), Error>
     ensures written { Appends result out.old out.new (u count) }
     ensures full { WantsMemoryFor result (u count) }
@@ -157,7 +157,7 @@ pub fn write_count(out: &mut Vec<u8>, count: usize) -> Result<(), Error>
     write_u32(out, count as u32)
 }
 
-/// The length of a written length or count; None exactly where that passes 4,294,967,295. Public for the crates above
+/// The length of a written length or count; None exactly where that exceeds 4,294,967,295. Public for the crates above
 /// alone.
 pub fn count_len(count: usize) -> Option<u32>
     ensures { IsLengthOf result (u count) }

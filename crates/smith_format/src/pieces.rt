@@ -19,7 +19,7 @@ pub fn write_raw(out: &mut Vec<u8>, rest: &[u8]) -> Result<(), Error>
     write_bytes(out, rest)
 }
 
-/// The length of bytes; None exactly where it passes 4,294,967,295. Public for the crates above alone.
+/// The length of bytes; None exactly where it exceeds 4,294,967,295. Public for the crates above alone.
 pub fn raw_len(contents: &[u8]) -> Option<u32>
     ensures { IsLengthOf result (raw contents.now) }
 {
@@ -53,7 +53,7 @@ impl<'a> Spelled<CoreFormat> for &'a str {
     }
 }
 
-/// Appends a text after its length. It is too long where the length passes 4,294,967,295.
+/// Appends a text after its length. It is too long where the length exceeds 4,294,967,295.
 pub fn write_text(out: &mut Vec<u8>, name: &str) -> Result<(), Error>
     ensures written { Appends result out.old out.new (text name.now) }
     ensures full { WantsMemoryFor result (text name.now) }
@@ -125,7 +125,7 @@ impl<'a> Spelled<CoreFormat> for Section<'a> {
     }
 }
 
-/// Appends a section: its id, the length of its contents, and the contents. It is too long where the length passes
+/// Appends a section: its id, the length of its contents, and the contents. It is too long where the length exceeds
 /// 4,294,967,295.
 pub fn write_section(out: &mut Vec<u8>, id: u8, contents: &[u8]) -> Result<(), Error>
     ensures written { Appends result out.old out.new (sized id (bytes contents.now)) }

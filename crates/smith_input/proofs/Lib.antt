@@ -1,6 +1,7 @@
 pub mod Choices
 pub mod Digits
 pub mod Kebab
+pub mod Lists
 pub mod Loops
 pub mod NameScript
 pub mod NameSets

@@ -8,14 +8,15 @@ use Rattle.std.proofs.lemmas.Str.{IsUtf8-append, IsUtf8-from_ascii, IsUtf8-take,
 use Rattle.smith_input.specs.Kebab.{Kebab}
 use Rattle.smith_input.specs.Names.{ReadsNew}
 use Rattle.smith_input.specs.NewNames.{appended, IsMadeNew, is_among}
-use Rattle.smith_input.specs.NameScript.{is_within, is_short, IsMadeOf, IsReachable, IsReachableText, first_readable, text_of}
+use Rattle.smith_input.specs.NameScript.{is_within, is_short, IsMadeOf, IsReachable, IsReachableText, first_readable, stem_of}
 use Rattle.smith_input.specs.Texts.{ReadsNewText}
 use Rattle.smith_input.specs.NameScript.{script_within, script_new, script_new_text}
 use Rattle.smith_input.specs.Script.{script_name, script_text}
 use Rattle.smith_input.specs.Texts.{ReadsText}
 use Rattle.smith_input.proofs.Digits.{are_digits, digits_ascii, some_digits}
-use Rattle.smith_input.proofs.NameShapes.{at_most, is_most, kebab_less, kebab_within, short_within, within_read}
+use Rattle.smith_input.proofs.NameShapes.{kebab_less, kebab_within, short_within, within_read}
 use Rattle.smith_input.proofs.ReadsTexts.{text_read}
+use Rattle.std.proofs.lemmas.Bool.{leb-true, le-leb}
 
 -- Texts with digits behind them.
 
@@ -84,12 +85,12 @@ module _ (can_read : List ℕ → Bool) where
 
   -- the text from which a name is made, for its script
   pub made_of : (names : List (List ℕ)) (name : List ℕ) → IsMadeOf can_read names name
-      → (can_read (text_of can_read (length names) name) ≡ true) × IsMadeNew names (text_of can_read (length names) name) name
+      → (can_read (stem_of can_read (length names) name) ≡ true) × IsMadeNew names (stem_of can_read (length names) name) name
   made_of names name (text, c, u) =
       let ds = decimal (length names) in
       let few : u.times ≤ length name = omega (arith, ap length u.name_is, times_few text ds (some_digits (length names)) u.times) in
       let f = found text ds (length name) u.times few c in
-      let is : text_of can_read (length names) name ≡ appended text ds f.n = ap (first_readable can_read (length ds) (length name)) u.name_is ∙ f.is in
+      let is : stem_of can_read (length names) name ≡ appended text ds f.n = ap (first_readable can_read (length ds) (length name)) u.name_is ∙ f.is in
       let more : f.n + (u.times - f.n) ≡ u.times = omega (arith, f.few) in
       let made : IsMadeNew names (appended text ds f.n) name = record {
         times = u.times - f.n;
@@ -100,8 +101,8 @@ module _ (can_read : List ℕ → Bool) where
       (ap can_read is ∙ f.reads, subst (λ t. IsMadeNew names t name) (sym is) made)
 
 -- A text that can be read is the one that its script is of.
-pub text_of_read : (can_read : List ℕ → Bool) (count : ℕ) (name : List ℕ) → can_read name ≡ true → text_of can_read count name ≡ name
-text_of_read can_read count name c = by_fuel (length (decimal count)) (length name)
+pub stem_is_read : (can_read : List ℕ → Bool) (count : ℕ) (name : List ℕ) → can_read name ≡ true → stem_of can_read count name ≡ name
+stem_is_read can_read count name c = by_fuel (length (decimal count)) (length name)
   where
     by_fuel : (n fuel : ℕ) → first_readable can_read n fuel name ≡ name
     by_fuel n zero = refl
@@ -109,10 +110,10 @@ text_of_read can_read count name c = by_fuel (length (decimal count)) (length na
 
 pub short_script : (max count : ℕ) (name : List ℕ) → length name ≤ max → script_new max count name ≡ script_name max name
 short_script max count name l =
-    ap (script_within max) (text_of_read (is_within max) count name (short_within max name l)) ∙ ap (script_name max) (take_all max name l)
+    ap (script_within max) (stem_is_read (is_within max) count name (short_within max name l)) ∙ ap (script_name max) (take_all max name l)
 
 pub short_text_script : (max count : ℕ) (name : List ℕ) → length name ≤ max → script_new_text max count name ≡ script_text max name
-short_text_script max count name l = ap (script_text max) (text_of_read (is_short max) count name (is_most (length name) max l))
+short_text_script max count name l = ap (script_text max) (stem_is_read (is_short max) count name (le-leb (length name) max l))
 
 -- Names in kebab case.
 
@@ -124,7 +125,7 @@ made_kebab_less names {text} u k =
 pub new_script_read : (max : ℕ) (names : List (List ℕ)) (name rest : List ℕ) → max < 2 ^ 64 → Kebab name → IsReachable max names name
     → ReadsNew max names (script_new max (length names) name ++ rest) name rest
 new_script_read max names name rest h k made =
-    let text = text_of (is_within max) (length names) name in
+    let text = stem_of (is_within max) (length names) name in
     let m = made_of (is_within max) names name made in
     record { text = text; reads = within_read max text rest h (made_kebab_less names m.1 k) m.0; unique = m.1 }
 
@@ -153,15 +154,15 @@ made_utf8_more names {text} u k =
 pub new_text_read : (max : ℕ) (names : List (List ℕ)) (name rest : List ℕ) → max < 2 ^ 64 → IsUtf8 name → IsReachableText max names name
     → ReadsNewText max names (script_new_text max (length names) name ++ rest) name rest
 new_text_read max names name rest h k made =
-    let text = text_of (is_short max) (length names) name in
+    let text = stem_of (is_short max) (length names) name in
     let m = made_of (is_short max) names name made in
-    record { text = text; reads = text_read max text rest h (made_utf8_less names m.1 k) (at_most (length text) max m.0); unique = m.1 }
+    record { text = text; reads = text_read max text rest h (made_utf8_less names m.1 k) (leb-true (length text) max m.0); unique = m.1 }
 
 -- a text that is read is short
 pub text_short : {max : ℕ} {bytes text rest : List ℕ} → ReadsText max bytes text rest → is_short max text ≡ true
 text_short {max} {text = text} r =
     let front = take r.count r.after_count in
-    is_most (length text) max
+    le-leb (length text) max
     (omega (arith, r.counted.below, ap length r.longest.front, length-take (length text) front, length-take r.count r.after_count))
 
 pub new_text_utf8 : {max : ℕ} {names : List (List ℕ)} {bytes name rest : List ℕ} → ReadsNewText max names bytes name rest → IsUtf8 name

@@ -2,7 +2,7 @@
 use Rattle.std.proofs.Common.{◌≡◌, ℕ, zero, suc, ◌+◌, ◌-◌, ◌<◌, ◌≤◌, ◌^◌, ◌⊎◌, inl, inr, Bool, true, false, nat_eq, nat_le, if◌then◌else◌, List, [], ◌∷◌, ◌++◌}
 use Rattle.std.proofs.Common.{length, take, drop, map, refl, sym, ap, ◌∙◌, subst, arith, append_assoc, append-nil, ⊎_elim}
 use Rattle.std.proofs.lemmas.Bool.Decides.{nat_tests}
-use Rattle.std.proofs.lemmas.Bool.{cases_lt}
+use Rattle.std.proofs.lemmas.Bool.{cases_lt, leb-true, le-leb}
 use Rattle.std.proofs.lemmas.List.{length-append, length-map, length-take, take-append-drop, take_all, drop_at}
 use Rattle.std.proofs.lemmas.Slice.Eq.{bytes_eq-Decides}
 use Rattle.smith_input.specs.Reading.{Reads}
@@ -109,12 +109,6 @@ front_a name front e =
 
 -- a name that is within has enough choices
 
-pub at_most : (n m : ℕ) → nat_le n m ≡ true → n ≤ m
-at_most n m e = grind (arith, nat_tests)
-
-pub is_most : (n m : ℕ) → n ≤ m → nat_le n m ≡ true
-is_most n m e = grind (arith, nat_tests)
-
 within_suffices : (max : ℕ) (name : List ℕ) → Goes true name → is_within max name ≡ true → Suffices max true name
 within_suffices max name g w =
     ⊎_elim
@@ -125,10 +119,10 @@ within_suffices max name g w =
     by_end : max < length name → (b : Bool) → last_word_is_a name ≡ b → nat_le (length name) (if b then max + 1 else max) ≡ true → Suffices max true name
     by_end long true e few =
         let all = a_front name e in
-        let most : length name ≤ max + 1 = at_most (length name) (max + 1) few in
+        let most : length name ≤ max + 1 = leb-true (length name) (max + 1) few in
         let many : length all.0 ≡ max = omega (arith, long, most, ap length all.1, length-append all.0 (45 ∷ 97 ∷ [])) in
         a_suffices max 45 name all.0 all.1 many
-    by_end long false e few = absurd (omega (arith, long, at_most (length name) max few))
+    by_end long false e few = absurd (omega (arith, long, leb-true (length name) max few))
 
 -- the script of a name that is within
 pub within_read : (max : ℕ) (name rest : List ℕ) → max < 2 ^ 64 → Kebab name → is_within max name ≡ true
@@ -153,8 +147,8 @@ pub short_within : (max : ℕ) (name : List ℕ) → length name ≤ max → is_
 short_within max name l = by_end (last_word_is_a name)
   where
     by_end : (b : Bool) → nat_le (length name) (if b then max + 1 else max) ≡ true
-    by_end true = is_most (length name) (max + 1) (omega (arith, l))
-    by_end false = is_most (length name) max l
+    by_end true = le-leb (length name) (max + 1) (omega (arith, l))
+    by_end false = le-leb (length name) max l
 
 pub name_read : (max : ℕ) (name rest : List ℕ) → max < 2 ^ 64 → Kebab name → length name ≤ max → ReadsKebab max (script_name max name ++ rest) name rest
 name_read max name rest h k l =
@@ -192,14 +186,14 @@ kebab_within {max} {name = name} r =
     subst (λ cs. is_within max cs ≡ true) (sym r.spelt) (by_shape r.choices few (shaped 45 r.choices))
   where
     short : (b : Bool) (n : ℕ) → n ≤ max → nat_le n (if b then max + 1 else max) ≡ true
-    short true n l = is_most n (max + 1) (omega (arith, l))
-    short false n l = is_most n max l
+    short true n l = le-leb n (max + 1) (omega (arith, l))
+    short false n l = le-leb n max l
 
     by_shape : (ks : List ℕ) → length ks ≤ max → Shaped 45 ks → is_within max (characters true ks) ≡ true
     by_shape ks few (inl l) = short (last_word_is_a (characters true ks)) (length (characters true ks)) (omega (arith, l, few))
     by_shape ks few (inr (front, e, l)) =
         let cs = characters true ks in
-        subst (λ b. nat_le (length cs) (if b then max + 1 else max) ≡ true) (sym (front_a cs front e)) (is_most (length cs) (max + 1) (omega (arith, l, few)))
+        subst (λ b. nat_le (length cs) (if b then max + 1 else max) ≡ true) (sym (front_a cs front e)) (le-leb (length cs) (max + 1) (omega (arith, l, few)))
 
 -- a name in kebab case that ends in digits is one without them
 

@@ -1,19 +1,15 @@
 -- What is left of a list from a place on, and what it has of a name.
-use Rattle.std.proofs.Common.{◌≡◌, ℕ, suc, ◌+◌, ◌<◌, ◌≤◌, ◌||◌, true, false, List, [], ◌∷◌, length, map, ap, sym, ◌∙◌, refl, get_or, add-one, arith, bytes_eq}
+use Rattle.std.proofs.Common.{◌≡◌, ℕ, suc, ◌+◌, ◌<◌, ◌≤◌, ◌||◌, true, false, List, [], ◌∷◌, length, map, ap, sym, ◌∙◌, get_or, add-one, arith, bytes_eq}
 use Rattle.std.proofs.Math.ListN.{drop}
 use Rattle.std.proofs.Math.Seq.{drop-cons}
-use Rattle.std.proofs.lemmas.List.{length-drop}
+use Rattle.std.proofs.lemmas.List.{length-drop, nil_from_length}
 use Rattle.smith_input.specs.NewNames.{is_among}
 
 pub rest_at : {A : Type 0} (xs : List A) (i : ℕ) (x : A) → i < length xs → x ≡ get_or xs i x → drop i xs ≡ x ∷ drop (i + 1) xs
 rest_at xs i x h e = drop-cons xs i x h ∙ (ap (λ y. y ∷ drop (suc i) xs) (sym e) ∙ ap (λ n. x ∷ drop n xs) (sym (add-one i)))
 
 pub drop_past : {A : Type 0} (xs : List A) (i : ℕ) → length xs ≤ i → drop i xs ≡ []
-drop_past xs i h = no_length (drop i xs) (omega (arith, length-drop i xs))
-  where
-    no_length : {A : Type 0} (ys : List A) → length ys ≡ 0 → ys ≡ []
-    no_length [] e = refl
-    no_length (y ∷ ys) e = absurd (omega arith)
+drop_past xs i h = nil_from_length (drop i xs) (omega (arith, length-drop i xs))
 
 module _ {A : Type 0} (text : A → List ℕ) (name : List ℕ) (xs : List A) (i : ℕ) where
   module _ (x : A) (h : i < length xs) (e : x ≡ get_or xs i x) where

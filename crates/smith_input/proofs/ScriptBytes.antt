@@ -11,14 +11,15 @@ use Rattle.std.specs.List.{AllByRecursion}
 use Rattle.std.specs.Prelude.{slice_get}
 use Rattle.smith_input.specs.Kebab.{Kebab}
 use Rattle.smith_input.specs.Loops.{Along}
-use Rattle.smith_input.specs.NameScript.{first_readable, is_short, is_within, script_new, script_new_text, text_of, IsReachableText}
+use Rattle.smith_input.specs.NameScript.{first_readable, is_short, is_within, script_new, script_new_text, stem_of, IsReachableText}
 use Rattle.smith_input.specs.Script.{AreBytes, big_endian, code, pick, rank_of, script_among, script_bytes, script_characters, script_end, script_loop}
 use Rattle.smith_input.specs.Script.{script_more, script_name, script_text, width_within}
 use Rattle.smith_input.proofs.Choices.{rank_found}
 use Rattle.smith_input.proofs.NameScript.{made_of}
-use Rattle.smith_input.proofs.NameShapes.{Goes, at_most, has_code, kebab_goes}
+use Rattle.smith_input.proofs.NameShapes.{Goes, has_code, kebab_goes}
 use Rattle.smith_input.proofs.Picks.{pick-byte, powers_positive, width_within-is}
 use Rattle.smith_input.proofs.Utf8Bytes.{joined_bytes, utf8_bytes}
+use Rattle.std.proofs.lemmas.Bool.{leb-true}
 
 -- that these numbers are bytes, as a fact by itself
 pub record Small (bs : List ℕ) : Type 0 where
@@ -133,7 +134,7 @@ module _ (P : ℕ → Type 0) where
       by_test true later = all
       by_test false later = later
 
-  of_text : (can_read : List ℕ → Bool) (count : ℕ) (name : List ℕ) → AllByRecursion P name → AllByRecursion P (text_of can_read count name)
+  of_text : (can_read : List ℕ → Bool) (count : ℕ) (name : List ℕ) → AllByRecursion P name → AllByRecursion P (stem_of can_read count name)
   of_text can_read count name all = of_first can_read (length (decimal count)) (length name) name all
 
 abbrev HasCode : ℕ → Type 0
@@ -155,7 +156,7 @@ small_name max name h k short = counted max name h (have_codes true name (kebab_
 
 pub small_new : (max count : ℕ) (name : List ℕ) → max < 2 ^ 64 → Kebab name → Small (script_new max count name)
 small_new max count name h k =
-    let text = text_of (is_within max) count name in
+    let text = stem_of (is_within max) count name in
     let all : AllByRecursion HasCode (take max text) =
     taken HasCode max text (of_text HasCode (is_within max) count name (have_codes true name (kebab_goes k))) in
     counted max (take max text) h all (omega (arith, length-take max text))
@@ -163,5 +164,5 @@ small_new max count name h k =
 pub small_new_text : (max : ℕ) (names : List (List ℕ)) (name : List ℕ) → max < 2 ^ 64 → AreBytes name → IsReachableText max names name
     → Small (script_new_text max (length names) name)
 small_new_text max names name h all made =
-    let text = text_of (is_short max) (length names) name in
-    short_text max text h (of_text (λ b. b < 256) (is_short max) (length names) name all) (at_most (length text) max (made_of (is_short max) names name made).0)
+    let text = stem_of (is_short max) (length names) name in
+    short_text max text h (of_text (λ b. b < 256) (is_short max) (length names) name all) (leb-true (length text) max (made_of (is_short max) names name made).0)

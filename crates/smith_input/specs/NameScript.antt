@@ -41,8 +41,8 @@ first_readable can_read digits (suc fuel) name =
     if can_read name then name else first_readable can_read digits fuel (take (length name - digits) name)
 
 -- the longest text that can be read and becomes the name, so many names being there
-abbrev pub text_of : (List ℕ → Bool) → ℕ → List ℕ → List ℕ
-text_of can_read count name = first_readable can_read (length (decimal count)) (length name) name
+abbrev pub stem_of : (List ℕ → Bool) → ℕ → List ℕ → List ℕ
+stem_of can_read count name = first_readable can_read (length (decimal count)) (length name) name
 
 -- the script of a name in kebab case that can be read, max being below 2 ^ 64: at most max characters are chosen
 abbrev pub script_within : ℕ → List ℕ → List ℕ
@@ -50,8 +50,8 @@ script_within max name = script_name max (take max name)
 
 -- the script of a name in kebab case that is made new among so many names
 abbrev pub script_new : ℕ → ℕ → List ℕ → List ℕ
-script_new max count name = script_within max (text_of (is_within max) count name)
+script_new max count name = script_within max (stem_of (is_within max) count name)
 
 -- the script of a text that is made new among so many texts
 abbrev pub script_new_text : ℕ → ℕ → List ℕ → List ℕ
-script_new_text max count name = script_text max (text_of (is_short max) count name)
+script_new_text max count name = script_text max (stem_of (is_short max) count name)

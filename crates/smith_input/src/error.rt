@@ -14,7 +14,7 @@ pub enum Error {
     /// The limits on memories leave no module.
     #[error("no module is within the limits of the configuration")]
     ModuleRefused,
-    /// A length or a count passes 4,294,967,295, so it can not be written.
+    /// A length or a count exceeds 4,294,967,295, so it can not be written.
     #[error("a length or a count is too long to be written")]
     TooLong,
     /// A growth was refused.

@@ -10,9 +10,9 @@ mod unstructured;
 
 pub use error::Error;
 pub use names::{
-    Labelled, TakenNames, new_kebab_string, new_string, unique_kebab_string, unique_string,
-    unique_url,
+    Labelled, MAX_NAME_LEN, TakenNames, new_kebab_string, new_string, unique_kebab_string,
+    unique_string, unique_url,
 };
 pub use offers::choose_offered;
-pub use texts::{arbitrary_bytes, limited_string};
+pub use texts::{MAX_CUSTOM_NAME_LEN, arbitrary_bytes, limited_string};
 pub use unstructured::Unstructured;

@@ -15,6 +15,10 @@ use crate::{Error, Unstructured, limited_string};
 use std::alloc::Global;
 use std::collections::BTreeSet;
 
+/// How many bytes of a name are read, besides an `a` as the last word of one in kebab case, which takes none. Names of
+/// custom sections have a limit of their own. Public for the crates above alone.
+pub const MAX_NAME_LEN: usize = 100;
+
 const HOST: &str = "https://example.com/";
 
 // The character of a choice among 37, where a word must begin or goes on.

@@ -21,6 +21,9 @@ pub fn arbitrary_bytes(alloc: Global, u: &mut Unstructured) -> Result<Vec<u8>, E
     Ok(bytes)
 }
 
+/// How many bytes of the name of a custom section are read. Public for the crates above alone.
+pub const MAX_CUSTOM_NAME_LEN: usize = 1000;
+
 // The longest prefix that is UTF-8.
 fn longest_text(bytes: &[u8]) -> &str
     ensures { IsLongestText bytes.now result.now }

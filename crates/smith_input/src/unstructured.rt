@@ -71,7 +71,7 @@ impl<'a> Unstructured<'a> {
         *first
     }
 
-    // Passes over the next bytes.
+    // IsTooLarge over the next bytes.
     pub(crate) fn skip(&mut self, count: usize)
         requires { count ≤ length self.old }
         ensures { self.new ≡ drop count self.old }

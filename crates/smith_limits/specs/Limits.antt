@@ -101,7 +101,7 @@ upper_of Imports = MaxImports
 upper_of Funcs = MaxFuncs
 upper_of Exports = MaxFuncs
 
--- The two do not fit together: a minimum passes its maximum, or functions and exports together pass 32 bits.
+-- The two do not fit together: a minimum exceeds its maximum, or functions and exports together pass 32 bits.
 abbrev pub IsApart : Config → Pair → Type 0
 IsApart config Types = config.max_types < config.min_types
 IsApart config Imports = config.max_imports < config.min_imports

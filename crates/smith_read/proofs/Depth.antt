@@ -2,7 +2,7 @@
 use Rattle.std.proofs.Common.{◌≡◌, ℕ, zero, suc, ◌+◌, ◌-◌, ◌<◌, ◌≤◌, List, [], ◌∷◌, ◌++◌, length, Option, Some, None, refl, ap, sym, ◌∙◌, arith}
 use Rattle.std.proofs.Common.{append_assoc}
 use Rattle.std.proofs.lemmas.List.{append-nil}
-use Rattle.smith_component.specs.Tree.{Tree, Part}
+use Rattle.smith_tree.specs.Tree.{Tree, Part}
 use Rattle.smith_read_types.specs.Reading.{◌>>=◌}
 use Rattle.smith_read.specs.Parts.{part_at, parts_at, contents_at, component_at}
 

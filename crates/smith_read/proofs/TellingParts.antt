@@ -4,28 +4,31 @@ use Rattle.std.proofs.Common.{◌∙◌, subst, arith, Bool, true, false, cond, 
 use Rattle.std.specs.List.{starts_with}
 use Rattle.std.proofs.lemmas.List.{length-append}
 use Rattle.smith_format.specs.Piece.{Piece, ◌⊕◌, byte, bytes, u, raw, text, many, framed, sized}
-use Rattle.smith_format.proofs.Piece.{assoc, joined, parts_are, raw_whole}
-use Rattle.smith_core.specs.Preamble.{core_preamble}
-use Rattle.smith_component.specs.Grammar.{preamble, embedded, canon, export_entry, part, parts, component_text, Spells}
-use Rattle.smith_component.specs.Tree.{Canon, lift, lower, Part, Tree, ends, first, custom, core_module, core_types, component, types, canons}
-use Rattle.smith_component.specs.Tree.{imports, exports, tree_of, scope_depth, scope_depth_in, most}
+use Rattle.smith_format.proofs.Piece.{joined, parts_are, raw_whole, two_bytes}
+use Rattle.smith_tree.specs.Grammar.{preamble, embedded, canon, export_entry, part, parts, component_text, Spells}
+use Rattle.smith_tree.specs.Tree.{Canon, lift, lower, Part, Tree, ends, first, custom, core_module, core_types, component, types, canons}
+use Rattle.smith_tree.specs.Tree.{imports, exports, tree_of, scope_depth, scope_depth_in, most}
 use Rattle.smith_read_types.specs.Levels.{entry_in, types_at}
-use Rattle.smith_read_types.specs.Reading.{Found, ◌>>=◌, byte_at, behind, both_at, u_at, skip_at, text_at}
+use Rattle.smith_read_types.specs.Reading.{Found, ◌>>=◌, byte_at, behind, both_at, framed_at, u_at, skip_at, text_at}
 use Rattle.smith_read_types.specs.Tells.{Begins, Tells, TellsAll}
-use Rattle.smith_read_types.proofs.Digits.{some_same}
 use Rattle.smith_read_types.proofs.Telling.{bind_some, chain, nothing, both_begin, parted, skip_begins, skip_read, tells_u, tells_text, tells_both}
 use Rattle.smith_read_types.proofs.Telling.{tells_behind, tells_many, tells_after, tells_seen, row_sound, row_told, Told}
-use Rattle.smith_read_types.proofs.TellingCore.{tells_core_entry, tells_import}
+use Rattle.smith_read_types.proofs.TellingCore.{tells_core_entry, tells_named}
 use Rattle.std.proofs.lemmas.Slice.Eq.{starts_is}
 use Rattle.std.proofs.lemmas.Bool.Decides.{Decides-eqb}
 use Rattle.smith_read_types.proofs.Inner.{NestWithin, Under, under_then, many_under, many_same}
 use Rattle.smith_syntax.specs.Entries.{Entry}
 use Rattle.smith_syntax.specs.TypeLimits.{nesting}
 use Rattle.smith_read_types.proofs.TellingLevels.{tells_entry}
-use Rattle.smith_read_types.proofs.TellingFrames.{tells_all, tells_framed}
-use Rattle.smith_read.specs.PartNodes.{export_of}
-use Rattle.smith_read.specs.Parts.{ended_at, canon_after, canon_at, custom_all, export_at, list_all_at, preamble_at, part_after, part_at, parts_at, contents_at}
+use Rattle.smith_read_types.proofs.TellingFrames.{framed_chain, framed_nothing, framed_seen, tells_all, tells_framed}
+use Rattle.smith_read.specs.PartNodes.{export_of, import_of}
+use Rattle.smith_read.specs.Parts.{ended_at, canon_after, canon_at, custom_all, export_at, list_all_at, preamble_at, section_at, part_at, parts_at, contents_at}
+use Rattle.smith_read.specs.Parts.{import_at}
 use Rattle.smith_read.specs.Parts.{component_at, part_in, parts_in, text_in, component_in}
+use Rattle.smith_tree.proofs.Clear.{embedded_whole}
+use Rattle.std.proofs.lemmas.Option.{same_Some}
+use Rattle.smith_syntax.specs.Grammar.{import_entry}
+use Rattle.std.specs.Prelude.{option_map}
 
 -- ---- canonical functions
 
@@ -34,15 +37,12 @@ tells_ended {A} {f} {r} n l c = record {
   sound = λ b x e.
       let m = bind_some (r b) (λ x. skip_at n x.1 >>= λ rest. Some (x.0, rest)) x e in
       let s = bind_some (skip_at n m.0.1) (λ rest. Some (m.0.0, rest)) x m.2 in
-      subst (λ (p : A × List ℕ). (f p.0 ⊕ byte n) ⊕ Some p.1 ≡ Some b) (some_same _ _ s.2)
+      subst (λ (p : A × List ℕ). (f p.0 ⊕ byte n) ⊕ Some p.1 ≡ Some b) (same_Some _ _ s.2)
       (both_begin (f m.0.0) (byte n) b m.0.1 s.0 (c.sound b m.0 m.1) (skip_begins n m.0.1 s.0 s.1));
   whole = λ b x e.
       let p = parted (f x.0) (byte n) b x.1 e in
       rw (c.whole b (x.0, p.mid) p.front, skip_read n p.mid x.1 l p.back) refl;
 }
-
-two_bytes : (m n : ℕ) (p : Piece) → bytes (m ∷ n ∷ []) ⊕ p ≡ byte m ⊕ (byte n ⊕ p)
-two_bytes m n p = ap (λ h. h ⊕ p) (sym (joined (m ∷ []) (n ∷ []))) ∙ assoc (byte m) (byte n) p
 
 tells_lift : Tells (λ (x : ℕ × ℕ). byte 0x00 ⊕ (u x.0 ⊕ (byte 0x00 ⊕ u x.1))) (behind 0x00 (both_at u_at (behind 0x00 u_at)))
 tells_lift = tells_behind 0x00 (lit< tt) (tells_both tells_u (tells_behind 0x00 (lit< tt) tells_u))
@@ -68,7 +68,11 @@ tells_canon : Tells canon canon_at
 unfolding canon_at
 tells_canon = tells_after canon_after canon_begins canon_read
 
--- ---- exports
+-- ---- imports and exports
+
+tells_import : Tells import_entry import_at
+unfolding import_at
+tells_import = tells_seen import_of (λ i. (i.name, i.to)) (λ i. refl) (λ x. refl) tells_named
 
 abbrev export_text : List ℕ × ℕ → Piece
 export_text x = byte 0x00 ⊕ (text x.0 ⊕ (byte 0x01 ⊕ (u x.1 ⊕ byte 0x00)))
@@ -97,14 +101,6 @@ tells_itself f same = record {
   whole = λ b x e. let s = same x b e in ap f (sym s) ∙ e ∙ ap Some (sym s);
 }
 
-embedded_whole : (t b : List ℕ) → embedded t ≡ Some b → t ≡ b
-unfolding embedded
-embedded_whole t b e = by_test (starts_with nat_eq t core_preamble) e
-  where
-    by_test : (x : Bool) → cond x (raw t) None ≡ Some b → t ≡ b
-    by_test true f = raw_whole t b f
-    by_test false f = absurd cc
-
 raw_spelled : (t b : List ℕ) → raw t ≡ Some b → raw b ≡ Some b
 raw_spelled t b e = let s = raw_whole t b e in ap raw (sym s) ∙ e
 
@@ -115,7 +111,7 @@ tells_custom = record {
       let n = bind_some (text_at b) (λ n. raw n.1 >>= λ c. Some (n.0, c)) x e in
       let c = bind_some (raw n.0.1) (λ c. Some (n.0.0, c)) x n.2 in
       let same = raw_whole n.0.1 c.0 c.1 in
-      subst (λ (p : List ℕ × List ℕ). text p.0 ⊕ raw p.1 ≡ Some b) (some_same _ _ c.2)
+      subst (λ (p : List ℕ × List ℕ). text p.0 ⊕ raw p.1 ≡ Some b) (same_Some _ _ c.2)
       (ap (λ r. text n.0.0 ⊕ r) (raw_spelled n.0.1 c.0 c.1 ∙ ap Some (sym same)) ∙ tells_text.sound b n.0 n.1);
   whole = λ b x e.
       let p = parts_are (text x.0) (raw x.1) b e in
@@ -131,7 +127,7 @@ unfolding preamble_at
 preamble_sound b rest e = by_test (starts_with nat_eq b preamble) refl e
   where
     by_test : (x : Bool) → starts_with nat_eq b preamble ≡ x → cond {A = Option (List ℕ)} x (Some (drop 8 b)) None ≡ Some rest → b ≡ preamble ++ rest
-    by_test true f g = (starts_is Decides-eqb b preamble (starts_with nat_eq b preamble) refl).0 f ∙ ap (λ l. preamble ++ l) (some_same _ _ g)
+    by_test true f g = (starts_is Decides-eqb b preamble (starts_with nat_eq b preamble) refl).0 f ∙ ap (λ l. preamble ++ l) (same_Some _ _ g)
     by_test false f g = absurd cc
 
 preamble_whole : (rest : List ℕ) → preamble_at (preamble ++ rest) ≡ Some rest
@@ -149,53 +145,59 @@ tree_listed (first p t) = ap (first p) (tree_listed t)
 -- ---- sections
 
 module _ (levels : ℕ) (f : Tree → Piece) (inner : List ℕ → Option Tree) (c : TellsAll f inner) where
-  part_begins : (b : List ℕ) (t : ℕ × List ℕ) (x : Part × List ℕ) → byte_at b ≡ Some t → part_after levels inner t.0 t.1 ≡ Some x
-      → Begins (part_in levels f) b x
-  unfolding part_after
-  part_begins b t x e =
-      chain t.0 0 _ _ x (row_sound (part_in levels f) (λ x. custom x.0 x.1) 0 (tells_framed tells_custom) (λ x. refl) b t x e)
-      (chain t.0 1 _ _ x (row_sound (part_in levels f) core_module 1 (tells_framed (tells_itself embedded embedded_whole)) (λ x. refl) b t x e)
-      (chain t.0 3 _ _ x (row_sound (part_in levels f) core_types 3 (tells_framed (tells_list tells_core_entry)) (λ x. refl) b t x e)
-      (chain t.0 4 _ _ x (row_sound (part_in levels f) component 4 (tells_framed c) (λ x. refl) b t x e)
-      (chain t.0 7 _ _ x (row_sound (part_in levels f) types 7 (tells_framed (tells_types levels)) (λ x. refl) b t x e)
-      (chain t.0 8 _ _ x (row_sound (part_in levels f) canons 8 (tells_framed (tells_list tells_canon)) (λ x. refl) b t x e)
-      (chain t.0 10 _ _ x (row_sound (part_in levels f) imports 10 (tells_framed (tells_list tells_import)) (λ x. refl) b t x e)
-      (chain t.0 11 _ _ x (row_sound (part_in levels f) exports 11 (tells_framed (tells_list tells_export)) (λ x. refl) b t x e)
-      (nothing x))))))))
+  abbrev after : ℕ → List ℕ → Found Part
+  after id bs = framed_at (section_at levels inner id) bs
 
-  part_read : (b : List ℕ) (x : Part) (rest : List ℕ) → Begins (part_in levels f) b (x, rest) → Told (part_after levels inner) b (x, rest)
-  unfolding part_after
-  part_read b (custom n d) rest e = row_told (part_after levels inner) (λ x. custom x.0 x.1) 0 (lit< tt) (tells_framed tells_custom) (λ bs. refl) {x = (n, d)} e
-  part_read b (core_module bs) rest e = row_told (part_after levels inner) core_module 1 (lit< tt) (tells_framed (tells_itself embedded embedded_whole))
-      (λ bs. refl) e
-  part_read b (core_types ts) rest e = row_told (part_after levels inner) core_types 3 (lit< tt) (tells_framed (tells_list tells_core_entry)) (λ bs. refl) e
-  part_read b (component t) rest e = row_told (part_after levels inner) component 4 (lit< tt) (tells_framed c) (λ bs. refl) e
-  part_read b (types ts) rest e = row_told (part_after levels inner) types 7 (lit< tt) (tells_framed (tells_types levels)) (λ bs. refl) e
-  part_read b (canons fs) rest e = row_told (part_after levels inner) canons 8 (lit< tt) (tells_framed (tells_list tells_canon)) (λ bs. refl) e
-  part_read b (imports is) rest e = row_told (part_after levels inner) imports 10 (lit< tt) (tells_framed (tells_list tells_import)) (λ bs. refl) e
-  part_read b (exports es) rest e = row_told (part_after levels inner) exports 11 (lit< tt) (tells_framed (tells_list tells_export)) (λ bs. refl) e
+  section_sound : {A : Type 0} {g : A → Piece} {r : List ℕ → Option A} (of : A → Part) (n : ℕ) → TellsAll g r
+      → ((x : A) → part_in levels f (of x) ≡ sized n (g x)) → (b : List ℕ) (t : ℕ × List ℕ) (y : Part × List ℕ) → byte_at b ≡ Some t → t.0 ≡ n
+      → framed_at (λ bs. option_map of (r bs)) t.1 ≡ Some y → Begins (part_in levels f) b y
+  section_sound {r = r} of n d is b t y e i g = row_sound (part_in levels f) of n (tells_framed d) is b t y e i (sym (framed_seen of r t.1) ∙ g)
+
+  part_begins : (b : List ℕ) (t : ℕ × List ℕ) (x : Part × List ℕ) → byte_at b ≡ Some t → after t.0 t.1 ≡ Some x → Begins (part_in levels f) b x
+  unfolding section_at
+  part_begins b t x e =
+      framed_chain t.0 0 _ _ t.1 x (section_sound (λ x. custom x.0 x.1) 0 tells_custom (λ x. refl) b t x e)
+      (framed_chain t.0 1 _ _ t.1 x (section_sound core_module 1 (tells_itself embedded embedded_whole) (λ x. refl) b t x e)
+      (framed_chain t.0 3 _ _ t.1 x (section_sound core_types 3 (tells_list tells_core_entry) (λ x. refl) b t x e)
+      (framed_chain t.0 4 _ _ t.1 x (section_sound component 4 c (λ x. refl) b t x e)
+      (framed_chain t.0 7 _ _ t.1 x (section_sound types 7 (tells_types levels) (λ x. refl) b t x e)
+      (framed_chain t.0 8 _ _ t.1 x (section_sound canons 8 (tells_list tells_canon) (λ x. refl) b t x e)
+      (framed_chain t.0 10 _ _ t.1 x (section_sound imports 10 (tells_list tells_import) (λ x. refl) b t x e)
+      (framed_chain t.0 11 _ _ t.1 x (section_sound exports 11 (tells_list tells_export) (λ x. refl) b t x e)
+      (λ g. nothing x (sym (framed_nothing t.1) ∙ g)))))))))
+
+  part_read : (b : List ℕ) (x : Part) (rest : List ℕ) → Begins (part_in levels f) b (x, rest) → Told after b (x, rest)
+  unfolding section_at
+  part_read b (custom n d) rest e = row_told after (λ x. custom x.0 x.1) 0 (lit< tt) (tells_framed tells_custom) (framed_seen (λ x. custom x.0 x.1) _) {x = (n, d)} e
+  part_read b (core_module bs) rest e = row_told after core_module 1 (lit< tt) (tells_framed (tells_itself embedded embedded_whole)) (framed_seen core_module _) e
+  part_read b (core_types ts) rest e = row_told after core_types 3 (lit< tt) (tells_framed (tells_list tells_core_entry)) (framed_seen core_types _) e
+  part_read b (component t) rest e = row_told after component 4 (lit< tt) (tells_framed c) (framed_seen component _) e
+  part_read b (types ts) rest e = row_told after types 7 (lit< tt) (tells_framed (tells_types levels)) (framed_seen types _) e
+  part_read b (canons fs) rest e = row_told after canons 8 (lit< tt) (tells_framed (tells_list tells_canon)) (framed_seen canons _) e
+  part_read b (imports is) rest e = row_told after imports 10 (lit< tt) (tells_framed (tells_list tells_import)) (framed_seen imports _) e
+  part_read b (exports es) rest e = row_told after exports 11 (lit< tt) (tells_framed (tells_list tells_export)) (framed_seen exports _) e
 
   tells_part : Tells (part_in levels f) (part_at levels inner)
   unfolding part_at
-  tells_part = tells_after (part_after levels inner) part_begins part_read
+  tells_part = tells_after after part_begins part_read
 
   -- ---- all of them
 
   parts_sound : (n : ℕ) (b : List ℕ) (ps : List Part) → parts_at levels inner n b ≡ Some ps → parts_in levels f (tree_of ps) ≡ Some b
   unfolding parts_at
-  parts_sound n [] ps e = ap (λ q. parts_in levels f (tree_of q)) (sym (some_same [] ps e))
+  parts_sound n [] ps e = ap (λ q. parts_in levels f (tree_of q)) (sym (same_Some [] ps e))
   parts_sound zero (x ∷ b) ps e = absurd cc
   parts_sound (suc n) (x ∷ b) ps e =
       let p = bind_some (part_at levels inner (x ∷ b)) (λ p. parts_at levels inner n p.1 >>= λ qs. Some (p.0 ∷ qs)) ps e in
       let q = bind_some (parts_at levels inner n p.0.1) (λ qs. Some (p.0.0 ∷ qs)) ps p.2 in
       let i = parts_sound n p.0.1 q.0 q.1 in
-      ap (λ r. parts_in levels f (tree_of r)) (sym (some_same (p.0.0 ∷ q.0) ps q.2)) ∙ ap (λ r. part_in levels f p.0.0 ⊕ r) i ∙ tells_part.sound (x ∷ b) p.0 p.1
+      ap (λ r. parts_in levels f (tree_of r)) (sym (same_Some (p.0.0 ∷ q.0) ps q.2)) ∙ ap (λ r. part_in levels f p.0.0 ⊕ r) i ∙ tells_part.sound (x ∷ b) p.0 p.1
 
   -- each section begins with its id
   sized_some : (id : ℕ) (p : Piece) (l : List ℕ) → sized id p ≡ Some l → 0 < length l
   sized_some id p l e =
       let q = parts_are (byte id) (framed p) l e in
-      let h : length q.left ≡ 1 = ap length (sym (some_same (id ∷ []) q.left q.p_is)) in
+      let h : length q.left ≡ 1 = ap length (sym (same_Some (id ∷ []) q.left q.p_is)) in
       let k = ap length q.is in
       omega (arith, length-append q.left q.right)
 
@@ -211,8 +213,8 @@ module _ (levels : ℕ) (f : Tree → Piece) (inner : List ℕ → Option Tree) 
 
   parts_whole : (t : Tree) (n : ℕ) (b : List ℕ) → length b ≤ n → parts_in levels f t ≡ Some b → parts_at levels inner n b ≡ Some (listed t)
   unfolding parts_at
-  parts_whole ends zero b h e = ap (parts_at levels inner zero) (sym (some_same [] b e))
-  parts_whole ends (suc n) b h e = ap (parts_at levels inner (suc n)) (sym (some_same [] b e))
+  parts_whole ends zero b h e = ap (parts_at levels inner zero) (sym (same_Some [] b e))
+  parts_whole ends (suc n) b h e = ap (parts_at levels inner (suc n)) (sym (same_Some [] b e))
   parts_whole (first p t) zero b h e =
       let q = parts_are (part_in levels f p) (parts_in levels f t) b e in
       let k = part_some p q.left q.p_is in
@@ -236,11 +238,11 @@ module _ (levels : ℕ) (f : Tree → Piece) (inner : List ℕ → Option Tree) 
     sound = λ b t e.
         let r = bind_some (preamble_at b) (λ rest. parts_at levels inner (length rest) rest >>= λ ps. Some (tree_of ps)) t e in
         let p = bind_some (parts_at levels inner (length r.0) r.0) (λ ps. Some (tree_of ps)) t r.2 in
-        ap (λ x. text_in levels f x) (sym (some_same _ _ p.2)) ∙ ap (λ x. bytes preamble ⊕ x) (parts_sound (length r.0) r.0 p.0 p.1) ∙ joined _ _
+        ap (λ x. text_in levels f x) (sym (same_Some _ _ p.2)) ∙ ap (λ x. bytes preamble ⊕ x) (parts_sound (length r.0) r.0 p.0 p.1) ∙ joined _ _
         ∙ ap Some (sym (preamble_sound b r.0 r.1));
     whole = λ b t e.
         let q = parts_are (bytes preamble) (parts_in levels f t) b e in
-        let i : b ≡ preamble ++ q.right = q.is ∙ ap (λ l. l ++ q.right) (sym (some_same preamble q.left q.p_is)) in
+        let i : b ≡ preamble ++ q.right = q.is ∙ ap (λ l. l ++ q.right) (sym (same_Some preamble q.left q.p_is)) in
         rw (i, preamble_whole q.right, parts_whole t (length q.right) q.right (omega arith) q.q_is) (ap Some (tree_listed t));
   }
 

@@ -1,15 +1,15 @@
 -- What a component that is read shows.
 use Rattle.std.specs.Prelude.{ℕ, List, map, string_bytes}
-use Rattle.smith_component.specs.Tree.{Canon, ExportEntry, lift, lower, Part, Tree, custom, core_module, core_types, component, types, canons, imports, exports}
-use Rattle.smith_component.specs.Tree.{tree_of}
+use Rattle.smith_tree.specs.Tree.{Canon, ExportEntry, lift, lower, Part, Tree, custom, core_module, core_types, component, types, canons, imports, exports}
+use Rattle.smith_tree.specs.Tree.{tree_of}
 use Rattle.smith_syntax.specs.Entries.{ImportEntry}
-use Rattle.smith_read_types.specs.Externs.{import_of}
 use Rattle.smith_read_types.specs.Nodes.{shown_core_node}
 use Rattle.smith_read_types.specs.TypeNodes.{shown_type_node}
-use Rattle.smith_read_types.specs.declared.externs.ImportNode.{ImportNode}
 use Rattle.smith_read.specs.declared.nodes.CanonNode.{CanonNode}
 use Rattle.smith_read.specs.declared.nodes.ComponentTree.{ComponentTree}
 use Rattle.smith_read.specs.declared.nodes.ExportNode.{ExportNode}
+use Rattle.smith_read.specs.declared.nodes.ImportNode.{ImportNode}
+use Rattle.smith_syntax.specs.declared.deftype.ComponentTypeRef.{ComponentTypeRef}
 use Rattle.smith_read.specs.declared.nodes.CanonNode.TheVariants as canon
 use Rattle.smith_read.specs.declared.nodes.PartNode.{PartNode}
 use Rattle.smith_read.specs.declared.nodes.PartNode.TheOpen as layer
@@ -19,6 +19,9 @@ use Rattle.smith_read.specs.declared.nodes.PartNode.TheFolds.{fold-PartNode}
 abbrev pub shown_canon_node : CanonNode → Canon
 shown_canon_node (canon.Lift c t) = lift c t
 shown_canon_node (canon.Lower f) = lower f
+
+abbrev pub import_of : List ℕ × ComponentTypeRef → ImportEntry
+import_of x = record { name = x.0; to = x.1 }
 
 abbrev pub shown_import_node : ImportNode → ImportEntry
 shown_import_node i = import_of (string_bytes i.name, i.to)

@@ -1,20 +1,25 @@
 -- How components are read, and spelled, whose scopes stand at most so deep.
-use Rattle.std.specs.Prelude.{ℕ, zero, suc, List, [], ◌∷◌, length, drop, Option, Some, None, nat_eq, ◌==◌, if◌then◌else◌}
+use Rattle.std.specs.Prelude.{ℕ, zero, suc, List, [], ◌∷◌, length, drop, Option, Some, None, option_map, nat_eq, ◌==◌, if◌then◌else◌}
 use Rattle.std.specs.List.{starts_with}
 use Rattle.smith_format.specs.Piece.{Piece, ◌⊕◌, bytes, raw, text, many, sized}
 use Rattle.smith_syntax.specs.Grammar.{core_entry, import_entry}
-use Rattle.smith_component.specs.Grammar.{preamble, embedded, canon, export_entry}
-use Rattle.smith_component.specs.Tree.{Canon, ExportEntry, lift, lower, Part, Tree, ends, first, custom, core_module, core_types, component, types, canons}
-use Rattle.smith_component.specs.Tree.{imports, exports, tree_of}
+use Rattle.smith_syntax.specs.Entries.{ImportEntry}
+use Rattle.smith_tree.specs.Grammar.{preamble, embedded, canon, export_entry}
+use Rattle.smith_tree.specs.Tree.{Canon, ExportEntry, lift, lower, Part, Tree, ends, first, custom, core_module, core_types, component, types, canons}
+use Rattle.smith_tree.specs.Tree.{imports, exports, tree_of}
 use Rattle.smith_read_types.specs.CoreTypes.{core_entry_at}
-use Rattle.smith_read_types.specs.Externs.{import_at}
+use Rattle.smith_read_types.specs.Externs.{named_at}
 use Rattle.smith_read_types.specs.Levels.{entry_in, types_at}
 use Rattle.smith_read_types.specs.Reading.{Found, ◌>>=◌, seen, byte_at, behind, both_at, many_at, u_at, skip_at, text_at, all_of, framed_at}
-use Rattle.smith_read.specs.PartNodes.{export_of}
+use Rattle.smith_read.specs.PartNodes.{export_of, import_of}
 
 -- a value, and then that byte
 abbrev pub ended_at : {A : Type 0} → (List ℕ → Found A) → ℕ → List ℕ → Found A
 ended_at reading n bs = reading bs >>= λ x. skip_at n x.1 >>= λ rest. Some (x.0, rest)
+
+-- an import: a name, and what it is of
+unfoldable pub import_at : List ℕ → Found ImportEntry
+import_at bs = seen import_of (named_at bs)
 
 -- an export: a name, and the index of a component function
 unfoldable pub export_at : List ℕ → Found ExportEntry
@@ -40,20 +45,21 @@ unfoldable pub preamble_at : List ℕ → Option (List ℕ)
 preamble_at bs = if starts_with nat_eq bs preamble then Some (drop 8 bs) else None
 
 module _ (levels : ℕ) (inner : List ℕ → Option Tree) where
-  unfoldable pub part_after : ℕ → List ℕ → Found Part
-  part_after id bs =
-      if id == 0 then seen (λ x. custom x.0 x.1) (framed_at custom_all bs)
-      else if id == 1 then seen core_module (framed_at embedded bs)
-      else if id == 3 then seen core_types (framed_at (list_all_at core_entry_at) bs)
-      else if id == 4 then seen component (framed_at inner bs)
-      else if id == 7 then seen types (framed_at (types_at levels) bs)
-      else if id == 8 then seen canons (framed_at (list_all_at canon_at) bs)
-      else if id == 10 then seen imports (framed_at (list_all_at import_at) bs)
-      else if id == 11 then seen exports (framed_at (list_all_at export_at) bs)
+  -- what fills a section of that id
+  unfoldable pub section_at : ℕ → List ℕ → Option Part
+  section_at id bs =
+      if id == 0 then option_map (λ x. custom x.0 x.1) (custom_all bs)
+      else if id == 1 then option_map core_module (embedded bs)
+      else if id == 3 then option_map core_types (list_all_at core_entry_at bs)
+      else if id == 4 then option_map component (inner bs)
+      else if id == 7 then option_map types (types_at levels bs)
+      else if id == 8 then option_map canons (list_all_at canon_at bs)
+      else if id == 10 then option_map imports (list_all_at import_at bs)
+      else if id == 11 then option_map exports (list_all_at export_at bs)
       else None
 
   unfoldable pub part_at : List ℕ → Found Part
-  part_at bs = byte_at bs >>= λ t. part_after t.0 t.1
+  part_at bs = byte_at bs >>= λ t. framed_at (section_at t.0) t.1
 
   -- at most that many parts
   unfoldable pub parts_at : ℕ → List ℕ → Option (List Part)

@@ -1,7 +1,7 @@
 -- What reading answers.
 use Rattle.std.specs.Prelude.{◌≡◌, ◌≤◌, ◌+◌, ◌-◌, ℕ, List, Result, Ok, Err, IfOk, IfErr, min}
-use Rattle.smith_component.specs.Grammar.{Spells}
-use Rattle.smith_component.specs.Tree.{Tree, scope_depth}
+use Rattle.smith_tree.specs.Grammar.{Spells}
+use Rattle.smith_tree.specs.Tree.{Tree, scope_depth}
 use Rattle.smith_read.specs.PartNodes.{shown_tree}
 use Rattle.smith_read.specs.declared.error.ReadError.{ReadError}
 use Rattle.smith_read.specs.declared.error.ReadError.TheVariants as error
@@ -31,6 +31,6 @@ behind more (Err inner.OutOfMemory) = Err inner.OutOfMemory
 behind more (Err (inner.Malformed left reason)) = Err (inner.Malformed (min (left + more) 18446744073709551615) reason)
 
 -- what is refused, of so many bytes
-abbrev pub placed_in : ℕ → Unread → ReadError
-placed_in length inner.OutOfMemory = error.OutOfMemory
-placed_in length (inner.Malformed left reason) = error.Malformed (length - left) reason
+abbrev pub at_offset : ℕ → Unread → ReadError
+at_offset length inner.OutOfMemory = error.OutOfMemory
+at_offset length (inner.Malformed left reason) = error.Malformed (length - left) reason

@@ -1,7 +1,7 @@
 //! Why bytes are not read as a component.
 
 ghost use Rattle.std.specs.Prelude.{◌≡◌, length};
-ghost use Rattle.smith_read.specs.Reads.{behind, placed_in};
+ghost use Rattle.smith_read.specs.Reads.{behind, at_offset};
 
 use smith_read_types::{Reason, Unread};
 
@@ -33,7 +33,7 @@ pub(crate) fn with_rest<T: Drop>(contents: Result<T, Unread>, rest: &[u8]) -> Re
 
 /// The offset in these bytes at which it was seen.
 pub(crate) fn placed(bytes: &[u8], unread: Unread) -> ReadError
-    ensures { result ≡ placed_in (length bytes.now) unread }
+    ensures { result ≡ at_offset (length bytes.now) unread }
 {
     match unread {
         Unread::OutOfMemory => ReadError::OutOfMemory,

@@ -1,8 +1,8 @@
 //! A law of what is read. Its function does nothing: its contract is the law.
 
 ghost use Rattle.std.specs.Prelude.{◌≡◌, ℕ, List, Result, IfOk, IfErr};
-ghost use Rattle.smith_component.specs.Generates.{Generates};
-ghost use Rattle.smith_component.specs.Tree.{Tree};
+ghost use Rattle.smith_tree.specs.Generates.{Generates};
+ghost use Rattle.smith_tree.specs.Tree.{Tree};
 ghost use Rattle.smith_format.specs.Limits.{IsConsistent};
 ghost use Rattle.smith_format.specs.declared.config.Config.{Config};
 ghost use Rattle.smith_read.specs.PartNodes.{shown_tree};

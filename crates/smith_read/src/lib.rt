@@ -7,6 +7,6 @@ mod nodes;
 mod parts;
 
 pub use error::ReadError;
-pub use nodes::{CanonNode, ComponentTree, ExportNode, PartNode};
+pub use nodes::{CanonNode, ComponentTree, ExportNode, ImportNode, PartNode};
 pub use parts::{MOST_DEPTH, read};
-pub use smith_read_types::{CoreNode, DeclNode, ImportNode, ModuleNode, Reason, TypeNode};
+pub use smith_read_types::{CoreNode, DeclNode, ModuleNode, Reason, TypeNode};

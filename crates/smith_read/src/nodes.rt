@@ -1,6 +1,7 @@
 //! Components that are read, as trees of their own.
 
-use smith_read_types::{CoreNode, ImportNode, TypeNode};
+use smith_read_types::{CoreNode, TypeNode};
+use smith_syntax::ComponentTypeRef;
 
 /// A component that is read: its sections in order, each with its own entries (Explainer.md, component definitions).
 #[derive(Debug, Drop)]
@@ -15,6 +16,13 @@ pub enum CanonNode {
     Lift { core_func: u32, ty: u32 },
     /// The component function of that index, lowered.
     Lower { func: u32 },
+}
+
+/// An import: its name, and what it is of (Explainer.md, import definitions).
+#[derive(Debug, Drop)]
+pub struct ImportNode {
+    pub name: String,
+    pub to: ComponentTypeRef,
 }
 
 /// An export of the component function of that index, without a type of its own (Explainer.md, export definitions).

@@ -2,25 +2,41 @@
 
 ghost use Rattle.std.specs.Prelude.{length, map, string_bytes, IfErr};
 ghost use Rattle.smith_format.specs.Piece.{raw};
-ghost use Rattle.smith_component.specs.Grammar.{embedded};
-ghost use Rattle.smith_component.specs.Tree.{Canon, ExportEntry, tree_of};
+ghost use Rattle.smith_syntax.specs.Entries.{ImportEntry};
+ghost use Rattle.smith_tree.specs.Grammar.{embedded};
+ghost use Rattle.smith_tree.specs.Tree.{Canon, ExportEntry, tree_of};
 ghost use Rattle.smith_read_types.specs.Reading.{Gives};
-ghost use Rattle.smith_read.specs.Parts.{canon_at, component_at, custom_all, export_at, list_all_at, part_at, parts_at};
-ghost use Rattle.smith_read.specs.Parts.{preamble_at};
-ghost use Rattle.smith_read.specs.PartNodes.{shown_canon_node, shown_export_node, shown_part_node};
+ghost use Rattle.smith_read.specs.Parts.{canon_at, component_at, custom_all, export_at, list_all_at, part_at};
+ghost use Rattle.smith_read.specs.Parts.{import_at, parts_at, preamble_at, section_at};
+ghost use Rattle.smith_read.specs.PartNodes.{shown_canon_node, shown_export_node, shown_import_node, shown_part_node};
 ghost use Rattle.smith_read.specs.Reads.{IsWithin, Reads};
 
 use crate::error::{ReadError, placed, with_rest};
-use crate::nodes::{CanonNode, ComponentTree, ExportNode, PartNode};
+use crate::nodes::{CanonNode, ComponentTree, ExportNode, ImportNode, PartNode};
+use smith_core::{COMPONENT_PREAMBLE, CORE_PREAMBLE};
 use smith_read_types::{
-    Readable, Reason, Unread, byte_of, contents_of, count_of, frame_of, malformed, many_of, skip,
-    text_of,
+    Readable, Reason, Unread, byte_of, contents_of, count_of, frame_of, malformed, many_of,
+    named_of, read_text, skip,
 };
 use std::alloc::Global;
 
 /// How deep scopes may stand: one deeper than the nesting of components that a `Config` may allow, which is what
 /// component types and instance types in the deepest may.
 pub const MOST_DEPTH: u32 = 1001;
+
+impl Readable for ImportNode {
+    ghost Shown = { ImportEntry };
+
+    ghost shown = { shown_import_node };
+
+    ghost reading = { import_at };
+
+    #[tactic(auto, unfolding(crate::specs::Parts::import_at))]
+    fn read(alloc: Global, bytes: &[u8]) -> Result<(ImportNode, &[u8]), Unread> {
+        let ((name, to), rest) = named_of(alloc, bytes)?;
+        Ok((ImportNode { name, to }, rest))
+    }
+}
 
 impl Readable for ExportNode {
     ghost Shown = { ExportEntry };
@@ -32,7 +48,7 @@ impl Readable for ExportNode {
     #[tactic(auto, unfolding(crate::specs::Parts::export_at))]
     fn read(alloc: Global, bytes: &[u8]) -> Result<(ExportNode, &[u8]), Unread> {
         let rest = skip(bytes, 0x00)?;
-        let (name, rest) = text_of(alloc, rest)?;
+        let (name, rest) = read_text(alloc, rest)?;
         let rest = skip(rest, 0x01)?;
         let (func, rest) = count_of(rest)?;
         let rest = skip(rest, 0x00)?;
@@ -77,11 +93,11 @@ fn raw_of(alloc: Global, bytes: &[u8]) -> Result<Vec<u8>, Unread>
 }
 
 // A core module: any bytes that begin with the core preamble.
-#[tactic(auto, unfolding(smith_component::specs::Grammar::embedded))]
+#[tactic(auto, unfolding(smith_tree::specs::Grammar::embedded))]
 fn embedded_of(alloc: Global, bytes: &[u8]) -> Result<Vec<u8>, Unread>
     ensures { Gives (λ x. x.items) result (embedded bytes.now) }
 {
-    if !bytes.starts_with(&[0x00, 0x61, 0x73, 0x6d, 0x01, 0x00, 0x00, 0x00]) {
+    if !bytes.starts_with(&CORE_PREAMBLE) {
         return Err(malformed(bytes, Reason::Preamble));
     }
     raw_of(alloc, bytes)
@@ -92,7 +108,7 @@ fn embedded_of(alloc: Global, bytes: &[u8]) -> Result<Vec<u8>, Unread>
 fn custom_of(alloc: Global, bytes: &[u8]) -> Result<(String, Vec<u8>), Unread>
     ensures { Gives (λ x. (string_bytes x.0, x.1.items)) result (custom_all bytes.now) }
 {
-    let (name, rest) = text_of(alloc, bytes)?;
+    let (name, rest) = read_text(alloc, bytes)?;
     let contents = raw_of(alloc, rest)?;
     Ok((name, contents))
 }
@@ -114,58 +130,45 @@ fn list_of<T: Readable>(alloc: Global, bytes: &[u8]) -> Result<Vec<T>, Unread>
 fn preamble_of(bytes: &[u8]) -> Result<&[u8], Unread>
     ensures { Gives (λ x. x.now) result (preamble_at bytes.now) }
 {
-    if !bytes.starts_with(&[0x00, 0x61, 0x73, 0x6d, 0x0d, 0x00, 0x01, 0x00]) {
+    if !bytes.starts_with(&COMPONENT_PREAMBLE) {
         return Err(malformed(bytes, Reason::Preamble));
     }
-    Ok(&bytes[8..])
+    Ok(&bytes[COMPONENT_PREAMBLE.len()..])
+}
+
+// The section of that id that these bytes fill.
+#[cycle(reading)]
+#[tactic(auto, unfolding(crate::specs::Parts::section_at))]
+fn section_of(alloc: Global, depth: u32, id: u8, bytes: &[u8]) -> Result<PartNode, Unread>
+    ensures { Gives (λ x. shown_part_node x) result (section_at depth (component_at depth) id bytes.now) }
+{
+    match id {
+        0 => {
+            let (name, contents) = custom_of(alloc, bytes)?;
+            Ok(PartNode::Custom { name, contents })
+        }
+        1 => Ok(PartNode::CoreModule(embedded_of(alloc, bytes)?)),
+        3 => Ok(PartNode::CoreTypes(list_of(alloc, bytes)?)),
+        4 => Ok(PartNode::Component(sections_of(alloc, depth, bytes)?)),
+        7 => Ok(PartNode::Types(contents_of(alloc, depth, bytes)?)),
+        8 => Ok(PartNode::Canons(list_of(alloc, bytes)?)),
+        10 => Ok(PartNode::Imports(list_of(alloc, bytes)?)),
+        11 => Ok(PartNode::Exports(list_of(alloc, bytes)?)),
+        _ => Err(malformed(bytes, Reason::Byte)),
+    }
 }
 
 #[cycle(reading)]
-#[tactic(auto, unfolding(crate::specs::Parts::part_at, crate::specs::Parts::part_after))]
+#[tactic(auto, unfolding(crate::specs::Parts::part_at, crate::specs::Parts::section_at))]
 fn part_of(alloc: Global, depth: u32, bytes: &[u8]) -> Result<(PartNode, &[u8]), Unread>
     ensures { Gives (λ x. (shown_part_node x.0, x.1.now)) result (part_at depth (component_at depth) bytes.now) }
 {
     let (id, rest) = byte_of(bytes)?;
     match id {
-        0 => {
+        0 | 1 | 3 | 4 | 7 | 8 | 10 | 11 => {
             let (inside, rest) = frame_of(rest)?;
-            let (name, contents) = with_rest(custom_of(alloc, inside), rest)?;
-            Ok((PartNode::Custom { name, contents }, rest))
-        }
-        1 => {
-            let (inside, rest) = frame_of(rest)?;
-            let module = with_rest(embedded_of(alloc, inside), rest)?;
-            Ok((PartNode::CoreModule(module), rest))
-        }
-        3 => {
-            let (inside, rest) = frame_of(rest)?;
-            let types = with_rest(list_of(alloc, inside), rest)?;
-            Ok((PartNode::CoreTypes(types), rest))
-        }
-        4 => {
-            let (inside, rest) = frame_of(rest)?;
-            let parts = with_rest(component_of(alloc, depth, inside), rest)?;
-            Ok((PartNode::Component(parts), rest))
-        }
-        7 => {
-            let (inside, rest) = frame_of(rest)?;
-            let types = with_rest(contents_of(alloc, depth, inside), rest)?;
-            Ok((PartNode::Types(types), rest))
-        }
-        8 => {
-            let (inside, rest) = frame_of(rest)?;
-            let canons = with_rest(list_of(alloc, inside), rest)?;
-            Ok((PartNode::Canons(canons), rest))
-        }
-        10 => {
-            let (inside, rest) = frame_of(rest)?;
-            let imports = with_rest(list_of(alloc, inside), rest)?;
-            Ok((PartNode::Imports(imports), rest))
-        }
-        11 => {
-            let (inside, rest) = frame_of(rest)?;
-            let exports = with_rest(list_of(alloc, inside), rest)?;
-            Ok((PartNode::Exports(exports), rest))
+            let part = with_rest(section_of(alloc, depth, id, inside), rest)?;
+            Ok((part, rest))
         }
         _ => Err(malformed(bytes, Reason::Byte)),
     }
@@ -193,7 +196,7 @@ fn parts_of(alloc: Global, depth: u32, bytes: &[u8]) -> Result<Vec<PartNode>, Un
 
 #[cycle(reading)]
 #[tactic(auto, unfolding(crate::specs::Parts::contents_at), using(crate::proofs::Depth::depth_none, crate::proofs::Depth::depth_some))]
-fn component_of(alloc: Global, depth: u32, bytes: &[u8]) -> Result<Vec<PartNode>, Unread>
+fn sections_of(alloc: Global, depth: u32, bytes: &[u8]) -> Result<Vec<PartNode>, Unread>
     ensures { Gives (λ v. tree_of (map shown_part_node v.items)) result (component_at depth bytes.now) }
 {
     if depth == 0 {
@@ -215,7 +218,7 @@ pub fn read(alloc: Global, bytes: &[u8]) -> Result<ComponentTree, ReadError>
     // What is wrong was seen in the bytes, or at their end.
     ensures offset { IfErr result (IsWithin (length bytes.now)) }
 {
-    match component_of(alloc, MOST_DEPTH, bytes) {
+    match sections_of(alloc, MOST_DEPTH, bytes) {
         Ok(parts) => Ok(ComponentTree { parts }),
         Err(unread) => Err(placed(bytes, unread)),
     }

@@ -6,18 +6,13 @@ use borrow.Author.Tests.{ltb-true}
 use Rattle.smith_read_types.specs.Reading.{Found, ◌>>=◌, at_least, at_most, within, byte_at, digits_at, number_at, Fails, Gives}
 use Rattle.smith_read_types.specs.declared.error.Unread.{Unread}
 use Rattle.smith_read_types.specs.declared.error.Unread.TheVariants as error
-
-abbrev some : {A : Type 0} → A → Option A
-some x = Some x
+use Rattle.std.proofs.lemmas.Option.{same_Some}
 
 abbrev pub found : {A : Type 0} → A → List ℕ → Found A
 found x rest = Some (x, rest)
 
-pub some_same : {A : Type 0} (p q : A) → some p ≡ some q → p ≡ q
-some_same p q g = cc
-
 pub found_same : {A : Type 0} (x y : A) (a b : List ℕ) → found x a ≡ found y b → (x ≡ y) × (a ≡ b)
-found_same x y a b e = let f = some_same (x, a) (y, b) e in (ap (λ p. p.0) f, ap (λ p. p.1) f)
+found_same x y a b e = let f = same_Some (x, a) (y, b) e in (ap (λ p. p.0) f, ap (λ p. p.1) f)
 
 -- no byte is there
 pub number_none : (last most : ℕ) (bs : List ℕ) → 0 < last → last ≤ 128 → byte_at bs ≡ None → number_at last most bs ≡ None

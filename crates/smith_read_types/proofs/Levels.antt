@@ -1,14 +1,13 @@
 -- Types that hold types: how they are read at each level.
 use Rattle.std.proofs.Common.{◌≡◌, ℕ, zero, suc, ◌-◌, ◌<◌, List, Some, ap, arith}
-use Rattle.std.proofs.Common.{true, false, map, rules, sym, ◌∙◌}
+use Rattle.std.proofs.Common.{true, false, map, sym, ◌∙◌}
 use Rattle.std.specs.Global.{Vec}
-use Rattle.smith_syntax.specs.Entries.{component_type, instance_type, in_order}
 use Rattle.smith_read_types.specs.Reading.{u_at, times_at, many_at}
 use Rattle.smith_read_types.specs.TypeNodes.{shown_type_node, shown_decl_node}
 use Rattle.smith_read_types.specs.declared.nodes.DeclNode.{DeclNode}
-use Rattle.smith_read_types.specs.declared.nodes.DeclNode.TheFolds.{the_lemmas}
 use Rattle.smith_read_types.specs.declared.nodes.TypeNode.TheVariants as node
 use Rattle.smith_read_types.specs.Levels.{leaf_after, decl_at, around_after, entry_after}
+use Rattle.smith_read_types.proofs.ShownNodes.{shown_component, shown_instance}
 
 pub levels_none : (n tag : ℕ) (bs : List ℕ) → n ≡ 0 → entry_after n tag bs ≡ leaf_after tag bs
 unfolding entry_after
@@ -18,12 +17,6 @@ pub levels_some : (n tag : ℕ) (bs : List ℕ) → 0 < n → entry_after n tag 
 unfolding entry_after
 levels_some zero tag bs l = absurd (omega arith)
 levels_some (suc n) tag bs l = ap (λ m. around_after (entry_after m) tag bs) (omega arith)
-
-shown_component : (ds : Vec DeclNode) → shown_type_node (node.Component ds) ≡ component_type (in_order (map shown_decl_node ds.items))
-shown_component ds = search (rules, the_lemmas)
-
-shown_instance : (ds : Vec DeclNode) → shown_type_node (node.Instance ds) ≡ instance_type (in_order (map shown_decl_node ds.items))
-shown_instance ds = search (rules, the_lemmas)
 
 pub component_read : (n count : ℕ) (bs mid rest : List ℕ) (ds : Vec DeclNode) → 0 < n → u_at bs ≡ Some (count, mid)
     → times_at (decl_at (entry_after (n - 1)) true) count mid ≡ Some (map shown_decl_node ds.items, rest)

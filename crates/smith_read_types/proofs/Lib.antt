@@ -1,5 +1,6 @@
 pub mod Digits
 pub mod Loops
+pub mod ShownNodes
 pub mod Levels
 pub mod Telling
 pub mod TellingTypes

@@ -13,7 +13,8 @@ use Rattle.smith_read_types.specs.Reading.{Found, ◌>>=◌, at_least, at_most, 
 use Rattle.smith_read_types.specs.Reading.{times_at, many_at, after_byte, skip_at, behind, limit_at}
 use Rattle.smith_format.specs.Clear.{Agree, IsClear}
 use Rattle.smith_read_types.specs.Tells.{Begins, Tells}
-use Rattle.smith_read_types.proofs.Digits.{byte_is, some_same, number_none}
+use Rattle.smith_read_types.proofs.Digits.{byte_is, number_none}
+use Rattle.std.proofs.lemmas.Option.{same_Some}
 
 -- a step that gave something
 pub bind_some : {A B : Type 0} (r : Option A) (f : A → Option B) (y : B) → r >>= f ≡ Some y → (x : A) × (r ≡ Some x) × (f x ≡ Some y)
@@ -33,7 +34,7 @@ pub nothing : {B P : Type 0} (z : B) → None ≡ Some z → P
 nothing z e = absurd cc
 
 pub seen_is : {A B : Type 0} (g : A → B) (r : Found A) (y : B × List ℕ) → seen g r ≡ Some y → (x : A × List ℕ) × (r ≡ Some x) × ((g x.0, x.1) ≡ y)
-seen_is g r y e = let b = bind_some r (λ x. Some (g x.0, x.1)) y e in (b.0, b.1, some_same _ _ b.2)
+seen_is g r y e = let b = bind_some r (λ x. Some (g x.0, x.1)) y e in (b.0, b.1, same_Some _ _ b.2)
 
 -- two pieces, read one after another
 pub both_begin : (p q : Piece) (b mid rest : List ℕ) → p ⊕ Some mid ≡ Some b → q ⊕ Some rest ≡ Some mid → (p ⊕ q) ⊕ Some rest ≡ Some b
@@ -55,13 +56,10 @@ parted p q b rest e =
 pub byte_begins : (b : List ℕ) (t : ℕ × List ℕ) → byte_at b ≡ Some t → Begins byte b t
 byte_begins b t e = joined (t.0 ∷ []) t.1 ∙ ap Some (sym (byte_is b t.1 t.0 e).0)
 
-some_list : (a b : List ℕ) → Some a ≡ Some b → a ≡ b
-some_list a b e = some_same a b e
-
 pub byte_read : (b : List ℕ) (t : ℕ × List ℕ) → t.0 < 256 → Begins byte b t → byte_at b ≡ Some t
 unfolding byte_at
 byte_read b t l e =
-    let f : t.0 ∷ t.1 ≡ b = some_list _ _ (sym (joined (t.0 ∷ []) t.1) ∙ e) in
+    let f : t.0 ∷ t.1 ≡ b = same_Some _ _ (sym (joined (t.0 ∷ []) t.1) ∙ e) in
     ap byte_at (sym f) ∙ rw (lt-ltb t.0 256 l) refl
 
 pub skip_begins : (n : ℕ) (b rest : List ℕ) → skip_at n b ≡ Some rest → byte n ⊕ Some rest ≡ Some b
@@ -69,7 +67,7 @@ unfolding skip_at
 skip_begins n b rest e =
     let t = bind_some (byte_at b) (after_byte n) rest e in
     chain t.0.0 n (Some t.0.1) None rest
-    (λ f g. ap (λ m. byte m ⊕ Some rest) (sym f) ∙ ap (λ r. byte t.0.0 ⊕ Some r) (sym (some_same _ _ g)) ∙ byte_begins b t.0 t.1) (nothing rest) t.2
+    (λ f g. ap (λ m. byte m ⊕ Some rest) (sym f) ∙ ap (λ r. byte t.0.0 ⊕ Some r) (sym (same_Some _ _ g)) ∙ byte_begins b t.0 t.1) (nothing rest) t.2
 
 abbrev some_list_of : List ℕ → Option (List ℕ)
 some_list_of b = Some b
@@ -126,13 +124,13 @@ module _ (last : ℕ) (low : 0 < last) (high : last ≤ 128) where
         where
           inner : (t : Bool) → nat_lt n last ≡ t → cond {A = Found ℕ} t None (Some (n, r)) ≡ Some x → (last ≤ n) × ((n, r) ≡ x)
           inner true g i = absurd cc
-          inner false g i = (ltb-false n last g, some_same _ _ i)
+          inner false g i = (ltb-false n last g, same_Some _ _ i)
 
       by_test : ((d : ℕ × List ℕ) → digits_at last bs ≡ Some d → bs ≡ digits as_it_is last d.0 d.0 ++ d.1) → (x1 y1 z1 : Bool) → nat_lt b last ≡ x1
           → nat_lt b 128 ≡ y1 → nat_lt b 256 ≡ z1
           → cond {A = Found ℕ} x1 (Some (b, bs)) (cond y1 None (cond z1 (digits_at last bs >>= λ d. at_least last (b - 128 + 128 * d.0) d.1) None)) ≡ Some x
           → b ∷ bs ≡ digits as_it_is last x.0 x.0 ++ x.1
-      by_test ih true y1 z1 f g h i = subst (λ (p : ℕ × List ℕ). b ∷ bs ≡ digits as_it_is last p.0 p.0 ++ p.1) (some_same (b, bs) x i)
+      by_test ih true y1 z1 f g h i = subst (λ (p : ℕ × List ℕ). b ∷ bs ≡ digits as_it_is last p.0 p.0 ++ p.1) (same_Some (b, bs) x i)
           (sym (rw (digits_last as_it_is last b b (ltb-true b last f)) refl))
       by_test ih false true z1 f g h i = absurd cc
       by_test ih false false false f g h i = absurd cc
@@ -151,7 +149,7 @@ module _ (last : ℕ) (low : 0 < last) (high : last ≤ 128) where
       inner : (d : ℕ × List ℕ) (t : Bool) → nat_lt most d.0 ≡ t → b ≡ digits as_it_is last d.0 d.0 ++ d.1 → cond {A = Found ℕ} t None (Some d) ≡ Some x
           → (b ≡ digits as_it_is last x.0 x.0 ++ x.1) × (x.0 ≤ most)
       inner d true f g h = absurd cc
-      inner d false f g h = subst (λ (p : ℕ × List ℕ). (b ≡ digits as_it_is last p.0 p.0 ++ p.1) × (p.0 ≤ most)) (some_same d x h) (g, ltb-false most d.0 f)
+      inner d false f g h = subst (λ (p : ℕ × List ℕ). (b ≡ digits as_it_is last p.0 p.0 ++ p.1) × (p.0 ≤ most)) (same_Some d x h) (g, ltb-false most d.0 f)
 
   pub number_read : (most n : ℕ) (rest : List ℕ) → n ≤ most → number_at last most (digits as_it_is last n n ++ rest) ≡ Some (n, rest)
   unfolding number_at
@@ -165,7 +163,7 @@ tells_u = record {
       ap (λ p. p ⊕ Some x.1) (u_fits x.0 (omega (arith, r.1))) ∙ joined _ _ ∙ ap Some (sym r.0);
   whole = λ b x e.
       elim (u_cases x.0) [
-        | inl h ↦ let f = some_list _ _ (sym (joined (unsigned x.0) x.1) ∙ ap (λ p. p ⊕ Some x.1) (sym h.0) ∙ e) in
+        | inl h ↦ let f = same_Some _ _ (sym (joined (unsigned x.0) x.1) ∙ ap (λ p. p ⊕ Some x.1) (sym h.0) ∙ e) in
             ap u_at (sym f) ∙ number_read 128 (omega arith) (omega arith) 4294967295 x.0 x.1 (omega (arith, h.1))
         | inr h ↦ let z : None ≡ Some b = sym (left_none (Some x.1)) ∙ ap (λ p. p ⊕ Some x.1) (sym h.0) ∙ e in absurd cc
       ];
@@ -175,7 +173,7 @@ index_read : (b : List ℕ) (x : ℕ × List ℕ) → Begins s_index b x → (t 
 unfolding signed
 index_read b x e true f =
     let h = ltb-true x.0 (2 ^ 32) f in
-    let g = some_list _ _ (sym (joined (signed (pos x.0)) x.1) ∙ ap (λ p. p ⊕ Some x.1) (sym (s_index_fits x.0 h)) ∙ e) in
+    let g = same_Some _ _ (sym (joined (signed (pos x.0)) x.1) ∙ ap (λ p. p ⊕ Some x.1) (sym (s_index_fits x.0 h)) ∙ e) in
     ap (number_at 64 4294967295) (sym g) ∙ number_read 64 (omega arith) (omega arith) 4294967295 x.0 x.1 (omega (arith, h))
 index_read b x e false f = let z : None ≡ Some b = sym (left_none (Some x.1)) ∙ ap (λ p. p ⊕ Some x.1) (sym (s_index_none x.0 (ltb-false x.0 (2 ^ 32) f)))
     ∙ e in absurd cc
@@ -206,7 +204,7 @@ utf8_cases t rest x e = by_test (is_utf8 t) refl e
   where
     by_test : (y : Bool) → is_utf8 t ≡ y → cond {A = Found (List ℕ)} y (Some (t, rest)) None ≡ Some x
         → (cond (is_utf8 t) (Some t) None ≡ Some t) × ((t, rest) ≡ x)
-    by_test true f g = (rw f refl, some_same _ _ g)
+    by_test true f g = (rw f refl, same_Some _ _ g)
     by_test false f g = absurd cc
 
 text_front : (b : List ℕ) (x : List ℕ × List ℕ) (n : ℕ × List ℕ) → u_at b ≡ Some n
@@ -230,7 +228,7 @@ unfolding utf8
 utf8_whole t rest b e = by_test (is_utf8 t) e
   where
     by_test : (y : Bool) → cond y (Some t) None ⊕ Some rest ≡ Some b → (cond {A = Found (List ℕ)} y (Some (t, rest)) None ≡ Some (t, rest)) × (b ≡ t ++ rest)
-    by_test true g = (refl, some_list _ _ (sym g ∙ joined t rest))
+    by_test true g = (refl, same_Some _ _ (sym g ∙ joined t rest))
     by_test false g = let z : None ≡ Some b = sym (left_none (Some rest)) ∙ g in absurd cc
 
 pub tells_text : Tells text text_at
@@ -255,7 +253,7 @@ tells_both {A} {B} {f} {g} {r} {s} c d = record {
   sound = λ b x e.
       let m = bind_some (r b) (λ x. s x.1 >>= λ y. Some ((x.0, y.0), y.1)) x e in
       let n = bind_some (s m.0.1) (λ y. Some ((m.0.0, y.0), y.1)) x m.2 in
-      subst (λ (p : (A × B) × List ℕ). (f p.0.0 ⊕ g p.0.1) ⊕ Some p.1 ≡ Some b) (some_same _ _ n.2)
+      subst (λ (p : (A × B) × List ℕ). (f p.0.0 ⊕ g p.0.1) ⊕ Some p.1 ≡ Some b) (same_Some _ _ n.2)
       (both_begin (f m.0.0) (g n.0.0) b m.0.1 n.0.1 (c.sound b m.0 m.1) (d.sound m.0.1 n.0 n.1));
   whole = λ b x e.
       let p = parted (f x.0.0) (g x.0.1) b x.1 e in
@@ -277,18 +275,18 @@ tells_seen {A} {B} {f} {F} {r} of back same is c = record {
 module _ {A : Type 0} {f : A → Piece} {r : List ℕ → Found A} (c : Tells f r) where
   times_sound : (n : ℕ) (b : List ℕ) (x : List A × List ℕ) → times_at r n b ≡ Some x → (each f x.0 ⊕ Some x.1 ≡ Some b) × (length x.0 ≡ n)
   unfolding times_at
-  times_sound zero b x e = subst (λ (p : List A × List ℕ). (each f p.0 ⊕ Some p.1 ≡ Some b) × (length p.0 ≡ 0)) (some_same ([], b) x e)
+  times_sound zero b x e = subst (λ (p : List A × List ℕ). (each f p.0 ⊕ Some p.1 ≡ Some b) × (length p.0 ≡ 0)) (same_Some ([], b) x e)
       (left_nil (Some b), refl)
   times_sound (suc n) b x e =
       let m = bind_some (r b) (λ x. times_at r n x.1 >>= λ xs. Some (x.0 ∷ xs.0, xs.1)) x e in
       let k = bind_some (times_at r n m.0.1) (λ xs. Some (m.0.0 ∷ xs.0, xs.1)) x m.2 in
       let i = times_sound n m.0.1 k.0 k.1 in
-      subst (λ (p : List A × List ℕ). (each f p.0 ⊕ Some p.1 ≡ Some b) × (length p.0 ≡ suc n)) (some_same (m.0.0 ∷ k.0.0, k.0.1) x k.2)
+      subst (λ (p : List A × List ℕ). (each f p.0 ⊕ Some p.1 ≡ Some b) × (length p.0 ≡ suc n)) (same_Some (m.0.0 ∷ k.0.0, k.0.1) x k.2)
       (both_begin (f m.0.0) (each f k.0.0) b m.0.1 k.0.1 (c.sound b m.0 m.1) i.0, ap suc i.1)
 
   times_whole : (xs : List A) (b rest : List ℕ) → each f xs ⊕ Some rest ≡ Some b → times_at r (length xs) b ≡ Some (xs, rest)
   unfolding times_at
-  times_whole [] b rest e = ap (λ t. Some ([], t)) (some_list _ _ (sym e ∙ left_nil (Some rest)))
+  times_whole [] b rest e = ap (λ t. Some ([], t)) (same_Some _ _ (sym e ∙ left_nil (Some rest)))
   times_whole (x ∷ xs) b rest e =
       let p = parted (f x) (each f xs) b rest e in
       rw (c.whole b (x, p.mid) p.front, times_whole xs p.mid rest p.back) refl
@@ -348,7 +346,7 @@ row_told after of n l c is {b} {x} {rest} e = let w = row_whole of n l c b x res
 -- a byte that stands alone
 pub lone_sound : {B : Type 0} (F : B → Piece) (v : B) (n : ℕ) → F v ≡ byte n → (b : List ℕ) (t : ℕ × List ℕ) (y : B × List ℕ) → byte_at b ≡ Some t → t.0 ≡ n
     → Some (v, t.1) ≡ Some y → Begins F b y
-lone_sound {B} F v n is b t y e i g = subst (λ (p : B × List ℕ). F p.0 ⊕ Some p.1 ≡ Some b) (some_same (v, t.1) y g)
+lone_sound {B} F v n is b t y e i g = subst (λ (p : B × List ℕ). F p.0 ⊕ Some p.1 ≡ Some b) (same_Some (v, t.1) y g)
     (ap (λ p. p ⊕ Some t.1) (is ∙ ap byte (sym i)) ∙ byte_begins b t e)
 
 pub lone_told : {B : Type 0} (after : ℕ → List ℕ → Found B) (v : B) (n : ℕ) → n < 256 → {b rest : List ℕ} → after n rest ≡ Some (v, rest)
@@ -381,7 +379,7 @@ tells_limit = record {
       ap (λ p. p ⊕ Some x.1) (number_fits x.0 (omega (arith, r.1))) ∙ joined _ _ ∙ ap Some (sym r.0);
   whole = λ b x e.
       elim (number_cases x.0) [
-        | inl h ↦ let f = some_list _ _ (sym (joined (unsigned x.0) x.1) ∙ ap (λ p. p ⊕ Some x.1) (sym h.0) ∙ e) in
+        | inl h ↦ let f = same_Some _ _ (sym (joined (unsigned x.0) x.1) ∙ ap (λ p. p ⊕ Some x.1) (sym h.0) ∙ e) in
             ap limit_at (sym f) ∙ number_read 128 (omega arith) (omega arith) 18446744073709551615 x.0 x.1 (omega (arith, h.1))
         | inr h ↦ let z : None ≡ Some b = sym (left_none (Some x.1)) ∙ ap (λ p. p ⊕ Some x.1) (sym h.0) ∙ e in absurd cc
       ];
@@ -400,5 +398,5 @@ clear_told {A} {f} {r} c = record { law = agree } where
       let t = parts_are (f y) q b h in
       let m = c.whole b (x, s.right) (ap (λ z. f x ⊕ z) (sym s.q_is) ∙ e) in
       let n = c.whole b (y, t.right) (ap (λ z. f y ⊕ z) (sym t.q_is) ∙ h) in
-      let g = some_same (x, s.right) (y, t.right) (sym m ∙ n) in
+      let g = same_Some (x, s.right) (y, t.right) (sym m ∙ n) in
       record { same = ap (λ z. z.0) g; rests = record { rest = s.right; first = s.q_is; second = t.q_is ∙ ap Some (sym (ap (λ z. z.1) g)) } }

@@ -11,21 +11,21 @@ use Rattle.smith_format.specs.declared.types.RefType.TheVariants.{FuncRef, Exter
 use Rattle.smith_format.specs.declared.types.TableType.{TableType}
 use Rattle.smith_format.specs.declared.types.ValType.{ValType}
 use Rattle.smith_format.specs.declared.types.ValType.TheVariants.{I32, I64, F32, F64, V128, Ref}
-use Rattle.smith_format.proofs.Piece.{assoc, joined, right_nil}
+use Rattle.smith_format.proofs.Piece.{assoc, joined, right_nil, two_bytes}
 use Rattle.smith_syntax.specs.Entries.{ModuleDecl, imports, declares, aliases, exports, CoreEntry, core_func, core_module}
-use Rattle.smith_syntax.specs.Grammar.{moduledecl, core_entry, externdesc, named_extern, import_entry}
+use Rattle.smith_syntax.specs.Grammar.{moduledecl, core_entry, externdesc, named_extern}
 use Rattle.smith_syntax.specs.declared.deftype.ComponentTypeRef.{ComponentTypeRef}
 use Rattle.smith_syntax.specs.declared.deftype.ComponentTypeRef.TheVariants as to
 use Rattle.smith_read_types.specs.CoreTypes.{ref_after, ref_at, core_val_after, core_val_at, core_function_at, Limits, without, within, bounds_at, limits_after}
 use Rattle.smith_read_types.specs.CoreTypes.{limits_at, memory_of, table_of, table_at, global_of, global_at, tag_of, entity_after, entity_at, module_decl_after}
 use Rattle.smith_read_types.specs.CoreTypes.{module_decl_at, core_entry_after, core_entry_at}
-use Rattle.smith_read_types.specs.Externs.{extern_after, extern_at, named_at, import_of, import_at}
+use Rattle.smith_read_types.specs.Externs.{extern_after, extern_at, named_at}
 use Rattle.smith_read_types.specs.Reading.{◌>>=◌, byte_at, index_at, text_at, both_at, seen, behind, limit_at, u_at}
 use Rattle.smith_read_types.specs.Tells.{Begins, Tells}
-use Rattle.smith_read_types.proofs.Digits.{some_same}
 use Rattle.smith_read_types.proofs.Telling.{bind_some, chain, nothing, byte_begins, byte_read, both_begin, parted, tells_u, tells_index, tells_text, tells_both}
-use Rattle.smith_read_types.proofs.Telling.{tells_seen, tells_many, tells_behind, tells_limit, tells_after, tells_as, seen_twice, row_sound, Told}
+use Rattle.smith_read_types.proofs.Telling.{tells_many, tells_behind, tells_limit, tells_after, tells_as, seen_twice, row_sound, Told}
 use Rattle.smith_read_types.proofs.Telling.{row_told, lone_sound, lone_told, seen_is}
+use Rattle.std.proofs.lemmas.Option.{same_Some}
 
 -- ---- references and value types
 
@@ -133,7 +133,7 @@ table_begins : (b : List ℕ) (r : RefType) (m : List ℕ) (l : Limits) (rest : 
     → limits_of l ⊕ Some rest ≡ Some m → table_of r l rest ≡ Some x → Begins table_type b x
 table_begins b r m (true, wide, n, most) rest x e f g = absurd cc
 table_begins b r m (false, wide, n, most) rest x e f g =
-    subst (λ (p : TableType × List ℕ). Begins table_type b p) (some_same (record { element_type = r; table64 = wide; minimum = n; maximum = most }, rest) x g)
+    subst (λ (p : TableType × List ℕ). Begins table_type b p) (same_Some (record { element_type = r; table64 = wide; minimum = n; maximum = most }, rest) x g)
     (both_begin (ref_val r) (limits false wide n most) b m rest e f)
 
 tells_table : Tells table_type table_at
@@ -152,7 +152,7 @@ global_begins : (b : List ℕ) (v : ValType) (m : List ℕ) (t : ℕ × List ℕ
     → global_of v t ≡ Some x → Begins global_type b x
 global_begins b v m t x e f =
     let row : (w : Bool) → t.0 ≡ bit w 1 → Some (record { val_type = v; mutable = w }, t.1) ≡ Some x → Begins global_type b x = λ w g h.
-    subst (λ (p : GlobalType × List ℕ). Begins global_type b p) (some_same (record { val_type = v; mutable = w }, t.1) x h)
+    subst (λ (p : GlobalType × List ℕ). Begins global_type b p) (same_Some (record { val_type = v; mutable = w }, t.1) x h)
     (both_begin (core_val v) (byte (bit w 1)) b m t.1 e (ap (λ n. byte n ⊕ Some t.1) (sym g) ∙ byte_begins m t f)) in
     chain t.0 0 _ _ x (row false) (chain t.0 1 _ _ x (row true) (nothing x))
 
@@ -257,9 +257,6 @@ tells_core_entry = tells_after core_entry_after core_begins core_read
 
 -- ---- imports and exports
 
-two_bytes : (m n : ℕ) (p : Piece) → bytes (m ∷ n ∷ []) ⊕ p ≡ byte m ⊕ (byte n ⊕ p)
-two_bytes m n p = ap (λ h. h ⊕ p) (sym (joined (m ∷ []) (n ∷ []))) ∙ assoc (byte m) (byte n) p
-
 extern_begins : (b : List ℕ) (t : ℕ × List ℕ) (x : ComponentTypeRef × List ℕ) → byte_at b ≡ Some t → extern_after t.0 t.1 ≡ Some x → Begins externdesc b x
 unfolding extern_after
 extern_begins b t x e =
@@ -287,7 +284,3 @@ tells_extern = tells_after extern_after extern_begins extern_read
 pub tells_named : Tells (λ (x : List ℕ × ComponentTypeRef). named_extern x.0 x.1) named_at
 unfolding named_at
 tells_named = tells_behind 0x00 (lit< tt) (tells_both tells_text tells_extern)
-
-pub tells_import : Tells import_entry import_at
-unfolding import_at
-tells_import = tells_seen import_of (λ i. (i.name, i.to)) (λ i. refl) (λ x. refl) tells_named

@@ -1,8 +1,8 @@
 -- What is read is what is spelled: types that hold types.
-use Rattle.std.proofs.Common.{◌≡◌, ℕ, zero, suc, List, [], ◌∷◌, length, Option, Some, None, refl, ap, sym, ◌∙◌, subst, arith, Bool, true, false, cond}
+use Rattle.std.proofs.Common.{◌≡◌, ℕ, zero, suc, List, [], ◌∷◌, Option, Some, None, refl, ap, sym, ◌∙◌, subst, Bool, true, false, cond}
 use Rattle.std.proofs.Common.{eqb, lit<}
 use Rattle.std.proofs.lemmas.Bool.{eqb-true}
-use Rattle.smith_format.specs.Piece.{Piece, ◌⊕◌, byte, bytes, u, each, many}
+use Rattle.smith_format.specs.Piece.{Piece, ◌⊕◌, byte, bytes, u, many}
 use Rattle.smith_format.proofs.Piece.{assoc, joined, left_none}
 use Rattle.smith_syntax.specs.Entries.{Entry, defined, function, component_type, instance_type}
 use Rattle.smith_syntax.specs.Entries.{Decl, Decls, core_type_decl, type_decl, type_alias, core_type_alias, import_decl, export_decl, no_decls, then_decls}
@@ -15,6 +15,7 @@ use Rattle.smith_read_types.specs.Types.{primitive_of, defined_after}
 use Rattle.smith_read_types.proofs.Telling.{chain, nothing, tells_u, tells_both, tells_behind, tells_many, tells_after, row_sound, row_told, Told, seen_is}
 use Rattle.smith_read_types.proofs.TellingTypes.{defined_begins, defined_read, tells_function}
 use Rattle.smith_read_types.proofs.TellingCore.{tells_core_entry, tells_named}
+use Rattle.smith_syntax.proofs.Declarations.{many_decls}
 
 -- ---- outer aliases
 
@@ -181,16 +182,8 @@ module _ (f : Entry → Piece) (inner : ℕ → List ℕ → Found Entry) (c : T
 
   -- ---- lists of them
 
-  count_in : (ds : List Decl) → decl_count (in_order ds) ≡ length ds
-  count_in [] = refl
-  count_in (d ∷ ds) = omega (arith, count_in ds)
-
-  each_in : (importing : Bool) (ds : List Decl) → decls_in f importing (in_order ds) ≡ each (decl_in f importing) ds
-  each_in importing [] = refl
-  each_in importing (d ∷ ds) = ap (λ p. decl_in f importing d ⊕ p) (each_in importing ds)
-
   many_in : (importing : Bool) (ds : List Decl) → u (decl_count (in_order ds)) ⊕ decls_in f importing (in_order ds) ≡ many (decl_in f importing) ds
-  many_in importing ds = ap (λ n. u n ⊕ decls_in f importing (in_order ds)) (count_in ds) ∙ ap (λ p. u (length ds) ⊕ p) (each_in importing ds)
+  many_in importing ds = many_decls (decl_in f importing) (decls_in f importing) refl (λ d es. refl) ds
 
   -- ---- types
 

@@ -1,6 +1,6 @@
 -- What is read is what is spelled: types of values and of functions.
 use Rattle.std.proofs.Common.{◌≡◌, ℕ, ◌<◌, ◌≤◌, ◌⊎◌, inl, inr, List, [], ◌∷◌, Option, Some, None, refl, ap, sym, ◌∙◌, subst, arith}
-use Rattle.std.proofs.Common.{lit≤, lit<}
+use Rattle.std.proofs.Common.{lit<}
 use Rattle.smith_format.specs.Piece.{Piece, ◌⊕◌, byte, bytes, text, many}
 use Rattle.smith_format.proofs.Clear.{s_index_head}
 use Rattle.smith_format.proofs.Piece.{joined}
@@ -16,16 +16,18 @@ use Rattle.smith_read_types.specs.Reading.{◌>>=◌, byte_at, index_at, text_at
 use Rattle.smith_read_types.specs.Tells.{Begins, Tells}
 use Rattle.smith_read_types.specs.Types.{primitive_of, val_at, valtype_at, maybe_valtype_at, field_at, case_at, result_at, primitive_at, defined_after}
 use Rattle.smith_read_types.specs.Types.{defined_at, signature_of, function_at}
-use Rattle.smith_read_types.proofs.Digits.{byte_is, some_same}
+use Rattle.smith_read_types.proofs.Digits.{byte_is}
 use Rattle.smith_read_types.proofs.Telling.{bind_some, chain, nothing, byte_begins, byte_read, skip_begins, skip_read, both_begin, parted, tells_index}
 use Rattle.smith_read_types.proofs.Telling.{tells_text, tells_both, tells_seen, tells_many, row_sound, row_whole, seen_is, first_byte, index_byte}
+use Rattle.smith_syntax.proofs.Clear.{primitive_range}
+use Rattle.std.proofs.lemmas.Option.{same_Some}
 
 -- ---- primitive types
 
 primitive_sound : (n : ℕ) (p : PrimitiveValType) → primitive_of n ≡ Some p → n ≡ primvaltype p
 unfolding primitive_of
 primitive_sound n p =
-    let at : (q : PrimitiveValType) → n ≡ primvaltype q → Some q ≡ Some p → n ≡ primvaltype p = λ q f e. f ∙ ap primvaltype (some_same q p e) in
+    let at : (q : PrimitiveValType) → n ≡ primvaltype q → Some q ≡ Some p → n ≡ primvaltype p = λ q f e. f ∙ ap primvaltype (same_Some q p e) in
     chain n 0x7f _ _ p (at prim.Bool)
     (chain n 0x7e _ _ p (at prim.S8) (chain n 0x7d _ _ p (at prim.U8) (chain n 0x7c _ _ p (at prim.S16) (chain n 0x7b _ _ p (at prim.U16)
     (chain n 0x7a _ _ p (at prim.S32)
@@ -48,21 +50,6 @@ primitive_whole prim.F64 = refl
 primitive_whole prim.Char = refl
 primitive_whole prim.String = refl
 
-primitive_range : (a : PrimitiveValType) → (0x73 ≤ primvaltype a) × (primvaltype a < 0x80)
-primitive_range prim.Bool = (lit≤ tt, lit< tt)
-primitive_range prim.S8 = (lit≤ tt, lit< tt)
-primitive_range prim.U8 = (lit≤ tt, lit< tt)
-primitive_range prim.S16 = (lit≤ tt, lit< tt)
-primitive_range prim.U16 = (lit≤ tt, lit< tt)
-primitive_range prim.S32 = (lit≤ tt, lit< tt)
-primitive_range prim.U32 = (lit≤ tt, lit< tt)
-primitive_range prim.S64 = (lit≤ tt, lit< tt)
-primitive_range prim.U64 = (lit≤ tt, lit< tt)
-primitive_range prim.F32 = (lit≤ tt, lit< tt)
-primitive_range prim.F64 = (lit≤ tt, lit< tt)
-primitive_range prim.Char = (lit≤ tt, lit< tt)
-primitive_range prim.String = (lit≤ tt, lit< tt)
-
 -- other bytes begin no primitive type
 primitive_none : (n : ℕ) → (n < 64) ⊎ (128 ≤ n) → primitive_of n ≡ None
 primitive_none n h = by_case (primitive_of n) refl
@@ -76,7 +63,7 @@ primitive_none n h = by_case (primitive_of n) refl
 
 val_cases : (b : List ℕ) (t : ℕ × List ℕ) (x : ComponentValType × List ℕ) (o : Option PrimitiveValType) → byte_at b ≡ Some t → primitive_of t.0 ≡ o
     → val_at b t.1 o ≡ Some x → Begins valtype b x
-val_cases b t x (Some p) e f g = subst (λ (y : ComponentValType × List ℕ). Begins valtype b y) (some_same (Primitive p, t.1) x g)
+val_cases b t x (Some p) e f g = subst (λ (y : ComponentValType × List ℕ). Begins valtype b y) (same_Some (Primitive p, t.1) x g)
     (ap (λ m. byte m ⊕ Some t.1) (sym (primitive_sound t.0 p f)) ∙ byte_begins b t e)
 val_cases b t x None e f g =
     let i = seen_is Indexed (index_at b) x g in
@@ -109,7 +96,7 @@ maybe_read b (Some v) rest e = let r = row_whole Some 1 (lit< tt) tells_val b v 
 -- nothing, behind its byte
 none_sound : (n : ℕ) (b : List ℕ) (t : ℕ × List ℕ) (x : Option ComponentValType × List ℕ) → byte_at b ≡ Some t → t.0 ≡ n → Some (None, t.1) ≡ Some x
     → (x.0 ≡ None) × (byte n ⊕ Some x.1 ≡ Some b)
-none_sound n b t x e f g = subst (λ (y : Option ComponentValType × List ℕ). (y.0 ≡ None) × (byte n ⊕ Some y.1 ≡ Some b)) (some_same (None, t.1) x g)
+none_sound n b t x e f g = subst (λ (y : Option ComponentValType × List ℕ). (y.0 ≡ None) × (byte n ⊕ Some y.1 ≡ Some b)) (same_Some (None, t.1) x g)
     (refl, ap (λ m. byte m ⊕ Some t.1) (sym f) ∙ byte_begins b t e)
 
 pub tells_maybe : Tells maybe_valtype maybe_valtype_at
@@ -140,7 +127,7 @@ tells_case = record {
       let n = bind_some (text_at b) (λ n. maybe_valtype_at n.1 >>= λ v. skip_at 0x00 v.1 >>= λ rest. Some ((n.0, v.0), rest)) x e in
       let v = bind_some (maybe_valtype_at n.0.1) (λ v. skip_at 0x00 v.1 >>= λ rest. Some ((n.0.0, v.0), rest)) x n.2 in
       let z = bind_some (skip_at 0x00 v.0.1) (λ rest. Some ((n.0.0, v.0.0), rest)) x v.2 in
-      subst (λ (y : Case × List ℕ). Begins case b y) (some_same ((n.0.0, v.0.0), z.0) x z.2)
+      subst (λ (y : Case × List ℕ). Begins case b y) (same_Some ((n.0.0, v.0.0), z.0) x z.2)
       (both_begin (text n.0.0) (maybe_valtype v.0.0 ⊕ byte 0x00) b n.0.1 z.0 (tells_text.sound b n.0 n.1)
       (both_begin (maybe_valtype v.0.0) (byte 0x00) n.0.1 v.0.1 z.0 (tells_maybe.sound n.0.1 v.0 v.1) (skip_begins 0 v.0.1 z.0 z.1)));
   whole = λ b x e. case_read b x.0 x.1 e;
@@ -160,7 +147,7 @@ result_none : (b : List ℕ) (t : ℕ × List ℕ) (x : Option ComponentValType 
     → (skip_at 0 t.1 >>= λ rest. Some (None, rest)) ≡ Some x → Begins resultlist b x
 result_none b t x e f g =
     let r = bind_some (skip_at 0 t.1) (λ rest. Some (None, rest)) x g in
-    subst (λ (y : Option ComponentValType × List ℕ). Begins resultlist b y) (some_same (None, r.0) x r.2)
+    subst (λ (y : Option ComponentValType × List ℕ). Begins resultlist b y) (same_Some (None, r.0) x r.2)
     (ap (λ p. p ⊕ Some r.0) (sym two) ∙ both_begin (byte 1) (byte 0) b t.1 r.0 (ap (λ m. byte m ⊕ Some t.1) (sym f) ∙ byte_begins b t e)
     (skip_begins 0 t.1 r.0 r.1))
 
@@ -182,7 +169,7 @@ tells_outcome = tells_both tells_maybe tells_maybe
 
 primitive_begins : (b : List ℕ) (t : ℕ × List ℕ) (x : DefValType × List ℕ) (o : Option PrimitiveValType) → byte_at b ≡ Some t → primitive_of t.0 ≡ o
     → primitive_at o t.1 ≡ Some x → Begins defvaltype b x
-primitive_begins b t x (Some p) e f g = subst (λ (y : DefValType × List ℕ). Begins defvaltype b y) (some_same (primitive_type p, t.1) x g)
+primitive_begins b t x (Some p) e f g = subst (λ (y : DefValType × List ℕ). Begins defvaltype b y) (same_Some (primitive_type p, t.1) x g)
     (ap (λ m. byte m ⊕ Some t.1) (sym (primitive_sound t.0 p f)) ∙ byte_begins b t e)
 primitive_begins b t x None e f g = absurd cc
 

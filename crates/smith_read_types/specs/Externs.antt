@@ -1,6 +1,5 @@
 -- How imports and exports are read.
 use Rattle.std.specs.Prelude.{ℕ, List, None, ◌==◌, if◌then◌else◌}
-use Rattle.smith_syntax.specs.Entries.{ImportEntry}
 use Rattle.smith_syntax.specs.declared.deftype.ComponentTypeRef.{ComponentTypeRef}
 use Rattle.smith_syntax.specs.declared.deftype.ComponentTypeRef.TheVariants as to
 use Rattle.smith_read_types.specs.Reading.{Found, ◌>>=◌, seen, both_at, byte_at, behind, u_at, text_at}
@@ -17,12 +16,6 @@ extern_after tag bs =
 unfoldable pub extern_at : List ℕ → Found ComponentTypeRef
 extern_at bs = byte_at bs >>= λ t. extern_after t.0 t.1
 
--- a name and what it is of
+-- the name of an import or an export, and what it is of
 unfoldable pub named_at : List ℕ → Found (List ℕ × ComponentTypeRef)
 named_at bs = behind 0x00 (both_at text_at extern_at) bs
-
-abbrev pub import_of : List ℕ × ComponentTypeRef → ImportEntry
-import_of x = record { name = x.0; to = x.1 }
-
-unfoldable pub import_at : List ℕ → Found ImportEntry
-import_at bs = seen import_of (named_at bs)

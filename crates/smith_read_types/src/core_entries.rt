@@ -8,7 +8,7 @@ ghost use Rattle.smith_read_types.specs.Nodes.{shown_module_node, shown_core_nod
 
 use crate::core_types::{CoreNode, ModuleNode, core_function_of, entity_of};
 use crate::error::{Reason, Unread, malformed};
-use crate::lists::{Readable, many_of, skip, text_of};
+use crate::lists::{Readable, many_of, read_text, skip};
 use crate::numbers::{byte_of, count_of};
 use std::alloc::Global;
 
@@ -24,8 +24,8 @@ impl Readable for ModuleNode {
         let (tag, rest) = byte_of(bytes)?;
         match tag {
             0x00 => {
-                let (module, rest) = text_of(alloc, rest)?;
-                let (name, rest) = text_of(alloc, rest)?;
+                let (module, rest) = read_text(alloc, rest)?;
+                let (name, rest) = read_text(alloc, rest)?;
                 let (entity, rest) = entity_of(rest)?;
                 let import = ModuleNode::Import {
                     module,
@@ -47,7 +47,7 @@ impl Readable for ModuleNode {
                 Ok((ModuleNode::OuterAlias { count, index }, rest))
             }
             0x03 => {
-                let (name, rest) = text_of(alloc, rest)?;
+                let (name, rest) = read_text(alloc, rest)?;
                 let (entity, rest) = entity_of(rest)?;
                 Ok((ModuleNode::Export { name, entity }, rest))
             }

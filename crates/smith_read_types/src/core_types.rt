@@ -12,7 +12,7 @@ ghost use Rattle.smith_read_types.specs.CoreTypes.{limits_after, limits_at, tabl
 ghost use Rattle.smith_read_types.specs.CoreTypes.{module_decl_at, core_entry_at};
 
 use crate::error::{Reason, Unread, malformed, malformed_before};
-use crate::lists::{Readable, many_of, skip, text_of};
+use crate::lists::{Readable, many_of, read_text, skip};
 use crate::numbers::{byte_of, count_of, index_of, limit_of};
 use smith_format::{
     EntityType, FuncType, GlobalType, MemoryType, RefType, TableType, TagType, ValType,

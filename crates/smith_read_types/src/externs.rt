@@ -1,12 +1,11 @@
 //! Imports and exports.
 
 ghost use Rattle.std.specs.Prelude.{string_bytes};
-ghost use Rattle.smith_syntax.specs.Entries.{ImportEntry};
 ghost use Rattle.smith_read_types.specs.Reading.{Gives};
-ghost use Rattle.smith_read_types.specs.Externs.{extern_at, named_at, import_at, import_of};
+ghost use Rattle.smith_read_types.specs.Externs.{extern_at, named_at};
 
 use crate::error::{Reason, Unread, malformed};
-use crate::lists::{Readable, skip, text_of};
+use crate::lists::{read_text, skip};
 use crate::numbers::{byte_of, count_of};
 use smith_syntax::ComponentTypeRef;
 use std::alloc::Global;
@@ -43,37 +42,13 @@ fn extern_of(bytes: &[u8]) -> Result<(ComponentTypeRef, &[u8]), Unread>
     }
 }
 
-/// A name and what it is of.
+/// The name of an import or an export, and what it is of.
 #[tactic(auto, unfolding(crate::specs::Externs::named_at))]
-pub(crate) fn named_of(
-    alloc: Global,
-    bytes: &[u8],
-) -> Result<((String, ComponentTypeRef), &[u8]), Unread>
+pub fn named_of(alloc: Global, bytes: &[u8]) -> Result<((String, ComponentTypeRef), &[u8]), Unread>
     ensures { Gives (λ x. ((string_bytes x.0.0, x.0.1), x.1.now)) result (named_at bytes.now) }
 {
     let rest = skip(bytes, 0x00)?;
-    let (name, rest) = text_of(alloc, rest)?;
+    let (name, rest) = read_text(alloc, rest)?;
     let (to, rest) = extern_of(rest)?;
     Ok(((name, to), rest))
-}
-
-/// An import of a component.
-#[derive(Debug, Drop)]
-pub struct ImportNode {
-    pub name: String,
-    pub to: ComponentTypeRef,
-}
-
-impl Readable for ImportNode {
-    ghost Shown = { ImportEntry };
-
-    ghost shown = { λ i. import_of (string_bytes i.name, i.to) };
-
-    ghost reading = { import_at };
-
-    #[tactic(auto, unfolding(crate::specs::Externs::import_at))]
-    fn read(alloc: Global, bytes: &[u8]) -> Result<(ImportNode, &[u8]), Unread> {
-        let ((name, to), rest) = named_of(alloc, bytes)?;
-        Ok((ImportNode { name, to }, rest))
-    }
 }

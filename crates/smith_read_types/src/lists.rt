@@ -35,7 +35,7 @@ pub fn skip(bytes: &[u8], value: u8) -> Result<&[u8], Unread>
 
 /// A text after its length.
 #[tactic(auto, unfolding(crate::specs::Reading::text_at))]
-pub fn text_of(alloc: Global, bytes: &[u8]) -> Result<(String, &[u8]), Unread>
+pub fn read_text(alloc: Global, bytes: &[u8]) -> Result<(String, &[u8]), Unread>
     ensures { Gives (λ x. (string_bytes x.0, x.1.now)) result (text_at bytes.now) }
 {
     let (length, rest) = count_of(bytes)?;
@@ -72,7 +72,7 @@ impl Readable for String {
     ghost reading = { text_at };
 
     fn read(alloc: Global, bytes: &[u8]) -> Result<(String, &[u8]), Unread> {
-        text_of(alloc, bytes)
+        read_text(alloc, bytes)
     }
 }
 

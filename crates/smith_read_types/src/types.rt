@@ -10,7 +10,7 @@ ghost use Rattle.smith_read_types.specs.Types.{primitive_of, valtype_at, maybe_v
 ghost use Rattle.smith_read_types.specs.Types.{result_at, defined_after, defined_at, function_at};
 
 use crate::error::{Reason, Unread, malformed, malformed_before};
-use crate::lists::{Readable, many_of, skip, text_of};
+use crate::lists::{Readable, many_of, read_text, skip};
 use crate::numbers::{byte_of, index_of};
 use smith_syntax::{
     ComponentValType, DefinedType, EnumType, FlagsType, FuncType, ListType, OptionType,
@@ -105,7 +105,7 @@ impl Readable for ComponentValType {
 fn field_of(alloc: Global, bytes: &[u8]) -> Result<((String, ComponentValType), &[u8]), Unread>
     ensures { Gives (λ x. (named x.0, x.1.now)) result (field_at bytes.now) }
 {
-    let (name, rest) = text_of(alloc, bytes)?;
+    let (name, rest) = read_text(alloc, bytes)?;
     let (ty, rest) = val_of(rest)?;
     Ok(((name, ty), rest))
 }
@@ -129,7 +129,7 @@ fn case_of(
 ) -> Result<((String, Option<ComponentValType>), &[u8]), Unread>
     ensures { Gives (λ x. (named x.0, x.1.now)) result (case_at bytes.now) }
 {
-    let (name, rest) = text_of(alloc, bytes)?;
+    let (name, rest) = read_text(alloc, bytes)?;
     let (ty, rest) = maybe_val_of(rest)?;
     let rest = skip(rest, 0x00)?;
     Ok(((name, ty), rest))

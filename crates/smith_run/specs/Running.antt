@@ -4,10 +4,10 @@ use Rattle.std.specs.Io.KnownBytes.{Appends, Consumes, IsAtEnd}
 use Rattle.smith_input.specs.Reading.{IsTail}
 use Rattle.smith_input.specs.declared.error.Error.TheVariants.{OutOfMemory}
 use Rattle.smith_component.specs.declared.Config.{Config}
-use Rattle.smith_component.specs.Tree.{Tree}
-use Rattle.smith_component.specs.Generates.{Generates}
-use Rattle.smith_component.specs.Grammar.{Spells}
-use Rattle.smith_component.specs.Script.{Within, script}
+use Rattle.smith_tree.specs.Tree.{Tree}
+use Rattle.smith_tree.specs.Generates.{Generates}
+use Rattle.smith_tree.specs.Grammar.{Spells}
+use Rattle.smith_tree.specs.Script.{Within, script}
 use Rattle.smith_component.specs.Runs.{RunsTo}
 use Rattle.smith_component.specs.Refusals.{IsGenerateRefusal}
 use Rattle.smith_run.specs.declared.running.RunError.{RunError}

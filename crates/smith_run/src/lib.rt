@@ -5,4 +5,4 @@ mod pages;
 mod running;
 
 pub use pages::page;
-pub use running::{Form, LONGEST_INPUT, RunError, run};
+pub use running::{Form, LONGEST_INPUT, RunError, convert};

@@ -138,7 +138,7 @@ pub enum Form {
 }
 
 // What is written of a component's bytes.
-fn text_of(alloc: Global, form: Form, bytes: Vec<u8>, left: usize) -> Result<Vec<u8>, AllocError>
+fn formatted(alloc: Global, form: Form, bytes: Vec<u8>, left: usize) -> Result<Vec<u8>, AllocError>
     ensures { IfOk result (λ text. text.items ≡ written_text form bytes.items left) }
 {
     match form {
@@ -153,7 +153,7 @@ fn text_of(alloc: Global, form: Form, bytes: Vec<u8>, left: usize) -> Result<Vec
 /// Any error of a read is `ReadFault`, a byte past `LONGEST_INPUT` is `InputTooLong`, and any error of a write or
 /// of the flush behind it is `WriteFault`. What `generate` refuses with, or want of memory, is `Refused`. The text
 /// is made whole before its first byte is written, so any part of it may be out after `WriteFault` alone.
-pub fn run<R: Read, W: Write>(
+pub fn convert<R: Read, W: Write>(
     alloc: Global,
     reader: &mut R,
     writer: &mut W,
@@ -175,7 +175,7 @@ pub fn run<R: Read, W: Write>(
     let mut unstructured = Unstructured::new(&input);
     let generated = generate(alloc, config, &mut unstructured)?;
     let left = unstructured.left().len();
-    let text = text_of(alloc, form, generated.bytes, left)?;
+    let text = formatted(alloc, form, generated.bytes, left)?;
     write_text(writer, &text)?;
     Ok(left)
 }

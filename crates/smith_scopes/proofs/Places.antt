@@ -27,7 +27,7 @@ module _ {A : Type 0} (test : A → Bool) where
       let same : i ≡ p.1 = omega (arith, p.2) in
       (p.0, ap (slice_get es) same ∙ p.3, p.4)
 
--- What passes a test stands among the places of what does.
+-- What a test accepts stands among the places of what does.
 module _ {A : Type 0} (test : A → Bool) where
   place_split : (x : A) (xs : List A) (n i : ℕ) → (k : ℕ) × (slice_get (places test (n + 1) xs) k ≡ Some i) → (b : Bool) → test x ≡ b
       → (k : ℕ) × (slice_get (cond b (n ∷ places test (n + 1) xs) (places test (n + 1) xs)) k ≡ Some i)

@@ -1,11 +1,11 @@
--- Lists, booleans and results by themselves.
-use Rattle.std.proofs.Common.{◌≡◌, ℕ, ◌+◌, Bool, true, false, ◌&&◌, List, [], ◌∷◌, ◌++◌, map, refl, sym, ap, ◌∙◌}
+-- Lists and results by themselves.
+use Rattle.std.proofs.Common.{◌≡◌, ℕ, ◌+◌, List, [], ◌∷◌, ◌++◌, map, sym, ap, ◌∙◌}
 use Rattle.std.proofs.Math.ListN.{drop}
-use Rattle.std.proofs.lemmas.Bool.{false≢true}
 use Rattle.std.proofs.lemmas.List.{map-append}
 use Rattle.std.proofs.lemmas.Option.{get_or_from_slice_get, slice_get_within}
-use Rattle.std.specs.List.{AllByRecursion}
 use Rattle.std.specs.Prelude.{OnOk, Result, Ok, Err, Some, slice_get}
+pub use Rattle.std.proofs.lemmas.Bool.{and_parts as both_true}
+pub use Rattle.smith_input.proofs.Lists.{all_back, all_both, all_front}
 pub use Rattle.smith_input.proofs.Rests.{rest_at}
 
 -- a list with one item more, as it is shown
@@ -16,24 +16,6 @@ pushed shown old new x e = ap (map shown) e ∙ map-append shown old (x ∷ [])
 pub rest_from : {A : Type 0} (xs : List A) (i : ℕ) (x : A) → slice_get xs i ≡ Some x → drop i xs ≡ x ∷ drop (i + 1) xs
 rest_from xs i x e = rest_at xs i x (slice_get_within xs i x e) (sym (get_or_from_slice_get xs i x x e))
 
-pub both_true : (a b : Bool) → (a && b) ≡ true → (a ≡ true) × (b ≡ true)
-both_true true b e = (refl, e)
-both_true false b e = absurd (false≢true e)
-
 pub both_on : {T E : Type 0} (P Q : Type 0) (r : Result T E) → OnOk r P → OnOk r Q → OnOk r (P × Q)
 both_on P Q (Ok x) p q = (p, q)
 both_on P Q (Err e) p q = tt
-
--- what holds of all items of two lists in a row holds of those of each, and the other way round
-
-pub all_front : {A : Type 0} → (P : A → Type 0) (xs ys : List A) → AllByRecursion P (xs ++ ys) → AllByRecursion P xs
-all_front P [] ys h = tt
-all_front P (x ∷ xs) ys h = (h.0, all_front P xs ys h.1)
-
-pub all_back : {A : Type 0} → (P : A → Type 0) (xs ys : List A) → AllByRecursion P (xs ++ ys) → AllByRecursion P ys
-all_back P [] ys h = h
-all_back P (x ∷ xs) ys h = all_back P xs ys h.1
-
-pub all_both : {A : Type 0} → (P : A → Type 0) (xs ys : List A) → AllByRecursion P xs → AllByRecursion P ys → AllByRecursion P (xs ++ ys)
-all_both P [] ys h k = k
-all_both P (x ∷ xs) ys h k = (h.0, all_both P xs ys h.1 k)

@@ -5,10 +5,10 @@ use Rattle.smith_input.specs.declared.error.Error.{Error}
 use Rattle.smith_input.specs.declared.error.Error.TheVariants.{OutOfMemory}
 use Rattle.smith_format.specs.Limits.{IsConsistent}
 use Rattle.smith_format.specs.declared.config.Config.{Config}
-use Rattle.smith_component.specs.Grammar.{Spells}
+use Rattle.smith_tree.specs.Grammar.{Spells}
 use Rattle.smith_component.specs.Refusals.{IsGenerateRefusal}
 use Rattle.smith_component.specs.Runs.{RunsTo}
-use Rattle.smith_component.specs.Tree.{Tree}
+use Rattle.smith_tree.specs.Tree.{Tree}
 use Rattle.smith_component.proofs.Decided.{runs_to_same}
 use Rattle.smith_component.proofs.Reproducible.{answer_or_memory}
 use Rattle.smith_script.specs.IsScript.{IsGiven}

@@ -4,25 +4,25 @@ use Rattle.std.proofs.lemmas.List.{map-append}
 use Rattle.std.specs.List.{flat_map}
 use Rattle.smith_syntax.specs.Entries.{Entry, CoreEntry, ImportEntry}
 use Rattle.smith_syntax.specs.declared.deftype.ComponentTypeRef.{ComponentTypeRef}
-use Rattle.smith_types.specs.declared.make.references.RefTotals.{RefTotals}
-use Rattle.smith_component.specs.Offers.{totals_of}
-use Rattle.smith_component.specs.Spaces.{Spaces, no_spaces, after_canon as canon_behind, after_export as export_behind, after_import as import_behind}
-use Rattle.smith_component.specs.Spaces.{after_part as part_behind, spaces_of}
-use Rattle.smith_component.specs.Tree.{Canon, ExportEntry, lift, lower, Tree, Part, ends, first, custom, core_module, core_types, component, types, canons}
-use Rattle.smith_component.specs.Tree.{imports, exports, add, anywhere, anywhere_in, canons_in, components_in, exports_in, exports_of, function_count}
-use Rattle.smith_component.specs.Tree.{function_of, module_of, component_of, instance_of, imported_components_in, imported_functions_in}
-use Rattle.smith_component.specs.Tree.{imported_instances_in, imported_modules_in, imports_in, imports_of, inside, modules, modules_in, own}
-use Rattle.smith_component.specs.Tree.{component_count, instance_count, module_count}
-use Rattle.smith_component.specs.Open.{tree_so_far}
+use Rattle.smith_tree.specs.declared.totals.RefTotals.{RefTotals}
+use Rattle.smith_tree.specs.Offers.{totals_of}
+use Rattle.smith_tree.specs.Spaces.{Spaces, no_spaces, after_canon as canon_behind, after_export as export_behind, after_import as import_behind}
+use Rattle.smith_tree.specs.Spaces.{after_part as part_behind, spaces_of}
+use Rattle.smith_tree.specs.Tree.{Canon, ExportEntry, lift, lower, Tree, Part, ends, first, custom, core_module, core_types, component, types, canons}
+use Rattle.smith_tree.specs.Tree.{imports, exports, add, anywhere, anywhere_in, canons_in, components_in, exports_in, exports_of, function_count}
+use Rattle.smith_tree.specs.Tree.{function_of, module_of, component_of, instance_of, imported_components_in, imported_functions_in}
+use Rattle.smith_tree.specs.Tree.{imported_instances_in, imported_modules_in, imports_in, imports_of, inside, modules, modules_in, own}
+use Rattle.smith_tree.specs.Tree.{component_count, instance_count, module_count}
+use Rattle.smith_tree.specs.Open.{tree_so_far}
 use Rattle.smith_component.proofs.Growth.{scope_at, spaces-add}
 use Rattle.smith_component.proofs.Sound.{component_count-so_far, instance_count-so_far, module_count-so_far}
 use Rattle.smith_component.proofs.Tree.{function_count-add, functions_in, length-own-add, tree_so_far-close}
-use Rattle.smith_script.specs.Standing.{Standing, after_canon, after_core_type, after_export, after_import, after_part, after_tree, after_type, closed}
-use Rattle.smith_script.specs.Standing.{empty_in, opened, with_function, with_import}
+use Rattle.smith_script.specs.Preceding.{Preceding, after_canon, after_core_type, after_export, after_import, after_part, after_tree, after_type, closed}
+use Rattle.smith_script.specs.Preceding.{empty_in, opened, with_function, with_import}
 use Rattle.smith_script.proofs.Loops.{plain_core_type, plain_type, sorted}
 
 -- what stands where these spaces do, so many imports and exports, and these totals
-abbrev pub stands : Spaces → ℕ → ℕ → RefTotals → Standing
+abbrev pub stands : Spaces → ℕ → ℕ → RefTotals → Preceding
 stands sp i e t = record {
   scope = sorted (scope_at sp);
   types = sp.types;
@@ -34,7 +34,7 @@ stands sp i e t = record {
 }
 
 -- what stands in the inner component of those that are open
-abbrev pub standing_at : List Tree → Tree → Standing
+abbrev pub standing_at : List Tree → Tree → Preceding
 standing_at outer t = stands (spaces_of t) (length (imports_of t)) (length (exports_of t)) (totals_of (record { outer = outer; inner = t }))
 
 pub totals_are : (a b : RefTotals) → a.modules ≡ b.modules → a.funcs ≡ b.funcs → a.components ≡ b.components → a.instances ≡ b.instances → a ≡ b
@@ -57,7 +57,7 @@ counted_tree u t = record {
   instances = t.instances + instance_count u;
 }
 
-abbrev pub grown : Part → Spaces → ℕ → ℕ → RefTotals → Standing
+abbrev pub grown : Part → Spaces → ℕ → ℕ → RefTotals → Preceding
 grown p sp i e t = stands (part_behind sp p) (i + length (imports_in p)) (e + length (exports_in p)) (counted p t)
 
 -- the open components, where the inner one has a part more

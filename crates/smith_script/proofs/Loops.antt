@@ -1,11 +1,11 @@
 -- Loops of scripts whose states agree, and scopes that a script can not tell apart.
-use Rattle.std.proofs.Common.{◌≡◌, ℕ, ◌+◌, List, [], ◌∷◌, ◌++◌, map, length, refl, ap, sym, ◌∙◌, arith}
+use Rattle.std.proofs.Common.{◌≡◌, ℕ, ◌+◌, List, [], ◌∷◌, ◌++◌, map, refl, ap, sym, ◌∙◌}
 use Rattle.std.proofs.lemmas.List.{map-append}
 use Rattle.smith_input.specs.Script.{script_loop, script_more}
 use Rattle.smith_syntax.specs.Entries.{Entry, CoreEntry, defined, function, component_type, instance_type, core_func, core_module}
 use Rattle.smith_syntax.specs.Scope.{Scope, with_core_type, with_type}
 use Rattle.smith_script_types.proofs.Sorts.{func_sort_back}
-use Rattle.smith_script_types.specs.Scopes.{Alike, AllAlike, core_entry_of, core_sort_of, entry_of, func_sort_of, sort_of}
+use Rattle.smith_script_types.specs.Scopes.{Alike, core_entry_of, core_sort_of, entry_of, func_sort_of, sort_of}
 use Rattle.smith_script_types.specs.declared.scopes.CoreSort.TheVariants as core
 
 -- Two loops say the same where their states agree, and go on to agree.
@@ -72,9 +72,3 @@ alike_more_core a b x h =
           map-append core_sort_of a.core_types (plain_core_type x ∷ [])
           ∙ ((λ i. same i ++ one i ∷ []) ∙ sym (map-append core_sort_of b.core_types (x ∷ [])));
     }
-
-pub alike_length : (xs ys : List Scope) → AllAlike xs ys → length xs ≡ length ys
-alike_length [] [] h = refl
-alike_length [] (y ∷ ys) h = absurd h
-alike_length (x ∷ xs) [] h = absurd h
-alike_length (x ∷ xs) (y ∷ ys) h = omega (arith, alike_length xs ys h.1)

@@ -3,12 +3,12 @@ use Rattle.std.proofs.Common.{◌≡◌, ℕ, List, [], refl, subst, append-nil}
 use Rattle.smith_format.specs.Limits.{IsConsistent}
 use Rattle.smith_format.specs.declared.config.Config.{Config}
 use Rattle.smith_component.specs.Runs.{RunsTo}
-use Rattle.smith_component.specs.Script.{Within, script}
-use Rattle.smith_component.specs.Tree.{Tree}
+use Rattle.smith_tree.specs.Script.{Within, script}
+use Rattle.smith_tree.specs.Tree.{Tree}
 use Rattle.smith_component.proofs.Plans.{script_runs}
 use Rattle.smith_component.proofs.RunsReadable.{runs_come}
 use Rattle.smith_component.proofs.ScriptBytes.{plan_bytes}
-use Rattle.smith_script.specs.IsScript.{ComesOnNone, IsScript}
+use Rattle.smith_script.specs.IsScript.{CannotBeGenerated, IsScript}
 use Rattle.smith_script.specs.declared.error.ScriptError.{ScriptError}
 use Rattle.smith_script.specs.declared.error.ScriptError.TheVariants.{InconsistentLimits, NoScript, OutOfMemory}
 
@@ -30,7 +30,7 @@ module _ (config : Config) (plan : Tree) (consistent : IsConsistent config) (wit
 
 -- What is refused for another reason comes on no input, since else it would be a plan.
 pub refused_comes_on_none : (config : Config) (t : Tree) → IsConsistent config → (e : ScriptError)
-    → (¬ (e ≡ OutOfMemory) → (b : List ℕ) → ¬ IsScript config t b) → ¬ (e ≡ OutOfMemory) → ComesOnNone config t
+    → (¬ (e ≡ OutOfMemory) → (b : List ℕ) → ¬ IsScript config t b) → ¬ (e ≡ OutOfMemory) → CannotBeGenerated config t
 refused_comes_on_none config t consistent e h not input left c spells run =
-    let within : Within config t = record { comes = runs_come config input t left consistent run; spelled = (c, spells) } in
+    let within : Within config t = record { possible = runs_come config input t left consistent run; spelled = (c, spells) } in
     not (plan_or_memory config t consistent within e h)

@@ -9,31 +9,32 @@ use Rattle.smith_input.specs.Script.{pick, script_among, script_loop}
 use Rattle.smith_format.specs.declared.config.Config.{Config}
 use Rattle.smith_syntax.specs.Entries.{Entry, CoreEntry, ImportEntry}
 use Rattle.smith_syntax.specs.Scope.{Scope, with_core_type, with_type}
-use Rattle.smith_core_types.specs.Script.{script_core}
-use Rattle.smith_types.specs.Script.{script_extern, script_ref, script_type}
-use Rattle.smith_types.specs.declared.make.references.RefTotals.{RefTotals}
-use Rattle.smith_component.specs.CanonScript.{script_canon, script_canons}
-use Rattle.smith_component.specs.Offers.{totals_of, with_exports, with_imports}
-use Rattle.smith_component.specs.Open.{Open, is_export_offered, more_items, scopes_from, scopes_in}
-use Rattle.smith_component.specs.Script.{item_of, script_core_types, script_export, script_from, script_import}
-use Rattle.smith_component.specs.Script.{script_item, script_part, script_types}
-use Rattle.smith_component.specs.Spaces.{Spaces, after_canon as canon_behind, core_types_of, functions_of, spaces_of, types_of}
-use Rattle.smith_component.specs.Tree.{Canon, ExportEntry, lift, lower, Tree, Part, ends, first, custom, core_module, core_types, component, types, canons}
-use Rattle.smith_component.specs.Tree.{imports, exports, add, exports_of, function_count, imports_of}
-use Rattle.smith_component.specs.WellFormed.{scope_of}
-use Rattle.smith_component.specs.contracts.item.ItemPartialEq.TheImpl.{ghosts as equal}
-use Rattle.smith_component.specs.declared.item.Item.{Item}
-use Rattle.smith_component.specs.declared.item.Item.TheVariants as item
+use Rattle.smith_tree.specs.CoreTypeScript.{script_core}
+use Rattle.smith_tree.specs.TypeScript.{script_extern, script_ref, script_type}
+use Rattle.smith_tree.specs.declared.totals.RefTotals.{RefTotals}
+use Rattle.smith_tree.specs.CanonScript.{script_canon, script_canons}
+use Rattle.smith_tree.specs.Offers.{totals_of, with_exports, with_imports}
+use Rattle.smith_tree.specs.Open.{Open, is_export_offered, more_items, scopes_in}
+use Rattle.smith_tree.specs.Script.{item_of, script_core_types, script_export, script_from, script_import}
+use Rattle.smith_tree.specs.Script.{script_item, script_part, script_types}
+use Rattle.smith_tree.specs.Spaces.{Spaces, after_canon as canon_behind, core_types_of, functions_of, spaces_of, types_of}
+use Rattle.smith_tree.specs.Tree.{Canon, ExportEntry, lift, lower, Tree, Part, ends, first, custom, core_module, core_types, component, types, canons}
+use Rattle.smith_tree.specs.Tree.{imports, exports, add, exports_of, function_count, imports_of}
+use Rattle.smith_tree.specs.WellFormed.{scope_of}
+use Rattle.smith_tree.specs.contracts.choices.ItemPartialEq.TheImpl.{ghosts as equal}
+use Rattle.smith_tree.specs.declared.choices.Item.{Item}
+use Rattle.smith_tree.specs.declared.choices.Item.TheVariants as item
 use Rattle.smith_component.proofs.Growth.{spaces_export}
 use Rattle.smith_component.proofs.ImportsState.{components_more, funcs_more, instances_more, modules_more}
 use Rattle.smith_script.specs.Saying.{canon_says, core_type_says, export_says, import_says, item_says, part_says, rows_say, tree_says, type_says}
-use Rattle.smith_script.specs.Standing.{Standing, after_canon, after_core_type, after_export, after_import, after_part, after_type, spaces_in}
-use Rattle.smith_script.specs.Standing.{with_import}
-use Rattle.smith_script_types.proofs.Alike.{script_ref_alike, script_type_alike}
+use Rattle.smith_script.specs.Preceding.{Preceding, after_canon, after_core_type, after_export, after_import, after_part, after_type, spaces_in}
+use Rattle.smith_script.specs.Preceding.{with_import}
+use Rattle.smith_script_types.proofs.Alike.{script_ref_alike, script_type_alike, alike_length}
 use Rattle.smith_script_types.proofs.ModuleAlike.{script_core_alike}
 use Rattle.smith_script_types.specs.Scopes.{Alike, AllAlike}
 use Rattle.smith_script.proofs.Grown.{grown_at, opened_at, part_grows, standing_at, totals_are}
-use Rattle.smith_script.proofs.Loops.{alike_more_core, alike_length, alike_more, loops_agree, plain_core_type, sorted, sorted_alike}
+use Rattle.smith_script.proofs.Loops.{alike_more_core, alike_more, loops_agree, plain_core_type, sorted, sorted_alike}
+use Rattle.smith_component.proofs.Sound.{length-scopes_from, scopes_from-snoc}
 
 -- The open components are those with a part more.
 pub after_same : (outer : List Tree) (t : Tree) (p : Part) → after_part p (standing_at outer t) ≡ standing_at outer (add t p)
@@ -50,7 +51,7 @@ item_same config outer t scopes chosen e =
     (is_export_offered config)) chosen) e
 
 -- Core types.
-core_types_same : (config : Config) (scopes : List Scope) (s : Standing) (own : Scope) (max max2 : ℕ) (ts : List CoreEntry) → max ≡ max2
+core_types_same : (config : Config) (scopes : List Scope) (s : Preceding) (own : Scope) (max max2 : ℕ) (ts : List CoreEntry) → max ≡ max2
     → Alike s.scope own → rows_say (core_type_says config scopes) after_core_type max s ts ≡ script_core_types config max2 own ts
 core_types_same config scopes s own max max2 ts e a =
     ap (λ m. rows_say (core_type_says config scopes) after_core_type m s ts) e
@@ -59,7 +60,7 @@ core_types_same config scopes s own max max2 ts e a =
     (λ s z x r. alike_more_core s.scope z x r) 0 max2 0 s own ts a
 
 -- Types.
-types_same : (config : Config) (scopes outer : List Scope) (max : ℕ) (s : Standing) (own : Scope) (ts : List Entry) → Alike s.scope own
+types_same : (config : Config) (scopes outer : List Scope) (max : ℕ) (s : Preceding) (own : Scope) (ts : List Entry) → Alike s.scope own
     → AllAlike scopes outer → rows_say (type_says config scopes) after_type max s ts ≡ script_types config max own outer ts
 types_same config scopes outer max s own ts a b =
     loops_agree (type_says config scopes) after_type (λ (z : Scope) e. script_type e config config.max_type_size z outer) with_type
@@ -67,12 +68,12 @@ types_same config scopes outer max s own ts a b =
     (λ s z e r. alike_more s.scope z e r) 0 max 0 s own ts a
 
 -- Canonical functions: core types do not matter to them.
-record SameSpaces (s : Standing) (z : Spaces) : Type 0 where
+record SameSpaces (s : Preceding) (z : Spaces) : Type 0 where
   types : s.types ≡ z.types
   functions : s.functions ≡ z.functions
   core_functions : s.core_functions ≡ z.core_functions
 
-canon_same : (s : Standing) (z : Spaces) (c : Canon) → SameSpaces s z → script_canon (spaces_in s) c ≡ script_canon z c
+canon_same : (s : Preceding) (z : Spaces) (c : Canon) → SameSpaces s z → script_canon (spaces_in s) c ≡ script_canon z c
 canon_same s z (lift c t) r =
     let a = r.types in
     let b = r.functions in
@@ -84,30 +85,30 @@ canon_same s z (lower f) r =
     let d = r.core_functions in
     λ i. script_canon (record { types = a i; core_types = s.scope.core_types; functions = b i; core_functions = d i }) (lower f)
 
-canon_stays : (s : Standing) (z : Spaces) (c : Canon) → SameSpaces s z → SameSpaces (after_canon s c) (canon_behind z c)
+canon_stays : (s : Preceding) (z : Spaces) (c : Canon) → SameSpaces s z → SameSpaces (after_canon s c) (canon_behind z c)
 canon_stays s z (lift c t) r = record { types = r.types; functions = ap (λ x. x ++ t ∷ []) r.functions; core_functions = r.core_functions }
 canon_stays s z (lower f) r = record { types = r.types; functions = r.functions; core_functions = ap (λ x. x ++ f ∷ []) r.core_functions }
 
-canons_same : (config : Config) (scopes : List Scope) (max : ℕ) (s : Standing) (z : Spaces) (cs : List Canon) → SameSpaces s z
+canons_same : (config : Config) (scopes : List Scope) (max : ℕ) (s : Preceding) (z : Spaces) (cs : List Canon) → SameSpaces s z
     → rows_say (canon_says config scopes) after_canon max s cs ≡ script_canons max z cs
 canons_same config scopes max s z cs r =
     loops_agree (canon_says config scopes) after_canon script_canon canon_behind SameSpaces canon_same canon_stays 0 max 0 s z cs r
 
 -- Imports.
-record SameImports (stack : Open) (s : Standing) (z : List ImportEntry) : Type 0 where
+record SameImports (stack : Open) (s : Preceding) (z : List ImportEntry) : Type 0 where
   scope : Alike s.scope (scope_of stack.inner)
   totals : s.totals ≡ totals_of (with_imports stack z)
   count : s.imports ≡ length (imports_of stack.inner) + length z
 
 module _ (config : Config) (scopes : List Scope) (stack : Open) where
-  import_same : (s : Standing) (z : List ImportEntry) (x : ImportEntry) → SameImports stack s z → import_says config scopes s x ≡ script_import config stack z x
+  import_same : (s : Preceding) (z : List ImportEntry) (x : ImportEntry) → SameImports stack s z → import_says config scopes s x ≡ script_import config stack z x
   import_same s z x r =
       ap (λ b. b ++ script_extern s.imports x.name)
       (ap (λ t. script_ref config s.scope t true false x.to) r.totals
       ∙ script_ref_alike s.scope (scope_of stack.inner) r.scope config (totals_of (with_imports stack z)) true false x.to)
       ∙ ap (λ n. script_ref config (scope_of stack.inner) (totals_of (with_imports stack z)) true false x.to ++ script_extern n x.name) r.count
 
-  import_stays : (s : Standing) (z : List ImportEntry) (x : ImportEntry) → SameImports stack s z → SameImports stack (after_import s x) (z ++ x ∷ [])
+  import_stays : (s : Preceding) (z : List ImportEntry) (x : ImportEntry) → SameImports stack s z → SameImports stack (after_import s x) (z ++ x ∷ [])
   import_stays s z x r = record {
     scope = r.scope;
     totals =
@@ -117,30 +118,30 @@ module _ (config : Config) (scopes : List Scope) (stack : Open) where
     count = omega (arith, r.count, length-append z (x ∷ []));
   }
 
-  imports_same : (max : ℕ) (s : Standing) (is : List ImportEntry) → SameImports stack s []
+  imports_same : (max : ℕ) (s : Preceding) (is : List ImportEntry) → SameImports stack s []
       → rows_say (import_says config scopes) after_import max s is ≡ script_loop (script_import config stack) (λ z x. z ++ x ∷ []) 0 max 0 [] is
   imports_same max s is r =
       loops_agree (import_says config scopes) after_import (script_import config stack) (λ z x. z ++ x ∷ []) (SameImports stack) import_same import_stays
       0 max 0 s [] is r
 
 -- Exports.
-record SameExports (t : Tree) (s : Standing) (z : List ExportEntry) : Type 0 where
+record SameExports (t : Tree) (s : Preceding) (z : List ExportEntry) : Type 0 where
   functions : s.functions ≡ functions_of (with_exports t z)
   count : s.exports ≡ length (exports_of t) + length z
 
 module _ (config : Config) (scopes : List Scope) (t : Tree) where
-  export_same : (s : Standing) (z : List ExportEntry) (x : ExportEntry) → SameExports t s z → export_says config scopes s x ≡ script_export t z x
+  export_same : (s : Preceding) (z : List ExportEntry) (x : ExportEntry) → SameExports t s z → export_says config scopes s x ≡ script_export t z x
   export_same s z x r =
       ap (λ fs. pick (length fs) x.func ++ script_new 100 s.exports x.name) r.functions
       ∙ ap (λ n. pick (length (functions_of (with_exports t z))) x.func ++ script_new 100 n x.name) r.count
 
-  export_stays : (s : Standing) (z : List ExportEntry) (x : ExportEntry) → SameExports t s z → SameExports t (after_export s x) (z ++ x ∷ [])
+  export_stays : (s : Preceding) (z : List ExportEntry) (x : ExportEntry) → SameExports t s z → SameExports t (after_export s x) (z ++ x ∷ [])
   export_stays s z x r = record {
     functions = ap (λ fs. fs ++ option_to_list (slice_get fs x.func)) r.functions ∙ ap (λ s. s.functions) (sym (spaces_export t z x));
     count = omega (arith, r.count, length-append z (x ∷ []));
   }
 
-  exports_same : (max : ℕ) (s : Standing) (es : List ExportEntry) → SameExports t s []
+  exports_same : (max : ℕ) (s : Preceding) (es : List ExportEntry) → SameExports t s []
       → rows_say (export_says config scopes) after_export max s es ≡ script_loop (script_export t) (λ z x. z ++ x ∷ []) 0 max 0 [] es
   exports_same max s es r =
       loops_agree (export_says config scopes) after_export (script_export t) (λ z x. z ++ x ∷ []) (SameExports t) export_same export_stays 0 max 0 s [] es r
@@ -153,24 +154,16 @@ no_imports outer t = ap (λ s. s.totals) (after_same outer t (imports []))
 no_exports : (outer : List Tree) (t : Tree) → functions_of t ≡ functions_of (with_exports t [])
 no_exports outer t = ap (λ s. s.functions) (after_same outer t (exports []))
 
-scopes_append : (us : List Tree) (u : Tree) (around : List Scope) → scopes_from (us ++ u ∷ []) around ≡ scope_of u ∷ scopes_from us around
-scopes_append [] u around = refl
-scopes_append (v ∷ us) u around = scopes_append us u (scope_of v ∷ around)
-
-scopes_length : (us : List Tree) (around : List Scope) → length (scopes_from us around) ≡ length us + length around
-scopes_length [] around = omega arith
-scopes_length (v ∷ us) around = omega (arith, scopes_length us (scope_of v ∷ around))
-
 -- The scopes around are those of the open components.
 pub record IsAround (scopes : List Scope) (outer : List Tree) : Type 0 where
   pub alike : AllAlike scopes (scopes_in outer)
 
 around_length : (scopes : List Scope) (outer : List Tree) → IsAround scopes outer → length scopes ≡ length outer
-around_length scopes outer h = omega (arith, alike_length scopes (scopes_in outer) h.alike, scopes_length outer [])
+around_length scopes outer h = omega (arith, alike_length scopes (scopes_in outer) h.alike, length-scopes_from outer [])
 
 around_more : (scopes : List Scope) (outer : List Tree) (t : Tree) → IsAround scopes outer → IsAround (sorted (scope_of t) ∷ scopes) (outer ++ t ∷ [])
 around_more scopes outer t h =
-    record { alike = subst (AllAlike (sorted (scope_of t) ∷ scopes)) (sym (scopes_append outer t [])) (sorted_alike (scope_of t), h.alike) }
+    record { alike = subst (AllAlike (sorted (scope_of t) ∷ scopes)) (sym (scopes_from-snoc outer t [])) (sorted_alike (scope_of t), h.alike) }
 
 mutual
   pub tree_same : (u : Tree) (config : Config) (outer : List Tree) (t : Tree) (scopes : List Scope) → IsAround scopes outer

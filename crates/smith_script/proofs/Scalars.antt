@@ -5,7 +5,7 @@ use Rattle.smith_syntax.specs.contracts.types.PrimitiveValTypePartialEq.TheImpl.
 use Rattle.smith_syntax.specs.declared.types.ComponentValType.TheVariants.{Primitive}
 use Rattle.smith_syntax.specs.declared.types.PrimitiveValType.{PrimitiveValType}
 use Rattle.smith_syntax.specs.declared.types.PrimitiveValType.TheVariants as prim
-use Rattle.smith_types.specs.Script.{script_scalar}
+use Rattle.smith_tree.specs.TypeScript.{script_scalar}
 use Rattle.smith_script.specs.Lifted.{flat_like}
 
 pub scalar_same : (p : PrimitiveValType) → script_among prims.eq (flat_like p) p ≡ script_scalar (Primitive p)

@@ -6,7 +6,7 @@ use Rattle.smith_input.specs.Script.{script_end, script_loop, script_more}
 use Rattle.smith_syntax.specs.Scope.{places}
 use Rattle.smith_syntax.specs.Signature.{named}
 use Rattle.smith_syntax.specs.declared.types.ComponentValType.{ComponentValType}
-use Rattle.smith_types.specs.Script.{script_label, script_params, script_scalar}
+use Rattle.smith_tree.specs.TypeScript.{script_label, script_params, script_scalar}
 
 pub map_drop : {A B : Type 0} (f : A → B) (xs : List A) (i : ℕ) (x : A) → i < length xs → x ≡ get_or xs i x
     → map f (drop i xs) ≡ f x ∷ map f (drop (i + 1) xs)

@@ -2,16 +2,16 @@
 use Rattle.std.proofs.Common.{◌≡◌, ℕ, ◌+◌, ◌<◌, ◌≤◌, List, ◌++◌, drop, get_or, map, length, ap}
 use Rattle.smith_format.specs.declared.config.Config.{Config}
 use Rattle.smith_syntax.specs.Scope.{Scope}
-use Rattle.smith_component.specs.Script.{item_of}
-use Rattle.smith_component.specs.Tree.{tree_of}
-use Rattle.smith_component.specs.declared.item.Item.TheVariants as item
+use Rattle.smith_tree.specs.Script.{item_of}
+use Rattle.smith_tree.specs.Tree.{tree_of}
+use Rattle.smith_tree.specs.declared.choices.Item.TheVariants as item
 use Rattle.smith_read.specs.PartNodes.{shown_part_node}
 use Rattle.smith_read.specs.declared.nodes.PartNode.{PartNode}
 use Rattle.smith_script.specs.Saying.{item_says, part_says, tree_says}
-use Rattle.smith_script.specs.Standing.{Standing, after_part}
+use Rattle.smith_script.specs.Preceding.{Preceding, after_part}
 use Rattle.smith_script.proofs.Steps.{map_drop, map_dropped}
 
-module _ (config : Config) (outer : List Scope) (s : Standing) (xs : List PartNode) (i : ℕ) where
+module _ (config : Config) (outer : List Scope) (s : Preceding) (xs : List PartNode) (i : ℕ) where
   -- a part, and those behind it
   pub parts_at : (x : PartNode) → i < length xs → x ≡ get_or xs i x
       → tree_says (tree_of (map shown_part_node (drop i xs))) config outer s

@@ -3,10 +3,10 @@ use Rattle.std.specs.Prelude.{◌≡◌, ℕ, List, []}
 use Rattle.smith_input.specs.Script.{AreBytes}
 use Rattle.smith_format.specs.Limits.{IsConsistent}
 use Rattle.smith_format.specs.declared.config.Config.{Config}
-use Rattle.smith_component.specs.Grammar.{Spells}
+use Rattle.smith_tree.specs.Grammar.{Spells}
 use Rattle.smith_component.specs.Runs.{RunsTo}
-use Rattle.smith_component.specs.Script.{script}
-use Rattle.smith_component.specs.Tree.{Tree}
+use Rattle.smith_tree.specs.Script.{script}
+use Rattle.smith_tree.specs.Tree.{Tree}
 
 -- The limits fit together, and the run over the input leads to the tree, and leaves nothing.
 pub record IsGiven (config : Config) (t : Tree) (input : List ℕ) : Type 0 where
@@ -22,5 +22,5 @@ pub record IsScript (config : Config) (t : Tree) (b : List ℕ) : Type 0 where
   pub runs : RunsTo config b t []
 
 -- No input leads to the tree, of which there are bytes.
-abbrev pub ComesOnNone : Config → Tree → Type 0
-ComesOnNone config t = (input left c : List ℕ) → Spells t c → ¬ RunsTo config input t left
+abbrev pub CannotBeGenerated : Config → Tree → Type 0
+CannotBeGenerated config t = (input left c : List ℕ) → Spells t c → ¬ RunsTo config input t left

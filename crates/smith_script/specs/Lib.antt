@@ -1,4 +1,4 @@
 pub mod IsScript
 pub mod Lifted
 pub mod Saying
-pub mod Standing
+pub mod Preceding

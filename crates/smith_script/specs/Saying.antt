@@ -6,17 +6,17 @@ use Rattle.smith_core.specs.StandInScript.{script_stand_in, stand_in_of}
 use Rattle.smith_format.specs.declared.config.Config.{Config}
 use Rattle.smith_syntax.specs.Entries.{Entry, CoreEntry, ImportEntry}
 use Rattle.smith_syntax.specs.Scope.{Scope}
-use Rattle.smith_core_types.specs.Script.{script_core}
-use Rattle.smith_types.specs.Script.{script_extern, script_ref, script_type}
+use Rattle.smith_tree.specs.CoreTypeScript.{script_core}
+use Rattle.smith_tree.specs.TypeScript.{script_extern, script_ref, script_type}
 use Rattle.smith_script_types.specs.Scopes.{shown_scope}
-use Rattle.smith_component.specs.CanonScript.{script_canon}
-use Rattle.smith_component.specs.Open.{is_export_offered, more_items}
-use Rattle.smith_component.specs.Script.{item_of}
-use Rattle.smith_component.specs.Tree.{Canon, ExportEntry, Tree, Part, ends, first, custom, core_module, core_types, component, types, canons, imports, exports}
-use Rattle.smith_component.specs.contracts.item.ItemPartialEq.TheImpl.{ghosts as equal}
-use Rattle.smith_component.specs.declared.item.Item.{Item}
-use Rattle.smith_component.specs.declared.item.Item.TheVariants as item
-use Rattle.smith_script.specs.Standing.{Standing, after_canon, after_core_type, after_export, after_import, after_part, after_type, empty_in, opened, spaces_in}
+use Rattle.smith_tree.specs.CanonScript.{script_canon}
+use Rattle.smith_tree.specs.Open.{is_export_offered, more_items}
+use Rattle.smith_tree.specs.Script.{item_of}
+use Rattle.smith_tree.specs.Tree.{Canon, ExportEntry, Tree, Part, ends, first, custom, core_module, core_types, component, types, canons, imports, exports}
+use Rattle.smith_tree.specs.contracts.choices.ItemPartialEq.TheImpl.{ghosts as equal}
+use Rattle.smith_tree.specs.declared.choices.Item.{Item}
+use Rattle.smith_tree.specs.declared.choices.Item.TheVariants as item
+use Rattle.smith_script.specs.Preceding.{Preceding, after_canon, after_core_type, after_export, after_import, after_part, after_type, empty_in, opened, spaces_in}
 use Rattle.smith_script.specs.declared.around.Around.{Around}
 
 -- the scopes around, innermost first
@@ -25,27 +25,27 @@ outer_in a = map (λ s. shown_scope s.now) a.outer.now
 
 -- entries of sections
 
-abbrev pub core_type_says : Config → List Scope → Standing → CoreEntry → List ℕ
+abbrev pub core_type_says : Config → List Scope → Preceding → CoreEntry → List ℕ
 core_type_says config outer s x = script_core config s.scope config.max_type_size x
 
-abbrev pub type_says : Config → List Scope → Standing → Entry → List ℕ
+abbrev pub type_says : Config → List Scope → Preceding → Entry → List ℕ
 type_says config outer s e = script_type e config config.max_type_size s.scope outer
 
-abbrev pub canon_says : Config → List Scope → Standing → Canon → List ℕ
+abbrev pub canon_says : Config → List Scope → Preceding → Canon → List ℕ
 canon_says config outer s c = script_canon (spaces_in s) c
 
-abbrev pub import_says : Config → List Scope → Standing → ImportEntry → List ℕ
+abbrev pub import_says : Config → List Scope → Preceding → ImportEntry → List ℕ
 import_says config outer s x = script_ref config s.scope s.totals true false x.to ++ script_extern s.imports x.name
 
-abbrev pub export_says : Config → List Scope → Standing → ExportEntry → List ℕ
+abbrev pub export_says : Config → List Scope → Preceding → ExportEntry → List ℕ
 export_says config outer s x = pick (length s.functions) x.func ++ script_new 100 s.exports x.name
 
 -- a section of entries
-abbrev pub rows_say : {A : Type 0} → (Standing → A → List ℕ) → (Standing → A → Standing) → ℕ → Standing → List A → List ℕ
+abbrev pub rows_say : {A : Type 0} → (Preceding → A → List ℕ) → (Preceding → A → Preceding) → ℕ → Preceding → List A → List ℕ
 rows_say says after max s xs = script_loop says after 0 max 0 s xs
 
 -- the choice of an item
-abbrev pub item_says : Config → List Scope → Standing → Item → List ℕ
+abbrev pub item_says : Config → List Scope → Preceding → Item → List ℕ
 item_says config outer s chosen =
     script_among equal.eq
     (more_items (nat_lt s.totals.modules config.max_modules)
@@ -54,12 +54,12 @@ item_says config outer s chosen =
 
 -- the rest of a component, and what follows the choice of the item of a part
 abbrev mutual
-  pub tree_says : Tree → Config → List Scope → Standing → List ℕ
+  pub tree_says : Tree → Config → List Scope → Preceding → List ℕ
   tree_says ends config outer s = item_says config outer s item.Finish
   tree_says (first p t) config outer s =
       item_says config outer s (item_of p) ++ part_says p config outer s ++ tree_says t config outer (after_part p s)
 
-  pub part_says : Part → Config → List Scope → Standing → List ℕ
+  pub part_says : Part → Config → List Scope → Preceding → List ℕ
   part_says (custom name contents) config outer s = script_text 1000 name ++ script_bytes contents
   part_says (core_module text) config outer s = script_stand_in config (stand_in_of text)
   part_says (core_types ts) config outer s = rows_say (core_type_says config outer) after_core_type (config.max_types - length s.scope.core_types) s ts

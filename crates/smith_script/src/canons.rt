@@ -5,16 +5,16 @@ ghost use Rattle.smith_input.specs.Offers.{offers_of};
 ghost use Rattle.smith_input.specs.Script.{script_among};
 ghost use Rattle.smith_read.specs.PartNodes.{shown_canon_node};
 ghost use Rattle.smith_read_types.specs.TypeNodes.{shown_type_node};
-ghost use Rattle.smith_component.specs.CanonScript.{canon_item_of, script_canon, script_canon_rest};
-ghost use Rattle.smith_component.specs.Offers.{is_scalar_entry, is_scalar_type, scalar_functions};
-ghost use Rattle.smith_component.specs.contracts.item.CanonItemPartialEq.TheImpl.{ghosts as equal};
-ghost use Rattle.smith_component.specs.declared.item.CanonItem.TheVariants.{Lift, Lower};
+ghost use Rattle.smith_tree.specs.CanonScript.{canon_item_of, script_canon, script_canon_rest};
+ghost use Rattle.smith_tree.specs.Offers.{is_scalar_entry, is_scalar_type, scalar_functions};
+ghost use Rattle.smith_tree.specs.contracts.choices.CanonItemPartialEq.TheImpl.{ghosts as equal};
+ghost use Rattle.smith_tree.specs.declared.choices.CanonItem.TheVariants.{Lift, Lower};
 ghost use Rattle.smith_script_core.specs.Says.{Says};
 ghost use Rattle.smith_script_core.specs.declared.error.Unsaid.TheVariants.{OutOfMemory};
-ghost use Rattle.smith_script.specs.Standing.{spaces_in, standing};
+ghost use Rattle.smith_script.specs.Preceding.{spaces_in, preceding};
 
 use crate::lifts::put_lifted;
-use crate::standing::Open;
+use crate::preceding::Open;
 use smith_read::{CanonNode, TypeNode};
 use smith_script_types::{Test, Unsaid, places_of, put_among, put_choice};
 use std::alloc::Global;
@@ -37,7 +37,7 @@ struct OfScalar<'s, 'a> {
 impl<'s, 'a> Test<u32> for OfScalar<'s, 'a> {
     ghost passed = { λ s f. is_scalar_type (map (λ t. shown_type_node t.now) s.types.now) f };
 
-    fn passes(&self, item: &u32) -> bool {
+    fn accepts(&self, item: &u32) -> bool {
         match self.types.get(*item as usize) {
             Some(ty) => is_scalar(ty),
             None => false,
@@ -47,7 +47,7 @@ impl<'s, 'a> Test<u32> for OfScalar<'s, 'a> {
 
 // The component functions that can be lowered.
 fn scalar_functions(alloc: Global, here: &Open<'_>) -> Result<Vec<usize>, Unsaid>
-    ensures list { IfOk result (λ v. v.items ≡ scalar_functions (spaces_in (standing here.now))) }
+    ensures list { IfOk result (λ v. v.items ≡ scalar_functions (spaces_in (preceding here.now))) }
     ensures memory { IfErr result (λ e. e ≡ OutOfMemory) }
 {
     places_of(alloc, &OfScalar { types: &here.types }, &here.functions)
@@ -81,9 +81,9 @@ fn put_canon_rest(
     scalars: &[usize],
     canon: &CanonNode,
 ) -> Result<(), Unsaid>
-    requires { scalars.now ≡ scalar_functions (spaces_in (standing here.now)) }
+    requires { scalars.now ≡ scalar_functions (spaces_in (preceding here.now)) }
     ensures { Says result out.old out.new
-        (script_canon_rest (spaces_in (standing here.now)) (shown_canon_node canon.now)) }
+        (script_canon_rest (spaces_in (preceding here.now)) (shown_canon_node canon.now)) }
 {
     match *canon {
         CanonNode::Lift { core_func, ty } => {
@@ -101,7 +101,7 @@ pub(crate) fn put_canon(
     here: &Open<'_>,
     canon: &CanonNode,
 ) -> Result<(), Unsaid>
-    ensures { Says result out.old out.new (script_canon (spaces_in (standing here.now)) (shown_canon_node canon.now)) }
+    ensures { Says result out.old out.new (script_canon (spaces_in (preceding here.now)) (shown_canon_node canon.now)) }
 {
     let scalars = scalar_functions(alloc, here)?;
     put_canon_item(out, scalars.len(), here.core_functions.len(), canon)?;

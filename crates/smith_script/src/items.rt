@@ -3,16 +3,16 @@
 ghost use Rattle.std.specs.Prelude.{◌≡◌, ◌+◌, ◌&&◌, length, nat_lt};
 ghost use Rattle.smith_input.specs.Script.{rank_of};
 ghost use Rattle.smith_read.specs.PartNodes.{shown_part_node};
-ghost use Rattle.smith_component.specs.Open.{is_export_offered, more_items};
-ghost use Rattle.smith_component.specs.Script.{item_of};
-ghost use Rattle.smith_component.specs.contracts.item.ItemPartialEq.TheImpl.{ghosts as equal};
-ghost use Rattle.smith_component.specs.declared.item.Item.TheVariants as item;
+ghost use Rattle.smith_tree.specs.Open.{is_export_offered, more_items};
+ghost use Rattle.smith_tree.specs.Script.{item_of};
+ghost use Rattle.smith_tree.specs.contracts.choices.ItemPartialEq.TheImpl.{ghosts as equal};
+ghost use Rattle.smith_tree.specs.declared.choices.Item.TheVariants as item;
 ghost use Rattle.smith_script_core.specs.Says.{Says};
 ghost use Rattle.smith_script.specs.Saying.{item_says, outer_in};
-ghost use Rattle.smith_script.specs.Standing.{standing};
+ghost use Rattle.smith_script.specs.Preceding.{preceding};
 
 use crate::around::Around;
-use crate::standing::Open;
+use crate::preceding::Open;
 use smith_read::PartNode;
 use smith_script_types::{Unsaid, put_choice};
 
@@ -81,7 +81,7 @@ pub(crate) fn put_item(
     part: &PartNode,
 ) -> Result<(), Unsaid>
     ensures { Says result out.old out.new
-        (item_says around.entry.config.now (outer_in around.entry) (standing here.now)
+        (item_says around.entry.config.now (outer_in around.entry) (preceding here.now)
         (item_of (shown_part_node part.now))) }
 {
     let offered = Offered::new(around, here);
@@ -95,7 +95,7 @@ pub(crate) fn put_finish(
     here: &Open<'_>,
 ) -> Result<(), Unsaid>
     ensures { Says result out.old out.new
-        (item_says around.entry.config.now (outer_in around.entry) (standing here.now) item.Finish) }
+        (item_says around.entry.config.now (outer_in around.entry) (preceding here.now) item.Finish) }
 {
     let offered = Offered::new(around, here);
     put_choice(out, offered.count(), 0)

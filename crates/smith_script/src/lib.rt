@@ -8,10 +8,10 @@ mod items;
 mod lifts;
 mod long_names;
 mod parts;
+mod preceding;
 mod reasons;
 mod rows;
 mod scripting;
-mod standing;
 
 pub use error::{Reason, ScriptError};
 pub use scripting::script;

@@ -6,52 +6,26 @@ ghost use Rattle.smith_syntax.specs.Scope.{places};
 ghost use Rattle.smith_syntax.specs.Shown.{is_of_signature};
 ghost use Rattle.smith_syntax.specs.Signature.{named};
 ghost use Rattle.smith_read_types.specs.TypeNodes.{shown_type_node};
-ghost use Rattle.smith_types.specs.Script.{script_lifted, script_params, script_result, script_scalar};
-ghost use Rattle.smith_component.specs.CanonScript.{script_lift};
+ghost use Rattle.smith_tree.specs.TypeScript.{script_lifted, script_params, script_result, script_scalar};
+ghost use Rattle.smith_tree.specs.CanonScript.{script_lift};
 ghost use Rattle.smith_script_core.specs.Says.{Says};
 ghost use Rattle.smith_script.specs.Lifted.{flat_like};
-ghost use Rattle.smith_script.specs.Standing.{spaces_in, standing};
+ghost use Rattle.smith_script.specs.Preceding.{spaces_in, preceding};
 
-use crate::standing::Open;
+use crate::preceding::Open;
 use smith_read::TypeNode;
 use smith_script_types::{Test, Unsaid, places_of, put_among, put_name};
 use smith_syntax::{ComponentValType, FuncType, PrimitiveValType};
+use smith_tree::{flat_primitive, lifted};
 use std::alloc::Global;
-
-static FLAT_I32: [PrimitiveValType; 8] = [
-    PrimitiveValType::Char,
-    PrimitiveValType::Bool,
-    PrimitiveValType::S8,
-    PrimitiveValType::U8,
-    PrimitiveValType::S16,
-    PrimitiveValType::U16,
-    PrimitiveValType::S32,
-    PrimitiveValType::U32,
-];
-
-static FLAT_I64: [PrimitiveValType; 2] = [PrimitiveValType::S64, PrimitiveValType::U64];
-
-static FLAT_F32: [PrimitiveValType; 1] = [PrimitiveValType::F32];
-
-static FLAT_F64: [PrimitiveValType; 1] = [PrimitiveValType::F64];
 
 // The primitives that flatten as it does. A string does not.
 fn flat_like(ty: PrimitiveValType) -> &'static [PrimitiveValType]
     ensures { result.now ≡ flat_like ty }
 {
-    match ty {
-        PrimitiveValType::Bool
-        | PrimitiveValType::S8
-        | PrimitiveValType::U8
-        | PrimitiveValType::S16
-        | PrimitiveValType::U16
-        | PrimitiveValType::S32
-        | PrimitiveValType::U32
-        | PrimitiveValType::Char => &FLAT_I32,
-        PrimitiveValType::S64 | PrimitiveValType::U64 => &FLAT_I64,
-        PrimitiveValType::F32 => &FLAT_F32,
-        PrimitiveValType::F64 => &FLAT_F64,
-        PrimitiveValType::String => &[],
+    match flat_primitive(ty) {
+        Some(core) => lifted(core),
+        None => &[],
     }
 }
 
@@ -102,7 +76,7 @@ struct OfSignature<'s> {
 impl<'s, 'a> Test<&'a TypeNode> for OfSignature<'s> {
     ghost passed = { λ s t. is_of_signature s.signature.now (shown_type_node t.now) };
 
-    fn passes(&self, item: &&'a TypeNode) -> bool {
+    fn accepts(&self, item: &&'a TypeNode) -> bool {
         match *item {
             TypeNode::Func(signature) => *self.signature == *signature,
             TypeNode::Defined(_) | TypeNode::Component(_) | TypeNode::Instance(_) => false,
@@ -135,7 +109,7 @@ fn put_lift_to(
     entry: &TypeNode,
 ) -> Result<(), Unsaid>
     ensures { Says result out.old out.new
-        (script_lift (spaces_in (standing here.now)) ty (Some (shown_type_node entry.now))) }
+        (script_lift (spaces_in (preceding here.now)) ty (Some (shown_type_node entry.now))) }
 {
     match entry {
         TypeNode::Func(signature) => put_lifted_type(alloc, out, &here.types, signature, ty),
@@ -151,7 +125,7 @@ pub(crate) fn put_lifted(
     ty: u32,
 ) -> Result<(), Unsaid>
     ensures { Says result out.old out.new
-        (script_lift (spaces_in (standing here.now)) ty (slice_get (standing here.now).types ty)) }
+        (script_lift (spaces_in (preceding here.now)) ty (slice_get (preceding here.now).types ty)) }
 {
     match here.types.get(ty as usize) {
         Some(entry) => put_lift_to(alloc, out, here, ty, entry),

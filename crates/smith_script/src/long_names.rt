@@ -1,10 +1,8 @@
 //! Names that are too long to be read. What is told is no part of a contract.
 
 use crate::error::ScriptError;
+use smith_input::MAX_NAME_LEN;
 use std::alloc::Global;
-
-/// How many bytes of a name are read, custom sections aside.
-pub(crate) const MOST_NAME: usize = 100;
 
 /// How a name is read.
 #[derive(Clone, Copy)]
@@ -21,7 +19,7 @@ fn is_read(form: Form, name: &[u8]) -> bool {
         Form::Kebab => name.ends_with(&[b'-', b'a']),
         Form::Text => false,
     };
-    name.len() <= MOST_NAME || ends && name.len() == MOST_NAME + 1
+    name.len() <= MAX_NAME_LEN || ends && name.len() == MAX_NAME_LEN + 1
 }
 
 // Is it one of these?

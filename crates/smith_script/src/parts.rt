@@ -3,23 +3,23 @@
 ghost use Rattle.std.specs.Prelude.{◌≡◌, ◌++◌, ◌∷◌, IfOk, IfErr, OnOk, map};
 ghost use Rattle.smith_input.specs.Script.{script_bytes, script_text};
 ghost use Rattle.smith_core.specs.StandInScript.{script_stand_in, stand_in_of};
-ghost use Rattle.smith_component.specs.Script.{script};
-ghost use Rattle.smith_component.specs.Tree.{component, tree_of};
+ghost use Rattle.smith_tree.specs.Script.{script};
+ghost use Rattle.smith_tree.specs.Tree.{component, tree_of};
 ghost use Rattle.smith_read.specs.PartNodes.{shown_part_node, shown_tree};
 ghost use Rattle.smith_script_core.specs.Says.{Says};
 ghost use Rattle.smith_script_core.specs.declared.error.Unsaid.TheVariants.{OutOfMemory};
 ghost use Rattle.smith_script_types.specs.Scopes.{shown_scope};
 ghost use Rattle.smith_script.specs.Saying.{outer_in, part_says, tree_says};
-ghost use Rattle.smith_script.specs.Standing.{after_module, after_part, after_tree, empty_in, opened, standing};
+ghost use Rattle.smith_script.specs.Preceding.{after_module, after_part, after_tree, empty_in, opened, preceding};
 
 use crate::around::{Around, scopes_around};
 use crate::items::{put_finish, put_item};
+use crate::preceding::{Open, one_more};
 use crate::rows::put_rows;
-use crate::standing::{Open, one_more};
 use smith_format::Config;
 use smith_read::{ComponentTree, PartNode};
 use smith_script_types::{Scope, Unsaid, put_contents, put_stand_in, put_text};
-use smith_types::RefTotals;
+use smith_tree::RefTotals;
 use std::alloc::Global;
 
 // The totals where a component is opened.
@@ -51,7 +51,7 @@ fn put_module(
     text: &[u8],
 ) -> Result<(), Unsaid>
     ensures said { Says result out.old out.new (script_stand_in around.entry.config.now (stand_in_of text.now)) }
-    ensures added { OnOk result (standing here.new ≡ after_module (standing here.old)) }
+    ensures added { OnOk result (preceding here.new ≡ after_module (preceding here.old)) }
 {
     put_stand_in(around.alloc, out, around.config, text)?;
     here.add_module()
@@ -66,8 +66,8 @@ fn put_part<'a>(
     part: &'a PartNode,
 ) -> Result<(), Unsaid>
     ensures said { Says result out.old out.new
-        (part_says (shown_part_node part.now) around.entry.config.now (outer_in around.entry) (standing here.old)) }
-    ensures added { OnOk result (standing here.new ≡ after_part (shown_part_node part.now) (standing here.old)) }
+        (part_says (shown_part_node part.now) around.entry.config.now (outer_in around.entry) (preceding here.old)) }
+    ensures added { OnOk result (preceding here.new ≡ after_part (shown_part_node part.now) (preceding here.old)) }
 {
     let config = around.config;
     match part {
@@ -106,9 +106,9 @@ fn put_component<'a>(
     parts: &'a [PartNode],
 ) -> Result<(), Unsaid>
     ensures said { Says result out.old out.new (part_says (component (tree_of (map shown_part_node parts.now)))
-        around.entry.config.now (outer_in around.entry) (standing here.old)) }
-    ensures added { OnOk result (standing here.new
-        ≡ after_part (component (tree_of (map shown_part_node parts.now))) (standing here.old)) }
+        around.entry.config.now (outer_in around.entry) (preceding here.old)) }
+    ensures added { OnOk result (preceding here.new
+        ≡ after_part (component (tree_of (map shown_part_node parts.now))) (preceding here.old)) }
 {
     let inner = put_inside(around, out, &here.scope, opened(here.totals)?, parts)?;
     here.totals = RefTotals {
@@ -152,9 +152,9 @@ fn put_parts<'a>(
     parts: &'a [PartNode],
 ) -> Result<(), Unsaid>
     ensures said { Says result out.old out.new (tree_says (tree_of (map shown_part_node parts.now))
-        around.entry.config.now (outer_in around.entry) (standing here.old)) }
-    ensures added { OnOk result (standing here.new
-        ≡ after_tree (tree_of (map shown_part_node parts.now)) (standing here.old)) }
+        around.entry.config.now (outer_in around.entry) (preceding here.old)) }
+    ensures added { OnOk result (preceding here.new
+        ≡ after_tree (tree_of (map shown_part_node parts.now)) (preceding here.old)) }
 {
     for part in parts {
         put_item(around, out, here, part)?;

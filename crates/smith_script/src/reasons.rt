@@ -1,19 +1,16 @@
 //! Where a component has no script, as far as a look tells. What is told is no part of a contract.
 
 use crate::error::{Reason, ScriptError};
-use crate::long_names::{Form, MOST_NAME, comes};
+use crate::long_names::{Form, comes};
 use smith_core::Module;
 use smith_format::Config;
-use smith_input::{Error, Unstructured};
+use smith_input::{Error, MAX_CUSTOM_NAME_LEN, MAX_NAME_LEN, Unstructured};
 use smith_read::{
     ComponentTree, CoreNode, DeclNode, ExportNode, ImportNode, ModuleNode, PartNode, TypeNode,
 };
 use smith_script_types::{Unsaid, put_stand_in};
 use smith_syntax::{ComponentTypeRef, DefinedType};
 use std::alloc::Global;
-
-/// The longest name of a custom section.
-const MOST_TEXT: usize = 1000;
 
 // What is told, or nothing.
 type Told = Result<Option<Reason>, ScriptError>;
@@ -82,7 +79,7 @@ fn in_module_decl(alloc: Global, before: &[ModuleNode], decl: &ModuleNode) -> To
     let comes = match decl {
         ModuleNode::Import { module, name, .. } => {
             let names = imported(alloc, before, module)?;
-            module.len() <= MOST_NAME && comes(alloc, Form::Text, &names, name.as_bytes())?
+            module.len() <= MAX_NAME_LEN && comes(alloc, Form::Text, &names, name.as_bytes())?
         }
         ModuleNode::Export { name, .. } => {
             let names = exported(alloc, before)?;
@@ -270,7 +267,7 @@ fn in_part<'a>(
         return Ok(Some(Reason::Limit));
     }
     match part {
-        PartNode::Custom { name, .. } => Ok(long_unless(name.len() <= MOST_TEXT)),
+        PartNode::Custom { name, .. } => Ok(long_unless(name.len() <= MAX_CUSTOM_NAME_LEN)),
         PartNode::CoreModule(text) => in_module(alloc, config, text),
         PartNode::CoreTypes(types) => in_core_types(alloc, types),
         PartNode::Component(parts) => in_parts(alloc, config, path, parts),

@@ -7,16 +7,16 @@ ghost use Rattle.smith_syntax.specs.Scope.{Scope as PlainScope};
 ghost use Rattle.smith_read_types.specs.Nodes.{shown_core_node};
 ghost use Rattle.smith_read_types.specs.TypeNodes.{shown_type_node};
 ghost use Rattle.smith_read.specs.PartNodes.{shown_canon_node, shown_export_node, shown_import_node};
-ghost use Rattle.smith_component.specs.Tree.{Canon, ExportEntry};
+ghost use Rattle.smith_tree.specs.Tree.{Canon, ExportEntry};
 ghost use Rattle.smith_script_core.specs.Says.{Says};
 ghost use Rattle.smith_script.specs.Saying.{canon_says, core_type_says, export_says, import_says, outer_in, rows_say};
 ghost use Rattle.smith_script.specs.Saying.{type_says};
-ghost use Rattle.smith_script.specs.Standing.{Standing, after_canon, after_core_type, after_export, after_import};
-ghost use Rattle.smith_script.specs.Standing.{after_type, standing};
+ghost use Rattle.smith_script.specs.Preceding.{Preceding, after_canon, after_core_type, after_export, after_import};
+ghost use Rattle.smith_script.specs.Preceding.{after_type, preceding};
 
 use crate::around::Around;
 use crate::canons::put_canon;
-use crate::standing::Open;
+use crate::preceding::Open;
 use smith_read::{CanonNode, CoreNode, ExportNode, ImportNode, TypeNode};
 use smith_script_types::{
     Place, Unsaid, put_choice, put_core, put_end, put_extern, put_more, put_name, put_reference,
@@ -29,9 +29,9 @@ pub(crate) trait Row {
 
     ghost shown: { Self → Shown };
 
-    ghost says: { Config → List PlainScope → Standing → Shown → List ℕ };
+    ghost says: { Config → List PlainScope → Preceding → Shown → List ℕ };
 
-    ghost after: { Standing → Shown → Standing };
+    ghost after: { Preceding → Shown → Preceding };
 
     /// Puts the script of the entry, and adds it to what stands there.
     fn put<'a>(
@@ -41,8 +41,8 @@ pub(crate) trait Row {
         here: &mut Open<'a>,
     ) -> Result<(), Unsaid>
         ensures said { Says result out.old out.new
-            (says around.entry.config.now (outer_in around.entry) (standing here.old) (shown self.now)) }
-        ensures added { OnOk result (standing here.new ≡ after (standing here.old) (shown self.now)) };
+            (says around.entry.config.now (outer_in around.entry) (preceding here.old) (shown self.now)) }
+        ensures added { OnOk result (preceding here.new ≡ after (preceding here.old) (shown self.now)) };
 }
 
 /// A section with these entries, of which there are at most so many.
@@ -54,9 +54,9 @@ pub(crate) fn put_rows<'a, T: Row>(
     rows: &'a [T],
 ) -> Result<(), Unsaid>
     ensures said { Says result out.old out.new (rows_say
-        (T.says around.entry.config.now (outer_in around.entry)) T.after max (standing here.old)
+        (T.says around.entry.config.now (outer_in around.entry)) T.after max (preceding here.old)
         (map T.shown rows.now)) }
-    ensures added { OnOk result (standing here.new ≡ fold T.after (standing here.old) (map T.shown rows.now)) }
+    ensures added { OnOk result (preceding here.new ≡ fold T.after (preceding here.old) (map T.shown rows.now)) }
 {
     let mut done = 0;
     for row in rows {

@@ -3,12 +3,12 @@
 ghost use Rattle.std.specs.Prelude.{◌≡◌, ℕ, List, true, false, IfOk, IfErr};
 ghost use Rattle.smith_format.specs.Limits.{IsConsistent};
 ghost use Rattle.smith_input.specs.Script.{AreBytes};
-ghost use Rattle.smith_component.specs.Grammar.{Spells};
-ghost use Rattle.smith_component.specs.Script.{Within, script};
-ghost use Rattle.smith_component.specs.Tree.{Tree};
+ghost use Rattle.smith_tree.specs.Grammar.{Spells};
+ghost use Rattle.smith_tree.specs.Script.{Within, script};
+ghost use Rattle.smith_tree.specs.Tree.{Tree};
 ghost use Rattle.smith_read.specs.PartNodes.{shown_tree};
 ghost use Rattle.smith_script_core.specs.Says.{IsUnsaid};
-ghost use Rattle.smith_script.specs.IsScript.{ComesOnNone, IsGiven, IsScript};
+ghost use Rattle.smith_script.specs.IsScript.{CannotBeGenerated, IsGiven, IsScript};
 ghost use Rattle.smith_script.specs.declared.error.ScriptError.TheVariants.{InconsistentLimits, OutOfMemory};
 
 use crate::error::ScriptError;
@@ -100,7 +100,7 @@ pub fn script(alloc: Global, config: &Config, tree: &ComponentTree) -> Result<Ve
         → IfErr result (λ e. e ≡ OutOfMemory) }
     // What is refused for another reason comes on no input.
     ensures no_input { IsConsistent config.now
-        → IfErr result (λ e. ¬ (e ≡ OutOfMemory) → ComesOnNone config.now (shown_tree tree.now)) }
+        → IfErr result (λ e. ¬ (e ≡ OutOfMemory) → CannotBeGenerated config.now (shown_tree tree.now)) }
 {
     tried(alloc, config, tree)
 }

@@ -2,10 +2,10 @@
 use Rattle.std.proofs.Common.{◌≡◌, ℕ, List, [], ◌++◌, refl, ap, sym, subst, ◌∙◌, Result, Ok, Err, IsErrAnd, append_assoc, append-nil}
 use Rattle.std.specs.declared.vec.Vec.{Vec}
 use Rattle.std.specs.declared.alloc.Global.{Global}
-use Rattle.smith_scopes.proofs.Plain.{all_front, all_back}
 use Rattle.smith_script_core.specs.declared.error.Unsaid.{Unsaid}
 use Rattle.smith_script_core.specs.declared.error.Unsaid.TheVariants as error
 use Rattle.smith_script_core.specs.Says.{Adds, IsUnsaid, Says}
+use Rattle.smith_input.proofs.Lists.{all_front, all_back}
 
 pub adds_nothing : {a : Vec ℕ Global} → Adds a a []
 adds_nothing {a} = record { is = sym (append-nil a.items) }

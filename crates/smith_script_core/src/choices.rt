@@ -7,9 +7,7 @@ ghost use Rattle.smith_input.specs.Script.{script_end, script_more, script_text,
 ghost use Rattle.smith_script_core.specs.Says.{Says};
 
 use crate::error::Unsaid;
-
-/// The longest name of a custom section.
-const MOST_TEXT: usize = 1000;
+use smith_input::MAX_CUSTOM_NAME_LEN;
 
 pub fn put_byte(out: &mut Vec<u8>, value: u8) -> Result<(), Unsaid>
     ensures { Says result out.old out.new (value ∷ []) }
@@ -133,7 +131,7 @@ pub(crate) fn put_text_within(out: &mut Vec<u8>, most: usize, text: &[u8]) -> Re
 pub fn put_text(out: &mut Vec<u8>, name: &str) -> Result<(), Unsaid>
     ensures { Says result out.old out.new (script_text 1000 name.now) }
 {
-    put_text_within(out, MOST_TEXT, name.as_bytes())
+    put_text_within(out, MAX_CUSTOM_NAME_LEN, name.as_bytes())
 }
 
 /// The contents of a custom section.

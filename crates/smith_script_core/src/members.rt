@@ -4,7 +4,7 @@ ghost use Rattle.std.specs.Prelude.{ℕ, List};
 ghost use Rattle.smith_input.specs.Script.{script_among};
 ghost use Rattle.smith_format.specs.Equality.{same_val};
 ghost use Rattle.smith_format.specs.CoreScript.{script_values};
-ghost use Rattle.smith_types.specs.Script.{script_members};
+ghost use Rattle.smith_tree.specs.TypeScript.{script_members};
 ghost use Rattle.smith_script_core.specs.Says.{Says};
 
 use crate::choices::{put_among, put_end, put_more};

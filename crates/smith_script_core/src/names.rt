@@ -2,16 +2,14 @@
 
 ghost use Rattle.std.specs.Fmt.{decimal};
 ghost use Rattle.std.specs.Prelude.{◌≡◌, ◌≤◌, ℕ, List, Bool, length};
-ghost use Rattle.smith_input.specs.NameScript.{is_short, is_within, script_new, script_new_text, text_of};
+ghost use Rattle.smith_input.specs.NameScript.{is_short, is_within, script_new, script_new_text, stem_of};
 ghost use Rattle.smith_input.specs.Script.{script_name, script_text};
 ghost use Rattle.smith_script_core.specs.Says.{Says};
 
 use crate::choices::{put_characters, put_choice, put_text_within};
 use crate::cuts::front;
 use crate::error::Unsaid;
-
-/// How many bytes of a name are read, but for the last letter of one in kebab case.
-const MOST_NAME: usize = 100;
+use smith_input::MAX_NAME_LEN;
 
 // Which texts can be read.
 trait Readable {
@@ -29,7 +27,8 @@ impl Readable for Label {
     ghost can_read = { λ _ text. is_within 100 text };
 
     fn reads(&self, text: &[u8]) -> bool {
-        text.len() <= MOST_NAME || text.len() == MOST_NAME + 1 && text.ends_with(&[b'-', b'a'])
+        text.len() <= MAX_NAME_LEN
+            || text.len() == MAX_NAME_LEN + 1 && text.ends_with(&[b'-', b'a'])
     }
 }
 
@@ -41,7 +40,7 @@ impl Readable for Text {
     ghost can_read = { λ _ text. is_short 100 text };
 
     fn reads(&self, text: &[u8]) -> bool {
-        text.len() <= MOST_NAME
+        text.len() <= MAX_NAME_LEN
     }
 }
 
@@ -57,8 +56,8 @@ fn decimal_len(n: usize) -> usize
 }
 
 // The longest text that can be read and becomes the name, where so many names are there.
-fn text_of<'b, R: Readable>(rule: &R, count: usize, name: &'b [u8]) -> &'b [u8]
-    ensures { result.now ≡ text_of (R.can_read rule.now) count name.now }
+fn stem_of<'b, R: Readable>(rule: &R, count: usize, name: &'b [u8]) -> &'b [u8]
+    ensures { result.now ≡ stem_of (R.can_read rule.now) count name.now }
 {
     let digits = decimal_len(count);
     let mut text = name;
@@ -75,7 +74,7 @@ fn text_of<'b, R: Readable>(rule: &R, count: usize, name: &'b [u8]) -> &'b [u8]
 fn put_kebab(out: &mut Vec<u8>, name: &[u8]) -> Result<(), Unsaid>
     ensures { Says result out.old out.new (script_name 100 name.now) }
 {
-    put_choice(out, MOST_NAME + 1, name.len())?;
+    put_choice(out, MAX_NAME_LEN + 1, name.len())?;
     put_characters(out, name)
 }
 
@@ -83,20 +82,20 @@ fn put_kebab(out: &mut Vec<u8>, name: &[u8]) -> Result<(), Unsaid>
 pub fn put_name(out: &mut Vec<u8>, count: usize, name: &str) -> Result<(), Unsaid>
     ensures { Says result out.old out.new (script_new 100 count name.now) }
 {
-    let text = text_of(&Label {}, count, name.as_bytes());
-    put_kebab(out, front(text, MOST_NAME))
+    let text = stem_of(&Label {}, count, name.as_bytes());
+    put_kebab(out, front(text, MAX_NAME_LEN))
 }
 
 /// The name of a core module from which something is imported.
 pub fn put_core_name(out: &mut Vec<u8>, name: &str) -> Result<(), Unsaid>
     ensures { Says result out.old out.new (script_text 100 name.now) }
 {
-    put_text_within(out, MOST_NAME, name.as_bytes())
+    put_text_within(out, MAX_NAME_LEN, name.as_bytes())
 }
 
 /// A name of what a core module imports or exports, where so many names are there.
 pub fn put_new_core_name(out: &mut Vec<u8>, count: usize, name: &str) -> Result<(), Unsaid>
     ensures { Says result out.old out.new (script_new_text 100 count name.now) }
 {
-    put_text_within(out, MOST_NAME, text_of(&Text {}, count, name.as_bytes()))
+    put_text_within(out, MAX_NAME_LEN, stem_of(&Text {}, count, name.as_bytes()))
 }

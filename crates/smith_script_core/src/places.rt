@@ -1,4 +1,4 @@
-//! The places in a list of what passes a test.
+//! The places in a list of what a test accepts.
 
 ghost use Rattle.std.specs.Prelude.{◌≡◌, Bool, true, IfOk, IfErr};
 ghost use Rattle.smith_syntax.specs.Scope.{places};
@@ -11,7 +11,7 @@ use std::alloc::Global;
 pub trait Test<T> {
     ghost passed: { Self → T → Bool };
 
-    fn passes(&self, item: &T) -> bool
+    fn accepts(&self, item: &T) -> bool
         ensures { result ≡ passed self.now item.now };
 }
 
@@ -22,7 +22,7 @@ pub struct Any {}
 impl<T> Test<T> for Any {
     ghost passed = { λ _ x. true };
 
-    fn passes(&self, _item: &T) -> bool {
+    fn accepts(&self, _item: &T) -> bool {
         true
     }
 }
@@ -34,7 +34,7 @@ pub fn places_of<T, P: Test<T>>(alloc: Global, test: &P, items: &[T]) -> Result<
 {
     let mut places = Vec::new(alloc);
     for place in 0..items.len() {
-        if test.passes(&items[place]) {
+        if test.accepts(&items[place]) {
             places.push(place)?;
         }
     }

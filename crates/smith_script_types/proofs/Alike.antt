@@ -15,27 +15,28 @@ use Rattle.smith_syntax.specs.declared.deftype.ComponentTypeRef.{ComponentTypeRe
 use Rattle.smith_syntax.specs.declared.deftype.ComponentTypeRef.TheVariants as to
 use Rattle.smith_syntax.specs.declared.types.ComponentValType.{ComponentValType}
 use Rattle.smith_syntax.specs.declared.types.ComponentValType.TheVariants.{Primitive, Indexed}
-use Rattle.smith_types.specs.Offers.{ref_places, has_reference, ref_kinds, is_occupied, declaration_items}
-use Rattle.smith_types.specs.Offers.{aliases_of}
-use Rattle.smith_types.specs.Offers.{uncounted}
-use Rattle.smith_types.specs.Script.{script_val, script_either, script_primitive, script_maybe, script_field, script_case, script_members, script_defined}
-use Rattle.smith_types.specs.Script.{script_label}
-use Rattle.smith_types.specs.Script.{script_signature, script_ref, script_entry, script_alias, script_declares, script_type}
-use Rattle.smith_types.specs.Script.{script_decl}
-use Rattle.smith_types.specs.Needs.{decl_cost}
-use Rattle.smith_types.specs.Script.{script_decls, kind_in, index_in, Taken, none_taken, after_taken}
-use Rattle.smith_types.specs.contracts.make.declarations.DeclarationItemPartialEq.TheImpl.{ghosts as items}
-use Rattle.smith_types.specs.contracts.make.references.RefKindPartialEq.TheImpl.{ghosts as refs}
-use Rattle.smith_types.specs.declared.make.references.RefKind.{RefKind}
-use Rattle.smith_types.specs.declared.make.references.RefKind.TheVariants as ref
-use Rattle.smith_types.specs.declared.make.references.RefTotals.{RefTotals}
-use Rattle.smith_types.specs.declared.make.declarations.DeclarationItem.{DeclarationItem}
-use Rattle.smith_types.specs.declared.make.declarations.DeclarationItem.TheVariants as item
+use Rattle.smith_tree.specs.TypeOffers.{ref_places, has_reference, ref_kinds, is_occupied, declaration_items}
+use Rattle.smith_tree.specs.TypeOffers.{aliases_of}
+use Rattle.smith_tree.specs.TypeOffers.{uncounted}
+use Rattle.smith_tree.specs.TypeScript.{script_val, script_either, script_primitive, script_maybe, script_field, script_case, script_members, script_defined}
+use Rattle.smith_tree.specs.TypeScript.{script_label}
+use Rattle.smith_tree.specs.TypeScript.{script_signature, script_ref, script_entry, script_alias, script_declares, script_type}
+use Rattle.smith_tree.specs.TypeScript.{script_decl}
+use Rattle.smith_tree.specs.TypeNeeds.{decl_cost}
+use Rattle.smith_tree.specs.TypeScript.{script_decls, kind_in, index_in, Taken, none_taken, after_taken}
+use Rattle.smith_tree.specs.contracts.choices.DeclarationItemPartialEq.TheImpl.{ghosts as items}
+use Rattle.smith_tree.specs.contracts.choices.RefKindPartialEq.TheImpl.{ghosts as refs}
+use Rattle.smith_tree.specs.declared.choices.RefKind.{RefKind}
+use Rattle.smith_tree.specs.declared.choices.RefKind.TheVariants as ref
+use Rattle.smith_tree.specs.declared.totals.RefTotals.{RefTotals}
+use Rattle.smith_tree.specs.declared.choices.DeclarationItem.{DeclarationItem}
+use Rattle.smith_tree.specs.declared.choices.DeclarationItem.TheVariants as item
 use Rattle.smith_script_types.proofs.ModuleAlike.{script_core_alike}
-use Rattle.smith_script_types.proofs.Placing.{places_row, length-aliases}
+use Rattle.smith_script_types.proofs.Placing.{places_row}
 use Rattle.smith_script_types.proofs.Sorts.{appended, behind, both, got_alike, is_component_by, is_core_module_by, is_defined_by, is_func_by}
 use Rattle.smith_script_types.proofs.Sorts.{is_instance_by, same_length, same_places}
 use Rattle.smith_script_types.specs.Scopes.{Alike, AllAlike, core_entry_of, core_sort_of, entry_of, sort_of}
+use Rattle.smith_tree.proofs.Aliases.{length-aliases}
 
 module _ (a b : Scope) (alike : Alike a b) where
   same_defined : defined_places a ≡ defined_places b
@@ -134,11 +135,11 @@ occupied_from i [] (y ∷ ys) h = elim h [ ]
 occupied_from i (x ∷ xs) [] h = elim h [ ]
 occupied_from i (x ∷ xs) (y ∷ ys) h = places_row (is_occupied x) (is_occupied y) i _ _ (occupied_row x y h.0) (occupied_from (i + 1) xs ys h.1)
 
-all_length : (xs ys : List Scope) → AllAlike xs ys → length xs ≡ length ys
-all_length [] [] h = refl
-all_length [] (y ∷ ys) h = elim h [ ]
-all_length (x ∷ xs) [] h = elim h [ ]
-all_length (x ∷ xs) (y ∷ ys) h = ap suc (all_length xs ys h.1)
+pub alike_length : (xs ys : List Scope) → AllAlike xs ys → length xs ≡ length ys
+alike_length [] [] h = refl
+alike_length [] (y ∷ ys) h = elim h [ ]
+alike_length (x ∷ xs) [] h = elim h [ ]
+alike_length (x ∷ xs) (y ∷ ys) h = ap suc (alike_length xs ys h.1)
 
 module _ (count : ℕ) (place : Scope → ℕ) (same : (s t : Scope) → Alike s t → place s ≡ place t) where
   entry_alike : (xs ys : List Scope) (n : ℕ) → AllAlike xs ys → script_entry count place (slice_get xs n) ≡ script_entry count place (slice_get ys n)
@@ -156,7 +157,7 @@ module _ (count : ℕ) (place : Scope → ℕ) (same : (s t : Scope) → Alike s
 
 module _ (config : Config) (importing : Bool) (a b : Scope) (outer around : List Scope) (alike : Alike a b) (all : AllAlike outer around) where
   items_alike : declaration_items config outer a ≡ declaration_items config around b
-  items_alike = rw (same_reference a b alike, occupied_from 0 (a ∷ outer) (b ∷ around) (alike, all), all_length outer around all) refl
+  items_alike = rw (same_reference a b alike, occupied_from 0 (a ∷ outer) (b ∷ around) (alike, all), alike_length outer around all) refl
 
   declares_alike : (chosen : DeclarationItem) → script_declares config importing a outer chosen ≡ script_declares config importing b around chosen
   declares_alike chosen =

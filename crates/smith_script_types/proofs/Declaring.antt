@@ -9,8 +9,8 @@ use Rattle.smith_syntax.specs.Entries.{in_order}
 use Rattle.smith_syntax.specs.Scope.{Scope, after_decl}
 use Rattle.smith_read_types.specs.TypeNodes.{shown_decl_node}
 use Rattle.smith_read_types.specs.declared.nodes.DeclNode.{DeclNode}
-use Rattle.smith_types.specs.Needs.{decl_cost}
-use Rattle.smith_types.specs.Script.{Taken, after_taken, script_decl, script_decls}
+use Rattle.smith_tree.specs.TypeNeeds.{decl_cost}
+use Rattle.smith_tree.specs.TypeScript.{Taken, after_taken, script_decl, script_decls}
 use Rattle.smith_script_core.proofs.Saying.{Towards, towards_step}
 use Rattle.smith_script_core.specs.Says.{Adds}
 use Rattle.smith_script_types.proofs.Alike.{all_same, script_decls_alike}

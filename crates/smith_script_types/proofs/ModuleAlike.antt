@@ -11,12 +11,12 @@ use Rattle.smith_format.specs.declared.types.EntityType.TheVariants.{Func, Table
 use Rattle.smith_syntax.specs.Entries.{CoreEntry, core_func, core_module, ModuleDecl, imports, declares, aliases, exports}
 use Rattle.smith_syntax.specs.ModuleTypes.{adds, export_names, is_tag_type, names_from}
 use Rattle.smith_syntax.specs.Scope.{Scope, is_core_func, places}
-use Rattle.smith_core_types.specs.ModuleScript.{alias_place, script_decl, script_entity, script_entity_of, script_module}
-use Rattle.smith_core_types.specs.Offers.{Declared, alias_choices, entity_kinds, indexes, module_items, with_decl}
-use Rattle.smith_core_types.specs.Script.{script_core}
-use Rattle.smith_core_types.specs.contracts.module_types.ModuleItemPartialEq.TheImpl.{ghosts as items}
-use Rattle.smith_core_types.specs.declared.module_types.ModuleItem.{ModuleItem}
-use Rattle.smith_core_types.specs.declared.module_types.ModuleItem.TheVariants as item
+use Rattle.smith_tree.specs.ModuleScript.{alias_place, script_decl, script_entity, script_entity_of, script_module}
+use Rattle.smith_tree.specs.CoreTypeOffers.{Declared, alias_choices, entity_kinds, indexes, module_items, with_decl}
+use Rattle.smith_tree.specs.CoreTypeScript.{script_core}
+use Rattle.smith_tree.specs.contracts.choices.ModuleItemPartialEq.TheImpl.{ghosts as items}
+use Rattle.smith_tree.specs.declared.choices.ModuleItem.{ModuleItem}
+use Rattle.smith_tree.specs.declared.choices.ModuleItem.TheVariants as item
 use Rattle.smith_script_types.proofs.Sorts.{appended, behind, both, func_got_alike, got_alike, is_core_func_by, is_tag_type_by, same_length, same_places}
 use Rattle.smith_script_types.specs.Modules.{DeclaredAlike}
 use Rattle.smith_script_types.specs.Scopes.{Alike, core_entry_of, core_sort_of, func_sort_of, function_of}

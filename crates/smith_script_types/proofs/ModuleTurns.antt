@@ -11,17 +11,14 @@ use Rattle.std.specs.declared.vec.Vec.{Vec}
 use Rattle.std.specs.declared.alloc.Global.{Global}
 use Rattle.smith_input.specs.Script.{pick, script_end, script_loop, script_more}
 use Rattle.smith_format.specs.declared.config.Config.{Config}
-use Rattle.smith_format.specs.declared.types.EntityType.{EntityType}
 use Rattle.smith_syntax.specs.Entries.{ModuleDecl}
-use Rattle.smith_syntax.specs.ModuleTypes.{adds, after_front, declared_in, entities_of}
-use Rattle.smith_syntax.specs.ModuleTypes.{module_export_of, module_import_of}
+use Rattle.smith_syntax.specs.ModuleTypes.{adds, after_front, declared_in, entities_of, entities_in}
 use Rattle.smith_syntax.specs.Scope.{Scope}
 use Rattle.smith_read_types.specs.Nodes.{shown_module_node}
 use Rattle.smith_read_types.specs.declared.core_types.ModuleNode.{ModuleNode}
 use Rattle.smith_core_types.proofs.FrontFound.{fronted, whole_front}
-use Rattle.smith_core_types.proofs.ModuleScript.{below}
-use Rattle.smith_core_types.specs.ModuleScript.{front_before, in_front, script_asked, script_decl, script_line}
-use Rattle.smith_core_types.specs.Offers.{Declared, undeclared, with_decl, with_front}
+use Rattle.smith_tree.specs.ModuleScript.{front_before, in_front, script_asked, script_decl, script_line}
+use Rattle.smith_tree.specs.CoreTypeOffers.{Declared, undeclared, with_decl, with_front}
 use Rattle.smith_script_core.proofs.Saying.{Towards, adds_then, towards_step}
 use Rattle.smith_script_core.specs.Says.{Adds}
 use Rattle.smith_script_types.proofs.ModuleAlike.{loop_alike}
@@ -29,11 +26,9 @@ use Rattle.smith_script_types.proofs.Sorts.{func_sorts_back}
 use Rattle.smith_script_types.specs.Modules.{DeclaredAlike, script_behind, with_sorts}
 use Rattle.smith_script_types.specs.Scopes.{Alike, func_sort_of, function_of}
 use Rattle.smith_script_types.specs.declared.scopes.FuncSort.{FuncSort}
+use Rattle.std.proofs.lemmas.Bool.{lt-ltb}
 
 -- what the canonical ABI leaves open
-
-abbrev entities_in : ModuleDecl → List EntityType
-entities_in d = map (λ i. i.2) (module_import_of d) ++ map (λ x. x.1) (module_export_of d)
 
 abbrev asked_in : List ModuleDecl → List ℕ
 asked_in ds = flat_map script_asked (entities_of ds)
@@ -55,7 +50,7 @@ pub line_taken : (may : Bool) (ds behind : List ModuleDecl) → length behind < 
     → script_line may ds behind ≡ pick 100 0 ++ flat_map script_asked (entities_of (in_front ds behind))
 line_taken may ds behind h =
     ap (λ b. if b then pick 100 0 ++ flat_map script_asked (entities_of (in_front ds behind)) else (if may then pick 100 99 else []))
-    (below (length behind) (length ds) h)
+    (lt-ltb (length behind) (length ds) h)
 
 -- what stands behind the front
 

@@ -63,7 +63,7 @@ pub func_sorts_back : (ss : List FuncSort) → map func_sort_of (map function_of
 func_sorts_back [] = refl
 func_sorts_back (s ∷ ss) = λ i. func_sort_back s i ∷ func_sorts_back ss i
 
--- Lists that are seen alike have what passes a test at the same places.
+-- Lists that are seen alike have what a test accepts at the same places.
 pub same_places : {A B : Type 0} (test : A → Bool) (seen : A → B) (back : B → A) → ((x : A) → test x ≡ test (back (seen x))) → (xs ys : List A)
     → map seen xs ≡ map seen ys → places test 0 xs ≡ places test 0 ys
 same_places test seen back same xs ys e =

@@ -8,7 +8,7 @@ use Rattle.smith_syntax.specs.Entries.{Signature}
 use Rattle.smith_syntax.specs.Scope.{Scope}
 use Rattle.smith_syntax.specs.Signature.{named, signature}
 use Rattle.smith_syntax.specs.declared.types.ComponentValType.{ComponentValType}
-use Rattle.smith_types.specs.Script.{script_field, script_members, script_signature, script_val}
+use Rattle.smith_tree.specs.TypeScript.{script_field, script_members, script_signature, script_val}
 
 module _ {A B : Type 0} (f : ℕ → B → List ℕ) (g : A → B) (min max : ℕ) where
   turns_map : (done count : ℕ) (xs : List A)

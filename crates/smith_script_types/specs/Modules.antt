@@ -5,8 +5,8 @@ use Rattle.smith_format.specs.declared.config.Config.{Config}
 use Rattle.smith_syntax.specs.Entries.{ModuleDecl}
 use Rattle.smith_syntax.specs.Scope.{Scope as PlainScope}
 use Rattle.smith_read_types.specs.Nodes.{shown_module_node}
-use Rattle.smith_core_types.specs.ModuleScript.{script_decl}
-use Rattle.smith_core_types.specs.Offers.{Declared as PlainDeclared, undeclared, with_decl, with_front}
+use Rattle.smith_tree.specs.ModuleScript.{script_decl}
+use Rattle.smith_tree.specs.CoreTypeOffers.{Declared as PlainDeclared, undeclared, with_decl, with_front}
 use Rattle.smith_script_types.specs.Scopes.{func_sort_of, function_of}
 use Rattle.smith_script_types.specs.declared.declared.Declared.{Declared}
 use Rattle.smith_script_types.specs.declared.scopes.FuncSort.{FuncSort}

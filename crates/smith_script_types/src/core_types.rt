@@ -4,8 +4,8 @@ ghost use Rattle.std.specs.Prelude.{ℕ, ◌++◌, map};
 ghost use Rattle.smith_input.specs.Script.{pick};
 ghost use Rattle.smith_format.specs.Shown.{shown_func};
 ghost use Rattle.smith_read_types.specs.Nodes.{shown_core_node, shown_module_node};
-ghost use Rattle.smith_core_types.specs.ModuleScript.{script_module};
-ghost use Rattle.smith_core_types.specs.Script.{script_core, script_core_type};
+ghost use Rattle.smith_tree.specs.ModuleScript.{script_module};
+ghost use Rattle.smith_tree.specs.CoreTypeScript.{script_core, script_core_type};
 ghost use Rattle.smith_script_core.specs.Says.{Says};
 ghost use Rattle.smith_script_types.specs.Places.{own_at};
 

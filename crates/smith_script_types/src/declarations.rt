@@ -2,8 +2,8 @@
 
 ghost use Rattle.std.specs.Prelude.{◌≡◌, ◌∷◌, ◌+◌, length, nat_eq, nat_lt, IfOk, IfErr};
 ghost use Rattle.smith_input.specs.Script.{script_among};
-ghost use Rattle.smith_types.specs.Offers.{occupied};
-ghost use Rattle.smith_types.specs.Script.{script_alias, script_declaration_item, script_declares, script_no_import};
+ghost use Rattle.smith_tree.specs.TypeOffers.{occupied};
+ghost use Rattle.smith_tree.specs.TypeScript.{script_alias, script_declaration_item, script_declares, script_no_import};
 ghost use Rattle.smith_script_core.specs.Says.{Says};
 ghost use Rattle.smith_script_core.specs.declared.error.Unsaid.TheVariants.{OutOfMemory};
 ghost use Rattle.smith_script_types.specs.Places.{outer_at, own_at};
@@ -11,7 +11,7 @@ ghost use Rattle.smith_script_types.specs.Places.{outer_at, own_at};
 use crate::place::Place;
 use crate::scopes::occupied_places;
 use smith_script_core::{Unsaid, put_among, put_choice, put_offered};
-use smith_types::DeclarationItem;
+use smith_tree::DeclarationItem;
 
 // That no import is declared, where one might be.
 fn put_no_import(out: &mut Vec<u8>, place: Place<'_>, importing: bool) -> Result<(), Unsaid>

@@ -5,7 +5,7 @@ ghost use Rattle.std.specs.Prelude.{if◌then◌else◌};
 ghost use Rattle.std.specs.Option.{option_to_list};
 ghost use Rattle.smith_syntax.specs.ModuleTypes.{adds, count_of_kind, declared_in, entities_of, is_tag_type};
 ghost use Rattle.smith_syntax.specs.Scope.{places};
-ghost use Rattle.smith_core_types.specs.Offers.{allows_function, allows_type, indexes};
+ghost use Rattle.smith_tree.specs.CoreTypeOffers.{allows_function, allows_type, indexes};
 ghost use Rattle.smith_read_types.specs.Nodes.{shown_module_node};
 ghost use Rattle.smith_script_core.specs.declared.error.Unsaid.TheVariants.{OutOfMemory};
 ghost use Rattle.smith_script_types.specs.Modules.{so_far};
@@ -66,7 +66,7 @@ struct OfTag {}
 impl Test<FuncSort> for OfTag {
     ghost passed = { λ _ t. is_tag_type (function_of t) };
 
-    fn passes(&self, item: &FuncSort) -> bool {
+    fn accepts(&self, item: &FuncSort) -> bool {
         match *item {
             FuncSort::WithoutResults => true,
             FuncSort::WithResults => false,

@@ -8,8 +8,8 @@ ghost use Rattle.smith_format.specs.contracts.types.ExportKindPartialEq.TheImpl.
 ghost use Rattle.smith_format.specs.declared.types.ExportKind.TheVariants as kind;
 ghost use Rattle.smith_syntax.specs.ModuleTypes.{count_of_kind, is_tag_type};
 ghost use Rattle.smith_syntax.specs.Scope.{places};
-ghost use Rattle.smith_core_types.specs.ModuleScript.{script_bit, script_element, script_entity, script_entity_of};
-ghost use Rattle.smith_core_types.specs.Offers.{entity_kinds};
+ghost use Rattle.smith_tree.specs.ModuleScript.{script_bit, script_element, script_entity, script_entity_of};
+ghost use Rattle.smith_tree.specs.CoreTypeOffers.{entity_kinds};
 ghost use Rattle.smith_script_core.specs.Says.{Says};
 ghost use Rattle.smith_script_core.specs.declared.error.Unsaid.TheVariants.{OutOfMemory};
 ghost use Rattle.smith_script_types.specs.Modules.{so_far};

@@ -5,7 +5,7 @@ ghost use Rattle.smith_syntax.specs.Entries.{function, in_order};
 ghost use Rattle.smith_syntax.specs.Shown.{shown_defined};
 ghost use Rattle.smith_syntax.specs.WellFormed.{core_size, defined_size, size};
 ghost use Rattle.smith_read_types.specs.TypeNodes.{shown_decl_node, shown_type_node};
-ghost use Rattle.smith_types.specs.Needs.{cost, decl_cost, decls_cost};
+ghost use Rattle.smith_tree.specs.TypeNeeds.{cost, decl_cost, decls_cost};
 
 use smith_read_types::{DeclNode, TypeNode};
 use smith_script_core::core_size;

@@ -4,8 +4,8 @@ ghost use Rattle.std.specs.Prelude.{◌≡◌, ◌∷◌, [], ℕ, map, IfOk, If
 ghost use Rattle.std.specs.List.{flat_map};
 ghost use Rattle.smith_syntax.specs.ModuleTypes.{after_front, after_memory, after_realloc, entities_of};
 ghost use Rattle.smith_read_types.specs.Nodes.{shown_module_node};
-ghost use Rattle.smith_core_types.specs.ModuleScript.{front_before, in_front, may_declare, script_asked, script_front};
-ghost use Rattle.smith_core_types.specs.ModuleScript.{script_line};
+ghost use Rattle.smith_tree.specs.ModuleScript.{front_before, in_front, may_declare, script_asked, script_front};
+ghost use Rattle.smith_tree.specs.ModuleScript.{script_line};
 ghost use Rattle.smith_script_core.specs.Says.{Says};
 ghost use Rattle.smith_script_core.specs.declared.error.Unsaid.TheVariants.{OutOfMemory};
 

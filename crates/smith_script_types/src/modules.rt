@@ -5,9 +5,9 @@ ghost use Rattle.smith_input.specs.NameScript.{script_new_text};
 ghost use Rattle.smith_input.specs.Script.{pick, script_text};
 ghost use Rattle.smith_syntax.specs.ModuleTypes.{names_from};
 ghost use Rattle.smith_read_types.specs.Nodes.{shown_module_node};
-ghost use Rattle.smith_core_types.specs.ModuleScript.{alias_place, script_decl, script_entity, script_item};
-ghost use Rattle.smith_core_types.specs.ModuleScript.{script_module};
-ghost use Rattle.smith_core_types.specs.Offers.{alias_choices};
+ghost use Rattle.smith_tree.specs.ModuleScript.{alias_place, script_decl, script_entity, script_item};
+ghost use Rattle.smith_tree.specs.ModuleScript.{script_module};
+ghost use Rattle.smith_tree.specs.CoreTypeOffers.{alias_choices};
 ghost use Rattle.smith_script_core.specs.Says.{Says};
 ghost use Rattle.smith_script_core.specs.declared.error.Unsaid.TheVariants.{OutOfMemory};
 ghost use Rattle.smith_script_types.specs.Modules.{script_behind, so_far};
@@ -17,13 +17,13 @@ use crate::declared::{Declared, add, declared_sorts};
 use crate::entities::put_entity;
 use crate::module_fronts::put_front;
 use crate::place::Place;
-use smith_core_types::ModuleItem;
 use smith_format::EntityType;
 use smith_read_types::ModuleNode;
 use smith_script_core::{
     Unsaid, after_front, exports_in, imports_from, place_of, put_choice, put_core_function,
     put_core_name, put_end, put_more, put_new_core_name, put_offered,
 };
+use smith_tree::ModuleItem;
 
 // How many function types an outer alias is among.
 fn alias_count(place: Place<'_>, declared: Declared<'_>) -> Result<usize, Unsaid>

@@ -2,9 +2,9 @@
 
 ghost use Rattle.std.specs.Prelude.{◌≡◌, ◌&&◌, IfOk, IfErr};
 ghost use Rattle.smith_input.specs.Script.{script_among};
-ghost use Rattle.smith_types.specs.Offers.{allows_equal, allows_one, has_place, has_reference, ref_kinds, ref_places};
-ghost use Rattle.smith_types.specs.Script.{index_in, kind_in, script_extern, script_ref};
-ghost use Rattle.smith_types.specs.contracts.make.references.RefKindPartialEq.TheImpl.{ghosts as refs};
+ghost use Rattle.smith_tree.specs.TypeOffers.{allows_equal, allows_one, has_place, has_reference, ref_kinds, ref_places};
+ghost use Rattle.smith_tree.specs.TypeScript.{index_in, kind_in, script_extern, script_ref};
+ghost use Rattle.smith_tree.specs.contracts.choices.RefKindPartialEq.TheImpl.{ghosts as refs};
 ghost use Rattle.smith_script_core.specs.Says.{Says};
 ghost use Rattle.smith_script_core.specs.declared.error.Unsaid.TheVariants.{OutOfMemory};
 ghost use Rattle.smith_script_types.specs.Places.{own_at};
@@ -13,7 +13,7 @@ use crate::place::Place;
 use crate::scopes::Sort;
 use smith_script_core::{Unsaid, put_among, put_byte, put_name, put_offered};
 use smith_syntax::ComponentTypeRef;
-use smith_types::{RefKind, RefTotals};
+use smith_tree::{RefKind, RefTotals};
 
 impl<'s> Place<'s> {
     // The indexes of the entries of a kind.

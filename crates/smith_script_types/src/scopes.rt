@@ -6,7 +6,7 @@ ghost use Rattle.smith_syntax.specs.ModuleTypes.{func_in};
 ghost use Rattle.smith_syntax.specs.Scope.{empty_scope, is_core_func, is_core_module, places};
 ghost use Rattle.smith_read_types.specs.Nodes.{shown_core_node};
 ghost use Rattle.smith_read_types.specs.TypeNodes.{shown_type_node};
-ghost use Rattle.smith_types.specs.Offers.{aliases_of, is_occupied};
+ghost use Rattle.smith_tree.specs.TypeOffers.{aliases_of, is_occupied};
 ghost use Rattle.smith_script_core.specs.declared.error.Unsaid.TheVariants.{OutOfMemory};
 ghost use Rattle.smith_script_types.specs.Scopes.{core_entry_of, core_sort_of, entry_of, func_sort_of, function_of};
 ghost use Rattle.smith_script_types.specs.Scopes.{is_of, shown_scope, sort_of};
@@ -58,7 +58,7 @@ pub enum Added {
 impl Test<Sort> for Sort {
     ghost passed = { λ s t. is_of s (entry_of t) };
 
-    fn passes(&self, item: &Sort) -> bool {
+    fn accepts(&self, item: &Sort) -> bool {
         match (*self, *item) {
             (Sort::Defined, Sort::Defined)
             | (Sort::Func, Sort::Func)
@@ -76,7 +76,7 @@ struct OfFunc {}
 impl Test<CoreSort> for OfFunc {
     ghost passed = { λ _ t. is_core_func (core_entry_of t) };
 
-    fn passes(&self, item: &CoreSort) -> bool {
+    fn accepts(&self, item: &CoreSort) -> bool {
         match *item {
             CoreSort::Func(_) => true,
             CoreSort::Module => false,
@@ -91,7 +91,7 @@ struct OfModule {}
 impl Test<CoreSort> for OfModule {
     ghost passed = { λ _ t. is_core_module (core_entry_of t) };
 
-    fn passes(&self, item: &CoreSort) -> bool {
+    fn accepts(&self, item: &CoreSort) -> bool {
         match *item {
             CoreSort::Func(_) => false,
             CoreSort::Module => true,
@@ -106,7 +106,7 @@ struct HasEntry {}
 impl<'b> Test<&'b Scope> for HasEntry {
     ghost passed = { λ _ s. is_occupied (shown_scope s.now) };
 
-    fn passes(&self, item: &&'b Scope) -> bool {
+    fn accepts(&self, item: &&'b Scope) -> bool {
         !item.types.is_empty() || !item.core_types.is_empty()
     }
 }

@@ -4,10 +4,10 @@ ghost use Rattle.std.specs.Prelude.{◌∷◌, ◌++◌, [], true, map, nat_le, 
 ghost use Rattle.smith_syntax.specs.Entries.{in_order};
 ghost use Rattle.smith_syntax.specs.Scope.{empty_scope};
 ghost use Rattle.smith_read_types.specs.TypeNodes.{shown_decl_node, shown_type_node};
-ghost use Rattle.smith_types.specs.Offers.{uncounted};
-ghost use Rattle.smith_types.specs.Script.{none_taken, script_decl, script_decls, script_extern, script_ref, script_type};
-ghost use Rattle.smith_types.specs.Script.{script_type_kind};
-ghost use Rattle.smith_types.specs.declared.make.TypeKind.TheVariants.{Defined};
+ghost use Rattle.smith_tree.specs.TypeOffers.{uncounted};
+ghost use Rattle.smith_tree.specs.TypeScript.{none_taken, script_decl, script_decls, script_extern, script_ref, script_type};
+ghost use Rattle.smith_tree.specs.TypeScript.{script_type_kind};
+ghost use Rattle.smith_tree.specs.declared.choices.TypeKind.TheVariants.{Defined};
 ghost use Rattle.smith_script_core.specs.Says.{Says};
 ghost use Rattle.smith_script_types.specs.Places.{outer_at, own_at};
 ghost use Rattle.smith_script_types.specs.Taken.{shown_taken};
@@ -23,14 +23,7 @@ use crate::values::{put_defined, put_signature};
 use smith_read_types::{DeclNode, TypeNode};
 use smith_script_core::{Unsaid, put_among, put_byte, put_choice, put_end};
 use smith_syntax::ComponentTypeRef;
-use smith_types::{DeclarationItem, RefTotals, TypeKind};
-
-static TYPE_KINDS: [TypeKind; 4] = [
-    TypeKind::Defined,
-    TypeKind::Function,
-    TypeKind::Component,
-    TypeKind::Instance,
-];
+use smith_tree::{DeclarationItem, RefTotals, TypeKind, type_kinds};
 
 // Nothing is counted within types.
 const UNCOUNTED: RefTotals = RefTotals {
@@ -43,7 +36,7 @@ const UNCOUNTED: RefTotals = RefTotals {
 fn put_type_kind(out: &mut Vec<u8>, kind: TypeKind) -> Result<(), Unsaid>
     ensures { Says result out.old out.new (script_type_kind kind) }
 {
-    put_among(out, &TYPE_KINDS, &kind)
+    put_among(out, type_kinds(), &kind)
 }
 
 // That a type is one of values, where the fuel lasts for others.

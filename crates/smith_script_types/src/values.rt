@@ -4,10 +4,10 @@ ghost use Rattle.std.specs.Prelude.{List, ◌++◌, string_bytes};
 ghost use Rattle.std.specs.Option.{option_to_list};
 ghost use Rattle.smith_syntax.specs.Shown.{shown_defined};
 ghost use Rattle.smith_syntax.specs.Signature.{named};
-ghost use Rattle.smith_types.specs.Script.{script_case, script_defined, script_either, script_field, script_kind};
-ghost use Rattle.smith_types.specs.Script.{script_label};
-ghost use Rattle.smith_types.specs.Script.{script_maybe, script_members, script_primitive, script_signature};
-ghost use Rattle.smith_types.specs.Script.{script_val};
+ghost use Rattle.smith_tree.specs.TypeScript.{script_case, script_defined, script_either, script_field, script_kind};
+ghost use Rattle.smith_tree.specs.TypeScript.{script_label};
+ghost use Rattle.smith_tree.specs.TypeScript.{script_maybe, script_members, script_primitive, script_signature};
+ghost use Rattle.smith_tree.specs.TypeScript.{script_val};
 ghost use Rattle.smith_script_core.specs.Says.{Says};
 ghost use Rattle.smith_script_types.specs.Places.{own_at};
 
@@ -15,46 +15,18 @@ use crate::place::Place;
 use crate::scopes::Sort;
 use smith_script_core::{Scripted, Unsaid, put_among, put_byte, put_choice, put_members, put_name};
 use smith_syntax::{ComponentValType, DefinedType, FuncType, PrimitiveValType, ResultType};
-use smith_types::DefinedKind;
-
-static PRIMITIVES: [PrimitiveValType; 13] = [
-    PrimitiveValType::Bool,
-    PrimitiveValType::S8,
-    PrimitiveValType::U8,
-    PrimitiveValType::S16,
-    PrimitiveValType::U16,
-    PrimitiveValType::S32,
-    PrimitiveValType::U32,
-    PrimitiveValType::S64,
-    PrimitiveValType::U64,
-    PrimitiveValType::F32,
-    PrimitiveValType::F64,
-    PrimitiveValType::Char,
-    PrimitiveValType::String,
-];
-
-static DEFINED_KINDS: [DefinedKind; 9] = [
-    DefinedKind::Primitive,
-    DefinedKind::Record,
-    DefinedKind::Variant,
-    DefinedKind::List,
-    DefinedKind::Tuple,
-    DefinedKind::Flags,
-    DefinedKind::Enum,
-    DefinedKind::Option,
-    DefinedKind::Result,
-];
+use smith_tree::{DefinedKind, defined_kinds, primitives};
 
 fn put_primitive(out: &mut Vec<u8>, ty: PrimitiveValType) -> Result<(), Unsaid>
     ensures { Says result out.old out.new (script_primitive ty) }
 {
-    put_among(out, &PRIMITIVES, &ty)
+    put_among(out, primitives(), &ty)
 }
 
 fn put_kind(out: &mut Vec<u8>, kind: DefinedKind) -> Result<(), Unsaid>
     ensures { Says result out.old out.new (script_kind kind) }
 {
-    put_among(out, &DEFINED_KINDS, &kind)
+    put_among(out, defined_kinds(), &kind)
 }
 
 // That a value type is primitive, where it may be an indexed one.

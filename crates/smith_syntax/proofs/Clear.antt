@@ -36,7 +36,7 @@ primitive_same prim.Char prim.Char e = refl
 primitive_same prim.String prim.String e = refl
 primitive_same a b e = absurd (omega arith)
 
-primitive_range : (a : PrimitiveValType) → (0x73 ≤ primvaltype a) × (primvaltype a < 0x80)
+pub primitive_range : (a : PrimitiveValType) → (0x73 ≤ primvaltype a) × (primvaltype a < 0x80)
 primitive_range prim.Bool = (lit≤ tt, lit< tt)
 primitive_range prim.S8 = (lit≤ tt, lit< tt)
 primitive_range prim.U8 = (lit≤ tt, lit< tt)

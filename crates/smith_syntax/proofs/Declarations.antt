@@ -1,5 +1,5 @@
 -- How types of components and instances are spelled, and what they declare, over the program's lists.
-use Rattle.std.proofs.Common.{◌≡◌, ℕ, ◌+◌, ◌<◌, ◌^◌, arith, Bool, true, false, List, [], ◌∷◌, length, map, Option, SomeIff, refl, ap, ◌∙◌}
+use Rattle.std.proofs.Common.{◌≡◌, ℕ, ◌+◌, ◌<◌, ◌^◌, arith, Bool, true, false, List, [], ◌∷◌, length, map, Option, Some, SomeIff, refl, ap, ◌∙◌}
 use Rattle.std.specs.declared.rc.Rc.{Rc}
 use Rattle.std.specs.declared.alloc.Global.{Global}
 use Rattle.smith_format.specs.Piece.{Piece, ◌⊕◌, byte, bytes, u, each, many}
@@ -13,37 +13,49 @@ use Rattle.smith_syntax.specs.declared.deftype.DefType.{DefType}
 use Rattle.smith_syntax.specs.declared.deftype.DefType.TheVariants as ty
 use Rattle.smith_syntax.specs.declared.deftype.InstanceType.{InstanceType}
 use Rattle.smith_syntax.specs.declared.deftype.OuterAliasKind.TheVariants as kind
-use Rattle.smith_syntax.specs.Entries.{DeclOf, in_order, decl_count, plain_decl, plain_decls}
+use Rattle.smith_syntax.specs.Entries.{DeclOf, DeclsOf, in_order, no_decls, then_decls, decl_count, plain_decl, plain_decls}
 use Rattle.smith_syntax.specs.Grammar.{decl, decls, entry}
 use Rattle.smith_syntax.specs.Shown.{full_component_decl, full_instance_decl, shown_alias, shown_component_decl, shown_instance_decl, shown_type}
 use Rattle.smith_syntax.proofs.Shown.{alias_of_core_type, alias_of_type, shown_component_is, shown_instance_is}
 
-module _ {N K : Type 0} where
-  count_of : (ds : List (DeclOf N K)) → decl_count (plain_decls (in_order ds)) ≡ length ds
-  count_of [] = refl
-  count_of (d ∷ ds) = omega (arith, count_of ds)
+-- Declarations in order are written as a list of them, where `all` writes one after another by `one`.
+module _ {N K : Type 0} (one : DeclOf N K → Piece) (all : DeclsOf N K → Piece) (none : all no_decls ≡ Some [])
+    (more : (d : DeclOf N K) (ds : DeclsOf N K) → all (then_decls d ds) ≡ one d ⊕ all ds) where
+  count_decls : (ds : List (DeclOf N K)) → decl_count (in_order ds) ≡ length ds
+  count_decls [] = refl
+  count_decls (d ∷ ds) = omega (arith, count_decls ds)
 
-  each_of : (b : Bool) (ds : List (DeclOf N K)) → decls b (plain_decls (in_order ds)) ≡ each (λ d. decl b (plain_decl d)) ds
-  each_of b [] = refl
-  each_of b (d ∷ ds) = ap (λ p. decl b (plain_decl d) ⊕ p) (each_of b ds)
+  each_decl : (ds : List (DeclOf N K)) → all (in_order ds) ≡ each one ds
+  each_decl [] = none
+  each_decl (d ∷ ds) = more d (in_order ds) ∙ ap (λ p. one d ⊕ p) (each_decl ds)
 
-  -- declarations in order are spelled as a list of them
-  pub many_of : (b : Bool) (ds : List (DeclOf N K)) → u (decl_count (plain_decls (in_order ds))) ⊕ decls b (plain_decls (in_order ds)) ≡ many
+  pub many_decls : (ds : List (DeclOf N K)) → u (decl_count (in_order ds)) ⊕ all (in_order ds) ≡ many one ds
+  many_decls ds = ap (λ n. u n ⊕ all (in_order ds)) (count_decls ds) ∙ ap (λ p. u (length ds) ⊕ p) (each_decl ds)
+
+-- the same without what the binary format leaves out
+module _ {N K : Type 0} (b : Bool) where
+  count_plain : (ds : DeclsOf N K) → decl_count (plain_decls ds) ≡ decl_count ds
+  count_plain no_decls = refl
+  count_plain (then_decls d ds) = omega (arith, count_plain ds)
+
+  many_plain : (ds : List (DeclOf N K)) → u (decl_count (plain_decls (in_order ds))) ⊕ decls b (plain_decls (in_order ds)) ≡ many
       (λ d. decl b (plain_decl d)) ds
-  many_of b ds = ap (λ n. u n ⊕ decls b (plain_decls (in_order ds))) (count_of ds) ∙ ap (λ p. u (length ds) ⊕ p) (each_of b ds)
+  many_plain ds =
+      ap (λ n. u n ⊕ decls b (plain_decls (in_order ds))) (count_plain (in_order ds))
+      ∙ many_decls (λ d. decl b (plain_decl d)) (λ es. decls b (plain_decls es)) refl (λ d es. refl) ds
 
 pub entry_component : (t : Rc ComponentType Global) → entry (shown_type (ty.Component t)) ≡ byte 0x41 ⊕ many (λ d. decl true (shown_component_decl d))
     t.value.defs.items
 entry_component t =
     ap entry (shown_component_is t)
-    ∙ ap (λ p. byte 0x41 ⊕ p) (many_of true (map full_component_decl t.value.defs.items)
+    ∙ ap (λ p. byte 0x41 ⊕ p) (many_plain true (map full_component_decl t.value.defs.items)
     ∙ many-map (λ d. decl true (plain_decl d)) full_component_decl t.value.defs.items)
 
 pub entry_instance : (t : Rc InstanceType Global) → entry (shown_type (ty.Instance t)) ≡ byte 0x42 ⊕ many (λ d. decl false (shown_instance_decl d))
     t.value.defs.items
 entry_instance t =
     ap entry (shown_instance_is t)
-    ∙ ap (λ p. byte 0x42 ⊕ p) (many_of false (map full_instance_decl t.value.defs.items)
+    ∙ ap (λ p. byte 0x42 ⊕ p) (many_plain false (map full_instance_decl t.value.defs.items)
     ∙ many-map (λ d. decl false (plain_decl d)) full_instance_decl t.value.defs.items)
 
 -- outer aliases

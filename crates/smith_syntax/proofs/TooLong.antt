@@ -3,7 +3,7 @@ use Rattle.std.proofs.Common.{◌≡◌, ℕ, ◌⊎◌, ◌↔◌, Bool, true, 
 use Rattle.smith_format.specs.CoreTypes.{core_function}
 use Rattle.smith_format.specs.Entities.{entity}
 use Rattle.smith_format.specs.Piece.{◌⊕◌, bytes, u, text, many}
-use Rattle.smith_format.specs.TooLong.{Passes, ListTooLong}
+use Rattle.smith_format.specs.TooLong.{IsTooLarge, ListTooLong}
 use Rattle.smith_format.proofs.Sizes.{u_none_where, s_index_none_where}
 use Rattle.smith_format.proofs.TooLong.{join_none, after_bytes, before_bytes, bytes_none, name_none, many_none_where, function_none_where, entity_none_where}
 use Rattle.smith_syntax.specs.Entries.{DefValType, primitive_type, record_type, variant_type, list_type, tuple_type, flags_type, enum_type, option_type}
@@ -86,7 +86,7 @@ import_none true name r = after_bytes (0x03 ∷ []) (named_extern name r) (exter
 import_none false name r = (λ _. tt, λ _. refl)
 
 -- an outer alias, after the bytes that say what it is of
-alias_none : (first : List ℕ) (count i : ℕ) → (bytes first ⊕ u count ⊕ u i ≡ None) ↔ (Passes count ⊎ Passes i)
+alias_none : (first : List ℕ) (count i : ℕ) → (bytes first ⊕ u count ⊕ u i ≡ None) ↔ (IsTooLarge count ⊎ IsTooLarge i)
 alias_none first count i = after_bytes first (u count ⊕ u i) (join_none (u count) (u i) (u_none_where count) (u_none_where i))
 
 mutual

@@ -70,9 +70,13 @@ declared_in ds = flat_map func_of ds
 abbrev pub type_count : List ModuleDecl → ℕ
 type_count ds = length (flat_map func_of ds) + length (flat_map alias_of ds)
 
+-- what a declaration imports or exports
+abbrev pub entities_in : ModuleDecl → List EntityType
+entities_in d = map (λ i. i.2) (module_import_of d) ++ map (λ x. x.1) (module_export_of d)
+
 -- all that is imported and exported, in order
 abbrev pub entities_of : List ModuleDecl → List EntityType
-entities_of ds = flat_map (λ d. map (λ i. i.2) (module_import_of d) ++ map (λ x. x.1) (module_export_of d)) ds
+entities_of ds = flat_map entities_in ds
 
 -- Is it of that kind?
 abbrev pub is_of_kind : ExportKind → EntityType → Bool
@@ -132,7 +136,7 @@ is_function_of i (Memory m) = false
 is_function_of i (Global g) = false
 is_function_of i (Tag t) = false
 
--- Is it the export by that name of what passes the test?
+-- Is it the export by that name of what the test accepts?
 abbrev pub is_export : List ℕ → (EntityType → Bool) → ModuleDecl → Bool
 is_export name test d = list_any (λ x. bytes_eq x.0 name && test x.1) (module_export_of d)
 

@@ -34,7 +34,7 @@ signature_input a = slice field_input a.params ++ option val_hash.hash_input a.r
 
 -- The equality answers true exactly where they are the same, so it is an equivalence, and equal ones feed a hasher the same.
 
-primitive_Decides : (a b : PrimitiveValType) → Decides (prim.eq a b) (a ≡ b)
+pub primitive_Decides : (a b : PrimitiveValType) → Decides (prim.eq a b) (a ≡ b)
 primitive_Decides a b = (same_true the_type tt a b, true_same the_type a b)
 
 val_Decides : (a b : ComponentValType) → Decides (val.eq a b) (a ≡ b)

@@ -56,15 +56,15 @@ abbrev pub shown_shared_core : Rc CoreType Global → CoreEntry
 shown_shared_core t = shown_core t.value
 
 -- the function types that the outer aliases of a core type keep, in order
-abbrev pub kept_decl : ModuleTypeDef → List Function
-kept_decl (decl.FuncDef f) = []
-kept_decl (decl.Import i) = []
-kept_decl (decl.OuterAlias count i ty) = shown_func ty.value ∷ []
-kept_decl (decl.Export name entity) = []
+abbrev pub aliased_functions : ModuleTypeDef → List Function
+aliased_functions (decl.FuncDef f) = []
+aliased_functions (decl.Import i) = []
+aliased_functions (decl.OuterAlias count i ty) = shown_func ty.value ∷ []
+aliased_functions (decl.Export name entity) = []
 
 abbrev pub kept_core : CoreType → List Function
 kept_core (core.Func f) = []
-kept_core (core.Module m) = flat_map kept_decl m.value.defs.items
+kept_core (core.Module m) = flat_map aliased_functions m.value.defs.items
 
 abbrev pub shown_url : Option (String Global) → Option (List ℕ)
 shown_url None = None

@@ -1,6 +1,6 @@
--- Which types have no encoding, since a count, the length of a name or an index in them passes 4,294,967,295.
+-- Which types have no encoding, since a count, the length of a name or an index in them exceeds 4,294,967,295.
 use Rattle.std.specs.Prelude.{ℕ, ◌⊎◌, Bool, true, false, List, Option, Some, None}
-use Rattle.smith_format.specs.TooLong.{Passes, NameTooLong, ListTooLong, FunctionTooLong, EntityTooLong}
+use Rattle.smith_format.specs.TooLong.{IsTooLarge, NameTooLong, ListTooLong, FunctionTooLong, EntityTooLong}
 use Rattle.smith_syntax.specs.Entries.{DefValType, primitive_type, record_type, variant_type, list_type, tuple_type, flags_type, enum_type, option_type}
 use Rattle.smith_syntax.specs.Entries.{result_type}
 use Rattle.smith_syntax.specs.Entries.{Field, Case, Entry, defined, function, component_type, instance_type, CoreEntry, core_func, core_module, ModuleDecl}
@@ -14,7 +14,7 @@ use Rattle.smith_syntax.specs.declared.types.ComponentValType.TheVariants.{Primi
 
 abbrev pub ComponentValTooLong : ComponentValType → Type 0
 ComponentValTooLong (Primitive p) = ⊥
-ComponentValTooLong (Indexed i) = Passes i
+ComponentValTooLong (Indexed i) = IsTooLarge i
 
 abbrev pub MaybeTooLong : Option ComponentValType → Type 0
 MaybeTooLong None = ⊥
@@ -40,7 +40,7 @@ DefinedTooLong (result_type ok err) = MaybeTooLong ok ⊎ MaybeTooLong err
 abbrev pub DeclTooLong : ModuleDecl → Type 0
 DeclTooLong (imports m n e) = NameTooLong m ⊎ (NameTooLong n ⊎ EntityTooLong e)
 DeclTooLong (declares f) = FunctionTooLong f
-DeclTooLong (aliases count i) = Passes count ⊎ Passes i
+DeclTooLong (aliases count i) = IsTooLarge count ⊎ IsTooLarge i
 DeclTooLong (exports n e) = NameTooLong n ⊎ EntityTooLong e
 
 abbrev pub CoreEntryTooLong : CoreEntry → Type 0
@@ -49,11 +49,11 @@ CoreEntryTooLong (core_module ds) = ListTooLong DeclTooLong ds
 
 -- the index of what an import or an export is of
 abbrev pub TypeRefTooLong : ComponentTypeRef → Type 0
-TypeRefTooLong (to.Module i) = Passes i
-TypeRefTooLong (to.Func i) = Passes i
-TypeRefTooLong (to.TypeEq i) = Passes i
-TypeRefTooLong (to.Component i) = Passes i
-TypeRefTooLong (to.Instance i) = Passes i
+TypeRefTooLong (to.Module i) = IsTooLarge i
+TypeRefTooLong (to.Func i) = IsTooLarge i
+TypeRefTooLong (to.TypeEq i) = IsTooLarge i
+TypeRefTooLong (to.Component i) = IsTooLarge i
+TypeRefTooLong (to.Instance i) = IsTooLarge i
 
 abbrev pub ExternTooLong : List ℕ → ComponentTypeRef → Type 0
 ExternTooLong name r = NameTooLong name ⊎ TypeRefTooLong r
@@ -72,14 +72,14 @@ abbrev mutual
   pub EntryTooLong : Entry → Type 0
   EntryTooLong (defined t) = DefinedTooLong t
   EntryTooLong (function s) = ListTooLong FieldTooLong s.params ⊎ MaybeTooLong s.result
-  EntryTooLong (component_type ds) = Passes (decl_count ds) ⊎ DeclarationsTooLong true ds
-  EntryTooLong (instance_type ds) = Passes (decl_count ds) ⊎ DeclarationsTooLong false ds
+  EntryTooLong (component_type ds) = IsTooLarge (decl_count ds) ⊎ DeclarationsTooLong true ds
+  EntryTooLong (instance_type ds) = IsTooLarge (decl_count ds) ⊎ DeclarationsTooLong false ds
 
   pub DeclarationTooLong : Bool → Decl → Type 0
   DeclarationTooLong importing (core_type_decl t k) = CoreEntryTooLong t
   DeclarationTooLong importing (type_decl e) = EntryTooLong e
-  DeclarationTooLong importing (type_alias count i k) = Passes count ⊎ Passes i
-  DeclarationTooLong importing (core_type_alias count i k) = Passes count ⊎ Passes i
+  DeclarationTooLong importing (type_alias count i k) = IsTooLarge count ⊎ IsTooLarge i
+  DeclarationTooLong importing (core_type_alias count i k) = IsTooLarge count ⊎ IsTooLarge i
   DeclarationTooLong importing (import_decl name n r) = ImportDeclTooLong importing name r
   DeclarationTooLong importing (export_decl name n r) = ExternTooLong name r
 

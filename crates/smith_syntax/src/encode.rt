@@ -18,8 +18,10 @@ use crate::deftype::DefType;
 use crate::func::FuncType;
 use crate::types::ComponentValType;
 pub use core_types::{core_type_len, write_core_type};
-use declarations::put_type;
-pub use declarations::type_len;
+use declarations::{
+    component_decls_len, instance_decls_len, put_component_decls, put_instance_decls,
+};
+use defined::defined_len;
 pub use defined::put_defined;
 pub use externs::{import_len, put_named, write_import};
 use smith_format::{Spelled, put_tagged, tagged_len, write_byte, write_bytes, write_spelled};
@@ -65,6 +67,38 @@ fn function_len(ty: &FuncType) -> Option<u32>
     tagged_len(&ty.params)?.checked_add(result_len(ty.result))
 }
 
+// A type of any kind. After an error a part of it may stand in the buffer.
+#[cycle(writers)]
+fn put_type(out: &mut Vec<u8>, ty: &DefType) -> Result<(), Error>
+    ensures { Puts result out.old out.new (entry (shown_type ty.now)) }
+{
+    match ty {
+        DefType::Defined(ty) => put_defined(out, ty),
+        DefType::Func(ty) => put_function(out, ty),
+        DefType::Component(ty) => {
+            write_byte(out, 0x41)?;
+            put_component_decls(out, &ty.defs)
+        }
+        DefType::Instance(ty) => {
+            write_byte(out, 0x42)?;
+            put_instance_decls(out, &ty.defs)
+        }
+    }
+}
+
+/// The length of a type's encoding; None exactly where it has none of at most 4,294,967,295 bytes.
+#[cycle(lengths)]
+pub fn type_len(ty: &DefType) -> Option<u32>
+    ensures { IsLengthOf result (entry (shown_type ty.now)) }
+{
+    match ty {
+        DefType::Defined(ty) => defined_len(ty),
+        DefType::Func(ty) => function_len(ty),
+        DefType::Component(ty) => component_decls_len(&ty.defs)?.checked_add(1),
+        DefType::Instance(ty) => instance_decls_len(&ty.defs)?.checked_add(1),
+    }
+}
+
 impl Spelled<ComponentFormat> for DefType {
     ghost piece = { λ t. entry (shown_type t) };
 
@@ -77,7 +111,7 @@ impl Spelled<ComponentFormat> for DefType {
     }
 }
 
-/// Appends a type. It is too long where a count or the length of a name in it passes 4,294,967,295.
+/// Appends a type. It is too long where a count or the length of a name in it exceeds 4,294,967,295.
 pub fn write_type(out: &mut Vec<u8>, ty: &DefType) -> Result<(), Error>
     ensures { Appends result out.old out.new (entry (shown_type ty.now)) }
 {

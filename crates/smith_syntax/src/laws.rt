@@ -27,7 +27,7 @@ pub fn types_are_clear()
     ensures imports { IsClear (λ (i : List ℕ × ComponentTypeRef). named_extern i.0 i.1) }
 {}
 
-/// A type whose names are UTF-8 has no encoding exactly where a count, the length of a name or an index in it passes
+/// A type whose names are UTF-8 has no encoding exactly where a count, the length of a name or an index in it exceeds
 /// 4,294,967,295; so it is with core types, whose bounds of limits are numbers of 64 bits, and with imports.
 pub fn long_types_have_no_encoding()
     ensures types { (e : Entry) → (entry e ≡ None) ↔ EntryTooLong e }

@@ -1,5 +1,5 @@
 -- The scopes as declarations are made: what stands in one of them, and how the last one grows.
-use Rattle.std.proofs.Common.{◌≡◌, ℕ, zero, suc, ◌+◌, ◌<◌, ◌≤◌, Bool, true, false, cond, inl, inr, append_assoc, List, [], ◌∷◌, ◌++◌, length, map, reverse}
+use Rattle.std.proofs.Common.{◌≡◌, ℕ, ◌+◌, ◌<◌, ◌≤◌, Bool, true, false, cond, inl, inr, append_assoc, List, [], ◌∷◌, ◌++◌, length, map, reverse}
 use Rattle.std.proofs.Common.{refl, sym, ap, ◌∙◌, subst, arith}
 use Rattle.std.proofs.Math.ListN.{drop}
 use Rattle.std.proofs.lemmas.List.{reverse-append, reverse-reverse, length-append, length-map, length-reverse}
@@ -22,10 +22,11 @@ use Rattle.std.specs.declared.rc.Rc.{Rc}
 use Rattle.smith_syntax.specs.declared.core_types.CoreType.{CoreType}
 use Rattle.smith_syntax.specs.declared.deftype.DefType.{DefType}
 use Rattle.smith_types.specs.Declarations.{ReadsAlias}
-use Rattle.smith_types.specs.Offers.{is_occupied, occupied, numbered, aliases_of}
+use Rattle.smith_tree.specs.TypeOffers.{is_occupied, occupied, numbered, aliases_of}
 use Rattle.smith_types.specs.MakingTypes.{Declares, SameOuter, with_aliased, with_exported}
 use Rattle.smith_scopes.specs.Scopes.{Contents, shown_scope, inward, last_of, scope_at, AddsType, AddsCoreType}
-use Rattle.smith_types.proofs.ReadsDeclarations.{named_in, numbered_stands}
+use Rattle.smith_tree.proofs.Aliases.{length-numbered, numbered_here, numbered_stands}
+use Rattle.smith_types.proofs.ReadsDeclarations.{named_in}
 use Rattle.smith_input.proofs.Rests.{drop_past}
 use Rattle.smith_scopes.proofs.Places.{place_stands, get_either, get_left, get_right}
 use Rattle.smith_scopes.proofs.Plain.{rest_from}
@@ -39,19 +40,6 @@ scope_shown scopes count h =
     (slice_get-get_or (reverse scopes) count empty_scope (let l = length-reverse scopes in omega (arith, l, h))))
 
 -- what an outer alias may name is counted, and stands where the choice says
-module _ {A B : Type 0} (f : ℕ → A → B) where
-  length-numbered : (i : ℕ) (xs : List A) → length (numbered f i xs) ≡ length xs
-  length-numbered i [] = refl
-  length-numbered i (x ∷ xs) = let l = length-numbered (i + 1) xs in omega (arith, l)
-
-  numbered_at : (xs : List A) (i k : ℕ) (x : A) → slice_get xs k ≡ Some x → slice_get (numbered f i xs) k ≡ Some (f (i + k) x)
-  numbered_at [] i k x e = absurd (cc)
-  numbered_at (y ∷ xs) i zero x e = let h : y ≡ x = cc in ap (λ z. Some (f i z)) h ∙ ap (λ n. Some (f n x)) (let z : i ≡ i + 0 = omega arith in z)
-  numbered_at (y ∷ xs) i (suc k) x e = numbered_at xs (i + 1) k x e ∙ ap (λ n. Some (f n x)) (let z : i + 1 + k ≡ i + suc k = omega arith in z)
-
-numbered_here : {A B : Type 0} (f : ℕ → A → B) (xs : List A) (k : ℕ) (x : A) → slice_get xs k ≡ Some x → slice_get (numbered f 0 xs) k ≡ Some (f k x)
-numbered_here f xs k x e = numbered_at f xs 0 k x e ∙ ap (λ n. Some (f n x)) (let z : 0 + k ≡ k = omega arith in z)
-
 module _ (scopes : List Contents) (b mid rest : List ℕ) (count place : ℕ) (choice : ReadsAmong (occupied (inward scopes)) b count mid)
     (within : count < length scopes)
     (reads : Reads (length (scope_at scopes count).types + length (scope_at scopes count).core_types) mid place rest) where

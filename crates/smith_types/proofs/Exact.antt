@@ -11,11 +11,11 @@ use Rattle.smith_syntax.specs.Scope.{Scope, empty_scope, after_decl}
 use Rattle.smith_syntax.specs.TypeLimits.{EntryLimits}
 use Rattle.smith_syntax.specs.WellFormed.{FormedDefined, FormedEntry, FormedDeclaration, FormedDeclarations}
 use Rattle.smith_types.specs.Made.{MadeWith}
-use Rattle.smith_types.specs.Needs.{need_of, need, decl_need, decls_need, Nests, DeclNests, DeclsNest}
-use Rattle.smith_types.specs.Needs.{decl_cost}
-use Rattle.smith_types.specs.Readable.{IsReadableType}
+use Rattle.smith_tree.specs.TypeNeeds.{need_of, need, decl_need, decls_need, Nests, DeclNests, DeclsNest}
+use Rattle.smith_tree.specs.TypeNeeds.{decl_cost}
+use Rattle.smith_tree.specs.ReadableTypes.{IsReadableType}
 use Rattle.smith_types.specs.Sayable.{Fit, Lasts, LastsDecl, LastsDecls, LastsDefined}
-use Rattle.smith_types.specs.Script.{script_type}
+use Rattle.smith_tree.specs.TypeScript.{script_type}
 use Rattle.smith_types.proofs.MadeFormed.{made_formed}
 use Rattle.smith_types.proofs.MadeReadable.{made_readable}
 use Rattle.smith_types.proofs.MadeTypes.{made_limits}

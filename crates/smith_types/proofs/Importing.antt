@@ -9,10 +9,10 @@ use Rattle.smith_syntax.specs.Entries.{FullDecl, import_decl, export_decl}
 use Rattle.smith_syntax.specs.Scope.{Scope, places, is_core_module}
 use Rattle.smith_syntax.specs.declared.deftype.ComponentTypeRef.{ComponentTypeRef}
 use Rattle.smith_types.specs.Declarations.{NamedExtern, NoImportDecl, not_asked, none_fits, ReadsImportDecl, ReadsExportDecl, ReadsNamedExtern}
-use Rattle.smith_types.specs.Offers.{has_reference, ref_kinds, ref_offers, has_place, uncounted}
-use Rattle.smith_core_types.specs.Offers.{indexes}
+use Rattle.smith_tree.specs.TypeOffers.{has_reference, ref_kinds, ref_offers, has_place, uncounted}
+use Rattle.smith_tree.specs.CoreTypeOffers.{indexes}
 use Rattle.smith_types.specs.References.{ReadsRef}
-use Rattle.smith_types.specs.declared.make.references.RefKind.TheVariants as kind
+use Rattle.smith_tree.specs.declared.choices.RefKind.TheVariants as kind
 use Rattle.smith_core_types.proofs.MakingCore.{length-indexes}
 
 -- where nothing is offered, none is offered of the first

@@ -1,11 +1,9 @@
 -- Signatures that are read so that they flatten to a core function type.
-use Rattle.std.proofs.Common.{◌≡◌, ℕ, zero, suc, ◌+◌, ◌<◌, ◌≤◌, List, [], ◌∷◌, ◌++◌, map, length, drop, get_or, refl, sym, ap, ◌∙◌, subst, arith}
+use Rattle.std.proofs.Common.{◌≡◌, ℕ, ◌+◌, ◌<◌, ◌≤◌, List, [], ◌∷◌, ◌++◌, map, length, drop, get_or, refl, sym, ap, ◌∙◌, subst, arith}
 use Rattle.std.proofs.Common.{append_assoc, append-nil, lit<, Some}
 use Rattle.std.proofs.lemmas.List.{map-append, drop_all, drop_more}
-use Rattle.std.proofs.lemmas.Option.{slice_get_within}
 use Rattle.std.specs.List.{AllByRecursion}
 use Rattle.std.specs.Option.{option_to_list}
-use Rattle.std.specs.Prelude.{slice_get}
 use Rattle.smith_format.specs.CoreTypes.{Function}
 use Rattle.smith_format.specs.declared.types.ValType.{ValType}
 use Rattle.smith_format.specs.declared.types.ValType.TheVariants.{I32, I64, F32, F64, V128, Ref}
@@ -26,18 +24,13 @@ use Rattle.smith_syntax.specs.declared.types.ComponentValType.{ComponentValType}
 use Rattle.smith_syntax.specs.declared.types.ComponentValType.TheVariants.{Primitive, Indexed}
 use Rattle.smith_syntax.specs.declared.types.PrimitiveValType.{PrimitiveValType}
 use Rattle.smith_syntax.specs.declared.types.PrimitiveValType.TheVariants as prim
-use Rattle.smith_types.specs.Lifting.{IsLiftable, IsLiftableFunction, ReadsParams, no_params, a_param, ReadsLifted}
-use Rattle.smith_types.specs.Offers.{lifted}
-use Rattle.smith_types.specs.Readable.{AreReadableNames}
+use Rattle.smith_types.specs.Lifting.{IsLiftable, IsLiftableFunction, ReadsParams, no_params, a_param, ReadsLiftedType}
+use Rattle.smith_tree.specs.TypeOffers.{lifted}
+use Rattle.smith_tree.specs.ReadableTypes.{AreReadableNames}
 use Rattle.smith_core_types.proofs.Names.{AreNew, new_distinct}
+use Rattle.smith_input.proofs.Lists.{all_at}
 
 -- core value types
-
--- what holds of each item holds of the one at a place
-all_at : {A : Type 0} (P : A → Type 0) (xs : List A) (k : ℕ) (x : A) → AllByRecursion P xs → slice_get xs k ≡ Some x → P x
-all_at P [] k x all e = absurd (let below = slice_get_within [] k x e in omega (arith, below))
-all_at P (y ∷ ys) zero x all e = let z : y ≡ x = cc in subst P z all.0
-all_at P (y ∷ ys) (suc k) x all e = all_at P ys k x all.1 e
 
 lifted_flat : (v : ValType) → AllByRecursion (λ p. flat_primitive p ≡ Some v) (lifted v)
 lifted_flat I32 = (refl, (refl, (refl, (refl, (refl, (refl, (refl, (refl, tt))))))))
@@ -129,7 +122,7 @@ params_named {fs = fs} r = (params_kebab r, new_distinct [] (map (λ p. p.0) fs)
 
 -- signatures
 
-module _ {f : Function} {b : List ℕ} {s : Signature} {rest : List ℕ} (r : ReadsLifted f b s rest) where
+module _ {f : Function} {b : List ℕ} {s : Signature} {rest : List ℕ} (r : ReadsLiftedType f b s rest) where
   pub lifted_tail : IsTail rest b
   lifted_tail = tail_trans (among_tail r.result) (params_tail r.params)
 
@@ -203,7 +196,7 @@ one_item (y ∷ z ∷ zs) x n e = absurd (omega (arith, n))
 -- The result is read after the parameters.
 pub all_lifted : (f : Function) (vs : List ValType) (v : ValType) (b mid rest : List ℕ) (fs : List Field) (p : PrimitiveValType) → vs ≡ f.0 → length f.1 ≡ 1
     → v ≡ get_or f.1 0 v → ReadsParams [] vs b fs mid → ReadsAmong (lifted v) mid p rest
-    → ReadsLifted f b (record { params = fs; result = Some (Primitive p) }) rest
+    → ReadsLiftedType f b (record { params = fs; result = Some (Primitive p) }) rest
 all_lifted f vs v b mid rest fs p same one first params result = record {
   mid = mid;
   core_result = v;

@@ -1,10 +1,9 @@
 -- The script of the signature of a lift is read as it.
-use Rattle.std.proofs.Common.{◌≡◌, ℕ, ◌+◌, ◌≤◌, List, [], ◌∷◌, ◌++◌, map, length, arith, refl, sym, ap, ◌∙◌, subst, append_assoc, length-append, Option, None, Some, Decides}
+use Rattle.std.proofs.Common.{◌≡◌, ℕ, ◌+◌, ◌≤◌, List, [], ◌∷◌, ◌++◌, map, length, arith, refl, sym, ap, ◌∙◌, subst, append_assoc, length-append, Option, None, Some}
 use Rattle.std.proofs.Common.{lit≤}
 use Rattle.std.specs.List.{AllByRecursion}
 use Rattle.std.specs.Option.{option_to_list}
 use Rattle.std.specs.Prelude.{slice_get}
-use denote.Enum.Bare.{same_true, true_same}
 use Rattle.smith_input.specs.Choices.{ReadsAmong}
 use Rattle.smith_input.specs.Kebab.{Kebab}
 use Rattle.smith_input.specs.NameScript.{AreReachable}
@@ -17,20 +16,17 @@ use Rattle.smith_format.specs.declared.types.ValType.TheVariants.{I32, I64, F32,
 use Rattle.smith_syntax.specs.Entries.{Field, Signature}
 use Rattle.smith_syntax.specs.Flat.{flat_primitive, flat_value, Flattens}
 use Rattle.smith_syntax.specs.WellFormed.{Named}
-use Rattle.smith_syntax.specs.contracts.types.PrimitiveValType.{the_type as primitive_type_type}
 use Rattle.smith_syntax.specs.contracts.types.PrimitiveValTypePartialEq.TheImpl.{ghosts as prims}
 use Rattle.smith_syntax.specs.declared.types.ComponentValType.{ComponentValType}
 use Rattle.smith_syntax.specs.declared.types.ComponentValType.TheVariants.{Primitive, Indexed}
 use Rattle.smith_syntax.specs.declared.types.PrimitiveValType.{PrimitiveValType}
 use Rattle.smith_syntax.specs.declared.types.PrimitiveValType.TheVariants as prim
-use Rattle.smith_types.specs.Lifting.{ReadsParams, no_params, a_param, ReadsLifted}
-use Rattle.smith_types.specs.Offers.{lifted}
+use Rattle.smith_types.specs.Lifting.{ReadsParams, no_params, a_param, ReadsLiftedType}
+use Rattle.smith_tree.specs.TypeOffers.{lifted}
 use Rattle.smith_types.proofs.LiftingSame.{lifted_same}
-use Rattle.smith_types.specs.Readable.{AreReadableNames}
-use Rattle.smith_types.specs.Script.{script_label, script_scalar, script_params, script_result, script_lifted}
-
-primitive_Decides : (a b : PrimitiveValType) → Decides (prims.eq a b) (a ≡ b)
-primitive_Decides a b = (same_true primitive_type_type tt a b, true_same primitive_type_type a b)
+use Rattle.smith_tree.specs.ReadableTypes.{AreReadableNames}
+use Rattle.smith_tree.specs.TypeScript.{script_label, script_scalar, script_params, script_result, script_lifted}
+use Rattle.smith_syntax.specs.SameSignature.{primitive_Decides}
 
 pub lifted_few : (v : ValType) → length (lifted v) ≤ 8
 lifted_few I32 = lit≤ tt
@@ -102,10 +98,10 @@ result_read (Some (Primitive p)) (v ∷ []) rest e one =
     record { value = v; primitive = p; only = refl; reads = scalar_read p v rest first; is = refl }
 
 pub lifted_read : (core : Function) (s : Signature) (rest : List ℕ) → Flattens s core → Named (map (λ p. p.0) s.params)
-    → AreReadableNames (map (λ p. p.0) s.params) → ReadsLifted core (script_lifted s ++ rest) s rest
+    → AreReadableNames (map (λ p. p.0) s.params) → ReadsLiftedType core (script_lifted s ++ rest) s rest
 lifted_read core s rest flat named readable =
     let r = result_read s.result core.1 rest flat.result flat.one in
-    subst (λ z. ReadsLifted core z s rest) (sym (append_assoc (script_params 0 s.params) (script_result s.result) rest)) (record {
+    subst (λ z. ReadsLiftedType core z s rest) (sym (append_assoc (script_params 0 s.params) (script_result s.result) rest)) (record {
       mid = script_result s.result ++ rest;
       core_result = r.value;
       primitive = r.primitive;
@@ -117,6 +113,6 @@ lifted_read core s rest flat named readable =
 
 -- What a script says is read as it, and as nothing else.
 pub lifted_scripted : (core : Function) (s t : Signature) (bytes rest left : List ℕ) → Flattens s core → Named (map (λ p. p.0) s.params)
-    → AreReadableNames (map (λ p. p.0) s.params) → bytes ≡ script_lifted s ++ rest → ReadsLifted core bytes t left → (t ≡ s) × (left ≡ rest)
+    → AreReadableNames (map (λ p. p.0) s.params) → bytes ≡ script_lifted s ++ rest → ReadsLiftedType core bytes t left → (t ≡ s) × (left ≡ rest)
 lifted_scripted core s t bytes rest left flat named readable begins reads =
-    lifted_same (subst (λ z. ReadsLifted core z t left) begins reads) (lifted_read core s rest flat named readable)
+    lifted_same (subst (λ z. ReadsLiftedType core z t left) begins reads) (lifted_read core s rest flat named readable)

@@ -7,8 +7,8 @@ use Rattle.smith_format.specs.CoreTypes.{Function}
 use Rattle.smith_format.specs.declared.types.ValType.{ValType}
 use Rattle.smith_syntax.specs.Entries.{Field, Signature}
 use Rattle.smith_syntax.specs.declared.types.ComponentValType.TheVariants.{Primitive}
-use Rattle.smith_types.specs.Lifting.{ReadsParams, no_params, a_param, ReadsLifted}
-use Rattle.smith_types.specs.Offers.{lifted}
+use Rattle.smith_types.specs.Lifting.{ReadsParams, no_params, a_param, ReadsLiftedType}
+use Rattle.smith_tree.specs.TypeOffers.{lifted}
 
 -- parameters
 pub params_same : {names : List (List ℕ)} {vs : List ValType} {b r q : List ℕ} {fs gs : List Field} → ReadsParams names vs b fs r → ReadsParams names vs b gs q
@@ -24,7 +24,7 @@ params_same {names = names} {r = r} (a_param {v = v} {vs = vs} {mid = mid} {low 
     ((λ i. (s.0 i, Primitive (t.0 i)) ∷ u.0 i), u.1)
 
 -- a signature that flattens to a core function type
-pub lifted_same : {f : Function} {b r q : List ℕ} {s t : Signature} → ReadsLifted f b s r → ReadsLifted f b t q → (s ≡ t) × (r ≡ q)
+pub lifted_same : {f : Function} {b r q : List ℕ} {s t : Signature} → ReadsLiftedType f b s r → ReadsLiftedType f b t q → (s ≡ t) × (r ≡ q)
 lifted_same {f} {b} {r} {q} {s} {t} x y =
     let p = params_same x.params y.params in
     let only : x.core_result ∷ [] ≡ y.core_result ∷ [] = sym x.only ∙ y.only in

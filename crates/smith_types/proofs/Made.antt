@@ -11,13 +11,13 @@ use Rattle.smith_input.proofs.NewNames.{new_tail, new_unique}
 use Rattle.smith_input.proofs.Reading.{tail_trans, reads_tail, reads_unique, flips_unique}
 use Rattle.smith_syntax.specs.Entries.{DefValType, primitive_type, record_type, variant_type, list_type, tuple_type, flags_type, enum_type, option_type}
 use Rattle.smith_syntax.specs.Entries.{result_type, Signature, function}
-use Rattle.smith_types.specs.Offers.{primitives}
+use Rattle.smith_tree.specs.TypeOffers.{primitives}
 use Rattle.smith_types.specs.Made.{ReadsVal, only_primitive, either_primitive, either_index, ReadsMaybe, absent, present, or_bool, MadeMembers, MadeAs}
 use Rattle.smith_types.specs.Made.{MadeDefined, ReadsResult, MadeFunction}
 use Rattle.smith_syntax.specs.Scope.{Scope, defined_places, is_defined}
 use Rattle.smith_syntax.specs.WellFormed.{FormedVal, FormedMaybe, FormedDefined, FormedEntry, defined_size, size}
-use Rattle.smith_types.specs.declared.make.defined.DefinedKind.{DefinedKind}
-use Rattle.smith_types.specs.declared.make.defined.DefinedKind.TheVariants as kind
+use Rattle.smith_tree.specs.declared.choices.DefinedKind.{DefinedKind}
+use Rattle.smith_tree.specs.declared.choices.DefinedKind.TheVariants as kind
 use Rattle.smith_syntax.specs.declared.types.ComponentValType.{ComponentValType}
 use Rattle.smith_syntax.specs.declared.types.ComponentValType.TheVariants.{Primitive, Indexed}
 use Rattle.smith_scopes.proofs.Places.{place_stands}

@@ -11,9 +11,9 @@ use Rattle.smith_types.specs.Declarations.{SoFar, nothing_so_far, after_one}
 use Rattle.smith_types.specs.Made.{or_bool, MadeAs, MadeDefined, Made, spent_type, made_defined, made_function, made_component, made_instance}
 use Rattle.smith_types.specs.Made.{MadeDeclaration, made_import, made_export, made_alias, made_core_type, made_type, MadeDeclarations, no_more_decls}
 use Rattle.smith_types.specs.Made.{spent_decls, one_decl}
-use Rattle.smith_types.specs.Readable.{IsReadableDefined, IsReadableType, IsReadableDecl, AreReadableDecls}
-use Rattle.smith_types.specs.declared.make.defined.DefinedKind.{DefinedKind}
-use Rattle.smith_types.specs.declared.make.defined.DefinedKind.TheVariants as kind
+use Rattle.smith_tree.specs.ReadableTypes.{IsReadableDefined, IsReadableType, IsReadableDecl, AreReadableDecls}
+use Rattle.smith_tree.specs.declared.choices.DefinedKind.{DefinedKind}
+use Rattle.smith_tree.specs.declared.choices.DefinedKind.TheVariants as kind
 use Rattle.smith_types.proofs.Externs.{names_behind}
 use Rattle.smith_types.proofs.MadeFormed.{import_plain, export_plain}
 use Rattle.smith_types.proofs.Members.{labels_readable, members_readable, named_name}

@@ -8,13 +8,13 @@ use Rattle.smith_syntax.specs.Entries.{FullEntry, FullDecl, FullDecls, defined, 
 use Rattle.smith_syntax.specs.Entries.{keeps_functions}
 use Rattle.smith_syntax.specs.Scope.{Scope}
 use Rattle.smith_types.specs.Declarations.{SoFar, nothing_so_far, after_one, ReadsAlias, ReadsExportDecl, NoImportDecl}
-use Rattle.smith_types.specs.Offers.{declaration_items}
+use Rattle.smith_tree.specs.TypeOffers.{declaration_items}
 use Rattle.smith_types.specs.Made.{MadeDefined, MadeFunction, Made, spent_type, made_defined, made_function, made_component, made_instance, MadeDeclaration}
 use Rattle.smith_types.specs.Made.{made_import, made_export, made_alias, made_core_type, made_type, MadeDeclarations, no_more_decls, spent_decls, one_decl}
 use Rattle.smith_core_types.specs.MadeCore.{MadeCore, named_by_core}
-use Rattle.smith_types.specs.declared.make.TypeKind.TheVariants.{Defined, Function, Component, Instance}
-use Rattle.smith_types.specs.declared.make.declarations.DeclarationItem.{DeclarationItem}
-use Rattle.smith_types.specs.declared.make.declarations.DeclarationItem.TheVariants as item
+use Rattle.smith_tree.specs.declared.choices.TypeKind.TheVariants.{Defined, Function, Component, Instance}
+use Rattle.smith_tree.specs.declared.choices.DeclarationItem.{DeclarationItem}
+use Rattle.smith_tree.specs.declared.choices.DeclarationItem.TheVariants as item
 use Rattle.smith_types.proofs.ReadsDeclarations.{import_same, export_same, alias_same, no_import_same, import_or_none}
 use Rattle.smith_types.proofs.Made.{defined_same, function_same}
 use Rattle.smith_core_types.proofs.MadeCore.{made_core_same}

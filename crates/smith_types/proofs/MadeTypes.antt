@@ -15,7 +15,7 @@ use Rattle.smith_types.specs.Declarations.{SoFar, nothing_so_far, after_one}
 use Rattle.smith_types.specs.Made.{Made, spent_type, made_defined, made_function, made_component, made_instance}
 use Rattle.smith_types.specs.Made.{MadeDeclaration, made_import, made_export, made_alias, made_core_type, made_type, MadeDeclarations, no_more_decls}
 use Rattle.smith_types.specs.Made.{spent_decls, one_decl}
-use Rattle.smith_types.specs.declared.make.declarations.DeclarationItem.TheVariants as item
+use Rattle.smith_tree.specs.declared.choices.DeclarationItem.TheVariants as item
 use Rattle.smith_types.proofs.ReadsDeclarations.{import_tail, export_tail, alias_tail, no_import_tail, alias_holds, item_offered}
 use Rattle.smith_types.proofs.Made.{defined_tail, function_tail, defined_within, function_within}
 use Rattle.smith_core_types.proofs.MadeCore.{made_core_tail, made_core_size, made_core_limits}

@@ -5,14 +5,14 @@ use Rattle.smith_input.specs.Choices.{ReadsAmong}
 use Rattle.smith_syntax.specs.Entries.{FullEntry, FullDecl}
 use Rattle.smith_syntax.specs.Scope.{Scope}
 use Rattle.smith_types.specs.Declarations.{NamedExtern, SoFar, NoImportDecl}
-use Rattle.smith_types.specs.Offers.{declaration_items, type_kinds}
+use Rattle.smith_tree.specs.TypeOffers.{declaration_items, type_kinds}
 use Rattle.smith_types.specs.Made.{Made, spent_type, made_defined, made_function, made_component, made_instance, MadeDeclaration, made_export, made_alias}
 use Rattle.smith_types.specs.Made.{made_core_type, made_type}
 use Rattle.smith_types.specs.MakingTypes.{HoldsExterns, MadeItem, MadeKind}
-use Rattle.smith_types.specs.declared.make.TypeKind.{TypeKind}
-use Rattle.smith_types.specs.declared.make.TypeKind.TheVariants as kind
-use Rattle.smith_types.specs.declared.make.declarations.DeclarationItem.{DeclarationItem}
-use Rattle.smith_types.specs.declared.make.declarations.DeclarationItem.TheVariants as item
+use Rattle.smith_tree.specs.declared.choices.TypeKind.{TypeKind}
+use Rattle.smith_tree.specs.declared.choices.TypeKind.TheVariants as kind
+use Rattle.smith_tree.specs.declared.choices.DeclarationItem.{DeclarationItem}
+use Rattle.smith_tree.specs.declared.choices.DeclarationItem.TheVariants as item
 use Rattle.smith_types.specs.declared.make.externs.ExternNames.{ExternNames}
 
 -- a declaration of a sort that was chosen

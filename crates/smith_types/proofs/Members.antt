@@ -16,8 +16,8 @@ use Rattle.smith_input.proofs.NameScript.{new_reachable, new_script_read}
 use Rattle.smith_input.proofs.NewNames.{new_tail, new_unique, new_kebab}
 use Rattle.smith_input.proofs.Reading.{tail_trans, tail_is}
 use Rattle.smith_types.specs.Made.{IsSpent, ReadsMember, ReadsMembers, ReadsNamed}
-use Rattle.smith_types.specs.Readable.{AreReadableNames}
-use Rattle.smith_types.specs.Script.{script_members, script_label}
+use Rattle.smith_tree.specs.ReadableTypes.{AreReadableNames}
+use Rattle.smith_tree.specs.TypeScript.{script_members, script_label}
 use Rattle.smith_syntax.specs.Signature.{named}
 use Rattle.smith_syntax.specs.WellFormed.{Named}
 use Rattle.smith_core_types.proofs.MadeCoreSame.{Same}

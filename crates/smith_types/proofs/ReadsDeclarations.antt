@@ -1,5 +1,5 @@
 -- Imports, exports and outer aliases that are read: they leave a tail of the bytes, name what stands there, and are determined.
-use Rattle.std.proofs.Common.{◌≡◌, inl, inr, ℕ, zero, suc, ◌+◌, Bool, true, false, List, [], ◌∷◌, ◌++◌, codes, length, refl, sym, ap, ◌∙◌, subst, arith}
+use Rattle.std.proofs.Common.{◌≡◌, inl, inr, ℕ, ◌+◌, Bool, true, false, List, ◌∷◌, ◌++◌, codes, length, refl, sym, ap, ◌∙◌, subst, arith}
 use Rattle.std.proofs.lemmas.Bool.{false≢true, ltb-true}
 use Rattle.std.specs.Prelude.{Option, Some, None, slice_get}
 use Rattle.smith_input.specs.Choices.{ReadsAmong}
@@ -16,14 +16,15 @@ use Rattle.smith_syntax.specs.WellFormed.{FormedDeclaration}
 use Rattle.smith_syntax.specs.declared.deftype.ComponentTypeRef.{ComponentTypeRef}
 use Rattle.smith_types.specs.Declarations.{NamedExtern, ReadsMaybeUrl, no_url, a_url, url_names, ReadsNamedExtern, ReadsAlias, NoImportDecl, in_instance}
 use Rattle.smith_types.specs.Declarations.{nothing_there, not_asked, none_fits, ReadsImportDecl, ReadsExportDecl}
-use Rattle.smith_types.specs.Offers.{numbered, occupied, aliases_of, declaration_offers, declaration_items, ref_places}
+use Rattle.smith_tree.specs.TypeOffers.{numbered, occupied, aliases_of, declaration_offers, declaration_items, ref_places}
 use Rattle.smith_types.specs.MakingTypes.{HasTarget}
 use Rattle.smith_types.specs.References.{ref_to, ReadsRef}
-use Rattle.smith_types.specs.declared.make.declarations.DeclarationItem.{DeclarationItem}
-use Rattle.smith_types.specs.declared.make.references.RefKind.{RefKind}
-use Rattle.smith_types.specs.declared.make.references.RefTotals.{RefTotals}
+use Rattle.smith_tree.specs.declared.choices.DeclarationItem.{DeclarationItem}
+use Rattle.smith_tree.specs.declared.choices.RefKind.{RefKind}
+use Rattle.smith_tree.specs.declared.totals.RefTotals.{RefTotals}
 use Rattle.smith_core_types.proofs.MadeCore.{no_choice}
 use Rattle.smith_scopes.proofs.Places.{get_either}
+use Rattle.smith_tree.proofs.Aliases.{numbered_stands}
 use Rattle.smith_types.proofs.References.{ref_formed, import_not_equal}
 
 -- tails
@@ -75,22 +76,6 @@ item_offered config outer own k i e =
     ) k i e
 
 -- well formed
-
-numbered_later : {A B : Type 0} (f : ℕ → A → B) (n : ℕ) (xs : List A) (k : ℕ) (y : B) → slice_get (numbered f n xs) k ≡ Some y
-    → (x : A) × (slice_get xs k ≡ Some x) × (y ≡ f (n + k) x)
-numbered_later f n [] k y e = absurd (let z : None ≡ Some y = e in cc)
-numbered_later f n (x ∷ xs) zero y e = let z : f n x ≡ y = cc in let at : n ≡ n + 0 = omega arith in (x, refl, sym z ∙ ap (λ m. f m x) at)
-numbered_later f n (x ∷ xs) (suc k) y e =
-    let r = numbered_later f (n + 1) xs k y e in
-    let at : n + 1 + k ≡ n + suc k = omega arith in
-    (r.0, r.1, r.2 ∙ ap (λ m. f m r.0) at)
-
-pub numbered_stands : {A B : Type 0} (f : ℕ → A → B) (xs : List A) (k : ℕ) (y : B) → slice_get (numbered f 0 xs) k ≡ Some y
-    → (x : A) × (slice_get xs k ≡ Some x) × (y ≡ f k x)
-numbered_stands f xs k y e =
-    let r = numbered_later f 0 xs k y e in
-    let at : 0 + k ≡ k = omega arith in
-    (r.0, r.1, r.2 ∙ ap (λ m. f m r.0) at)
 
 -- what stands in a scope of that count
 pub named_in : {A : Type 0} (of : Scope → List A) (scopes : List Scope) (count i : ℕ) (s : Scope) (x : A) → slice_get scopes count ≡ Some s

@@ -1,6 +1,6 @@
 -- What an import or an export is of.
 use Rattle.std.proofs.Common.{◌≡◌, ℕ, Bool, true, false, List, refl, sym, subst}
-use Rattle.std.proofs.lemmas.Bool.{false≢true}
+use Rattle.std.proofs.lemmas.Bool.{false≢true, and_parts}
 use Rattle.std.specs.Prelude.{Some, slice_get}
 use Rattle.smith_input.proofs.Offered.{offer_holds}
 use Rattle.smith_format.specs.declared.config.Config.{Config}
@@ -8,11 +8,10 @@ use Rattle.smith_syntax.specs.Scope.{Scope, is_func, is_component, is_instance, 
 use Rattle.smith_syntax.specs.WellFormed.{FormedRef, is_type_eq}
 use Rattle.smith_syntax.specs.declared.deftype.ComponentTypeRef.{ComponentTypeRef}
 use Rattle.smith_types.specs.References.{ref_to, ReadsRef}
-use Rattle.smith_types.specs.Offers.{ref_places, has_place, ref_offers}
-use Rattle.smith_types.specs.declared.make.references.RefKind.{RefKind}
-use Rattle.smith_types.specs.declared.make.references.RefKind.TheVariants as kind
-use Rattle.smith_types.specs.declared.make.references.RefTotals.{RefTotals}
-use Rattle.smith_scopes.proofs.Plain.{both_true}
+use Rattle.smith_tree.specs.TypeOffers.{ref_places, has_place, ref_offers}
+use Rattle.smith_tree.specs.declared.choices.RefKind.{RefKind}
+use Rattle.smith_tree.specs.declared.choices.RefKind.TheVariants as kind
+use Rattle.smith_tree.specs.declared.totals.RefTotals.{RefTotals}
 use Rattle.smith_scopes.proofs.Places.{place_stands}
 
 kind_formed : (own : Scope) (k : RefKind) (place i : ℕ) → slice_get (ref_places own k) place ≡ Some i → FormedRef own (ref_to k i)
@@ -39,7 +38,7 @@ import_not_equal config own totals for_type_def b r rest h =
     offer_holds IsNeverEqual (ref_offers config own totals true for_type_def) (
       λ t i. refl,
       (
-        λ t. absurd (false≢true (both_true (has_place own kind.TypeEq) false t).1),
+        λ t. absurd (false≢true (and_parts (has_place own kind.TypeEq) false t).1),
         (
           λ t i. refl,
           (

@@ -1,7 +1,7 @@
 -- What the scripts of references, names and outer aliases say is read as them.
-use Rattle.std.proofs.Common.{◌≡◌, ℕ, zero, suc, ◌+◌, ◌<◌, ◌≤◌, ◌^◌, ◌||◌, ◌&&◌, Bool, true, false, List, [], ◌∷◌, ◌++◌, length, refl, sym, ap, ◌∙◌, subst}
-use Rattle.std.proofs.Common.{arith, append_assoc, length-append, nat_eq, nat_lt, None, Some, Decides}
-use Rattle.std.proofs.lemmas.Bool.Decides.{nat_tests, Decides-eqb}
+use Rattle.std.proofs.Common.{◌≡◌, ℕ, zero, suc, ◌+◌, ◌<◌, ◌≤◌, ◌^◌, ◌&&◌, Bool, true, false, List, [], ◌∷◌, ◌++◌, length, refl, sym, ap, ◌∙◌, subst}
+use Rattle.std.proofs.Common.{arith, append_assoc, nat_eq, nat_lt, None, Some, Decides}
+use Rattle.std.proofs.lemmas.Bool.Decides.{Decides-eqb}
 use Rattle.std.proofs.lemmas.List.{length-map}
 use Rattle.std.proofs.lemmas.Option.{slice_get_within}
 use Rattle.std.specs.List.{AllByRecursion}
@@ -26,45 +26,31 @@ use Rattle.smith_syntax.specs.declared.deftype.ComponentTypeRef.{ComponentTypeRe
 use Rattle.smith_syntax.specs.declared.deftype.ComponentTypeRef.TheVariants as to
 use Rattle.smith_scopes.proofs.Places.{get_left, get_right, place_found}
 use Rattle.smith_scopes.proofs.Stack.{length-places}
+use Rattle.smith_tree.proofs.Aliases.{length-aliases, length-numbered, numbered_here}
 use Rattle.smith_types.specs.Declarations.{NamedExtern, ReadsNamedExtern, no_url, ReadsAlias, NoImportDecl, in_instance, nothing_there, not_asked}
-use Rattle.smith_types.specs.Offers.{IsAllowed, has_reference, is_occupied, occupied, numbered, aliases_of, declaration_offers, declaration_items, ref_offers}
-use Rattle.smith_types.specs.Offers.{ref_kinds, ref_places, has_place, allows_one}
+use Rattle.smith_tree.specs.TypeOffers.{IsAllowed, has_reference, is_occupied, occupied, numbered, aliases_of, declaration_offers, declaration_items, ref_offers}
+use Rattle.smith_tree.specs.TypeOffers.{ref_kinds, ref_places, has_place, allows_one}
 use Rattle.smith_types.specs.References.{ref_to, ReadsRef}
 use Rattle.smith_types.specs.Sayable.{Fit}
-use Rattle.smith_types.specs.Script.{kind_in, index_in, script_ref, script_label, script_extern, script_entry, script_alias, script_no_import}
-use Rattle.smith_types.specs.Script.{script_declaration_item}
-use Rattle.smith_types.specs.contracts.make.declarations.DeclarationItem.{the_type as item_type}
-use Rattle.smith_types.specs.contracts.make.declarations.DeclarationItemPartialEq.TheImpl.{ghosts as items}
-use Rattle.smith_types.specs.contracts.make.references.RefKind.{the_type as ref_kind_type}
-use Rattle.smith_types.specs.contracts.make.references.RefKindPartialEq.TheImpl.{ghosts as refs}
-use Rattle.smith_types.specs.declared.make.declarations.DeclarationItem.{DeclarationItem}
-use Rattle.smith_types.specs.declared.make.references.RefKind.{RefKind}
-use Rattle.smith_types.specs.declared.make.references.RefKind.TheVariants as kind
-use Rattle.smith_types.specs.declared.make.references.RefTotals.{RefTotals}
+use Rattle.smith_tree.specs.TypeScript.{kind_in, index_in, script_ref, script_label, script_extern, script_entry, script_alias, script_no_import}
+use Rattle.smith_tree.specs.TypeScript.{script_declaration_item}
+use Rattle.smith_tree.specs.contracts.choices.DeclarationItem.{the_type as item_type}
+use Rattle.smith_tree.specs.contracts.choices.DeclarationItemPartialEq.TheImpl.{ghosts as items}
+use Rattle.smith_tree.specs.contracts.choices.RefKind.{the_type as ref_kind_type}
+use Rattle.smith_tree.specs.contracts.choices.RefKindPartialEq.TheImpl.{ghosts as refs}
+use Rattle.smith_tree.specs.declared.choices.DeclarationItem.{DeclarationItem}
+use Rattle.smith_tree.specs.declared.choices.RefKind.{RefKind}
+use Rattle.smith_tree.specs.declared.choices.RefKind.TheVariants as kind
+use Rattle.smith_tree.specs.declared.totals.RefTotals.{RefTotals}
+use Rattle.std.proofs.lemmas.Bool.{and_from, or_left, or_right, lt-ltb}
+use Rattle.smith_input.proofs.Lists.{some_there}
+use Rattle.std.proofs.Math.Bool.{and-false}
 
 pub ref_kind_Decides : (a b : RefKind) → Decides (refs.eq a b) (a ≡ b)
 ref_kind_Decides a b = (same_true ref_kind_type tt a b, true_same ref_kind_type a b)
 
 item_Decides : (a b : DeclarationItem) → Decides (items.eq a b) (a ≡ b)
 item_Decides a b = (same_true item_type tt a b, true_same item_type a b)
-
-both_hold : (a b : Bool) → a ≡ true → b ≡ true → (a && b) ≡ true
-both_hold true b e f = f
-both_hold false b e f = e
-
-either_first : (a b : Bool) → a ≡ true → (a || b) ≡ true
-either_first true b e = refl
-either_first false b e = absurd (cc)
-
-either_second : (a b : Bool) → b ≡ true → (a || b) ≡ true
-either_second true b e = refl
-either_second false b e = e
-
-pub above_zero : (n : ℕ) → 0 < n → nat_lt 0 n ≡ true
-above_zero n h = grind (arith, nat_tests)
-
-some_there : {A : Type 0} (xs : List A) (k : ℕ) (x : A) → slice_get xs k ≡ Some x → nat_lt 0 (length xs) ≡ true
-some_there xs k x h = above_zero (length xs) (omega (arith, slice_get_within xs k x h))
 
 -- references
 
@@ -84,11 +70,11 @@ module _ (own : Scope) where
   places_few kind.Instance = omega (arith, length-places is_instance 0 own.types)
 
   pub ref_there : (r : ComponentTypeRef) → FormedRef own r → has_reference own ≡ true
-  ref_there (to.Module i) f = either_second _ _ (some_there (ref_places own kind.Module) (ref_index (to.Module i) f).0 i (ref_index (to.Module i) f).1)
-  ref_there (to.TypeEq i) (e, at) = either_first _ _ (some_there own.types i e at)
-  ref_there (to.Func i) (e, at, is) = either_first _ _ (some_there own.types i e at)
-  ref_there (to.Component i) (e, at, is) = either_first _ _ (some_there own.types i e at)
-  ref_there (to.Instance i) (e, at, is) = either_first _ _ (some_there own.types i e at)
+  ref_there (to.Module i) f = or_right _ _ (some_there (ref_places own kind.Module) (ref_index (to.Module i) f).0 i (ref_index (to.Module i) f).1)
+  ref_there (to.TypeEq i) (e, at) = or_left _ _ (some_there own.types i e at)
+  ref_there (to.Func i) (e, at, is) = or_left _ _ (some_there own.types i e at)
+  ref_there (to.Component i) (e, at, is) = or_left _ _ (some_there own.types i e at)
+  ref_there (to.Instance i) (e, at, is) = or_left _ _ (some_there own.types i e at)
 
 ref_is : (r : ComponentTypeRef) → r ≡ ref_to (kind_in r) (index_in r)
 ref_is (to.Module i) = refl
@@ -100,11 +86,11 @@ ref_is (to.Instance i) = refl
 module _ (config : Config) (own : Scope) (totals : RefTotals) (for_import for_type_def : Bool) where
   ref_offered : (r : ComponentTypeRef) → has_place own (kind_in r) ≡ true → IsAllowed config own totals for_import for_type_def r
       → (j : ℕ) × (slice_get (ref_kinds config own totals for_import for_type_def) j ≡ Some (kind_in r))
-  ref_offered (to.Module i) t m = offers_found (ref_offers config own totals for_import for_type_def) 0 _ kind.Module refl (both_hold _ _ t m)
-  ref_offered (to.TypeEq i) t m = offers_found (ref_offers config own totals for_import for_type_def) 1 _ kind.TypeEq refl (both_hold _ _ t m)
-  ref_offered (to.Func i) t m = offers_found (ref_offers config own totals for_import for_type_def) 2 _ kind.Func refl (both_hold _ _ t m)
-  ref_offered (to.Component i) t m = offers_found (ref_offers config own totals for_import for_type_def) 3 _ kind.Component refl (both_hold _ _ t m)
-  ref_offered (to.Instance i) t m = offers_found (ref_offers config own totals for_import for_type_def) 4 _ kind.Instance refl (both_hold _ _ t m)
+  ref_offered (to.Module i) t m = offers_found (ref_offers config own totals for_import for_type_def) 0 _ kind.Module refl (and_from _ _ t m)
+  ref_offered (to.TypeEq i) t m = offers_found (ref_offers config own totals for_import for_type_def) 1 _ kind.TypeEq refl (and_from _ _ t m)
+  ref_offered (to.Func i) t m = offers_found (ref_offers config own totals for_import for_type_def) 2 _ kind.Func refl (and_from _ _ t m)
+  ref_offered (to.Component i) t m = offers_found (ref_offers config own totals for_import for_type_def) 3 _ kind.Component refl (and_from _ _ t m)
+  ref_offered (to.Instance i) t m = offers_found (ref_offers config own totals for_import for_type_def) 4 _ kind.Instance refl (and_from _ _ t m)
 
   -- the choice of the kind
   kind_read : (r : ComponentTypeRef) (rest : List ℕ) → FormedRef own r → IsAllowed config own totals for_import for_type_def r
@@ -155,10 +141,6 @@ module _ (config : Config) (own : Scope) (totals : RefTotals) (for_import for_ty
 
 -- An import of a function where it can be of nothing else: its kind is no choice.
 
-and_false : (b : Bool) → (b && false) ≡ false
-and_false true = refl
-and_false false = refl
-
 none_there : (xs : List ℕ) (b : Bool) → xs ≡ [] → (nat_lt 0 (length xs) && b) ≡ false
 none_there xs b e = ap (λ ys. nat_lt 0 (length ys) && b) e
 
@@ -170,8 +152,8 @@ unfolding pick
 function_chosen config own totals i modules components instances formed allowed =
     let at = ref_index own (to.Func i) formed in
     let a = none_there (places is_core_module 0 own.core_types) (allows_one true false totals.modules config.max_modules) modules in
-    let b = and_false (has_place own kind.TypeEq) in
-    let c = both_hold _ _ (some_there (places is_func 0 own.types) at.0 i at.1) allowed in
+    let b = and-false (has_place own kind.TypeEq) in
+    let c = and_from _ _ (some_there (places is_func 0 own.types) at.0 i at.1) allowed in
     let d = none_there (places is_component 0 own.types) (allows_one true false totals.components config.max_components) components in
     let e = none_there (places is_instance 0 own.types) (allows_one true false totals.instances config.max_instances) instances in
     let one : ref_kinds config own totals true false ≡ kind.Func ∷ [] =
@@ -211,16 +193,6 @@ item_read config outer own i k b rest named offered =
 
 -- outer aliases
 
-numbered_length : {A B : Type 0} (f : ℕ → A → B) (n : ℕ) (xs : List A) → length (numbered f n xs) ≡ length xs
-numbered_length f n [] = refl
-numbered_length f n (x ∷ xs) = ap suc (numbered_length f (n + 1) xs)
-
-numbered_get : {A B : Type 0} (f : ℕ → A → B) (n : ℕ) (xs : List A) (k : ℕ) (x : A) → slice_get xs k ≡ Some x
-    → slice_get (numbered f n xs) k ≡ Some (f (n + k) x)
-numbered_get f n [] k x h = absurd (cc)
-numbered_get f n (y ∷ ys) zero x h = let same : y ≡ x = cc in ap (λ z. Some (f n z)) same ∙ ap (λ m. Some (f m x)) (let z : n ≡ n + 0 = omega arith in z)
-numbered_get f n (y ∷ ys) (suc k) x h = numbered_get f (n + 1) ys k x h ∙ ap (λ m. Some (f m x)) (let z : n + 1 + k ≡ n + suc k = omega arith in z)
-
 pub in_split : {A : Type 0} (of : Scope → List A) (o : Option Scope) (i : ℕ) (x : A) → elim o [ None ↦ None | Some s ↦ slice_get (of s) i ] ≡ Some x
     → (s : Scope) × (o ≡ Some s) × (slice_get (of s) i ≡ Some x)
 in_split of None i x h = absurd (cc)
@@ -235,12 +207,6 @@ few_at [] count s all h = absurd (cc)
 few_at (x ∷ xs) zero s all h = let same : x ≡ s = cc in subst IsFew same all.0
 few_at (x ∷ xs) (suc k) s all h = few_at xs k s all.1 h
 
-pub aliases_count : (count : ℕ) (s : Scope) → length (aliases_of count s) ≡ length s.types + length s.core_types
-aliases_count count s =
-    let f : ℕ → Entry → FullDecl = λ i e. type_alias count i (keeps_type e) in
-    let g : ℕ → CoreEntry → FullDecl = λ i e. core_type_alias count i (keeps_core_type e) in
-    omega (arith, length-append (numbered f 0 s.types) (numbered g 0 s.core_types), numbered_length f 0 s.types, numbered_length g 0 s.core_types)
-
 module _ (scopes : List Scope) (fit : Fit scopes) where
   -- what stands at a place of a scope
   alias_read : (count : ℕ) (place : Scope → ℕ) (s : Scope) (d : FullDecl) (rest : List ℕ) → slice_get scopes count ≡ Some s
@@ -249,7 +215,7 @@ module _ (scopes : List Scope) (fit : Fit scopes) where
       let os : List ℕ = occupied scopes in
       let within : place s < length (aliases_of count s) = slice_get_within (aliases_of count s) (place s) d named in
       let some : nat_lt 0 (length s.types + length s.core_types) ≡ true =
-      above_zero (length s.types + length s.core_types) (omega (arith, within, aliases_count count s)) in
+      lt-ltb 0 (length s.types + length s.core_types) (omega (arith, within, length-aliases count s)) in
       let at = place_found is_occupied scopes count s stands some in
       let choice : List ℕ = script_among nat_eq os count in
       let said : List ℕ = pick (length (aliases_of count s)) (place s) in
@@ -263,7 +229,7 @@ module _ (scopes : List Scope) (fit : Fit scopes) where
         stands = stands;
         names = record {
           place = place s;
-          reads = reads-pick (length (aliases_of count s)) (place s) rest (omega (arith, few, aliases_count count s)) within;
+          reads = reads-pick (length (aliases_of count s)) (place s) rest (omega (arith, few, length-aliases count s)) within;
           named = named;
         };
       } in
@@ -278,7 +244,7 @@ module _ (scopes : List Scope) (fit : Fit scopes) where
       let f : ℕ → Entry → FullDecl = λ j x. type_alias count j (keeps_type x) in
       let g : ℕ → CoreEntry → FullDecl = λ j x. core_type_alias count j (keeps_core_type x) in
       let front : List FullDecl = numbered f 0 at.0.types in
-      let here : slice_get front i ≡ Some (f i e) = numbered_get f 0 at.0.types i e at.2 ∙ ap (λ m. Some (f m e)) (let z : 0 + i ≡ i = omega arith in z) in
+      let here : slice_get front i ≡ Some (f i e) = numbered_here f at.0.types i e at.2 in
       alias_read count (λ s. i) at.0 (f i e) rest at.1 (get_left front (numbered g 0 at.0.core_types) i (slice_get_within front i (f i e) here) ∙ here)
 
   pub core_alias_read : (count i : ℕ) (e : CoreEntry) (rest : List ℕ) → core_type_named scopes count i ≡ Some e
@@ -289,9 +255,9 @@ module _ (scopes : List Scope) (fit : Fit scopes) where
       let g : ℕ → CoreEntry → FullDecl = λ j x. core_type_alias count j (keeps_core_type x) in
       let front : List FullDecl = numbered f 0 at.0.types in
       let back : List FullDecl = numbered g 0 at.0.core_types in
-      let here : slice_get back i ≡ Some (g i e) = numbered_get g 0 at.0.core_types i e at.2 ∙ ap (λ m. Some (g m e)) (let z : 0 + i ≡ i = omega arith in z) in
+      let here : slice_get back i ≡ Some (g i e) = numbered_here g at.0.core_types i e at.2 in
       alias_read count (λ s. length s.types + i) at.0 (g i e) rest at.1
-      (get_right front back (length at.0.types + i) i (omega (arith, numbered_length f 0 at.0.types)) ∙ here)
+      (get_right front back (length at.0.types + i) i (omega (arith, length-numbered f 0 at.0.types)) ∙ here)
 
   -- what an outer alias names stands in a scope
   pub alias_there : {A : Type 0} (of : Scope → List A) → ((s : Scope) → length (of s) ≤ length s.types + length s.core_types) → (count i : ℕ) (x : A)
@@ -299,6 +265,6 @@ module _ (scopes : List Scope) (fit : Fit scopes) where
   alias_there of within count i x h =
       let at = in_split of (slice_get scopes count) i x h in
       let some : nat_lt 0 (length at.0.types + length at.0.core_types) ≡ true =
-      above_zero (length at.0.types + length at.0.core_types) (omega (arith, slice_get_within (of at.0) i x at.2, within at.0)) in
+      lt-ltb 0 (length at.0.types + length at.0.core_types) (omega (arith, slice_get_within (of at.0) i x at.2, within at.0)) in
       let place = place_found is_occupied scopes count at.0 at.1 some in
       some_there (occupied scopes) place.0 count place.1

@@ -1,11 +1,9 @@
 -- What the script of a type with declarations says is made of it.
-use Rattle.std.proofs.Common.{◌≡◌, ℕ, ◌+◌, ◌-◌, ◌^◌, ◌<◌, ◌≤◌, Bool, true, false, List, [], ◌∷◌, ◌++◌, length, refl, sym, ap, ◌∙◌, subst, arith, append_assoc}
-use Rattle.std.proofs.Common.{length-append, nat_lt, None, Some}
-use Rattle.std.proofs.lemmas.Bool.Decides.{nat_tests}
+use Rattle.std.proofs.Common.{◌≡◌, ℕ, ◌+◌, ◌-◌, ◌^◌, ◌≤◌, Bool, true, false, List, [], ◌∷◌, ◌++◌, length, refl, sym, ap, ◌∙◌, subst, arith, append_assoc}
+use Rattle.std.proofs.Common.{length-append, nat_lt, None}
 use Rattle.std.proofs.lemmas.List.{length-map, map-append}
 use Rattle.std.specs.List.{AllByRecursion}
 use Rattle.std.specs.Option.{option_to_list}
-use Rattle.std.specs.Prelude.{Option}
 use Rattle.smith_input.specs.Kebab.{Kebab}
 use Rattle.smith_input.specs.NameScript.{IsReachable}
 use Rattle.smith_input.proofs.Loops.{end_read}
@@ -23,29 +21,30 @@ use Rattle.smith_syntax.specs.WellFormed.{is_type_eq}
 use Rattle.smith_syntax.specs.declared.deftype.ComponentTypeRef.{ComponentTypeRef}
 use Rattle.smith_syntax.specs.declared.deftype.ComponentTypeRef.TheVariants as to
 use Rattle.smith_core_types.specs.MadeCore.{named_by_core}
-use Rattle.smith_core_types.specs.Needs.{core_cost}
-use Rattle.smith_core_types.specs.Script.{script_core}
+use Rattle.smith_tree.specs.CoreTypeNeeds.{core_cost}
+use Rattle.smith_tree.specs.CoreTypeScript.{script_core}
 use Rattle.smith_core_types.proofs.CoreScript.{core_read}
-use Rattle.smith_scopes.proofs.Plain.{all_back, all_front}
 use Rattle.smith_types.specs.Declarations.{NamedExtern, SoFar, nothing_so_far, after_one, ReadsImportDecl, ReadsExportDecl}
-use Rattle.smith_types.specs.Offers.{uncounted, IsAllowed}
+use Rattle.smith_tree.specs.TypeOffers.{uncounted, IsAllowed}
 use Rattle.smith_types.specs.Made.{Made, made_component, made_instance, MadeWith, MadeDeclaration, made_import, made_export, made_alias, made_core_type}
 use Rattle.smith_types.specs.Made.{made_type, MadeDeclarations, no_more_decls, one_decl}
-use Rattle.smith_types.specs.Needs.{cost, decl_cost, decls_cost}
-use Rattle.smith_types.specs.Readable.{IsReadableType, IsReadableDecl, AreReadableDecls}
+use Rattle.smith_tree.specs.TypeNeeds.{cost, decl_cost, decls_cost}
+use Rattle.smith_tree.specs.ReadableTypes.{IsReadableType, IsReadableDecl, AreReadableDecls}
 use Rattle.smith_types.specs.Sayable.{Fit, IsSayable, Lasts, LastsDecl, LastsDecls}
-use Rattle.smith_types.specs.Script.{Taken, none_taken, after_taken, script_alias}
-use Rattle.smith_types.specs.Script.{script_decl, script_decls, script_declares, script_extern, script_declaration_item, script_no_import, script_ref}
-use Rattle.smith_types.specs.Script.{script_type}
-use Rattle.smith_types.specs.Script.{script_type_kind}
-use Rattle.smith_types.specs.declared.make.TypeKind.TheVariants.{Component, Instance}
-use Rattle.smith_types.specs.declared.make.declarations.DeclarationItem.{DeclarationItem}
-use Rattle.smith_types.specs.declared.make.declarations.DeclarationItem.TheVariants as item
+use Rattle.smith_tree.specs.TypeScript.{Taken, none_taken, after_taken, script_alias}
+use Rattle.smith_tree.specs.TypeScript.{script_decl, script_decls, script_declares, script_extern, script_declaration_item, script_no_import, script_ref}
+use Rattle.smith_tree.specs.TypeScript.{script_type}
+use Rattle.smith_tree.specs.TypeScript.{script_type_kind}
+use Rattle.smith_tree.specs.declared.choices.TypeKind.TheVariants.{Component, Instance}
+use Rattle.smith_tree.specs.declared.choices.DeclarationItem.{DeclarationItem}
+use Rattle.smith_tree.specs.declared.choices.DeclarationItem.TheVariants as item
 use Rattle.smith_types.proofs.Externs.{names_behind}
 use Rattle.smith_types.proofs.MadeFormed.{after_plain}
 use Rattle.smith_types.proofs.MadeSame.{made_same}
 use Rattle.smith_types.proofs.ReferencesRead.{type_alias_read, core_alias_read, alias_there, item_read, no_import_read, extern_read, ref_read, ref_there}
 use Rattle.smith_types.proofs.Script.{type_function, type_values, type_kind_read}
+use Rattle.smith_input.proofs.Lists.{all_front, all_back, one_at_most}
+use Rattle.std.proofs.lemmas.Bool.{lt-ltb}
 
 -- names
 
@@ -85,23 +84,19 @@ record Sayable (importing : Bool) (is es : List (List ℕ × Unit {0})) : Type 0
 abbrev pub Holding : ℕ → Scope → Type 0
 Holding n own = length own.types + length own.core_types ≤ n
 
-at_most_one : {A : Type 0} (o : Option A) → length (option_to_list o) ≤ 1
-at_most_one None = omega arith
-at_most_one (Some x) = omega arith
-
 pub after_holding : (outer : List Scope) (n : ℕ) (own : Scope) (d : Decl) → Holding n own → Holding (n + 1) (after_decl outer own d)
 after_holding outer n own (core_type_decl t k) h = omega (arith, h, length-append own.core_types (t ∷ []))
 after_holding outer n own (type_decl e) h = omega (arith, h, length-append own.types (plain e ∷ []))
 after_holding outer n own (type_alias count i k) h =
     let more = type_named (own ∷ outer) count i in
-    omega (arith, h, length-append own.types (option_to_list more), at_most_one more)
+    omega (arith, h, length-append own.types (option_to_list more), one_at_most more)
 after_holding outer n own (core_type_alias count i k) h =
     let more = core_type_named (own ∷ outer) count i in
-    omega (arith, h, length-append own.core_types (option_to_list more), at_most_one more)
+    omega (arith, h, length-append own.core_types (option_to_list more), one_at_most more)
 after_holding outer n own (import_decl name u r) h = omega (arith, h)
 after_holding outer n own (export_decl name u r) h =
     let more = exported_type own r in
-    omega (arith, h, length-append own.types (option_to_list more), at_most_one more)
+    omega (arith, h, length-append own.types (option_to_list more), one_at_most more)
 
 -- an import of no type that is equal to another, and an export, may always be had within a type
 import_allowed : (config : Config) (own : Scope) (r : ComponentTypeRef) → is_type_eq r ≡ false → IsAllowed config own uncounted true true r
@@ -225,7 +220,7 @@ module _ (config : Config) where
                 (core_read config s.own fuel t rest f m n l (omega (arith, held))) refl),
           )
       decl_read (type_decl e) importing outer s fuel rest f m n l said held fit =
-          let room : nat_lt (length (s.own ∷ outer)) config.max_nesting_depth ≡ true = below (length (s.own ∷ outer)) config.max_nesting_depth l.0 in
+          let room : nat_lt (length (s.own ∷ outer)) config.max_nesting_depth ≡ true = lt-ltb (length (s.own ∷ outer)) config.max_nesting_depth l.0 in
           let r = full_read e s.own outer fuel rest f m n l.1 fit (omega (arith, l.0, deep)) in
           let P : List ℕ → Type 0 = λ b. MadeDeclaration config importing outer s b fuel (type_decl r.0) rest (fuel - cost e) in (
             type_decl r.0,
@@ -235,9 +230,6 @@ module _ (config : Config) where
             declares_read importing outer s.own item.«Type» (script_type e config fuel s.own outer) rest P
                 (made_type (no_import_read config s.own importing _) (item_read config outer s.own item.«Type» 3 _ _ refl room) r.2 refl),
           )
-        where
-          below : (n m : ℕ) → n < m → nat_lt n m ≡ true
-          below n m h = grind (arith, nat_tests)
       decl_read (type_alias count i k) importing outer s fuel rest f m n l said held fit =
           let full : FullDecl = type_alias count i (keeps_type f.0) in
           let there = alias_there (s.own ∷ outer) fit (λ z. z.types) (λ z. omega arith) count i f.0 f.1 in

@@ -16,26 +16,25 @@ use Rattle.smith_input.proofs.Reading.{flips_one, flips_zero}
 use Rattle.smith_format.specs.declared.config.Config.{Config}
 use Rattle.smith_syntax.specs.Entries.{DefValType, primitive_type, record_type, variant_type, list_type, tuple_type, flags_type, enum_type, option_type}
 use Rattle.smith_syntax.specs.Entries.{result_type, Field, Case, Signature, defined, function}
-use Rattle.smith_types.specs.Offers.{primitives, defined_kinds, type_kinds}
+use Rattle.smith_tree.specs.TypeOffers.{primitives, defined_kinds, type_kinds}
 use Rattle.smith_types.specs.Made.{ReadsVal, only_primitive, either_primitive, either_index, ReadsMaybe, absent, present, ReadsNamed, or_bool, MadeMembers}
 use Rattle.smith_types.specs.Made.{MadeAs, MadeDefined, MadeFunction, Made, spent_type, made_defined, made_function}
 use Rattle.smith_syntax.specs.Scope.{Scope, defined_places, is_defined}
-use Rattle.smith_types.specs.Script.{script_primitive, script_val, script_maybe, script_label, script_field, script_case, script_members, script_kind}
-use Rattle.smith_types.specs.Needs.{cost}
-use Rattle.smith_types.specs.Readable.{AreReadableNames, IsReadableDefined}
+use Rattle.smith_tree.specs.TypeScript.{script_primitive, script_val, script_maybe, script_label, script_field, script_case, script_members, script_kind}
+use Rattle.smith_tree.specs.TypeNeeds.{cost}
+use Rattle.smith_tree.specs.ReadableTypes.{AreReadableNames, IsReadableDefined}
 use Rattle.smith_types.specs.Sayable.{LastsDefined}
-use Rattle.smith_types.specs.Script.{script_defined, script_signature, script_type_kind, script_type}
+use Rattle.smith_tree.specs.TypeScript.{script_defined, script_signature, script_type_kind, script_type}
 use Rattle.smith_syntax.specs.WellFormed.{FormedVal, FormedMaybe, FormedDefined, FormedEntry, Named, size, defined_size}
-use Rattle.smith_types.specs.contracts.make.TypeKind.{the_type as type_kind_type}
-use Rattle.smith_types.specs.contracts.make.TypeKindPartialEq.TheImpl.{ghosts as types}
-use Rattle.smith_types.specs.contracts.make.defined.DefinedKind.{the_type as defined_kind_type}
-use Rattle.smith_types.specs.contracts.make.defined.DefinedKindPartialEq.TheImpl.{ghosts as kinds}
-use Rattle.smith_syntax.specs.contracts.types.PrimitiveValType.{the_type as primitive_type_type}
+use Rattle.smith_tree.specs.contracts.choices.TypeKind.{the_type as type_kind_type}
+use Rattle.smith_tree.specs.contracts.choices.TypeKindPartialEq.TheImpl.{ghosts as types}
+use Rattle.smith_tree.specs.contracts.choices.DefinedKind.{the_type as defined_kind_type}
+use Rattle.smith_tree.specs.contracts.choices.DefinedKindPartialEq.TheImpl.{ghosts as kinds}
 use Rattle.smith_syntax.specs.contracts.types.PrimitiveValTypePartialEq.TheImpl.{ghosts as prims}
-use Rattle.smith_types.specs.declared.make.TypeKind.{TypeKind}
-use Rattle.smith_types.specs.declared.make.TypeKind.TheVariants.{Defined, Function}
-use Rattle.smith_types.specs.declared.make.defined.DefinedKind.{DefinedKind}
-use Rattle.smith_types.specs.declared.make.defined.DefinedKind.TheVariants as kind
+use Rattle.smith_tree.specs.declared.choices.TypeKind.{TypeKind}
+use Rattle.smith_tree.specs.declared.choices.TypeKind.TheVariants.{Defined, Function}
+use Rattle.smith_tree.specs.declared.choices.DefinedKind.{DefinedKind}
+use Rattle.smith_tree.specs.declared.choices.DefinedKind.TheVariants as kind
 use Rattle.smith_syntax.specs.declared.types.ComponentValType.{ComponentValType}
 use Rattle.smith_syntax.specs.declared.types.ComponentValType.TheVariants.{Primitive, Indexed}
 use Rattle.smith_syntax.specs.declared.types.PrimitiveValType.{PrimitiveValType}
@@ -43,11 +42,10 @@ use Rattle.smith_syntax.specs.declared.types.PrimitiveValType.TheVariants as pri
 use Rattle.smith_types.proofs.Members.{Ready, members_read, IsReady, named_ready, named_read, label_read, all_unit}
 use Rattle.smith_scopes.proofs.Places.{place_found}
 use Rattle.smith_scopes.proofs.Stack.{length-places}
+use Rattle.smith_input.proofs.Lists.{one_at_most}
+use Rattle.smith_syntax.specs.SameSignature.{primitive_Decides}
 
 -- choices
-
-primitive_Decides : (a b : PrimitiveValType) → Decides (prims.eq a b) (a ≡ b)
-primitive_Decides a b = (same_true primitive_type_type tt a b, true_same primitive_type_type a b)
 
 kind_Decides : (a b : DefinedKind) → Decides (kinds.eq a b) (a ≡ b)
 kind_Decides a b = (same_true defined_kind_type tt a b, true_same defined_kind_type a b)
@@ -207,10 +205,6 @@ module _ (own : Scope) (few : length own.types ≤ 2 ^ 64) where
   one_all None f = tt
   one_all (Some v) f = (f, tt)
 
-  at_most_one : (r : Option ComponentValType) → length (option_to_list r) ≤ 1
-  at_most_one None = omega arith
-  at_most_one (Some v) = omega arith
-
   function_read : (outer : List Scope) (fuel : ℕ) (s : Signature) (rest : List ℕ) → FormedEntry (function s) own outer
       → AreReadableNames (map (λ p. p.0) s.params) → size (function s) + 2 ≤ fuel + 1
       → (left : ℕ) × (left + size (function s) ≡ fuel) × MadeFunction own (script_signature own s ++ rest) fuel s rest left
@@ -220,7 +214,7 @@ module _ (own : Scope) (few : length own.types ≤ 2 ^ 64) where
       let p = members_read {min = 0} {max = 16} (ReadsNamed (ReadsVal own)) (script_field own) (IsReady (λ y. y.0) (λ y. FormedVal own y.1)) field_read s.params
       fuel (gives ++ rest) (named_ready (λ y. y.0) (λ y. FormedVal own y.1) s.params f.0 n f.1) (omega arith) f.2 (omega (arith, l)) in
       let g = members_read {min = 0} {max = 1} (λ so_far. ReadsVal own) (λ count v. script_val own v) (λ so_far. FormedVal own) (λ so_far v more h. val_read v more h)
-      (option_to_list s.result) p.0 rest (vals_ready (option_to_list s.result) [] (one_all s.result f.3)) (omega arith) (at_most_one s.result)
+      (option_to_list s.result) p.0 rest (vals_ready (option_to_list s.result) [] (one_all s.result f.3)) (omega arith) (one_at_most s.result)
       (omega (arith, p.1, l)) in
       let P : List ℕ → Type 0 = λ b. MadeFunction own b fuel s rest g.0 in
       (g.0, omega (arith, p.1, g.1), subst P (sym (append_assoc said gives rest)) (record { mid = gives ++ rest; held = p.0; takes = p.2; gives = g.2 }))

@@ -30,30 +30,32 @@ use Rattle.smith_syntax.specs.declared.types.ComponentValType.{ComponentValType}
 use Rattle.smith_syntax.specs.declared.types.ComponentValType.TheVariants.{Primitive, Indexed}
 use Rattle.smith_syntax.specs.declared.types.PrimitiveValType.{PrimitiveValType}
 use Rattle.smith_core_types.proofs.ScriptBytes.{small_core, small_place}
-use Rattle.smith_types.specs.Offers.{aliases_of, declaration_items, declaration_offers, defined_kinds, has_reference, is_occupied, lifted}
-use Rattle.smith_types.specs.Offers.{primitives, ref_kinds, ref_offers, ref_places, type_kinds, uncounted}
-use Rattle.smith_types.specs.Needs.{decl_cost}
-use Rattle.smith_types.specs.Readable.{IsReadableType, IsReadableDecl, AreReadableDecls}
+use Rattle.smith_tree.specs.TypeOffers.{aliases_of, declaration_items, declaration_offers, defined_kinds, has_reference, is_occupied, lifted}
+use Rattle.smith_tree.specs.TypeOffers.{primitives, ref_kinds, ref_offers, ref_places, type_kinds, uncounted}
+use Rattle.smith_tree.specs.TypeNeeds.{decl_cost}
+use Rattle.smith_tree.specs.ReadableTypes.{IsReadableType, IsReadableDecl, AreReadableDecls}
 use Rattle.smith_types.specs.Sayable.{Fit, IsSayable, Lasts, LastsDecl, LastsDecls}
-use Rattle.smith_types.specs.Script.{Taken, none_taken, after_taken, index_in, kind_in, script_alias}
-use Rattle.smith_types.specs.Script.{script_decl, script_declares, script_decls, script_defined, script_entry, script_extern}
-use Rattle.smith_types.specs.Script.{script_kind, script_label, script_maybe, script_members, script_primitive, script_ref, script_signature, script_type}
-use Rattle.smith_types.specs.Script.{script_lifted, script_params, script_result, script_scalar, script_type_kind, script_val}
-use Rattle.smith_types.specs.contracts.make.TypeKindPartialEq.TheImpl.{ghosts as types}
-use Rattle.smith_types.specs.contracts.make.declarations.DeclarationItemPartialEq.TheImpl.{ghosts as items}
-use Rattle.smith_types.specs.contracts.make.defined.DefinedKindPartialEq.TheImpl.{ghosts as kinds}
-use Rattle.smith_types.specs.contracts.make.references.RefKindPartialEq.TheImpl.{ghosts as refs}
-use Rattle.smith_types.specs.declared.make.TypeKind.{TypeKind}
-use Rattle.smith_types.specs.declared.make.TypeKind.TheVariants.{Defined, Function, Component, Instance}
-use Rattle.smith_types.specs.declared.make.declarations.DeclarationItem.{DeclarationItem}
-use Rattle.smith_types.specs.declared.make.declarations.DeclarationItem.TheVariants as item
-use Rattle.smith_types.specs.declared.make.defined.DefinedKind.{DefinedKind}
-use Rattle.smith_types.specs.declared.make.defined.DefinedKind.TheVariants as kind
-use Rattle.smith_types.specs.declared.make.references.RefTotals.{RefTotals}
+use Rattle.smith_tree.specs.TypeScript.{Taken, none_taken, after_taken, index_in, kind_in, script_alias}
+use Rattle.smith_tree.specs.TypeScript.{script_decl, script_declares, script_decls, script_defined, script_entry, script_extern}
+use Rattle.smith_tree.specs.TypeScript.{script_kind, script_label, script_maybe, script_members, script_primitive, script_ref, script_signature, script_type}
+use Rattle.smith_tree.specs.TypeScript.{script_lifted, script_params, script_result, script_scalar, script_type_kind, script_val}
+use Rattle.smith_tree.specs.contracts.choices.TypeKindPartialEq.TheImpl.{ghosts as types}
+use Rattle.smith_tree.specs.contracts.choices.DeclarationItemPartialEq.TheImpl.{ghosts as items}
+use Rattle.smith_tree.specs.contracts.choices.DefinedKindPartialEq.TheImpl.{ghosts as kinds}
+use Rattle.smith_tree.specs.contracts.choices.RefKindPartialEq.TheImpl.{ghosts as refs}
+use Rattle.smith_tree.specs.declared.choices.TypeKind.{TypeKind}
+use Rattle.smith_tree.specs.declared.choices.TypeKind.TheVariants.{Defined, Function, Component, Instance}
+use Rattle.smith_tree.specs.declared.choices.DeclarationItem.{DeclarationItem}
+use Rattle.smith_tree.specs.declared.choices.DeclarationItem.TheVariants as item
+use Rattle.smith_tree.specs.declared.choices.DefinedKind.{DefinedKind}
+use Rattle.smith_tree.specs.declared.choices.DefinedKind.TheVariants as kind
+use Rattle.smith_tree.specs.declared.totals.RefTotals.{RefTotals}
 use Rattle.smith_types.proofs.LiftingRead.{lifted_few}
-use Rattle.smith_types.proofs.ReferencesRead.{IsFew, above_zero, aliases_count, few_at, in_split, places_few, ref_index}
+use Rattle.smith_types.proofs.ReferencesRead.{IsFew, few_at, in_split, places_few, ref_index}
 use Rattle.smith_types.proofs.ScopedScript.{Holding, Kebabs, after_holding, kebabs_split}
 use Rattle.smith_types.proofs.Script.{one_all}
+use Rattle.smith_tree.proofs.Aliases.{length-aliases}
+use Rattle.std.proofs.lemmas.Bool.{lt-ltb}
 
 -- Types of values and of functions.
 
@@ -162,11 +164,11 @@ small_alias of place scopes fit count i x h within =
     let s : Scope = at.0 in
     let below : place s < length s.types + length s.core_types = within s (slice_get_within (of s) i x at.2) in
     let few : IsFew s = few_at scopes count s fit.each at.1 in
-    let some : is_occupied s ≡ true = above_zero (length s.types + length s.core_types) (omega (arith, below)) in
+    let some : is_occupied s ≡ true = lt-ltb 0 (length s.types + length s.core_types) (omega (arith, below)) in
     let many : length scopes ≤ 2 ^ 64 = fit.many in
     small_join (small_place is_occupied scopes count s many at.1 some)
     (subst (λ o. Small (script_entry count place o)) (sym at.1)
-    (small_pick (length (aliases_of count s)) (place s) (omega (arith, few, aliases_count count s)) (omega (arith, below, aliases_count count s))))
+    (small_pick (length (aliases_of count s)) (place s) (omega (arith, few, length-aliases count s)) (omega (arith, below, length-aliases count s))))
 
 -- Types with declarations.
 

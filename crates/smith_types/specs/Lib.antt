@@ -1,10 +1,6 @@
-pub mod Offers
-pub mod Script
 pub mod References
 pub mod Declarations
 pub mod Made
 pub mod MakingTypes
 pub mod Lifting
-pub mod Needs
-pub mod Readable
 pub mod Sayable

@@ -8,7 +8,7 @@ use Rattle.smith_input.specs.Names.{ReadsNew}
 use Rattle.smith_syntax.specs.Entries.{Field, Signature}
 use Rattle.smith_syntax.specs.declared.types.ComponentValType.TheVariants.{Primitive}
 use Rattle.smith_syntax.specs.declared.types.PrimitiveValType.{PrimitiveValType}
-use Rattle.smith_types.specs.Offers.{lifted}
+use Rattle.smith_tree.specs.TypeOffers.{lifted}
 
 -- Can it be lifted?
 abbrev pub IsLiftable : ValType → Type 0
@@ -28,7 +28,7 @@ pub data ReadsParams : List (List ℕ) → List ValType → List ℕ → List Fi
       → ReadsParams names (v ∷ vs) bytes ((name, Primitive p) ∷ fs) rest
 
 -- A signature: the parameters, and a primitive that flattens to the one core result.
-pub record ReadsLifted (f : Function) (bytes : List ℕ) (s : Signature) (rest : List ℕ) : Type 0 where
+pub record ReadsLiftedType (f : Function) (bytes : List ℕ) (s : Signature) (rest : List ℕ) : Type 0 where
   pub mid : List ℕ
   pub core_result : ValType
   pub primitive : PrimitiveValType

@@ -11,12 +11,12 @@ use Rattle.smith_syntax.specs.Entries.{core_type_decl, type_decl, no_decls, then
 use Rattle.smith_syntax.specs.Scope.{Scope, defined_places}
 use Rattle.smith_format.specs.declared.config.Config.{Config}
 use Rattle.smith_types.specs.Declarations.{SoFar, nothing_so_far, after_one, ReadsAlias, ReadsExportDecl, ReadsImportDecl, NoImportDecl}
-use Rattle.smith_types.specs.Offers.{declaration_items, primitives, defined_kinds, type_kinds}
+use Rattle.smith_tree.specs.TypeOffers.{declaration_items, primitives, defined_kinds, type_kinds}
 use Rattle.smith_core_types.specs.MadeCore.{MadeCore, named_by_core}
-use Rattle.smith_types.specs.declared.make.declarations.DeclarationItem.TheVariants as item
-use Rattle.smith_types.specs.declared.make.TypeKind.TheVariants.{Defined, Function, Component, Instance}
-use Rattle.smith_types.specs.declared.make.defined.DefinedKind.{DefinedKind}
-use Rattle.smith_types.specs.declared.make.defined.DefinedKind.TheVariants as kind
+use Rattle.smith_tree.specs.declared.choices.DeclarationItem.TheVariants as item
+use Rattle.smith_tree.specs.declared.choices.TypeKind.TheVariants.{Defined, Function, Component, Instance}
+use Rattle.smith_tree.specs.declared.choices.DefinedKind.{DefinedKind}
+use Rattle.smith_tree.specs.declared.choices.DefinedKind.TheVariants as kind
 use Rattle.smith_syntax.specs.declared.types.ComponentValType.{ComponentValType}
 use Rattle.smith_syntax.specs.declared.types.ComponentValType.TheVariants.{Primitive, Indexed}
 use Rattle.smith_syntax.specs.declared.types.PrimitiveValType.{PrimitiveValType}

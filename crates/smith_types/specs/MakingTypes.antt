@@ -1,35 +1,45 @@
 -- A type as the program makes it: what it keeps beside the declarations, and what one call adds.
-use Rattle.std.specs.Prelude.{◌≡◌, ℕ, ◌<◌, ◌≤◌, Bool, true, false, List, [], ◌∷◌, drop, length, reverse, Option, None, Some, string_bytes}
+use Rattle.std.specs.Prelude.{◌≡◌, ℕ, ◌<◌, ◌≤◌, Bool, true, false, List, [], ◌∷◌, ◌++◌, drop, length, map, reverse, Option, None, Some, string_bytes}
 use Rattle.smith_format.specs.declared.config.Config.{Config}
 use Rattle.smith_input.specs.Names.{Holds}
 use Rattle.smith_syntax.specs.Entries.{Kept, keeps_type, keeps_core_type, import_decl, export_decl, type_alias, core_type_alias, Signature, CoreEntry}
 use Rattle.smith_syntax.specs.Entries.{DefValType, FullEntry, FullDecl, FullDecls, defined, function, component_type, instance_type, core_type_decl, type_decl}
 use Rattle.smith_syntax.specs.Entries.{then_decls, keeps_functions}
 use Rattle.smith_syntax.specs.Scope.{Scope, with_type, with_core_type, with_types, after_decl, exported_type}
-use Rattle.smith_syntax.specs.Shown.{shown_url}
+use Rattle.smith_syntax.specs.Shown.{full_component_decl, full_instance_decl, shown_url}
 use Rattle.smith_syntax.specs.WellFormed.{names, import_of, export_of}
 use Rattle.smith_syntax.specs.declared.deftype.ComponentTypeRef.{ComponentTypeRef}
 use Rattle.smith_syntax.specs.declared.deftype.Import.{Import}
 use Rattle.std.specs.Option.{option_to_list}
-use Rattle.smith_types.specs.Declarations.{NamedExtern, SoFar, nothing_so_far, ReadsAlias, ReadsExportDecl, ReadsImportDecl, NoImportDecl, url_names}
-use Rattle.smith_types.specs.Offers.{has_reference, occupied}
-use Rattle.smith_types.specs.Made.{Made, MadeDefined, MadeFunction, MadeDeclarations}
+use Rattle.smith_types.specs.Declarations.{NamedExtern, SoFar, after_one, nothing_so_far, ReadsAlias, ReadsExportDecl, ReadsImportDecl, NoImportDecl, url_names}
+use Rattle.smith_tree.specs.TypeOffers.{has_reference, occupied}
+use Rattle.smith_types.specs.Made.{Made, MadeDeclaration, MadeDefined, MadeFunction, MadeDeclarations}
 use Rattle.smith_core_types.specs.MadeCore.{MadeCore, named_by_core}
 use Rattle.smith_scopes.specs.Scopes.{Contents, own_scope, outer_scopes}
-use Rattle.smith_types.specs.declared.make.TypeKind.{TypeKind}
-use Rattle.smith_types.specs.declared.make.TypeKind.TheVariants as kind
-use Rattle.smith_types.specs.declared.make.declarations.DeclarationItem.{DeclarationItem}
-use Rattle.smith_types.specs.declared.make.declarations.DeclarationItem.TheVariants as item
+use Rattle.smith_tree.specs.declared.choices.TypeKind.{TypeKind}
+use Rattle.smith_tree.specs.declared.choices.TypeKind.TheVariants as kind
+use Rattle.smith_tree.specs.declared.choices.DeclarationItem.{DeclarationItem}
+use Rattle.smith_tree.specs.declared.choices.DeclarationItem.TheVariants as item
 use Rattle.smith_types.specs.declared.make.externs.ExternNames.{ExternNames}
+use Rattle.smith_types.specs.declared.make.scoped.TypeBody.{TypeBody}
+use Rattle.smith_types.specs.declared.make.scoped.TypeBody.TheVariants.{Component, Instance}
+
+-- the type of a component (true) or of an instance (false) that declares these
+abbrev pub declaring : Bool → FullDecls → FullEntry
+declaring true ds = component_type ds
+declaring false ds = instance_type ds
+
+-- a type that declares in a scope of its own
+abbrev pub MadeScoped : Config → Scope → List Scope → Bool → List ℕ → ℕ → FullEntry → List ℕ → ℕ → Type 0
+MadeScoped config own outer importing b fuel e rest left = (ds : FullDecls)
+    × MadeDeclarations config importing (own ∷ outer) 0 nothing_so_far b fuel ds rest left × (e ≡ declaring importing ds)
 
 -- a type of a kind
 abbrev pub MadeKind : Config → Scope → List Scope → TypeKind → List ℕ → ℕ → FullEntry → List ℕ → ℕ → Type 0
 MadeKind config own outer kind.Defined b fuel e rest left = (t : DefValType) × MadeDefined own b fuel t rest left × (e ≡ defined t)
 MadeKind config own outer kind.Function b fuel e rest left = (s : Signature) × MadeFunction own b fuel s rest left × (e ≡ function s)
-MadeKind config own outer kind.Component b fuel e rest left = (ds : FullDecls) × MadeDeclarations config true (own ∷ outer) 0 nothing_so_far b fuel ds rest left
-    × (e ≡ component_type ds)
-MadeKind config own outer kind.Instance b fuel e rest left = (ds : FullDecls) × MadeDeclarations config false (own ∷ outer) 0 nothing_so_far b fuel ds rest left
-    × (e ≡ instance_type ds)
+MadeKind config own outer kind.Component b fuel e rest left = MadeScoped config own outer true b fuel e rest left
+MadeKind config own outer kind.Instance b fuel e rest left = MadeScoped config own outer false b fuel e rest left
 
 -- a declaration of a sort
 abbrev pub MadeItem : Config → Scope → List Scope → List NamedExtern → DeclarationItem → List ℕ → ℕ → FullDecl → List ℕ → ℕ → Type 0
@@ -108,14 +118,38 @@ abbrev pub onto : List FullDecl → FullDecls → FullDecls
 onto [] ds = ds
 onto (x ∷ xs) ds = then_decls x (onto xs ds)
 
+-- Are they those of a component type, which may import?
+abbrev pub is_importing : TypeBody → Bool
+is_importing (Component imports exports defs) = true
+is_importing (Instance exports defs) = false
+
+abbrev pub defs_in : TypeBody → List FullDecl
+defs_in (Component imports exports defs) = map full_component_decl defs.items
+defs_in (Instance exports defs) = map full_instance_decl defs.items
+
+-- the sets of names have what is imported and exported so far
+abbrev pub HoldsNames : TypeBody → SoFar → Type 0
+HoldsNames (Component imports exports defs) so_far = HoldsExterns imports so_far.imports × HoldsExterns exports so_far.exports
+HoldsNames (Instance exports defs) so_far = HoldsExterns exports so_far.exports
+
+-- One declaration was added.
+pub record AddsDeclaration (config : Config) (scopes next : List Contents) (so_far : SoFar) (old new : TypeBody) (bytes : List ℕ) (fuel : ℕ) (rest : List ℕ)
+    (left : ℕ) : Type 0 where
+  pub added : FullDecl
+  pub made : MadeDeclaration config (is_importing old) (outer_scopes scopes) so_far bytes fuel added rest left
+  pub declares : Declares scopes next added
+  pub names : HoldsNames new (after_one (outer_scopes scopes) so_far added)
+  pub defs : defs_in new ≡ defs_in old ++ added ∷ []
+  pub of : is_importing new ≡ is_importing old
+
 -- A loop of declarations after so many turns: what completes the declarations from here completes all of them.
 pub record Progress (config : Config) (importing : Bool) (outer : List Scope) (start : List ℕ) (first_fuel done : ℕ) (scopes : List Contents)
-    (imports exports : ExternNames) (defs : List FullDecl) (bytes : List ℕ) (fuel : ℕ) : Type 0 where
+    (declared : TypeBody) (bytes : List ℕ) (fuel : ℕ) : Type 0 where
   pub so_far : SoFar
+  pub of : is_importing declared ≡ importing
   pub own_is : own_scope scopes ≡ so_far.own
   pub outer_is : outer_scopes scopes ≡ outer
-  pub imports_are : importing ≡ true → HoldsExterns imports so_far.imports
-  pub exports_are : HoldsExterns exports so_far.exports
+  pub names : HoldsNames declared so_far
   pub few : HasAtMost done so_far.own
   pub onward : (ds : FullDecls) (rest : List ℕ) (left : ℕ) → MadeDeclarations config importing outer done so_far bytes fuel ds rest left
-      → MadeDeclarations config importing outer 0 nothing_so_far start first_fuel (onto defs ds) rest left
+      → MadeDeclarations config importing outer 0 nothing_so_far start first_fuel (onto (defs_in declared) ds) rest left

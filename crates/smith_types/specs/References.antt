@@ -5,10 +5,10 @@ use Rattle.smith_format.specs.declared.config.Config.{Config}
 use Rattle.smith_syntax.specs.Scope.{Scope}
 use Rattle.smith_syntax.specs.declared.deftype.ComponentTypeRef.{ComponentTypeRef}
 use Rattle.smith_syntax.specs.declared.deftype.ComponentTypeRef.TheVariants as to
-use Rattle.smith_types.specs.declared.make.references.RefKind.{RefKind}
-use Rattle.smith_types.specs.declared.make.references.RefKind.TheVariants as kind
-use Rattle.smith_types.specs.declared.make.references.RefTotals.{RefTotals}
-use Rattle.smith_types.specs.Offers.{ref_kinds, ref_places}
+use Rattle.smith_tree.specs.declared.choices.RefKind.{RefKind}
+use Rattle.smith_tree.specs.declared.choices.RefKind.TheVariants as kind
+use Rattle.smith_tree.specs.declared.totals.RefTotals.{RefTotals}
+use Rattle.smith_tree.specs.TypeOffers.{ref_kinds, ref_places}
 
 -- the reference of a kind to an index
 abbrev pub ref_to : RefKind → ℕ → ComponentTypeRef

@@ -1,7 +1,7 @@
 -- Which types a script can say.
 use Rattle.std.specs.Prelude.{ℕ, suc, ◌+◌, ◌-◌, ◌<◌, ◌≤◌, ◌^◌, List, ◌∷◌, length}
 use Rattle.std.specs.List.{AllByRecursion}
-use Rattle.smith_core_types.specs.Needs.{core_need}
+use Rattle.smith_tree.specs.CoreTypeNeeds.{core_need}
 use Rattle.smith_format.specs.declared.config.Config.{Config}
 use Rattle.smith_syntax.specs.Entries.{DefValType, primitive_type, record_type, variant_type, list_type, tuple_type, flags_type, enum_type, option_type}
 use Rattle.smith_syntax.specs.Entries.{result_type, Entry, defined, function, component_type, instance_type}
@@ -9,8 +9,8 @@ use Rattle.smith_syntax.specs.Entries.{Decl, Decls, core_type_decl, type_decl, t
 use Rattle.smith_syntax.specs.Scope.{Scope}
 use Rattle.smith_syntax.specs.TypeLimits.{EntryLimits}
 use Rattle.smith_syntax.specs.WellFormed.{FormedEntry, size}
-use Rattle.smith_types.specs.Needs.{decl_cost}
-use Rattle.smith_types.specs.Readable.{IsReadableType}
+use Rattle.smith_tree.specs.TypeNeeds.{decl_cost}
+use Rattle.smith_tree.specs.ReadableTypes.{IsReadableType}
 
 -- The fuel lasts for each member.
 abbrev pub LastsDefined : ℕ → DefValType → Type 0

@@ -7,58 +7,22 @@ ghost use Rattle.smith_format.specs.Shown.{shown_func};
 ghost use Rattle.smith_input.specs.Choices.{ReadsAmong};
 ghost use Rattle.smith_input.specs.Reading.{IsTail};
 ghost use Rattle.smith_syntax.specs.Entries.{Signature};
-ghost use Rattle.smith_syntax.specs.Flat.{flat_primitive, flat_value, is_scalar, Flattens};
+ghost use Rattle.smith_syntax.specs.Flat.{flat_value, is_scalar, Flattens};
 ghost use Rattle.smith_syntax.specs.Signature.{named};
 ghost use Rattle.smith_syntax.specs.WellFormed.{Named};
-ghost use Rattle.smith_types.specs.Lifting.{IsLiftable, IsLiftableFunction, ReadsParams, ReadsLifted};
-ghost use Rattle.smith_types.specs.Offers.{lifted};
-ghost use Rattle.smith_types.specs.Readable.{AreReadableNames};
-ghost use Rattle.smith_types.specs.Script.{script_lifted};
+ghost use Rattle.smith_types.specs.Lifting.{IsLiftable, IsLiftableFunction, ReadsParams, ReadsLiftedType};
+ghost use Rattle.smith_tree.specs.TypeOffers.{lifted};
+ghost use Rattle.smith_tree.specs.ReadableTypes.{AreReadableNames};
+ghost use Rattle.smith_tree.specs.TypeScript.{script_lifted};
 
 use smith_format::ValType;
-use smith_input::{Error, Unstructured, new_kebab_string};
+use smith_input::{Error, MAX_NAME_LEN, Unstructured, new_kebab_string};
 use smith_syntax::{ComponentValType, FuncType, PrimitiveValType};
+use smith_tree::{flat_primitive, lifted};
 use std::alloc::Global;
 use std::rc::Rc;
 
-static LIFTED_I32: [PrimitiveValType; 8] = [
-    PrimitiveValType::Char,
-    PrimitiveValType::Bool,
-    PrimitiveValType::S8,
-    PrimitiveValType::U8,
-    PrimitiveValType::S16,
-    PrimitiveValType::U16,
-    PrimitiveValType::S32,
-    PrimitiveValType::U32,
-];
-
-static LIFTED_I64: [PrimitiveValType; 2] = [PrimitiveValType::S64, PrimitiveValType::U64];
-
-static LIFTED_F32: [PrimitiveValType; 1] = [PrimitiveValType::F32];
-
-static LIFTED_F64: [PrimitiveValType; 1] = [PrimitiveValType::F64];
-
-// The core value type of a primitive. A string has none.
-fn flat_primitive(ty: PrimitiveValType) -> Option<ValType>
-    ensures { result ≡ flat_primitive ty }
-{
-    match ty {
-        PrimitiveValType::Bool
-        | PrimitiveValType::S8
-        | PrimitiveValType::U8
-        | PrimitiveValType::S16
-        | PrimitiveValType::U16
-        | PrimitiveValType::S32
-        | PrimitiveValType::U32
-        | PrimitiveValType::Char => Some(ValType::I32),
-        PrimitiveValType::S64 | PrimitiveValType::U64 => Some(ValType::I64),
-        PrimitiveValType::F32 => Some(ValType::F32),
-        PrimitiveValType::F64 => Some(ValType::F64),
-        PrimitiveValType::String => None,
-    }
-}
-
-// The same of a value type in use: an indexed one has none.
+// The core value type of a value type in use: a string and an indexed type have none.
 fn flat_value(ty: ComponentValType) -> Option<ValType>
     ensures { result ≡ flat_value ty }
 {
@@ -97,19 +61,6 @@ pub fn canonical_abi_for(
     Ok(core)
 }
 
-// The primitives that flatten to a core value type.
-fn lifted(ty: ValType) -> &'static [PrimitiveValType]
-    ensures { result.now ≡ lifted ty }
-{
-    match ty {
-        ValType::I32 => &LIFTED_I32,
-        ValType::I64 => &LIFTED_I64,
-        ValType::F32 => &LIFTED_F32,
-        ValType::F64 => &LIFTED_F64,
-        ValType::V128 | ValType::Ref(_) => &[],
-    }
-}
-
 // One of them, by a choice. A choice among one reads nothing.
 fn lifted_primitive(u: &mut Unstructured, ty: ValType) -> PrimitiveValType
     requires { IsLiftable ty }
@@ -131,7 +82,7 @@ fn lifted_params(
 {
     let mut params = Vec::with_capacity(alloc, core.len())?;
     for ty in core {
-        let name = new_kebab_string(alloc, 100, &params.as_slice(), u)?;
+        let name = new_kebab_string(alloc, MAX_NAME_LEN, &params.as_slice(), u)?;
         let primitive = lifted_primitive(u, *ty);
         params.push((name, ComponentValType::Primitive(primitive)))?;
     }
@@ -147,7 +98,7 @@ pub fn inverse_scalar_canonical_abi_for(
     core: &smith_format::FuncType,
 ) -> Result<FuncType, Error>
     requires liftable { IsLiftableFunction (shown_func core.now) }
-    ensures reads { IfOk result (λ f. ReadsLifted (shown_func core.now) u.old f u.new) }
+    ensures reads { IfOk result (λ f. ReadsLiftedType (shown_func core.now) u.old f u.new) }
     ensures flattens { IfOk result (λ f. Flattens f (shown_func core.now)) }
     ensures named { IfOk result (λ f. Named (map (λ p. p.0) f.params)) }
     // The script of a function type that flattens to the core function type gives that type.

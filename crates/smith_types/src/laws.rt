@@ -5,24 +5,25 @@ ghost use Rattle.std.specs.Prelude.{nat_eq};
 ghost use Rattle.smith_format.specs.declared.config.Config.{Config};
 ghost use Rattle.smith_input.specs.Reading.{IsDecided, IsReadAs};
 ghost use Rattle.smith_input.specs.Script.{AreBytes, script_among};
-ghost use Rattle.smith_core_types.specs.Needs.{core_need};
+ghost use Rattle.smith_tree.specs.CoreTypeNeeds.{core_need};
 ghost use Rattle.smith_syntax.specs.Entries.{CoreEntry, Entry, FullEntry, plain};
 ghost use Rattle.smith_syntax.specs.Scope.{Scope, is_component, is_core_module, is_func, is_instance, places};
 ghost use Rattle.smith_syntax.specs.TypeLimits.{EntryLimits};
 ghost use Rattle.smith_syntax.specs.WellFormed.{FormedEntry, FormedRef, core_size, size};
 ghost use Rattle.smith_syntax.specs.declared.deftype.ComponentTypeRef.TheVariants.{Func};
 ghost use Rattle.smith_types.specs.Made.{Made, MadeWith};
-ghost use Rattle.smith_types.specs.Needs.{need, Nests};
-ghost use Rattle.smith_types.specs.Offers.{IsAllowed};
-ghost use Rattle.smith_types.specs.Readable.{IsReadableType};
+ghost use Rattle.smith_tree.specs.TypeNeeds.{need, Nests};
+ghost use Rattle.smith_tree.specs.TypeOffers.{IsAllowed};
+ghost use Rattle.smith_tree.specs.ReadableTypes.{IsReadableType};
 ghost use Rattle.smith_types.specs.Sayable.{Fit, IsSayable};
-ghost use Rattle.smith_types.specs.Script.{script_ref, script_type};
-ghost use Rattle.smith_types.specs.declared.make.references.RefTotals.{RefTotals};
+ghost use Rattle.smith_tree.specs.TypeScript.{script_ref, script_type};
+ghost use Rattle.smith_tree.specs.declared.totals.RefTotals.{RefTotals};
 
 pub use smith_core_types::laws::{
     core_scripts_are_bytes, core_scripts_are_read, core_types_are_decided, core_types_are_exact,
     made_core_types_are_readable,
 };
+pub use smith_tree::laws::sizes_are_needed;
 
 /// The limits, the scopes, the bytes and the fuel alone decide which type is made, with its URLs and what its aliases
 /// keep, and what is left of both.
@@ -63,12 +64,6 @@ pub fn answers_need_no_more()
         (rest : List ℕ) (left : ℕ)
         → Made config own outer bytes fuel made rest left
         → (need (plain made) ≤ fuel) × Nests (plain made) config (length (own ∷ outer)) × IsReadableType (plain made) }
-{}
-
-/// No type is larger than the fuel that it needs.
-pub fn sizes_are_needed()
-    ensures types { (e : Entry) → size e ≤ need e }
-    ensures core_types { (t : CoreEntry) → core_size t ≤ core_need t }
 {}
 
 /// A type is read on some input exactly if it is well formed in its scopes and within the limits, its names can be

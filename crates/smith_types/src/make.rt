@@ -17,41 +17,23 @@ ghost use Rattle.smith_input.specs.Reading.{IsTail};
 ghost use Rattle.smith_format.specs.Limits.{configured, IsConsistent};
 ghost use Rattle.smith_types.specs.Made.{Made};
 ghost use Rattle.smith_types.specs.Sayable.{IsSayable};
-ghost use Rattle.smith_types.specs.Script.{script_type};
+ghost use Rattle.smith_tree.specs.TypeScript.{script_type};
 ghost use Rattle.smith_scopes.specs.Scopes.{own_scope, outer_scopes};
 ghost use Rattle.smith_syntax.specs.Entries.{Entry};
 ghost use Rattle.smith_syntax.specs.Shown.{full_type, shown_shared};
 ghost use Rattle.smith_syntax.specs.TypeLimits.{EntryLimits, nesting};
 ghost use Rattle.smith_syntax.specs.WellFormed.{FormedEntry, size};
 
-pub use declarations::DeclarationItem;
-pub use defined::DefinedKind;
 pub use externs::{ExternNames, named_extern};
 use kinds::made_type;
 use making::Making;
-pub use references::{RefKind, RefTotals, arbitrary_type_ref};
+pub use references::arbitrary_type_ref;
 use smith_format::{Config, ValType};
 use smith_input::{Error, Unstructured};
 use smith_scopes::Scopes;
 use smith_syntax::DefType;
 use std::alloc::Global;
 use std::rc::Rc;
-
-/// What a choice of a type is among. Public since contracts speak of it.
-#[derive(Debug, Clone, Copy, PartialEq, Eq)]
-pub enum TypeKind {
-    Defined,
-    Function,
-    Component,
-    Instance,
-}
-
-static TYPE_KINDS: [TypeKind; 4] = [
-    TypeKind::Defined,
-    TypeKind::Function,
-    TypeKind::Component,
-    TypeKind::Instance,
-];
 
 /// A type in these scopes, which takes fuel: one for itself, one for each turn of a loop over its members or
 /// declarations, and as much again for each type and core type in it. Where fuel is left at first, a choice of four

@@ -1,11 +1,10 @@
-//! Equal limits and equal inputs give equal answers.
+//! Equal answers to equal limits and equal inputs.
 
-use crate::common::small_limits;
-use crate::parts::check_equal_answers;
+use crate::common::{check_equal_answers, small_limits};
 use smith_component::Config;
 use std::test::Fail;
 
-// Those of more than six bytes are inputs of other tables, read choice by choice there, some with a byte behind.
+// Those of more than six bytes are inputs of rows of `smith_rows`, read choice by choice there, some with one more byte.
 const OTHER_INPUTS: &[(&str, &[u8])] = &[
     ("no input", b""),
     ("a module", b"\x06"),

@@ -1,17 +1,17 @@
 -- How sections and components are spelled, over the nodes that they hold.
-use Rattle.std.proofs.Common.{◌≡◌, ℕ, List, [], ◌∷◌, false, true, map, refl, ap, ◌∙◌, rules, nat_eq, Some, None}
+use Rattle.std.proofs.Common.{◌≡◌, ℕ, List, false, true, map, refl, ap, ◌∙◌, rules, nat_eq, Some, None}
 use Rattle.std.specs.Global.{Vec}
 use Rattle.std.specs.List.{starts_with}
 use Rattle.smith_core.specs.Preamble.{core_preamble}
 use Rattle.smith_format.specs.Piece.{◌⊕◌, bytes, raw, each, many, sized}
 use Rattle.smith_format.proofs.Many.{each-map, many-map}
 use Rattle.smith_syntax.specs.Grammar.{core_entry, entry, import_entry}
-use Rattle.smith_component.specs.Grammar.{canon, component_text, embedded, export_entry, part, parts, preamble}
-use Rattle.smith_component.specs.Tree.{Part, canons, component, core_types, exports, imports, tree_of, types}
+use Rattle.smith_tree.specs.Grammar.{canon, component_text, embedded, export_entry, part, preamble}
+use Rattle.smith_tree.specs.Tree.{canons, component, core_types, exports, imports, tree_of, types}
 use Rattle.smith_read_types.specs.Nodes.{shown_core_node}
 use Rattle.smith_read_types.specs.TypeNodes.{shown_type_node}
 use Rattle.smith_read_types.specs.declared.core_types.CoreNode.{CoreNode}
-use Rattle.smith_read_types.specs.declared.externs.ImportNode.{ImportNode}
+use Rattle.smith_read.specs.declared.nodes.ImportNode.{ImportNode}
 use Rattle.smith_read_types.specs.declared.nodes.TypeNode.{TypeNode}
 use Rattle.smith_read.specs.PartNodes.{shown_canon_node, shown_export_node, shown_import_node, shown_part_node}
 use Rattle.smith_read.specs.declared.nodes.CanonNode.{CanonNode}
@@ -19,6 +19,7 @@ use Rattle.smith_read.specs.declared.nodes.ExportNode.{ExportNode}
 use Rattle.smith_read.specs.declared.nodes.PartNode.{PartNode}
 use Rattle.smith_read.specs.declared.nodes.PartNode.TheFolds.{the_lemmas}
 use Rattle.smith_read.specs.declared.nodes.PartNode.TheVariants as node
+use Rattle.smith_tree.proofs.Parts.{parts_each}
 
 shown_core_types : (ts : Vec CoreNode) → shown_part_node (node.CoreTypes ts) ≡ core_types (map shown_core_node ts.items)
 shown_core_types ts = search (rules, the_lemmas)
@@ -56,12 +57,8 @@ part_imports is = ap part (shown_imports is) ∙ ap (sized 10) (many-map import_
 pub part_exports : (es : Vec ExportNode) → part (shown_part_node (node.Exports es)) ≡ sized 11 (many (λ e. export_entry (shown_export_node e)) es.items)
 part_exports es = ap part (shown_exports es) ∙ ap (sized 11) (many-map export_entry shown_export_node es.items)
 
-parts_of : (ps : List Part) → parts (tree_of ps) ≡ each part ps
-parts_of [] = refl
-parts_of (p ∷ ps) = ap (λ q. part p ⊕ q) (parts_of ps)
-
 pub text_shown : (ns : List PartNode) → component_text (tree_of (map shown_part_node ns)) ≡ bytes preamble ⊕ each (λ n. part (shown_part_node n)) ns
-text_shown ns = ap (λ p. bytes preamble ⊕ p) (parts_of (map shown_part_node ns) ∙ each-map part shown_part_node ns)
+text_shown ns = ap (λ p. bytes preamble ⊕ p) (parts_each (map shown_part_node ns) ∙ each-map part shown_part_node ns)
 
 -- core modules
 

@@ -6,7 +6,7 @@ pub enum WriteError {
     /// A growth was refused.
     #[error("out of memory")]
     OutOfMemory,
-    /// No bytes spell the component: a length or a count in it passes 4,294,967,295, an instance type in it imports
+    /// No bytes spell the component: a length or a count in it exceeds 4,294,967,295, an instance type in it imports
     /// something, or a core module in it does not begin with the core preamble.
     #[error("the component has no encoding")]
     NoEncoding,

@@ -8,7 +8,7 @@ ghost use Rattle.smith_write.specs.Writes.{Writes};
 use crate::lists::Written;
 use crate::puts::put_byte;
 use smith_input::Error;
-use smith_read_types::ImportNode;
+use smith_read::ImportNode;
 use smith_syntax::{ComponentTypeRef, put_named};
 
 /// Puts an import or an export after the byte that says which of the two it is.

@@ -3,8 +3,8 @@
 
 ghost use Rattle.std.specs.Prelude.{◌≡◌, None, IfErr, IfOk, map};
 ghost use Rattle.smith_format.specs.Piece.{◌⊕◌, byte, raw, sized, text, u};
-ghost use Rattle.smith_component.specs.Grammar.{Spells, canon, component_text, embedded, export_entry, part};
-ghost use Rattle.smith_component.specs.Tree.{tree_of};
+ghost use Rattle.smith_tree.specs.Grammar.{Spells, canon, component_text, embedded, export_entry, part};
+ghost use Rattle.smith_tree.specs.Tree.{tree_of};
 ghost use Rattle.smith_read.specs.PartNodes.{shown_canon_node, shown_export_node, shown_part_node, shown_tree};
 ghost use Rattle.smith_write.specs.Writes.{Holds, Writes};
 ghost use Rattle.smith_write.specs.declared.error.WriteError.TheVariants.{NoEncoding};
@@ -12,14 +12,11 @@ ghost use Rattle.smith_write.specs.declared.error.WriteError.TheVariants.{NoEnco
 use crate::error::WriteError;
 use crate::lists::{Written, put_list_section};
 use crate::puts::{put_byte, put_bytes, put_index, put_section, put_text};
+use smith_core::{COMPONENT_PREAMBLE, CORE_PREAMBLE};
 use smith_format::write_raw;
 use smith_input::Error;
 use smith_read::{CanonNode, ComponentTree, ExportNode, PartNode};
 use std::alloc::Global;
-
-const PREAMBLE: [u8; 8] = [0x00, 0x61, 0x73, 0x6d, 0x0d, 0x00, 0x01, 0x00];
-
-const CORE_PREAMBLE: [u8; 8] = [0x00, 0x61, 0x73, 0x6d, 0x01, 0x00, 0x00, 0x00];
 
 // An index, and the byte that says that no option or no type follows.
 fn put_index_alone(out: &mut Vec<u8>, index: u32) -> Result<(), Error>
@@ -100,7 +97,7 @@ fn put_part(alloc: Global, out: &mut Vec<u8>, node: &PartNode) -> Result<(), Err
         PartNode::CoreModule(contents) => put_core_module(out, contents),
         PartNode::CoreTypes(types) => put_list_section(alloc, out, 3, types),
         PartNode::Component(nodes) => {
-            let inside = component_of(alloc, nodes)?;
+            let inside = component_bytes(alloc, nodes)?;
             put_section(out, 4, &inside)
         }
         PartNode::Types(types) => put_list_section(alloc, out, 7, types),
@@ -112,11 +109,11 @@ fn put_part(alloc: Global, out: &mut Vec<u8>, node: &PartNode) -> Result<(), Err
 
 // The bytes of a component of these sections.
 #[cycle(writing)]
-fn component_of(alloc: Global, nodes: &[PartNode]) -> Result<Vec<u8>, Error>
+fn component_bytes(alloc: Global, nodes: &[PartNode]) -> Result<Vec<u8>, Error>
     ensures { Holds result (component_text (tree_of (map shown_part_node nodes.now))) }
 {
     let mut contents = Vec::new(alloc);
-    put_bytes(&mut contents, &PREAMBLE)?;
+    put_bytes(&mut contents, &COMPONENT_PREAMBLE)?;
     for node in nodes {
         put_part(alloc, &mut contents, node)?;
     }
@@ -131,7 +128,7 @@ pub fn write(alloc: Global, tree: &ComponentTree) -> Result<Vec<u8>, WriteError>
     ensures written { IfOk result (λ b. Spells (shown_tree tree.now) b.items) }
     ensures refuses { IfErr result (λ e. e ≡ NoEncoding → component_text (shown_tree tree.now) ≡ None) }
 {
-    match component_of(alloc, &tree.parts) {
+    match component_bytes(alloc, &tree.parts) {
         Ok(bytes) => Ok(bytes),
         Err(Error::TooLong) => Err(WriteError::NoEncoding),
         Err(_) => Err(WriteError::OutOfMemory),

@@ -5,24 +5,24 @@ ghost use Rattle.std.specs.Prelude.{IfErr, MatchOption};
 ghost use Rattle.smith_input.specs.Choices.{ReadsAmong};
 ghost use Rattle.smith_input.specs.Loops.{Loop};
 ghost use Rattle.smith_input.specs.Reading.{IsTail};
-ghost use Rattle.smith_format.specs.Limits.{IsConsistent, max_u32};
-ghost use Rattle.smith_scopes.specs.Scopes.{own_scope, outer_scopes};
-ghost use Rattle.smith_component.specs.Canonicals.{CanonTurn, Growing, NoCanon, ReadsCanons, ReadsLift, ReadsLower};
-ghost use Rattle.smith_component.specs.Canonicals.{grown, spaces_at, with_defined};
-ghost use Rattle.smith_component.specs.CanonicalsState.{DraftsOn, IsDraft, IsDrafted, IsLowered, KeepsFront, LiftsAs};
+ghost use Rattle.smith_format.specs.Limits.{max_u32};
+ghost use Rattle.smith_scopes.specs.Scopes.{own_scope};
+ghost use Rattle.smith_component.specs.AddedSections.{AddsCanons};
+ghost use Rattle.smith_component.specs.BuilderView.{stack_of, IsSound};
+ghost use Rattle.smith_component.specs.Canonicals.{CanonTurn, NoCanon, ReadsLift, ReadsLower, spaces_at, with_defined};
+ghost use Rattle.smith_component.specs.CanonicalsState.{DraftsOn, IsDraft, IsDrafted, IsLowered, ReadsLiftedTypeOf};
 ghost use Rattle.smith_component.specs.CanonicalsState.{SameLoans, canon_items_of, draft_of};
-ghost use Rattle.smith_component.specs.Shown.{shown_sections};
-ghost use Rattle.smith_component.specs.Spaces.{spaces_of};
-ghost use Rattle.smith_component.specs.Tables.{Tabled, functions_at};
-ghost use Rattle.smith_component.specs.Tree.{function_count};
-ghost use Rattle.smith_component.specs.WellFormed.{scope_of};
-ghost use Rattle.smith_component.specs.declared.item.CanonItem.{CanonItem};
+ghost use Rattle.smith_component.specs.Steps.{Grows};
+ghost use Rattle.smith_component.specs.Tables.{functions_at};
+ghost use Rattle.smith_tree.specs.Tree.{function_count};
+ghost use Rattle.smith_tree.specs.declared.choices.CanonItem.{CanonItem};
 
+use crate::builder::Progress;
 use crate::builder::open::OpenComponent;
 use crate::component::{CanonicalSection, Func, Section, TypeSection};
-use crate::item::CanonItem;
 use smith_format::Config;
 use smith_input::{Error, Unstructured, choose_offered};
+use smith_tree::CanonItem;
 use smith_types::{DefType, FuncType, Scopes, canonical_abi_for, inverse_scalar_canonical_abi_for};
 use std::alloc::{AllocError, Global};
 use std::mem;
@@ -72,8 +72,8 @@ impl<'a> CanonicalDraft<'a> {
     // A type that flattens as that of the component function which the core function lowers.
     fn lifted_type(&self, core_func_index: u32, u: &mut Unstructured) -> Result<FuncType, Error>
         requires known { IsLowered (own_scope self.now.scopes.now) self.now.component.now.tables core_func_index }
-        ensures reads { IfOk result (λ f.
-            LiftsAs (own_scope self.now.scopes.now) self.now.component.now.tables core_func_index u.old f u.new) }
+        ensures reads { IfOk result (λ f. ReadsLiftedTypeOf
+            (own_scope self.now.scopes.now) self.now.component.now.tables core_func_index u.old f u.new) }
         ensures memory { IfErr result (λ e. e ≡ Error.OutOfMemory) }
         ensures tail { IsTail u.new u.old }
     {
@@ -117,7 +117,6 @@ impl<'a> CanonicalDraft<'a> {
     // Lifts a core function, by a choice, to a type that is equal to the one that is read, or to one that it defines
     // where there is none. It is given up where the component may have no more types.
     fn lift(&mut self, u: &mut Unstructured) -> Result<(), Error>
-        requires consistent { IsConsistent self.old.config.now }
         requires draft { IsDraft self.old }
         requires some { 0 < length self.old.component.now.tables.core_functions.items }
         requires room { functions_at (spaces_at (draft_of self.old)) < max_u32 }
@@ -148,7 +147,6 @@ impl<'a> CanonicalDraft<'a> {
 
     // A turn, or false where no function can be lowered or lifted.
     fn turn(&mut self, u: &mut Unstructured) -> Result<bool, Error>
-        requires consistent { IsConsistent self.old.config.now }
         requires draft { IsDraft self.old }
         requires room { functions_at (spaces_at (draft_of self.old)) < max_u32 }
         ensures loans { SameLoans self.old self.new }
@@ -170,7 +168,6 @@ impl<'a> CanonicalDraft<'a> {
 
     // Turns, at least and at most so many, unless no function can be lowered or lifted.
     fn turns(&mut self, min: usize, max: usize, u: &mut Unstructured) -> Result<(), Error>
-        requires consistent { IsConsistent self.old.config.now }
         requires ordered { min ≤ max }
         requires draft { IsDraft self.old }
         requires room { functions_at (spaces_at (draft_of self.old)) + max ≤ max_u32 }
@@ -193,42 +190,30 @@ impl<'a> CanonicalDraft<'a> {
     }
 }
 
-// Canonical sections at the end of the component, with the type sections that lifts define between them.
-pub(super) fn read_canonicals(
-    alloc: Global,
-    config: &Config,
-    scopes: &mut Scopes,
-    component: &mut OpenComponent,
-    min: usize,
-    max: usize,
-    u: &mut Unstructured,
-) -> Result<(), Error>
-    requires consistent { IsConsistent config.now }
-    requires ordered { min ≤ max }
-    requires room { max ≡ config.now.max_funcs - function_count (shown_sections component.old.sections.items) }
-    requires space { functions_at (spaces_of (shown_sections component.old.sections.items)) + max ≤ max_u32 }
-    requires stands { own_scope scopes.old ≡ scope_of (shown_sections component.old.sections.items) }
-    requires tabled { Tabled component.old.tables (shown_sections component.old.sections.items) }
-    ensures reads { OnOk result ((turns : List CanonItem) × (next : Growing)
-        × ReadsCanons config.now min (shown_sections component.old.sections.items) u.old turns u.new next
-        × (shown_sections component.new.sections.items ≡ grown next)) }
-    ensures stands { OnOk result (own_scope scopes.new ≡ scope_of (shown_sections component.new.sections.items)) }
-    ensures tabled { OnOk result (Tabled component.new.tables (shown_sections component.new.sections.items)) }
-    ensures front { OnOk result (KeepsFront component.old component.new) }
-    ensures outer { OnOk result (outer_scopes scopes.new ≡ outer_scopes scopes.old) }
-    ensures depth { OnOk result (length scopes.new ≡ length scopes.old) }
-    ensures memory { IfErr result (λ e. e ≡ Error.OutOfMemory) }
-    ensures tail { IsTail u.new u.old }
-{
-    let mut funcs = Vec::new(alloc);
-    let mut draft = CanonicalDraft {
-        alloc,
-        config,
-        scopes,
-        component,
-        funcs: &mut funcs,
-    };
-    draft.turns(min, max, u)?;
-    component.push(Section::Canonical(CanonicalSection { funcs }))?;
-    Ok(())
+impl Progress {
+    // Canonical sections of at least so many turns, unless no function can be lowered or lifted, and of at most as many
+    // as the component may still have functions.
+    pub(super) fn add_canonicals(&mut self, min: usize, u: &mut Unstructured) -> Result<(), Error>
+        requires sound { IsSound self.old }
+        requires room { min ≤ self.old.config.max_funcs - function_count (stack_of self.old).inner }
+        ensures added { OnOk result
+            (AddsCanons self.old.config min (stack_of self.old) u.old (stack_of self.new).inner u.new) }
+        ensures grows { OnOk result (Grows self.old self.new) }
+        ensures memory { IfErr result (λ e. e ≡ Error.OutOfMemory) }
+        ensures tail { IsTail u.new u.old }
+    {
+        let room = self.config.max_funcs - self.inner.tables.counted;
+        let mut funcs = Vec::new(self.alloc);
+        let mut draft = CanonicalDraft {
+            alloc: self.alloc,
+            config: &self.config,
+            scopes: &mut self.scopes,
+            component: &mut self.inner,
+            funcs: &mut funcs,
+        };
+        draft.turns(min, room, u)?;
+        self.inner
+            .push(Section::Canonical(CanonicalSection { funcs }))?;
+        Ok(())
+    }
 }

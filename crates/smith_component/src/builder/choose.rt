@@ -3,12 +3,12 @@
 ghost use Rattle.std.specs.Prelude.{◌≡◌, ℕ, List, ◌+◌, ◌≤◌, length};
 ghost use Rattle.smith_input.specs.Reading.{IsTail};
 ghost use Rattle.smith_component.specs.BuilderView.{stack_of, IsSound};
-ghost use Rattle.smith_component.specs.Open.{is_component_offered, is_export_offered, is_module_offered, items};
+ghost use Rattle.smith_tree.specs.Open.{is_component_offered, is_export_offered, is_module_offered, items};
 ghost use Rattle.smith_input.specs.Choices.{ReadsAmong};
 
 use crate::builder::Progress;
-use crate::item::Item;
 use smith_input::{Unstructured, choose_offered};
+use smith_tree::Item;
 
 impl Progress {
     // May a core module be embedded?

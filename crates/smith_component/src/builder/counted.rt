@@ -1,13 +1,12 @@
-//! What a component has a minimum of: how many there are, and the sections that add more.
+//! What a component has a minimum of: how many there are, and how what is missing is added.
 
-ghost use Rattle.std.specs.Prelude.{◌≡◌, ℕ, List, ◌+◌, ◌-◌, ◌≤◌, IfErr, None, OnOk};
+ghost use Rattle.std.specs.Prelude.{◌≡◌, ◌≤◌, IfErr, OnOk};
 ghost use Rattle.smith_input.specs.Reading.{IsTail};
-ghost use Rattle.smith_component.specs.BuilderView.{building_of, stack_of, IsSound};
-ghost use Rattle.smith_component.specs.Counted.{count_of, item_for, maximum_of, minimum_of};
+ghost use Rattle.smith_component.specs.BuilderView.{stack_of, IsSound};
+ghost use Rattle.smith_component.specs.Counted.{count_of, minimum_of};
 ghost use Rattle.smith_component.specs.Fills.{Fills};
 ghost use Rattle.smith_component.specs.Refusals.{IsAnswered, IsMinimum};
-ghost use Rattle.smith_component.specs.Steps.{DoesItem, Grows};
-ghost use Rattle.smith_component.specs.SectionValues.{AddsSection};
+ghost use Rattle.smith_component.specs.Steps.{Grows};
 
 use crate::builder::Progress;
 use crate::item::Counted;
@@ -37,25 +36,6 @@ impl Progress {
         }
     }
 
-    // How many it may have.
-    fn maximum(&self, what: Counted) -> usize
-        ensures { result ≡ maximum_of what self.now.config }
-    {
-        match what {
-            Counted::Types => self.config.max_types,
-            Counted::Imports => self.config.max_imports,
-            Counted::Functions => self.config.max_funcs,
-        }
-    }
-
-    // How many more it may have.
-    pub(super) fn room(&self, what: Counted) -> usize
-        requires { IsSound self.now }
-        ensures { result ≡ maximum_of what self.now.config - count_of what (stack_of self.now).inner }
-    {
-        self.maximum(what) - self.count(what)
-    }
-
     // Is that minimum met?
     pub(super) fn check_minimum(&self, what: Counted) -> Result<(), Error>
         requires { IsSound self.now }
@@ -67,7 +47,7 @@ impl Progress {
         Ok(())
     }
 
-    // Adds what lacks of a minimum, as far as it can be added.
+    // Adds what is missing of a minimum, as far as it can be added.
     pub(super) fn fill_one(&mut self, what: Counted, u: &mut Unstructured) -> Result<(), Error>
         requires sound { IsSound self.old }
         ensures filled { OnOk result
@@ -83,34 +63,11 @@ impl Progress {
         if minimum <= count {
             return Ok(());
         }
-        self.add(what, minimum - count, u)
-    }
-
-    // Adds at least so many, as far as they can be added.
-    fn add(&mut self, what: Counted, min: usize, u: &mut Unstructured) -> Result<(), Error>
-        requires sound { IsSound self.old }
-        requires room { count_of what (stack_of self.old).inner + min ≤ maximum_of what self.old.config }
-        ensures added { OnOk result
-            (AddsSection what self.old.config min (building_of self.old) u.old (building_of self.new) u.new) }
-        ensures grows { OnOk result (Grows self.old self.new) }
-        ensures memory { IfErr result (λ e. e ≡ Error.OutOfMemory) }
-        ensures tail { IsTail u.new u.old }
-    {
+        let missing = minimum - count;
         match what {
-            Counted::Types => self.add_types(min, u),
-            Counted::Imports => self.add_imports(min, u),
-            Counted::Functions => self.add_canonicals(min, u),
+            Counted::Types => self.add_types(missing, u),
+            Counted::Imports => self.add_imports(missing, u),
+            Counted::Functions => self.add_canonicals(missing, u),
         }
-    }
-
-    // A turn that adds any number.
-    pub(crate) fn section_turn(&mut self, what: Counted, u: &mut Unstructured) -> Result<(), Error>
-        requires sound { IsSound self.old }
-        ensures does { OnOk result (DoesItem (item_for what) self.old u.old self.new None u.new) }
-        ensures memory { IfErr result (λ e. e ≡ Error.OutOfMemory) }
-        ensures tail { IsTail u.new u.old }
-    {
-        self.add(what, 0, u)?;
-        Ok(())
     }
 }

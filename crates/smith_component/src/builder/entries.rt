@@ -1,14 +1,17 @@
 //! The entries of a section of types or of core types.
 
-ghost use Rattle.std.specs.Prelude.{◌≡◌, ℕ, ◌+◌, ◌<◌, ◌≤◌, List, length, IfOk, IfErr};
+ghost use Rattle.std.specs.Prelude.{◌≡◌, ℕ, ◌+◌, ◌<◌, ◌≤◌, List, length, IfOk, IfErr, OnOk};
 ghost use Rattle.smith_input.specs.Loops.{Loop, Never};
 ghost use Rattle.smith_input.specs.Reading.{IsTail};
-ghost use Rattle.smith_format.specs.Limits.{configured, IsConsistent, max_u32};
+ghost use Rattle.smith_format.specs.Limits.{max_u32};
 ghost use Rattle.smith_format.specs.declared.config.Config.{Config};
 ghost use Rattle.smith_scopes.specs.Scopes.{own_scope, outer_scopes};
 ghost use Rattle.smith_syntax.specs.Scope.{Scope};
+ghost use Rattle.smith_component.specs.BuilderView.{IsSound};
+ghost use Rattle.smith_component.specs.EntriesState.{CanReadTypes, GrowsScope};
 ghost use Rattle.smith_component.specs.SectionValues.{ReadsTypeValue, ReadsCoreTypeValue};
 
+use crate::builder::Progress;
 use smith_format::{Config, ValType};
 use smith_input::{Error, Unstructured};
 use smith_types::{CoreType, DefType, Scopes, arbitrary_core_type, arbitrary_type};
@@ -29,9 +32,7 @@ pub(super) trait SectionEntry: Drop {
         u: &mut Unstructured,
     ) -> Result<Self, Error>
         requires room { count (own_scope scopes.old) < max_u32 }
-        requires configured { valtypes.now ≡ configured config.now }
-        requires consistent { IsConsistent config.now }
-        requires shallow { length scopes.old ≤ 1001 }
+        requires ready { CanReadTypes config.now valtypes.now scopes.old }
         ensures read { IfOk result (λ e. reads config.now (outer_scopes scopes.old) (own_scope scopes.old)
             u.old e u.new (own_scope scopes.new)) }
         ensures count { IfOk result (λ _. count (own_scope scopes.new) ≡ count (own_scope scopes.old) + 1) }
@@ -41,38 +42,34 @@ pub(super) trait SectionEntry: Drop {
         ensures tail { IsTail u.new u.old };
 }
 
-// The entries of a section, at least and at most so many.
-pub(super) fn read_entries<E: SectionEntry>(
-    alloc: Global,
-    config: &Config,
-    valtypes: &[ValType],
-    min: usize,
-    max: usize,
-    scopes: &mut Scopes,
-    u: &mut Unstructured,
-) -> Result<Vec<E>, Error>
-    requires ordered { min ≤ max }
-    requires room { E.count (own_scope scopes.old) + max ≤ max_u32 }
-    requires configured { valtypes.now ≡ configured config.now }
-    requires consistent { IsConsistent config.now }
-    requires shallow { length scopes.old ≤ 1001 }
-    ensures entries { IfOk result (λ v. Loop Never (E.reads config.now (outer_scopes scopes.old)) min max 0
-        (own_scope scopes.old) u.old v.items u.new (own_scope scopes.new)) }
-    ensures outer { IfOk result (λ _. outer_scopes scopes.new ≡ outer_scopes scopes.old) }
-    ensures depth { IfOk result (λ _. length scopes.new ≡ length scopes.old) }
-    ensures bound { IfOk result (λ v. length v.items ≤ max) }
-    ensures memory { IfErr result (λ e. e ≡ Error.OutOfMemory) }
-    ensures tail { IsTail u.new u.old }
-{
-    let mut entries = Vec::new(alloc);
-    for done in 0..max {
-        if !u.more(done, min, max) {
-            return Ok(entries);
+impl Progress {
+    // The entries of a section, at least and at most so many.
+    pub(super) fn read_entries<E: SectionEntry>(
+        &mut self,
+        min: usize,
+        max: usize,
+        u: &mut Unstructured,
+    ) -> Result<Vec<E>, Error>
+        requires sound { IsSound self.old }
+        requires ordered { min ≤ max }
+        requires room { E.count (own_scope self.old.scopes) + max ≤ max_u32 }
+        ensures entries { IfOk result (λ v. Loop Never (E.reads self.old.config (outer_scopes self.old.scopes)) min max 0
+            (own_scope self.old.scopes) u.old v.items u.new (own_scope self.new.scopes)) }
+        ensures scopes { OnOk result (GrowsScope self.old self.new) }
+        ensures memory { IfErr result (λ e. e ≡ Error.OutOfMemory) }
+        ensures tail { IsTail u.new u.old }
+    {
+        let scopes = &mut self.scopes;
+        let mut entries = Vec::new(self.alloc);
+        for done in 0..max {
+            if !u.more(done, min, max) {
+                return Ok(entries);
+            }
+            let entry = E::read(self.alloc, &self.config, &self.valtypes, scopes, u)?;
+            entries.push(entry)?;
         }
-        let entry = E::read(alloc, config, valtypes, scopes, u)?;
-        entries.push(entry)?;
+        Ok(entries)
     }
-    Ok(entries)
 }
 
 impl SectionEntry for Rc<DefType> {

@@ -9,7 +9,7 @@ ghost use Rattle.smith_component.specs.Exports.{NoExport, ReadsExport};
 ghost use Rattle.smith_component.specs.ExportsState.{ExportsOne, ExportsState};
 ghost use Rattle.smith_component.specs.Shown.{shown_export};
 ghost use Rattle.smith_component.specs.Tables.{IsKnown};
-ghost use Rattle.smith_component.specs.Tree.{ExportEntry, Tree};
+ghost use Rattle.smith_tree.specs.Tree.{ExportEntry, Tree};
 
 use crate::builder::tables::Tables;
 use crate::component::Export;

@@ -3,11 +3,11 @@
 ghost use Rattle.std.specs.Prelude.{◌≡◌, ℕ, List, [], IfOk, IfErr, OnOk};
 ghost use Rattle.smith_input.specs.Reading.{IsTail};
 ghost use Rattle.smith_component.specs.BuilderView.{stack_of, IsSound};
-ghost use Rattle.smith_component.specs.Limits.{Minima};
+ghost use Rattle.smith_tree.specs.Limits.{Minima};
 ghost use Rattle.smith_component.specs.Fills.{FillsAll};
 ghost use Rattle.smith_component.specs.Refusals.{IsAnswered, IsFillRefusal};
 ghost use Rattle.smith_component.specs.Steps.{DoesItem, Grows};
-ghost use Rattle.smith_component.specs.declared.item.Item.TheVariants.{Finish};
+ghost use Rattle.smith_tree.specs.declared.choices.Item.TheVariants.{Finish};
 
 use crate::builder::Progress;
 use crate::component::Component;

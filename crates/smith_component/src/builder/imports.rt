@@ -6,20 +6,20 @@ ghost use Rattle.smith_input.specs.Loops.{Loop};
 ghost use Rattle.smith_format.specs.Limits.{IsConsistent};
 ghost use Rattle.smith_types.specs.Declarations.{NamedExtern};
 ghost use Rattle.smith_scopes.specs.Scopes.{own_scope};
-ghost use Rattle.smith_component.specs.ImportsState.{ImportsState, ImportsOne};
-ghost use Rattle.smith_component.specs.SectionValues.{NoImportValue, ReadsImportValue};
-ghost use Rattle.smith_component.specs.Open.{Open};
+ghost use Rattle.smith_component.specs.BuilderView.{stack_of, IsSound};
+ghost use Rattle.smith_component.specs.ImportsState.{Imported, ImportsOne, ImportsState};
+ghost use Rattle.smith_component.specs.SectionValues.{NoImportValue, ReadsImportValue, externs_of};
+ghost use Rattle.smith_tree.specs.Open.{Open};
 
+use crate::builder::Progress;
 use crate::builder::tables::Tables;
 use crate::builder::totals::TreeTotals;
 use smith_format::Config;
 use smith_input::{Error, Unstructured};
 use smith_types::{ComponentTypeRef, Import, Scopes, arbitrary_type_ref, named_extern};
-use std::alloc::Global;
 
 // An import, or none where nothing can be imported. It is counted.
 fn read_import(
-    alloc: Global,
     config: &Config,
     scopes: &Scopes,
     totals: &mut TreeTotals,
@@ -40,7 +40,7 @@ fn read_import(
     let Some(ty) = arbitrary_type_ref(u, config, scopes, counts, true, false) else {
         return Ok(None);
     };
-    let (name, url) = named_extern(alloc, u, &mut tables.imports)?;
+    let (name, url) = named_extern(tables.alloc, u, &mut tables.imports)?;
     totals.count(ty);
     if let ComponentTypeRef::Func(i) = ty {
         tables.add_function(scopes, i)?;
@@ -48,39 +48,35 @@ fn read_import(
     Ok(Some(Import { name, url, ty }))
 }
 
-// The imports of a section, at least and at most so many, unless nothing can be imported.
-pub(super) fn read_imports(
-    alloc: Global,
-    config: &Config,
-    scopes: &Scopes,
-    totals: &mut TreeTotals,
-    tables: &mut Tables,
-    min: usize,
-    max: usize,
-    u: &mut Unstructured,
-) -> Result<Vec<Import>, Error>
-    requires consistent { IsConsistent config.now }
-    requires ordered { min ≤ max }
-    requires within { length tables.old.functions.items ≤ tables.old.counted + config.now.max_exports }
-    ensures reads { (stack : Open) (before : List NamedExtern)
-        → ImportsState stack before [] (own_scope scopes.now) totals.old tables.old
-        → IfOk result (λ v. Loop (NoImportValue config.now stack) (ReadsImportValue config.now stack before)
-        min max 0 [] u.old v.items u.new v.items) }
-    ensures counts { (stack : Open) (before : List NamedExtern)
-        → ImportsState stack before [] (own_scope scopes.now) totals.old tables.old
-        → IfOk result (λ v. ImportsState stack before v.items (own_scope scopes.now) totals.new tables.new) }
-    ensures memory { IfErr result (λ e. e ≡ Error.OutOfMemory) }
-    ensures tail { IsTail u.new u.old }
-{
-    let mut imports = Vec::new(alloc);
-    for done in 0..max {
-        if !u.more(done, min, max) {
-            return Ok(imports);
+impl Progress {
+    // The imports of a section, at least and at most so many, unless nothing can be imported.
+    pub(super) fn read_imports(
+        &mut self,
+        min: usize,
+        max: usize,
+        u: &mut Unstructured,
+    ) -> Result<Vec<Import>, Error>
+        requires sound { IsSound self.old }
+        requires ordered { min ≤ max }
+        ensures reads { IfOk result (λ v. Loop (NoImportValue self.old.config (stack_of self.old))
+            (ReadsImportValue self.old.config (stack_of self.old) (externs_of self.old.inner.sections.items))
+            min max 0 [] u.old v.items u.new v.items) }
+        ensures counts { IfOk result (λ v. Imported self.old v.items self.new) }
+        ensures memory { IfErr result (λ e. e ≡ Error.OutOfMemory) }
+        ensures tail { IsTail u.new u.old }
+    {
+        let totals = &mut self.totals;
+        let tables = &mut self.inner.tables;
+        let mut imports = Vec::new(self.alloc);
+        for done in 0..max {
+            if !u.more(done, min, max) {
+                return Ok(imports);
+            }
+            let Some(import) = read_import(&self.config, &self.scopes, totals, tables, u)? else {
+                return Ok(imports);
+            };
+            imports.push(import)?;
         }
-        let Some(import) = read_import(alloc, config, scopes, totals, tables, u)? else {
-            return Ok(imports);
-        };
-        imports.push(import)?;
+        Ok(imports)
     }
-    Ok(imports)
 }

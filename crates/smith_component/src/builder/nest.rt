@@ -2,11 +2,11 @@
 
 ghost use Rattle.std.specs.Prelude.{◌≡◌, ℕ, List, [], IfErr, IfOk, IsTrue, None, OnOk};
 ghost use Rattle.smith_component.specs.BuilderView.{stack_of, IsSound};
-ghost use Rattle.smith_component.specs.Limits.{Minima};
-ghost use Rattle.smith_component.specs.Open.{is_component_offered};
+ghost use Rattle.smith_tree.specs.Limits.{Minima};
+ghost use Rattle.smith_tree.specs.Open.{is_component_offered};
 ghost use Rattle.smith_component.specs.Refusals.{IsAnswered};
 ghost use Rattle.smith_component.specs.Steps.{ClosesInner, DoesItem};
-ghost use Rattle.smith_component.specs.declared.item.Item.TheVariants as item;
+ghost use Rattle.smith_tree.specs.declared.choices.Item.TheVariants as item;
 
 use crate::builder::Progress;
 use crate::builder::open::OpenComponent;

@@ -3,7 +3,7 @@
 ghost use Rattle.std.specs.Prelude.{◌≡◌, ◌∷◌, ◌++◌, [], OnOk};
 ghost use Rattle.smith_component.specs.Shown.{shown_section, shown_sections};
 ghost use Rattle.smith_component.specs.Tables.{IsTabled};
-ghost use Rattle.smith_component.specs.Tree.{add};
+ghost use Rattle.smith_tree.specs.Tree.{add};
 
 use crate::builder::tables::Tables;
 use crate::component::Section;

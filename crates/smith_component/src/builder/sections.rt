@@ -1,6 +1,6 @@
 //! Sections that are added to the inner component.
 
-ghost use Rattle.std.specs.Prelude.{◌≡◌, ℕ, ◌+◌, ◌≤◌, List, length, IfErr, IsTrue, None, OnOk};
+ghost use Rattle.std.specs.Prelude.{◌≡◌, ◌-◌, ◌≤◌, length, IfErr, IsTrue, None, OnOk};
 ghost use Rattle.smith_input.specs.Reading.{IsTail};
 ghost use Rattle.smith_core.specs.StandIn.{IsStandInRefusal};
 ghost use Rattle.smith_component.specs.Sound.{IsAddable, IsQuiet};
@@ -8,21 +8,16 @@ ghost use Rattle.smith_component.specs.BuilderView.{building_of, stack_of, IsSou
 ghost use Rattle.smith_component.specs.Shown.{shown_section};
 ghost use Rattle.smith_component.specs.Steps.{DoesItem, Grows, GrowsBy};
 ghost use Rattle.smith_component.specs.SectionValues.{AddsImportSection, AddsTypeSection};
-ghost use Rattle.smith_component.specs.Spaces.{types_of};
-ghost use Rattle.smith_component.specs.Tree.{imports_of, function_count};
-ghost use Rattle.smith_component.specs.AddedSections.{AddsCanons};
-ghost use Rattle.smith_component.specs.Open.{is_module_offered};
-ghost use Rattle.smith_component.specs.declared.item.Item.TheVariants as item;
+ghost use Rattle.smith_tree.specs.Spaces.{types_of};
+ghost use Rattle.smith_tree.specs.Tree.{imports_of};
+ghost use Rattle.smith_tree.specs.Open.{is_module_offered};
+ghost use Rattle.smith_tree.specs.declared.choices.Item.TheVariants as item;
 
 use crate::builder::Progress;
-use crate::builder::canonicals::read_canonicals;
-use crate::builder::entries::read_entries;
 use crate::builder::exports::read_exports;
-use crate::builder::imports::read_imports;
 use crate::component::{
     CoreTypeSection, CustomSection, ExportSection, ImportSection, Section, TypeSection,
 };
-use crate::item::Counted;
 use smith_core::Module;
 use smith_input::{Error, Unstructured};
 use smith_types::{CoreType, DefType};
@@ -77,15 +72,7 @@ impl Progress {
         ensures tail { IsTail u.new u.old }
     {
         let room = self.config.max_types - self.scopes.len_core(0);
-        let types = read_entries::<Rc<CoreType>>(
-            self.alloc,
-            &self.config,
-            &self.valtypes,
-            0,
-            room,
-            &mut self.scopes,
-            u,
-        )?;
+        let types = self.read_entries::<Rc<CoreType>>(0, room, u)?;
         self.inner
             .push(Section::CoreTypes(CoreTypeSection { types }))?;
         Ok(())
@@ -108,23 +95,15 @@ impl Progress {
     // A type section of at least so many types, and of at most as many as the component may still have.
     pub(super) fn add_types(&mut self, min: usize, u: &mut Unstructured) -> Result<(), Error>
         requires sound { IsSound self.old }
-        requires room { length (types_of (stack_of self.old).inner) + min ≤ self.old.config.max_types }
+        requires room { min ≤ self.old.config.max_types - length (types_of (stack_of self.old).inner) }
         ensures added { OnOk result
             (AddsTypeSection self.old.config min (building_of self.old) u.old (building_of self.new) u.new) }
         ensures grows { OnOk result (Grows self.old self.new) }
         ensures memory { IfErr result (λ e. e ≡ Error.OutOfMemory) }
         ensures tail { IsTail u.new u.old }
     {
-        let room = self.room(Counted::Types);
-        let types = read_entries::<Rc<DefType>>(
-            self.alloc,
-            &self.config,
-            &self.valtypes,
-            min,
-            room,
-            &mut self.scopes,
-            u,
-        )?;
+        let room = self.config.max_types - self.scopes.own_len();
+        let types = self.read_entries::<Rc<DefType>>(min, room, u)?;
         self.inner.push(Section::Types(TypeSection { types }))?;
         Ok(())
     }
@@ -133,50 +112,17 @@ impl Progress {
     // component may still have.
     pub(super) fn add_imports(&mut self, min: usize, u: &mut Unstructured) -> Result<(), Error>
         requires sound { IsSound self.old }
-        requires room { length (imports_of (stack_of self.old).inner) + min ≤ self.old.config.max_imports }
+        requires room { min ≤ self.old.config.max_imports - length (imports_of (stack_of self.old).inner) }
         ensures added { OnOk result
             (AddsImportSection self.old.config min (building_of self.old) u.old (building_of self.new) u.new) }
         ensures grows { OnOk result (Grows self.old self.new) }
         ensures memory { IfErr result (λ e. e ≡ Error.OutOfMemory) }
         ensures tail { IsTail u.new u.old }
     {
-        let room = self.room(Counted::Imports);
-        let imports = read_imports(
-            self.alloc,
-            &self.config,
-            &self.scopes,
-            &mut self.totals,
-            &mut self.inner.tables,
-            min,
-            room,
-            u,
-        )?;
+        let room = self.config.max_imports - self.inner.tables.imports.len();
+        let imports = self.read_imports(min, room, u)?;
         self.inner
             .push(Section::Imports(ImportSection { imports }))?;
-        Ok(())
-    }
-
-    // Canonical sections of at least so many turns, unless no function can be lowered or lifted, and of at most as many
-    // as the component may still have functions.
-    pub(super) fn add_canonicals(&mut self, min: usize, u: &mut Unstructured) -> Result<(), Error>
-        requires sound { IsSound self.old }
-        requires room { function_count (stack_of self.old).inner + min ≤ self.old.config.max_funcs }
-        ensures added { OnOk result
-            (AddsCanons self.old.config min (stack_of self.old) u.old (stack_of self.new).inner u.new) }
-        ensures grows { OnOk result (Grows self.old self.new) }
-        ensures memory { IfErr result (λ e. e ≡ Error.OutOfMemory) }
-        ensures tail { IsTail u.new u.old }
-    {
-        let room = self.room(Counted::Functions);
-        read_canonicals(
-            self.alloc,
-            &self.config,
-            &mut self.scopes,
-            &mut self.inner,
-            min,
-            room,
-            u,
-        )?;
         Ok(())
     }
 }

@@ -4,9 +4,9 @@ ghost use Rattle.std.specs.Prelude.{◌≡◌, ◌+◌, ◌<◌, [], length, OnO
 ghost use Rattle.smith_format.specs.Limits.{max_u32};
 ghost use Rattle.smith_types.specs.MakingTypes.{HoldsExterns};
 ghost use Rattle.smith_scopes.specs.Scopes.{own_scope};
-ghost use Rattle.smith_component.specs.Offers.{is_scalar_type};
+ghost use Rattle.smith_tree.specs.Offers.{is_scalar_type};
 ghost use Rattle.smith_component.specs.Tables.{Tabled, AddsFunction, AddsCoreFunction};
-ghost use Rattle.smith_component.specs.Tree.{ends};
+ghost use Rattle.smith_tree.specs.Tree.{ends};
 
 use smith_types::{DefType, ExternNames, Scopes};
 use std::alloc::{AllocError, Global};
@@ -17,6 +17,7 @@ use std::collections::BTreeSet;
 // names of the imports, and those of the exports.
 #[derive(Drop)]
 pub(super) struct Tables {
+    pub(super) alloc: Global,
     pub(super) functions: Vec<u32>,
     pub(super) core_functions: Vec<u32>,
     pub(super) scalars: Vec<u32>,
@@ -42,6 +43,7 @@ impl Tables {
         ensures imports { HoldsExterns result.imports [] }
     {
         Tables {
+            alloc,
             functions: Vec::new(alloc),
             core_functions: Vec::new(alloc),
             scalars: Vec::new(alloc),

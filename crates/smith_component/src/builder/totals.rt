@@ -1,7 +1,7 @@
 //! Running totals of the whole tree.
 
 ghost use Rattle.std.specs.Prelude.{◌≡◌, ◌+◌, ◌<◌, ◌^◌, length};
-ghost use Rattle.smith_component.specs.Tree.{module_of, component_of, instance_of};
+ghost use Rattle.smith_tree.specs.Tree.{module_of, component_of, instance_of};
 
 use smith_types::{ComponentTypeRef, RefTotals};
 

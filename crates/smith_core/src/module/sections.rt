@@ -65,7 +65,7 @@ impl SectionKind {
 
 impl ModuleParts {
     // Whether a section is written.
-    pub(super) fn writes(&self, kind: SectionKind) -> bool
+    pub(super) fn has_section(&self, kind: SectionKind) -> bool
         ensures { result ≡ is_written self.now kind }
     {
         match kind {

@@ -77,7 +77,7 @@ fn groups_of_one(alloc: Global, types: &[SubType]) -> Result<Vec<(usize, usize)>
 impl Module {
     /// The module that stands for a generated one: at most 20 final function types, each in a group by itself, and as
     /// many memories as the limits allow, all defined. It refuses with `ModuleRefused` exactly where `min_memories`
-    /// passes `max_memories`, before it reads, and else for want of memory alone.
+    /// exceeds `max_memories`, before it reads, and else for want of memory alone.
     pub fn new_internal(
         alloc: Global,
         config: Config,

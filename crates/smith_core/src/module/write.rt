@@ -12,12 +12,11 @@ use crate::module::encode::{
 };
 use crate::module::parts::ModuleParts;
 use crate::module::sections::{BINARY_ORDER, SectionKind};
+use crate::preamble::CORE_PREAMBLE;
 use smith_format::{
     count_len, many_len, put_many, u32_len, write_bytes, write_count, write_head, write_u32,
 };
 use smith_input::Error;
-
-const PREAMBLE: [u8; 8] = [0x00, 0x61, 0x73, 0x6d, 0x01, 0x00, 0x00, 0x00];
 
 // The last so many.
 fn last_of<T>(items: &[T], count: usize) -> &[T]
@@ -103,7 +102,7 @@ impl ModuleParts {
         requires { Agree self.now }
         ensures { Puts result out.old out.new (section self.now kind) }
     {
-        if !self.writes(kind) {
+        if !self.has_section(kind) {
             return Ok(());
         }
         let Some(length) = self.contents_len(kind) else {
@@ -118,7 +117,7 @@ impl ModuleParts {
         ensures length { Measures result (section self.now kind) }
         ensures most { IfOk result (λ n. n < 2 ^ 34) }
     {
-        if !self.writes(kind) {
+        if !self.has_section(kind) {
             return Ok(0);
         }
         let Some(length) = self.contents_len(kind) else {
@@ -132,7 +131,7 @@ impl ModuleParts {
         requires { Agree self.now }
         ensures { Puts result out.old out.new (module_text self.now) }
     {
-        write_bytes(out, &PREAMBLE)?;
+        write_bytes(out, &CORE_PREAMBLE)?;
         for kind in &BINARY_ORDER {
             self.put_section(out, *kind)?;
         }

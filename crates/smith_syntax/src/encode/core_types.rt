@@ -102,7 +102,7 @@ impl Spelled<ComponentFormat> for CoreType {
     }
 }
 
-/// Appends a core type. It is too long where a length or a count in it passes 4,294,967,295.
+/// Appends a core type. It is too long where a length or a count in it exceeds 4,294,967,295.
 pub fn write_core_type(out: &mut Vec<u8>, ty: &CoreType) -> Result<(), Error>
     ensures { Appends result out.old out.new (core_entry (shown_core ty.now)) }
 {

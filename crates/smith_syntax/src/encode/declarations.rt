@@ -9,9 +9,8 @@ ghost use Rattle.smith_syntax.specs.Shown.{shown_type, shown_core, shown_alias};
 ghost use Rattle.smith_syntax.specs.Shown.{shown_component_decl, shown_instance_decl};
 
 use super::core_types::{core_type_len, write_core_type};
-use super::defined::{defined_len, put_defined};
 use super::externs::{named_len, put_named};
-use super::{function_len, put_function};
+use super::{put_type, type_len};
 use crate::core_types::CoreType;
 use crate::deftype::{
     Alias, ComponentTypeDef, ComponentTypeRef, DefType, InstanceTypeDecl, OuterAliasKind,
@@ -84,24 +83,6 @@ fn extern_len(name: &str, to: ComponentTypeRef) -> Option<u32>
 }
 
 #[cycle(writers)]
-pub(super) fn put_type(out: &mut Vec<u8>, ty: &DefType) -> Result<(), Error>
-    ensures { Puts result out.old out.new (entry (shown_type ty.now)) }
-{
-    match ty {
-        DefType::Defined(ty) => put_defined(out, ty),
-        DefType::Func(ty) => put_function(out, ty),
-        DefType::Component(ty) => {
-            write_byte(out, 0x41)?;
-            put_component_decls(out, &ty.defs)
-        }
-        DefType::Instance(ty) => {
-            write_byte(out, 0x42)?;
-            put_instance_decls(out, &ty.defs)
-        }
-    }
-}
-
-#[cycle(writers)]
 fn put_type_decl(out: &mut Vec<u8>, ty: &DefType) -> Result<(), Error>
     ensures { Puts result out.old out.new (byte 0x01 ⊕ entry (shown_type ty.now)) }
 {
@@ -135,7 +116,10 @@ fn put_instance_decl(out: &mut Vec<u8>, declared: &InstanceTypeDecl) -> Result<(
 }
 
 #[cycle(writers)]
-fn put_component_decls(out: &mut Vec<u8>, decls: &[ComponentTypeDef]) -> Result<(), Error>
+pub(super) fn put_component_decls(
+    out: &mut Vec<u8>,
+    decls: &[ComponentTypeDef],
+) -> Result<(), Error>
     ensures { Puts result out.old out.new (many (λ d. decl true (shown_component_decl d)) decls.now) }
 {
     write_count(out, decls.len())?;
@@ -146,7 +130,7 @@ fn put_component_decls(out: &mut Vec<u8>, decls: &[ComponentTypeDef]) -> Result<
 }
 
 #[cycle(writers)]
-fn put_instance_decls(out: &mut Vec<u8>, decls: &[InstanceTypeDecl]) -> Result<(), Error>
+pub(super) fn put_instance_decls(out: &mut Vec<u8>, decls: &[InstanceTypeDecl]) -> Result<(), Error>
     ensures { Puts result out.old out.new (many (λ d. decl false (shown_instance_decl d)) decls.now) }
 {
     write_count(out, decls.len())?;
@@ -154,19 +138,6 @@ fn put_instance_decls(out: &mut Vec<u8>, decls: &[InstanceTypeDecl]) -> Result<(
         put_instance_decl(out, declared)?;
     }
     Ok(())
-}
-
-/// The length of a type's encoding; None exactly where it has none of at most 4,294,967,295 bytes.
-#[cycle(lengths)]
-pub fn type_len(ty: &DefType) -> Option<u32>
-    ensures { IsLengthOf result (entry (shown_type ty.now)) }
-{
-    match ty {
-        DefType::Defined(ty) => defined_len(ty),
-        DefType::Func(ty) => function_len(ty),
-        DefType::Component(ty) => component_decls_len(&ty.defs)?.checked_add(1),
-        DefType::Instance(ty) => instance_decls_len(&ty.defs)?.checked_add(1),
-    }
 }
 
 #[cycle(lengths)]
@@ -202,7 +173,7 @@ fn instance_decl_len(declared: &InstanceTypeDecl) -> Option<u32>
 }
 
 #[cycle(lengths)]
-fn component_decls_len(decls: &[ComponentTypeDef]) -> Option<u32>
+pub(super) fn component_decls_len(decls: &[ComponentTypeDef]) -> Option<u32>
     ensures { IsLengthOf result (many (λ d. decl true (shown_component_decl d)) decls.now) }
 {
     let mut total: u32 = 0;
@@ -213,7 +184,7 @@ fn component_decls_len(decls: &[ComponentTypeDef]) -> Option<u32>
 }
 
 #[cycle(lengths)]
-fn instance_decls_len(decls: &[InstanceTypeDecl]) -> Option<u32>
+pub(super) fn instance_decls_len(decls: &[InstanceTypeDecl]) -> Option<u32>
     ensures { IsLengthOf result (many (λ d. decl false (shown_instance_decl d)) decls.now) }
 {
     let mut total: u32 = 0;

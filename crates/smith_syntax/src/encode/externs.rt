@@ -81,7 +81,7 @@ impl Spelled<ComponentFormat> for Import {
     }
 }
 
-/// Appends an import, without its URL. It is too long where the length of its name passes 4,294,967,295.
+/// Appends an import, without its URL. It is too long where the length of its name exceeds 4,294,967,295.
 pub fn write_import(out: &mut Vec<u8>, import: &Import) -> Result<(), Error>
     ensures { Appends result out.old out.new (import_entry (import_shown import.now)) }
 {

@@ -7,31 +7,23 @@ ghost use Rattle.smith_input.specs.Reading.{IsTail};
 ghost use Rattle.smith_syntax.specs.Shown.{full_alias, full_instance_decl};
 ghost use Rattle.smith_syntax.specs.WellFormed.{export_of, import_of, FormedRef};
 ghost use Rattle.smith_types.specs.Declarations.{NamedExtern, ReadsAlias, ReadsExportDecl};
-ghost use Rattle.smith_types.specs.Offers.{declaration_items, has_reference, occupied};
+ghost use Rattle.smith_tree.specs.TypeOffers.{declaration_items, has_reference, occupied};
 ghost use Rattle.smith_types.specs.MakingTypes.{Declares, HasTarget, HoldsExterns, IsNameless};
 ghost use Rattle.smith_types.specs.MakingTypes.{MadeItem, MaybeImport, SameOuter};
 ghost use Rattle.smith_types.specs.MakingTypes.{imported_by, shown_import_decl, with_aliased, with_exported};
 ghost use Rattle.smith_scopes.specs.Scopes.{inward, own_scope, outer_scopes};
-ghost use Rattle.smith_types.specs.declared.make.declarations.DeclarationItem.TheVariants as item;
+ghost use Rattle.smith_tree.specs.declared.choices.DeclarationItem.TheVariants as item;
 
 use super::externs::{ExternNames, named_extern};
 use super::making::Making;
-use super::references::{RefTotals, arbitrary_type_ref};
+use super::references::arbitrary_type_ref;
 use smith_core_types::arbitrary_core_type;
 use smith_format::Config;
 use smith_input::{Error, Unstructured, choose_offered};
 use smith_scopes::{Kind, Scopes};
 use smith_syntax::{Alias, ComponentTypeRef, Import, InstanceTypeDecl, OuterAliasKind};
+use smith_tree::{DeclarationItem, RefTotals};
 use std::alloc::Global;
-
-/// What a declaration of a component type or an instance type is among. Public since contracts speak of it.
-#[derive(Debug, Clone, Copy, PartialEq, Eq)]
-pub enum DeclarationItem {
-    Export,
-    Alias,
-    CoreType,
-    Type,
-}
 
 // Nothing is counted within types.
 const UNCOUNTED: RefTotals = RefTotals {

@@ -18,33 +18,8 @@ use smith_syntax::{
     ComponentValType, DefinedType, EnumType, FlagsType, ListType, OptionType, PrimitiveValType,
     RecordType, ResultType, TupleType, VariantType,
 };
+use smith_tree::{DefinedKind, defined_kinds};
 use std::alloc::Global;
-
-/// What a choice of a defined type is among. Public since contracts speak of it.
-#[derive(Debug, Clone, Copy, PartialEq, Eq)]
-pub enum DefinedKind {
-    Primitive,
-    Record,
-    Variant,
-    List,
-    Tuple,
-    Flags,
-    Enum,
-    Option,
-    Result,
-}
-
-static DEFINED_KINDS: [DefinedKind; 9] = [
-    DefinedKind::Primitive,
-    DefinedKind::Record,
-    DefinedKind::Variant,
-    DefinedKind::List,
-    DefinedKind::Tuple,
-    DefinedKind::Flags,
-    DefinedKind::Enum,
-    DefinedKind::Option,
-    DefinedKind::Result,
-];
 
 // What a type becomes that would have no member.
 fn bool_type() -> DefinedType
@@ -156,6 +131,6 @@ pub(super) fn defined_type(
     ensures memory { IfErr result (λ e. e ≡ Error.OutOfMemory) }
     ensures tail { IsTail u.new u.old }
 {
-    let kind = *u.choose(&DEFINED_KINDS);
+    let kind = *u.choose(defined_kinds());
     type_of_kind(alloc, u, scopes, fuel, kind)
 }

@@ -7,7 +7,7 @@ ghost use Rattle.smith_types.specs.Declarations.{NamedExtern, ReadsMaybeUrl, Rea
 ghost use Rattle.smith_types.specs.MakingTypes.{HoldsExterns};
 ghost use Rattle.smith_input.specs.Names.{Holds};
 
-use smith_input::{Error, Unstructured, unique_kebab_string, unique_url};
+use smith_input::{Error, MAX_NAME_LEN, Unstructured, unique_kebab_string, unique_url};
 use std::alloc::Global;
 use std::collections::BTreeSet;
 
@@ -55,7 +55,7 @@ fn maybe_url(
     if !u.arbitrary_bool() {
         return Ok(None);
     }
-    let url = unique_url(alloc, 100, urls, u)?;
+    let url = unique_url(alloc, MAX_NAME_LEN, urls, u)?;
     Ok(Some(url))
 }
 
@@ -76,7 +76,7 @@ pub fn named_extern(
     ensures memory { IfErr result (λ e. e ≡ Error.OutOfMemory) }
     ensures tail { IsTail u.new u.old }
 {
-    let name = unique_kebab_string(alloc, 100, &mut externs.names, u)?;
+    let name = unique_kebab_string(alloc, MAX_NAME_LEN, &mut externs.names, u)?;
     match maybe_url(alloc, u, &mut externs.urls) {
         Ok(url) => Ok((name, url)),
         Err(refused) => {

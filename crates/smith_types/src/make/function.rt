@@ -7,7 +7,7 @@ ghost use Rattle.smith_scopes.specs.Scopes.{own_scope};
 
 use super::members::members;
 use super::values::value_type;
-use smith_core_types::burn;
+use smith_format::burn;
 use smith_input::{Error, Unstructured};
 use smith_scopes::Scopes;
 use smith_syntax::{ComponentValType, FuncType};

@@ -10,17 +10,16 @@ ghost use Rattle.smith_types.specs.Made.{MadeDeclaration};
 ghost use Rattle.smith_types.specs.MakingTypes.{Declares, HasAtMost, HasTarget, HoldsExterns, IsNameless};
 ghost use Rattle.smith_types.specs.MakingTypes.{MadeItem, SameOuter};
 ghost use Rattle.smith_scopes.specs.Scopes.{own_scope, outer_scopes};
-ghost use Rattle.smith_types.specs.declared.make.declarations.DeclarationItem.TheVariants as item;
+ghost use Rattle.smith_tree.specs.declared.choices.DeclarationItem.TheVariants as item;
 
-use super::declarations::{
-    DeclarationItem, core_type_decl, declaration_item, export, import, outer_alias,
-};
+use super::declarations::{core_type_decl, declaration_item, export, import, outer_alias};
 use super::externs::ExternNames;
 use super::kinds::made_type;
 use super::making::Making;
 use smith_input::{Error, Unstructured};
 use smith_scopes::Scopes;
 use smith_syntax::{ComponentTypeDef, InstanceTypeDecl};
+use smith_tree::DeclarationItem;
 
 // A type, with what is left of the fuel.
 #[cycle(making)]

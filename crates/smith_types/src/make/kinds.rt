@@ -7,19 +7,19 @@ ghost use Rattle.smith_input.specs.Reading.{IsTail};
 ghost use Rattle.smith_syntax.specs.Shown.{full_type};
 ghost use Rattle.smith_types.specs.Made.{Made};
 ghost use Rattle.smith_types.specs.MakingTypes.{MadeKind};
-ghost use Rattle.smith_types.specs.Offers.{type_kinds};
+ghost use Rattle.smith_tree.specs.TypeOffers.{type_kinds};
 ghost use Rattle.smith_scopes.specs.Scopes.{own_scope, outer_scopes};
-ghost use Rattle.smith_types.specs.declared.make.TypeKind.TheVariants as kind;
+ghost use Rattle.smith_tree.specs.declared.choices.TypeKind.TheVariants as kind;
 
 use super::defined::defined_type;
 use super::function::function_type;
 use super::making::Making;
-use super::scoped::{component_type, instance_type};
-use super::{TYPE_KINDS, TypeKind};
-use smith_core_types::burn;
+use super::scoped::scoped_type;
+use smith_format::burn;
 use smith_input::{Error, Unstructured};
 use smith_scopes::Scopes;
 use smith_syntax::DefType;
+use smith_tree::{TypeKind, type_kinds};
 use std::rc::Rc;
 
 // What kind of type is read: a defined type where no fuel is left, else one of four.
@@ -31,7 +31,7 @@ fn type_kind(u: &mut Unstructured, fuel: u32) -> TypeKind
     if fuel == 0 {
         return TypeKind::Defined;
     }
-    *u.choose(&TYPE_KINDS)
+    *u.choose(type_kinds())
 }
 
 // A type of one kind.
@@ -56,8 +56,8 @@ fn type_of(
             let func = function_type(making.alloc, u, scopes, fuel)?;
             Ok(DefType::Func(Rc::new(making.alloc, func)?))
         }
-        TypeKind::Component => component_type(making, u, scopes, fuel),
-        TypeKind::Instance => instance_type(making, u, scopes, fuel),
+        TypeKind::Component => scoped_type(making, u, scopes, fuel, true),
+        TypeKind::Instance => scoped_type(making, u, scopes, fuel, false),
     }
 }
 

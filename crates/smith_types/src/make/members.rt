@@ -11,8 +11,8 @@ ghost use Rattle.smith_syntax.specs.Signature.{named};
 ghost use Rattle.smith_syntax.specs.declared.types.ComponentValType.{ComponentValType as Val};
 
 use super::values::{maybe_value_type, value_type};
-use smith_core_types::burn;
-use smith_input::{Error, Unstructured, new_kebab_string};
+use smith_format::burn;
+use smith_input::{Error, MAX_NAME_LEN, Unstructured, new_kebab_string};
 use smith_scopes::Scopes;
 use smith_syntax::ComponentValType;
 use std::alloc::Global;
@@ -98,7 +98,7 @@ impl Member for String {
         _scopes: &Scopes,
         so_far: &[String],
     ) -> Result<String, Error> {
-        new_kebab_string(alloc, 100, &so_far, u)
+        new_kebab_string(alloc, MAX_NAME_LEN, &so_far, u)
     }
 }
 
@@ -115,7 +115,7 @@ impl Member for (String, ComponentValType) {
         scopes: &Scopes,
         so_far: &[(String, ComponentValType)],
     ) -> Result<(String, ComponentValType), Error> {
-        let name = new_kebab_string(alloc, 100, &so_far, u)?;
+        let name = new_kebab_string(alloc, MAX_NAME_LEN, &so_far, u)?;
         Ok((name, value_type(u, scopes)))
     }
 }
@@ -133,7 +133,7 @@ impl Member for (String, Option<ComponentValType>) {
         scopes: &Scopes,
         so_far: &[(String, Option<ComponentValType>)],
     ) -> Result<(String, Option<ComponentValType>), Error> {
-        let name = new_kebab_string(alloc, 100, &so_far, u)?;
+        let name = new_kebab_string(alloc, MAX_NAME_LEN, &so_far, u)?;
         Ok((name, maybe_value_type(u, scopes)))
     }
 }

@@ -6,35 +6,16 @@ ghost use Rattle.smith_input.specs.Choices.{ReadsAmong};
 ghost use Rattle.smith_input.specs.Reading.{IsTail};
 ghost use Rattle.smith_format.specs.Limits.{max_u32};
 ghost use Rattle.smith_syntax.specs.WellFormed.{FormedRef};
-ghost use Rattle.smith_types.specs.Offers.{IsAllowed, allows_equal, allows_one, has_place, ref_kinds, ref_places};
+ghost use Rattle.smith_tree.specs.TypeOffers.{IsAllowed, allows_equal, allows_one, has_place, ref_kinds, ref_places};
 ghost use Rattle.smith_types.specs.References.{MaybeRef, ref_to};
-ghost use Rattle.smith_types.specs.Script.{script_ref};
+ghost use Rattle.smith_tree.specs.TypeScript.{script_ref};
 ghost use Rattle.smith_scopes.specs.Scopes.{own_scope};
 
 use smith_format::Config;
 use smith_input::{Unstructured, choose_offered};
 use smith_scopes::{Kind, Scopes};
 use smith_syntax::ComponentTypeRef;
-
-/// What a reference is among. Public since contracts speak of it.
-#[derive(Debug, Clone, Copy, PartialEq, Eq)]
-pub enum RefKind {
-    Module,
-    TypeEq,
-    Func,
-    Component,
-    Instance,
-}
-
-/// How many there are so far: of modules, components and instances in the whole tree, and of functions in one
-/// component, its component functions and its core functions together.
-#[derive(Debug, Clone, Copy, PartialEq, Eq, Hash)]
-pub struct RefTotals {
-    pub modules: usize,
-    pub funcs: usize,
-    pub components: usize,
-    pub instances: usize,
-}
+use smith_tree::{RefKind, RefTotals};
 
 // How many entries of a kind there are.
 fn place_count(scopes: &Scopes, kind: RefKind) -> usize

@@ -1,24 +1,25 @@
 //! Types of components and of instances, from the input.
 
 ghost use Rattle.std.specs.Prelude.{◌≡◌, ◌+◌, ◌≤◌, [], ◌∷◌, ◌++◌, true, false};
-ghost use Rattle.std.specs.Prelude.{length, map, IfOk, IfErr, OnOk, OnErr};
+ghost use Rattle.std.specs.Prelude.{length, IfOk, IfErr, OnOk, OnErr};
 ghost use Rattle.smith_input.specs.Reading.{IsTail};
 ghost use Rattle.smith_syntax.specs.Entries.{in_order};
-ghost use Rattle.smith_syntax.specs.Shown.{full_component_decl, full_instance_decl, full_type};
+ghost use Rattle.smith_syntax.specs.Shown.{full_type};
 ghost use Rattle.smith_syntax.specs.Scope.{empty_scope};
-ghost use Rattle.smith_types.specs.Declarations.{nothing_so_far};
+ghost use Rattle.smith_types.specs.Declarations.{SoFar, nothing_so_far};
 ghost use Rattle.smith_types.specs.Made.{MadeDeclarations};
-ghost use Rattle.smith_types.specs.MakingTypes.{MadeKind, SameOuter};
+ghost use Rattle.smith_types.specs.MakingTypes.{AddsDeclaration, HasAtMost, HoldsNames};
+ghost use Rattle.smith_types.specs.MakingTypes.{MadeScoped, SameOuter, declaring, defs_in, is_importing};
 ghost use Rattle.smith_scopes.specs.Scopes.{own_scope, outer_scopes};
-ghost use Rattle.smith_types.specs.declared.make.TypeKind.TheVariants as kind;
 
 use super::externs::ExternNames;
 use super::items::{component_declaration, declaration};
 use super::making::Making;
-use smith_core_types::burn;
+use smith_format::burn;
 use smith_input::{Error, Unstructured};
 use smith_scopes::Scopes;
 use smith_syntax::{ComponentType, ComponentTypeDef, DefType, InstanceType, InstanceTypeDecl};
+use std::alloc::Global;
 use std::rc::Rc;
 
 // An empty scope is opened in the last one.
@@ -34,111 +35,142 @@ fn open_inner(scopes: &mut Scopes) -> Result<(), Error>
     scopes.open_scope()
 }
 
-// The declarations of a component type, whose scope is the last one and empty.
+// What a component type or an instance type declares so far, in order. An instance type imports nothing.
+#[derive(Drop)]
+enum TypeBody {
+    Component {
+        imports: ExternNames,
+        exports: ExternNames,
+        defs: Vec<ComponentTypeDef>,
+    },
+    Instance {
+        exports: ExternNames,
+        defs: Vec<InstanceTypeDecl>,
+    },
+}
+
+impl TypeBody {
+    // What a component type (true) or an instance type (false) declares before its first declaration.
+    fn new(alloc: Global, importing: bool) -> TypeBody
+        ensures importing { is_importing result ≡ importing }
+        ensures names { HoldsNames result nothing_so_far }
+        ensures defs { defs_in result ≡ [] }
+    {
+        let exports = ExternNames::new(alloc);
+        if importing {
+            let imports = ExternNames::new(alloc);
+            let defs = Vec::new(alloc);
+            return TypeBody::Component {
+                imports,
+                exports,
+                defs,
+            };
+        }
+        let defs = Vec::new(alloc);
+        TypeBody::Instance { exports, defs }
+    }
+
+    // The type that declares them.
+    fn finish(self, alloc: Global) -> Result<DefType, Error>
+        ensures finished { IfOk result (λ t. full_type t ≡ declaring (is_importing self) (in_order (defs_in self))) }
+        ensures memory { IfErr result (λ e. e ≡ Error.OutOfMemory) }
+    {
+        match self {
+            TypeBody::Component { defs, .. } => {
+                Ok(DefType::Component(Rc::new(alloc, ComponentType { defs })?))
+            }
+            TypeBody::Instance { defs, .. } => {
+                Ok(DefType::Instance(Rc::new(alloc, InstanceType { defs })?))
+            }
+        }
+    }
+}
+
+// One more declaration, in the last scope.
 #[cycle(making)]
-fn component_declarations(
+fn declare(
     making: &Making,
     u: &mut Unstructured,
     scopes: &mut Scopes,
     fuel: &mut u32,
-) -> Result<Vec<ComponentTypeDef>, Error>
+    declared: &mut TypeBody,
+) -> Result<(), Error>
     requires shallow { length scopes.old ≤ 1002 }
-    requires fresh { own_scope scopes.old ≡ empty_scope }
-    ensures made { IfOk result (λ defs. MadeDeclarations making.now.config.now true (outer_scopes scopes.old) 0
-        nothing_so_far u.old fuel.old (in_order (map full_component_decl defs.items)) u.new fuel.new) }
+    requires few { HasAtMost 100 (own_scope scopes.old) }
+    ensures made { (so_far : SoFar) → own_scope scopes.old ≡ so_far.own → HoldsNames declared.old so_far
+        → OnOk result (AddsDeclaration making.now.config.now scopes.old scopes.new so_far declared.old declared.new
+        u.old fuel.old u.new fuel.new) }
     ensures outer { SameOuter scopes.old scopes.new }
     ensures memory { IfErr result (λ e. e ≡ Error.OutOfMemory) }
     ensures tail { IsTail u.new u.old }
 {
-    let mut imports = ExternNames::new(making.alloc);
-    let mut exports = ExternNames::new(making.alloc);
-    let mut defs = Vec::new(making.alloc);
-    for done in 0..100 {
-        if !u.more(done, 0, 100) {
-            return Ok(defs);
+    match declared {
+        TypeBody::Component {
+            imports,
+            exports,
+            defs,
+        } => {
+            let def = component_declaration(making, u, scopes, fuel, imports, exports)?;
+            defs.push(def)?;
         }
-        burn(fuel);
-        if *fuel == 0 {
-            return Ok(defs);
+        TypeBody::Instance { exports, defs } => {
+            let decl = declaration(making, u, scopes, fuel, exports)?;
+            defs.push(decl)?;
         }
-        let def = component_declaration(making, u, scopes, fuel, &mut imports, &mut exports)?;
-        defs.push(def)?;
     }
-    Ok(defs)
+    Ok(())
 }
 
-// The declarations of an instance type, whose scope is the last one and empty.
+// The declarations of a component type (true) or of an instance type (false), whose scope is the last one and empty.
 #[cycle(making)]
-fn instance_declarations(
+fn declarations(
     making: &Making,
     u: &mut Unstructured,
     scopes: &mut Scopes,
     fuel: &mut u32,
-) -> Result<Vec<InstanceTypeDecl>, Error>
+    importing: bool,
+) -> Result<TypeBody, Error>
     requires shallow { length scopes.old ≤ 1002 }
     requires fresh { own_scope scopes.old ≡ empty_scope }
-    ensures made { IfOk result (λ defs. MadeDeclarations making.now.config.now false (outer_scopes scopes.old) 0
-        nothing_so_far u.old fuel.old (in_order (map full_instance_decl defs.items)) u.new fuel.new) }
+    ensures made { IfOk result (λ d. MadeDeclarations making.now.config.now importing (outer_scopes scopes.old)
+        0 nothing_so_far u.old fuel.old (in_order (defs_in d)) u.new fuel.new) }
+    ensures importing { IfOk result (λ d. is_importing d ≡ importing) }
     ensures outer { SameOuter scopes.old scopes.new }
     ensures memory { IfErr result (λ e. e ≡ Error.OutOfMemory) }
     ensures tail { IsTail u.new u.old }
 {
-    let mut exports = ExternNames::new(making.alloc);
-    let mut defs = Vec::new(making.alloc);
+    let mut declared = TypeBody::new(making.alloc, importing);
     for done in 0..100 {
         if !u.more(done, 0, 100) {
-            return Ok(defs);
+            return Ok(declared);
         }
         burn(fuel);
         if *fuel == 0 {
-            return Ok(defs);
+            return Ok(declared);
         }
-        let decl = declaration(making, u, scopes, fuel, &mut exports)?;
-        defs.push(decl)?;
+        declare(making, u, scopes, fuel, &mut declared)?;
     }
-    Ok(defs)
+    Ok(declared)
 }
 
-// The type of a component. Its scope is closed again, whatever comes.
+// The type of a component (true) or of an instance (false). Its scope is closed again, after a refusal too.
 #[cycle(making)]
-pub(super) fn component_type(
+pub(super) fn scoped_type(
     making: &Making,
     u: &mut Unstructured,
     scopes: &mut Scopes,
     fuel: &mut u32,
+    importing: bool,
 ) -> Result<DefType, Error>
     requires shallow { length scopes.old ≤ 1001 }
-    ensures made { IfOk result (λ t. MadeKind making.now.config.now (own_scope scopes.old) (outer_scopes scopes.old)
-        kind.Component u.old fuel.old (full_type t) u.new fuel.new) }
+    ensures made { IfOk result (λ t. MadeScoped making.now.config.now (own_scope scopes.old) (outer_scopes scopes.old)
+        importing u.old fuel.old (full_type t) u.new fuel.new) }
     ensures scopes { scopes.new ≡ scopes.old }
     ensures memory { IfErr result (λ e. e ≡ Error.OutOfMemory) }
     ensures tail { IsTail u.new u.old }
 {
     open_inner(scopes)?;
-    let made = component_declarations(making, u, scopes, fuel);
+    let made = declarations(making, u, scopes, fuel, importing);
     scopes.close_scope();
-    let defs = made?;
-    Ok(DefType::Component(Rc::new(making.alloc, ComponentType { defs })?))
-}
-
-// The type of an instance. Its scope is closed again, whatever comes.
-#[cycle(making)]
-pub(super) fn instance_type(
-    making: &Making,
-    u: &mut Unstructured,
-    scopes: &mut Scopes,
-    fuel: &mut u32,
-) -> Result<DefType, Error>
-    requires shallow { length scopes.old ≤ 1001 }
-    ensures made { IfOk result (λ t. MadeKind making.now.config.now (own_scope scopes.old) (outer_scopes scopes.old)
-        kind.Instance u.old fuel.old (full_type t) u.new fuel.new) }
-    ensures scopes { scopes.new ≡ scopes.old }
-    ensures memory { IfErr result (λ e. e ≡ Error.OutOfMemory) }
-    ensures tail { IsTail u.new u.old }
-{
-    open_inner(scopes)?;
-    let made = instance_declarations(making, u, scopes, fuel);
-    scopes.close_scope();
-    let defs = made?;
-    Ok(DefType::Instance(Rc::new(making.alloc, InstanceType { defs })?))
+    made?.finish(making.alloc)
 }

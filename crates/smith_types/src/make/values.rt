@@ -3,36 +3,21 @@
 ghost use Rattle.std.specs.Prelude.{◌≡◌};
 ghost use Rattle.smith_input.specs.Reading.{IsTail};
 ghost use Rattle.smith_input.specs.Choices.{ReadsAmong};
-ghost use Rattle.smith_types.specs.Offers.{primitives};
+ghost use Rattle.smith_tree.specs.TypeOffers.{primitives};
 ghost use Rattle.smith_types.specs.Made.{ReadsVal, ReadsMaybe};
 ghost use Rattle.smith_scopes.specs.Scopes.{own_scope};
 
 use smith_input::Unstructured;
 use smith_scopes::{Kind, Scopes};
 use smith_syntax::{ComponentValType, PrimitiveValType};
-
-static PRIMITIVES: [PrimitiveValType; 13] = [
-    PrimitiveValType::Bool,
-    PrimitiveValType::S8,
-    PrimitiveValType::U8,
-    PrimitiveValType::S16,
-    PrimitiveValType::U16,
-    PrimitiveValType::S32,
-    PrimitiveValType::U32,
-    PrimitiveValType::S64,
-    PrimitiveValType::U64,
-    PrimitiveValType::F32,
-    PrimitiveValType::F64,
-    PrimitiveValType::Char,
-    PrimitiveValType::String,
-];
+use smith_tree::primitives;
 
 // A primitive value type, by a choice among the thirteen.
 pub(super) fn primitive_type(u: &mut Unstructured) -> PrimitiveValType
     ensures reads { ReadsAmong primitives u.old result u.new }
     ensures tail { IsTail u.new u.old }
 {
-    *u.choose(&PRIMITIVES)
+    *u.choose(primitives())
 }
 
 // A value type: primitive, or one of the defined types of the last scope.

@@ -3,8 +3,8 @@ use Rattle.std.proofs.lemmas.Result.{err_from_is_err_and}
 use Rattle.smith_format.specs.declared.config.Config.{Config}
 use Rattle.smith_format.specs.Limits.{IsConsistent}
 use Rattle.smith_input.specs.declared.error.Error.TheVariants.{OutOfMemory}
-use Rattle.smith_component.specs.Script.{Within, script}
-use Rattle.smith_component.specs.Tree.{Tree}
+use Rattle.smith_tree.specs.Script.{Within, script}
+use Rattle.smith_tree.specs.Tree.{Tree}
 use Rattle.smith_c.specs.declared.status.Status.{Status}
 use Rattle.smith_c.specs.declared.status.Status.TheVariants.{Refused}
 use Rattle.smith_c.proofs.Once.{limits_once}

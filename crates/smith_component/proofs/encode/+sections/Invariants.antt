@@ -1,5 +1,5 @@
 use Rattle.smith_format.proofs.Many.{Put}
-use Rattle.smith_component.specs.Grammar.{part}
+use Rattle.smith_tree.specs.Grammar.{part}
 use Rattle.smith_component.specs.Shown.{shown_section}
 use Rattle.smith_component.proofs.encode.+sections.Given as goal
 

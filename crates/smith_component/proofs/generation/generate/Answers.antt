@@ -6,6 +6,20 @@ use Rattle.smith_component.proofs.Refusals.{refused_accepted}
 use Rattle.smith_component.proofs.Plans.{plan_lacks_none, plan_refuses_no_module}
 use Rattle.smith_component.proofs.generation.generate.Goals as goal
 
+pub returns-clause-generated : goal.returns-clause-generated
+returns-clause-generated c =
+    let made = c.in_ok-component.ensures.made in
+    record { reading = c.in_ok-bytes.ensures.reading; formed = made.formed; limits = made.limits; sizes = made.sizes }
+
+pub returns-clause-run : goal.returns-clause-run
+returns-clause-run c = c.in_ok-component.ensures.made.run
+
+pub returns-clause-accepts : goal.returns-clause-accepts
+returns-clause-accepts c = c.in_ok-component.ensures.accepts
+
+pub returns-clause-unread : goal.returns-clause-unread
+returns-clause-unread c = c.new.ensures.unread
+
 pub returns-clause-reach : goal.returns-clause-reach
 returns-clause-reach c plan rest w e =
     let r = c.in_ok-component.ensures.reach plan rest w e in

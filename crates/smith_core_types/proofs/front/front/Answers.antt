@@ -1,7 +1,7 @@
 use Rattle.std.proofs.Common.{ap, map, refl, subst, sym, [], ◌≡◌, ◌∙◌}
 use Rattle.smith_format.specs.Shown.{shown_func}
 use Rattle.smith_core_types.specs.MadeCore.{MemoryLine, ReadsLine}
-use Rattle.smith_core_types.specs.Offers.{Declared as SoFar}
+use Rattle.smith_tree.specs.CoreTypeOffers.{Declared as SoFar}
 use Rattle.smith_core_types.specs.MakingCore.{KeepEach, own_after, shown_funcs, so_far}
 use Rattle.smith_syntax.specs.Shown.{shown_decl}
 use Rattle.std.specs.Prelude.{nat_lt}

@@ -1,6 +1,6 @@
 use Rattle.std.proofs.Common.{◌-◌, ◌++◌, []}
-use Rattle.smith_core_types.specs.Needs.{core_cost}
-use Rattle.smith_core_types.specs.Script.{script_core}
+use Rattle.smith_tree.specs.CoreTypeNeeds.{core_cost}
+use Rattle.smith_tree.specs.CoreTypeScript.{script_core}
 use Rattle.smith_core_types.proofs.CoreScript.{core_read}
 use Rattle.smith_core_types.proofs.MadeCore.{made_core_formed, made_core_limits}
 use Rattle.smith_core_types.proofs.Needs.{core_needed}

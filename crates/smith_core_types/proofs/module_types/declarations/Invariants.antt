@@ -2,7 +2,7 @@ use Rattle.std.proofs.Common.{◌≤◌, ◌+◌, List, length}
 use Rattle.smith_input.specs.Reading.{IsTail}
 use Rattle.smith_input.proofs.Loops.{Onward}
 use Rattle.smith_syntax.specs.Entries.{ModuleDecl}
-use Rattle.smith_core_types.specs.MadeCore.{ModuleEnds, ReadsDecl}
+use Rattle.smith_core_types.specs.MadeCore.{EndsModuleType, ReadsDecl}
 use Rattle.smith_core_types.specs.MakingCore.{KeepsDeclared, so_far}
 use Rattle.smith_syntax.specs.Scope.{own_of}
 use Rattle.smith_scopes.specs.Scopes.{inward}
@@ -17,6 +17,6 @@ invariant-loop-done l =
       few : length l.declared.own.items ≤ 2 + l.done;
       kept : KeepsDeclared around.core_types l.fn.declared → KeepsDeclared around.core_types l.declared;
       read : List ModuleDecl;
-      onward : Onward (ModuleEnds l.making.config.now around) (ReadsDecl l.making.config.now around) 0 100 (so_far l.fn.declared l.fn.fuel) l.fn.u read l.done
+      onward : Onward (EndsModuleType l.making.config.now around) (ReadsDecl l.making.config.now around) 0 100 (so_far l.fn.declared l.fn.fuel) l.fn.u read l.done
           (so_far l.declared l.fuel) l.u;
     }

@@ -4,14 +4,17 @@ use Rattle.smith_read.specs.PartNodes.{shown_part_node}
 use Rattle.smith_read.proofs.Depth.{with_parts}
 use Rattle.smith_read.proofs.parts.+reading.Given as goal
 
-abbrev pub decreases-component_of : goal.decreases-component_of
-decreases-component_of l = 3 * l.depth
+abbrev pub decreases-sections_of : goal.decreases-sections_of
+decreases-sections_of l = 4 * l.depth
+
+abbrev pub decreases-section_of : goal.decreases-section_of
+decreases-section_of l = 4 * l.depth + 1
 
 abbrev pub decreases-part_of : goal.decreases-part_of
-decreases-part_of l = 3 * l.depth + 1
+decreases-part_of l = 4 * l.depth + 2
 
 abbrev pub decreases-parts_of : goal.decreases-parts_of
-decreases-parts_of l = 3 * l.depth + 2
+decreases-parts_of l = 4 * l.depth + 3
 
 abbrev pub invariant-parts_of-loop : goal.invariant-parts_of-loop
 invariant-parts_of-loop l =

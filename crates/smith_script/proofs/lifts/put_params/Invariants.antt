@@ -1,6 +1,6 @@
 use Rattle.std.proofs.Common.{drop, map}
 use Rattle.smith_syntax.specs.Signature.{named}
-use Rattle.smith_types.specs.Script.{script_params}
+use Rattle.smith_tree.specs.TypeScript.{script_params}
 use Rattle.smith_script_core.proofs.Saying.{Towards}
 use Rattle.smith_script.proofs.lifts.put_params.Given as goal
 

@@ -2,18 +2,18 @@ use Rattle.std.proofs.Common.{◌≡◌, drop, fold, map}
 use Rattle.smith_input.specs.Script.{script_loop}
 use Rattle.smith_script_core.proofs.Saying.{Towards}
 use Rattle.smith_script.specs.Saying.{outer_in, rows_say}
-use Rattle.smith_script.specs.Standing.{standing}
+use Rattle.smith_script.specs.Preceding.{preceding}
 use Rattle.smith_script.proofs.rows.put_rows.Given as goal
 
 abbrev pub invariant-loop-row : goal.invariant-loop-row
 invariant-loop-row g l = record {
   counted : l.done ≡ l.row-index;
   said : Towards l.initial.out l.out (
-      rows_say (g.T.Row.says l.around.config.now (outer_in l.around)) g.T.Row.after l.max (standing l.initial.here) (map g.T.Row.shown l.rows)
+      rows_say (g.T.Row.says l.around.config.now (outer_in l.around)) g.T.Row.after l.max (preceding l.initial.here) (map g.T.Row.shown l.rows)
       ) (
-      script_loop (g.T.Row.says l.around.config.now (outer_in l.around)) g.T.Row.after 0 l.max l.done (standing l.here)
+      script_loop (g.T.Row.says l.around.config.now (outer_in l.around)) g.T.Row.after 0 l.max l.done (preceding l.here)
       (map g.T.Row.shown (drop l.row-index l.rows))
       );
-  added : fold g.T.Row.after (standing l.here) (map g.T.Row.shown (drop l.row-index l.rows))
-      ≡ fold g.T.Row.after (standing l.initial.here) (map g.T.Row.shown l.rows);
+  added : fold g.T.Row.after (preceding l.here) (map g.T.Row.shown (drop l.row-index l.rows))
+      ≡ fold g.T.Row.after (preceding l.initial.here) (map g.T.Row.shown l.rows);
 }

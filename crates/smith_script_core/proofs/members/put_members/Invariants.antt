@@ -1,6 +1,6 @@
 use Rattle.std.proofs.Common.{◌+◌, drop}
 use Rattle.smith_input.specs.Script.{script_loop}
-use Rattle.smith_types.specs.Script.{script_members}
+use Rattle.smith_tree.specs.TypeScript.{script_members}
 use Rattle.smith_script_core.proofs.Saying.{Towards}
 use Rattle.smith_script_core.proofs.members.put_members.Given as goal
 

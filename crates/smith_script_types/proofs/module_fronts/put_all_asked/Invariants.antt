@@ -2,7 +2,7 @@ use Rattle.std.proofs.Common.{drop, map}
 use Rattle.std.specs.List.{flat_map}
 use Rattle.smith_syntax.specs.ModuleTypes.{entities_of}
 use Rattle.smith_read_types.specs.Nodes.{shown_module_node}
-use Rattle.smith_core_types.specs.ModuleScript.{script_asked}
+use Rattle.smith_tree.specs.ModuleScript.{script_asked}
 use Rattle.smith_script_core.proofs.Saying.{Towards}
 use Rattle.smith_script_types.proofs.module_fronts.put_all_asked.Given as goal
 

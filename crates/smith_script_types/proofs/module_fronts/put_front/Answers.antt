@@ -1,7 +1,7 @@
 use Rattle.std.proofs.Common.{◌≡◌, ap, map, ◌∙◌}
 use Rattle.smith_syntax.specs.ModuleTypes.{after_front, after_memory, after_realloc}
 use Rattle.smith_read_types.specs.Nodes.{shown_module_node}
-use Rattle.smith_core_types.specs.ModuleScript.{front_before, may_declare}
+use Rattle.smith_tree.specs.ModuleScript.{front_before, may_declare}
 use Rattle.smith_script_core.proofs.Saying.{ends, gives_up, unsaid_left, unsaid_right}
 use Rattle.smith_script_types.proofs.module_fronts.put_front.Goals as goal
 

@@ -2,8 +2,8 @@ use Rattle.std.proofs.Common.{◌≤◌, ◌-◌, drop, map}
 use Rattle.std.specs.Prelude.{take}
 use Rattle.smith_input.specs.Script.{script_loop}
 use Rattle.smith_read_types.specs.Nodes.{shown_module_node}
-use Rattle.smith_core_types.specs.ModuleScript.{script_decl}
-use Rattle.smith_core_types.specs.Offers.{with_decl}
+use Rattle.smith_tree.specs.ModuleScript.{script_decl}
+use Rattle.smith_tree.specs.CoreTypeOffers.{with_decl}
 use Rattle.smith_script_core.proofs.Saying.{Towards}
 use Rattle.smith_script_types.specs.Modules.{script_behind, with_sorts}
 use Rattle.smith_script_types.specs.Places.{own_at}

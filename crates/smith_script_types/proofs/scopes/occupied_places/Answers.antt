@@ -1,5 +1,5 @@
 use Rattle.std.proofs.Common.{refl, sym}
-use Rattle.smith_types.specs.Offers.{is_occupied}
+use Rattle.smith_tree.specs.TypeOffers.{is_occupied}
 use Rattle.smith_script_types.proofs.Placing.{places_map}
 use Rattle.smith_script_types.specs.Scopes.{shown_scope}
 use Rattle.smith_script_types.proofs.scopes.occupied_places.Goals as goal

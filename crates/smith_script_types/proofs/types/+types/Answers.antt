@@ -1,6 +1,6 @@
 use Rattle.std.proofs.Common.{◌≡◌, ◌+◌, ◌∷◌, [], refl, ◌∙◌, ap, map, length, arith}
 use Rattle.smith_read_types.specs.TypeNodes.{shown_decl_node}
-use Rattle.smith_types.specs.Script.{after_taken}
+use Rattle.smith_tree.specs.TypeScript.{after_taken}
 use Rattle.smith_script_core.proofs.Saying.{gives_up, memory_unsaid, towards_end, towards_exit, towards_step}
 use Rattle.smith_script_types.proofs.Declaring.{decls_at, decls_over, decls_step}
 use Rattle.smith_script_types.specs.Places.{outer_at, own_at}

@@ -2,7 +2,7 @@ use Rattle.std.proofs.Common.{◌∷◌, ◌≤◌, drop, map}
 use Rattle.smith_syntax.specs.Entries.{in_order}
 use Rattle.smith_syntax.specs.Scope.{empty_scope}
 use Rattle.smith_read_types.specs.TypeNodes.{shown_decl_node}
-use Rattle.smith_types.specs.Script.{none_taken, script_decls}
+use Rattle.smith_tree.specs.TypeScript.{none_taken, script_decls}
 use Rattle.smith_script_core.proofs.Saying.{Towards}
 use Rattle.smith_script_types.specs.Places.{outer_at, own_at}
 use Rattle.smith_script_types.specs.Scopes.{shown_scope}

@@ -1,6 +1,6 @@
 use Rattle.std.specs.Prelude.{string_bytes}
 use Rattle.smith_syntax.specs.Signature.{named}
-use Rattle.smith_types.specs.Script.{script_case, script_field, script_label}
+use Rattle.smith_tree.specs.TypeScript.{script_case, script_field, script_label}
 use Rattle.smith_script_types.proofs.Turns.{members_map}
 use Rattle.smith_script_types.specs.Places.{own_at}
 use Rattle.smith_script_types.proofs.values.put_defined.Goals as goal

@@ -1,21 +1,22 @@
-use Rattle.std.proofs.Common.{List, [], ◌∷◌, map, refl, sym, ap, ◌∙◌, subst, arith, true, false, append-nil, length}
-use Rattle.std.proofs.lemmas.Bool.{false≢true}
-use Rattle.std.proofs.lemmas.List.{map-append}
+use Rattle.std.proofs.Common.{refl, sym, ap, ◌∙◌, subst, arith, true, false, append-nil, length}
 use Rattle.std.proofs.lemmas.Result.{IfOk-weaker}
 use Rattle.smith_input.proofs.Reading.{tail_trans, more_tail}
-use Rattle.smith_syntax.specs.Entries.{FullDecl, in_order, component_type, instance_type}
-use Rattle.smith_syntax.specs.Scope.{Scope, after_decl, with_type}
-use Rattle.smith_syntax.specs.Shown.{full_component_decl, full_instance_decl, full_type, shown_type}
+use Rattle.smith_syntax.specs.Entries.{FullDecl}
+use Rattle.smith_syntax.specs.Scope.{after_decl, with_type}
+use Rattle.smith_syntax.specs.Shown.{full_type, shown_type}
 use Rattle.smith_syntax.specs.WellFormed.{import_of}
 use Rattle.smith_syntax.specs.declared.deftype.DefType.{DefType}
-use Rattle.smith_syntax.proofs.Shown.{component_import, full_component, full_instance, instance_type_decl}
-use Rattle.smith_types.specs.Declarations.{in_instance, nothing_so_far}
-use Rattle.smith_types.specs.Made.{Made, MadeDeclaration, MadeDeclarations, made_import}
+use Rattle.smith_syntax.proofs.Shown.{component_import, instance_type_decl}
+use Rattle.smith_types.specs.Declarations.{in_instance}
+use Rattle.smith_types.specs.Made.{Made, MadeDeclaration, made_import}
 use Rattle.smith_scopes.specs.Scopes.{own_scope, outer_scopes}
-use Rattle.smith_types.proofs.Declaring.{declares, same_refl, same_trans, closed_again}
+use Rattle.smith_types.specs.MakingTypes.{AddsDeclaration, HoldsNames}
+use Rattle.smith_types.specs.declared.make.scoped.TypeBody.{TypeBody}
+use Rattle.smith_types.specs.declared.make.scoped.TypeBody.TheVariants.{Component, Instance}
+use Rattle.smith_types.proofs.Declaring.{declares, same_trans, closed_again}
 use Rattle.smith_types.proofs.MadeTypes.{declaration_size}
 use Rattle.smith_types.proofs.MakingTypes.{item_made, type_made, names_stay}
-use Rattle.smith_types.proofs.Progressing.{begins, stops, spends, is_full, goes_on}
+use Rattle.smith_types.proofs.Progressing.{adds_to_component, adds_to_instance, stops, spends, is_full, goes_on}
 use Rattle.smith_scopes.proofs.Stack.{length-last, grown}
 use Rattle.smith_types.proofs.make.+making.Goals as goal
 
@@ -30,135 +31,6 @@ pub items::component_declaration-returns-clause-imports : goal.items::component_
 items::component_declaration-returns-clause-imports t c = λ imported held.
     let none = rw c.in_default.is at (c.in_ok-import.ensures.names imported held) in
     names_stay c.import.new.imports imported _ (ap import_of c.from.ensures.shown ∙ c.in_ok-decl.ensures.no_import) (rw (append-nil imported) at none)
-
-pub scoped::component_declarations-loop-done-init : goal.scoped::component_declarations-loop-done-init
-scoped::component_declarations-loop-done-init t c = record {
-  progress = begins c.args.scopes.now c.new-imports.result c.new-exports.result _ refl c.requires.fresh c.new-imports.ensures c.new-exports.ensures
-      (ap (map full_component_decl) c.new-defs.ensures.items);
-  outer = same_refl c.args.scopes.now;
-  fuel = omega arith;
-  tail = (0, refl);
-}
-
-pub scoped::component_declarations-returns-then-not-more-clause-made : goal.scoped::component_declarations-returns-then-not-more-clause-made
-scoped::component_declarations-returns-then-not-more-clause-made t c = stops c.loop-done.invariant.progress _ c.more.result c.more.ensures c.if-not-more.true
-
-pub scoped::component_declarations-returns-then-fuel-eq0-clause-made : goal.scoped::component_declarations-returns-then-fuel-eq0-clause-made
-scoped::component_declarations-returns-then-fuel-eq0-clause-made t c =
-    spends c.loop-done.invariant.progress _ c.more.result c.burn.new.fuel c.more.ensures c.if-not-more.false c.burn.ensures c.if-fuel-eq0.true
-
-pub scoped::component_declarations-returns-in_err-def-clause-tail : goal.scoped::component_declarations-returns-in_err-def-clause-tail
-scoped::component_declarations-returns-in_err-def-clause-tail t c = tail_trans c.in_err-def.ensures.tail
-    (tail_trans (more_tail c.more.ensures) c.loop-done.invariant.tail)
-
-pub scoped::component_declarations-returns-in_err-push-clause-tail : goal.scoped::component_declarations-returns-in_err-push-clause-tail
-scoped::component_declarations-returns-in_err-push-clause-tail t c =
-    tail_trans c.in_ok-def.ensures.tail (tail_trans (more_tail c.more.ensures) c.loop-done.invariant.tail)
-
-pub scoped::component_declarations-loop-done-preserved : goal.scoped::component_declarations-loop-done-preserved
-scoped::component_declarations-loop-done-preserved t c =
-    let p = c.loop-done.invariant.progress in
-    let made = c.in_ok-def.ensures.made p.so_far.imports p.so_far.exports (p.imports_are refl) p.exports_are in
-    let size = declaration_size _ _ _ _ _ _ _ _ _ made in
-    record {
-      progress = goes_on p _ _ c.more.result c.burn.new.fuel _ _ c.component_declaration.new.scopes c.component_declaration.new.imports
-          c.component_declaration.new.exports _ c.more.ensures c.if-not-more.false c.burn.ensures (omega (arith, c.if-fuel-eq0.false)) made
-          c.in_ok-def.ensures.declares (λ _. c.in_ok-def.ensures.imports p.so_far.imports (p.imports_are refl))
-          (c.in_ok-def.ensures.exports p.so_far.exports p.exports_are)
-          (ap (map full_component_decl) c.in_ok-push.ensures.items ∙ map-append full_component_decl c.loop-done.defs.items (c.in_ok-def.def ∷ []));
-      outer = same_trans c.loop-done.invariant.outer c.in_ok-def.ensures.outer;
-      fuel = omega (arith, size, c.burn.ensures, c.loop-done.invariant.fuel);
-      tail = tail_trans c.in_ok-def.ensures.tail (tail_trans (more_tail c.more.ensures) c.loop-done.invariant.tail);
-    }
-
-pub scoped::component_declarations-returns-clause-made : goal.scoped::component_declarations-returns-clause-made
-scoped::component_declarations-returns-clause-made t c = is_full c.loop-done.invariant.progress (omega (arith, c.loop-done-test.false))
-
-pub scoped::component_type-returns-in_err-defs-clause-scopes : goal.scoped::component_type-returns-in_err-defs-clause-scopes
-scoped::component_type-returns-in_err-defs-clause-scopes t c = closed_again c.args.scopes.now c.open_inner.new.scopes c.component_declarations-made.new.scopes
-    c.close_scope.new.self _ _ c.in_ok-open_inner.ensures.opened c.in_err-defs.ensures.outer c.close_scope.ensures
-
-pub scoped::component_type-returns-in_err-new-clause-scopes : goal.scoped::component_type-returns-in_err-new-clause-scopes
-scoped::component_type-returns-in_err-new-clause-scopes t c = closed_again c.args.scopes.now c.open_inner.new.scopes c.component_declarations-made.new.scopes
-    c.close_scope.new.self _ _ c.in_ok-open_inner.ensures.opened c.in_ok-defs.ensures.outer c.close_scope.ensures
-
-pub scoped::component_type-returns-clause-made : goal.scoped::component_type-returns-clause-made
-scoped::component_type-returns-clause-made t c =
-    let ds = in_order (map full_component_decl c.in_ok-defs.defs.items) in
-    let M : List Scope → Type 0 = λ ss. MadeDeclarations c.args.making.now.config.now true ss 0 nothing_so_far c.args.u.now c.args.fuel.now ds
-    c.component_declarations-made.new.u c.component_declarations-made.new.fuel in (
-      ds,
-      subst M c.in_ok-open_inner.ensures.around c.in_ok-defs.ensures.made,
-      full_component c.in_ok-new.field-0 ∙ ap (λ ty. component_type (in_order (map full_component_decl ty.defs.items))) c.in_ok-new.ensures.ok,
-    )
-
-pub scoped::component_type-returns-clause-scopes : goal.scoped::component_type-returns-clause-scopes
-scoped::component_type-returns-clause-scopes t c = closed_again c.args.scopes.now c.open_inner.new.scopes c.component_declarations-made.new.scopes
-    c.close_scope.new.self _ _ c.in_ok-open_inner.ensures.opened c.in_ok-defs.ensures.outer c.close_scope.ensures
-
-pub scoped::instance_declarations-loop-done-init : goal.scoped::instance_declarations-loop-done-init
-scoped::instance_declarations-loop-done-init t c = record {
-  progress = begins c.args.scopes.now c.new-exports.result c.new-exports.result _ refl c.requires.fresh c.new-exports.ensures c.new-exports.ensures
-      (ap (map full_instance_decl) c.new-defs.ensures.items);
-  outer = same_refl c.args.scopes.now;
-  fuel = omega arith;
-  tail = (0, refl);
-}
-
-pub scoped::instance_declarations-returns-then-not-more-clause-made : goal.scoped::instance_declarations-returns-then-not-more-clause-made
-scoped::instance_declarations-returns-then-not-more-clause-made t c = stops c.loop-done.invariant.progress _ c.more.result c.more.ensures c.if-not-more.true
-
-pub scoped::instance_declarations-returns-then-fuel-eq0-clause-made : goal.scoped::instance_declarations-returns-then-fuel-eq0-clause-made
-scoped::instance_declarations-returns-then-fuel-eq0-clause-made t c =
-    spends c.loop-done.invariant.progress _ c.more.result c.burn.new.fuel c.more.ensures c.if-not-more.false c.burn.ensures c.if-fuel-eq0.true
-
-pub scoped::instance_declarations-returns-in_err-decl-clause-tail : goal.scoped::instance_declarations-returns-in_err-decl-clause-tail
-scoped::instance_declarations-returns-in_err-decl-clause-tail t c = tail_trans c.in_err-decl.ensures.tail
-    (tail_trans (more_tail c.more.ensures) c.loop-done.invariant.tail)
-
-pub scoped::instance_declarations-returns-in_err-push-clause-tail : goal.scoped::instance_declarations-returns-in_err-push-clause-tail
-scoped::instance_declarations-returns-in_err-push-clause-tail t c = tail_trans c.in_ok-decl.ensures.tail
-    (tail_trans (more_tail c.more.ensures) c.loop-done.invariant.tail)
-
-pub scoped::instance_declarations-loop-done-preserved : goal.scoped::instance_declarations-loop-done-preserved
-scoped::instance_declarations-loop-done-preserved t c =
-    let p = c.loop-done.invariant.progress in
-    let made = c.in_ok-decl.ensures.made false p.so_far.exports p.so_far.imports _ p.exports_are (in_instance refl) in
-    let size = declaration_size _ _ _ _ _ _ _ _ _ made in
-    record {
-      progress = goes_on p _ _ c.more.result c.burn.new.fuel _ _ c.declaration.new.scopes c.declaration.new.exports c.declaration.new.exports _ c.more.ensures
-          c.if-not-more.false c.burn.ensures (omega (arith, c.if-fuel-eq0.false)) made c.in_ok-decl.ensures.declares (λ e. absurd (false≢true e))
-          (c.in_ok-decl.ensures.names p.so_far.exports p.exports_are)
-          (ap (map full_instance_decl) c.in_ok-push.ensures.items ∙ map-append full_instance_decl c.loop-done.defs.items (c.in_ok-decl.decl ∷ []));
-      outer = same_trans c.loop-done.invariant.outer c.in_ok-decl.ensures.outer;
-      fuel = omega (arith, size, c.burn.ensures, c.loop-done.invariant.fuel);
-      tail = tail_trans c.in_ok-decl.ensures.tail (tail_trans (more_tail c.more.ensures) c.loop-done.invariant.tail);
-    }
-
-pub scoped::instance_declarations-returns-clause-made : goal.scoped::instance_declarations-returns-clause-made
-scoped::instance_declarations-returns-clause-made t c = is_full c.loop-done.invariant.progress (omega (arith, c.loop-done-test.false))
-
-pub scoped::instance_type-returns-in_err-defs-clause-scopes : goal.scoped::instance_type-returns-in_err-defs-clause-scopes
-scoped::instance_type-returns-in_err-defs-clause-scopes t c = closed_again c.args.scopes.now c.open_inner.new.scopes c.instance_declarations-made.new.scopes
-    c.close_scope.new.self _ _ c.in_ok-open_inner.ensures.opened c.in_err-defs.ensures.outer c.close_scope.ensures
-
-pub scoped::instance_type-returns-in_err-new-clause-scopes : goal.scoped::instance_type-returns-in_err-new-clause-scopes
-scoped::instance_type-returns-in_err-new-clause-scopes t c = closed_again c.args.scopes.now c.open_inner.new.scopes c.instance_declarations-made.new.scopes
-    c.close_scope.new.self _ _ c.in_ok-open_inner.ensures.opened c.in_ok-defs.ensures.outer c.close_scope.ensures
-
-pub scoped::instance_type-returns-clause-made : goal.scoped::instance_type-returns-clause-made
-scoped::instance_type-returns-clause-made t c =
-    let ds = in_order (map full_instance_decl c.in_ok-defs.defs.items) in
-    let M : List Scope → Type 0 = λ ss. MadeDeclarations c.args.making.now.config.now false ss 0 nothing_so_far c.args.u.now c.args.fuel.now ds
-    c.instance_declarations-made.new.u c.instance_declarations-made.new.fuel in (
-      ds,
-      subst M c.in_ok-open_inner.ensures.around c.in_ok-defs.ensures.made,
-      full_instance c.in_ok-new.field-0 ∙ ap (λ ty. instance_type (in_order (map full_instance_decl ty.defs.items))) c.in_ok-new.ensures.ok,
-    )
-
-pub scoped::instance_type-returns-clause-scopes : goal.scoped::instance_type-returns-clause-scopes
-scoped::instance_type-returns-clause-scopes t c = closed_again c.args.scopes.now c.open_inner.new.scopes c.instance_declarations-made.new.scopes
-    c.close_scope.new.self _ _ c.in_ok-open_inner.ensures.opened c.in_ok-defs.ensures.outer c.close_scope.ensures
 
 pub items::declaration-returns-clause-made : goal.items::declaration-returns-clause-made
 items::declaration-returns-clause-made t c = λ importing so_far imports start held none.
@@ -217,3 +89,57 @@ items::type_decl-returns-clause-declares t c =
     ∙ (ap (λ ty. with_type (own_scope old) (shown_type ty)) c.in_ok-entry.ensures.cases
     ∙ ap (after_decl (outer_scopes old) (own_scope old)) (sym (instance_type_decl c.in_ok-ty.ty)))))
     (g.outer ∙ ap outer_scopes same)
+
+pub scoped::declarations-returns-then-not-more-clause-made : goal.scoped::declarations-returns-then-not-more-clause-made
+scoped::declarations-returns-then-not-more-clause-made t c = stops c.loop-done.invariant.progress _ c.more.result c.more.ensures c.if-not-more.true
+
+pub scoped::declarations-returns-then-fuel-eq0-clause-made : goal.scoped::declarations-returns-then-fuel-eq0-clause-made
+scoped::declarations-returns-then-fuel-eq0-clause-made t c =
+    spends c.loop-done.invariant.progress _ c.more.result c.burn.new.fuel c.more.ensures c.if-not-more.false c.burn.ensures c.if-fuel-eq0.true
+
+pub scoped::declarations-returns-in_err-declare-clause-tail : goal.scoped::declarations-returns-in_err-declare-clause-tail
+scoped::declarations-returns-in_err-declare-clause-tail t c = tail_trans c.declare.ensures.tail (tail_trans (more_tail c.more.ensures) c.loop-done.invariant.tail)
+
+pub scoped::declarations-loop-done-preserved : goal.scoped::declarations-loop-done-preserved
+scoped::declarations-loop-done-preserved t c =
+    let p = c.loop-done.invariant.progress in
+    let adds = c.in_ok-declare.ensures.made p.so_far p.own_is p.names in
+    let size = declaration_size _ _ _ _ _ _ _ _ _ adds.made in
+    record {
+      progress = goes_on p _ _ c.more.result c.burn.new.fuel _ _ _ c.more.ensures c.if-not-more.false c.burn.ensures (omega (arith, c.if-fuel-eq0.false)) adds;
+      outer = same_trans c.loop-done.invariant.outer c.in_ok-declare.ensures.outer;
+      fuel = omega (arith, size, c.burn.ensures, c.loop-done.invariant.fuel);
+      tail = tail_trans c.in_ok-declare.ensures.tail (tail_trans (more_tail c.more.ensures) c.loop-done.invariant.tail);
+    }
+
+pub scoped::declarations-returns-clause-made : goal.scoped::declarations-returns-clause-made
+scoped::declarations-returns-clause-made t c = is_full c.loop-done.invariant.progress (omega (arith, c.loop-done-test.false))
+
+pub scoped::declare-returns-in_ok-push-in-Component-clause-made : goal.scoped::declare-returns-in_ok-push-in-Component-clause-made
+scoped::declare-returns-in_ok-push-in-Component-clause-made t c = λ s own held.
+    let k = c.in_ok-def-in-Component.ensures {u = tt} in
+    let h = subst (λ (d : TypeBody). HoldsNames d s) c.in-Component.is held in
+    let P : TypeBody → Type 0 = λ d. AddsDeclaration c.args.making.now.config.now c.args.scopes.now c.component_declaration.new.scopes s d
+    (Component c.component_declaration.new.imports c.component_declaration.new.exports c.push.new.self) c.args.u.now c.args.fuel.now
+    c.component_declaration.new.u c.component_declaration.new.fuel in
+    subst P (sym c.in-Component.is)
+    (adds_to_component _ _ _ s _ _ _ _ c.in-Component.defs _ c.in_ok-def-in-Component.def _ _ _ _ own (k.made s.imports s.exports h.0 h.1) k.declares
+    (k.imports s.imports h.0) (k.exports s.exports h.1) (c.in_ok-push-in-Component.ensures {u = tt}).items)
+
+pub scoped::declare-returns-in_ok-push-in-Instance-clause-made : goal.scoped::declare-returns-in_ok-push-in-Instance-clause-made
+scoped::declare-returns-in_ok-push-in-Instance-clause-made t c = λ s own held.
+    let k = c.in_ok-decl-in-Instance.ensures {u = tt} in
+    let h = subst (λ (d : TypeBody). HoldsNames d s) c.in-Instance.is held in
+    let P : TypeBody → Type 0 = λ d. AddsDeclaration c.args.making.now.config.now c.args.scopes.now c.declaration.new.scopes s d
+    (Instance c.declaration.new.exports c.push-in-Instance.new.self) c.args.u.now c.args.fuel.now c.declaration.new.u c.declaration.new.fuel in
+    subst P (sym c.in-Instance.is)
+    (adds_to_instance _ _ _ s _ _ c.in-Instance.defs _ c.in_ok-decl-in-Instance.decl _ _ _ _ own (k.made false s.exports s.imports _ h (in_instance refl))
+    k.declares (k.names s.exports h) (c.in_ok-push-in-Instance.ensures {u = tt}).items)
+
+pub scoped::scoped_type-returns-in_err-made-clause-scopes : goal.scoped::scoped_type-returns-in_err-made-clause-scopes
+scoped::scoped_type-returns-in_err-made-clause-scopes t c = closed_again c.args.scopes.now c.open_inner.new.scopes c.declarations-made.new.scopes
+    c.close_scope.new.self _ _ c.in_ok-open_inner.ensures.opened c.declarations-made.ensures.outer c.close_scope.ensures
+
+pub scoped::scoped_type-returns-clause-scopes : goal.scoped::scoped_type-returns-clause-scopes
+scoped::scoped_type-returns-clause-scopes t c = closed_again c.args.scopes.now c.open_inner.new.scopes c.declarations-made.new.scopes
+    c.close_scope.new.self _ _ c.in_ok-open_inner.ensures.opened c.declarations-made.ensures.outer c.close_scope.ensures

@@ -31,18 +31,18 @@ put_part-returns-in-Imports t c = rw (c.in-Imports.is, part_imports _) (rw c.der
 pub put_part-returns-in-Exports : goal.put_part-returns-in-Exports
 put_part-returns-in-Exports t c = rw (c.in-Exports.is, part_exports _) (rw c.deref-in-Exports.ensures.value at c.put_list_section-in-Exports.ensures)
 
-pub component_of-loop-node-init : goal.component_of-loop-node-init
-component_of-loop-node-init t c = put_none _ _ _
+pub component_bytes-loop-node-init : goal.component_bytes-loop-node-init
+component_bytes-loop-node-init t c = put_none _ _ _
 
-pub component_of-returns-in_err-put_part : goal.component_of-returns-in_err-put_part
-component_of-returns-in_err-put_part t c =
+pub component_bytes-returns-in_err-put_part : goal.component_bytes-returns-in_err-put_part
+component_bytes-returns-in_err-put_part t c =
     rw text_shown
     (holds_not _ _ c.from_residual-in_err-put_part.ensures.1
     (given_right _ (each_given_up _ _ _ _ _ c.loop-node-test.true c.node-item.is (c.in_err-put_part.ensures {u = tt}))))
 
-pub component_of-loop-node-preserved : goal.component_of-loop-node-preserved
-component_of-loop-node-preserved t c = put_next _ _ _ _ _ _ _ c.loop-node.invariant c.loop-node-test.true c.node-item.is (c.in_ok-put_part.ensures {u = tt})
+pub component_bytes-loop-node-preserved : goal.component_bytes-loop-node-preserved
+component_bytes-loop-node-preserved t c = put_next _ _ _ _ _ _ _ c.loop-node.invariant c.loop-node-test.true c.node-item.is (c.in_ok-put_part.ensures {u = tt})
 
-pub component_of-returns : goal.component_of-returns
-component_of-returns t c =
+pub component_bytes-returns : goal.component_bytes-returns
+component_bytes-returns t c =
     text_shown _ ∙ whole c.new-contents.ensures.items (loop_done _ _ _ (c.in_ok-put_bytes.ensures {u = tt}) c.loop-node.invariant c.loop-node-test.false)

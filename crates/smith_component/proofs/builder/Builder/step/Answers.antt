@@ -1,12 +1,11 @@
 use Rattle.std.proofs.Common.{◌≡◌, sym, subst}
 use Rattle.smith_input.specs.declared.error.Error.TheVariants.{MinimumNotMet}
 use Rattle.smith_component.specs.Building.{Building, open_of}
-use Rattle.smith_component.specs.BuilderView.{stack_of}
+use Rattle.smith_component.specs.BuilderView.{building_of, stack_of}
 use Rattle.smith_component.specs.Filling.{CanFill}
 use Rattle.smith_component.specs.Refusals.{IsStepRefusal}
-use Rattle.smith_component.specs.Steps.{next_of, step_of, StaysSound}
+use Rattle.smith_component.specs.Steps.{next_of, step_of, IsStep}
 use Rattle.smith_component.specs.Turn.{Turn}
-use Rattle.smith_component.specs.declared.builder.Step.TheVariants.{Finished}
 use Rattle.smith_component.proofs.Finishing.{refused}
 use Rattle.smith_component.proofs.Refusals.{never_minimum}
 use Rattle.smith_component.proofs.RunsTo.{open_few}
@@ -27,14 +26,19 @@ returns-in_err-done-clause-fills c can =
     (never_minimum b.config (stack_of b) c.args.u.now i.0.sound.consistent i.1.0.tabled.grounded (subst C (sym c.self.view_is) can) _
     c.in_err-done.ensures.refuses)
 
+pub returns-in-None-clause-steps : goal.returns-in-None-clause-steps
+returns-in-None-clause-steps c =
+    let b = c.self.inside.progress in
+    rw (← c.self.view_is) (subst (λ d. IsStep (building_of b) c.args.u.now (step_of c.turn.new.self d) c.turn.new.u) c.in-None.is c.in_ok-done.ensures.steps)
+
+pub returns-in-Some-clause-steps : goal.returns-in-Some-clause-steps
+returns-in-Some-clause-steps c =
+    let b = c.self.inside.progress in
+    rw (← c.self.view_is) (subst (λ d. IsStep (building_of b) c.args.u.now (step_of c.turn.new.self d) c.turn.new.u) c.in-Some.is c.in_ok-done.ensures.steps)
+
 pub returns-in-None-clause-falls : goal.returns-in-None-clause-falls
 returns-in-None-clause-falls c =
     let b = c.self.inside.progress in
-    let turn = subst (λ d. Turn b.config (stack_of b) c.args.u.now (next_of (step_of c.turn.new.self d)) c.turn.new.u) c.in-None.is c.in_ok-done.ensures.turn in
+    let turn = subst (λ d. Turn b.config (stack_of b) c.args.u.now (next_of (step_of c.turn.new.self d)) c.turn.new.u) c.in-None.is
+    c.in_ok-done.ensures.steps.turn in
     rw (← c.self.view_is) (falls _ _ _ _ _ (open_few b.config (stack_of b) c.self.invariant.0.sound) turn)
-
-pub returns-in-Some-clause-keeps : goal.returns-in-Some-clause-keeps
-returns-in-Some-clause-keeps c =
-    let b = c.self.inside.progress in
-    let kept = subst (λ d. StaysSound b.config (step_of c.turn.new.self d)) c.in-Some.is c.in_ok-done.ensures.keeps in
-    subst (λ (v : Building). StaysSound v.config (Finished c.in-Some.component)) c.self.view_is kept

@@ -9,23 +9,22 @@ use Rattle.smith_scopes.specs.Scopes.{own_scope}
 use Rattle.smith_component.specs.BuilderView.{IsSound, stack_of}
 use Rattle.smith_component.specs.Exports.{NoExport, ReadsExport, ReadsExports}
 use Rattle.smith_component.specs.ExportsState.{ExportsState}
-use Rattle.smith_component.specs.Open.{Open, scopes_in, with_inner}
+use Rattle.smith_tree.specs.Open.{Open, with_inner}
 use Rattle.smith_component.specs.SectionValues.{externs_of}
 use Rattle.smith_component.specs.Shown.{shown_export, shown_sections}
 use Rattle.smith_component.specs.Sound.{Sound}
-use Rattle.smith_component.specs.Spaces.{spaces_of, types_of}
-use Rattle.smith_component.specs.Tables.{Tabled}
-use Rattle.smith_component.specs.Tree.{ExportEntry, Tree, exports, exports_in, exports_of}
-use Rattle.smith_component.specs.Offers.{with_exports}
-use Rattle.smith_component.specs.Steps.{Grows}
+use Rattle.smith_tree.specs.Spaces.{spaces_of, types_of}
+use Rattle.smith_component.specs.Tables.{IsTabled, Tabled}
+use Rattle.smith_tree.specs.Tree.{ExportEntry, Tree, exports, exports_in, exports_of}
+use Rattle.smith_tree.specs.Offers.{with_exports}
 use Rattle.smith_component.specs.declared.component.Section.{Section}
-use Rattle.smith_component.specs.WellFormed.{scope_of}
+use Rattle.smith_tree.specs.WellFormed.{scope_of}
 use Rattle.smith_component.specs.declared.builder.Progress.{Progress}
 use Rattle.smith_component.specs.declared.builder.tables.Tables.{Tables}
 use Rattle.smith_component.specs.declared.component.Section.TheVariants.{Exports}
-use Rattle.smith_component.specs.declared.item.Item.TheVariants as item
+use Rattle.smith_tree.specs.declared.choices.Item.TheVariants as item
 use Rattle.smith_component.proofs.Growth.{exports_keep, functions_counted, scope_bare, spaces-add}
-use Rattle.smith_component.proofs.Items.{grown_does, part_added}
+use Rattle.smith_component.proofs.Items.{grown_does, grows, part_added}
 use Rattle.smith_component.proofs.ReadsExports.{exports_addable}
 use Rattle.smith_component.proofs.SectionValues.{externs_push}
 use Rattle.smith_component.proofs.Sound.{own_limits_of, part_sound, totalled_part}
@@ -92,28 +91,17 @@ returns-clause-does c =
     subst (λ ns. HoldsExterns ns (externs_of b.inner.sections.items)) (sym c.in_ok-exports.ensures.imports) i.1.0.externs in
     let made : Progress = record b { inner = c.push.new.self } in
     let keep = exports_keep (spaces_of stack.inner) es in
-    let grows : Grows b made = record {
-      sound = (
-        record {
-          sound = subst (λ t. Sound b.config (with_inner stack t)) (sym new)
-              (part_sound b.config stack (exports es) (exports_addable b.config stack i.0.sound reads) i.0.sound);
-          valtypes_are = i.0.valtypes_are;
-          scopes_are = i.0.scopes_are ∙ ap (λ s. s ∷ scopes_in stack.outer) (sym (ap scope_of new ∙ scope_bare stack.inner (exports es) keep));
-          totalled = totalled_part b.config stack.outer stack.inner _ b.totals b.totals (exports es) refl new (omega arith) (omega arith) (omega arith)
-              i.0.totalled;
-        },
-        (
-          record {
-            tabled = subst (λ tb. Tabled tb (shown_sections c.push.new.self.sections.items)) (sym c.push.ensures.tables)
-                (subst (Tabled c.read_exports.new.tables) (sym new) after.tabled);
-            externs = subst (λ (tb : Tables). HoldsExterns tb.imports (externs_of c.push.new.self.sections.items)) (sym c.push.ensures.tables)
-                (subst (HoldsExterns c.read_exports.new.tables.imports) (sym same) held);
-          },
-          i.1.1,
-        ),
-      );
-      keeps = refl;
-      sections = record { more = section ∷ []; outer = refl; inner = c.in_ok-push.ensures.items };
+    let own = ap own_of i.0.scopes_are ∙ sym (ap scope_of new ∙ scope_bare stack.inner (exports es) keep) in
+    let sound = subst (λ t. Sound b.config (with_inner stack t)) (sym new)
+    (part_sound b.config stack (exports es) (exports_addable b.config stack i.0.sound reads) i.0.sound) in
+    let totalled = totalled_part b.config stack.outer stack.inner _ b.totals b.totals (exports es) refl new (omega arith) (omega arith) (omega arith)
+    i.0.totalled in
+    let tabled : IsTabled c.push.new.self = record {
+      tabled = subst (λ tb. Tabled tb (shown_sections c.push.new.self.sections.items)) (sym c.push.ensures.tables)
+          (subst (Tabled c.read_exports.new.tables) (sym new) after.tabled);
+      externs = subst (λ (tb : Tables). HoldsExterns tb.imports (externs_of c.push.new.self.sections.items)) (sym c.push.ensures.tables)
+          (subst (HoldsExterns c.read_exports.new.tables.imports) (sym same) held);
     } in
-    grown_does item.Exports b made c.args.u.now c.read_exports.new.u grows
-    (es, reads, part_added b made section (record { grows = grows; last = c.in_ok-push.ensures.items })) tt
+    let grown = grows b b.scopes b.totals c.push.new.self (section ∷ []) i c.in_ok-push.ensures.items sound own refl refl totalled tabled in
+    grown_does item.Exports b made c.args.u.now c.read_exports.new.u grown
+    (es, reads, part_added b made section (record { grows = grown; last = c.in_ok-push.ensures.items })) tt

@@ -1,7 +1,7 @@
 use Rattle.std.proofs.Common.{refl}
 use Rattle.smith_component.specs.BuilderView.{building_of, stack_of}
 use Rattle.smith_component.specs.declared.builder.Progress.{Progress}
-use Rattle.smith_component.specs.declared.item.Item.TheVariants.{Module}
+use Rattle.smith_tree.specs.declared.choices.Item.TheVariants.{Module}
 use Rattle.smith_component.proofs.Items.{grown_does, part_added}
 use Rattle.smith_component.proofs.Sound.{addable_module, module_offered_is}
 use Rattle.smith_component.proofs.builder.Progress.add_module.Goals as goal

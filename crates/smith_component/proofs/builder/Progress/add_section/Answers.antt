@@ -1,14 +1,16 @@
 use Rattle.std.proofs.Common.{[], ◌∷◌, sym, subst, ap, ◌∙◌, refl, arith, length}
+use Rattle.smith_syntax.specs.Scope.{own_of}
 use Rattle.smith_component.specs.BuilderView.{stack_of}
-use Rattle.smith_component.specs.Open.{scopes_in, with_inner}
+use Rattle.smith_tree.specs.Open.{with_inner}
 use Rattle.smith_component.specs.Shown.{shown_section}
 use Rattle.smith_component.specs.Sound.{Sound}
-use Rattle.smith_component.specs.Spaces.{spaces_of}
-use Rattle.smith_component.specs.WellFormed.{scope_of}
+use Rattle.smith_tree.specs.Spaces.{spaces_of}
+use Rattle.smith_tree.specs.WellFormed.{scope_of}
 use Rattle.smith_component.proofs.Growth.{scope-add, scope_at}
+use Rattle.smith_component.proofs.Items.{grows}
 use Rattle.smith_component.proofs.Sound.{part_sound, totalled_part}
 use Rattle.smith_component.proofs.SectionValues.{is_tabled_added}
-use Rattle.smith_component.proofs.Standing.{none_imported}
+use Rattle.smith_component.proofs.TracksStack.{none_imported}
 use Rattle.smith_component.proofs.builder.Progress.add_section.Goals as goal
 
 pub overflow_add-self : goal.overflow_add-self
@@ -32,27 +34,13 @@ returns c =
     let new = c.in_ok-push.ensures.ok in
     let same = q.spaces (spaces_of stack.inner) in
     let none = none_imported p q.imports in
+    let own = ap own_of i.0.scopes_are ∙ sym (ap scope_of new ∙ (scope-add stack.inner p ∙ ap scope_at same)) in
+    let sound = subst (λ t. Sound b.config (with_inner stack t)) (sym new) (part_sound b.config stack p a i.0.sound) in
+    let totalled = totalled_part b.config stack.outer stack.inner _ b.totals _ p a.no_component new
+    (omega (arith, c.module_count-modules.ensures, ap length none.0)) (omega (arith, ap length none.1)) (omega (arith, ap length none.2)) i.0.totalled in
+    let tabled = is_tabled_added b.inner c.push.new.self c.args.section c.in_ok-push.ensures.items c.push.ensures.tables (ap (λ s. s.functions) same)
+    (ap (λ s. s.core_functions) same) q.imports q.canons q.exports i.1.0 in
     record {
-      grows = record {
-        sound = (
-          record {
-            sound = subst (λ t. Sound b.config (with_inner stack t)) (sym new) (part_sound b.config stack p a i.0.sound);
-            valtypes_are = i.0.valtypes_are;
-            scopes_are = i.0.scopes_are ∙ ap (λ s. s ∷ scopes_in stack.outer) (sym (ap scope_of new ∙ (scope-add stack.inner p ∙ ap scope_at same)));
-            totalled =
-                totalled_part b.config stack.outer stack.inner _ b.totals _ p a.no_component new
-                (omega (arith, c.module_count-modules.ensures, ap length none.0))
-                (omega (arith, ap length none.1)) (omega (arith, ap length none.2))
-                i.0.totalled;
-          },
-          (
-            is_tabled_added b.inner c.push.new.self c.args.section c.in_ok-push.ensures.items c.push.ensures.tables (ap (λ s. s.functions) same)
-                (ap (λ s. s.core_functions) same) q.imports q.canons q.exports i.1.0,
-            i.1.1,
-          ),
-        );
-        keeps = refl;
-        sections = record { more = c.args.section ∷ []; outer = refl; inner = c.in_ok-push.ensures.items };
-      };
+      grows = grows b b.scopes _ c.push.new.self (c.args.section ∷ []) i c.in_ok-push.ensures.items sound own refl refl totalled tabled;
       last = c.in_ok-push.ensures.items;
     }

@@ -2,8 +2,8 @@ use Rattle.std.proofs.Common.{◌≡◌, ℕ, List, [], ◌∷◌, arith, refl}
 use Rattle.smith_input.specs.Choices.{ReadsAmong}
 use Rattle.smith_format.specs.declared.config.Config.{Config}
 use Rattle.smith_component.specs.BuilderView.{stack_of}
-use Rattle.smith_component.specs.Open.{Open, items}
-use Rattle.smith_component.specs.declared.item.Item.TheVariants.{Finish}
+use Rattle.smith_tree.specs.Open.{Open, items}
+use Rattle.smith_tree.specs.declared.choices.Item.TheVariants.{Finish}
 use Rattle.smith_component.proofs.builder.Progress.choose_item.Goals as goal
 
 -- Where no input is left, the finish is the only choice.

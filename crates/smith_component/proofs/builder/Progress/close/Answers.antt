@@ -4,12 +4,12 @@ use Rattle.std.specs.List.{AllByRecursion}
 use Rattle.smith_scopes.specs.Scopes.{last_of}
 use Rattle.smith_scopes.proofs.Stack.{length-inward, closed_scope}
 use Rattle.smith_component.specs.Tables.{IsTabled}
-use Rattle.smith_component.specs.Open.{scopes_in}
+use Rattle.smith_tree.specs.Open.{scopes_in}
 use Rattle.smith_component.specs.Shown.{shown_sections}
 use Rattle.smith_component.specs.Sound.{Sound}
 use Rattle.smith_component.specs.Turn.{answered}
-use Rattle.smith_component.specs.Tree.{Tree, add, component}
-use Rattle.smith_component.specs.WellFormed.{scope_of}
+use Rattle.smith_tree.specs.Tree.{Tree, add, component}
+use Rattle.smith_tree.specs.WellFormed.{scope_of}
 use Rattle.smith_component.specs.declared.builder.open.OpenComponent.{OpenComponent}
 use Rattle.smith_component.specs.declared.component.Section.{Section}
 use Rattle.smith_component.specs.declared.component.Section.TheVariants.{Component as inner_section}

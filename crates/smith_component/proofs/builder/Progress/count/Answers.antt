@@ -1,4 +1,5 @@
-use Rattle.std.proofs.Common.{sym, ap, ◌∙◌}
+use Rattle.std.proofs.Common.{length, sym, ap, ◌∙◌}
+use Rattle.smith_syntax.specs.Scope.{own_of}
 use Rattle.smith_component.specs.Counted.{count_of}
 use Rattle.smith_component.specs.SectionValues.{externs_of}
 use Rattle.smith_component.specs.Shown.{shown_sections}
@@ -11,3 +12,12 @@ returns-in-Imports c =
     let sections = c.args.self.now.inner.sections.items in
     let n = c.len.ensures (externs_of sections) c.requires.1.0.externs ∙ import_count sections in
     n ∙ sym (ap (λ (what : Counted). count_of what (shown_sections sections)) c.in-Imports.is)
+
+pub returns-in-Types : goal.returns-in-Types
+returns-in-Types c =
+    let n = c.own_len.ensures.count ∙ ap (λ ss. length (own_of ss).types) c.requires.0.scopes_are in
+    n ∙ sym (ap (λ (what : Counted). count_of what (shown_sections c.args.self.now.inner.sections.items)) c.in-Types.is)
+
+pub returns-in-Functions : goal.returns-in-Functions
+returns-in-Functions c =
+    c.requires.1.0.tabled.counts ∙ sym (ap (λ (what : Counted). count_of what (shown_sections c.args.self.now.inner.sections.items)) c.in-Functions.is)

@@ -3,15 +3,16 @@ use Rattle.std.proofs.lemmas.Result.{IfErr-weaker}
 use Rattle.std.specs.Prelude.{None}
 use Rattle.smith_input.specs.Choices.{ReadsAmong}
 use Rattle.smith_component.specs.BuilderView.{stack_of}
-use Rattle.smith_component.specs.Open.{items}
+use Rattle.smith_tree.specs.Open.{items}
 use Rattle.smith_component.specs.Steps.{DoesItem}
 use Rattle.smith_component.specs.declared.builder.Progress.{Progress}
-use Rattle.smith_component.specs.declared.item.Item.{Item}
+use Rattle.smith_tree.specs.declared.choices.Item.{Item}
+use Rattle.smith_component.proofs.Items.{canonicals_do, imports_do, types_do}
 use Rattle.smith_component.proofs.Refusals.{finish_refused}
 use Rattle.smith_component.proofs.builder.Progress.do_item.Goals as goal
 use Rattle.smith_component.proofs.builder.Progress.do_item.Goals.{in-Custom+in_ok-add_custom-in-Custom, in-CoreTypes+in_ok-add_core_types-in-CoreTypes}
-use Rattle.smith_component.proofs.builder.Progress.do_item.Goals.{in-Types+in_ok-section_turn-in-Types, in-Imports+in_ok-section_turn-in-Imports}
-use Rattle.smith_component.proofs.builder.Progress.do_item.Goals.{in-Canonical+in_ok-section_turn-in-Canonical, in-Module+in_ok-add_module-in-Module}
+use Rattle.smith_component.proofs.builder.Progress.do_item.Goals.{in-Types+in_ok-add_types-in-Types, in-Imports+in_ok-add_imports-in-Imports}
+use Rattle.smith_component.proofs.builder.Progress.do_item.Goals.{in-Canonical+in_ok-add_canonicals-in-Canonical, in-Module+in_ok-add_module-in-Module}
 use Rattle.smith_component.proofs.builder.Progress.do_item.Goals.{in-Component+in_ok-open_component-in-Component, in-Exports+in_ok-add_exports-in-Exports}
 
 pub returns-in-Finish-clause-refuses : goal.returns-in-Finish-clause-refuses
@@ -34,12 +35,18 @@ returns-clause-does c =
           done _ _ _ _ _ _ _ _ w.in-Custom.is w.self-is w.u-is w.in_ok-add_custom-in-Custom.ensures.does
       | in-CoreTypes+in_ok-add_core_types-in-CoreTypes w ↦
           done _ _ _ _ _ _ _ _ w.in-CoreTypes.is w.self-is w.u-is w.in_ok-add_core_types-in-CoreTypes.ensures.does
-      | in-Types+in_ok-section_turn-in-Types w ↦
-          done _ _ _ _ _ _ _ _ w.in-Types.is w.self-is w.u-is w.in_ok-section_turn-in-Types.ensures.does
-      | in-Imports+in_ok-section_turn-in-Imports w ↦
-          done _ _ _ _ _ _ _ _ w.in-Imports.is w.self-is w.u-is w.in_ok-section_turn-in-Imports.ensures.does
-      | in-Canonical+in_ok-section_turn-in-Canonical w ↦
-          done _ _ _ _ _ _ _ _ w.in-Canonical.is w.self-is w.u-is w.in_ok-section_turn-in-Canonical.ensures.does
+      | in-Types+in_ok-add_types-in-Types w ↦
+          done _ _ _ _ _ _ _ _ w.in-Types.is w.self-is w.u-is
+          (types_do c.args.self.now w.add_types.new.self c.args.u.now w.add_types.new.u w.in_ok-add_types-in-Types.ensures.grows
+          w.in_ok-add_types-in-Types.ensures.added)
+      | in-Imports+in_ok-add_imports-in-Imports w ↦
+          done _ _ _ _ _ _ _ _ w.in-Imports.is w.self-is w.u-is
+          (imports_do c.args.self.now w.add_imports.new.self c.args.u.now w.add_imports.new.u w.in_ok-add_imports-in-Imports.ensures.grows
+          w.in_ok-add_imports-in-Imports.ensures.added)
+      | in-Canonical+in_ok-add_canonicals-in-Canonical w ↦
+          done _ _ _ _ _ _ _ _ w.in-Canonical.is w.self-is w.u-is
+          (canonicals_do c.args.self.now w.add_canonicals.new.self c.args.u.now w.add_canonicals.new.u w.in_ok-add_canonicals-in-Canonical.ensures.grows
+          w.in_ok-add_canonicals-in-Canonical.ensures.added)
       | in-Module+in_ok-add_module-in-Module w ↦
           done _ _ _ _ _ _ _ _ w.in-Module.is w.self-is w.u-is w.in_ok-add_module-in-Module.ensures.does
       | in-Component+in_ok-open_component-in-Component w ↦

@@ -3,9 +3,9 @@ use Rattle.smith_input.proofs.Reading.{tail_trans}
 use Rattle.smith_format.specs.declared.config.Config.{Config}
 use Rattle.smith_component.specs.BuilderView.{building_of, stack_of}
 use Rattle.smith_component.specs.Building.{Building, open_of}
-use Rattle.smith_component.specs.Open.{with_inner}
+use Rattle.smith_tree.specs.Open.{with_inner}
 use Rattle.smith_component.specs.Refusals.{IsFillRefusal}
-use Rattle.smith_component.specs.Tree.{Tree, imports_of, function_count}
+use Rattle.smith_tree.specs.Tree.{Tree, imports_of, function_count}
 use Rattle.smith_component.specs.Fills.{Fills, FillsAll, of_imports, of_functions}
 use Rattle.smith_component.specs.declared.item.Counted.{Counted}
 use Rattle.smith_component.specs.declared.item.Counted.TheVariants as counted

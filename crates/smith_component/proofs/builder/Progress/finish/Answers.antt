@@ -1,7 +1,7 @@
 use Rattle.std.proofs.Common.{sym, subst}
 use Rattle.smith_format.specs.declared.config.Config.{Config}
 use Rattle.smith_component.specs.BuilderView.{stack_of}
-use Rattle.smith_component.specs.Limits.{Minima}
+use Rattle.smith_tree.specs.Limits.{Minima}
 use Rattle.smith_component.proofs.Items.{finish_does}
 use Rattle.smith_component.proofs.builder.Progress.finish.Goals as goal
 

@@ -4,12 +4,12 @@ use Rattle.std.specs.List.{AllByRecursion}
 use Rattle.smith_syntax.specs.Scope.{empty_scope}
 use Rattle.smith_scopes.proofs.Stack.{opened_scope}
 use Rattle.smith_component.specs.BuilderView.{stack_of}
-use Rattle.smith_component.specs.Open.{scopes_in}
+use Rattle.smith_tree.specs.Open.{scopes_in}
 use Rattle.smith_component.specs.Shown.{shown_sections}
 use Rattle.smith_component.specs.Sound.{Sound}
 use Rattle.smith_component.specs.Tables.{IsTabled}
 use Rattle.smith_component.specs.Turn.{building}
-use Rattle.smith_component.specs.WellFormed.{scope_of}
+use Rattle.smith_tree.specs.WellFormed.{scope_of}
 use Rattle.smith_component.specs.declared.builder.open.OpenComponent.{OpenComponent}
 use Rattle.smith_component.specs.declared.component.Section.{Section}
 use Rattle.smith_component.proofs.Shown.{outer_popped, trees_of}

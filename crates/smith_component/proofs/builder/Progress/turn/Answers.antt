@@ -3,9 +3,9 @@ use Rattle.std.proofs.lemmas.Result.{IfErr-weaker, IfOk-weaker}
 use Rattle.smith_input.specs.Choices.{ReadsAmong}
 use Rattle.smith_format.specs.declared.config.Config.{Config}
 use Rattle.smith_component.specs.BuilderView.{stack_of}
-use Rattle.smith_component.specs.Open.{Open, items}
-use Rattle.smith_component.specs.declared.item.Item.{Item}
-use Rattle.smith_component.specs.declared.item.Item.TheVariants.{Finish, Module}
+use Rattle.smith_tree.specs.Open.{Open, items}
+use Rattle.smith_tree.specs.declared.choices.Item.{Item}
+use Rattle.smith_tree.specs.declared.choices.Item.TheVariants.{Finish, Module}
 use Rattle.smith_component.proofs.Turn.{chosen, only_finish}
 use Rattle.smith_component.proofs.builder.Progress.turn.Goals as goal
 
@@ -17,30 +17,20 @@ do_item-requires c = record {
       (was.0, was.1);
 }
 
-pub returns-clause-turn : goal.returns-clause-turn
-returns-clause-turn c = IfOk-weaker c.do_item.result _ _ (λ r d. record {
-  item = c.choose_item-item.result;
-  after = c.choose_item-item.new.u;
-  chooses = c.choose_item-item.ensures.chooses;
-  does = d.does;
-}) c.do_item.ensures.does
-
-pub returns-clause-values : goal.returns-clause-values
-returns-clause-values c = IfOk-weaker c.do_item.result _ _ (λ r d. record {
-  item = c.choose_item-item.result;
-  after = c.choose_item-item.new.u;
-  chooses = c.choose_item-item.ensures.chooses;
-  adds = d.values;
-}) c.do_item.ensures.does
+pub returns-clause-steps : goal.returns-clause-steps
+returns-clause-steps c =
+    let item = c.choose_item-item.result in
+    let after = c.choose_item-item.new.u in
+    let chooses = c.choose_item-item.ensures.chooses in
+    IfOk-weaker c.do_item.result _ _ (λ r d. record {
+      turn = record { item = item; after = after; chooses = chooses; does = d.does };
+      keeps = d.keeps;
+      sections = d.sections;
+      values = record { item = item; after = after; chooses = chooses; adds = d.values };
+    }) c.do_item.ensures.does
 
 pub returns-clause-sound : goal.returns-clause-sound
 returns-clause-sound c = IfOk-weaker c.do_item.result _ _ (λ r d. d.sound) c.do_item.ensures.does
-
-pub returns-clause-keeps : goal.returns-clause-keeps
-returns-clause-keeps c = IfOk-weaker c.do_item.result _ _ (λ r d. d.keeps) c.do_item.ensures.does
-
-pub returns-clause-sections : goal.returns-clause-sections
-returns-clause-sections c = IfOk-weaker c.do_item.result _ _ (λ r d. d.sections) c.do_item.ensures.does
 
 pub returns-clause-refuses : goal.returns-clause-refuses
 returns-clause-refuses c = c.do_item.ensures.refuses c.args.u.now c.choose_item-item.ensures.chooses

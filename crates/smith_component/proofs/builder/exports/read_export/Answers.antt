@@ -1,6 +1,7 @@
 use Rattle.std.proofs.Common.{◌≡◌, ℕ, ◌<◌, length, arith, ap, refl, sym, ◌∙◌}
 use Rattle.std.proofs.lemmas.Option.{slice_get-get_or}
 use Rattle.std.specs.Prelude.{Some, slice_get}
+use Rattle.smith_input.proofs.Reading.{reads_tail, tail_same, tail_trans}
 use Rattle.smith_scopes.specs.Scopes.{own_scope}
 use Rattle.smith_component.specs.Shown.{shown_export}
 use Rattle.smith_component.specs.declared.builder.tables.Tables.{Tables}
@@ -34,3 +35,15 @@ returns-clause-exports c t es h =
           (type_known c)
           refl refl refl refl c.in_ok-name.ensures.gained c.in_ok-add_exported.ensures.ok,
     )
+
+pub returns-then-is_empty-clause-tail : goal.returns-then-is_empty-clause-tail
+returns-then-is_empty-clause-tail c = tail_same _
+
+pub returns-in_err-name-clause-tail : goal.returns-in_err-name-clause-tail
+returns-in_err-name-clause-tail c = tail_trans c.unique_kebab_string.ensures.tail (reads_tail c.choose_index-func_index.ensures)
+
+pub returns-in_err-add_exported-clause-tail : goal.returns-in_err-add_exported-clause-tail
+returns-in_err-add_exported-clause-tail c = tail_trans c.unique_kebab_string.ensures.tail (reads_tail c.choose_index-func_index.ensures)
+
+pub returns-clause-tail : goal.returns-clause-tail
+returns-clause-tail c = tail_trans c.unique_kebab_string.ensures.tail (reads_tail c.choose_index-func_index.ensures)

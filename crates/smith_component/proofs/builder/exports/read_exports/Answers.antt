@@ -7,7 +7,7 @@ use Rattle.smith_scopes.specs.Scopes.{own_scope}
 use Rattle.smith_component.specs.Exports.{NoExport, ReadsExport}
 use Rattle.smith_component.specs.ExportsState.{ExportsOne, ExportsState}
 use Rattle.smith_component.specs.Shown.{shown_export}
-use Rattle.smith_component.specs.Tree.{ExportEntry, Tree}
+use Rattle.smith_tree.specs.Tree.{ExportEntry, Tree}
 use Rattle.smith_component.specs.declared.component.Export.{Export}
 use Rattle.smith_component.proofs.builder.exports.read_exports.Goals as goal
 
@@ -73,3 +73,15 @@ loop-done-preserved c =
           goes_on _ _ _ _ _ _ _ _ _ _ _ _ _ _ _ _ c.if-not-more.false c.more.ensures (subst R (sym all) (one t h).0) all (l.invariant.onward t h);
       exporting = λ t h. subst (λ z. ExportsState t z own c.read_export.new.tables) (sym all) (one t h).1;
     }
+
+pub returns-then-not-more-clause-tail : goal.returns-then-not-more-clause-tail
+returns-then-not-more-clause-tail c = tail_trans (more_tail c.more.ensures) c.loop-done.invariant.tail
+
+pub returns-in_err-export-clause-tail : goal.returns-in_err-export-clause-tail
+returns-in_err-export-clause-tail c = tail_trans c.read_export.ensures.tail (tail_trans (more_tail c.more.ensures) c.loop-done.invariant.tail)
+
+pub returns-in_default-clause-tail : goal.returns-in_default-clause-tail
+returns-in_default-clause-tail c = tail_trans c.read_export.ensures.tail (tail_trans (more_tail c.more.ensures) c.loop-done.invariant.tail)
+
+pub returns-clause-tail : goal.returns-clause-tail
+returns-clause-tail c = c.loop-done.invariant.tail

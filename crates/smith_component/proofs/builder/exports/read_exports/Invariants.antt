@@ -7,7 +7,7 @@ use Rattle.smith_component.specs.Exports.{NoExport, ReadsExport}
 use Rattle.smith_component.specs.ExportsState.{ExportsState}
 use Rattle.smith_component.specs.Shown.{shown_export}
 use Rattle.smith_component.specs.Tables.{IsKnown}
-use Rattle.smith_component.specs.Tree.{Tree}
+use Rattle.smith_tree.specs.Tree.{Tree}
 use Rattle.smith_component.proofs.builder.exports.read_exports.Given as goal
 
 -- The scope and the tables are those where the section has what was read.

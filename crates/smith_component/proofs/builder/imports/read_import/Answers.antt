@@ -19,16 +19,17 @@ use Rattle.smith_types.specs.MakingTypes.{HoldsExterns}
 use Rattle.smith_types.specs.References.{ReadsRef}
 use Rattle.smith_scopes.specs.Scopes.{own_scope}
 use Rattle.smith_types.specs.declared.make.externs.ExternNames.{ExternNames}
-use Rattle.smith_types.specs.declared.make.references.RefTotals.{RefTotals}
+use Rattle.smith_tree.specs.declared.totals.RefTotals.{RefTotals}
 use Rattle.smith_types.proofs.References.{ref_formed}
-use Rattle.smith_component.specs.Offers.{is_scalar_type, totals_of, with_imports}
-use Rattle.smith_component.specs.ImportsState.{ImportsState, Totalled}
-use Rattle.smith_component.specs.Open.{Open}
+use Rattle.smith_tree.specs.Offers.{is_scalar_type, totals_of, with_imports}
+use Rattle.smith_component.specs.ImportsState.{ImportsState}
+use Rattle.smith_component.specs.Sound.{Totalled}
+use Rattle.smith_tree.specs.Open.{Open}
 use Rattle.smith_component.specs.SectionValues.{ReadsImportValue, extern_of}
 use Rattle.smith_component.specs.Tables.{AddsFunction, Tabled}
-use Rattle.smith_component.specs.Spaces.{spaces_of, types_of}
-use Rattle.smith_component.specs.Tree.{Tree, add, component_of, exports_in, function_of, imports, instance_of, module_of}
-use Rattle.smith_component.specs.WellFormed.{scope_of}
+use Rattle.smith_tree.specs.Spaces.{spaces_of, types_of}
+use Rattle.smith_tree.specs.Tree.{Tree, add, component_of, exports_in, function_of, imports, instance_of, module_of}
+use Rattle.smith_tree.specs.WellFormed.{scope_of}
 use Rattle.smith_component.specs.declared.builder.tables.Tables.{Tables}
 use Rattle.smith_component.specs.declared.builder.totals.TreeTotals.{TreeTotals}
 use Rattle.smith_component.proofs.Growth.{imports_keep, scope_bare, spaces_import}
@@ -266,3 +267,12 @@ returns-clause-imports c =
 
 pub returns-clause-tail : goal.returns-clause-tail
 returns-clause-tail c = tail_trans c.in_ok-name.ensures.tail c.in-Some.ensures.tail
+
+pub returns-in_default-clause-tail : goal.returns-in_default-clause-tail
+returns-in_default-clause-tail c = c.arbitrary_type_ref.ensures.tail
+
+pub returns-in_err-name-clause-tail : goal.returns-in_err-name-clause-tail
+returns-in_err-name-clause-tail c = tail_trans c.named_extern.ensures.tail c.arbitrary_type_ref.ensures.tail
+
+pub returns-in_err-add_function-clause-tail : goal.returns-in_err-add_function-clause-tail
+returns-in_err-add_function-clause-tail c = tail_trans c.named_extern.ensures.tail c.arbitrary_type_ref.ensures.tail

@@ -16,7 +16,7 @@ use Rattle.smith_syntax.specs.declared.types.DefinedType.{DefinedType}
 use Rattle.smith_syntax.proofs.Shown.{full_component, full_defined, full_func, full_instance}
 use Rattle.smith_scopes.specs.Scopes.{Contents, last_of, own_scope}
 use Rattle.smith_scopes.proofs.Stack.{length-last, own_last}
-use Rattle.smith_component.specs.Offers.{is_scalar_entry, is_scalar_type}
+use Rattle.smith_tree.specs.Offers.{is_scalar_entry, is_scalar_type}
 use Rattle.smith_component.proofs.builder.tables.is_scalar_type.Goals as goal
 
 -- what stands in the last scope, as a plain tree

@@ -3,8 +3,8 @@ use Rattle.smith_input.proofs.Reading.{tail_same, tail_trans}
 use Rattle.smith_format.specs.Limits.{IsConsistent}
 use Rattle.smith_format.specs.declared.config.Config.{Config}
 use Rattle.smith_component.specs.BuilderView.{stack_of}
-use Rattle.smith_component.specs.Limits.{Limits}
-use Rattle.smith_component.specs.Open.{Open}
+use Rattle.smith_tree.specs.Limits.{Limits, Sized}
+use Rattle.smith_tree.specs.Open.{Open}
 use Rattle.smith_component.specs.Refusals.{IsRefusal}
 use Rattle.smith_component.specs.Steps.{next_of, step_of, SoundUnlessDone, StaysSound}
 use Rattle.smith_component.specs.Turn.{Turn}
@@ -38,11 +38,11 @@ loop-progress-preserved c =
     let e = c.in_ok-done.ensures in
     let is = c.in-None.is in
     record {
-      config = subst (λ d. StaysSound b.config (step_of c.turn.new.self d)) is e.keeps ∙ i.config;
+      config = subst (λ d. StaysSound b.config (step_of c.turn.new.self d)) is e.steps.keeps ∙ i.config;
       consistent = i.consistent;
       sound = subst (SoundUnlessDone c.turn.new.self) is e.sound;
       tail = tail_trans c.turn.ensures.tail i.tail;
-      reached = reached_step _ _ _ _ _ _ _ _ i.config (ap (λ d. next_of (step_of c.turn.new.self d)) is) i.reached e.turn;
+      reached = reached_step _ _ _ _ _ _ _ _ i.config (ap (λ d. next_of (step_of c.turn.new.self d)) is) i.reached e.steps.turn;
     }
 
 pub loop-progress-smaller : goal.loop-progress-smaller
@@ -50,34 +50,37 @@ loop-progress-smaller c =
     let i = c.loop-progress.invariant in
     let b = c.loop-progress.progress in
     let turn = subst (λ d. Turn b.config (stack_of b) c.loop-progress.u (next_of (step_of c.turn.new.self d)) c.turn.new.u) c.in-None.is
-    c.in_ok-done.ensures.turn in
+    c.in_ok-done.ensures.steps.turn in
     let fewer : todo b.config c.turn.new.u (stack_of c.turn.new.self) + 1 ≤ todo b.config c.loop-progress.u (stack_of b) =
     falls _ _ _ _ _ (open_few b.config (stack_of b) i.sound.0.sound) turn in
     rw (← i.config) (omega (arith, fewer))
 
-pub returns-in-Some-clause-run : goal.returns-in-Some-clause-run
-returns-in-Some-clause-run c =
-    reached_answer _ _ _ _ _ _ _ _ c.loop-progress.invariant.config (ap (λ d. next_of (step_of c.turn.new.self d)) c.in-Some.is)
-    c.loop-progress.invariant.reached c.in_ok-done.ensures.turn
+pub returns-in-Some-clause-made : goal.returns-in-Some-clause-made
+returns-in-Some-clause-made c =
+    let b = c.loop-progress.progress in
+    let config = c.loop-progress.invariant.config in
+    let e = c.in_ok-done.ensures.steps in
+    let kept = subst (λ d. StaysSound b.config (step_of c.turn.new.self d)) c.in-Some.is e.keeps in
+    let L : Config → Type 0 = λ k. Limits k c.in-Some.component in
+    let S : Config → Type 0 = λ k. Sized k c.in-Some.component in
+    record {
+      run = reached_answer _ _ _ _ _ _ _ _ config (ap (λ d. next_of (step_of c.turn.new.self d)) c.in-Some.is) c.loop-progress.invariant.reached e.turn;
+      formed = kept.1;
+      limits = subst L config kept.0;
+      sizes = subst S config kept.2;
+    }
 
 pub returns-in-Some-clause-reach : goal.returns-in-Some-clause-reach
 returns-in-Some-clause-reach c plan rest w e =
     let i = c.loop-progress.invariant in
     run_is_plan c.args.config c.args.u.now plan rest i.consistent w e _ _
-    (reached_answer _ _ _ _ _ _ _ _ i.config (ap (λ d. next_of (step_of c.turn.new.self d)) c.in-Some.is) i.reached c.in_ok-done.ensures.turn)
+    (reached_answer _ _ _ _ _ _ _ _ i.config (ap (λ d. next_of (step_of c.turn.new.self d)) c.in-Some.is) i.reached c.in_ok-done.ensures.steps.turn)
 
 pub returns-in_err-done-clause-refuses : goal.returns-in_err-done-clause-refuses
 returns-in_err-done-clause-refuses c =
     let i = c.loop-progress.invariant in
     refused _ _ (IsRefusal c.args.config c.args.u.now) c.from_residual-in_err-done.ensures.1
     (reached_refusal _ _ _ _ _ i.config i.reached i.consistent _ c.in_err-done.ensures.refuses)
-
-pub returns-in-Some-clause-limits : goal.returns-in-Some-clause-limits
-returns-in-Some-clause-limits c =
-    let b = c.loop-progress.progress in
-    let L : Config → Type 0 = λ config. Limits config c.in-Some.component in
-    let kept = subst (λ d. StaysSound b.config (step_of c.turn.new.self d)) c.in-Some.is c.in_ok-done.ensures.keeps in
-    subst L c.loop-progress.invariant.config kept.0
 
 pub returns-in_err-done-clause-answers : goal.returns-in_err-done-clause-answers
 returns-in_err-done-clause-answers c plan rest consistent w e =
@@ -87,3 +90,21 @@ returns-in_err-done-clause-answers c plan rest consistent w e =
     let refusal = reached_refusal _ _ _ _ _ i.config i.reached i.consistent _ c.in_err-done.ensures.refuses in
     refused _ _ P c.from_residual-in_err-done.ensures.1 (refused_accepted c.args.config input consistent
     (plan_lacks_none c.args.config input plan rest consistent w e) (plan_refuses_no_module c.args.config input plan rest consistent w e) _ refusal)
+
+pub returns-in_err-progress-clause-tail : goal.returns-in_err-progress-clause-tail
+returns-in_err-progress-clause-tail c = tail_same _
+
+pub returns-in_err-done-clause-tail : goal.returns-in_err-done-clause-tail
+returns-in_err-done-clause-tail c = tail_trans c.turn.ensures.tail c.loop-progress.invariant.tail
+
+pub returns-in-Some-clause-tail : goal.returns-in-Some-clause-tail
+returns-in-Some-clause-tail c = tail_trans c.turn.ensures.tail c.loop-progress.invariant.tail
+
+pub returns-in-Some-clause-accepts : goal.returns-in-Some-clause-accepts
+returns-in-Some-clause-accepts c = c.loop-progress.invariant.consistent
+
+pub returns-in_err-done-clause-unread : goal.returns-in_err-done-clause-unread
+returns-in_err-done-clause-unread c inconsistent = absurd (inconsistent c.loop-progress.invariant.consistent)
+
+pub returns-in-Some-clause-unread : goal.returns-in-Some-clause-unread
+returns-in-Some-clause-unread c inconsistent = absurd (inconsistent c.loop-progress.invariant.consistent)

@@ -1,8 +1,8 @@
 use Rattle.std.proofs.Common.{sym, ◌∙◌, subst}
 use Rattle.smith_format.proofs.Piece.{left_nil}
-use Rattle.smith_component.specs.Grammar.{Spells}
-use Rattle.smith_component.specs.Tree.{Tree}
-use Rattle.smith_component.proofs.Clear.{spells_law}
+use Rattle.smith_tree.specs.Grammar.{Spells}
+use Rattle.smith_tree.specs.Tree.{Tree}
+use Rattle.smith_tree.proofs.Clear.{spells_law}
 use Rattle.smith_component.proofs.component.Component.to_bytes.Goals as goal
 
 pub returns-clause-reading : goal.returns-clause-reading

@@ -1,8 +1,8 @@
 use Rattle.std.proofs.Common.{arith}
 use Rattle.std.proofs.lemmas.List.{length-map}
-use Rattle.smith_script_types.proofs.Placing.{length-aliases}
 use Rattle.smith_script_types.specs.Scopes.{core_entry_of, entry_of, shown_scope}
 use Rattle.smith_script_types.proofs.scopes.Scope.len.Goals as goal
+use Rattle.smith_tree.proofs.Aliases.{length-aliases}
 
 pub returns : goal.returns
 returns c count =

@@ -2,7 +2,7 @@ use Rattle.std.proofs.Common.{◌<◌, ◌∷◌, [], refl, arith, length, ap, s
 use Rattle.std.proofs.lemmas.Bool.Decides.{nat_tests}
 use Rattle.std.specs.Prelude.{nat_lt}
 use Rattle.smith_scopes.specs.Scopes.{inward, outer_scopes, own_scope}
-use Rattle.smith_types.specs.Offers.{occupied}
+use Rattle.smith_tree.specs.TypeOffers.{occupied}
 use Rattle.smith_types.proofs.Declaring.{empty_here, occupied_count, occupied_here, occupied_past}
 use Rattle.smith_types.proofs.make.declarations.has_entry.Goals as goal
 

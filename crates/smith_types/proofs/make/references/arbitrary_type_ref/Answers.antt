@@ -5,16 +5,16 @@ use Rattle.smith_input.proofs.Offered.{offer_holds}
 use Rattle.smith_input.specs.Choices.{ReadsAmong}
 use Rattle.smith_format.specs.declared.config.Config.{Config}
 use Rattle.smith_syntax.specs.Scope.{Scope}
-use Rattle.smith_types.specs.Offers.{ref_kinds, ref_offers, ref_places}
+use Rattle.smith_tree.specs.TypeOffers.{ref_kinds, ref_offers, ref_places}
 use Rattle.smith_scopes.specs.Scopes.{own_scope}
-use Rattle.smith_types.specs.declared.make.references.RefKind.{RefKind}
-use Rattle.smith_types.specs.declared.make.references.RefTotals.{RefTotals}
-use Rattle.smith_scopes.proofs.Plain.{both_true}
+use Rattle.smith_tree.specs.declared.choices.RefKind.{RefKind}
+use Rattle.smith_tree.specs.declared.totals.RefTotals.{RefTotals}
 use Rattle.smith_types.proofs.ReferencesRead.{ref_not_none, ref_scripted}
 use Rattle.smith_types.proofs.make.references.arbitrary_type_ref.Goals as goal
+use Rattle.std.proofs.lemmas.Bool.{and_parts}
 
 placed : (n : ℕ) (allowed : Bool) → (nat_lt 0 n && allowed) ≡ true → 0 < n
-placed n allowed t = let some = (both_true (nat_lt 0 n) allowed t).0 in grind (arith, nat_tests, some)
+placed n allowed t = let some = (and_parts (nat_lt 0 n) allowed t).0 in grind (arith, nat_tests, some)
 
 -- A kind that is chosen has an entry.
 chosen_has_place : (config : Config) (own : Scope) (totals : RefTotals) (for_import for_type_def : Bool) (b : List ℕ) (k : RefKind) (rest : List ℕ)

@@ -1,6 +1,6 @@
 use Rattle.std.proofs.Common.{◌<◌, length, ap, ◌∙◌, arith}
 use Rattle.std.specs.Prelude.{slice_get}
-use Rattle.smith_types.specs.Offers.{ref_places}
+use Rattle.smith_tree.specs.TypeOffers.{ref_places}
 use Rattle.smith_scopes.specs.Scopes.{own_scope}
 use Rattle.smith_core_types.proofs.MakingCore.{length-indexes, own_at}
 use Rattle.smith_types.proofs.make.references.place_at.Goals as goal

@@ -1,5 +1,5 @@
 use Rattle.std.proofs.Common.{length, sym, ap, ◌∙◌}
-use Rattle.smith_types.specs.Offers.{ref_places}
+use Rattle.smith_tree.specs.TypeOffers.{ref_places}
 use Rattle.smith_scopes.specs.Scopes.{own_scope}
 use Rattle.smith_core_types.proofs.MakingCore.{length-indexes}
 use Rattle.smith_types.proofs.make.references.place_count.Goals as goal

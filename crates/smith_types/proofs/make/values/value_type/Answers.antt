@@ -1,7 +1,7 @@
 use Rattle.std.proofs.Common.{◌≡◌, ◌≤◌, ℕ, List, [], ◌∷◌, refl, subst, arith, length}
 use Rattle.smith_input.specs.Choices.{ReadsAmong}
 use Rattle.smith_input.specs.Reading.{Reads}
-use Rattle.smith_types.specs.Offers.{primitives}
+use Rattle.smith_tree.specs.TypeOffers.{primitives}
 use Rattle.smith_types.specs.Made.{only_primitive, either_primitive, either_index}
 use Rattle.smith_types.proofs.make.values.value_type.Goals as goal
 use Rattle.smith_types.proofs.make.values.value_type.Goals.{else-defined-gt0-via-then-defined-gt0+else-choose_index-eq1, else-defined-gt0-via-else-defined-gt0}

@@ -1,5 +1,6 @@
 use Rattle.std.proofs.Common.{refl, arith}
 use Rattle.std.proofs.lemmas.Result.{on_ok_weaker}
+use Rattle.smith_input.proofs.Reading.{reads_tail, tail_trans}
 use Rattle.smith_component.specs.Canonicals.{grown}
 use Rattle.smith_component.specs.CanonicalsState.{draft_of}
 use Rattle.smith_component.specs.declared.builder.open.OpenComponent.{OpenComponent}
@@ -72,3 +73,21 @@ returns-clause-reads c =
     c.args.u.now c.choose_index-core_func_index.new.self c.lifted_type.new.u c.lifted_type.new.u _ (omega (arith, c.len.ensures))
     c.choose_index-core_func_index.ensures c.in_ok-ty.ensures.reads
     c.equal_len-equal.result c.equal_len-equal.ensures c.if-equal-gt0.false (omega (arith, c.own_len.ensures.count, c.if-own_len-self.false)) refl refl
+
+pub returns-in_err-ty-clause-tail : goal.returns-in_err-ty-clause-tail
+returns-in_err-ty-clause-tail c = tail_trans c.lifted_type.ensures.tail (reads_tail c.choose_index-core_func_index.ensures)
+
+pub returns-then-own_len-self-clause-tail : goal.returns-then-own_len-self-clause-tail
+returns-then-own_len-self-clause-tail c = tail_trans c.lifted_type.ensures.tail (reads_tail c.choose_index-core_func_index.ensures)
+
+pub returns-clause-tail : goal.returns-clause-tail
+returns-clause-tail c = tail_trans c.lifted_type.ensures.tail (reads_tail c.choose_index-core_func_index.ensures)
+
+pub returns-in_err-add_function-clause-tail : goal.returns-in_err-add_function-clause-tail
+returns-in_err-add_function-clause-tail c = tail_trans (reads_tail c.choose_index.ensures) (tail_trans c.lifted_type.ensures.tail (reads_tail c.choose_index-core_func_index.ensures))
+
+pub returns-in_err-push-clause-tail : goal.returns-in_err-push-clause-tail
+returns-in_err-push-clause-tail c = tail_trans (reads_tail c.choose_index.ensures) (tail_trans c.lifted_type.ensures.tail (reads_tail c.choose_index-core_func_index.ensures))
+
+pub returns-then-equal-gt0-clause-tail : goal.returns-then-equal-gt0-clause-tail
+returns-then-equal-gt0-clause-tail c = tail_trans (reads_tail c.choose_index.ensures) (tail_trans c.lifted_type.ensures.tail (reads_tail c.choose_index-core_func_index.ensures))

@@ -3,10 +3,11 @@ use Rattle.std.proofs.lemmas.Result.{IfOk-weaker}
 use Rattle.smith_format.specs.CoreTypes.{Function}
 use Rattle.smith_format.specs.Shown.{shown_func}
 use Rattle.smith_syntax.specs.Flat.{Flattens, is_scalar}
-use Rattle.smith_types.specs.Lifting.{ReadsLifted}
+use Rattle.smith_types.specs.Lifting.{ReadsLiftedType}
+use Rattle.smith_input.proofs.Reading.{tail_same}
 use Rattle.smith_scopes.specs.Scopes.{own_scope}
 use Rattle.smith_types.proofs.Lifting.{flattens_liftable}
-use Rattle.smith_component.specs.CanonicalsState.{LiftsAs}
+use Rattle.smith_component.specs.CanonicalsState.{ReadsLiftedTypeOf}
 use Rattle.smith_component.proofs.CanonicalsState.{lifts_as, lowered_other, lowered_scalar, lowered_within}
 use Rattle.smith_component.proofs.builder.canonicals.CanonicalDraft.lifted_type.Goals as goal
 
@@ -44,8 +45,14 @@ returns-clause-reads c =
     let own = own_scope d.scopes.now in
     let low = c.inverse_scalar_canonical_abi_for.new.u in
     IfOk-weaker c.inverse_scalar_canonical_abi_for.result
-    (λ f. ReadsLifted core c.args.u.now f low) (λ f. LiftsAs own d.component.now.tables c.args.core_func_index c.args.u.now f low)
+    (λ f. ReadsLiftedType core c.args.u.now f low) (λ f. ReadsLiftedTypeOf own d.component.now.tables c.args.core_func_index c.args.u.now f low)
     (λ f reads. lifts_as d.scopes.now d.component.now.tables c.args.core_func_index c.index-func_index.result.now c.index-ty.result.now c.requires.known
     c.index-func_index.ensures c.index-ty.ensures c.get.result.now.value c.get.ensures c.in-Func.func (sym c.deref.ensures ∙ c.in-Func.is) core
     c.deref-2.result.now f c.args.u.now low c.deref-2.ensures flat reads)
     c.inverse_scalar_canonical_abi_for.ensures.reads
+
+pub returns-in_err-core-clause-tail : goal.returns-in_err-core-clause-tail
+returns-in_err-core-clause-tail c = tail_same _
+
+pub returns-clause-tail : goal.returns-clause-tail
+returns-clause-tail c = c.inverse_scalar_canonical_abi_for.ensures.tail

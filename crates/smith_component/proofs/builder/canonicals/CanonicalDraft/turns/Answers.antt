@@ -1,7 +1,6 @@
-use Rattle.std.proofs.Common.{[], ◌∷◌, ◌++◌, refl, sym, subst, arith}
+use Rattle.std.proofs.Common.{[], ◌∷◌, ◌++◌, refl, subst, arith}
 use Rattle.smith_input.proofs.Loops.{begins, ends_early, ends_full, goes_on, stops}
 use Rattle.smith_input.proofs.Reading.{more_tail, tail_same, tail_trans}
-use Rattle.smith_format.specs.Limits.{IsConsistent}
 use Rattle.smith_format.specs.declared.config.Config.{Config}
 use Rattle.smith_component.specs.CanonicalsState.{IsDrafted, draft_of}
 use Rattle.smith_component.proofs.CanonicalsState.{drafted_ends, drafted_turn, drafts_none, drafts_then, loans_then}
@@ -32,7 +31,6 @@ returns-then-not-more-clause-tail c = tail_trans (more_tail c.more.ensures) c.lo
 
 pub turn-requires : goal.turn-requires
 turn-requires c = record {
-  consistent = subst IsConsistent (sym c.loop-done.invariant.loans.config) c.requires.consistent;
   draft = c.loop-done.invariant.drafts.draft;
   room = omega (arith, c.loop-done.invariant.few, c.requires.room, c.loop-done-test.true);
 }

@@ -4,7 +4,7 @@ use Rattle.smith_input.proofs.Loops.{Onward}
 use Rattle.smith_component.specs.Canonicals.{CanonTurn, NoCanon, spaces_at}
 use Rattle.smith_component.specs.CanonicalsState.{DraftsOn, SameLoans, draft_of}
 use Rattle.smith_component.specs.Tables.{functions_at}
-use Rattle.smith_component.specs.declared.item.CanonItem.{CanonItem}
+use Rattle.smith_tree.specs.declared.choices.CanonItem.{CanonItem}
 use Rattle.smith_component.proofs.builder.canonicals.CanonicalDraft.turns.Given as goal
 
 -- Each turn adds at most one function.

@@ -37,3 +37,15 @@ pub returns-clause-depth : goal.returns-clause-depth
 returns-clause-depth c =
     let g = grows c in
     omega (arith, length-inward c.args.scopes.now, length-inward c.push_core_type.new.self, ap length g.whole, ap length g.was, ap length g.outer)
+
+pub returns-in_err-made-clause-tail : goal.returns-in_err-made-clause-tail
+returns-in_err-made-clause-tail c = c.arbitrary_core_type.ensures.tail
+
+pub returns-in_err-clone-clause-tail : goal.returns-in_err-clone-clause-tail
+returns-in_err-clone-clause-tail c = c.arbitrary_core_type.ensures.tail
+
+pub returns-in_err-push_core_type-clause-tail : goal.returns-in_err-push_core_type-clause-tail
+returns-in_err-push_core_type-clause-tail c = c.arbitrary_core_type.ensures.tail
+
+pub returns-clause-tail : goal.returns-clause-tail
+returns-clause-tail c = c.arbitrary_core_type.ensures.tail

@@ -1,6 +1,6 @@
 use Rattle.std.proofs.Common.{arith}
 use Rattle.smith_format.proofs.Sizes.{sum_none, sum_next, sum_all, each_too_much, each_reaches, many_too_much, too_much_long, too_much_right, length_then}
-use Rattle.smith_core.proofs.Segments.{all_at, takes_global, too_much_type}
+use Rattle.smith_core.proofs.Segments.{all_read, takes_global, too_much_type}
 use Rattle.smith_core.proofs.module.encode.tables.globals_len.Goals as goal
 
 pub loop-index-init : goal.loop-index-init
@@ -8,7 +8,7 @@ loop-index-init c = sum_none _ _
 
 pub returns-in_err-ty : goal.returns-in_err-ty
 returns-in_err-ty c =
-    let named = all_at _ _ _ _ c.requires c.loop-index-test.true c.loop-index-item.is in
+    let named = all_read _ _ _ _ c.requires c.loop-index-test.true c.loop-index-item.is in
     rw c.from_residual.ensures
     (many_too_much _ _ (each_too_much _ _ _ _ c.loop-index-test.true c.loop-index-item.is (too_much_type _ _ _ named _ (c.in_err-ty.ensures {u = tt}))))
 
@@ -19,7 +19,7 @@ returns-in_err-spelled_len c =
 
 pub returns-in_err-checked_add : goal.returns-in_err-checked_add
 returns-in_err-checked_add c =
-    let named = all_at _ _ _ _ c.requires c.loop-index-test.true c.loop-index-item.is in
+    let named = all_read _ _ _ _ c.requires c.loop-index-test.true c.loop-index-item.is in
     let taken = takes_global _ _ _ named ((c.in_ok-ty.ensures {u = tt}).0) ((c.in_ok-spelled_len.ensures {u = tt}).0) in
     rw c.from_residual-in_err-checked_add.ensures
     (many_too_much _ _ (each_too_much _ _ _ _ c.loop-index-test.true c.loop-index-item.is
@@ -27,7 +27,7 @@ returns-in_err-checked_add c =
 
 pub returns-in_err-total : goal.returns-in_err-total
 returns-in_err-total c =
-    let named = all_at _ _ _ _ c.requires c.loop-index-test.true c.loop-index-item.is in
+    let named = all_read _ _ _ _ c.requires c.loop-index-test.true c.loop-index-item.is in
     let taken = takes_global _ _ _ named ((c.in_ok-ty.ensures {u = tt}).0) ((c.in_ok-spelled_len.ensures {u = tt}).0) in
     rw c.from_residual-in_err-total.ensures
     (many_too_much _ _ (each_reaches _ _ _ _ _ _ c.loop-index-test.true c.loop-index-item.is c.loop-index.invariant taken
@@ -35,7 +35,7 @@ returns-in_err-total c =
 
 pub loop-index-preserved : goal.loop-index-preserved
 loop-index-preserved c =
-    let named = all_at _ _ _ _ c.requires c.loop-index-test.true c.loop-index-item.is in
+    let named = all_read _ _ _ _ c.requires c.loop-index-test.true c.loop-index-item.is in
     let taken = takes_global _ _ _ named ((c.in_ok-ty.ensures {u = tt}).0) ((c.in_ok-spelled_len.ensures {u = tt}).0) in
     sum_next _ _ _ _ _ _ _ c.loop-index.invariant c.loop-index-test.true c.loop-index-item.is taken
     (omega (arith, (c.in_ok-total.ensures {u = tt}).1, (c.in_ok-checked_add.ensures {u = tt}).1))

@@ -1,0 +1,70 @@
+use Rattle.std.proofs.Common.{List, subst, ◌∙◌, refl, arith}
+use Rattle.smith_input.proofs.Loops.{begins, stops, ends_full, goes_on}
+use Rattle.smith_input.proofs.Reading.{tail_same, tail_trans, more_tail}
+use Rattle.smith_syntax.specs.Scope.{Scope}
+use Rattle.smith_scopes.specs.Scopes.{own_scope}
+use Rattle.smith_scopes.proofs.Stack.{length-inward}
+use Rattle.smith_component.proofs.Sound.{scopes_few}
+use Rattle.smith_component.proofs.builder.Progress.read_entries.Goals as goal
+
+pub loop-done-init : goal.loop-done-init
+loop-done-init g c = record {
+  tail = tail_same c.args.u.now;
+  count = omega arith;
+  outer = refl;
+  depth = refl;
+  onward = begins _ _ _ _ _ _ _ c.new-entries.ensures.items;
+}
+
+pub returns-then-not-more-clause-entries : goal.returns-then-not-more-clause-entries
+returns-then-not-more-clause-entries g c = stops _ _ _ _ _ _ _ _ _ _ _ _ c.if-not-more.true c.more.ensures c.loop-done.invariant.onward
+
+pub returns-then-not-more-clause-scopes : goal.returns-then-not-more-clause-scopes
+returns-then-not-more-clause-scopes g c = record { only = refl; outer = c.loop-done.invariant.outer; depth = c.loop-done.invariant.depth }
+
+pub returns-in_err-push-clause-tail : goal.returns-in_err-push-clause-tail
+returns-in_err-push-clause-tail g c = tail_trans c.read.ensures.tail (tail_trans (more_tail c.more.ensures) c.loop-done.invariant.tail)
+
+pub returns-clause-entries : goal.returns-clause-entries
+returns-clause-entries g c = ends_full _ _ _ _ _ _ _ _ _ _ c.loop-done-test.false c.loop-done.invariant.onward
+
+pub returns-clause-scopes : goal.returns-clause-scopes
+returns-clause-scopes g c = record { only = refl; outer = c.loop-done.invariant.outer; depth = c.loop-done.invariant.depth }
+
+pub read-requires : goal.read-requires
+read-requires g c =
+    let b = c.args.self.now in
+    let i = c.requires.sound.0 in
+    record {
+      room = omega (arith, c.loop-done.invariant.count, c.requires.room, c.loop-done-test.true);
+      ready = record {
+        configured = c.deref.ensures.value ∙ i.valtypes_are;
+        consistent = i.sound.consistent;
+        shallow = omega (arith, c.loop-done.invariant.depth, length-inward b.scopes, scopes_few _ _ _ i.sound i.scopes_are);
+      };
+    }
+
+pub loop-done-preserved : goal.loop-done-preserved
+loop-done-preserved g c =
+    let E = g.E.SectionEntry in
+    let entry = c.in_ok-entry.entry in
+    let i = c.loop-done.invariant in
+    let e = c.in_ok-entry.ensures in
+    let R : List Scope → Type 0 = λ o. E.reads c.args.self.now.config o (own_scope c.loop-done.scopes) c.more.new.self entry c.read.new.u
+    (own_scope c.read.new.scopes) in
+    record {
+      tail = tail_trans c.read.ensures.tail (tail_trans (more_tail c.more.ensures) i.tail);
+      count = omega (arith, e.count, i.count);
+      outer = e.outer ∙ i.outer;
+      depth = e.depth ∙ i.depth;
+      onward = goes_on _ _ _ _ _ _ _ _ _ _ _ _ _ _ _ _ c.if-not-more.false c.more.ensures (subst R i.outer e.read) c.in_ok-push.ensures.items i.onward;
+    }
+
+pub returns-then-not-more-clause-tail : goal.returns-then-not-more-clause-tail
+returns-then-not-more-clause-tail g c = tail_trans (more_tail c.more.ensures) c.loop-done.invariant.tail
+
+pub returns-in_err-entry-clause-tail : goal.returns-in_err-entry-clause-tail
+returns-in_err-entry-clause-tail g c = tail_trans c.read.ensures.tail (tail_trans (more_tail c.more.ensures) c.loop-done.invariant.tail)
+
+pub returns-clause-tail : goal.returns-clause-tail
+returns-clause-tail g c = c.loop-done.invariant.tail

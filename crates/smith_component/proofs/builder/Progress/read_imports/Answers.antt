@@ -1,0 +1,116 @@
+use Rattle.std.proofs.Common.{List, [], length, refl, sym, subst, ap, arith, append-nil}
+use Rattle.std.specs.Prelude.{Option}
+use Rattle.smith_input.proofs.Loops.{Onward, begins, ends_early, ends_full, goes_on, stops}
+use Rattle.smith_input.proofs.Reading.{more_tail, tail_same, tail_trans}
+use Rattle.smith_scopes.specs.Scopes.{own_scope}
+use Rattle.smith_syntax.specs.Scope.{own_of}
+use Rattle.smith_syntax.specs.declared.deftype.Import.{Import}
+use Rattle.smith_types.specs.MakingTypes.{HoldsExterns}
+use Rattle.smith_component.specs.BuilderView.{IsSound, stack_of}
+use Rattle.smith_component.specs.ImportsState.{ImportsOne, ImportsState}
+use Rattle.smith_tree.specs.Open.{Open}
+use Rattle.smith_component.specs.SectionValues.{NoImportValue, ReadsImportValue, externs_of}
+use Rattle.smith_tree.specs.Tree.{imports}
+use Rattle.smith_component.specs.declared.builder.Progress.{Progress}
+use Rattle.smith_component.proofs.Growth.{functions_counted}
+use Rattle.smith_component.proofs.Sound.{own_limits_of, totalled_part}
+use Rattle.smith_component.proofs.TracksStack.{tabled_added}
+use Rattle.smith_component.proofs.builder.Progress.read_imports.Goals as goal
+
+-- before the first import
+first : (b : Progress) (i : IsSound b) → ImportsState (stack_of b) (externs_of b.inner.sections.items) [] (own_scope b.scopes) b.totals b.inner.tables
+first b i =
+    let stack : Open = stack_of b in
+    record {
+      scope_is = ap own_of i.0.scopes_are;
+      totalled = totalled_part b.config stack.outer stack.inner _ b.totals b.totals (imports []) refl refl (omega arith) (omega arith) (omega arith)
+          i.0.totalled;
+      tabled = tabled_added stack.inner _ (imports []) refl refl refl refl refl i.1.0.tabled;
+      externs = subst (HoldsExterns b.inner.tables.imports) (sym (append-nil (externs_of b.inner.sections.items))) i.1.0.externs;
+    }
+
+pub loop-done-init : goal.loop-done-init
+loop-done-init c =
+    let b = c.args.self.now in
+    let i = c.requires.sound in
+    let none = c.new-imports.ensures.items in
+    let o = own_limits_of b.config (stack_of b) i.0.sound in
+    let spaces = functions_counted (stack_of b).inner in
+    let tabled = i.1.0.tabled in
+    let before = externs_of b.inner.sections.items in
+    let S : List Import → Type 0 = λ is. ImportsState (stack_of b) before is (own_scope b.scopes) b.totals b.inner.tables in
+    let O : List Import → Type 0 = λ is. Onward (NoImportValue b.config (stack_of b)) (ReadsImportValue b.config (stack_of b) before) c.args.min c.args.max []
+    c.args.u.now is 0 is c.args.u.now in
+    record {
+      tail = tail_same c.args.u.now;
+      within = omega (arith, spaces.most, o.exports, tabled.counts, ap length tabled.functions);
+      onward = subst O (sym none) (begins _ _ _ _ _ _ [] refl);
+      importing = subst S (sym none) (first b i);
+    }
+
+pub read_import-requires : goal.read_import-requires
+read_import-requires c = record { consistent = c.requires.sound.0.sound.consistent; within = c.loop-done.invariant.within }
+
+pub returns-then-not-more-clause-reads : goal.returns-then-not-more-clause-reads
+returns-then-not-more-clause-reads c = stops _ _ _ _ _ _ _ _ _ _ _ _ c.if-not-more.true c.more.ensures c.loop-done.invariant.onward
+
+pub returns-then-not-more-clause-counts : goal.returns-then-not-more-clause-counts
+returns-then-not-more-clause-counts c = record { only = refl; counted = c.loop-done.invariant.importing }
+
+pub returns-in_default-clause-reads : goal.returns-in_default-clause-reads
+returns-in_default-clause-reads c =
+    let b = c.args.self.now in
+    let l = c.loop-done in
+    let P : Option Import → Type 0 = λ i. ImportsOne b.config (stack_of b) (externs_of b.inner.sections.items) l.imports.items (own_scope b.scopes)
+    c.read_import.new.totals c.read_import.new.tables c.more.new.self i c.read_import.new.u in
+    let none = subst P c.in_default.is (c.in_ok-import.ensures.imports (stack_of b) (externs_of b.inner.sections.items) l.imports.items l.invariant.importing) in
+    ends_early _ _ _ _ _ _ _ _ _ _ _ _ _ _ c.if-not-more.false c.more.ensures none.0 l.invariant.onward
+
+pub returns-in_default-clause-counts : goal.returns-in_default-clause-counts
+returns-in_default-clause-counts c =
+    let b = c.args.self.now in
+    let l = c.loop-done in
+    let P : Option Import → Type 0 = λ i. ImportsOne b.config (stack_of b) (externs_of b.inner.sections.items) l.imports.items (own_scope b.scopes)
+    c.read_import.new.totals c.read_import.new.tables c.more.new.self i c.read_import.new.u in
+    let none = subst P c.in_default.is (c.in_ok-import.ensures.imports (stack_of b) (externs_of b.inner.sections.items) l.imports.items l.invariant.importing) in
+    record { only = refl; counted = none.1 }
+
+pub returns-in_err-push-clause-tail : goal.returns-in_err-push-clause-tail
+returns-in_err-push-clause-tail c = tail_trans c.in_ok-import.ensures.tail (tail_trans (more_tail c.more.ensures) c.loop-done.invariant.tail)
+
+pub returns-clause-reads : goal.returns-clause-reads
+returns-clause-reads c = ends_full _ _ _ _ _ _ _ _ _ _ c.loop-done-test.false c.loop-done.invariant.onward
+
+pub returns-clause-counts : goal.returns-clause-counts
+returns-clause-counts c = record { only = refl; counted = c.loop-done.invariant.importing }
+
+pub loop-done-preserved : goal.loop-done-preserved
+loop-done-preserved c =
+    let b = c.args.self.now in
+    let l = c.loop-done in
+    let stack = stack_of b in
+    let before = externs_of b.inner.sections.items in
+    let so_far : List Import = l.imports.items in
+    let all = c.in_ok-push.ensures.items in
+    let P : Option Import → Type 0 = λ i. ImportsOne b.config stack before so_far (own_scope b.scopes) c.read_import.new.totals c.read_import.new.tables
+    c.more.new.self i c.read_import.new.u in
+    let one = subst P c.in-Some.is (c.in_ok-import.ensures.imports stack before so_far l.invariant.importing) in
+    let R : List Import → Type 0 = λ z. ReadsImportValue b.config stack before so_far c.more.new.self c.in-Some.import c.read_import.new.u z in
+    record {
+      tail = tail_trans c.in_ok-import.ensures.tail (tail_trans (more_tail c.more.ensures) l.invariant.tail);
+      within = c.in_ok-import.ensures.within;
+      onward = goes_on _ _ _ _ _ _ _ _ _ _ _ _ _ _ _ _ c.if-not-more.false c.more.ensures (subst R (sym all) one.0) all l.invariant.onward;
+      importing = subst (λ z. ImportsState stack before z (own_scope b.scopes) c.read_import.new.totals c.read_import.new.tables) (sym all) one.1;
+    }
+
+pub returns-then-not-more-clause-tail : goal.returns-then-not-more-clause-tail
+returns-then-not-more-clause-tail c = tail_trans (more_tail c.more.ensures) c.loop-done.invariant.tail
+
+pub returns-in_err-import-clause-tail : goal.returns-in_err-import-clause-tail
+returns-in_err-import-clause-tail c = tail_trans c.read_import.ensures.tail (tail_trans (more_tail c.more.ensures) c.loop-done.invariant.tail)
+
+pub returns-in_default-clause-tail : goal.returns-in_default-clause-tail
+returns-in_default-clause-tail c = tail_trans c.read_import.ensures.tail (tail_trans (more_tail c.more.ensures) c.loop-done.invariant.tail)
+
+pub returns-clause-tail : goal.returns-clause-tail
+returns-clause-tail c = c.loop-done.invariant.tail

@@ -1,0 +1,10 @@
+//! Fuel, which bounds how large a type becomes that is made from the input.
+
+ghost use Rattle.std.specs.Prelude.{◌≡◌, ◌-◌};
+
+/// Takes one from the fuel, unless none is left. Public for the crates above alone.
+pub fn burn(fuel: &mut u32)
+    ensures { fuel.new ≡ fuel.old - 1 }
+{
+    *fuel = fuel.saturating_sub(1);
+}

@@ -1,0 +1,235 @@
+//! The answers to a row.
+
+use crate::bytes::Printed;
+use crate::texts::{defaults, misfit, texts};
+use smith_component::{Config, Error, Unstructured, generate};
+use smith_read::{ReadError, read};
+use smith_script::{ScriptError, script};
+use std::alloc::{AllocError, Global};
+use std::fmt;
+
+/// What a row asks of its bytes.
+#[derive(Clone, Copy, PartialEq, Eq)]
+pub enum Task {
+    /// What component is generated from them, and what is left.
+    Component,
+    /// The same, and that nothing is read of what follows them.
+    Prefix,
+    /// The same, and whether they are the component's script.
+    Plan,
+    /// Whether the component in them has a script, from which it is generated.
+    Script,
+    /// How many sections the component in them has.
+    Read,
+    /// The same of each front of them.
+    Fronts,
+    /// The texts of the errors.
+    Texts,
+    /// Whether the text of the default limits is the default.
+    Defaults,
+    /// Whether a script is refused where the limits do not fit together.
+    Misfit,
+}
+
+// The bytes that follow a prefix, one after another, and are left.
+const RESTS: [&[u8]; 3] = [b"", b"\xff\x07", b"\x00\x03\x01"];
+
+// What was generated from an input, and what is left of it.
+#[derive(Drop)]
+struct Generated {
+    bytes: Result<Vec<u8>, Error>,
+    left: Vec<u8>,
+    // Whether the component is measured and read back as what was generated.
+    agrees: bool,
+}
+
+fn generate_from(alloc: Global, limits: Config, input: &[u8]) -> Result<Generated, AllocError> {
+    let mut u = Unstructured::new(input);
+    let answer = generate(alloc, limits, &mut u);
+    let left = Vec::from_slice(alloc, u.left())?;
+    match answer {
+        Ok(made) => {
+            let is_measured = made.component.measure() == Ok(made.bytes.len() as u128);
+            let sections = made.component.sections().len();
+            let is_read = match read(alloc, &made.bytes) {
+                Ok(tree) => tree.parts.len() == sections,
+                Err(_) => false,
+            };
+            Ok(Generated {
+                bytes: Ok(made.bytes),
+                left,
+                agrees: is_measured && is_read,
+            })
+        }
+        Err(error) => Ok(Generated {
+            bytes: Err(error),
+            left,
+            agrees: true,
+        }),
+    }
+}
+
+impl fmt::Display for Generated {
+    fn fmt<W: fmt::Write>(&self, f: &mut fmt::Formatter<W>) -> fmt::Result {
+        match &self.bytes {
+            Ok(bytes) => write!(f, "{}", Printed("bytes", bytes))?,
+            Err(error) => writeln!(f, "= refused {error:?}")?,
+        }
+        write!(f, "{}", Printed("left", &self.left))?;
+        if !self.agrees {
+            f.write_str("= measured or read back as something else\n")?;
+        }
+        Ok(())
+    }
+}
+
+// Whether these bytes are generated, and what follows the input is left.
+fn is_generated(
+    alloc: Global,
+    limits: Config,
+    input: &[u8],
+    rest: &[u8],
+    bytes: &[u8],
+) -> Result<bool, AllocError> {
+    let mut whole = Vec::from_slice(alloc, input)?;
+    whole.extend_from_slice(rest)?;
+    let again = generate_from(alloc, limits, &whole)?;
+    let is_same = match &again.bytes {
+        Ok(found) => found.as_slice() == bytes,
+        Err(_) => false,
+    };
+    Ok(is_same && again.agrees && again.left.as_slice() == rest)
+}
+
+// Why there is no script: the reason, and the section in which it was seen.
+#[derive(Clone, Copy)]
+struct NoScript<'a>(&'a ScriptError);
+
+impl fmt::Display for NoScript<'_> {
+    fn fmt<W: fmt::Write>(&self, f: &mut fmt::Formatter<W>) -> fmt::Result {
+        let ScriptError::NoScript { part, reason } = self.0 else {
+            return writeln!(f, "= no script: {:?}", self.0);
+        };
+        write!(f, "= no script: {reason:?}")?;
+        for (level, place) in part.iter().enumerate() {
+            f.write_str(if level == 0 { " in section " } else { "." })?;
+            write!(f, "{place}")?;
+        }
+        f.write_str("\n")
+    }
+}
+
+// Whether the component in these bytes has that input as its script; else what its script is, or why it has none.
+fn is_its_script(
+    alloc: Global,
+    limits: &Config,
+    bytes: &[u8],
+    input: &[u8],
+) -> Result<String, AllocError> {
+    let Ok(tree) = read(alloc, bytes) else {
+        return String::from_str(alloc, "= it is not read back\n");
+    };
+    match script(alloc, limits, &tree) {
+        Ok(script) if script.as_slice() == input => String::from_str(alloc, "= its script\n"),
+        Ok(script) => format!(in alloc; "{}", Printed("script", &script)),
+        Err(error) => format!(in alloc; "{}", NoScript(&error)),
+    }
+}
+
+// What is generated from an input, with other bytes after it too where the task asks that, and whether it is the script.
+fn generation(
+    alloc: Global,
+    limits: Config,
+    task: Task,
+    input: &[u8],
+) -> Result<String, AllocError> {
+    let first = generate_from(alloc, limits, input)?;
+    let mut answers = format!(in alloc; "{first}")?;
+    let Ok(bytes) = &first.bytes else {
+        return Ok(answers);
+    };
+    if task == Task::Component {
+        return Ok(answers);
+    }
+    for rest in RESTS {
+        if !is_generated(alloc, limits, input, rest, bytes)? {
+            answers.push_str("= something else where more follows\n")?;
+        }
+    }
+    if task == Task::Plan {
+        answers.push_str(&is_its_script(alloc, &limits, bytes, input)?)?;
+    }
+    Ok(answers)
+}
+
+// Whether the component in these bytes is generated from its script.
+fn scripted(alloc: Global, limits: Config, bytes: &[u8]) -> Result<String, AllocError> {
+    let tree = match read(alloc, bytes) {
+        Ok(tree) => tree,
+        Err(error) => return format!(in alloc; "{}", Unread(&error)),
+    };
+    match script(alloc, &limits, &tree) {
+        Ok(script) if is_generated(alloc, limits, &script, b"", bytes)? => {
+            String::from_str(alloc, "= generated from its script\n")
+        }
+        Ok(script) => format!(in alloc; "{}", Printed("script", &script)),
+        Err(error) => format!(in alloc; "{}", NoScript(&error)),
+    }
+}
+
+// What is wrong with bytes that are not read, and where.
+#[derive(Clone, Copy)]
+struct Unread<'a>(&'a ReadError);
+
+impl fmt::Display for Unread<'_> {
+    fn fmt<W: fmt::Write>(&self, f: &mut fmt::Formatter<W>) -> fmt::Result {
+        match self.0 {
+            ReadError::Malformed { offset, reason } => write!(f, "{reason:?} at {offset}"),
+            ReadError::OutOfMemory => f.write_str("OutOfMemory"),
+        }
+    }
+}
+
+fn what_is_read(alloc: Global, bytes: &[u8]) -> Result<String, AllocError> {
+    match read(alloc, bytes) {
+        Ok(tree) => format!(in alloc; "sections: {}", tree.parts.len()),
+        Err(error) => format!(in alloc; "{}", Unread(&error)),
+    }
+}
+
+// What is read of each front, with one line for successive lengths of which the same is read.
+fn fronts(alloc: Global, bytes: &[u8]) -> Result<String, AllocError> {
+    let mut answers = String::new(alloc);
+    let mut first = 0usize;
+    let mut before = what_is_read(alloc, b"")?;
+    for length in 1..=bytes.len() {
+        let found = what_is_read(alloc, bytes.get(..length).unwrap_or(bytes))?;
+        if found != before {
+            let last = length - 1;
+            answers.push_str(&format!(in alloc; "= {first} to {last} bytes: {before}\n")?)?;
+            first = length;
+            before = found;
+        }
+    }
+    let last = bytes.len();
+    answers.push_str(&format!(in alloc; "= {first} to {last} bytes: {before}\n")?)?;
+    Ok(answers)
+}
+
+/// The lines that answer a row, each of which begins with `=`.
+pub fn answer(
+    alloc: Global,
+    limits: &Config,
+    task: Task,
+    bytes: &[u8],
+) -> Result<String, AllocError> {
+    match task {
+        Task::Component | Task::Prefix | Task::Plan => generation(alloc, *limits, task, bytes),
+        Task::Script => scripted(alloc, *limits, bytes),
+        Task::Read => format!(in alloc; "= {}\n", what_is_read(alloc, bytes)?.as_str()),
+        Task::Fronts => fronts(alloc, bytes),
+        Task::Texts => texts(alloc),
+        Task::Defaults => defaults(alloc),
+        Task::Misfit => misfit(alloc, limits),
+    }
+}

@@ -1,0 +1,141 @@
+//! Bytes as words of a row: two hexadecimal digits, `61*100` for a hundred of them, `( 01 2a )*127` for a group of
+//! bytes that repeats, `preamble` for the first eight bytes of a component, and `@nested` for the script of that plan.
+
+use std::alloc::{AllocError, Global};
+use std::fmt;
+
+/// The first eight bytes of each component.
+pub const PREAMBLE: &[u8] = &[0x00, 0x61, 0x73, 0x6d, 0x0d, 0x00, 0x01, 0x00];
+
+// How many words there are on a line at most.
+const LINE: usize = 32;
+
+// The longest run of a byte that is printed byte by byte.
+const LONGEST_RUN: usize = 8;
+
+// The proved script of the plan with this name.
+fn proved_script(name: &str) -> Option<&'static [u8]> {
+    match name {
+        "second_of_equal_types" => Some(smith_plans::second_of_equal_types()),
+        "lower_and_lift" => Some(smith_plans::lower_and_lift()),
+        "lower_of_a_lift" => Some(smith_plans::lower_of_a_lift()),
+        "lower_of_an_export" => Some(smith_plans::lower_of_an_export()),
+        "nested" => Some(smith_plans::nested()),
+        "scoped_type" => Some(smith_plans::scoped_type()),
+        _ => None,
+    }
+}
+
+// The bytes of a word that does not repeat. The bytes of `)` are those of its group.
+fn word_bytes(alloc: Global, word: &str, group: &[u8]) -> Result<Option<Vec<u8>>, AllocError> {
+    if word == ")" {
+        return Ok(Some(Vec::from_slice(alloc, group)?));
+    }
+    if word == "preamble" {
+        return Ok(Some(Vec::from_slice(alloc, PREAMBLE)?));
+    }
+    if let Some(name) = word.strip_prefix('@') {
+        return match proved_script(name) {
+            Some(script) => Ok(Some(Vec::from_slice(alloc, script)?)),
+            None => Ok(None),
+        };
+    }
+    match u8::from_str_radix(word, 16) {
+        Ok(byte) => Ok(Some(Vec::from_slice(alloc, &[byte])?)),
+        Err(_) => Ok(None),
+    }
+}
+
+// Appends the bytes of a word, whose group begins at that place of what there is. Whether it is a word.
+fn push_word(
+    alloc: Global,
+    bytes: &mut Vec<u8>,
+    start: usize,
+    word: &str,
+) -> Result<bool, AllocError> {
+    let (word, times) = match word.split_once('*') {
+        Some((word, times)) => (word, times.parse::<usize>().ok()),
+        None => (word, Some(1)),
+    };
+    let group = bytes.get(start..).unwrap_or(&[]);
+    let (Some(times), Some(more)) = (times, word_bytes(alloc, word, group)?) else {
+        return Ok(false);
+    };
+    // The first of a group is there.
+    let times = if word == ")" {
+        times.saturating_sub(1)
+    } else {
+        times
+    };
+    for _ in 0..times {
+        bytes.extend_from_slice(&more)?;
+    }
+    Ok(true)
+}
+
+/// Appends the bytes of a line of words. Whether all of them are words.
+pub fn push_line(alloc: Global, bytes: &mut Vec<u8>, line: &str) -> Result<bool, AllocError> {
+    let mut start = bytes.len();
+    for word in line.split_ascii_whitespace() {
+        if word == "(" {
+            start = bytes.len();
+        } else if !push_word(alloc, bytes, start, word)? {
+            return Ok(false);
+        }
+    }
+    Ok(true)
+}
+
+/// Bytes as they are printed under a label, with runs of more than eight bytes as `61*100`.
+#[derive(Clone, Copy)]
+pub struct Printed<'a>(pub &'a str, pub &'a [u8]);
+
+// How often the first byte is repeated in front.
+fn run_len(bytes: &[u8]) -> usize {
+    let mut count = 0usize;
+    for byte in bytes {
+        if bytes.first() != Some(byte) {
+            break;
+        }
+        count = count.saturating_add(1);
+    }
+    count
+}
+
+// The word of that many bytes, on a new line where the last one is full.
+fn print_word<W: fmt::Write>(
+    f: &mut fmt::Formatter<W>,
+    words: usize,
+    byte: u8,
+    many: usize,
+) -> fmt::Result {
+    if words > 0 && words % LINE == 0 {
+        f.write_str("\n=      ")?;
+    }
+    if many > 1 {
+        return write!(f, " {byte:02x}*{many}");
+    }
+    write!(f, " {byte:02x}")
+}
+
+impl fmt::Display for Printed<'_> {
+    fn fmt<W: fmt::Write>(&self, f: &mut fmt::Formatter<W>) -> fmt::Result {
+        let Printed(label, bytes) = *self;
+        write!(f, "= {label}")?;
+        let mut rest = bytes;
+        if let Some(after) = bytes.strip_prefix(PREAMBLE) {
+            f.write_str(" preamble")?;
+            rest = after;
+        }
+        for words in 0..bytes.len() {
+            let Some(byte) = rest.first() else {
+                break;
+            };
+            let run = run_len(rest);
+            let many = if run > LONGEST_RUN { run } else { 1 };
+            print_word(f, words, *byte, many)?;
+            rest = rest.get(many..).unwrap_or(&[]);
+        }
+        f.write_str("\n")
+    }
+}

@@ -1,0 +1,68 @@
+//! Answers to rows without bytes: the texts of errors, the default limits, and limits that do not fit together.
+
+use crate::bytes::PREAMBLE;
+use smith_component::{Config, Error};
+use smith_limits::{DEFAULT_LIMITS, limits_of};
+use smith_read::read;
+use smith_script::{Reason, ScriptError, script};
+use std::alloc::{AllocError, Global};
+
+const ERRORS: [Error; 6] = [
+    Error::InconsistentLimits,
+    Error::MinimumNotMet,
+    Error::ModuleRefused,
+    Error::TooLong,
+    Error::OutOfMemory,
+    Error::PartsDisagree,
+];
+
+// Each reason, and the section in which it was seen.
+const REASONS: [(&[usize], Reason); 5] = [
+    (&[], Reason::Unlike),
+    (&[0], Reason::CoreModule),
+    (&[2, 0], Reason::LongName),
+    (&[0, 10, 1], Reason::Limit),
+    (&[1], Reason::NotWellFormed),
+];
+
+/// The texts of the errors of `generate` and of `script`.
+pub fn texts(alloc: Global) -> Result<String, AllocError> {
+    let mut answers = String::new(alloc);
+    for error in ERRORS.iter() {
+        answers.push_str(&format!(in alloc; "= {error:?}: {error}\n")?)?;
+    }
+    for (path, reason) in REASONS {
+        let part = Vec::from_slice(alloc, path)?;
+        let error = ScriptError::NoScript { part, reason };
+        answers.push_str(&format!(in alloc; "= no script: {reason:?}: {error}\n")?)?;
+    }
+    for error in [ScriptError::OutOfMemory, ScriptError::InconsistentLimits] {
+        answers.push_str(&format!(in alloc; "= no script: {error:?}: {error}\n")?)?;
+    }
+    Ok(answers)
+}
+
+/// How many limits the text of the default limits sets, and whether all of them are the defaults.
+pub fn defaults(alloc: Global) -> Result<String, AllocError> {
+    let Ok(table) = toml::table_from_str(alloc, DEFAULT_LIMITS) else {
+        return String::from_str(alloc, "= no limits\n");
+    };
+    let are_defaults = limits_of(alloc, &table) == Ok(Config::default());
+    let limits = table.len();
+    format!(in alloc; "= limits: {limits}, all of them the defaults: {are_defaults}\n")
+}
+
+/// What is answered to the script of the empty component where there must be more types than there may be.
+pub fn misfit(alloc: Global, limits: &Config) -> Result<String, AllocError> {
+    let Ok(tree) = read(alloc, PREAMBLE) else {
+        return String::from_str(alloc, "= it is not read\n");
+    };
+    let misfit = Config {
+        min_types: limits.max_types.saturating_add(1),
+        ..*limits
+    };
+    match script(alloc, &misfit, &tree) {
+        Ok(_) => String::from_str(alloc, "= a script\n"),
+        Err(error) => format!(in alloc; "= no script: {error:?}\n"),
+    }
+}

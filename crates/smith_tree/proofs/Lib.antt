@@ -1,0 +1,5 @@
+pub mod Aliases
+pub mod Clear
+pub mod Parts
+pub mod TooLong
+pub mod TypeNeeds

@@ -1,0 +1,59 @@
+-- What choices are among where imports and canonical functions are read.
+use Rattle.std.specs.Prelude.{ℕ, Bool, true, false, List, [], ◌∷◌, length, nat_lt, Some, None, slice_get}
+use Rattle.smith_input.specs.Offers.{offers_of}
+use Rattle.smith_format.specs.declared.config.Config.{Config}
+use Rattle.smith_syntax.specs.Entries.{Entry, defined, function, component_type, instance_type, ImportEntry}
+use Rattle.smith_syntax.specs.Flat.{is_scalar}
+use Rattle.smith_syntax.specs.Scope.{places}
+use Rattle.smith_tree.specs.TypeOffers.{ref_kinds}
+use Rattle.smith_tree.specs.declared.choices.RefKind.{RefKind}
+use Rattle.smith_tree.specs.declared.totals.RefTotals.{RefTotals}
+use Rattle.smith_tree.specs.Open.{Open, tree_so_far, with_inner}
+use Rattle.smith_tree.specs.Spaces.{Spaces}
+use Rattle.smith_tree.specs.Tree.{ExportEntry, Tree, imports, exports, add, function_count, module_count, component_count, instance_count}
+use Rattle.smith_tree.specs.WellFormed.{scope_of}
+use Rattle.smith_tree.specs.declared.choices.CanonItem.{CanonItem}
+use Rattle.smith_tree.specs.declared.choices.CanonItem.TheVariants.{Lower, Lift}
+
+-- the open components, where the inner one has these imports more in a section of their own
+abbrev pub with_imports : Open → List ImportEntry → Open
+with_imports stack is = with_inner stack (add stack.inner (imports is))
+
+-- a component that has these exports more in a section of their own
+abbrev pub with_exports : Tree → List ExportEntry → Tree
+with_exports t es = add t (exports es)
+
+-- how many modules, components and instances the tree has so far, and how many functions the inner component
+abbrev pub totals_of : Open → RefTotals
+totals_of stack = record {
+  modules = module_count (tree_so_far stack.outer stack.inner);
+  funcs = function_count stack.inner;
+  components = component_count (tree_so_far stack.outer stack.inner);
+  instances = instance_count (tree_so_far stack.outer stack.inner);
+}
+
+-- what the next import may be of, where the section has these
+abbrev pub import_kinds : Config → Open → List ImportEntry → List RefKind
+import_kinds config stack is = ref_kinds config (scope_of stack.inner) (totals_of (with_imports stack is)) true false
+
+-- Is it a function type that flattens?
+abbrev pub is_scalar_entry : Entry → Bool
+is_scalar_entry (defined t) = false
+is_scalar_entry (function s) = is_scalar s
+is_scalar_entry (component_type ds) = false
+is_scalar_entry (instance_type ds) = false
+
+-- Is the type of that index one?
+abbrev pub is_scalar_type : List Entry → ℕ → Bool
+is_scalar_type ts t = elim (slice_get ts t) [ None ↦ false | Some e ↦ is_scalar_entry e ]
+
+-- the component functions that can be lowered, ascending
+abbrev pub scalar_functions : Spaces → List ℕ
+scalar_functions s = places (is_scalar_type s.types) 0 s.functions
+
+-- a lower where there is a function that can be lowered, and a lift where there is a core function
+abbrev pub canon_offers : Spaces → List (Bool × CanonItem)
+canon_offers s = (nat_lt 0 (length (scalar_functions s)), Lower) ∷ (nat_lt 0 (length s.core_functions), Lift) ∷ []
+
+abbrev pub canon_items : Spaces → List CanonItem
+canon_items s = offers_of (canon_offers s)

@@ -1,0 +1,129 @@
+-- What choices are among where types are read: of a type, of what an import or an export is of, of a declaration, and of a primitive that
+-- flattens to a core value type.
+use Rattle.std.specs.Prelude.{◌≡◌, ℕ, ◌+◌, Bool, true, ◌&&◌, ◌||◌, not, List, [], ◌∷◌, ◌++◌, length, nat_lt}
+use Rattle.smith_input.specs.Offers.{offers_of}
+use Rattle.smith_format.specs.declared.config.Config.{Config}
+use Rattle.smith_format.specs.declared.types.ValType.{ValType}
+use Rattle.smith_format.specs.declared.types.ValType.TheVariants.{I32, I64, F32, F64, V128, Ref}
+use Rattle.smith_syntax.specs.Entries.{FullDecl, type_alias, core_type_alias, keeps_type, keeps_core_type}
+use Rattle.smith_syntax.specs.Scope.{Scope, places, is_func, is_component, is_instance, is_core_module}
+use Rattle.smith_syntax.specs.declared.deftype.ComponentTypeRef.{ComponentTypeRef}
+use Rattle.smith_syntax.specs.declared.deftype.ComponentTypeRef.TheVariants as to
+use Rattle.smith_syntax.specs.declared.types.PrimitiveValType.{PrimitiveValType}
+use Rattle.smith_syntax.specs.declared.types.PrimitiveValType.TheVariants as prim
+use Rattle.smith_tree.specs.declared.choices.TypeKind.{TypeKind}
+use Rattle.smith_tree.specs.declared.choices.TypeKind.TheVariants.{Defined, Function, Component, Instance}
+use Rattle.smith_tree.specs.declared.choices.DeclarationItem.{DeclarationItem}
+use Rattle.smith_tree.specs.declared.choices.DeclarationItem.TheVariants as item
+use Rattle.smith_tree.specs.declared.choices.DefinedKind.{DefinedKind}
+use Rattle.smith_tree.specs.declared.choices.DefinedKind.TheVariants as kind
+use Rattle.smith_tree.specs.declared.choices.RefKind.{RefKind}
+use Rattle.smith_tree.specs.declared.choices.RefKind.TheVariants as ref
+use Rattle.smith_tree.specs.declared.totals.RefTotals.{RefTotals}
+
+-- Types.
+
+-- a primitive type
+abbrev pub primitives : List PrimitiveValType
+primitives =
+    prim.Bool ∷ prim.S8 ∷ prim.U8 ∷ prim.S16 ∷ prim.U16 ∷ prim.S32 ∷ prim.U32 ∷ prim.S64 ∷ prim.U64 ∷ prim.F32 ∷ prim.F64 ∷ prim.Char ∷ prim.String ∷ []
+
+-- a defined type
+abbrev pub defined_kinds : List DefinedKind
+defined_kinds = kind.Primitive ∷ kind.Record ∷ kind.Variant ∷ kind.List ∷ kind.Tuple ∷ kind.Flags ∷ kind.Enum ∷ kind.Option ∷ kind.Result ∷ []
+
+-- a type
+abbrev pub type_kinds : List TypeKind
+type_kinds = Defined ∷ Function ∷ Component ∷ Instance ∷ []
+
+-- a primitive that flattens to a core value type
+abbrev pub lifted : ValType → List PrimitiveValType
+lifted I32 = prim.Char ∷ prim.Bool ∷ prim.S8 ∷ prim.U8 ∷ prim.S16 ∷ prim.U16 ∷ prim.S32 ∷ prim.U32 ∷ []
+lifted I64 = prim.S64 ∷ prim.U64 ∷ []
+lifted F32 = prim.F32 ∷ []
+lifted F64 = prim.F64 ∷ []
+lifted V128 = []
+lifted (Ref r) = []
+
+-- What an import or an export is of.
+
+-- the indexes of the entries of a kind, ascending
+abbrev pub ref_places : Scope → RefKind → List ℕ
+ref_places own ref.Module = places is_core_module 0 own.core_types
+ref_places own ref.TypeEq = places (λ x. true) 0 own.types
+ref_places own ref.Func = places is_func 0 own.types
+ref_places own ref.Component = places is_component 0 own.types
+ref_places own ref.Instance = places is_instance 0 own.types
+
+-- Is there an entry of a kind?
+abbrev pub has_place : Scope → RefKind → Bool
+has_place own k = nat_lt 0 (length (ref_places own k))
+
+-- May one more be imported? Inside a type nothing is counted, nor is an export.
+abbrev pub allows_one : Bool → Bool → ℕ → ℕ → Bool
+allows_one for_import for_type_def count max = not for_import || for_type_def || nat_lt count max
+
+-- May it be of a type that is equal to one? An import never is, and outside of types it needs room for one type more.
+abbrev pub allows_equal : Config → Scope → Bool → Bool → Bool
+allows_equal config own for_import for_type_def = not for_import && (for_type_def || nat_lt (length own.types) config.max_types)
+
+-- each kind of which there is an entry
+abbrev pub ref_offers : Config → Scope → RefTotals → Bool → Bool → List (Bool × RefKind)
+ref_offers config own totals for_import for_type_def =
+    (has_place own ref.Module && allows_one for_import for_type_def totals.modules config.max_modules, ref.Module)
+    ∷ (has_place own ref.TypeEq && allows_equal config own for_import for_type_def, ref.TypeEq)
+    ∷ (has_place own ref.Func && allows_one for_import for_type_def totals.funcs config.max_funcs, ref.Func)
+    ∷ (has_place own ref.Component && allows_one for_import for_type_def totals.components config.max_components, ref.Component)
+    ∷ (has_place own ref.Instance && allows_one for_import for_type_def totals.instances config.max_instances, ref.Instance)
+    ∷ []
+
+abbrev pub ref_kinds : Config → Scope → RefTotals → Bool → Bool → List RefKind
+ref_kinds config own totals for_import for_type_def = offers_of (ref_offers config own totals for_import for_type_def)
+
+-- within types nothing is counted
+abbrev pub uncounted : RefTotals
+uncounted = record { modules = 0; funcs = 0; components = 0; instances = 0 }
+
+-- Of what a reference is of, one more may be had.
+abbrev pub IsAllowed : Config → Scope → RefTotals → Bool → Bool → ComponentTypeRef → Type 0
+IsAllowed config own totals for_import for_type_def (to.Module i) = allows_one for_import for_type_def totals.modules config.max_modules ≡ true
+IsAllowed config own totals for_import for_type_def (to.TypeEq i) = allows_equal config own for_import for_type_def ≡ true
+IsAllowed config own totals for_import for_type_def (to.Func i) = allows_one for_import for_type_def totals.funcs config.max_funcs ≡ true
+IsAllowed config own totals for_import for_type_def (to.Component i) = allows_one for_import for_type_def totals.components config.max_components ≡ true
+IsAllowed config own totals for_import for_type_def (to.Instance i) = allows_one for_import for_type_def totals.instances config.max_instances ≡ true
+
+-- Declarations.
+
+-- Has the scope something that an import or an export may be of: a type, or the type of a core module?
+abbrev pub has_reference : Scope → Bool
+has_reference own = nat_lt 0 (length own.types) || nat_lt 0 (length (places is_core_module 0 own.core_types))
+
+-- Has a scope an entry?
+abbrev pub is_occupied : Scope → Bool
+is_occupied s = nat_lt 0 (length s.types + length s.core_types)
+
+-- the counts of the scopes that have an entry, innermost first
+abbrev pub occupied : List Scope → List ℕ
+occupied scopes = places is_occupied 0 scopes
+
+-- the items with their indexes, where the first has the index i
+abbrev pub numbered : {A B : Type 0} → (ℕ → A → B) → ℕ → List A → List B
+numbered f i [] = []
+numbered f i (x ∷ xs) = f i x ∷ numbered f (i + 1) xs
+
+-- the outer aliases of what stands in a scope: its types, and then its core types
+abbrev pub aliases_of : ℕ → Scope → List FullDecl
+aliases_of count s = numbered (λ i e. type_alias count i (keeps_type e)) 0 s.types ++ numbered (λ i e. core_type_alias count i (keeps_core_type e)) 0
+    s.core_types
+
+-- a declaration: an export and an outer alias where there is something to name, and a type where one more scope may nest
+abbrev pub declaration_offers : Config → List Scope → Scope → List (Bool × DeclarationItem)
+declaration_offers config outer own =
+    (has_reference own, item.Export)
+    ∷ (nat_lt 0 (length (occupied (own ∷ outer))), item.Alias)
+    ∷ (true, item.CoreType)
+    ∷ (nat_lt (length (own ∷ outer)) config.max_nesting_depth, item.Type)
+    ∷ []
+
+abbrev pub declaration_items : Config → List Scope → Scope → List DeclarationItem
+declaration_items config outer own = offers_of (declaration_offers config outer own)

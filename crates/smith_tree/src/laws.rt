@@ -1,0 +1,28 @@
+//! Laws of trees. Each function does nothing: its contract is the law.
+
+ghost use Rattle.std.specs.Prelude.{◌≡◌, ◌≤◌, ◌↔◌, ℕ, List, None};
+ghost use Rattle.smith_syntax.specs.Entries.{CoreEntry, Entry};
+ghost use Rattle.smith_syntax.specs.WellFormed.{core_size, size};
+ghost use Rattle.smith_tree.specs.CoreTypeNeeds.{core_need};
+ghost use Rattle.smith_tree.specs.Grammar.{Spells, component_text};
+ghost use Rattle.smith_tree.specs.TooLong.{TreeTooLong};
+ghost use Rattle.smith_tree.specs.Tree.{Tree};
+ghost use Rattle.smith_tree.specs.TypeNeeds.{need};
+
+/// No bytes have two readings.
+pub fn one_reading()
+    ensures { (t r : Tree) (b : List ℕ) → Spells t b → Spells r b → t ≡ r }
+{}
+
+/// A component has no bytes exactly where a count, the length of a name or of a section, or an index in it is greater
+/// than 4,294,967,295, or a module in it has no bytes itself; its names being UTF-8, its bytes bytes and its bounds of
+/// limits numbers of 64 bits, as those of the program are.
+pub fn long_components_have_no_encoding()
+    ensures { (t : Tree) → (component_text t ≡ None) ↔ TreeTooLong t }
+{}
+
+/// No type is larger than the fuel that it needs.
+pub fn sizes_are_needed()
+    ensures types { (e : Entry) → size e ≤ need e }
+    ensures core_types { (t : CoreEntry) → core_size t ≤ core_need t }
+{}

@@ -1,0 +1,135 @@
+//! Components that nest as deep as they may, bytes that repeat, inputs that are cut, and builders turn by turn.
+
+use crate::common::{PREAMBLE, check_equal, check_equal_answers, check_holds, small_limits};
+use smith_component::{Builder, Config, Step, Unstructured, generate};
+use std::process::Abort;
+use std::test::Fail;
+
+// Nothing of anything, and no fuel.
+fn no_room() -> Config {
+    Config {
+        max_types: 0,
+        max_imports: 0,
+        max_funcs: 0,
+        max_globals: 0,
+        max_tables: 0,
+        max_tags: 0,
+        max_memories: 0,
+        max_modules: 0,
+        max_components: 0,
+        max_instances: 0,
+        max_nesting_depth: 0,
+        max_type_size: 0,
+        ..Config::default()
+    }
+}
+
+// 63 components, each in the one before: 8 bytes of preamble in each, an id, and a length of one byte or of two.
+#[test]
+fn components_nest_as_deep_as_they_may(rt: HostRuntime) -> Result<(), Fail> {
+    let config = Config {
+        max_nesting_depth: 64,
+        max_components: 63,
+        ..Config::default()
+    };
+    let mut u = Unstructured::new(&[7; 63]);
+    let generated = generate(rt.alloc(), config, &mut u)?;
+    assert_eq!(rt; generated.bytes.len(), 689);
+    let front = b"\x00asm\x0d\x00\x01\x00\x04\xa6\x05";
+    assert!(rt; generated.bytes.starts_with(front));
+    assert!(rt; u.is_empty());
+    Ok(())
+}
+
+// A builder ends within as many turns as there are bytes and components may nest. Its component has the bytes that
+// `generate` gives, which begin with the preamble, and leaves the same.
+fn check_turns<R: Abort + AllocGlobal>(
+    rt: &R,
+    config: Config,
+    name: &str,
+    input: &[u8],
+) -> Result<(), Fail> {
+    check_equal_answers(rt, config, name, input)?;
+    let mut u = Unstructured::new(input);
+    let generated = generate(rt.alloc(), config, &mut u)?;
+    check_holds(rt, name, generated.bytes.starts_with(PREAMBLE));
+    let mut fresh = Unstructured::new(input);
+    let mut builder = Builder::new(rt.alloc(), config)?;
+    for _ in 0..input.len().saturating_add(config.max_nesting_depth.max(1)) {
+        match builder.step(&mut fresh)? {
+            Step::StillBuilding(next) => builder = next,
+            Step::Finished(component) => {
+                let bytes = component.to_bytes(rt.alloc())?;
+                check_equal(rt, name, input, &bytes, &generated.bytes);
+                check_equal(rt, name, input, fresh.left(), u.left());
+                return Ok(());
+            }
+        }
+    }
+    check_holds(rt, name, false);
+    Ok(())
+}
+
+#[test]
+fn each_byte_repeated(rt: HostRuntime) -> Result<(), Fail> {
+    for config in [Config::default(), small_limits(), no_room()] {
+        for byte in 0..=255u8 {
+            let repeated = [byte; 64];
+            for many in [0, 1, 2, 3, 8, 64] {
+                let input = repeated.get(..many).unwrap_or(&repeated);
+                check_turns(&rt, config, "one byte repeated", input)?;
+            }
+        }
+    }
+    Ok(())
+}
+
+// These inputs are read choice by choice in the rows of `smith_rows`.
+const CUT_INPUTS: &[(&str, &[u8])] = &[
+    ("one primitive type", b"\x03\x01\x00\x00\x06\x00\x00"),
+    (
+        "a lift to a type that stands",
+        b"\x03\x01\x01\x01\x01\x00\x06\x00\x01\x00\x00\x04\x01\x01\x01\x00\x00\
+            \x05\x01\x01\x01\x01\x00\x07\x01\x00\x00",
+    ),
+    (
+        "an outer alias",
+        b"\x03\x01\x00\x00\x00\x01\x03\x01\x00\x00\x00\x00",
+    ),
+    (
+        "an alias, an import and an export in a component type",
+        b"\x03\x01\x01\x00\x00\x01\x02\x01\x00\x01\x00\x01\x01\x00\x01\x01\x00\x00\
+            \x01\x02\x00\x00\x00\x00",
+    ),
+];
+
+// An input that is cut anywhere is used up.
+fn check_cuts<R: Abort + AllocGlobal>(
+    rt: &R,
+    config: Config,
+    name: &str,
+    input: &[u8],
+) -> Result<(), Fail> {
+    for end in 0..=input.len() {
+        let cut = input.get(..end).unwrap_or(input);
+        check_turns(rt, config, name, cut)?;
+        let mut u = Unstructured::new(cut);
+        generate(rt.alloc(), config, &mut u)?;
+        check_holds(rt, name, u.is_empty());
+    }
+    Ok(())
+}
+
+#[test]
+fn inputs_cut_at_every_place(rt: HostRuntime) -> Result<(), Fail> {
+    for (name, input) in CUT_INPUTS {
+        check_cuts(&rt, small_limits(), name, input)?;
+    }
+    let with_exports = Config {
+        max_exports: 10,
+        ..small_limits()
+    };
+    let input = b"\x03\x01\x01\x01\x01\x00\x06\x00\x01\x00\x00\x04\x01\x01\x01\x00\x00\
+        \x08\x01\x01\x02\x00\x05\x01\x01\x00\x00";
+    check_cuts(&rt, with_exports, "a lower of an export", input)
+}

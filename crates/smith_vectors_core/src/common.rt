@@ -1,0 +1,34 @@
+//! What the tests share.
+
+use smith_format::Config;
+use std::process::Abort;
+
+/// Small limits: one module, one component and one instance, a depth of 2, and 10 of everything else.
+pub fn small_limits() -> Config {
+    Config {
+        max_modules: 1,
+        max_components: 1,
+        max_instances: 1,
+        max_nesting_depth: 2,
+        max_types: 10,
+        max_type_size: 10,
+        max_imports: 10,
+        max_funcs: 10,
+        ..Config::default()
+    }
+}
+
+/// What has this name has the bytes that are expected.
+pub fn check_bytes<R: Abort>(rt: &R, name: &str, found: &[u8], expected: &[u8]) {
+    assert_eq!(rt; found, expected, "{name}");
+}
+
+/// What has this name has the count that is expected.
+pub fn check_count<R: Abort>(rt: &R, name: &str, found: usize, expected: usize) {
+    assert_eq!(rt; found, expected, "{name}");
+}
+
+/// What is expected of what has this name holds.
+pub fn check_holds<R: Abort>(rt: &R, name: &str, holds: bool) {
+    assert!(rt; holds, "{name}");
+}

@@ -1,0 +1,63 @@
+//! Function types of a scope that are equal.
+
+use crate::common::{check_count, check_holds};
+use smith_input::Error;
+use smith_types::{ComponentValType, DefType, DefinedType, FuncType, PrimitiveValType, Scopes};
+use std::alloc::Global;
+use std::process::Abort;
+use std::rc::Rc;
+use std::test::Fail;
+
+// A function type of a `char` of that name to `char`.
+fn of_char(alloc: Global, name: &str) -> Result<FuncType, Fail> {
+    let char_type = ComponentValType::Primitive(PrimitiveValType::Char);
+    let mut params = Vec::new(alloc);
+    params.push((String::from_str(alloc, name)?, char_type))?;
+    Ok(FuncType {
+        params,
+        result: Some(char_type),
+    })
+}
+
+fn shared(alloc: Global, func: FuncType) -> Result<Rc<DefType>, Fail> {
+    Ok(Rc::new(alloc, DefType::Func(Rc::new(alloc, func)?))?)
+}
+
+// A scope of the function type and a primitive type.
+fn two_types(alloc: Global) -> Result<Scopes, Fail> {
+    let number = DefType::Defined(DefinedType::Primitive(PrimitiveValType::U32));
+    let mut scopes = Scopes::new(alloc);
+    scopes.push_type(shared(alloc, of_char(alloc, "b")?)?)?;
+    scopes.push_type(Rc::new(alloc, number)?)?;
+    Ok(scopes)
+}
+
+fn is_equal_at<R: Abort>(rt: &R, scopes: &Scopes, func: &FuncType, places: &[u32]) {
+    let many = scopes.equal_len(func);
+    check_count(rt, "equal function types", many, places.len());
+    for k in 0..many {
+        let place = scopes.equal_at(func, k);
+        check_holds(rt, "a place", places.get(k) == Some(&place));
+    }
+}
+
+fn push<R: Abort>(rt: &R, scopes: &mut Scopes, entry: &Rc<DefType>) -> Result<u32, Error> {
+    let depth = scopes.depth();
+    assert!(rt; depth == 1);
+    let many = scopes.len(0);
+    assert!(rt; many < 10);
+    scopes.push_type(entry.clone()?)
+}
+
+#[test]
+fn equal_function_types_are_found(rt: HostRuntime) -> Result<(), Fail> {
+    let alloc = rt.alloc();
+    let func = of_char(alloc, "b")?;
+    let other = of_char(alloc, "c")?;
+    let mut scopes = two_types(alloc)?;
+    let third = shared(alloc, of_char(alloc, "b")?)?;
+    assert_eq!(rt; push(&rt, &mut scopes, &third)?, 2);
+    is_equal_at(&rt, &scopes, &func, &[0, 2]);
+    is_equal_at(&rt, &scopes, &other, &[]);
+    Ok(())
+}

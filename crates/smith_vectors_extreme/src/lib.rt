@@ -1,0 +1,21 @@
+//! Worked examples that take all memory or a deep stack, or that are large, as tests. Only the whole gate runs them.
+#![tactic(auto)]
+
+#[cfg(test)]
+mod common;
+#[cfg(test)]
+mod deep;
+#[cfg(test)]
+mod depths;
+#[cfg(test)]
+mod hashes;
+#[cfg(test)]
+mod modules;
+#[cfg(test)]
+mod positions;
+#[cfg(test)]
+mod programs;
+#[cfg(test)]
+mod refused_growth;
+#[cfg(test)]
+mod scarcity;

@@ -1,0 +1,87 @@
+//! Memory that runs out.
+//!
+//! A test takes all the memory that its process may have, and lends a little more of it to each try of a call, so that
+//! the call is refused its first growth, then a later one, until there is enough. What the allocator keeps between
+//! its own blocks is lent at each try and can't be taken away.
+
+use std::alloc::{AllocError, Global};
+
+/// How many loans there are: the last is of all of a block but 16 bytes.
+pub const LOANS: usize = 1024;
+
+/// What a loan is cut from, in bytes: more than any of the calls takes.
+const BLOCK: usize = 16_384;
+
+/// What a loan has more than the one before, in bytes.
+const STEP: usize = 16;
+
+/// How many blocks are taken at most.
+const MOST: usize = 1_000_000;
+
+/// All memory but what is lent.
+#[derive(Drop)]
+pub struct Scarcity {
+    alloc: Global,
+    taken: Vec<Vec<u8>>,
+    kept: Vec<Vec<u8>>,
+    room: usize,
+}
+
+impl Scarcity {
+    /// Takes all memory. The first loan is of nothing.
+    pub fn new(alloc: Global) -> Result<Scarcity, AllocError> {
+        let mut kept = Vec::with_capacity(alloc, LOANS)?;
+        for _ in 0..LOANS {
+            kept.push(Vec::with_capacity(alloc, BLOCK)?)?;
+        }
+        let mut memory = Scarcity {
+            alloc,
+            taken: Vec::with_capacity(alloc, MOST)?,
+            kept,
+            room: 0,
+        };
+        for exponent in 0..33u32 {
+            memory.take(1usize << (46 - exponent));
+        }
+        memory.take_small();
+        Ok(memory)
+    }
+
+    // Takes blocks of this size until one is refused.
+    fn take(&mut self, size: usize) {
+        for _ in 0..MOST {
+            let Ok(block) = Vec::with_capacity(self.alloc, size) else {
+                return;
+            };
+            if self.taken.push(block).is_err() {
+                return;
+            }
+        }
+    }
+
+    // Takes the small blocks that are free, of each size.
+    fn take_small(&mut self) {
+        for exponent in 0..3u32 {
+            self.take(1usize << (13 - exponent));
+        }
+        for steps in 0..128usize {
+            self.take(2048 - STEP * steps);
+        }
+    }
+
+    /// Takes back what is free, and lends 16 bytes more than before, those counted in with which the allocator keeps
+    /// account of a block.
+    pub fn lend(&mut self) {
+        self.take_small();
+        drop(self.kept.pop());
+        self.take_one(BLOCK.saturating_sub(self.room));
+        self.room = self.room.saturating_add(STEP);
+    }
+
+    // Takes one block of this size, where it is to be had.
+    fn take_one(&mut self, size: usize) {
+        if let Ok(block) = Vec::with_capacity(self.alloc, size) {
+            let _ = self.taken.push(block);
+        }
+    }
+}
