@@ -4,14 +4,14 @@ use Rattle.smith_format.specs.Limits.{IsConsistent}
 use Rattle.smith_format.specs.declared.config.Config.{Config}
 use Rattle.smith_tree.specs.Generates.{Generates}
 use Rattle.smith_component.specs.Refusals.{IsGenerateRefusal}
-use Rattle.smith_component.specs.Runs.{RunsTo}
+use Rattle.smith_component.specs.Runs.{IsMade}
 use Rattle.smith_tree.specs.Tree.{Tree}
 use Rattle.smith_c.specs.Limits.{limits_of}
 use Rattle.smith_c.specs.declared.limits.Limits.{Limits}
 use Rattle.smith_c.specs.declared.status.Status.{Status}
 use Rattle.smith_c.specs.declared.status.Status.TheVariants.{Answered, Refused, NoRoom, BadFlag}
 
--- These are the bytes of a component to which a run of turns within the limits leads, and so many bytes of the input are left.
+-- These are the bytes of a component that is made of the input within the limits, and so many bytes of the input are left.
 pub record Makes (limits : Limits) (input bytes : List ℕ) (left : ℕ) : Type 0 where
   pub config : Config
   pub told : limits ≡ limits_of config
@@ -19,12 +19,13 @@ pub record Makes (limits : Limits) (input bytes : List ℕ) (left : ℕ) : Type 
   pub component : Tree
   pub generated : Generates config component bytes
   pub rest : List ℕ
-  pub run : RunsTo config input component rest
+  pub made : IsMade config input component rest
   pub left_is : left ≡ length rest
 
 -- No component is made: as the limits and the input refuse it, or since the limits are those of no configuration.
 abbrev pub Stops : Limits → List ℕ → Status → Type 0
 Stops limits input Answered = ⊥
-Stops limits input (Refused error) = (config : Config) × (limits ≡ limits_of config) × IsGenerateRefusal config input error
+Stops limits input (Refused error) =
+    (config : Config) × (limits ≡ limits_of config) × (left : List ℕ) × IsGenerateRefusal config input error left
 Stops limits input NoRoom = ⊥
 Stops limits input BadFlag = (config : Config) → limits ≢ limits_of config

@@ -69,12 +69,23 @@ module _ {config : Config} {stack : Open} {b : List ℕ} where
       g.functions
 
   -- What can be filled lacks nothing.
-  pub fills_lack : {full : Tree} {r : List ℕ} → FillsAll config stack b full r → Lacks config stack b → ⊥
+  pub fills_lack : {full : Tree} {r rest : List ℕ} → FillsAll config stack b full r → Lacks config stack b rest → ⊥
   fills_lack f (of_imports t i less) = let e = filled_imports t i f.types f.imports in
       omega (arith, less, f.enough_imports, ap (λ z. length (imports_of z)) e.0)
-  fills_lack {full} {r} f (of_functions {imported = imported} {full = other} {low = low} {rest = rest} t i enough g less) =
+  fills_lack {full} {r} {rest} f (of_functions {imported = imported} {full = other} {low = low} t i enough g less) =
       let e = fill_then counted.Functions config stack imported f.imported low f.low other full rest r (filled_imports t i f.types f.imports) g f.functions in
       omega (arith, less, f.enough_functions, ap (λ z. function_count z) e.0)
+
+  -- What lacks something is left the same.
+  pub lacks_same : {r q : List ℕ} → Lacks config stack b r → Lacks config stack b q → r ≡ q
+  lacks_same (of_imports t i less) (of_imports s j few) = (filled_imports t i s j).1
+  lacks_same (of_imports t i less) (of_functions s j enough g few) =
+      absurd (omega (arith, less, enough, ap (λ z. length (imports_of z)) (filled_imports t i s j).0))
+  lacks_same (of_functions t i enough g less) (of_imports s j few) =
+      absurd (omega (arith, few, enough, ap (λ z. length (imports_of z)) (filled_imports t i s j).0))
+  lacks_same {r} {q} (of_functions {imported = imported} {full = full} {low = low} t i enough g less)
+      (of_functions {imported = other} {full = filled} {low = left} s j some h few) =
+      (fill_then counted.Functions config stack imported other low left full filled r q (filled_imports t i s j) g h).1
 
 pub custom_same : {b name contents r other held q : List ℕ} → ReadsCustom b name contents r → ReadsCustom b other held q
     → (name ≡ other) × (contents ≡ held) × (r ≡ q)
@@ -158,15 +169,15 @@ runs_to_same config input a c b r x y = runs_same x.turns config (building root)
 
 -- A run goes on from nowhere that a turn is refused.
 
-pub lacks_no_turn : {config : Config} {stack : Open} {left : List ℕ} {next : Next} {rest : List ℕ} → LacksAt config stack left
+pub lacks_no_turn : {config : Config} {stack : Open} {left q : List ℕ} {next : Next} {rest : List ℕ} → LacksAt config q stack left
     → Turn config stack left next rest → ⊥
-lacks_no_turn {config} {stack} {left} {next} {rest} (after, choice, lacks) t =
+lacks_no_turn {config} {stack} {left} {q} {next} {rest} (after, choice, lacks) t =
     let d : Does config Finish stack after next rest = does_at choice t in
     fills_lack d.1 lacks
 
-pub refuses_no_turn : {config : Config} {stack : Open} {left : List ℕ} {next : Next} {rest : List ℕ} → RefusesModuleAt config stack left
+pub refuses_no_turn : {config : Config} {stack : Open} {left after : List ℕ} {next : Next} {rest : List ℕ} → RefusesModuleAt config after stack left
     → Turn config stack left next rest → ⊥
-refuses_no_turn {config} {stack} {left} {next} {rest} (after, choice, crossed) t =
+refuses_no_turn {config} {stack} {left} {after} {next} {rest} (choice, crossed) t =
     let d : Does config Module stack after next rest = does_at choice t in
     omega (arith, crossed, d.1.ordered)
 
@@ -181,10 +192,10 @@ never_comes At config input c r k never run l =
     stuck zero s = let e : answered c ≡ building l.stack = s.0 in cc
     stuck (suc j) (mid, left1, one, more) = never l.stack l.left mid left1 l.there one
 
-pub runs_lack_none : (config : Config) (input : List ℕ) (c : Tree) (r : List ℕ) (k : ℕ) → Turns config (building root) input (answered c) r k
-    → LacksOn config input → ⊥
-runs_lack_none config input c r k = never_comes (LacksAt config) config input c r k (λ stack left n x l t. lacks_no_turn l t)
+pub runs_lack_none : (config : Config) (input : List ℕ) (c : Tree) (r rest : List ℕ) (k : ℕ) → Turns config (building root) input (answered c) r k
+    → LacksOn config input rest → ⊥
+runs_lack_none config input c r rest k = never_comes (LacksAt config rest) config input c r k (λ stack left n x l t. lacks_no_turn l t)
 
-pub runs_refuse_no_module : (config : Config) (input : List ℕ) (c : Tree) (r : List ℕ) (k : ℕ) → Turns config (building root) input (answered c) r k
-    → RefusesModuleOn config input → ⊥
-runs_refuse_no_module config input c r k = never_comes (RefusesModuleAt config) config input c r k (λ stack left n x m t. refuses_no_turn m t)
+pub runs_refuse_no_module : (config : Config) (input : List ℕ) (c : Tree) (r rest : List ℕ) (k : ℕ) → Turns config (building root) input (answered c) r k
+    → RefusesModuleOn config input rest → ⊥
+runs_refuse_no_module config input c r rest k = never_comes (RefusesModuleAt config rest) config input c r k (λ stack left n x m t. refuses_no_turn m t)

@@ -125,21 +125,21 @@ filled_functions config stack b full rest consistent grounded some room (inr (la
     omega (arith, enough, less, ap (λ t. function_count t) e)
 
 -- Nothing lacks where it can be filled.
-pub filled_surely : (config : Config) (stack : Open) (b : List ℕ) → IsConsistent config → IsGrounded stack.inner → CanFill config stack.inner
-    → Lacks config stack b → ⊥
-filled_surely config stack b consistent grounded (inl enough) (of_imports {typed} {imported} {mid} {low} ts is less) =
-    enough_imports config stack b typed mid imported low enough.imports ts is less
-filled_surely config stack b consistent grounded (inl enough) (of_functions {typed} {imported} {full} {mid} {low} {rest} ts is some fs less) =
+pub filled_surely : (config : Config) (stack : Open) (b rest : List ℕ) → IsConsistent config → IsGrounded stack.inner → CanFill config stack.inner
+    → Lacks config stack b rest → ⊥
+filled_surely config stack b rest consistent grounded (inl enough) (of_imports {typed} {imported} {mid} ts is less) =
+    enough_imports config stack b typed mid imported rest enough.imports ts is less
+filled_surely config stack b rest consistent grounded (inl enough) (of_functions {typed} {imported} {full} {mid} {low} ts is some fs less) =
     enough_functions config stack b typed mid imported low full rest enough.functions ts is fs less
-filled_surely config stack b consistent grounded (inr (inl can)) (of_imports {typed} {imported} {mid} {low} ts is less) =
+filled_surely config stack b rest consistent grounded (inr (inl can)) (of_imports {typed} {imported} {mid} ts is less) =
     let t = typed_is config stack b typed mid ts in
-    filled_imports config (with_inner stack typed) mid imported low consistent (omega (arith, can.has_type, t.types))
+    filled_imports config (with_inner stack typed) mid imported rest consistent (omega (arith, can.has_type, t.types))
     (omega (arith, can.room, t.functions, t.imports)) is less
-filled_surely config stack b consistent grounded (inr (inl can)) (of_functions {typed} {imported} {full} {mid} {low} {rest} ts is some fs less) =
+filled_surely config stack b rest consistent grounded (inr (inl can)) (of_functions {typed} {imported} {full} {mid} {low} ts is some fs less) =
     enough_functions config stack b typed mid imported low full rest can.functions ts is fs less
-filled_surely config stack b consistent grounded (inr (inr can)) (of_imports {typed} {imported} {mid} {low} ts is less) =
-    enough_imports config stack b typed mid imported low can.imports ts is less
-filled_surely config stack b consistent grounded (inr (inr can)) (of_functions {typed} {imported} {full} {mid} {low} {rest} ts is some fs less) =
+filled_surely config stack b rest consistent grounded (inr (inr can)) (of_imports {typed} {imported} {mid} ts is less) =
+    enough_imports config stack b typed mid imported rest can.imports ts is less
+filled_surely config stack b rest consistent grounded (inr (inr can)) (of_functions {typed} {imported} {full} {mid} {low} ts is some fs less) =
     let e = neither config stack b typed mid imported low can.types can.imports ts is in
     let P : Tree → Type 0 = λ u. Fills counted.Functions config (with_inner stack u) low full rest in
     filled_functions config stack low full rest consistent grounded can.has_scalar can.room (subst P e.0 fs) less

@@ -26,8 +26,8 @@ module _ (config : Config) (input : List ℕ) (plan : Tree) (rest : List ℕ) (c
   pub run_is_plan : (a : Tree) (left : List ℕ) → RunsTo config input a left → (a ≡ plan) × (left ≡ rest)
   run_is_plan a left run = runs_same run.turns config (building root) input a plan left rest plan_runs.turns run.run plan_runs.run
 
-  pub plan_lacks_none : LacksOn config input → ⊥
-  plan_lacks_none = runs_lack_none config input plan rest plan_runs.turns plan_runs.run
+  pub plan_lacks_none : (left : List ℕ) → LacksOn config input left → ⊥
+  plan_lacks_none left = runs_lack_none config input plan rest left plan_runs.turns plan_runs.run
 
-  pub plan_refuses_no_module : RefusesModuleOn config input → ⊥
-  plan_refuses_no_module = runs_refuse_no_module config input plan rest plan_runs.turns plan_runs.run
+  pub plan_refuses_no_module : (left : List ℕ) → RefusesModuleOn config input left → ⊥
+  plan_refuses_no_module left = runs_refuse_no_module config input plan rest left plan_runs.turns plan_runs.run

@@ -1,5 +1,6 @@
 -- Which refusals follow from which.
-use Rattle.std.proofs.Common.{◌≡◌, ℕ, List, refl, subst}
+use Rattle.std.proofs.Common.{◌≡◌, ℕ, List, refl, subst, sym}
+use Rattle.smith_core.specs.StandIn.{IsStandInRefusal}
 use Rattle.smith_input.specs.Choices.{ReadsAmong}
 use Rattle.smith_input.specs.declared.error.Error.{Error}
 use Rattle.smith_input.specs.declared.error.Error.TheVariants.{InconsistentLimits, MinimumNotMet, ModuleRefused, TooLong, OutOfMemory, PartsDisagree}
@@ -9,14 +10,14 @@ use Rattle.smith_component.specs.Filling.{CanFill}
 use Rattle.smith_tree.specs.Open.{Open, items}
 use Rattle.smith_component.specs.Refusals.{IsFillRefusal, IsStepRefusal, LacksOn, RefusesModuleOn, IsRefusal}
 use Rattle.smith_component.specs.Turn.{LacksAt, RefusesModuleAt}
-use Rattle.smith_tree.specs.declared.choices.Item.TheVariants.{Finish}
+use Rattle.smith_tree.specs.declared.choices.Item.TheVariants.{Finish, Module}
 use Rattle.smith_component.specs.Tables.{IsGrounded}
 use Rattle.smith_component.proofs.Filling.{filled_surely}
 
-module _ (config : Config) (stack : Open) (left : List ℕ) where
+module _ (config : Config) (stack : Open) (left rest : List ℕ) where
   -- A component that lacks something is one whose finish was chosen.
-  pub finish_refused : (after : List ℕ) → ReadsAmong (items config stack left) left Finish after → (e : Error) → IsFillRefusal config stack after e
-      → IsStepRefusal config stack left e
+  pub finish_refused : (after : List ℕ) → ReadsAmong (items config stack left) left Finish after → (e : Error) → IsFillRefusal config stack after e rest
+      → IsStepRefusal config stack left e rest
   finish_refused after choice InconsistentLimits h = absurd h
   finish_refused after choice MinimumNotMet h = (after, choice, h)
   finish_refused after choice ModuleRefused h = absurd h
@@ -24,9 +25,20 @@ module _ (config : Config) (stack : Open) (left : List ℕ) where
   finish_refused after choice OutOfMemory h = tt
   finish_refused after choice PartsDisagree h = absurd h
 
+  -- A core module that is refused is one that was chosen, after which nothing was read.
+  pub module_refused : (after : List ℕ) → ReadsAmong (items config stack left) left Module after → (e : Error) → IsStandInRefusal config e
+      → (e ≡ ModuleRefused → rest ≡ after) → IsStepRefusal config stack left e rest
+  module_refused after choice InconsistentLimits h same = absurd h
+  module_refused after choice MinimumNotMet h same = absurd h
+  module_refused after choice ModuleRefused h same = (subst (ReadsAmong (items config stack left) left Module) (sym (same refl)) choice, h)
+  module_refused after choice TooLong h same = absurd h
+  module_refused after choice OutOfMemory h same = tt
+  module_refused after choice PartsDisagree h same = absurd h
+
   -- What refuses a step refuses the run that leads to it.
-  pub step_refused : (input : List ℕ) → IsConsistent config → (LacksAt config stack left → LacksOn config input)
-      → (RefusesModuleAt config stack left → RefusesModuleOn config input) → (e : Error) → IsStepRefusal config stack left e → IsRefusal config input e
+  pub step_refused : (input : List ℕ) → IsConsistent config → (LacksAt config rest stack left → LacksOn config input rest)
+      → (RefusesModuleAt config rest stack left → RefusesModuleOn config input rest) → (e : Error) → IsStepRefusal config stack left e rest
+      → IsRefusal config input e rest
   step_refused input consistent lacks refuses InconsistentLimits h = absurd h
   step_refused input consistent lacks refuses MinimumNotMet h = (consistent, lacks h)
   step_refused input consistent lacks refuses ModuleRefused h = (consistent, refuses h)
@@ -35,16 +47,16 @@ module _ (config : Config) (stack : Open) (left : List ℕ) where
   step_refused input consistent lacks refuses PartsDisagree h = absurd h
 
 -- Where what lacks can be filled, it is no minimum that refuses a step.
-pub never_minimum : (config : Config) (stack : Open) (left : List ℕ) → IsConsistent config → IsGrounded stack.inner → CanFill config stack.inner → (e : Error)
-    → IsStepRefusal config stack left e → ¬ (e ≡ MinimumNotMet)
-never_minimum config stack left consistent grounded can e h m =
-    let lacks : LacksAt config stack left = subst (IsStepRefusal config stack left) m h in
-    filled_surely config stack lacks.0 consistent grounded can lacks.2
+pub never_minimum : (config : Config) (stack : Open) (left rest : List ℕ) → IsConsistent config → IsGrounded stack.inner → CanFill config stack.inner
+    → (e : Error) → IsStepRefusal config stack left e rest → ¬ (e ≡ MinimumNotMet)
+never_minimum config stack left rest consistent grounded can e h m =
+    let lacks : LacksAt config rest stack left = subst (λ x. IsStepRefusal config stack left x rest) m h in
+    filled_surely config stack lacks.0 rest consistent grounded can lacks.2
 
-module _ (config : Config) where
-  pub refused_accepted : (input : List ℕ) → IsConsistent config → (LacksOn config input → ⊥) → (RefusesModuleOn config input → ⊥) → (e : Error)
-      → IsRefusal config input e → e ≡ OutOfMemory
-  refused_accepted input consistent never left InconsistentLimits h = absurd (h consistent)
+module _ (config : Config) (rest : List ℕ) where
+  pub refused_accepted : (input : List ℕ) → IsConsistent config → (LacksOn config input rest → ⊥) → (RefusesModuleOn config input rest → ⊥) → (e : Error)
+      → IsRefusal config input e rest → e ≡ OutOfMemory
+  refused_accepted input consistent never left InconsistentLimits h = absurd (h.0 consistent)
   refused_accepted input consistent never left MinimumNotMet h = absurd (never h.1)
   refused_accepted input consistent never left ModuleRefused h = absurd (left h.1)
   refused_accepted input consistent never left TooLong h = absurd h

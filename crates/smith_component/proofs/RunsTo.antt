@@ -76,11 +76,11 @@ reached_step config same input stack next now left left2 e n r t =
     reached_turn config input stack next left left2 r (subst Q n (subst P e t))
 
 pub reached_refusal : (config same : Config) (input : List ℕ) (stack : Open) (left : List ℕ) → same ≡ config → Reached config input stack left
-    → IsConsistent config → (e : Error) → IsStepRefusal same stack left e → IsRefusal config input e
-reached_refusal config same input stack left e r consistent error h =
-    let P : Config → Type 0 = λ x. IsStepRefusal x stack left error in
-    step_refused config stack left input consistent (reached_there (LacksAt config) config input stack left r)
-    (reached_there (RefusesModuleAt config) config input stack left r) error (subst P e h)
+    → IsConsistent config → (e : Error) (rest : List ℕ) → IsStepRefusal same stack left e rest → IsRefusal config input e rest
+reached_refusal config same input stack left e r consistent error rest h =
+    let P : Config → Type 0 = λ x. IsStepRefusal x stack left error rest in
+    step_refused config stack left rest input consistent (reached_there (LacksAt config rest) config input stack left r)
+    (reached_there (RefusesModuleAt config rest) config input stack left r) error (subst P e h)
 
 pub reached_answer : (config same : Config) (input : List ℕ) (stack : Open) (c : Tree) (now : Next) (left left2 : List ℕ) → same ≡ config → now ≡ answered c
     → Reached config input stack left → Turn same stack left now left2 → RunsTo config input c left2

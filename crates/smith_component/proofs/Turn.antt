@@ -97,35 +97,33 @@ fills_tail {config} {stack} {b} {full} {rest} f =
     let fs = fill_tail counted.Functions config (with_inner stack f.imported) f.low full rest f.functions in
     tail_trans fs (tail_trans is ts)
 
--- How many components are open after an item, and how many bytes are left.
-does_length : (config : Config) (item : Item) (stack next : Open) (b r : List ℕ) → (item ≡ Component → is_component_offered config stack ≡ true)
-    → length stack.outer + 1 ≤ max_depth config → Does config item stack b (building next) r
-    → (length next.outer + 1 ≤ max_depth config) × (length r ≤ length b)
-does_length config Finish stack next b r e m (full, f, c) = (omega (arith, closes_length (with_inner stack full) next c), tail_length r b (fills_tail f))
-does_length config Custom stack next b r e m (name, contents, read, c) =
-    (omega (arith, part_length config stack next (custom name contents) c), tail_length r b (custom_tail b name contents r read))
-does_length config CoreTypes stack next b r e m (xs, scope, es, c) =
-    (omega (arith, part_length config stack next (core_types xs) c), tail_length r b (core_types_read_tail config es))
-does_length config Types stack next b r e m (t, a, c) = (
-  omega (arith, inner_length stack next t c),
-  tail_length r b (adds_tail counted.Types config 0 stack b t r a),
-)
-does_length config Imports stack next b r e m (t, a, c) = (
-  omega (arith, inner_length stack next t c),
-  tail_length r b (adds_tail counted.Imports config 0 stack b t r a),
-)
-does_length config Canonical stack next b r e m (t, a, c) = (
-  omega (arith, inner_length stack next t c),
-  tail_length r b (adds_tail counted.Functions config 0 stack b t r a),
-)
-does_length config Module stack next b r e m (parts, read, c) =
-    (omega (arith, part_length config stack next (core_module (shown_module parts)) c), tail_length r b (stand_in_tail config b parts r read))
-does_length config Component stack next b r e m (d, c) =
+-- What an item leaves.
+pub does_tail : (config : Config) (item : Item) (stack : Open) (next : Next) (b r : List ℕ) → Does config item stack b next r → IsTail r b
+does_tail config Finish stack next b r (full, f, c) = fills_tail f
+does_tail config Custom stack next b r (name, contents, read, c) = custom_tail b name contents r read
+does_tail config CoreTypes stack next b r (xs, scope, es, c) = core_types_read_tail config es
+does_tail config Types stack next b r (t, a, c) = adds_tail counted.Types config 0 stack b t r a
+does_tail config Imports stack next b r (t, a, c) = adds_tail counted.Imports config 0 stack b t r a
+does_tail config Canonical stack next b r (t, a, c) = adds_tail counted.Functions config 0 stack b t r a
+does_tail config Module stack next b r (parts, read, c) = stand_in_tail config b parts r read
+does_tail config Component stack next b r (d, c) = tail_is d
+does_tail config Exports stack next b r (es, read, c) = exports_tail config stack.inner read
+
+-- How many components are open after an item.
+does_depth : (config : Config) (item : Item) (stack next : Open) (b r : List ℕ) → (item ≡ Component → is_component_offered config stack ≡ true)
+    → length stack.outer + 1 ≤ max_depth config → Does config item stack b (building next) r → length next.outer + 1 ≤ max_depth config
+does_depth config Finish stack next b r e m (full, f, c) = omega (arith, closes_length (with_inner stack full) next c)
+does_depth config Custom stack next b r e m (name, contents, read, c) = omega (arith, part_length config stack next (custom name contents) c)
+does_depth config CoreTypes stack next b r e m (xs, scope, es, c) = omega (arith, part_length config stack next (core_types xs) c)
+does_depth config Types stack next b r e m (t, a, c) = omega (arith, inner_length stack next t c)
+does_depth config Imports stack next b r e m (t, a, c) = omega (arith, inner_length stack next t c)
+does_depth config Canonical stack next b r e m (t, a, c) = omega (arith, inner_length stack next t c)
+does_depth config Module stack next b r e m (parts, read, c) = omega (arith, part_length config stack next (core_module (shown_module parts)) c)
+does_depth config Component stack next b r e m (d, c) =
     let f : next ≡ record { outer = stack.outer ++ stack.inner ∷ []; inner = ends } = cc in
     let o = component_offered_is config stack (e refl) in
-    (omega (arith, o.0, length-append stack.outer (stack.inner ∷ []), ap (λ n. length n.outer) f), omega (arith, ap length d))
-does_length config Exports stack next b r e m (es, read, c) =
-    (omega (arith, part_length config stack next (exports es) c), tail_length r b (exports_tail config stack.inner read))
+    omega (arith, o.0, length-append stack.outer (stack.inner ∷ []), ap (λ n. length n.outer) f)
+does_depth config Exports stack next b r e m (es, read, c) = omega (arith, part_length config stack next (exports es) c)
 
 -- An item that has a condition was offered.
 abbrev pub WasOffered : Config → Open → Item → Type 0
@@ -185,15 +183,16 @@ turn_falls config stack next [] left2 m t =
     subst (λ l. todo config l next + 1 ≤ length stack.outer + 1) (sym e) (omega (arith, closes_length (with_inner stack f.0) next f.2))
 turn_falls config stack next (x ∷ xs) left2 m t =
     let some = items_some (is_module_offered config stack) (is_component_offered config stack) (is_export_offered config) in
-    let d = does_length config t.item stack next t.after left2 (chosen config stack (x ∷ xs) t.after t.item t.chooses).1 m t.does in
+    let deep = does_depth config t.item stack next t.after left2 (chosen config stack (x ∷ xs) t.after t.item t.chooses).1 m t.does in
+    let few = tail_length left2 t.after (does_tail config t.item stack (building next) t.after left2 t.does) in
     let a : t.after ≡ xs = after_one _ x xs t.chooses.place t.after (omega (arith, some.0)) (omega (arith, some.1)) t.chooses.reads in
-    omega (arith, todo_bound config left2 next (length xs) d.0 (omega (arith, d.1, ap length a)))
+    omega (arith, todo_bound config left2 next (length xs) deep (omega (arith, few, ap length a)))
 
 -- No more components are open after a turn than may be.
 pub turn_shallow : (config : Config) (stack next : Open) (left left2 : List ℕ) → length stack.outer + 1 ≤ max_depth config
     → Turn config stack left (building next) left2 → length next.outer + 1 ≤ max_depth config
-turn_shallow config stack next left left2 m t = (does_length config t.item stack next t.after left2 (chosen config stack left t.after t.item t.chooses).1 m
-    t.does).0
+turn_shallow config stack next left left2 m t =
+    does_depth config t.item stack next t.after left2 (chosen config stack left t.after t.item t.chooses).1 m t.does
 
 pub falls : (config : Config) (stack : Open) (next : Next) (left left2 : List ℕ) → length stack.outer + 1 ≤ max_depth config → Turn config stack left next left2
     → Falls config left stack left2 next

@@ -26,12 +26,12 @@ pub record FillsAll (config : Config) (stack : Open) (b : List ℕ) (full : Tree
   pub functions : Fills counted.Functions config (with_inner stack imported) low full rest
   pub enough_functions : config.min_funcs ≤ function_count full
 
--- Imports lack when they are filled; or they do not, and functions lack when those are filled.
-pub data Lacks (config : Config) (stack : Open) (b : List ℕ) : Type 0 where
-  of_imports : {typed imported : Tree} {mid low : List ℕ} → Fills counted.Types config stack b typed mid
-      → Fills counted.Imports config (with_inner stack typed) mid imported low
-      → length (imports_of imported) < config.min_imports → Lacks config stack b
-  of_functions : {typed imported full : Tree} {mid low rest : List ℕ} → Fills counted.Types config stack b typed mid
+-- Imports are missing when they have been filled; or none is, and functions are missing when those have been. That leaves these bytes.
+pub data Lacks (config : Config) (stack : Open) (b rest : List ℕ) : Type 0 where
+  of_imports : {typed imported : Tree} {mid : List ℕ} → Fills counted.Types config stack b typed mid
+      → Fills counted.Imports config (with_inner stack typed) mid imported rest
+      → length (imports_of imported) < config.min_imports → Lacks config stack b rest
+  of_functions : {typed imported full : Tree} {mid low : List ℕ} → Fills counted.Types config stack b typed mid
       → Fills counted.Imports config (with_inner stack typed) mid imported low
       → config.min_imports ≤ length (imports_of imported) → Fills counted.Functions config (with_inner stack imported) low full rest
-      → function_count full < config.min_funcs → Lacks config stack b
+      → function_count full < config.min_funcs → Lacks config stack b rest

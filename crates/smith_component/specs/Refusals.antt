@@ -23,28 +23,29 @@ IsNewRefusal config TooLong = ⊥
 IsNewRefusal config OutOfMemory = IsConsistent config
 IsNewRefusal config PartsDisagree = ⊥
 
--- A component that is to be finished is refused where imports or functions lack, and else only for want of memory.
-abbrev pub IsFillRefusal : Config → Open → List ℕ → Error → Type 0
-IsFillRefusal config stack b InconsistentLimits = ⊥
-IsFillRefusal config stack b MinimumNotMet = Lacks config stack b
-IsFillRefusal config stack b ModuleRefused = ⊥
-IsFillRefusal config stack b TooLong = ⊥
-IsFillRefusal config stack b OutOfMemory = Unit {0}
-IsFillRefusal config stack b PartsDisagree = ⊥
+-- A component that is to be finished is refused where imports or functions are missing, and else only for want of memory. Of the bytes
+-- the last ones are left.
+abbrev pub IsFillRefusal : Config → Open → List ℕ → Error → List ℕ → Type 0
+IsFillRefusal config stack b InconsistentLimits rest = ⊥
+IsFillRefusal config stack b MinimumNotMet rest = Lacks config stack b rest
+IsFillRefusal config stack b ModuleRefused rest = ⊥
+IsFillRefusal config stack b TooLong rest = ⊥
+IsFillRefusal config stack b OutOfMemory rest = Unit {0}
+IsFillRefusal config stack b PartsDisagree rest = ⊥
 
 -- There are at least so many, or a minimum is not met.
 abbrev pub IsMinimum : {T : Type 0} → Result T Error → ℕ → ℕ → Type 0
 IsMinimum result min count = MatchResult result (λ _. min ≤ count) (λ e. (e ≡ MinimumNotMet) × (count < min))
 
--- A turn is refused where the inner component is to be finished and imports or functions lack, where a core module is chosen that the
--- limits on memories do not leave, and else only for want of memory.
-abbrev pub IsStepRefusal : Config → Open → List ℕ → Error → Type 0
-IsStepRefusal config stack left InconsistentLimits = ⊥
-IsStepRefusal config stack left MinimumNotMet = LacksAt config stack left
-IsStepRefusal config stack left ModuleRefused = RefusesModuleAt config stack left
-IsStepRefusal config stack left TooLong = ⊥
-IsStepRefusal config stack left OutOfMemory = Unit {0}
-IsStepRefusal config stack left PartsDisagree = ⊥
+-- A turn is refused where the inner component is to be finished and imports or functions are missing, where a core module is chosen that
+-- the limits on memories do not leave, and else only for want of memory.
+abbrev pub IsStepRefusal : Config → Open → List ℕ → Error → List ℕ → Type 0
+IsStepRefusal config stack left InconsistentLimits rest = ⊥
+IsStepRefusal config stack left MinimumNotMet rest = LacksAt config rest stack left
+IsStepRefusal config stack left ModuleRefused rest = RefusesModuleAt config rest stack left
+IsStepRefusal config stack left TooLong rest = ⊥
+IsStepRefusal config stack left OutOfMemory rest = Unit {0}
+IsStepRefusal config stack left PartsDisagree rest = ⊥
 
 -- Turns in a row lead from the input to components that are open and bytes that are left, of which something is true.
 pub record RunReaches (config : Config) (At : Open → List ℕ → Type 0) (input : List ℕ) : Type 0 where
@@ -54,32 +55,32 @@ pub record RunReaches (config : Config) (At : Open → List ℕ → Type 0) (inp
   pub run : Turns config (building root) input (building stack) left turns
   pub there : At stack left
 
--- the input leads to a component that is to be finished, of which imports or functions lack
-abbrev pub LacksOn : Config → List ℕ → Type 0
-LacksOn config input = RunReaches config (LacksAt config) input
+-- The input leads to a component that is to be finished, of which imports or functions are missing when these bytes are left.
+abbrev pub LacksOn : Config → List ℕ → List ℕ → Type 0
+LacksOn config input rest = RunReaches config (LacksAt config rest) input
 
--- the input leads to a core module that the limits on memories do not leave
-abbrev pub RefusesModuleOn : Config → List ℕ → Type 0
-RefusesModuleOn config input = RunReaches config (RefusesModuleAt config) input
+-- The input leads to a core module that the limits on memories do not leave, and these bytes are left.
+abbrev pub RefusesModuleOn : Config → List ℕ → List ℕ → Type 0
+RefusesModuleOn config input rest = RunReaches config (RefusesModuleAt config rest) input
 
--- Limits that do not fit together are refused as such; a component is refused that lacks of a minimum, or that is to have a core module
--- that the limits do not leave, and all else only for want of memory.
-abbrev pub IsRefusal : Config → List ℕ → Error → Type 0
-IsRefusal config input InconsistentLimits = ¬ IsConsistent config
-IsRefusal config input MinimumNotMet = IsConsistent config × LacksOn config input
-IsRefusal config input ModuleRefused = IsConsistent config × RefusesModuleOn config input
-IsRefusal config input TooLong = ⊥
-IsRefusal config input OutOfMemory = IsConsistent config
-IsRefusal config input PartsDisagree = ⊥
+-- Limits that do not fit together are refused as such, before a byte is read; a component is refused of which something of a minimum is
+-- missing, or that is to have a core module that the limits do not leave, and all else only for want of memory.
+abbrev pub IsRefusal : Config → List ℕ → Error → List ℕ → Type 0
+IsRefusal config input InconsistentLimits rest = ¬ IsConsistent config × (rest ≡ input)
+IsRefusal config input MinimumNotMet rest = IsConsistent config × LacksOn config input rest
+IsRefusal config input ModuleRefused rest = IsConsistent config × RefusesModuleOn config input rest
+IsRefusal config input TooLong rest = ⊥
+IsRefusal config input OutOfMemory rest = IsConsistent config
+IsRefusal config input PartsDisagree rest = ⊥
 
 -- A component is too long only where it is made of the input and has no spelling.
-abbrev pub IsGenerateRefusal : Config → List ℕ → Error → Type 0
-IsGenerateRefusal config input InconsistentLimits = ¬ IsConsistent config
-IsGenerateRefusal config input MinimumNotMet = IsConsistent config × LacksOn config input
-IsGenerateRefusal config input ModuleRefused = IsConsistent config × RefusesModuleOn config input
-IsGenerateRefusal config input TooLong = IsConsistent config × (tree : Tree) × (left : List ℕ) × RunsTo config input tree left × (component_text tree ≡ None)
-IsGenerateRefusal config input OutOfMemory = IsConsistent config
-IsGenerateRefusal config input PartsDisagree = ⊥
+abbrev pub IsGenerateRefusal : Config → List ℕ → Error → List ℕ → Type 0
+IsGenerateRefusal config input InconsistentLimits rest = ¬ IsConsistent config × (rest ≡ input)
+IsGenerateRefusal config input MinimumNotMet rest = IsConsistent config × LacksOn config input rest
+IsGenerateRefusal config input ModuleRefused rest = IsConsistent config × RefusesModuleOn config input rest
+IsGenerateRefusal config input TooLong rest = IsConsistent config × (tree : Tree) × RunsTo config input tree rest × (component_text tree ≡ None)
+IsGenerateRefusal config input OutOfMemory rest = IsConsistent config
+IsGenerateRefusal config input PartsDisagree rest = ⊥
 
 -- This item is chosen, and these bytes are left.
 abbrev pub IsChosen : Config → Open → List ℕ → Item → List ℕ → Type 0

@@ -2,10 +2,10 @@
 use Rattle.std.specs.Prelude.{◌≡◌, ℕ, ◌+◌, ◌≤◌, zero, suc, List, [], ◌∷◌, length}
 use Rattle.smith_format.specs.declared.config.Config.{Config}
 use Rattle.smith_tree.specs.Tree.{Tree}
-use Rattle.smith_tree.specs.Limits.{Limits, Sized, max_depth}
+use Rattle.smith_tree.specs.Limits.{max_depth}
 use Rattle.smith_tree.specs.Open.{Open, root}
 use Rattle.smith_component.specs.Turn.{Next, Turn, building, answered}
-use Rattle.smith_tree.specs.WellFormed.{WellFormed}
+use Rattle.smith_tree.specs.Readable.{CanBeGenerated}
 
 -- k such turns in a row
 abbrev pub Turns : Config → Next → List ℕ → Next → List ℕ → ℕ → Type 0
@@ -24,12 +24,10 @@ pub record RunsTo (config : Config) (input : List ℕ) (tree : Tree) (left : Lis
   pub few : turns ≤ length input + max_depth config
   pub run : Run config input tree left turns
 
--- A component that is made of the input: it is that of a run, well formed, within the limits, and its types within their fuel.
+-- A component that is made of the input: it is that of a run, and one of those that can be generated.
 pub record IsMade (config : Config) (input : List ℕ) (tree : Tree) (left : List ℕ) : Type 0 where
   pub run : RunsTo config input tree left
-  pub formed : WellFormed tree
-  pub limits : Limits config tree
-  pub sizes : Sized config tree
+  pub image : CanBeGenerated config tree
 
 -- what is left to do
 abbrev pub todo : Config → List ℕ → Open → ℕ

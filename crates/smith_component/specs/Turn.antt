@@ -66,10 +66,10 @@ pub record Turn (config : Config) (stack : Open) (left : List ℕ) (next : Next)
   pub chooses : ReadsAmong (items config stack left) left item after
   pub does : Does config item stack after next left2
 
--- The finish is chosen, and imports or functions lack.
-abbrev pub LacksAt : Config → Open → List ℕ → Type 0
-LacksAt config stack left = (after : List ℕ) × ReadsAmong (items config stack left) left Finish after × Lacks config stack after
+-- The choice is to finish, and imports or functions are missing when these bytes are left.
+abbrev pub LacksAt : Config → List ℕ → Open → List ℕ → Type 0
+LacksAt config rest stack left = (after : List ℕ) × ReadsAmong (items config stack left) left Finish after × Lacks config stack after rest
 
--- A core module is chosen, and the limits on memories leave none.
-abbrev pub RefusesModuleAt : Config → Open → List ℕ → Type 0
-RefusesModuleAt config stack left = (after : List ℕ) × ReadsAmong (items config stack left) left Module after × (config.max_memories < config.min_memories)
+-- The choice is a core module, and the limits on memories leave none. Nothing after the choice is read.
+abbrev pub RefusesModuleAt : Config → List ℕ → Open → List ℕ → Type 0
+RefusesModuleAt config rest stack left = ReadsAmong (items config stack left) left Module rest × (config.max_memories < config.min_memories)

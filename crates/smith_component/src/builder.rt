@@ -107,9 +107,7 @@ impl Progress {
         requires sound { IsSound self.old }
         ensures steps { IfOk result (λ c. IsStep (building_of self.old) u.old (step_of self.new c) u.new) }
         ensures sound { IfOk result (λ c. SoundUnlessDone self.new c) }
-        ensures refuses { IfErr result (IsStepRefusal self.old.config (stack_of self.old) u.old) }
-        ensures unread { IfErr result (λ e. e ≡ Error.ModuleRefused
-            → IsChosen self.old.config (stack_of self.old) u.old Module u.new) }
+        ensures refuses { IfErr result (λ e. IsStepRefusal self.old.config (stack_of self.old) u.old e u.new) }
         ensures alone { IsReady self.old.config (stack_of self.old) u.old → IsAnswered result }
         ensures tail { IsTail u.new u.old }
     {
@@ -123,8 +121,7 @@ impl Progress {
         requires offered { IsOffered self.old.config (stack_of self.old) item }
         ensures does { IfOk result (λ c. DoesItem item self.old u.old self.new c u.new) }
         ensures refuses { (left : List ℕ) → IsChosen self.old.config (stack_of self.old) left item u.old
-            → IfErr result (IsStepRefusal self.old.config (stack_of self.old) left) }
-        ensures unread { IfErr result (λ e. e ≡ Error.ModuleRefused → (item ≡ Module) × (u.new ≡ u.old)) }
+            → IfErr result (λ e. IsStepRefusal self.old.config (stack_of self.old) left e u.new) }
         ensures alone { item ≡ Finish → (stack_of self.old).outer ≡ []
             → Minima self.old.config (stack_of self.old).inner → IsAnswered result }
         ensures tail { IsTail u.new u.old }
@@ -164,10 +161,8 @@ impl Builder {
         ensures steps { IfOk result (λ s. IsStep self u.old s u.new) }
         ensures falls { IfOk result (λ s. Falls self.config u.old (open_of self) u.new (next_of s)) }
         ensures accepted { IsConsistent self.config }
-        ensures refuses { IfErr result (IsStepRefusal self.config (open_of self) u.old) }
-        // Where a core module is refused, what stands behind its choice is left.
-        ensures unread { IfErr result (λ e. e ≡ Error.ModuleRefused
-            → IsChosen self.config (open_of self) u.old Module u.new) }
+        // A refusal leaves what is decided too, want of memory aside.
+        ensures refuses { IfErr result (λ e. IsStepRefusal self.config (open_of self) u.old e u.new) }
         // The root is finished without memory where no input is left and it lacks nothing.
         ensures alone { IsReady self.config (open_of self) u.old → IsAnswered result }
         ensures fills { CanFill self.config (open_of self).inner

@@ -4,7 +4,7 @@ ghost use Rattle.std.specs.Prelude.{◌≡◌, ℕ, List, ◌++◌, IfOk, IfErr,
 ghost use Rattle.smith_input.specs.Reading.{IsTail};
 ghost use Rattle.smith_format.specs.Limits.{IsConsistent};
 ghost use Rattle.smith_tree.specs.Generates.{Generates};
-ghost use Rattle.smith_component.specs.Runs.{RunsTo};
+ghost use Rattle.smith_component.specs.Runs.{IsMade};
 ghost use Rattle.smith_component.specs.Refusals.{IsGenerateRefusal};
 ghost use Rattle.smith_tree.specs.Grammar.{Spells};
 ghost use Rattle.smith_tree.specs.Script.{Within, script};
@@ -33,10 +33,11 @@ pub fn generate(alloc: Global, config: Config, u: &mut Unstructured) -> Result<G
     // The bytes have one reading, the component, which is well formed and within the limits.
     ensures generated { IfOk result (λ g. Generates config g.component g.bytes.items) }
 
-    // The component is that of a run of turns over the input, and what the run leaves is left.
-    ensures run { IfOk result (λ g. RunsTo config u.old g.component u.new) }
+    // The component is that of a run of turns over the input, which leaves what is left, and one of those that can be
+    // generated. With `reach` and `answers`, exactly these are.
+    ensures made { IfOk result (λ g. IsMade config u.old g.component u.new) }
 
-    // An input that begins with the script of a plan gives the plan's bytes, and leaves what stands behind it.
+    // An input that begins with the script of a plan gives the plan's bytes, and leaves what is after it.
     ensures reach { (plan : Tree) (rest : List ℕ) → Within config plan → u.old ≡ script config plan ++ rest
         → IfOk result (λ g. (g.component ≡ plan) × Spells plan g.bytes.items × (u.new ≡ rest)) }
 
@@ -45,7 +46,7 @@ pub fn generate(alloc: Global, config: Config, u: &mut Unstructured) -> Result<G
         → u.old ≡ script config plan ++ rest → IfErr result (λ e. e ≡ Error.OutOfMemory) }
 
     ensures accepts { OnOk result (IsConsistent config) }
-    ensures refuses { IfErr result (IsGenerateRefusal config u.old) }
+    ensures refuses { IfErr result (λ e. IsGenerateRefusal config u.old e u.new) }
     ensures unread { ¬ IsConsistent config → u.new ≡ u.old }
     ensures tail { IsTail u.new u.old }
 {

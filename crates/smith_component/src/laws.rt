@@ -8,7 +8,7 @@ ghost use Rattle.smith_core.specs.declared.module.parts.ModuleParts.{ModuleParts
 ghost use Rattle.smith_format.specs.Limits.{IsConsistent};
 ghost use Rattle.smith_format.specs.TooLong.{ContentsTooLong};
 ghost use Rattle.smith_format.specs.declared.config.Config.{Config};
-ghost use Rattle.smith_input.specs.Reading.{IsDecided, IsReadAs};
+ghost use Rattle.smith_input.specs.Reading.{IsDecided, IsReadAs, IsTail};
 ghost use Rattle.smith_input.specs.Script.{AreBytes};
 ghost use Rattle.smith_input.specs.declared.error.Error.{Error};
 ghost use Rattle.smith_input.specs.declared.error.Error.TheVariants.{OutOfMemory};
@@ -66,18 +66,25 @@ pub fn components_are_exact()
 pub fn answers_are_not_refused()
     ensures { (config : Config) (input : List ℕ) (tree : Tree) (left b : List ℕ) → IsConsistent config
         → RunsTo config input tree left → Spells tree b
-        → (e : Error) → IsGenerateRefusal config input e → e ≡ OutOfMemory }
+        → (e : Error) (rest : List ℕ) → IsGenerateRefusal config input e rest → e ≡ OutOfMemory }
 {}
 
-/// The limits and the input alone decide which refusal comes, but for want of memory.
+/// The limits and the input alone decide what is refused, and what is left then, want of memory aside.
 pub fn refusals_are_decided()
-    ensures { (config : Config) (input : List ℕ) (d e : Error) → IsGenerateRefusal config input d
-        → IsGenerateRefusal config input e → ¬ (d ≡ OutOfMemory) → ¬ (e ≡ OutOfMemory) → d ≡ e }
+    ensures { (config : Config) (input : List ℕ) (d e : Error) (left rest : List ℕ)
+        → IsGenerateRefusal config input d left → IsGenerateRefusal config input e rest
+        → ¬ (d ≡ OutOfMemory) → ¬ (e ≡ OutOfMemory) → (d ≡ e) × (left ≡ rest) }
 {}
 
 /// The limits, what is open and the bytes alone decide what a turn leads to, and what it leaves.
 pub fn turns_are_decided()
     ensures { (config : Config) (stack : Open) → IsDecided (Turn config stack) }
+{}
+
+/// A turn leaves the last ones of the bytes after its choice.
+pub fn turns_leave_a_tail()
+    ensures { (config : Config) (stack : Open) (left : List ℕ) (next : Next) (rest : List ℕ)
+        → (turn : Turn config stack left next rest) → IsTail rest turn.after }
 {}
 
 /// The script of a part of a plan, but of a component, is a turn that adds this part, for who builds turn by turn.

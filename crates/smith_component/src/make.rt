@@ -32,7 +32,7 @@ impl Component {
         ensures answers { (plan : Tree) (rest : List ℕ) → IsConsistent config → Within config plan
             → u.old ≡ script config plan ++ rest → IfErr result (λ e. e ≡ Error.OutOfMemory) }
         ensures accepts { OnOk result (IsConsistent config) }
-        ensures refuses { IfErr result (IsRefusal config u.old) }
+        ensures refuses { IfErr result (λ e. IsRefusal config u.old e u.new) }
         // Where no import and no function is owed, and the limits on memories do not cross, it refuses for want of
         // memory alone.
         ensures acceptance { IsConsistent config → config.min_imports ≡ 0 → config.min_funcs ≡ 0

@@ -8,7 +8,7 @@ use Rattle.smith_tree.specs.Tree.{Tree}
 use Rattle.smith_tree.specs.Generates.{Generates}
 use Rattle.smith_tree.specs.Grammar.{Spells}
 use Rattle.smith_tree.specs.Script.{Within, script}
-use Rattle.smith_component.specs.Runs.{RunsTo}
+use Rattle.smith_component.specs.Runs.{IsMade}
 use Rattle.smith_component.specs.Refusals.{IsGenerateRefusal}
 use Rattle.smith_run.specs.declared.running.RunError.{RunError}
 use Rattle.smith_run.specs.declared.running.RunError.TheVariants.{Refused, ReadFault, InputTooLong, WriteFault}
@@ -37,14 +37,14 @@ abbrev pub written_text : Form → List ℕ → ℕ → List ℕ
 written_text Raw bytes left = bytes
 written_text Page bytes left = page bytes left
 
--- The bytes of the component that a run of turns makes of the input are written in the form. Where the input begins with the script of a
--- plan, they are the plan's bytes, and what stands behind the script is left.
+-- The bytes of the component that is made of the input are written in the form. Where the input begins with the script of a plan, they
+-- are the plan's bytes, and what is after the script is left.
 pub record Writes (config : Config) (form : Form) (input left : List ℕ) (before after : Option (List ℕ)) : Type 0 where
   pub component : Tree
   pub bytes : List ℕ
   pub generated : Generates config component bytes
   pub is_left : IsTail left input
-  pub run : RunsTo config input component left
+  pub made : IsMade config input component left
   pub reach : (plan : Tree) (rest : List ℕ) → Within config plan → input ≡ script config plan ++ rest → Spells plan bytes × (left ≡ rest)
   pub written : Appends before after (written_text form bytes (length left))
 
@@ -57,7 +57,7 @@ ComesAfterReading WriteFault = ⊤
 
 -- A refusal is one of the component's making from the input.
 abbrev pub IsRefusedOn : Config → List ℕ → RunError → Type 0
-IsRefusedOn config input (Refused error) = IsGenerateRefusal config input error
+IsRefusedOn config input (Refused error) = (left : List ℕ) × IsGenerateRefusal config input error left
 IsRefusedOn config input ReadFault = ⊤
 IsRefusedOn config input InputTooLong = ⊤
 IsRefusedOn config input WriteFault = ⊤

@@ -32,8 +32,8 @@ module _ (config : Config) (t : Tree) (input bytes : List ℕ) (spells : Spells 
         let z : Some made ≡ Some bytes = sym all ∙ spells in cc
 
   -- Where it is given, nothing is refused but for want of memory.
-  pub given_or_memory : IsGiven config t input → (e : Error) → IsGenerateRefusal config input e → e ≡ OutOfMemory
-  given_or_memory g e h = answer_or_memory config input t [] bytes g.consistent g.runs spells e h
+  pub given_or_memory : IsGiven config t input → (e : Error) (left : List ℕ) → IsGenerateRefusal config input e left → e ≡ OutOfMemory
+  given_or_memory g e left h = answer_or_memory config input t [] bytes g.consistent g.runs spells e left h
 
 pub are_bytes : (bs : List ℕ) → ((i : ℕ) → get_or bs i 0 < 256) → AreBytes bs
 are_bytes [] h = tt

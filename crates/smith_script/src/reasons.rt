@@ -1,5 +1,8 @@
 //! Where a component has no script, as far as a look tells. What is told is no part of a contract.
 
+ghost use Rattle.std.specs.Prelude.{◌≡◌};
+ghost use Rattle.smith_script.specs.declared.error.ScriptError.TheVariants.{InconsistentLimits};
+
 use crate::error::{Reason, ScriptError};
 use crate::long_names::{Form, comes};
 use smith_core::Module;
@@ -294,7 +297,9 @@ fn in_parts(alloc: Global, config: &Config, path: &mut Vec<usize>, parts: &[Part
 }
 
 /// That there is none, and why.
-pub(crate) fn no_script(alloc: Global, config: &Config, tree: &ComponentTree) -> ScriptError {
+pub(crate) fn no_script(alloc: Global, config: &Config, tree: &ComponentTree) -> ScriptError
+    ensures { ¬ (result ≡ InconsistentLimits) }
+{
     let mut part = Vec::new(alloc);
     match in_parts(alloc, config, &mut part, &tree.parts) {
         Ok(Some(reason)) => ScriptError::NoScript { part, reason },

@@ -1,6 +1,6 @@
 //! The script of a component.
 
-ghost use Rattle.std.specs.Prelude.{◌≡◌, ℕ, List, true, false, IfOk, IfErr};
+ghost use Rattle.std.specs.Prelude.{◌≡◌, ◌↔◌, ℕ, List, true, false, IfOk, IfErr};
 ghost use Rattle.smith_format.specs.Limits.{IsConsistent};
 ghost use Rattle.smith_input.specs.Script.{AreBytes};
 ghost use Rattle.smith_tree.specs.Grammar.{Spells};
@@ -64,7 +64,7 @@ fn tried(alloc: Global, config: &Config, tree: &ComponentTree) -> Result<Vec<u8>
     ensures answered { IfOk result (λ b. IsScript config.now (shown_tree tree.now) b.items) }
     ensures refuses { IfErr result
         (λ e. ¬ (e ≡ OutOfMemory) → (b : List ℕ) → ¬ IsScript config.now (shown_tree tree.now) b) }
-    ensures limits { ¬ IsConsistent config.now → IfErr result (λ e. e ≡ InconsistentLimits) }
+    ensures limits { IfErr result (λ e. (e ≡ InconsistentLimits) ↔ (¬ IsConsistent config.now)) }
 {
     if config.check().is_err() {
         return Err(ScriptError::InconsistentLimits);
@@ -94,7 +94,8 @@ pub fn script(alloc: Global, config: &Config, tree: &ComponentTree) -> Result<Ve
     ensures answered { IfOk result (λ b. IsScript config.now (shown_tree tree.now) b.items) }
     ensures refuses { IfErr result
         (λ e. ¬ (e ≡ OutOfMemory) → (b : List ℕ) → ¬ IsScript config.now (shown_tree tree.now) b) }
-    ensures limits { ¬ IsConsistent config.now → IfErr result (λ e. e ≡ InconsistentLimits) }
+    // Exactly where the limits do not fit together, that is the refusal.
+    ensures limits { IfErr result (λ e. (e ≡ InconsistentLimits) ↔ (¬ IsConsistent config.now)) }
     // A plan is refused for want of memory alone.
     ensures plans { IsConsistent config.now → Within config.now (shown_tree tree.now)
         → IfErr result (λ e. e ≡ OutOfMemory) }

@@ -22,7 +22,7 @@ impl Progress {
             (FillsAll self.old.config (stack_of self.old) u.old (stack_of self.new).inner u.new) }
         ensures minima { OnOk result (Minima self.old.config (stack_of self.new).inner) }
         ensures grows { OnOk result (Grows self.old self.new) }
-        ensures refuses { IfErr result (IsFillRefusal self.old.config (stack_of self.old) u.old) }
+        ensures refuses { IfErr result (λ e. IsFillRefusal self.old.config (stack_of self.old) u.old e u.new) }
         ensures nothing { Minima self.old.config (stack_of self.old).inner → IsAnswered result }
         ensures tail { IsTail u.new u.old }
     {
@@ -38,7 +38,7 @@ impl Progress {
     pub(crate) fn finish(&mut self, u: &mut Unstructured) -> Result<Option<Component>, Error>
         requires sound { IsSound self.old }
         ensures does { IfOk result (λ c. DoesItem Finish self.old u.old self.new c u.new) }
-        ensures refuses { IfErr result (IsFillRefusal self.old.config (stack_of self.old) u.old) }
+        ensures refuses { IfErr result (λ e. IsFillRefusal self.old.config (stack_of self.old) u.old e u.new) }
         ensures alone { (stack_of self.old).outer ≡ [] → Minima self.old.config (stack_of self.old).inner
             → IsAnswered result }
         ensures tail { IsTail u.new u.old }

@@ -8,11 +8,11 @@ use Rattle.smith_component.proofs.generation.generate.Goals as goal
 
 pub returns-clause-generated : goal.returns-clause-generated
 returns-clause-generated c =
-    let made = c.in_ok-component.ensures.made in
-    record { reading = c.in_ok-bytes.ensures.reading; formed = made.formed; limits = made.limits; sizes = made.sizes }
+    let image = c.in_ok-component.ensures.made.image in
+    record { reading = c.in_ok-bytes.ensures.reading; formed = image.formed; limits = image.limits; sizes = image.sized }
 
-pub returns-clause-run : goal.returns-clause-run
-returns-clause-run c = c.in_ok-component.ensures.made.run
+pub returns-clause-made : goal.returns-clause-made
+returns-clause-made c = c.in_ok-component.ensures.made
 
 pub returns-clause-accepts : goal.returns-clause-accepts
 returns-clause-accepts c = c.in_ok-component.ensures.accepts
@@ -28,6 +28,7 @@ returns-clause-reach c plan rest w e =
 pub returns-in_err-component-clause-answers : goal.returns-in_err-component-clause-answers
 returns-in_err-component-clause-answers c plan rest consistent w e =
     let P : Error → Type 0 = λ x. x ≡ OutOfMemory in
-    let lacks = plan_lacks_none c.args.config c.args.u.now plan rest consistent w e in
-    let no_module = plan_refuses_no_module c.args.config c.args.u.now plan rest consistent w e in
-    refused _ _ P c.from_residual.ensures.1 (refused_accepted c.args.config c.args.u.now consistent lacks no_module _ c.in_err-component.ensures.refuses)
+    let left = c.new.new.u in
+    let lacks = plan_lacks_none c.args.config c.args.u.now plan rest consistent w e left in
+    let no_module = plan_refuses_no_module c.args.config c.args.u.now plan rest consistent w e left in
+    refused _ _ P c.from_residual.ensures.1 (refused_accepted c.args.config left c.args.u.now consistent lacks no_module _ c.in_err-component.ensures.refuses)

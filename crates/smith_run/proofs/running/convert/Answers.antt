@@ -1,7 +1,7 @@
 use Rattle.std.proofs.Common.{◌≡◌, ◌∙◌, ap, List, ℕ, length, subst}
 use Rattle.std.specs.Io.KnownBytes.{Appends}
 use Rattle.smith_input.specs.Reading.{IsTail}
-use Rattle.smith_component.specs.Runs.{RunsTo}
+use Rattle.smith_component.specs.Runs.{IsMade}
 use Rattle.smith_run.specs.Running.{written_text}
 use Rattle.smith_run.proofs.running.convert.Goals as goal
 
@@ -14,9 +14,9 @@ returns-clause-written g c =
       c.in_ok-generated.ensures.tail.0,
       cc (c.in_ok-generated.ensures.tail.1, c.new-unstructured.ensures, c.deref.ensures.value),
     ) in
-    let R : List ℕ → Type 0 = λ bytes. RunsTo c.args.config bytes made.component rest in
+    let R : List ℕ → Type 0 = λ bytes. IsMade c.args.config bytes made.component rest in
     let read = c.new-unstructured.ensures ∙ c.deref.ensures.value in
-    let ran = subst R read c.in_ok-generated.ensures.run in
+    let ran = subst R read c.in_ok-generated.ensures.made in
     let counted : length c.left-left.result.now ≡ length rest = ap length c.left-left.ensures in
     let text : c.deref-2.result.now ≡ written_text c.args.form made.bytes.items (length rest) =
     c.deref-2.ensures.value ∙ c.in_ok-text.ensures ∙ ap (written_text c.args.form made.bytes.items) counted in (
@@ -29,7 +29,7 @@ returns-clause-written g c =
         bytes = made.bytes.items;
         generated = c.in_ok-generated.ensures.generated;
         is_left = tail;
-        run = ran;
+        made = ran;
         reach = λ plan rest within begins. let r = c.in_ok-generated.ensures.reach plan rest within (read ∙ begins) in (r.1, r.2);
         written = subst (Appends _ _) text c.in_ok-write_text.ensures.written;
       },

@@ -8,7 +8,7 @@ use Rattle.smith_script.proofs.scripting.gives.Goals as goal
 
 pub returns-after-is_empty-clause-refuses : goal.returns-after-is_empty-clause-refuses
 returns-after-is_empty-clause-refuses c not t spells given =
-    let run = rw c.new-left.ensures at c.in-Ok.ensures.run in
+    let run = rw c.new-left.ensures at c.in-Ok.ensures.made.run in
     let reading = c.in-Ok.ensures.generated.reading in
     let left = nothing_left c.args.config.now t c.args.input.now c.args.bytes.now spells _ _ _ run reading given in
     let same = same_bytes c.args.config.now t c.args.input.now c.args.bytes.now spells _ _ _ run reading given in
@@ -24,7 +24,7 @@ pub returns-in-Err-clause-refuses : goal.returns-in-Err-clause-refuses
 returns-in-Err-clause-refuses c =
     let why = rw c.new-left.ensures at c.in-Err.ensures.refuses in
     IfOk-weaker c.refused.result _ _ (λ is h not t spells given. h.1 (
-    given_or_memory c.args.config.now t c.args.input.now c.args.bytes.now spells given c.in-Err.error why
+    given_or_memory c.args.config.now t c.args.input.now c.args.bytes.now spells given c.in-Err.error _ why
     )) c.refused.ensures.not_given
 
 pub returns-in-Err-clause-bytes : goal.returns-in-Err-clause-bytes

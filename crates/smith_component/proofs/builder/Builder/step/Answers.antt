@@ -1,4 +1,5 @@
 use Rattle.std.proofs.Common.{◌≡◌, sym, subst}
+use Rattle.smith_input.specs.declared.error.Error.{Error}
 use Rattle.smith_input.specs.declared.error.Error.TheVariants.{MinimumNotMet}
 use Rattle.smith_component.specs.Building.{Building, open_of}
 use Rattle.smith_component.specs.BuilderView.{building_of, stack_of}
@@ -15,7 +16,8 @@ use Rattle.smith_component.proofs.builder.Builder.step.Goals as goal
 pub returns-in_err-done-clause-refuses : goal.returns-in_err-done-clause-refuses
 returns-in_err-done-clause-refuses c =
     let b = c.self.inside.progress in
-    rw (← c.self.view_is) (refused _ _ (IsStepRefusal b.config (stack_of b) c.args.u.now) c.from_residual.ensures.1 c.in_err-done.ensures.refuses)
+    let P : Error → Type 0 = λ e. IsStepRefusal b.config (stack_of b) c.args.u.now e c.turn.new.u in
+    rw (← c.self.view_is) (refused _ _ P c.from_residual.ensures.1 c.in_err-done.ensures.refuses)
 
 pub returns-in_err-done-clause-fills : goal.returns-in_err-done-clause-fills
 returns-in_err-done-clause-fills c can =
@@ -23,7 +25,7 @@ returns-in_err-done-clause-fills c can =
     let i = c.self.invariant in
     let C : Building → Type 0 = λ v. CanFill v.config (open_of v).inner in
     refused _ _ (λ e. e ≡ MinimumNotMet → ⊥) c.from_residual.ensures.1
-    (never_minimum b.config (stack_of b) c.args.u.now i.0.sound.consistent i.1.0.tabled.grounded (subst C (sym c.self.view_is) can) _
+    (never_minimum b.config (stack_of b) c.args.u.now c.turn.new.u i.0.sound.consistent i.1.0.tabled.grounded (subst C (sym c.self.view_is) can) _
     c.in_err-done.ensures.refuses)
 
 pub returns-in-None-clause-steps : goal.returns-in-None-clause-steps

@@ -20,7 +20,7 @@ returns-in-Finish-clause-refuses c left chosen =
     let config = c.args.self.now.config in
     let stack = stack_of c.args.self.now in
     let finishes = subst (λ i. ReadsAmong (items config stack left) left i c.args.u.now) c.in-Finish.is chosen in
-    IfErr-weaker c.finish.result _ _ (finish_refused config stack left c.args.u.now finishes) c.finish.ensures.refuses
+    IfErr-weaker c.finish.result _ _ (finish_refused config stack left c.finish.new.u c.args.u.now finishes) c.finish.ensures.refuses
 
 -- what an arm did
 done : (chosen item : Item) (old new last : Progress) (b rest left : List ℕ) → chosen ≡ item → last ≡ new → left ≡ rest → DoesItem item old b new None rest

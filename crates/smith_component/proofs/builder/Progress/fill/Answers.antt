@@ -1,5 +1,6 @@
 use Rattle.std.proofs.Common.{◌≡◌, ◌≤◌, ◌<◌, List, ℕ, sym, subst, ◌∙◌, length}
 use Rattle.smith_input.proofs.Reading.{tail_trans}
+use Rattle.smith_input.specs.declared.error.Error.{Error}
 use Rattle.smith_format.specs.declared.config.Config.{Config}
 use Rattle.smith_component.specs.BuilderView.{building_of, stack_of}
 use Rattle.smith_component.specs.Building.{Building, open_of}
@@ -28,8 +29,8 @@ returns-in_err-check_minimum-clause-refuses c =
     let e = c.in_err-check_minimum.ensures in
     let filled = from_first counted.Imports v typed t.grows.keeps t.grows.sections.outer i.filled in
     let few = subst (λ (k : Config). length (imports_of (open_of imported).inner) < k.min_imports) (i.grows.keeps ∙ t.grows.keeps) e.1 in
-    refused _ _ (IsFillRefusal v.config (open_of v) c.args.u.now) c.from_residual-in_err-check_minimum.ensures.1
-    (subst (IsFillRefusal v.config (open_of v) c.args.u.now) (sym e.0) (of_imports t.filled filled few))
+    let P : Error → Type 0 = λ x. IsFillRefusal v.config (open_of v) c.args.u.now x c.fill_one-2.new.u in
+    refused _ _ P c.from_residual-in_err-check_minimum.ensures.1 (subst P (sym e.0) (of_imports t.filled filled few))
 
 pub returns-in_err-check_minimum-clause-tail : goal.returns-in_err-check_minimum-clause-tail
 returns-in_err-check_minimum-clause-tail c = tail_trans c.in_ok-fill_one-2.ensures.tail c.in_ok-fill_one.ensures.tail
@@ -52,8 +53,8 @@ returns-in_err-check_minimum-2-clause-refuses c =
     let enough = subst (λ (k : Config). k.min_imports ≤ length (imports_of (open_of imported).inner)) (i.grows.keeps ∙ t.grows.keeps)
     c.in_ok-check_minimum.ensures in
     let few = subst (λ (k : Config). function_count (open_of full).inner < k.min_funcs) (f.grows.keeps ∙ (i.grows.keeps ∙ t.grows.keeps)) e.1 in
-    refused _ _ (IsFillRefusal v.config (open_of v) c.args.u.now) c.from_residual-in_err-check_minimum-2.ensures.1
-    (subst (IsFillRefusal v.config (open_of v) c.args.u.now) (sym e.0) (of_functions t.filled is enough fs few))
+    let P : Error → Type 0 = λ x. IsFillRefusal v.config (open_of v) c.args.u.now x c.fill_one-3.new.u in
+    refused _ _ P c.from_residual-in_err-check_minimum-2.ensures.1 (subst P (sym e.0) (of_functions t.filled is enough fs few))
 
 pub returns-in_err-check_minimum-2-clause-tail : goal.returns-in_err-check_minimum-2-clause-tail
 returns-in_err-check_minimum-2-clause-tail c = tail_trans c.in_ok-fill_one-3.ensures.tail

@@ -1,11 +1,11 @@
-use Rattle.std.proofs.Common.{◌≡◌, ℕ, List, [], ◌∷◌, sym, subst}
-use Rattle.std.proofs.lemmas.Result.{IfErr-weaker, IfOk-weaker}
+use Rattle.std.proofs.Common.{◌≡◌, ℕ, List, [], ◌∷◌}
+use Rattle.std.proofs.lemmas.Result.{IfOk-weaker}
 use Rattle.smith_input.specs.Choices.{ReadsAmong}
 use Rattle.smith_format.specs.declared.config.Config.{Config}
 use Rattle.smith_component.specs.BuilderView.{stack_of}
 use Rattle.smith_tree.specs.Open.{Open, items}
 use Rattle.smith_tree.specs.declared.choices.Item.{Item}
-use Rattle.smith_tree.specs.declared.choices.Item.TheVariants.{Finish, Module}
+use Rattle.smith_tree.specs.declared.choices.Item.TheVariants.{Finish}
 use Rattle.smith_component.proofs.Turn.{chosen, only_finish}
 use Rattle.smith_component.proofs.builder.Progress.turn.Goals as goal
 
@@ -34,14 +34,6 @@ returns-clause-sound c = IfOk-weaker c.do_item.result _ _ (λ r d. d.sound) c.do
 
 pub returns-clause-refuses : goal.returns-clause-refuses
 returns-clause-refuses c = c.do_item.ensures.refuses c.args.u.now c.choose_item-item.ensures.chooses
-
-pub returns-clause-unread : goal.returns-clause-unread
-returns-clause-unread c =
-    let Chosen : Item → List ℕ → Type 0 = λ i after. ReadsAmong (items c.args.self.now.config (stack_of c.args.self.now) c.args.u.now) c.args.u.now i after in
-    let chooses = c.choose_item-item.ensures.chooses in
-    IfErr-weaker c.do_item.result _ _
-    (λ e h refused. subst (Chosen Module) (sym (h refused).1) (subst (λ i. Chosen i c.choose_item-item.new.u) (h refused).0 chooses))
-    c.do_item.ensures.unread
 
 -- Where no input is left, the choice is to finish.
 finish_chosen : (config : Config) (stack : Open) (left after : List ℕ) (item : Item) → left ≡ [] → ReadsAmong (items config stack left) left item after

@@ -3,7 +3,6 @@ use Rattle.smith_input.proofs.Reading.{tail_same, tail_trans}
 use Rattle.smith_format.specs.Limits.{IsConsistent}
 use Rattle.smith_format.specs.declared.config.Config.{Config}
 use Rattle.smith_component.specs.BuilderView.{stack_of}
-use Rattle.smith_tree.specs.Limits.{Limits, Sized}
 use Rattle.smith_tree.specs.Open.{Open}
 use Rattle.smith_component.specs.Refusals.{IsRefusal}
 use Rattle.smith_component.specs.Steps.{next_of, step_of, SoundUnlessDone, StaysSound}
@@ -14,6 +13,7 @@ use Rattle.smith_component.proofs.Plans.{plan_lacks_none, plan_refuses_no_module
 use Rattle.smith_component.proofs.Refusals.{refused_accepted}
 use Rattle.smith_input.specs.declared.error.Error.{Error}
 use Rattle.smith_input.specs.declared.error.Error.TheVariants.{OutOfMemory}
+use Rattle.smith_component.proofs.RunsReadable.{runs_come}
 use Rattle.smith_component.proofs.RunsTo.{Reached, open_few, reached_start, reached_step, reached_refusal, reached_answer}
 use Rattle.smith_component.proofs.Turn.{falls}
 use Rattle.smith_component.proofs.component.Component.new.Goals as goal
@@ -57,18 +57,10 @@ loop-progress-smaller c =
 
 pub returns-in-Some-clause-made : goal.returns-in-Some-clause-made
 returns-in-Some-clause-made c =
-    let b = c.loop-progress.progress in
-    let config = c.loop-progress.invariant.config in
-    let e = c.in_ok-done.ensures.steps in
-    let kept = subst (λ d. StaysSound b.config (step_of c.turn.new.self d)) c.in-Some.is e.keeps in
-    let L : Config → Type 0 = λ k. Limits k c.in-Some.component in
-    let S : Config → Type 0 = λ k. Sized k c.in-Some.component in
-    record {
-      run = reached_answer _ _ _ _ _ _ _ _ config (ap (λ d. next_of (step_of c.turn.new.self d)) c.in-Some.is) c.loop-progress.invariant.reached e.turn;
-      formed = kept.1;
-      limits = subst L config kept.0;
-      sizes = subst S config kept.2;
-    }
+    let i = c.loop-progress.invariant in
+    let run = reached_answer _ _ _ _ _ _ _ _ i.config (ap (λ d. next_of (step_of c.turn.new.self d)) c.in-Some.is) i.reached
+    c.in_ok-done.ensures.steps.turn in
+    record { run = run; image = runs_come _ _ _ _ i.consistent run }
 
 pub returns-in-Some-clause-reach : goal.returns-in-Some-clause-reach
 returns-in-Some-clause-reach c plan rest w e =
@@ -79,17 +71,18 @@ returns-in-Some-clause-reach c plan rest w e =
 pub returns-in_err-done-clause-refuses : goal.returns-in_err-done-clause-refuses
 returns-in_err-done-clause-refuses c =
     let i = c.loop-progress.invariant in
-    refused _ _ (IsRefusal c.args.config c.args.u.now) c.from_residual-in_err-done.ensures.1
-    (reached_refusal _ _ _ _ _ i.config i.reached i.consistent _ c.in_err-done.ensures.refuses)
+    refused _ _ (λ e. IsRefusal c.args.config c.args.u.now e c.turn.new.u) c.from_residual-in_err-done.ensures.1
+    (reached_refusal _ _ _ _ _ i.config i.reached i.consistent _ _ c.in_err-done.ensures.refuses)
 
 pub returns-in_err-done-clause-answers : goal.returns-in_err-done-clause-answers
 returns-in_err-done-clause-answers c plan rest consistent w e =
     let P : Error → Type 0 = λ x. x ≡ OutOfMemory in
     let input = c.args.u.now in
     let i = c.loop-progress.invariant in
-    let refusal = reached_refusal _ _ _ _ _ i.config i.reached i.consistent _ c.in_err-done.ensures.refuses in
-    refused _ _ P c.from_residual-in_err-done.ensures.1 (refused_accepted c.args.config input consistent
-    (plan_lacks_none c.args.config input plan rest consistent w e) (plan_refuses_no_module c.args.config input plan rest consistent w e) _ refusal)
+    let left = c.turn.new.u in
+    let refusal = reached_refusal _ _ _ _ _ i.config i.reached i.consistent _ left c.in_err-done.ensures.refuses in
+    refused _ _ P c.from_residual-in_err-done.ensures.1 (refused_accepted c.args.config left input consistent
+    (plan_lacks_none c.args.config input plan rest consistent w e left) (plan_refuses_no_module c.args.config input plan rest consistent w e left) _ refusal)
 
 pub returns-in_err-progress-clause-tail : goal.returns-in_err-progress-clause-tail
 returns-in_err-progress-clause-tail c = tail_same _
