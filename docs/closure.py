@@ -1,8 +1,10 @@
-"""Prints which definitions a reader has to believe, with their lines, and checks where they are.
+"""Prints what a reader has to believe, with its lines, and checks where it is.
 
-The headline is what `Generates` and `Script` of smith_tree say. This follows their imports, and checks that every file is in the
-specs/ folder of a crate that has no builder and no maker of types, and that the specs/ folders of these crates import nothing else.
-Then it prints what the clauses on runs and refusals add, which know the builder. It exits with 1 where the check fails.
+It starts from the clauses of `generate` in crates/smith_component/src/generation.rt, and of the view of a component, and follows
+the imports of the definitions that they cite. It checks that the first two groups are in the specs/ folders of crates that have no
+builder and no maker of types, except for the view itself, that these folders import nothing else, and that each definition that the
+contract cites is in a group. Then it prints what the clauses on runs and refusals add, which know the builder, and the files of the
+program whose types the definitions speak of. It exits with 1 where a check fails.
 
 Run it at the top of the repository: python3 docs/closure.py
 """
@@ -12,25 +14,41 @@ import re
 import sys
 
 CRATES = "crates"
+CONTRACT = "smith_component/src/generation.rt"
 BELOW_THE_MAKERS = {"smith_input", "smith_format", "smith_core", "smith_syntax", "smith_tree"}
+VIEW = "smith_component/specs/Shown.antt"
 HEADLINE = [
-    ("The first half: one reading, well formed, within the limits", ["smith_tree/specs/Generates.antt"]),
-    ("The second half: scripts and plans", ["smith_tree/specs/Script.antt"]),
+    ("One reading, well formed, within the limits", ["smith_tree/specs/Generates.antt", VIEW]),
+    (
+        "Scripts, plans, and which components can be generated",
+        ["smith_tree/specs/Script.antt", "smith_tree/specs/Readable.antt", "smith_input/specs/Reading.antt"],
+    ),
 ]
 BUILDER = ("Runs and refusals", ["smith_component/specs/Runs.antt", "smith_component/specs/Refusals.antt"])
-IMPORT = re.compile(r"\s*(?:pub )?use Rattle\.(\w+)\.(specs|proofs)\.([\w.]+?)(?:\.\{.*| as .*)?$")
+IMPORT = re.compile(r"\s*(?:pub |ghost )?use Rattle\.(\w+)\.(specs|proofs)\.([\w.]+?)(?:\.\{.*| as .*)?;?$")
 
 
 def imports(path):
-    """The crates and the files that this file imports. The toolchain writes a file of its own for each of the program's types, so
-    an import may have no file here."""
+    """The crates, the definitions and the files of the program that this file imports. Of each of the program's types the toolchain
+    has definitions, under `declared`, which are in no file of specs/."""
     with open(f"{CRATES}/{path}", encoding="utf-8") as file:
         for line in file:
             match = IMPORT.match(line.rstrip())
             if match:
                 crate, folder, module = match.groups()
                 imported = f"{crate}/{folder}/{module}.antt"
-                yield crate, imported if os.path.exists(f"{CRATES}/{imported}") else None
+                exists = os.path.exists(f"{CRATES}/{imported}")
+                yield crate, imported if exists else None, source_of(crate, module)
+
+
+def source_of(crate, module):
+    """The file of the program that declares what this module says of a type, if there is one here."""
+    names = module.split(".")
+    for end in range(len(names), 1, -1) if names[0] == "declared" else ():
+        path = f"{crate}/src/{'/'.join(names[1:end])}.rt"
+        if os.path.exists(f"{CRATES}/{path}"):
+            return path
+    return None
 
 
 def closure(starts):
@@ -40,7 +58,7 @@ def closure(starts):
         path = left.pop()
         if path not in seen:
             seen.add(path)
-            left += [imported for _, imported in imports(path) if imported]
+            left += [imported for _, imported, _ in imports(path) if imported]
     return seen
 
 
@@ -58,18 +76,21 @@ def print_files(title, files):
 def faults(files):
     """The imports that reach beyond the crates below the makers."""
     for path in sorted(files):
-        for crate, _ in imports(path):
-            if crate != "std" and crate not in BELOW_THE_MAKERS:
+        for crate, _, _ in imports(path):
+            if crate != "std" and crate not in BELOW_THE_MAKERS and path != VIEW:
                 yield f"{path} imports {crate}"
 
 
 def main():
-    headline, printed = set(), set()
+    printed = set()
     for title, starts in HEADLINE:
-        headline = closure(starts) | headline
-        print_files(title, headline - printed)
-        printed |= headline
+        files = closure(starts) - printed
+        print_files(title, files)
+        printed |= files
+    headline = set(printed)
     print_files(BUILDER[0], closure(BUILDER[1]) - printed)
+    printed |= closure(BUILDER[1])
+    print_files("The program's types", {source for path in printed for _, _, source in imports(path) if source})
     folders = {
         f"{crate}/specs/{name}"
         for crate in BELOW_THE_MAKERS
@@ -77,6 +98,7 @@ def main():
         if name.endswith(".antt")
     }
     found = list(faults(headline | folders))
+    found += [f"no group has {it}, which the contract cites" for _, it, _ in imports(CONTRACT) if it and it not in printed]
     for fault in found:
         print(f"closure: {fault}")
     print(f"closure: {'FAILED' if found else 'passed'}")

@@ -40,19 +40,19 @@ stuck_same (suc j) (suc k) config (building now) left s t b c (mid, left1, one, 
     stuck_same j k config mid left1 s t b c more (moves config next mid left2 left1 (building t) c k (turn_same other one) rest) p q
 
 -- Where a run lacks something, and where a core module is refused, no turn can be taken.
-lacks_stuck : {config : Config} {stack : Open} {left rest : List ℕ} → LacksAt config rest stack left → IsStuck config stack left
-lacks_stuck lacks next rest t = lacks_no_turn lacks t
+lacks_stuck : {config : Config} {rest : List ℕ} (stack : Open) (left : List ℕ) → LacksAt config rest stack left → IsStuck config stack left
+lacks_stuck stack left lacks next rest t = lacks_no_turn lacks t
 
-refuses_stuck : {config : Config} {stack : Open} {left rest : List ℕ} → RefusesModuleAt config rest stack left → IsStuck config stack left
-refuses_stuck refuses next rest t = refuses_no_turn refuses t
+refuses_stuck : {config : Config} {rest : List ℕ} (stack : Open) (left : List ℕ) → RefusesModuleAt config rest stack left → IsStuck config stack left
+refuses_stuck stack left refuses next rest t = refuses_no_turn refuses t
 
 module _ (config : Config) (input : List ℕ) where
   -- What is true where one run is stuck is true where another is.
-  at_other : (At Other : Open → List ℕ → Type 0) → ({stack : Open} {left : List ℕ} → At stack left → IsStuck config stack left)
-      → ({stack : Open} {left : List ℕ} → Other stack left → IsStuck config stack left) → RunReaches config At input → (m : RunReaches config Other input)
+  at_other : (At Other : Open → List ℕ → Type 0) → ((stack : Open) (left : List ℕ) → At stack left → IsStuck config stack left)
+      → ((stack : Open) (left : List ℕ) → Other stack left → IsStuck config stack left) → RunReaches config At input → (m : RunReaches config Other input)
       → At m.stack m.left
   at_other At Other p q l m =
-      let same = stuck_same l.turns m.turns config (building root) input l.stack m.stack l.left m.left l.run m.run (p l.there) (q m.there) in
+      let same = stuck_same l.turns m.turns config (building root) input l.stack m.stack l.left m.left l.run m.run (p l.stack l.left l.there) (q m.stack m.left m.there) in
       subst (At m.stack) same.1 (subst (λ z. At z l.left) same.0 l.there)
 
   -- No input both lacks something and has a core module refused.

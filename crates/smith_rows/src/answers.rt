@@ -1,7 +1,7 @@
 //! The answers to a row.
 
 use crate::bytes::Printed;
-use crate::texts::{defaults, misfit, texts};
+use crate::texts::{defaults, misfit, texts, unwritten};
 use smith_component::{Config, Error, Unstructured, generate};
 use smith_read::{ReadError, read};
 use smith_script::{ScriptError, script};
@@ -29,6 +29,8 @@ pub enum Task {
     Defaults,
     /// Whether a script is refused where the limits do not fit together.
     Misfit,
+    /// Whether a component with a core module of no bytes is written.
+    Unwritten,
 }
 
 // The bytes that follow a prefix, one after another, and are left.
@@ -231,5 +233,6 @@ pub fn answer(
         Task::Texts => texts(alloc),
         Task::Defaults => defaults(alloc),
         Task::Misfit => misfit(alloc, limits),
+        Task::Unwritten => unwritten(alloc),
     }
 }

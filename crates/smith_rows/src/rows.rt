@@ -31,6 +31,7 @@ fn task_of(word: &str) -> Option<Task> {
         "texts" => Some(Task::Texts),
         "defaults" => Some(Task::Defaults),
         "misfit" => Some(Task::Misfit),
+        "unwritten" => Some(Task::Unwritten),
         _ => None,
     }
 }

@@ -3,8 +3,9 @@
 use crate::bytes::PREAMBLE;
 use smith_component::{Config, Error};
 use smith_limits::{DEFAULT_LIMITS, limits_of};
-use smith_read::read;
+use smith_read::{ComponentTree, PartNode, read};
 use smith_script::{Reason, ScriptError, script};
+use smith_write::write;
 use std::alloc::{AllocError, Global};
 
 const ERRORS: [Error; 6] = [
@@ -64,5 +65,15 @@ pub fn misfit(alloc: Global, limits: &Config) -> Result<String, AllocError> {
     match script(alloc, &misfit, &tree) {
         Ok(_) => String::from_str(alloc, "= a script\n"),
         Err(error) => format!(in alloc; "= no script: {error:?}\n"),
+    }
+}
+
+/// What is answered to writing a component of one core module that has no bytes, and so no preamble.
+pub fn unwritten(alloc: Global) -> Result<String, AllocError> {
+    let mut parts = Vec::new(alloc);
+    parts.push(PartNode::CoreModule(Vec::new(alloc)))?;
+    match write(alloc, &ComponentTree { parts }) {
+        Ok(_) => String::from_str(alloc, "= bytes\n"),
+        Err(error) => format!(in alloc; "= not written: {error:?}: {error}\n"),
     }
 }
