@@ -22,6 +22,11 @@ void *__wrap_realloc(void *block, size_t size) { return is_refused() ? NULL : __
         }                                                       \
     } while (0)
 
+/* The first eight bytes of each component. */
+#define PREAMBLE 0x00, 0x61, 0x73, 0x6d, 0x0d, 0x00, 0x01, 0x00
+
+enum { ROOM = 256 };
+
 static const uint8_t plan[8] = {3, 1, 0, 0, 6, 0, 0, 0xff};
 static const uint8_t wanted[12] = {0, 0x61, 0x73, 0x6d, 0x0d, 0, 1, 0, 7, 2, 1, 0x79};
 
@@ -45,7 +50,8 @@ static int nothing_passes_the_room(void) {
     size_t len = 99, left = 99;
     lupinanon_default_limits(&limits);
     memset(output, 0xaa, sizeof output);
-    WANT(lupinanon_generate_into(&limits, plan, 8, NULL, 0, &len, &left) == LUPINANON_NO_ROOM && len == 12 && left == 1);
+    WANT(lupinanon_generate_into(&limits, plan, 8, NULL, 0, &len, &left) == LUPINANON_NO_ROOM && len == 12);
+    WANT(left == 1);
     WANT(lupinanon_generate_into(&limits, plan, 8, output, 11, &len, &left) == LUPINANON_NO_ROOM && len == 12);
     WANT(left == 1 && output[0] == 0xaa);
     WANT(lupinanon_generate_into(&limits, plan, 8, output, 12, &len, &left) == LUPINANON_ANSWERED && len == 12);
@@ -53,17 +59,20 @@ static int nothing_passes_the_room(void) {
     return 1;
 }
 
-/* The answer within limits of which one is changed, where nothing may be written. */
+static int is_untouched(const uint8_t output[ROOM], size_t place) {
+    for (; place < ROOM; place++)
+        if (output[place] != 0xaa) return 0;
+    return 1;
+}
+
+/* The status of a call that is refused, or -1 where it counts or writes anything. */
 static int32_t refusal(const LupinanonLimits *limits, const uint8_t *input, size_t input_len) {
-    uint8_t output[64];
-    size_t len = 99, left = 99, place;
+    uint8_t output[ROOM];
+    size_t len = 99, left = 99;
     int32_t status;
     memset(output, 0xaa, sizeof output);
     status = lupinanon_generate_into(limits, input, input_len, output, sizeof output, &len, &left);
-    if (len || left) return -1;
-    for (place = 0; place < sizeof output; place++)
-        if (output[place] != 0xaa) return -1;
-    return status;
+    return len || left || !is_untouched(output, 0) ? -1 : status;
 }
 
 static int refusals_have_their_statuses(void) {
@@ -119,9 +128,126 @@ static int memory_is_refused_in_turn(void) {
     return 1;
 }
 
+typedef struct Bytes {
+    const uint8_t *at;
+    size_t len;
+} Bytes;
+
+#define BYTES(...) {(const uint8_t[]){__VA_ARGS__}, sizeof((const uint8_t[]){__VA_ARGS__})}
+
+/* What is generated from an input, and in how many growths. */
+typedef struct Entry {
+    const char *name;
+    void (*set_limits)(LupinanonLimits *limits);
+    Bytes input, output;
+    size_t left;
+    long growths;
+} Entry;
+
+static void set_small_limits(LupinanonLimits *limits) {
+    lupinanon_default_limits(limits);
+    limits->max_modules = limits->max_components = limits->max_instances = 1;
+    limits->max_nesting_depth = 2;
+    limits->max_types = limits->max_imports = limits->max_funcs = 10;
+    limits->max_type_size = 10;
+}
+
+enum { CONTENTS = 127 };
+static uint8_t section_input[3 + 2 * CONTENTS + 2] = {0x01, 0x00, 0x00};
+static uint8_t section_output[12 + CONTENTS] = {PREAMBLE, 0x00, 0x80, 0x01, 0x00};
+
+static void fill_section(void) {
+    size_t place;
+    for (place = 0; place < CONTENTS; place++) {
+        section_input[3 + 2 * place] = 0x01;
+        section_input[3 + 2 * place + 1] = 0x2a;
+        section_output[12 + place] = 0x2a;
+    }
+}
+
+/* The rows of crates/smith_rows with these names read the inputs choice by choice. */
+static const Entry entries[] = {
+    {"an import, a lower and a lift to the same type", set_small_limits,
+     BYTES(0x03, 0x01, 0x01, 0x01, 0x01, 0x00, 0x06, 0x00, 0x01, 0x00, 0x00, 0x04, 0x01, 0x01, 0x01, 0x00, 0x00, 0x05,
+           0x01, 0x01, 0x01, 0x01, 0x00, 0x07, 0x01, 0x00, 0x00),
+     BYTES(PREAMBLE, 0x07, 0x08, 0x01, 0x40, 0x01, 0x01, 0x61, 0x79, 0x00, 0x7f, 0x0a, 0x06, 0x01, 0x00, 0x01, 0x62,
+           0x01, 0x00, 0x08, 0x0a, 0x02, 0x01, 0x00, 0x00, 0x00, 0x00, 0x00, 0x00, 0x00, 0x00),
+     0, 30},
+    {"a lift that defines its type splits the section", set_small_limits,
+     BYTES(0x03, 0x01, 0x01, 0x01, 0x01, 0x00, 0x06, 0x00, 0x01, 0x00, 0x00, 0x04, 0x01, 0x01, 0x01, 0x00, 0x00, 0x05,
+           0x01, 0x01, 0x01, 0x01, 0x01, 0x00, 0x00, 0x00, 0x00),
+     BYTES(PREAMBLE, 0x07, 0x08, 0x01, 0x40, 0x01, 0x01, 0x61, 0x79, 0x00, 0x7f, 0x0a, 0x06, 0x01, 0x00, 0x01, 0x62,
+           0x01, 0x00, 0x08, 0x05, 0x01, 0x01, 0x00, 0x00, 0x00, 0x07, 0x08, 0x01, 0x40, 0x01, 0x01, 0x62, 0x74, 0x00,
+           0x74, 0x08, 0x06, 0x01, 0x00, 0x00, 0x00, 0x00, 0x01),
+     0, 38},
+    {"an outer alias, where the scope of its own is empty", set_small_limits,
+     BYTES(0x03, 0x01, 0x00, 0x00, 0x00, 0x01, 0x03, 0x01, 0x00, 0x00, 0x00, 0x00),
+     BYTES(PREAMBLE, 0x07, 0x09, 0x02, 0x7f, 0x42, 0x01, 0x02, 0x03, 0x02, 0x01, 0x00),
+     0, 15},
+    {"a section of 127 bytes", set_small_limits,
+     {section_input, sizeof section_input},
+     {section_output, sizeof section_output},
+     0, 8},
+    {"all that the canonical ABI asks", set_small_limits,
+     BYTES(0x02, 0x01, 0x01),
+     BYTES(PREAMBLE, 0x03, 0x4d, 0x01, 0x50, 0x05, 0x03, 0x06, 0x6d, 0x65, 0x6d, 0x6f, 0x72, 0x79, 0x02, 0x00, 0x00,
+           0x01, 0x60, 0x04, 0x7f, 0x7f, 0x7f, 0x7f, 0x01, 0x7f, 0x03, 0x15, 0x63, 0x61, 0x6e, 0x6f, 0x6e, 0x69, 0x63,
+           0x61, 0x6c, 0x5f, 0x61, 0x62, 0x69, 0x5f, 0x72, 0x65, 0x61, 0x6c, 0x6c, 0x6f, 0x63, 0x00, 0x00, 0x01, 0x60,
+           0x03, 0x7f, 0x7f, 0x7f, 0x00, 0x03, 0x12, 0x63, 0x61, 0x6e, 0x6f, 0x6e, 0x69, 0x63, 0x61, 0x6c, 0x5f, 0x61,
+           0x62, 0x69, 0x5f, 0x66, 0x72, 0x65, 0x65, 0x00, 0x01),
+     0, 18},
+    {"an alias, an import and an exported type in a component type", set_small_limits,
+     BYTES(0x03, 0x01, 0x01, 0x00, 0x00, 0x01, 0x02, 0x01, 0x00, 0x01, 0x00, 0x01, 0x01, 0x00, 0x01, 0x01, 0x00, 0x00,
+           0x01, 0x02, 0x00, 0x00, 0x00, 0x00),
+     BYTES(PREAMBLE, 0x07, 0x19, 0x02, 0x40, 0x00, 0x01, 0x00, 0x41, 0x03, 0x02, 0x03, 0x02, 0x01, 0x00, 0x03, 0x00,
+           0x01, 0x62, 0x01, 0x00, 0x04, 0x00, 0x01, 0x63, 0x03, 0x00, 0x00),
+     0, 32},
+    {"an embedded module with a type and a memory", set_small_limits,
+     BYTES(0x06, 0x01, 0x00, 0x00, 0x00, 0x01, 0x01, 0x00, 0x00),
+     BYTES(PREAMBLE, 0x01, 0x13, 0x00, 0x61, 0x73, 0x6d, 0x01, 0x00, 0x00, 0x00, 0x01, 0x04, 0x01, 0x60, 0x00, 0x00,
+           0x05, 0x03, 0x01, 0x00, 0x01),
+     0, 7},
+};
+
+/* The status of a call, or -1 where it is answered after a refusal, or other than the entry says. */
+static int32_t answer(const Entry *entry, const LupinanonLimits *limits) {
+    uint8_t output[ROOM];
+    size_t len = 99, left = 99;
+    int32_t status;
+    memset(output, 0xaa, sizeof output);
+    status = lupinanon_generate_into(limits, entry->input.at, entry->input.len, output, sizeof output, &len, &left);
+    if (status != LUPINANON_ANSWERED) return status;
+    if (until_refusal < 0 || len != entry->output.len || left != entry->left) return -1;
+    return memcmp(output, entry->output.at, len) || !is_untouched(output, len) ? -1 : status;
+}
+
+/* Whether the call is out of memory where its Nth growth alone is refused, and is answered where it has fewer. */
+static int ends_as_it_should(const Entry *entry, long nth) {
+    LupinanonLimits limits;
+    int is_met = nth <= entry->growths;
+    int32_t status;
+    entry->set_limits(&limits);
+    until_refusal = nth - 1;
+    status = is_met ? refusal(&limits, entry->input.at, entry->input.len) : answer(entry, &limits);
+    if (status == (is_met ? LUPINANON_OUT_OF_MEMORY : LUPINANON_ANSWERED)) return 1;
+    printf("checks.c: %s: status %d with growth %ld of %ld refused\n", entry->name, (int)status, nth, entry->growths);
+    return 0;
+}
+
+static int growths_are_refused_in_turn(void) {
+    const Entry *entry, *end = entries + sizeof entries / sizeof *entries;
+    long nth;
+    fill_section();
+    for (entry = entries; entry < end; entry++)
+        for (nth = 1; nth <= entry->growths + 1; nth++)
+            if (!ends_as_it_should(entry, nth)) return 0;
+    until_refusal = -1;
+    return 1;
+}
+
 int main(void) {
     if (!defaults_are_written() || !nothing_passes_the_room() || !refusals_have_their_statuses()) return 1;
-    if (!bad_arguments_are_refused() || !memory_is_refused_in_turn()) return 1;
+    if (!bad_arguments_are_refused() || !memory_is_refused_in_turn() || !growths_are_refused_in_turn()) return 1;
     puts("checks: all is as lupinanon.h says");
     return 0;
 }
