@@ -1,5 +1,6 @@
 -- What a table of TOML tells of the limits.
-use Rattle.std.specs.Prelude.{if◌then◌else◌, ◌≡◌, ◌≢◌, ℕ, ◌+◌, ◌≤◌, ◌<◌, Bool, List, Option, Some, None, ℤ, pos, negsuc, string_bytes}
+use Rattle.std.specs.Prelude.{if◌then◌else◌, ◌≡◌, ◌≢◌, ℕ, ◌+◌, ◌≤◌, ◌<◌, nat_lt, Bool, List, [], ◌∷◌, Option, Some, None, ℤ, pos, negsuc, string_bytes}
+use Rattle.std.specs.List.{find}
 use Rattle.toml.specs.Data.{Data, as_bool, as_integer, Members, no_members, member, get_member}
 use Rattle.smith_format.specs.Limits.{IsConsistent}
 use Rattle.smith_format.specs.declared.config.Config.{Config}
@@ -101,12 +102,16 @@ upper_of Imports = MaxImports
 upper_of Funcs = MaxFuncs
 upper_of Exports = MaxFuncs
 
--- The two do not fit together: a minimum exceeds its maximum, or functions and exports together pass 32 bits.
-abbrev pub IsApart : Config → Pair → Type 0
-IsApart config Types = config.max_types < config.min_types
-IsApart config Imports = config.max_imports < config.min_imports
-IsApart config Funcs = config.max_funcs < config.min_funcs
-IsApart config Exports = 4294967295 < config.max_funcs + config.max_exports
+-- whether the two do not fit together: a minimum exceeds its maximum, or functions and exports together pass 32 bits
+abbrev pub is_apart : Config → Pair → Bool
+is_apart config Types = nat_lt config.max_types config.min_types
+is_apart config Imports = nat_lt config.max_imports config.min_imports
+is_apart config Funcs = nat_lt config.max_funcs config.min_funcs
+is_apart config Exports = nat_lt 4294967295 (config.max_funcs + config.max_exports)
+
+-- the first pair that does not fit together
+abbrev pub first_apart : Config → Option Pair
+first_apart config = find (is_apart config) (Types ∷ Imports ∷ Funcs ∷ Exports ∷ [])
 
 -- what is wrong at a limit's name
 abbrev pub IsWrong : Members → Key → Wrong → Type 0
@@ -119,7 +124,7 @@ IsWrong members key TooLarge = IsNoNumber (most_of key) (told members key) TooLa
 abbrev pub IsRefused : Members → Config → Fault → Type 0
 IsRefused members default (Unknown key) = unknown_in members ≡ Some (string_bytes key)
 IsRefused members default (At key wrong) = IsWrong members key wrong
-IsRefused members default (Apart pair) = (config : Config) × Tells members default config × IsApart config pair
+IsRefused members default (Apart pair) = (config : Config) × Tells members default config × (first_apart config ≡ Some pair)
 IsRefused members default OutOfMemory = unknown_in members ≢ None
 
 -- the same numbers

@@ -1,6 +1,6 @@
 //! The limits of a run, from a table of TOML.
 
-ghost use Rattle.std.specs.Prelude.{◌≡◌, IfOk, IfErr, OnOk, IfSome, None, not, option_map, string_bytes};
+ghost use Rattle.std.specs.Prelude.{◌≡◌, IfOk, IfErr, OnOk, None, not, option_map, string_bytes};
 ghost use Rattle.std.specs.List.{find};
 ghost use Rattle.std.specs.BTreeMap.{keys};
 ghost use Rattle.toml.specs.Data.{as_integer};
@@ -8,7 +8,7 @@ ghost use Rattle.toml.specs.View.{table_view, view};
 ghost use Rattle.smith_format.specs.declared.config.Config.{Config};
 ghost use Rattle.smith_format.specs.Limits.{IsConsistent, IsDefault};
 ghost use Rattle.smith_limits.specs.Keys.{is_name, most_of};
-ghost use Rattle.smith_limits.specs.Limits.{lower_of, told, unknown_in, upper_of, IsApart, IsBounded, IsInteger};
+ghost use Rattle.smith_limits.specs.Limits.{first_apart, lower_of, told, unknown_in, upper_of, IsBounded, IsInteger};
 ghost use Rattle.smith_limits.specs.Limits.{IsNoInteger, IsNoNumber, IsNoSwitch, IsNumber, IsRefused, IsSwitch};
 ghost use Rattle.smith_limits.specs.Limits.{SameNumbers, SameSwitches, Tells, TellsNumbers, TellsSwitches};
 
@@ -217,9 +217,9 @@ fn told(table: &Table) -> Result<Config, Fault>
     switches(table, numbers(table, Config::default())?)
 }
 
-/// The first two limits that do not fit together, of limits each of which is fine by itself.
+/// The first two limits that do not fit together, in the order of `Pair`.
 pub fn apart(config: &Config) -> Option<Pair>
-    ensures apart { IfSome result (IsApart config.now) }
+    ensures apart { result ≡ first_apart config.now }
     ensures fits { IsBounded config.now → result ≡ None → IsConsistent config.now }
 {
     if config.min_types > config.max_types {
