@@ -1,7 +1,7 @@
 -- A number that a table tells is within its bound, the unknown keys of a table, and what a `?` hands on.
 use Rattle.std.proofs.Common.{◌≡◌, ◌∙◌, arith, ℕ, ◌≤◌, Bool, true, false, not, cond, List, [], ◌∷◌, Option, Some, None, option_map, String, Global, string_bytes, refl, sym, subst}
 use Rattle.std.specs.Prelude.{if◌then◌else◌, ℤ, pos, negsuc}
-use Rattle.std.specs.List.{find}
+use Rattle.std.specs.List.{AllByRecursion, find}
 use Rattle.std.specs.Map.{keys_of}
 use Rattle.toml.specs.View.{members_view}
 use Rattle.toml.specs.declared.value.Value.{Value}
@@ -12,10 +12,11 @@ use Rattle.std.proofs.lemmas.Result.{err_from_is_err_and}
 use Rattle.smith_format.specs.Limits.{IsDefault}
 use Rattle.smith_format.specs.declared.config.Config.{Config}
 use Rattle.toml.specs.Data.{Members}
-use Rattle.smith_limits.specs.Keys.{is_name, most_of}
-use Rattle.smith_limits.specs.Limits.{IsBounded, IsInteger, IsNumber, SameNumbers, TellsNumbers, told, unknown_in}
+use Rattle.smith_limits.specs.Keys.{all_keys, is_name, most_of}
+use Rattle.smith_limits.specs.Limits.{IsBounded, IsInteger, IsNumber, SameNumbers, TellsNumbers, first_wrong, is_wrong, told, unknown_in}
 use Rattle.smith_limits.specs.declared.keys.Key.{Key}
-use Rattle.smith_limits.specs.declared.keys.Key.TheVariants.{MaxTypes, MaxImports, MaxFuncs, MaxExports, MaxModules, MaxComponents, MaxInstances, MaxNestingDepth}
+use Rattle.smith_limits.specs.declared.keys.Key.TheVariants.{MinTypes, MinImports, MinFuncs, MinMemories, MaxTypes, MaxImports, MaxFuncs, MaxExports, MaxGlobals, MaxTables, MaxTags, MaxMemories}
+use Rattle.smith_limits.specs.declared.keys.Key.TheVariants.{MaxModules, MaxComponents, MaxInstances, MaxNestingDepth, MaxTypeSize, MultiValueEnabled, ExceptionsEnabled, ReferenceTypesEnabled, SimdEnabled, AllowFloats, BulkMemoryEnabled}
 
 integer_within : (most : ℕ) (z : Option ℤ) (n : ℕ) → IsInteger most z n → n ≤ most
 integer_within most (Some (pos told)) n e = e.1
@@ -37,6 +38,53 @@ pub unknown_in-entries : (es : List (String Global × Value))
     → unknown_in (members_view es) ≡ option_map string_bytes (find (λ key. not (is_name (string_bytes key))) (keys_of es))
 unknown_in-entries [] = refl
 unknown_in-entries (e ∷ es) = unknown_step (is_name (string_bytes e.0)) e.0 _ _ (unknown_in-entries es)
+
+-- where nothing is found
+nothing_found : (b : Bool) (key : Key) (rest : Option Key) → cond b (Some key) rest ≡ None → (b ≡ false) × (rest ≡ None)
+nothing_found true key rest e = absurd (cc)
+nothing_found false key rest e = (refl, e)
+
+none_of : (p : Key → Bool) (keys : List Key) → find p keys ≡ None → AllByRecursion (λ key. p key ≡ false) keys
+none_of p [] e = tt
+none_of p (key ∷ keys) e =
+    let one = nothing_found (p key) key (find p keys) e in
+    (one.0, none_of p keys one.1)
+
+-- Where nothing is wrong at any limit's name, nothing is at this one's.
+pub right_at : (members : Members) (key : Key) → first_wrong members ≡ None → is_wrong members key ≡ false
+right_at members MinTypes e = (none_of (is_wrong members) all_keys e).0
+right_at members MinImports e = (none_of (is_wrong members) all_keys e).1.0
+right_at members MinFuncs e = (none_of (is_wrong members) all_keys e).1.1.0
+right_at members MinMemories e = (none_of (is_wrong members) all_keys e).1.1.1.0
+right_at members MaxTypes e = (none_of (is_wrong members) all_keys e).1.1.1.1.0
+right_at members MaxImports e = (none_of (is_wrong members) all_keys e).1.1.1.1.1.0
+right_at members MaxFuncs e = (none_of (is_wrong members) all_keys e).1.1.1.1.1.1.0
+right_at members MaxExports e = (none_of (is_wrong members) all_keys e).1.1.1.1.1.1.1.0
+right_at members MaxGlobals e = (none_of (is_wrong members) all_keys e).1.1.1.1.1.1.1.1.0
+right_at members MaxTables e = (none_of (is_wrong members) all_keys e).1.1.1.1.1.1.1.1.1.0
+right_at members MaxTags e = (none_of (is_wrong members) all_keys e).1.1.1.1.1.1.1.1.1.1.0
+right_at members MaxMemories e = (none_of (is_wrong members) all_keys e).1.1.1.1.1.1.1.1.1.1.1.0
+right_at members MaxModules e = (none_of (is_wrong members) all_keys e).1.1.1.1.1.1.1.1.1.1.1.1.0
+right_at members MaxComponents e = (none_of (is_wrong members) all_keys e).1.1.1.1.1.1.1.1.1.1.1.1.1.0
+right_at members MaxInstances e = (none_of (is_wrong members) all_keys e).1.1.1.1.1.1.1.1.1.1.1.1.1.1.0
+right_at members MaxNestingDepth e = (none_of (is_wrong members) all_keys e).1.1.1.1.1.1.1.1.1.1.1.1.1.1.1.0
+right_at members MaxTypeSize e = (none_of (is_wrong members) all_keys e).1.1.1.1.1.1.1.1.1.1.1.1.1.1.1.1.0
+right_at members MultiValueEnabled e = (none_of (is_wrong members) all_keys e).1.1.1.1.1.1.1.1.1.1.1.1.1.1.1.1.1.0
+right_at members ExceptionsEnabled e = (none_of (is_wrong members) all_keys e).1.1.1.1.1.1.1.1.1.1.1.1.1.1.1.1.1.1.0
+right_at members ReferenceTypesEnabled e = (none_of (is_wrong members) all_keys e).1.1.1.1.1.1.1.1.1.1.1.1.1.1.1.1.1.1.1.0
+right_at members SimdEnabled e = (none_of (is_wrong members) all_keys e).1.1.1.1.1.1.1.1.1.1.1.1.1.1.1.1.1.1.1.1.0
+right_at members AllowFloats e = (none_of (is_wrong members) all_keys e).1.1.1.1.1.1.1.1.1.1.1.1.1.1.1.1.1.1.1.1.1.0
+right_at members BulkMemoryEnabled e = (none_of (is_wrong members) all_keys e).1.1.1.1.1.1.1.1.1.1.1.1.1.1.1.1.1.1.1.1.1.1.0
+
+-- What is found is wrong.
+some_found : (p : Key → Bool) (b : Bool) (first key : Key) (rest : Option Key) → p first ≡ b → (rest ≡ Some key → p key ≡ true)
+    → cond b (Some first) rest ≡ Some key → p key ≡ true
+some_found p true first key rest h later e = let same : first ≡ key = cc in subst (λ k. p k ≡ true) same h
+some_found p false first key rest h later e = later e
+
+pub wrong_somewhere : (p : Key → Bool) (keys : List Key) (key : Key) → find p keys ≡ Some key → p key ≡ true
+wrong_somewhere p [] key e = absurd (cc)
+wrong_somewhere p (first ∷ keys) key e = some_found p (p first) first key (find p keys) refl (wrong_somewhere p keys key) e
 
 -- what a `?` hands on
 pub refused : {T E : Type 0} (r : Result T E) (e : E) (P : E → Type 0) → IsErrAnd r (λ y. y ≡ e) → P e → IfErr r P

@@ -1,7 +1,7 @@
 -- The names of the limits, and how great each may be.
 use lib.Pointwise.{pointwise}
 use Rattle.std.specs.List.{list_any}
-use Rattle.std.specs.Prelude.{eqb, ℕ, Bool, List, [], ◌∷◌, codes}
+use Rattle.std.specs.Prelude.{eqb, ℕ, Bool, true, false, List, [], ◌∷◌, codes}
 use Rattle.smith_limits.specs.declared.keys.Key.{Key}
 use Rattle.smith_limits.specs.declared.keys.Key.TheVariants.{MinTypes, MinImports, MinFuncs, MinMemories, MaxTypes, MaxImports, MaxFuncs, MaxExports, MaxGlobals, MaxTables, MaxTags, MaxMemories, MaxModules, MaxComponents, MaxInstances, MaxNestingDepth, MaxTypeSize, MultiValueEnabled, ExceptionsEnabled, ReferenceTypesEnabled, SimdEnabled, AllowFloats, BulkMemoryEnabled}
 
@@ -37,6 +37,32 @@ all_keys =
     MinTypes ∷ MinImports ∷ MinFuncs ∷ MinMemories ∷ MaxTypes ∷ MaxImports ∷ MaxFuncs ∷ MaxExports ∷ MaxGlobals ∷ MaxTables ∷ MaxTags ∷ MaxMemories ∷
     MaxModules ∷ MaxComponents ∷ MaxInstances ∷ MaxNestingDepth ∷ MaxTypeSize ∷ MultiValueEnabled ∷ ExceptionsEnabled ∷ ReferenceTypesEnabled ∷
     SimdEnabled ∷ AllowFloats ∷ BulkMemoryEnabled ∷ []
+
+-- whether it is a truth value, and not a number
+abbrev pub is_switch : Key → Bool
+is_switch MinTypes = false
+is_switch MinImports = false
+is_switch MinFuncs = false
+is_switch MinMemories = false
+is_switch MaxTypes = false
+is_switch MaxImports = false
+is_switch MaxFuncs = false
+is_switch MaxExports = false
+is_switch MaxGlobals = false
+is_switch MaxTables = false
+is_switch MaxTags = false
+is_switch MaxMemories = false
+is_switch MaxModules = false
+is_switch MaxComponents = false
+is_switch MaxInstances = false
+is_switch MaxNestingDepth = false
+is_switch MaxTypeSize = false
+is_switch MultiValueEnabled = true
+is_switch ExceptionsEnabled = true
+is_switch ReferenceTypesEnabled = true
+is_switch SimdEnabled = true
+is_switch AllowFloats = true
+is_switch BulkMemoryEnabled = true
 
 -- one of them has this name
 abbrev pub is_name : List ℕ → Bool

@@ -1,10 +1,11 @@
 -- What a table of TOML tells of the limits.
-use Rattle.std.specs.Prelude.{if◌then◌else◌, ◌≡◌, ◌≢◌, ℕ, ◌+◌, ◌≤◌, ◌<◌, nat_lt, Bool, List, [], ◌∷◌, Option, Some, None, ℤ, pos, negsuc, string_bytes}
+use Rattle.std.specs.Prelude.{if◌then◌else◌, ◌≡◌, ◌≢◌, ℕ, ◌+◌, ◌≤◌, ◌<◌, nat_lt, Bool, true, false, not, List, [], ◌∷◌, Option, Some, None, ℤ, pos, negsuc, string_bytes}
 use Rattle.std.specs.List.{find}
+use Rattle.std.specs.Option.{is_some}
 use Rattle.toml.specs.Data.{Data, as_bool, as_integer, Members, no_members, member, get_member}
 use Rattle.smith_format.specs.Limits.{IsConsistent}
 use Rattle.smith_format.specs.declared.config.Config.{Config}
-use Rattle.smith_limits.specs.Keys.{is_name, most_of, name_of}
+use Rattle.smith_limits.specs.Keys.{all_keys, is_name, is_switch, most_of, name_of}
 use Rattle.smith_limits.specs.declared.keys.Key.{Key}
 use Rattle.smith_limits.specs.declared.keys.Key.TheVariants.{MinTypes, MinImports, MinFuncs, MinMemories, MaxTypes, MaxImports, MaxFuncs, MaxExports, MaxGlobals, MaxTables, MaxTags, MaxMemories, MaxModules, MaxComponents, MaxInstances, MaxNestingDepth, MaxTypeSize, MultiValueEnabled, ExceptionsEnabled, ReferenceTypesEnabled, SimdEnabled, AllowFloats, BulkMemoryEnabled}
 use Rattle.smith_limits.specs.declared.limits.Fault.{Fault}
@@ -29,6 +30,12 @@ IsInteger most (Some (pos told)) n = (n ≡ told) × (n ≤ most)
 IsInteger most (Some (negsuc _)) n = ⊥
 IsInteger most None n = ⊥
 
+-- whether there is none
+abbrev pub is_no_integer : ℕ → Option ℤ → Bool
+is_no_integer most (Some (pos told)) = nat_lt most told
+is_no_integer most (Some (negsuc _)) = true
+is_no_integer most None = true
+
 -- why there is none
 abbrev pub IsNoInteger : ℕ → Option ℤ → Wrong → Type 0
 IsNoInteger most (Some (pos told)) wrong = (wrong ≡ TooLarge) × (most < told)
@@ -40,6 +47,11 @@ abbrev pub IsNumber : ℕ → ℕ → Option Data → ℕ → Type 0
 IsNumber most default None n = n ≡ default
 IsNumber most default (Some value) n = IsInteger most (as_integer value) n
 
+-- whether it is none
+abbrev pub is_no_number : ℕ → Option Data → Bool
+is_no_number most None = false
+is_no_number most (Some value) = is_no_integer most (as_integer value)
+
 -- why it is none
 abbrev pub IsNoNumber : ℕ → Option Data → Wrong → Type 0
 IsNoNumber most None wrong = ⊥
@@ -49,6 +61,11 @@ IsNoNumber most (Some value) wrong = IsNoInteger most (as_integer value) wrong
 abbrev pub IsSwitch : Bool → Option Data → Bool → Type 0
 IsSwitch default None on = on ≡ default
 IsSwitch default (Some value) on = as_bool value ≡ Some on
+
+-- whether it is none
+abbrev pub is_no_switch : Option Data → Bool
+is_no_switch None = false
+is_no_switch (Some value) = not (is_some (as_bool value))
 
 -- it is none
 abbrev pub IsNoSwitch : Option Data → Type 0
@@ -120,10 +137,18 @@ IsWrong members key NoBoolean = IsNoSwitch (told members key)
 IsWrong members key Negative = IsNoNumber (most_of key) (told members key) Negative
 IsWrong members key TooLarge = IsNoNumber (most_of key) (told members key) TooLarge
 
+-- whether something is wrong at a limit's name
+abbrev pub is_wrong : Members → Key → Bool
+is_wrong members key = if is_switch key then is_no_switch (told members key) else is_no_number (most_of key) (told members key)
+
+-- the first limit at whose name something is wrong
+abbrev pub first_wrong : Members → Option Key
+first_wrong members = find (is_wrong members) all_keys
+
 -- Why a table is refused. Where two limits do not fit together, each by itself is fine.
 abbrev pub IsRefused : Members → Config → Fault → Type 0
 IsRefused members default (Unknown key) = unknown_in members ≡ Some (string_bytes key)
-IsRefused members default (At key wrong) = IsWrong members key wrong
+IsRefused members default (At key wrong) = (first_wrong members ≡ Some key) × IsWrong members key wrong
 IsRefused members default (Apart pair) = (config : Config) × Tells members default config × (first_apart config ≡ Some pair)
 IsRefused members default OutOfMemory = unknown_in members ≢ None
 

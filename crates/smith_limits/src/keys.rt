@@ -3,7 +3,7 @@
 ghost use Rattle.std.specs.Prelude.{◌≡◌, eqb};
 ghost use Rattle.std.specs.List.{list_any};
 ghost use lib.Pointwise.{pointwise};
-ghost use Rattle.smith_limits.specs.Keys.{all_keys, is_name, most_of, name_of};
+ghost use Rattle.smith_limits.specs.Keys.{all_keys, is_name, is_switch, most_of, name_of};
 
 /// A limit, by its name.
 #[derive(Debug, Clone, Copy, PartialEq, Eq)]
@@ -33,7 +33,8 @@ pub enum Key {
     BulkMemoryEnabled,
 }
 
-const ALL: [Key; 23] = [
+// In the order in which what is wrong is looked for.
+pub(crate) const ALL: [Key; 23] = [
     Key::MinTypes,
     Key::MinImports,
     Key::MinFuncs,
@@ -94,6 +95,21 @@ impl Key {
             Key::AllowFloats => "allow_floats",
             Key::BulkMemoryEnabled => "bulk_memory_enabled",
         }
+    }
+
+    /// Whether it is true or false, and not a number.
+    pub fn is_switch(self) -> bool
+        ensures { result ≡ is_switch self }
+    {
+        matches!(
+            self,
+            Key::MultiValueEnabled
+                | Key::ExceptionsEnabled
+                | Key::ReferenceTypesEnabled
+                | Key::SimdEnabled
+                | Key::AllowFloats
+                | Key::BulkMemoryEnabled
+        )
     }
 
     /// The greatest number that it may be, of itself.

@@ -1,6 +1,7 @@
 //! The limits of a run, from a table of TOML.
 
-ghost use Rattle.std.specs.Prelude.{◌≡◌, IfOk, IfErr, OnOk, None, not, option_map, string_bytes};
+ghost use Rattle.std.specs.Prelude.{◌≡◌, IfOk, IfErr, IfSome, OnOk, None, false, not, option_map, string_bytes};
+ghost use Rattle.std.specs.Option.{is_some};
 ghost use Rattle.std.specs.List.{find};
 ghost use Rattle.std.specs.BTreeMap.{keys};
 ghost use Rattle.toml.specs.Data.{as_integer};
@@ -8,11 +9,12 @@ ghost use Rattle.toml.specs.View.{table_view, view};
 ghost use Rattle.smith_format.specs.declared.config.Config.{Config};
 ghost use Rattle.smith_format.specs.Limits.{IsConsistent, IsDefault};
 ghost use Rattle.smith_limits.specs.Keys.{is_name, most_of};
-ghost use Rattle.smith_limits.specs.Limits.{first_apart, lower_of, told, unknown_in, upper_of, IsBounded, IsInteger};
-ghost use Rattle.smith_limits.specs.Limits.{IsNoInteger, IsNoNumber, IsNoSwitch, IsNumber, IsRefused, IsSwitch};
+ghost use Rattle.smith_limits.specs.Limits.{first_apart, first_wrong, is_no_number, is_no_switch, is_wrong};
+ghost use Rattle.smith_limits.specs.Limits.{lower_of, told, unknown_in, upper_of, IsBounded, IsInteger};
+ghost use Rattle.smith_limits.specs.Limits.{IsNoInteger, IsNumber, IsRefused, IsSwitch, IsWrong};
 ghost use Rattle.smith_limits.specs.Limits.{SameNumbers, SameSwitches, Tells, TellsNumbers, TellsSwitches};
 
-use crate::keys::{Key, is_known};
+use crate::keys::{ALL, Key, is_known};
 use smith_format::Config;
 use std::alloc::{AllocError, Global};
 use std::fmt;
@@ -133,88 +135,117 @@ fn integer_of(value: &Value, most: usize) -> Result<usize, Wrong>
     }
 }
 
-fn number(table: &Table, key: Key, default: usize) -> Result<usize, Fault>
-    ensures told { IfOk result (IsNumber (most_of key) default (told (table_view table.now) key)) }
-    ensures refused { IfErr result (λ e. (default : Config) → IsRefused (table_view table.now) default e) }
+// What is wrong at a limit's name.
+fn wrong_at(table: &Table, key: Key) -> Option<Wrong>
+    ensures why { IfSome result (IsWrong (table_view table.now) key) }
+    ensures whether { is_some result ≡ is_wrong (table_view table.now) key }
 {
-    match value_at(table, key) {
-        None => Ok(default),
-        Some(value) => match integer_of(value, key.most()) {
-            Ok(told) => Ok(told),
-            Err(wrong) => Err(Fault::At(key, wrong)),
-        },
+    let value = value_at(table, key)?;
+    if !key.is_switch() {
+        return integer_of(value, key.most()).err();
+    }
+    match value.as_bool() {
+        None => Some(Wrong::NoBoolean),
+        Some(_) => None,
     }
 }
 
-fn switch(table: &Table, key: Key, default: bool) -> Result<bool, Fault>
-    ensures told { IfOk result (IsSwitch default (told (table_view table.now) key)) }
+fn first_wrong(table: &Table) -> Option<Key>
+    ensures { result ≡ first_wrong (table_view table.now) }
+{
+    ALL.iter()
+        .copied()
+        .find(|key| wrong_at(table, *key).is_some())
+}
+
+fn check_values(table: &Table) -> Result<(), Fault>
+    ensures right { OnOk result (first_wrong (table_view table.now) ≡ None) }
     ensures refused { IfErr result (λ e. (default : Config) → IsRefused (table_view table.now) default e) }
 {
-    match value_at(table, key) {
-        None => Ok(default),
-        Some(value) => match value.as_bool() {
-            None => Err(Fault::At(key, Wrong::NoBoolean)),
-            Some(told) => Ok(told),
-        },
+    let Some(key) = first_wrong(table) else {
+        return Ok(());
+    };
+    match wrong_at(table, key) {
+        None => Ok(()),
+        Some(wrong) => Err(Fault::At(key, wrong)),
     }
 }
 
-fn numbers(table: &Table, default: Config) -> Result<Config, Fault>
-    ensures told { IfOk result (TellsNumbers (table_view table.now) default) }
-    ensures rest { IfOk result (SameSwitches default) }
-    ensures refused { IfErr result (λ e. (default : Config) → IsRefused (table_view table.now) default e) }
+fn number(table: &Table, key: Key, default: usize) -> usize
+    requires { is_no_number (most_of key) (told (table_view table.now) key) ≡ false }
+    ensures { IsNumber (most_of key) default (told (table_view table.now) key) result }
 {
-    let max_type_size = number(table, Key::MaxTypeSize, default.max_type_size as usize)?;
-    Ok(Config {
-        min_types: number(table, Key::MinTypes, default.min_types)?,
-        min_imports: number(table, Key::MinImports, default.min_imports)?,
-        min_funcs: number(table, Key::MinFuncs, default.min_funcs)?,
-        min_memories: number(table, Key::MinMemories, default.min_memories)?,
-        max_types: number(table, Key::MaxTypes, default.max_types)?,
-        max_imports: number(table, Key::MaxImports, default.max_imports)?,
-        max_funcs: number(table, Key::MaxFuncs, default.max_funcs)?,
-        max_exports: number(table, Key::MaxExports, default.max_exports)?,
-        max_globals: number(table, Key::MaxGlobals, default.max_globals)?,
-        max_tables: number(table, Key::MaxTables, default.max_tables)?,
-        max_tags: number(table, Key::MaxTags, default.max_tags)?,
-        max_memories: number(table, Key::MaxMemories, default.max_memories)?,
-        max_modules: number(table, Key::MaxModules, default.max_modules)?,
-        max_components: number(table, Key::MaxComponents, default.max_components)?,
-        max_instances: number(table, Key::MaxInstances, default.max_instances)?,
-        max_nesting_depth: number(table, Key::MaxNestingDepth, default.max_nesting_depth)?,
+    match value_at(table, key) {
+        None => default,
+        Some(value) => integer_of(value, key.most()).unwrap(),
+    }
+}
+
+fn switch(table: &Table, key: Key, default: bool) -> bool
+    requires { is_no_switch (told (table_view table.now) key) ≡ false }
+    ensures { IsSwitch default (told (table_view table.now) key) result }
+{
+    match value_at(table, key) {
+        None => default,
+        Some(value) => value.as_bool().unwrap(),
+    }
+}
+
+fn numbers(table: &Table, default: Config) -> Config
+    requires { first_wrong (table_view table.now) ≡ None }
+    ensures told { TellsNumbers (table_view table.now) default result }
+    ensures rest { SameSwitches default result }
+{
+    let max_type_size = number(table, Key::MaxTypeSize, default.max_type_size as usize);
+    Config {
+        min_types: number(table, Key::MinTypes, default.min_types),
+        min_imports: number(table, Key::MinImports, default.min_imports),
+        min_funcs: number(table, Key::MinFuncs, default.min_funcs),
+        min_memories: number(table, Key::MinMemories, default.min_memories),
+        max_types: number(table, Key::MaxTypes, default.max_types),
+        max_imports: number(table, Key::MaxImports, default.max_imports),
+        max_funcs: number(table, Key::MaxFuncs, default.max_funcs),
+        max_exports: number(table, Key::MaxExports, default.max_exports),
+        max_globals: number(table, Key::MaxGlobals, default.max_globals),
+        max_tables: number(table, Key::MaxTables, default.max_tables),
+        max_tags: number(table, Key::MaxTags, default.max_tags),
+        max_memories: number(table, Key::MaxMemories, default.max_memories),
+        max_modules: number(table, Key::MaxModules, default.max_modules),
+        max_components: number(table, Key::MaxComponents, default.max_components),
+        max_instances: number(table, Key::MaxInstances, default.max_instances),
+        max_nesting_depth: number(table, Key::MaxNestingDepth, default.max_nesting_depth),
         max_type_size: max_type_size as u32,
         ..default
-    })
+    }
 }
 
-fn switches(table: &Table, base: Config) -> Result<Config, Fault>
-    ensures told { IfOk result (TellsSwitches (table_view table.now) base) }
-    ensures rest { IfOk result (SameNumbers base) }
-    ensures refused { IfErr result (λ e. (default : Config) → IsRefused (table_view table.now) default e) }
+fn switches(table: &Table, base: Config) -> Config
+    requires { first_wrong (table_view table.now) ≡ None }
+    ensures told { TellsSwitches (table_view table.now) base result }
+    ensures rest { SameNumbers base result }
 {
-    Ok(Config {
-        multi_value_enabled: switch(table, Key::MultiValueEnabled, base.multi_value_enabled)?,
-        exceptions_enabled: switch(table, Key::ExceptionsEnabled, base.exceptions_enabled)?,
+    Config {
+        multi_value_enabled: switch(table, Key::MultiValueEnabled, base.multi_value_enabled),
+        exceptions_enabled: switch(table, Key::ExceptionsEnabled, base.exceptions_enabled),
         reference_types_enabled: switch(
             table,
             Key::ReferenceTypesEnabled,
             base.reference_types_enabled,
-        )?,
-        simd_enabled: switch(table, Key::SimdEnabled, base.simd_enabled)?,
-        allow_floats: switch(table, Key::AllowFloats, base.allow_floats)?,
-        bulk_memory_enabled: switch(table, Key::BulkMemoryEnabled, base.bulk_memory_enabled)?,
+        ),
+        simd_enabled: switch(table, Key::SimdEnabled, base.simd_enabled),
+        allow_floats: switch(table, Key::AllowFloats, base.allow_floats),
+        bulk_memory_enabled: switch(table, Key::BulkMemoryEnabled, base.bulk_memory_enabled),
         ..base
-    })
+    }
 }
 
-// The limits that the keys tell, whether they fit together or not.
-fn told(table: &Table) -> Result<Config, Fault>
-    ensures told { IfOk result (λ c. (default : Config) → IsDefault default
-        → Tells (table_view table.now) default c) }
-    ensures bounded { IfOk result IsBounded }
-    ensures refused { IfErr result (λ e. (default : Config) → IsRefused (table_view table.now) default e) }
+// The limits that the keys set, whether they fit together or not.
+fn told(table: &Table) -> Config
+    requires { first_wrong (table_view table.now) ≡ None }
+    ensures told { (default : Config) → IsDefault default → Tells (table_view table.now) default result }
+    ensures bounded { IsBounded result }
 {
-    switches(table, numbers(table, Config::default())?)
+    switches(table, numbers(table, Config::default()))
 }
 
 /// The first two limits that do not fit together, in the order of `Pair`.
@@ -248,7 +279,8 @@ pub fn limits_of(alloc: Global, table: &Table) -> Result<Config, Fault>
         → IsRefused (table_view table.now) default e) }
 {
     check_keys(alloc, table)?;
-    let config = told(table)?;
+    check_values(table)?;
+    let config = told(table);
     match apart(&config) {
         None => Ok(config),
         Some(pair) => Err(Fault::Apart(pair)),

@@ -11,7 +11,7 @@ returns-in_err-check_keys-clause-refused c =
     let P : Fault → Type 0 = λ e. (default : Config) → IsDefault default → IsRefused (table_view c.args.table.now) default e in
     refused _ _ P c.from_residual.ensures.1 (λ default _. c.in_err-check_keys.ensures.refused default)
 
-pub returns-in_err-config-clause-refused : goal.returns-in_err-config-clause-refused
-returns-in_err-config-clause-refused c =
+pub returns-in_err-check_values-clause-refused : goal.returns-in_err-check_values-clause-refused
+returns-in_err-check_values-clause-refused c =
     let P : Fault → Type 0 = λ e. (default : Config) → IsDefault default → IsRefused (table_view c.args.table.now) default e in
-    refused _ _ P c.from_residual-in_err-config.ensures.1 (λ default _. c.in_err-config.ensures.refused default)
+    refused _ _ P c.from_residual-in_err-check_values.ensures.1 (λ default _. c.in_err-check_values.ensures.refused default)
