@@ -34,13 +34,30 @@ static int defaults_are_written(void) {
     LupinanonLimits limits;
     memset(&limits, 0xaa, sizeof limits);
     lupinanon_default_limits(&limits);
-    WANT(limits.min_types == 0 && limits.min_imports == 0 && limits.min_funcs == 0 && limits.min_memories == 0);
-    WANT(limits.max_types == 100 && limits.max_imports == 100 && limits.max_funcs == 100 && limits.max_exports == 0);
-    WANT(limits.max_globals == 100 && limits.max_tables == 100 && limits.max_tags == 100 && limits.max_memories == 1);
-    WANT(limits.max_modules == 10 && limits.max_components == 10 && limits.max_instances == 10);
-    WANT(limits.max_nesting_depth == 10 && limits.max_type_size == 1000 && limits.multi_value_enabled == 1);
-    WANT(limits.exceptions_enabled == 1 && limits.reference_types_enabled == 1 && limits.simd_enabled == 1);
-    WANT(limits.allow_floats == 1 && limits.bulk_memory_enabled == 1);
+    /* each default */
+    WANT(limits.min_types == 0);
+    WANT(limits.min_imports == 0);
+    WANT(limits.min_funcs == 0);
+    WANT(limits.min_memories == 0);
+    WANT(limits.max_types == 100);
+    WANT(limits.max_imports == 100);
+    WANT(limits.max_funcs == 100);
+    WANT(limits.max_exports == 0);
+    WANT(limits.max_globals == 100);
+    WANT(limits.max_tables == 100);
+    WANT(limits.max_tags == 100);
+    WANT(limits.max_memories == 1);
+    WANT(limits.max_modules == 10);
+    WANT(limits.max_components == 10);
+    WANT(limits.max_instances == 10);
+    WANT(limits.max_nesting_depth == 10);
+    WANT(limits.max_type_size == 1000);
+    WANT(limits.multi_value_enabled == 1);
+    WANT(limits.exceptions_enabled == 1);
+    WANT(limits.reference_types_enabled == 1);
+    WANT(limits.simd_enabled == 1);
+    WANT(limits.allow_floats == 1);
+    WANT(limits.bulk_memory_enabled == 1);
     return 1;
 }
 

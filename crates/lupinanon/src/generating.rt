@@ -1,32 +1,21 @@
 //! Making a component of a file's bytes.
 
 use crate::FAULT;
-use crate::limits_file::config_of;
+use crate::converting::{WithinError, convert_within};
+use crate::limits_file::{print_limits_fault, text_of};
 use crate::options::Options;
 use crate::places::{STANDARD_INPUT, STANDARD_OUTPUT, Sink, Source, refuses_terminal, tell_fault};
-use smith_component::Config;
 use smith_run::{LONGEST_INPUT, RunError};
 use std::process::ExitCode;
 
-fn generate_within(rt: &HostRuntime, options: Options<'_>, config: Config) -> ExitCode {
-    let mut source = match Source::open(rt, options.input) {
-        Ok(source) => source,
-        Err(error) => {
-            tell_fault(rt, options.input, STANDARD_INPUT, Some(&error));
-            return ExitCode::from(FAULT);
-        }
-    };
-    let mut sink = Sink::new(rt, options.output);
-    let answer = smith_run::convert(rt.alloc(), &mut source, &mut sink, config, options.form);
-    let error = match answer {
-        Ok(left) => {
-            if options.tells_left {
-                let _ = eprintln!(rt; "left {left}");
-            }
-            return ExitCode::SUCCESS;
-        }
-        Err(error) => error,
-    };
+// Prints why a run gave up, and gives its status.
+fn status_of_run(
+    rt: &HostRuntime,
+    options: Options<'_>,
+    error: RunError,
+    source: &Source,
+    sink: &Sink<'_>,
+) -> ExitCode {
     let status = error.status();
     match error {
         RunError::ReadFault => tell_fault(rt, options.input, STANDARD_INPUT, source.fault()),
@@ -41,13 +30,38 @@ fn generate_within(rt: &HostRuntime, options: Options<'_>, config: Config) -> Ex
     ExitCode::from(status)
 }
 
+// Makes the component within the limits that the text spells.
+fn generate_within(rt: &HostRuntime, options: Options<'_>, text: &str) -> ExitCode {
+    let mut source = match Source::open(rt, options.input) {
+        Ok(source) => source,
+        Err(error) => {
+            tell_fault(rt, options.input, STANDARD_INPUT, Some(&error));
+            return ExitCode::from(FAULT);
+        }
+    };
+    let mut sink = Sink::new(rt, options.output);
+    match convert_within(rt.alloc(), text, &mut source, &mut sink, options.form) {
+        Ok(left) => {
+            if options.tells_left {
+                let _ = eprintln!(rt; "left {left}");
+            }
+            ExitCode::SUCCESS
+        }
+        Err(WithinError::Limits(fault)) => {
+            print_limits_fault(rt, options.limits, text, &fault);
+            ExitCode::from(FAULT)
+        }
+        Err(WithinError::Run(error)) => status_of_run(rt, options, error, &source, &sink),
+    }
+}
+
 /// Makes the component that is asked for.
 pub fn generate(rt: &HostRuntime, options: Options<'_>) -> ExitCode {
     if refuses_terminal(rt, options.output, options.form) {
         return ExitCode::from(FAULT);
     }
-    match config_of(rt, options.limits) {
-        Ok(config) => generate_within(rt, options, config),
+    match text_of(rt, options.limits) {
+        Ok(text) => generate_within(rt, options, &text),
         Err(status) => status,
     }
 }

@@ -7,7 +7,7 @@ use smith_read::{ComponentTree, read};
 use std::io::{self, Read};
 use std::process::ExitCode;
 
-/// What bytes that are no component end with, and memory that is wanting.
+/// What bytes that are no component end with, and a run that is out of memory.
 pub const REFUSED: u8 = 1;
 
 fn bytes_of(rt: &HostRuntime, source: &mut Source) -> io::Result<Vec<u8>> {

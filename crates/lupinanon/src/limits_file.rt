@@ -2,7 +2,7 @@
 
 use crate::FAULT;
 use smith_component::Config;
-use smith_limits::{Fault, limits_of};
+use smith_limits::{Fault, TextFault, limits_of_text};
 use std::process::ExitCode;
 
 /// The line of a text, from 1, at which its first expression with a key begins: a line that begins with the key,
@@ -23,7 +23,7 @@ pub fn line_of(text: &str, key: &str) -> Option<usize> {
     None
 }
 
-// The line of the first of the fault's limits that the text tells.
+// The line of the first of the fault's limits that the text has.
 fn line_of_fault(text: &str, fault: &Fault) -> Option<usize> {
     match fault {
         Fault::Unknown(name) => line_of(text, name.as_str()),
@@ -39,32 +39,41 @@ fn line_of_fault(text: &str, fault: &Fault) -> Option<usize> {
     }
 }
 
-/// The limits that a file tells, or the default ones where there is none; or the status behind a message.
-pub fn config_of(rt: &HostRuntime, path: Option<&str>) -> Result<Config, ExitCode> {
+/// The text of the file of limits, which is empty where there is none; or the status, after a message.
+pub fn text_of(rt: &HostRuntime, path: Option<&str>) -> Result<String, ExitCode> {
     let Some(path) = path else {
-        return Ok(Config::default());
+        return Ok(String::new(rt.alloc()));
     };
-    let text = match std::fs::read_to_string(rt, path) {
-        Ok(text) => text,
+    match std::fs::read_to_string(rt, path) {
+        Ok(text) => Ok(text),
         Err(error) => {
             let _ = eprintln!(rt; "lupinanon: {path}: {error}");
-            return Err(ExitCode::from(FAULT));
+            Err(ExitCode::from(FAULT))
         }
+    }
+}
+
+/// Prints why the text of the file spells no limits, with the line where one is known.
+pub fn print_limits_fault(rt: &HostRuntime, path: Option<&str>, text: &str, fault: &TextFault) {
+    let path = path.unwrap_or("the limits");
+    let _ = match fault {
+        // The text of the error has its lines, and ends the last one.
+        TextFault::NotToml(error) => eprint!(rt; "lupinanon: {path}: {error}"),
+        TextFault::Limits(wrong) => match line_of_fault(text, wrong) {
+            Some(line) => eprintln!(rt; "lupinanon: {path}: line {line}: {wrong}"),
+            None => eprintln!(rt; "lupinanon: {path}: {wrong}"),
+        },
+        TextFault::OutOfMemory => eprintln!(rt; "lupinanon: {path}: {fault}"),
     };
-    let table = match toml::table_from_str(rt.alloc(), &text) {
-        Ok(table) => table,
-        Err(error) => {
-            let _ = eprint!(rt; "lupinanon: {path}: {error}");
-            return Err(ExitCode::from(FAULT));
-        }
-    };
-    match limits_of(rt.alloc(), &table) {
+}
+
+/// The limits that the file spells, or the default ones where there is none; or the status, after a message.
+pub fn config_of(rt: &HostRuntime, path: Option<&str>) -> Result<Config, ExitCode> {
+    let text = text_of(rt, path)?;
+    match limits_of_text(rt.alloc(), &text) {
         Ok(config) => Ok(config),
         Err(fault) => {
-            let _ = match line_of_fault(&text, &fault) {
-                Some(line) => eprintln!(rt; "lupinanon: {path}: line {line}: {fault}"),
-                None => eprintln!(rt; "lupinanon: {path}: {fault}"),
-            };
+            print_limits_fault(rt, path, &text, &fault);
             Err(ExitCode::from(FAULT))
         }
     }

@@ -63,7 +63,9 @@ fn with_files<'a>(
     let limits = Arg::new(alloc, "limits")
         .long("limits")
         .value_name("FILE")
-        .help("Limits in TOML; what it leaves out has its default");
+        .help(
+            "Limits in TOML, as `lupinanon limits` prints them; what it leaves out has its default",
+        );
     command.arg(output)?.arg(limits)
 }
 

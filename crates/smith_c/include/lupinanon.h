@@ -28,32 +28,57 @@ extern "C" {
 #define LUPINANON_VERSION "0.1.0"
 #define LUPINANON_VERSION_NUMBER 100 /* 10000 * major + 100 * minor + patch */
 
-/* The limits of what is made. A minimum is met by every component of the tree. A feature is on where it is 1, and off where
- * it is 0. lupinanon_default_limits writes the values in brackets. */
+/* The limits of what is made. A minimum is met by every component of the tree, and components nest at most 1000 deep. A
+ * feature is on where it is 1, and off where it is 0. lupinanon_default_limits writes the values in brackets. */
 typedef struct LupinanonLimits {
-    size_t min_types;                /* the fewest types of a component [0] */
-    size_t min_imports;              /* the fewest imports of a component [0] */
-    size_t min_funcs;                /* the fewest functions of a component: imports, lifts and lowers together [0] */
-    size_t min_memories;             /* the fewest memories of a core module [0] */
-    size_t max_types;                /* the most types of a component, and the most core types [100] */
-    size_t max_imports;              /* the most imports of a component [100] */
-    size_t max_funcs;                /* the most functions of a component: imports, lifts and lowers together [100] */
-    size_t max_exports;              /* the most exports of a component, besides max_funcs [0] */
-    size_t max_globals;              /* the most globals that a module type imports and exports [100] */
-    size_t max_tables;               /* the most tables that a module type imports and exports [100] */
-    size_t max_tags;                 /* the most tags that a module type imports and exports [100] */
-    size_t max_memories;             /* the most memories of a core module, and of a module type's imports and exports [1] */
-    size_t max_modules;              /* the most core modules of the whole tree, embedded and imported [10] */
-    size_t max_components;           /* the most components of the whole tree below the root, nested and imported [10] */
-    size_t max_instances;            /* the most instances that the whole tree imports [10] */
-    size_t max_nesting_depth;        /* how deep components nest, the root at 1; 0 counts as 1; at most 1000 [10] */
-    uint32_t max_type_size;          /* the most members and declarations of a type, at all depths together [1000] */
-    uint8_t multi_value_enabled;     /* core functions with several results [1] */
-    uint8_t exceptions_enabled;      /* tags [1] */
-    uint8_t reference_types_enabled; /* reference types as core value types [1] */
-    uint8_t simd_enabled;            /* the core value type v128 [1] */
-    uint8_t allow_floats;            /* the core value types f32 and f64 [1] */
-    uint8_t bulk_memory_enabled;     /* core modules count their data segments [1] */
+    /* The fewest types of a component. They can always be added. [0] */
+    size_t min_types;
+    /* The fewest imports of a component. Where they can not be added, it is refused with
+     * LUPINANON_MINIMUM_NOT_MET. [0] */
+    size_t min_imports;
+    /* The fewest functions of a component: imported ones, lifts and lowers together. Where they can not be added, it is
+     * refused with LUPINANON_MINIMUM_NOT_MET. [0] */
+    size_t min_funcs;
+    /* The fewest memories of a core module. [0] */
+    size_t min_memories;
+    /* The most types of a component, and the most core types. [100] */
+    size_t max_types;
+    /* The most imports of a component. [100] */
+    size_t max_imports;
+    /* The most functions of a component: imported ones, lifts and lowers together. [100] */
+    size_t max_funcs;
+    /* The most exports of a component. They are functions of it too, and are not counted against max_funcs. [0] */
+    size_t max_exports;
+    /* The most globals that a module type imports and exports. [100] */
+    size_t max_globals;
+    /* The most tables that a module type imports and exports. [100] */
+    size_t max_tables;
+    /* The most tags that a module type imports and exports. [100] */
+    size_t max_tags;
+    /* The most memories of a core module, and those that a module type imports and exports. [1] */
+    size_t max_memories;
+    /* The most core modules of the whole tree, embedded and imported. [10] */
+    size_t max_modules;
+    /* The most components of the whole tree below the root, nested and imported. [10] */
+    size_t max_components;
+    /* The most instances that the whole tree imports. [10] */
+    size_t max_instances;
+    /* How deep components nest, the root at 1. A limit of 0 counts as 1. [10] */
+    size_t max_nesting_depth;
+    /* The fuel of a type: its members and declarations at all depths are at most so many. [1000] */
+    uint32_t max_type_size;
+    /* Whether a core function may have several results. [1] */
+    uint8_t multi_value_enabled;
+    /* Whether there are tags. [1] */
+    uint8_t exceptions_enabled;
+    /* Whether there are reference types as core value types. [1] */
+    uint8_t reference_types_enabled;
+    /* Whether there is the core value type v128. [1] */
+    uint8_t simd_enabled;
+    /* Whether there are the core value types f32 and f64. [1] */
+    uint8_t allow_floats;
+    /* Whether core modules count their data segments in a section. [1] */
+    uint8_t bulk_memory_enabled;
 } LupinanonLimits;
 
 /* What a call answers. */

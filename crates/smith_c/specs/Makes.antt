@@ -1,6 +1,6 @@
 -- What a call makes of the input, and why it stops.
 use Rattle.std.specs.Prelude.{◌≡◌, ◌≢◌, ℕ, List, length}
-use Rattle.smith_format.specs.Limits.{IsConsistent}
+use Rattle.smith_format.specs.Consistency.{IsConsistent}
 use Rattle.smith_format.specs.declared.config.Config.{Config}
 use Rattle.smith_tree.specs.Generates.{Generates}
 use Rattle.smith_component.specs.Refusals.{IsGenerateRefusal}

@@ -1,7 +1,7 @@
 //! A component's bytes in memory of the caller's.
 
 ghost use Rattle.std.specs.Prelude.{◌≡◌, ◌≢◌, ℕ, ◌<◌, ◌≤◌, ◌++◌, ◌⊎◌, List, length, take, drop};
-ghost use Rattle.smith_format.specs.Limits.{IsConsistent};
+ghost use Rattle.smith_format.specs.Consistency.{IsConsistent};
 ghost use Rattle.smith_format.specs.declared.config.Config.{Config};
 ghost use Rattle.smith_tree.specs.Grammar.{Spells};
 ghost use Rattle.smith_tree.specs.Script.{Within, script};
@@ -23,7 +23,7 @@ use std::alloc::Global;
 ///
 /// The answer is the code of a `Status`. Where the output has no room, `bytes_len` is how many bytes it lacks room for,
 /// and `left` how many bytes of the input are not used, as where the bytes are written. Else both are 0. The output is
-/// as it was unless the bytes are written, and behind them it is as it was in any case.
+/// as it was unless the bytes are written, and after them it is as it was in any case.
 #[unsafe(no_mangle)]
 pub extern "C" fn lupinanon_generate_into(
     alloc: Global,
@@ -42,7 +42,7 @@ pub extern "C" fn lupinanon_generate_into(
         × (status : Status) × (result ≡ code_of status) × Stops limits.now input.now status }
     ensures kept { result ≢ code_of Answered → output.new ≡ output.old }
 
-    // An input that begins with the script of a plan gives the plan's bytes, and leaves what stands behind it.
+    // An input that begins with the script of a plan gives the plan's bytes, and leaves what stands after it.
     ensures reach { (config : Config) (plan : Tree) (rest : List ℕ) → limits.now ≡ limits_of config
         → Within config plan → input.now ≡ script config plan ++ rest
         → result ≡ code_of Answered → Spells plan (take bytes_len.new output.new) × (left.new ≡ length rest) }

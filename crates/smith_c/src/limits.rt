@@ -1,7 +1,7 @@
 //! The limits as C lays them out.
 
 ghost use Rattle.std.specs.Prelude.{◌≡◌, ◌≢◌, Option, IfSome, None};
-ghost use Rattle.smith_format.specs.Limits.{IsDefault};
+ghost use Rattle.smith_format.specs.Consistency.{IsDefault};
 ghost use Rattle.smith_format.specs.declared.config.Config.{Config};
 ghost use Rattle.smith_c.specs.Limits.{byte_of, limits_of};
 

@@ -10,7 +10,7 @@ use smith_input::Error;
 pub enum Status {
     /// The component's bytes are in the output.
     Answered,
-    /// No component is made of the input, or memory is wanting.
+    /// No component is made of the input, or there is no memory for it.
     Refused(Error),
     /// The output has no room for the component's bytes.
     NoRoom,

@@ -1,14 +1,10 @@
-//! Turns the bytes on standard input into a WebAssembly component, and writes it on standard output.
+//! Turns the bytes on standard input into a WebAssembly component, and writes its page on standard output.
 #![tactic(auto)]
-
-mod convert;
-#[cfg(test)]
-mod tests;
 
 use std::process::ExitCode;
 
 fn main(rt: HostRuntime) -> ExitCode {
-    ExitCode::from(convert::convert_by_default(
+    ExitCode::from(smith_run::convert_by_default(
         rt.alloc(),
         &mut rt.stdin(),
         &mut rt.stdout(),

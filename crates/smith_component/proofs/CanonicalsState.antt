@@ -13,12 +13,14 @@ use Rattle.smith_input.specs.Loops.{Loop}
 use Rattle.smith_input.specs.Reading.{Reads}
 use Rattle.smith_input.proofs.Choices.{among}
 use Rattle.smith_format.specs.CoreTypes.{Function}
-use Rattle.smith_format.specs.Limits.{IsConsistent}
+use Rattle.smith_format.specs.Consistency.{IsConsistent}
 use Rattle.smith_format.specs.declared.config.Config.{Config}
 use Rattle.smith_syntax.specs.Entries.{Entry, Signature, function, plain}
 use Rattle.smith_syntax.specs.Flat.{Flattens, is_scalar}
-use Rattle.smith_syntax.specs.Scope.{Scope, is_func, places, with_type}
-use Rattle.smith_syntax.specs.Shown.{has_signature, is_of_signature, shown_shared, shown_type}
+use Rattle.smith_syntax.specs.Scope.{Scope, is_func, with_type}
+use Rattle.smith_syntax.specs.Places.{places}
+use Rattle.smith_syntax.specs.Shown.{shown_shared, shown_type}
+use Rattle.smith_syntax.specs.HasSignature.{has_signature, is_of_signature}
 use Rattle.smith_syntax.specs.declared.deftype.DefType.{DefType}
 use Rattle.smith_syntax.specs.declared.deftype.DefType.TheVariants as def
 use Rattle.smith_syntax.specs.declared.deftype.ComponentType.{ComponentType}
@@ -38,7 +40,8 @@ use Rattle.smith_component.specs.CanonicalsState.{draft_of, growing}
 use Rattle.smith_component.specs.SectionValues.{externs_in, externs_of}
 use Rattle.smith_component.specs.Shown.{shown_canon, shown_sections}
 use Rattle.smith_component.specs.Tables.{AddsCoreFunction, AddsFunction, IsLowerable, Tabled, functions_at}
-use Rattle.smith_tree.specs.Spaces.{core_functions_of, spaces_of}
+use Rattle.smith_tree.specs.Spaces.{spaces_of}
+use Rattle.smith_tree.specs.Functions.{core_functions_of}
 use Rattle.smith_tree.specs.Tree.{Tree, Canon, add, canons, exports_of, types, lift, lower, function_count}
 use Rattle.smith_tree.specs.WellFormed.{scope_of}
 use Rattle.smith_component.specs.declared.builder.canonicals.CanonicalDraft.{CanonicalDraft}

@@ -15,8 +15,9 @@ use Rattle.smith_input.proofs.Picks.{reads-pick}
 use Rattle.smith_format.specs.declared.config.Config.{Config}
 use Rattle.smith_scopes.proofs.Stack.{length-places}
 use Rattle.smith_syntax.specs.Entries.{Entry, function, defined, component_type, instance_type}
-use Rattle.smith_syntax.specs.Scope.{Scope, places, with_type}
-use Rattle.smith_syntax.specs.Shown.{is_of_signature}
+use Rattle.smith_syntax.specs.Scope.{Scope, with_type}
+use Rattle.smith_syntax.specs.Places.{places}
+use Rattle.smith_syntax.specs.HasSignature.{is_of_signature}
 use Rattle.smith_syntax.specs.SameSignature.{same_signature_Decides}
 use Rattle.smith_syntax.specs.WellFormed.{FormedTypes, Named}
 use Rattle.smith_tree.specs.ReadableTypes.{AreReadableNames, IsReadableType}

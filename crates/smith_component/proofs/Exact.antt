@@ -2,7 +2,7 @@
 use Rattle.std.proofs.Common.{◌↔◌, ℕ, List, [], ◌++◌}
 use Rattle.smith_input.specs.Script.{AreBytes}
 use Rattle.smith_input.proofs.Utf8Bytes.{joined_bytes}
-use Rattle.smith_format.specs.Limits.{IsConsistent}
+use Rattle.smith_format.specs.Consistency.{IsConsistent}
 use Rattle.smith_format.specs.declared.config.Config.{Config}
 use Rattle.smith_tree.specs.Grammar.{Spells}
 use Rattle.smith_tree.specs.Readable.{CanBeGenerated}

@@ -16,7 +16,8 @@ use Rattle.smith_syntax.specs.WellFormed.{Named}
 use Rattle.smith_component.specs.Exports.{NoExport, ReadsExport, ReadsExports}
 use Rattle.smith_tree.specs.Offers.{with_exports}
 use Rattle.smith_tree.specs.Script.{script_export, script_exports}
-use Rattle.smith_tree.specs.Spaces.{functions_of, spaces_of}
+use Rattle.smith_tree.specs.Spaces.{spaces_of}
+use Rattle.smith_tree.specs.Functions.{functions_of}
 use Rattle.smith_tree.specs.Tree.{ExportEntry, Tree, exports, exports_in, exports_of, function_count}
 use Rattle.smith_tree.specs.WellFormed.{FormedExports, export_names}
 use Rattle.smith_component.proofs.Growth.{functions_counted, spaces-add, spaces_export}
@@ -32,7 +33,7 @@ module _ (t : Tree) where
   names_count : (s : List ExportEntry) → length (names_at s) ≡ length (exports_of t) + length s
   names_count s = length-map (exports_of t ++ s) (λ (e : ExportEntry). e.name) ∙ length-append (exports_of t) s
 
-  -- an export that can be said behind others
+  -- an export that can be said after others
   record Sayable (s : List ExportEntry) (x : ExportEntry) : Type 0 where
     reachable : IsReachable 100 (names_at s) x.name
     stands : x.func < length (functions_of (with_exports t s))

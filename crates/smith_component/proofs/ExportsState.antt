@@ -17,7 +17,8 @@ use Rattle.smith_component.specs.Exports.{ReadsExport}
 use Rattle.smith_component.specs.ExportsState.{ExportsState}
 use Rattle.smith_tree.specs.Offers.{is_scalar_type, with_exports}
 use Rattle.smith_component.specs.Shown.{shown_export}
-use Rattle.smith_tree.specs.Spaces.{functions_of, spaces_of, types_of}
+use Rattle.smith_tree.specs.Spaces.{spaces_of, types_of}
+use Rattle.smith_tree.specs.Functions.{functions_of}
 use Rattle.smith_component.specs.Tables.{AddsFunction, IsKnown}
 use Rattle.smith_tree.specs.Tree.{ExportEntry, Tree, exports, exports_in, exports_of, function_count}
 use Rattle.smith_tree.specs.WellFormed.{export_names}

@@ -1,9 +1,10 @@
 -- What is filled: nothing where nothing lacks, and all that lacks where it can be.
 use Rattle.std.proofs.Common.{◌≡◌, ℕ, ◌+◌, ◌-◌, ◌<◌, ◌≤◌, List, length, arith, sym, ap, ◌∙◌, subst, inl, inr, length-append}
-use Rattle.smith_format.specs.Limits.{IsConsistent}
+use Rattle.smith_format.specs.Consistency.{IsConsistent}
 use Rattle.smith_format.specs.declared.config.Config.{Config}
 use Rattle.smith_syntax.specs.Entries.{Entry, ImportEntry}
-use Rattle.smith_syntax.specs.Scope.{places, is_func}
+use Rattle.smith_syntax.specs.Scope.{is_func}
+use Rattle.smith_syntax.specs.Places.{places}
 use Rattle.smith_scopes.proofs.Stack.{places-append}
 use Rattle.smith_tree.specs.Offers.{scalar_functions}
 use Rattle.smith_component.specs.Counted.{count_of, minimum_of}

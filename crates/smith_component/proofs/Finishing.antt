@@ -4,7 +4,7 @@ use Rattle.std.proofs.Common.{IfErr}
 use Rattle.std.proofs.lemmas.Result.{err_from_is_err_and}
 use Rattle.std.specs.Result.{IsErrAnd}
 use Rattle.smith_input.specs.declared.error.Error.{Error}
-use Rattle.smith_format.specs.Limits.{IsConsistent}
+use Rattle.smith_format.specs.Consistency.{IsConsistent}
 use Rattle.smith_format.specs.declared.config.Config.{Config}
 use Rattle.smith_component.specs.Building.{Building, open_of}
 use Rattle.smith_tree.specs.Limits.{Minima}

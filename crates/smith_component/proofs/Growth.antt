@@ -19,7 +19,7 @@ behind-add : (s : Spaces) (t : Tree) (p : Part) → fold after_part s (parts_of 
 behind-add s ends p = refl
 behind-add s (first q t) p = behind-add (after_part s q) t p
 
--- The spaces of a component with a part more are those behind that part.
+-- The spaces of a component with a part more are those after that part.
 pub spaces-add : (t : Tree) (p : Part) → spaces_of (add t p) ≡ after_part (spaces_of t) p
 spaces-add t p = behind-add no_spaces t p
 
@@ -178,7 +178,7 @@ prefix_same xs = ([], sym (append-nil xs))
 prefix_then : {A : Type 0} (xs ys zs : List A) → IsPrefix xs ys → IsPrefix ys zs → IsPrefix xs zs
 prefix_then xs ys zs (a, e) (b, f) = (a ++ b, f ∙ (ap (λ l. l ++ b) e ∙ append_assoc xs a b))
 
--- All that stands stays where it is, and more may come behind it.
+-- All that stands stays where it is, and more may come after it.
 pub record Extends (s u : Spaces) : Type 0 where
   pub types : IsPrefix s.types u.types
   pub core_types : IsPrefix s.core_types u.core_types

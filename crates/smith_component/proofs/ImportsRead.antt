@@ -62,7 +62,7 @@ module _ (config : Config) (stack : Open) (few : length (types_of stack.inner) +
   abbrev totals_at : List ImportEntry → RefTotals
   totals_at s = totals_of (with_imports stack s)
 
-  -- an import that can be said behind others
+  -- an import that can be said after others
   record Sayable (s : List ImportEntry) (x : ImportEntry) : Type 0 where
     formed : FormedImport (scope_of stack.inner) x
     kebab : Kebab x.name

@@ -4,7 +4,7 @@ use Rattle.std.specs.Prelude.{Option, None}
 use Rattle.smith_format.specs.declared.config.Config.{Config}
 use Rattle.smith_scopes.specs.Scopes.{Contents, inward, outer_scopes, own_scope}
 use Rattle.smith_scopes.proofs.Stack.{length-inward, split_scopes}
-use Rattle.smith_syntax.specs.Scope.{outer_of}
+use Rattle.smith_syntax.specs.Places.{outer_of}
 use Rattle.smith_component.specs.AddedSections.{Adds, AddsCanons}
 use Rattle.smith_component.specs.BuilderView.{building_of, stack_of, IsSound}
 use Rattle.smith_component.specs.Fills.{FillsAll}

@@ -4,11 +4,11 @@ use Rattle.smith_input.specs.Reading.{IsTail}
 use Rattle.smith_format.specs.declared.config.Config.{Config}
 use Rattle.smith_syntax.specs.Entries.{Entry, plain}
 use Rattle.smith_syntax.specs.Scope.{Scope}
-use Rattle.smith_syntax.specs.TypeLimits.{EntryLimits, nesting}
+use Rattle.smith_syntax.specs.TypeLimits.{EntryLimits}
 use Rattle.smith_syntax.specs.WellFormed.{FormedEntry}
 use Rattle.smith_types.specs.Made.{MadeWith}
 use Rattle.smith_tree.specs.TypeNeeds.{declaring, need}
-use Rattle.smith_types.proofs.MadeTypes.{made_tail, made_limits, made_nesting}
+use Rattle.smith_types.proofs.MadeTypes.{made_tail, made_limits}
 use Rattle.smith_types.proofs.MadeFormed.{made_formed}
 use Rattle.smith_types.proofs.MadeSame.{made_same}
 use Rattle.smith_tree.specs.ReadableTypes.{IsReadableType}
@@ -25,11 +25,6 @@ module _ {config : Config} {own : Scope} {outer : List Scope} {fuel : ℕ} {b re
 
   pub made_with_limits : EntryLimits config e
   made_with_limits = subst (EntryLimits config) (sym m.shown) (made_limits _ _ _ _ _ _ _ _ m.made)
-
-  pub made_with_nesting : length (own ∷ outer) + nesting e ≤ max (length (own ∷ outer) + 1) config.max_nesting_depth
-  made_with_nesting =
-      let n = made_nesting config own outer b fuel m.full rest m.left m.made in
-      omega (arith, ap nesting m.shown, n)
 
   pub made_with_need : need e ≤ fuel
   made_with_need =

@@ -16,11 +16,11 @@ use Rattle.smith_syntax.specs.WellFormed.{Named}
 use Rattle.smith_core_types.proofs.Names.{AreNew, distinct_new, new_back, new_distinct, new_more, none_before}
 use Rattle.smith_tree.specs.Open.{Open, tree_so_far}
 use Rattle.smith_component.specs.Sound.{Sound}
-use Rattle.smith_tree.specs.Tree.{Tree, Part, ends, first, custom, core_module, core_types, component, types, canons, imports, exports, add, join, own}
+use Rattle.smith_tree.specs.Tree.{Tree, Part, ends, first, custom, core_module, core_types, component, types, canons, imports, exports, add, own}
 use Rattle.smith_tree.specs.Tree.{exports_in, exports_of, imports_in, imports_of}
 use Rattle.smith_tree.specs.WellFormed.{Formed, FormedPart, export_names, import_names, scope_of}
 use Rattle.smith_component.proofs.Tables.{own_bare}
-use Rattle.smith_component.proofs.Tree.{join-add, join-ends, own-add}
+use Rattle.smith_component.proofs.Tree.{join-add, join-ends, own-add, join}
 use Rattle.smith_component.proofs.WellFormed.{formed_front}
 use Rattle.smith_scopes.proofs.Plain.{all_back, all_both}
 
@@ -31,7 +31,7 @@ named_more ns n h kebab new = (
   new_distinct [] (ns ++ n ∷ []) (new_more [] ns n (distinct_new [] ns (none_before ns) h.1) new),
 )
 
--- Entries with names, behind those that stand before them.
+-- Entries with names, after those that stand before them.
 module _ {A : Type 0} (name : A → List ℕ) (before : List A) where
   -- the names of them all
   abbrev pub names_with : List A → List (List ℕ)
@@ -40,7 +40,7 @@ module _ {A : Type 0} (name : A → List ℕ) (before : List A) where
   pub names_with_more : (s : List A) (x : A) → names_with (s ++ x ∷ []) ≡ names_with s ++ name x ∷ []
   names_with_more s x = ap (map name) (sym (append_assoc before s (x ∷ []))) ∙ map-append name (before ++ s) (x ∷ [])
 
-  -- Where all are named, the later ones are in kebab case and new behind those before.
+  -- Where all are named, the later ones are in kebab case and new after those before.
   pub named_behind : (s : List A) → Named (names_with s) → AllByRecursion Kebab (map name s) × AreNew (names_with []) (map name s)
   named_behind s named =
       let both : Named (map name before ++ map name s) = subst Named (map-append name before s) named in
@@ -77,7 +77,7 @@ module _ {A : Type 0} (name : A → List ℕ) (before : List A) where
         loop_gives KeepsNames (λ s n. n) (λ s c q t e n. subst (λ z. Named (names_with z)) (sym (ends s c q t e)) n) keeps_names 0 [] b xs rest xs r
         (subst (λ z. Named (map name z)) (sym (append-nil before)) h)
 
-  -- Each name that a loop reads can be read behind those before it.
+  -- Each name that a loop reads can be read after those before it.
   module _ {Ends : List A → List ℕ → List ℕ → List A → Type 0} {Item : List A → List ℕ → A → List ℕ → List A → Type 0}
       (items : (s : List A) (b : List ℕ) (x : A) (r : List ℕ) (t : List A) → Item s b x r t → NewEntry s x t) where
     pub loop_reachable : {min max : ℕ} {b rest : List ℕ} {xs : List A} → Loop Ends Item min max 0 [] b xs rest xs

@@ -5,7 +5,7 @@ use Rattle.std.specs.List.{AllByRecursion}
 use Rattle.std.specs.Str.{IsUtf8}
 use Rattle.smith_input.specs.Script.{script_text, script_bytes}
 use Rattle.smith_input.proofs.ReadsTexts.{text_read, bytes_read}
-use Rattle.smith_format.specs.Limits.{IsConsistent, max_u32}
+use Rattle.smith_format.specs.Consistency.{IsConsistent, max_u32}
 use Rattle.smith_format.specs.declared.config.Config.{Config}
 use Rattle.smith_syntax.specs.Scope.{Scope}
 use Rattle.smith_tree.specs.CanonScript.{canon_item_of}
@@ -170,7 +170,7 @@ module _ (config : Config) (stack : Open) (rest : List ℕ) where
       let before : OwnLimits config inner = own_limits-front config inner (exports es) limits in
       (es, exports_read inner config es rest readable.1 formed.0 formed.1 (omega (arith, most)) (omega (arith, most, before.functions, consistent.funcs)), refl)
 
--- The types of a plan can be said behind one part more.
+-- The types of a plan can be said after one part more.
 pub spoken_past : (config : Config) (p : Part) (outer : List Scope) (before : Tree) → IsReadablePart config p before → FormedPart p outer before
     → AllByRecursion Spoken (types_of before) → AllByRecursion Spoken (types_of (add before p))
 spoken_past config p outer before readable formed h =

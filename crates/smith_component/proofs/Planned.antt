@@ -19,7 +19,7 @@ use Rattle.smith_tree.specs.Open.{scopes_in, tree_so_far}
 use Rattle.smith_tree.specs.Readable.{IsReadablePart, IsReadableRest}
 use Rattle.smith_tree.specs.Script.{Within}
 use Rattle.smith_tree.specs.Spaces.{core_types_of, types_of}
-use Rattle.smith_tree.specs.Tree.{Tree, ends, first, Part, custom, core_module, core_types, component, types, canons, imports, exports, add, join}
+use Rattle.smith_tree.specs.Tree.{Tree, ends, first, Part, custom, core_module, core_types, component, types, canons, imports, exports, add}
 use Rattle.smith_tree.specs.Tree.{most}
 use Rattle.smith_tree.specs.WellFormed.{Formed, FormedPart, scope_of}
 use Rattle.smith_component.proofs.Encoded.{Encoded, component_encoded, module_has_bytes}
@@ -28,7 +28,7 @@ use Rattle.smith_component.proofs.Growth.{spaces-add}
 use Rattle.smith_component.proofs.Plan.{PartStands, Stands}
 use Rattle.smith_component.proofs.Script.{limits_front, limits_past}
 use Rattle.smith_component.proofs.Sound.{scopes_from-snoc}
-use Rattle.smith_component.proofs.Tree.{all_before, all_inner, depth-so_far, join-add, join-ends, tree_so_far-close}
+use Rattle.smith_component.proofs.Tree.{all_before, all_inner, depth-so_far, join-add, join-ends, tree_so_far-close, join}
 
 -- Sizes in front of what grew.
 sized_front : (t : Tree) (config : Config) (outer : List Tree) (a : Tree) → Sized config (tree_so_far outer (join a t)) → Sized config (tree_so_far outer a)

@@ -1,6 +1,6 @@
 -- What the script of a plan leads to: that plan, and no refusal.
 use Rattle.std.proofs.Common.{◌≡◌, ℕ, List, ◌++◌, sym, subst}
-use Rattle.smith_format.specs.Limits.{IsConsistent}
+use Rattle.smith_format.specs.Consistency.{IsConsistent}
 use Rattle.smith_format.specs.declared.config.Config.{Config}
 use Rattle.smith_tree.specs.Open.{root}
 use Rattle.smith_component.specs.Refusals.{LacksOn, RefusesModuleOn}

@@ -27,7 +27,7 @@ use Rattle.smith_tree.specs.Open.{Open, scopes_in, tree_so_far, with_inner}
 use Rattle.smith_component.specs.Sound.{Sound}
 use Rattle.smith_tree.specs.Spaces.{Spaces, after_part, core_types_of, spaces_of, types_of}
 use Rattle.smith_component.specs.Tables.{functions_at}
-use Rattle.smith_tree.specs.Tree.{Canon, lift, lower, Tree, Part, ends, first, component, types, canons, add, join, imports_of, function_count}
+use Rattle.smith_tree.specs.Tree.{Canon, lift, lower, Tree, Part, ends, first, component, types, canons, add, imports_of, function_count}
 use Rattle.smith_tree.specs.WellFormed.{scope_of, HasSignature, FormedCanon, FormedCanons, Formed, FormedPart}
 use Rattle.smith_tree.specs.declared.choices.CanonItem.{CanonItem}
 use Rattle.smith_tree.specs.declared.choices.CanonItem.TheVariants.{Lower, Lift}
@@ -38,7 +38,7 @@ use Rattle.smith_component.proofs.Sound.{addable_level, addable_types, own_limit
 use Rattle.smith_component.proofs.Spaces.{all_at, get_last, imports_canons, imports_types, with_entries, has_signature_stays}
 use Rattle.smith_component.proofs.Spaces.{equal_at, formed_canons-snoc}
 use Rattle.smith_component.proofs.Tables.{scalar_at}
-use Rattle.smith_component.proofs.Tree.{function_count-add, join-add, join-ends}
+use Rattle.smith_component.proofs.Tree.{function_count-add, join-add, join-ends, join}
 use Rattle.smith_component.proofs.WellFormed.{formed_front}
 
 -- What turns keep, a loop keeps.
@@ -143,7 +143,7 @@ pub turned : (config : Config) (s : Growing) (b : List ℕ) (item : CanonItem) (
 turned config s b Lower rest next (mid, chosen, (f, among, e)) = adds (lower f) (scalar_at (grown s) among.place f among.named) e
 turned config s b Lift rest next (mid, chosen, r) = lift_turned r r.lifts
 
--- A type behind a canonical section, and an empty one behind that.
+-- A type after a canonical section, and an empty one after that.
 abbrev pub with_signature : Growing → Signature → Growing
 with_signature s signature = empty_section (add (grown s) (types (function signature ∷ [])))
 
@@ -176,7 +176,7 @@ signature_types s signature n h = omega (
 pub empty_count : (t : Tree) → function_count (grown (empty_section t)) ≡ function_count t
 empty_count t = omega (arith, function_count-add t (canons []))
 
--- The lift to the type that is defined is formed behind it.
+-- The lift to the type that is defined is formed after it.
 pub defined_canon : {config : Config} {s : Growing} {c : ℕ} {signature : Signature} → Defines config s c signature
     → FormedCanon (spaces_at (with_signature s signature)) (lift c (length (spaces_at s).types))
 defined_canon {s = s} {c = c} {signature = signature} d =
@@ -259,7 +259,7 @@ module _ (config : Config) (stack : Open) (fits : function_count stack.inner ≤
       own_limits-add config s.before (canons s.funcs) o (fits_kept config (spaces_of s.before) spaces same (fits_of config s.before o))
       (record { imports = omega (arith, o.imports); functions = omega (arith, count); exports = omega (arith, o.exports) }) tt)
       (λ o. own_sizes-add config s.before (canons s.funcs) (sizes_keep config (spaces_of s.before) spaces same o)) refl refl refl
-      (λ h. omega (arith, h)) (λ h. omega (arith, h)) in
+      (λ h. omega (arith, h)) in
       part_sound config (with_inner stack s.before) (canons s.funcs) addable g.sound
 
   going_canon : (n : ℕ) (s : Growing) (c : Canon) → FormedCanon (spaces_at s) c → Going config stack n s → Going config stack (n + 1) (with_canon s c)
@@ -283,7 +283,7 @@ module _ (config : Config) (stack : Open) (fits : function_count stack.inner ≤
       record {
         sound =
             part_sound config u (types es)
-            (addable_types config u es (formed (scope_of (grown s)) (scopes_in stack.outer), tt) (omega (arith, d.room)) (tt, tt) (omega arith) (omega arith)
+            (addable_types config u es (formed (scope_of (grown s)) (scopes_in stack.outer), tt) (omega (arith, d.room)) (tt, tt) (omega arith)
             (omega (arith, small, d.small), tt))
             whole;
         formed = tt;

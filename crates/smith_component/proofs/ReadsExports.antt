@@ -81,4 +81,4 @@ exports_addable config stack {es = es} sound r =
     own_limits-add config inner (exports es) o (fits_kept config (spaces_of inner) spaces same (fits_of config inner o))
     (record { imports = omega (arith, o.imports); functions = omega (arith, o.functions); exports = few }) tt)
     (λ o. own_sizes-add config inner (exports es) (sizes_keep config (spaces_of inner) spaces same o)) refl refl refl
-    (λ h. omega (arith, h)) (λ h. omega (arith, h))
+    (λ h. omega (arith, h))

@@ -13,7 +13,8 @@ use Rattle.smith_input.proofs.Loops.{loop_all, loop_few, loop_gives, loop_tail}
 use Rattle.smith_input.proofs.Reading.{more_past, tail_is, tail_trans}
 use Rattle.smith_format.specs.declared.config.Config.{Config}
 use Rattle.smith_syntax.specs.Entries.{ImportEntry}
-use Rattle.smith_syntax.specs.Scope.{is_func, places}
+use Rattle.smith_syntax.specs.Scope.{is_func}
+use Rattle.smith_syntax.specs.Places.{places}
 use Rattle.smith_syntax.specs.WellFormed.{Named}
 use Rattle.smith_syntax.specs.declared.deftype.ComponentTypeRef.{ComponentTypeRef}
 use Rattle.smith_syntax.specs.declared.deftype.ComponentTypeRef.TheVariants as to
@@ -174,7 +175,6 @@ module _ (config : Config) (stack : Open) where
             omega (arith, keep.instances start, instance_count-so_far outer inner (imports is));
         no_component = refl;
         flat = refl;
-        scopes = λ h. omega (arith, h);
         declared = λ h. omega (arith, h);
       }
 

@@ -11,7 +11,7 @@ use Rattle.smith_syntax.specs.Scope.{Scope, with_type, with_types}
 use Rattle.smith_tree.specs.ReadableTypes.{IsReadableType}
 use Rattle.smith_types.specs.Sayable.{Fit, IsSayable, Lasts}
 use Rattle.smith_tree.specs.TypeScript.{script_type}
-use Rattle.smith_syntax.specs.TypeLimits.{EntryLimits, nesting}
+use Rattle.smith_syntax.specs.TypeLimits.{EntryLimits}
 use Rattle.smith_syntax.specs.WellFormed.{FormedEntry, FormedTypes}
 use Rattle.smith_scopes.proofs.Stack.{with_none}
 use Rattle.smith_tree.specs.Limits.{SmallTypes}
@@ -21,7 +21,7 @@ use Rattle.smith_tree.specs.Script.{script_types}
 use Rattle.smith_component.specs.AddedSections.{ReadsType, ReadsTypes}
 use Rattle.smith_types.proofs.ReferencesRead.{IsFew}
 use Rattle.smith_types.proofs.ScopedScript.{type_read}
-use Rattle.smith_component.proofs.MadeWith.{made_with_tail, made_with_formed, made_with_limits, made_with_nesting, made_with_need, made_with_declared}
+use Rattle.smith_component.proofs.MadeWith.{made_with_tail, made_with_formed, made_with_limits, made_with_need, made_with_declared}
 use Rattle.smith_component.proofs.MadeWith.{made_with_same}
 
 module _ (config : Config) (outer : List Scope) where
@@ -48,15 +48,6 @@ module _ (config : Config) (outer : List Scope) where
   most_below : (number : Entry → ℕ) (n : ℕ) (xs : List Entry) → AllByRecursion (λ x. number x ≤ n) xs → most number xs ≤ n
   most_below number n [] h = omega arith
   most_below number n (x ∷ xs) h = omega (arith, h.0, most_below number n xs h.1)
-
-  -- how deep the scopes of these types stand
-  pub types_read_nested : {min room : ℕ} {own next : Scope} {b rest : List ℕ} {xs : List Entry} → ReadsTypes config outer min room own b xs rest next
-      → length outer + 1 + most nesting xs ≤ max (length outer + 2) config.max_nesting_depth
-  types_read_nested {own = own} {next = next} {b = b} {rest = rest} {xs = xs} r =
-      let deepest : ℕ = max (length outer + 2) config.max_nesting_depth - (length outer + 1) in
-      let each : AllByRecursion (λ x. nesting x ≤ deepest) xs =
-      loop_all _ (λ s c x q t (made, e). omega (arith, made_with_nesting made)) 0 own b xs rest next r in
-      omega (arith, most_below nesting deepest xs each)
 
   -- how deep the types stand that these declare
   pub types_read_declared : {min room : ℕ} {own next : Scope} {b rest : List ℕ} {xs : List Entry} → ReadsTypes config outer min room own b xs rest next

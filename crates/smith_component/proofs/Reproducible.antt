@@ -3,7 +3,7 @@ use Rattle.std.proofs.Common.{◌≡◌, ℕ, zero, suc, List, refl, sym, ap, �
 use Rattle.smith_input.proofs.Choices.{among_same}
 use Rattle.smith_input.specs.declared.error.Error.{Error}
 use Rattle.smith_input.specs.declared.error.Error.TheVariants.{InconsistentLimits, MinimumNotMet, ModuleRefused, TooLong, OutOfMemory, PartsDisagree}
-use Rattle.smith_format.specs.Limits.{IsConsistent}
+use Rattle.smith_format.specs.Consistency.{IsConsistent}
 use Rattle.smith_format.specs.declared.config.Config.{Config}
 use Rattle.smith_tree.specs.Grammar.{Spells, component_text}
 use Rattle.smith_tree.specs.Open.{Open, root}

@@ -4,7 +4,7 @@ use Rattle.std.specs.List.{AllByRecursion}
 use Rattle.std.proofs.lemmas.Bool.Decides.{nat_tests}
 use Rattle.smith_input.proofs.Loops.{loop_all}
 use Rattle.smith_core.proofs.StandInMade.{stand_in_made}
-use Rattle.smith_format.specs.Limits.{IsConsistent}
+use Rattle.smith_format.specs.Consistency.{IsConsistent}
 use Rattle.smith_format.specs.declared.config.Config.{Config}
 use Rattle.smith_syntax.specs.Entries.{function, ImportEntry}
 use Rattle.smith_tree.specs.ReadableCoreTypes.{IsReadableCore}
@@ -19,7 +19,7 @@ use Rattle.smith_component.specs.Runs.{RunsTo, Turns}
 use Rattle.smith_component.specs.Shown.{shown_module}
 use Rattle.smith_format.specs.Piece.{bytes_of}
 use Rattle.smith_tree.specs.Tree.{ExportEntry, Part, Tree, add, canons, component, core_module, core_types, custom, ends, exports, exports_of, first}
-use Rattle.smith_tree.specs.Tree.{imports, imports_of, join, types}
+use Rattle.smith_tree.specs.Tree.{imports, imports_of, types}
 use Rattle.smith_component.specs.Turn.{Closes, Does, Next, Turn, answered, building}
 use Rattle.smith_tree.specs.declared.choices.CanonItem.{CanonItem}
 use Rattle.smith_component.specs.declared.item.Counted.{Counted}
@@ -34,10 +34,10 @@ use Rattle.smith_component.proofs.ReadsExports.{export_new}
 use Rattle.smith_component.proofs.ReadsImports.{import_new}
 use Rattle.smith_component.proofs.RunsSound.{runs_sound}
 use Rattle.smith_scopes.proofs.Plain.{all_back, all_both, all_front}
-use Rattle.smith_component.proofs.Tree.{join-add, join-ends}
+use Rattle.smith_component.proofs.Tree.{join-add, join-ends, join}
 use Rattle.smith_component.proofs.Turn.{WasOffered, chosen}
 
--- A component stays readable with a part more that can be read behind it.
+-- A component stays readable with a part more that can be read after it.
 rest_add : (t : Tree) (p : Part) (config : Config) (before : Tree) → IsReadableRest config t before → IsReadablePart config p (join before t)
     → IsReadableRest config (add t p) before
 rest_add ends p config before r s = (subst (IsReadablePart config p) (join-ends before) s, tt)

@@ -1,7 +1,7 @@
 -- What a run leads to is well formed and within the limits, whatever it reads.
 use Rattle.std.proofs.Common.{ℕ, zero, suc, ◌+◌, ◌-◌, ◌≤◌, List, [], length, arith, refl, sym, subst, inl, inr}
 use Rattle.smith_input.proofs.Loops.{loop_few}
-use Rattle.smith_format.specs.Limits.{IsConsistent}
+use Rattle.smith_format.specs.Consistency.{IsConsistent}
 use Rattle.smith_format.specs.declared.config.Config.{Config}
 use Rattle.smith_syntax.specs.Entries.{CoreEntry, Entry}
 use Rattle.smith_syntax.specs.Scope.{Scope}
@@ -26,7 +26,7 @@ use Rattle.smith_component.proofs.ReadsCoreTypes.{core_types_read_formed, core_t
 use Rattle.smith_component.proofs.ReadsCustom.{custom_short}
 use Rattle.smith_component.proofs.ReadsExports.{exports_addable}
 use Rattle.smith_component.proofs.ReadsImports.{imports_addable}
-use Rattle.smith_component.proofs.ReadsTypes.{types_read_declared, types_read_formed, types_read_limited, types_read_nested, types_read_small}
+use Rattle.smith_component.proofs.ReadsTypes.{types_read_declared, types_read_formed, types_read_limited, types_read_small}
 use Rattle.smith_component.proofs.Sound.{addable_core_types, addable_custom, addable_module, addable_types, component_offered_is, length-scopes_from}
 use Rattle.smith_component.proofs.Sound.{module_offered_is, own_limits-ends, own_limits_of, part_sound, root_kept, sound_close, sound_open}
 use Rattle.smith_component.proofs.Turn.{WasOffered, chosen}
@@ -43,11 +43,10 @@ pub types_addable : (config : Config) (least : ℕ) (stack : Open) {b rest : Lis
 types_addable config least stack {b} {rest} {xs} {scope} sound r =
     let limits = own_limits_of config stack sound in
     let few : 0 + length xs ≤ config.max_types - length (types_of stack.inner) = loop_few 0 (scope_of stack.inner) b xs rest scope (omega arith) r in
-    let deep = types_read_nested config (scopes_in stack.outer) r in
     let below = types_read_declared config (scopes_in stack.outer) r in
     let around = length-scopes_from stack.outer [] in
     addable_types config stack xs (types_read_formed config (scopes_in stack.outer) r) (omega (arith, few, limits.types))
-    (types_read_limited config (scopes_in stack.outer) r) (omega (arith, deep, around)) (omega (arith, below, around))
+    (types_read_limited config (scopes_in stack.outer) r) (omega (arith, below, around))
     (types_read_small config (scopes_in stack.outer) r)
 
 pub core_types_addable : (config : Config) (stack : Open) {b rest : List ℕ} {xs : List CoreEntry} {scope : Scope} → Sound config stack
@@ -138,7 +137,6 @@ root_sound config consistent = record {
     components = omega arith;
     instances = omega arith;
     depth = omega arith;
-    scopes = omega arith;
     declared = omega arith;
   };
   minima = tt;

@@ -1,7 +1,7 @@
 -- How far a run has come, and how long it is.
 use Rattle.std.proofs.Common.{◌≡◌, ℕ, zero, suc, ◌+◌, ◌≤◌, List, [], ◌∷◌, length, arith, refl, subst}
 use Rattle.smith_input.specs.declared.error.Error.{Error}
-use Rattle.smith_format.specs.Limits.{IsConsistent}
+use Rattle.smith_format.specs.Consistency.{IsConsistent}
 use Rattle.smith_format.specs.declared.config.Config.{Config}
 use Rattle.smith_tree.specs.Tree.{Tree, no_depth}
 use Rattle.smith_component.specs.Turn.{Next, building, answered, Turn, LacksAt, RefusesModuleAt}

@@ -12,13 +12,12 @@ use Rattle.smith_input.specs.Script.{rank_of, pick}
 use Rattle.smith_input.proofs.Choices.{rank_found, among_read}
 use Rattle.smith_input.proofs.Offered.{offers_found}
 use Rattle.smith_input.proofs.Picks.{pick-byte}
-use Rattle.smith_format.specs.Limits.{IsConsistent}
+use Rattle.smith_format.specs.Consistency.{IsConsistent}
 use Rattle.smith_format.specs.declared.config.Config.{Config}
 use Rattle.smith_syntax.specs.Scope.{Scope}
-use Rattle.smith_syntax.specs.TypeLimits.{nesting}
 use Rattle.smith_tree.specs.TypeNeeds.{declaring}
 use Rattle.smith_tree.specs.Spaces.{types_of}
-use Rattle.smith_tree.specs.Tree.{Tree, ends, first, Part, custom, core_module, core_types, component, types, canons, imports, exports, add, join, inside}
+use Rattle.smith_tree.specs.Tree.{Tree, ends, first, Part, custom, core_module, core_types, component, types, canons, imports, exports, add, inside}
 use Rattle.smith_tree.specs.Tree.{component_count, module_count, no_depth, most}
 use Rattle.smith_tree.specs.WellFormed.{Formed, FormedPart}
 use Rattle.smith_tree.specs.Limits.{OwnLimits, Maxima, Minima}
@@ -32,7 +31,7 @@ use Rattle.smith_tree.specs.contracts.choices.Item.{the_type}
 use Rattle.smith_tree.specs.contracts.choices.ItemPartialEq.TheImpl.{ghosts as equal}
 use Rattle.smith_tree.specs.declared.choices.Item.{Item}
 use Rattle.smith_tree.specs.declared.choices.Item.TheVariants.{Finish, Custom, CoreTypes, Types, Imports, Canonical, Module, Component, Exports}
-use Rattle.smith_component.proofs.Tree.{all_before, all_inner, depth-outer, depth-so_far, join-add, join-ends, tree_so_far-close}
+use Rattle.smith_component.proofs.Tree.{all_before, all_inner, depth-outer, depth-so_far, join-add, join-ends, tree_so_far-close, join}
 use Rattle.smith_scopes.proofs.Plain.{all_front, all_back}
 use Rattle.smith_component.proofs.CanonsRead.{Spoken}
 use Rattle.smith_component.proofs.PartsRead.{fills_nothing, spoken_past, custom_part, core_types_part, types_part, imports_part, canons_part}
@@ -99,7 +98,6 @@ limits_front (first p t) config outer a l =
       components = omega (arith, m.components, component_count-so_far outer a p);
       instances = omega (arith, m.instances, instance_count-so_far outer a p);
       depth = omega (arith, m.depth, depth-so_far no_depth outer a p);
-      scopes = omega (arith, m.scopes, depth-so_far (most nesting) outer a p);
       declared = omega (arith, m.declared, depth-so_far (most declaring) outer a p);
     }
 
@@ -161,7 +159,7 @@ module _ (config : Config) (outer : List Tree) (before : Tree) (next : Next) (le
         ),
       )
 
--- what holds behind one part more
+-- what holds after one part more
 pub limits_past : (p : Part) (t : Tree) (config : Config) (outer : List Tree) (before : Tree) → Maxima config (tree_so_far outer (join before (first p t)))
     → Maxima config (tree_so_far outer (join (add before p) t))
 limits_past p t config outer before l = subst (λ x. Maxima config (tree_so_far outer x)) (sym (join-add before p t)) l

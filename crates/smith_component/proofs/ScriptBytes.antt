@@ -8,14 +8,14 @@ use Rattle.smith_input.specs.Loops.{Along}
 use Rattle.smith_input.specs.Script.{AreBytes, script_among}
 use Rattle.smith_input.proofs.Offered.{offers_few}
 use Rattle.smith_input.proofs.ScriptBytes.{Small, small_bytes, small_few, small_join, small_loop, small_new, small_pick, small_text, small_turns}
-use Rattle.smith_format.specs.Limits.{IsConsistent}
+use Rattle.smith_format.specs.Consistency.{IsConsistent}
 use Rattle.smith_format.specs.Piece.{bytes}
 use Rattle.smith_format.specs.declared.config.Config.{Config}
 use Rattle.smith_format.proofs.Piece.{parts_are}
 use Rattle.smith_syntax.specs.Entries.{CoreEntry, Entry, function, ImportEntry}
 use Rattle.smith_syntax.specs.SameSignature.{same_signature_Decides}
 use Rattle.smith_syntax.specs.Scope.{Scope, with_core_type, with_type}
-use Rattle.smith_syntax.specs.Shown.{is_of_signature}
+use Rattle.smith_syntax.specs.HasSignature.{is_of_signature}
 use Rattle.smith_syntax.specs.CoreLimits.{CoreLimits}
 use Rattle.smith_syntax.specs.TypeLimits.{EntryLimits}
 use Rattle.smith_core.specs.StandInScript.{IsStandIn, script_stand_in, stand_in_of}
@@ -37,10 +37,11 @@ use Rattle.smith_tree.specs.Open.{is_component_offered, is_export_offered, is_mo
 use Rattle.smith_tree.specs.Readable.{IsReadableRest}
 use Rattle.smith_tree.specs.Script.{item_of, script, script_export, script_from, script_import, script_item}
 use Rattle.smith_tree.specs.Script.{script_part, Within}
-use Rattle.smith_tree.specs.Spaces.{after_canon, after_part, core_types_of, functions_of, Spaces, spaces_of, types_of}
+use Rattle.smith_tree.specs.Spaces.{after_canon, after_part, core_types_of, Spaces, spaces_of, types_of}
+use Rattle.smith_tree.specs.Functions.{functions_of}
 use Rattle.smith_component.specs.Tables.{functions_at}
 use Rattle.smith_tree.specs.Tree.{add, anywhere_in, Canon, canons, component, components_in, core_module, core_types, custom, depth, ends, ExportEntry}
-use Rattle.smith_tree.specs.Tree.{exports, exports_in, exports_of, first, function_count, imports, imports_of, inside, join, lift, lower}
+use Rattle.smith_tree.specs.Tree.{exports, exports_in, exports_of, first, function_count, imports, imports_of, inside, lift, lower}
 use Rattle.smith_tree.specs.Tree.{names_in, own, Part, Tree, types}
 use Rattle.smith_tree.specs.WellFormed.{export_names, Formed, FormedCanon, FormedCanons, FormedExports, FormedImport, import_names, scope_of}
 use Rattle.smith_tree.specs.contracts.choices.CanonItemPartialEq.TheImpl.{ghosts as canon_equal}
@@ -58,7 +59,7 @@ use Rattle.smith_component.proofs.Planned.{plan_stands}
 use Rattle.smith_component.proofs.PartsRead.{spoken_past}
 use Rattle.smith_component.proofs.Sound.{length-scopes_from, scopes_from-snoc}
 use Rattle.smith_component.proofs.Spaces.{all_at}
-use Rattle.smith_component.proofs.Tree.{function_count-add, join-add, join-ends, length-own-add, own-add}
+use Rattle.smith_component.proofs.Tree.{function_count-add, join-add, join-ends, length-own-add, own-add, join}
 use Rattle.smith_component.proofs.ReadsCoreTypes as core_sections
 use Rattle.smith_component.proofs.ReadsTypes as type_sections
 
@@ -155,7 +156,7 @@ module _ (config : Config) (consistent : IsConsistent config) (outer : List Tree
   few_here : (t : Tree) → Said config outer before t → IsFew (scope_of before)
   few_here t said = let o = own_front t config before said.whole in omega (arith, o.types, o.core_types, consistent.types)
 
-  -- behind one part more
+  -- after one part more
   said_past : (p : Part) (t : Tree) → Said config outer before (first p t) → Said config outer (add before p) t
   said_past p t said =
       let z = parts_are (part p) (parts t) said.spelled.0 said.spelled.1 in

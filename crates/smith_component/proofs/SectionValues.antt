@@ -7,7 +7,8 @@ use Rattle.smith_input.specs.Loops.{Loop, Never, no_more, by_itself, an_item}
 use Rattle.smith_input.proofs.Loops.{loop_map}
 use Rattle.smith_format.specs.declared.config.Config.{Config}
 use Rattle.smith_syntax.specs.Entries.{ImportEntry}
-use Rattle.smith_syntax.specs.Scope.{Scope, own_of, outer_of}
+use Rattle.smith_syntax.specs.Scope.{Scope}
+use Rattle.smith_syntax.specs.Places.{own_of, outer_of}
 use Rattle.smith_syntax.specs.Shown.{full_type, import_shown, shown_shared, shown_shared_core}
 use Rattle.smith_syntax.specs.WellFormed.{names}
 use Rattle.smith_syntax.specs.declared.core_types.CoreType.{CoreType}
@@ -22,7 +23,8 @@ use Rattle.smith_component.specs.SectionValues.{AddsImportSection, AddsTypeSecti
 use Rattle.smith_component.specs.SectionValues.{ReadsTypeValue, extern_of, externs_in, externs_of}
 use Rattle.smith_component.specs.Shown.{shown_section, shown_sections}
 use Rattle.smith_component.specs.Tables.{IsTabled, Tabled}
-use Rattle.smith_tree.specs.Spaces.{after_part, core_functions_of, functions_of, spaces_of}
+use Rattle.smith_tree.specs.Spaces.{after_part, spaces_of}
+use Rattle.smith_tree.specs.Functions.{core_functions_of, functions_of}
 use Rattle.smith_tree.specs.Tree.{canons_in, exports_in, imports_in, imports_of}
 use Rattle.smith_component.specs.AddedSections.{AddsImports, AddsTypes, ReadsCoreTypes, ReadsTypes}
 use Rattle.smith_tree.specs.WellFormed.{import_names}

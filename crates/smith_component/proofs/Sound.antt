@@ -7,13 +7,14 @@ use Rattle.smith_format.specs.declared.config.Config.{Config}
 use Rattle.smith_syntax.specs.CoreLimits.{CoreLimits}
 use Rattle.smith_syntax.specs.Entries.{Entry, CoreEntry}
 use Rattle.smith_syntax.specs.Scope.{Scope}
-use Rattle.smith_syntax.specs.TypeLimits.{EntryLimits, nesting}
+use Rattle.smith_syntax.specs.TypeLimits.{EntryLimits}
 use Rattle.smith_tree.specs.TypeNeeds.{declaring}
 use Rattle.smith_tree.specs.Spaces.{core_types_of, spaces_of, types_of}
 use Rattle.smith_tree.specs.Tree.{Tree, ends, Part, custom, core_module, core_types, component, types, canons, imports, exports, add, inside, names_in}
 use Rattle.smith_tree.specs.Tree.{components_in}
-use Rattle.smith_tree.specs.Tree.{modules_in, imported_modules_in, imported_components_in, imported_instances_in, anywhere_in, depth_in, no_depth}
-use Rattle.smith_tree.specs.Tree.{declared_depth_in, scope_depth_in, module_count, component_count, instance_count, most}
+use Rattle.smith_tree.specs.Tree.{modules_in, imported_modules_in, imported_components_in, imported_instances_in, anywhere_in, no_depth}
+use Rattle.smith_tree.specs.Depths.{depth_in, declared_depth_in}
+use Rattle.smith_tree.specs.Tree.{module_count, component_count, instance_count, most}
 use Rattle.smith_tree.specs.Open.{Open, tree_so_far, is_module_offered, is_component_offered, scopes_in, scopes_from, with_inner}
 use Rattle.smith_component.specs.Turn.{building, Closes}
 use Rattle.smith_tree.specs.WellFormed.{FormedPart, WellFormed, scope_of}
@@ -95,7 +96,6 @@ part_sound config stack p a s =
         components = omega (arith, component_count-so_far outer inner p, a.components s.maxima.components, none, comps);
         instances = omega (arith, instance_count-so_far outer inner p, a.instances s.maxima.instances, insts);
         depth = omega (arith, depth-so_far no_depth outer inner p, deep, s.maxima.depth, a.flat);
-        scopes = omega (arith, depth-so_far (most nesting) outer inner p, s.maxima.scopes, a.scopes (omega (arith, deep, s.maxima.depth)));
         declared =
             omega (arith, depth-so_far (most declaring) outer inner p, s.maxima.declared, a.declared (omega (arith, deep, s.maxima.depth)));
       };
@@ -170,7 +170,6 @@ sound_open config outer inner deep few s =
       components = omega (arith, component_count-so_far outer inner (component ends), few);
       instances = omega (arith, instance_count-so_far outer inner (component ends), s.maxima.instances);
       depth = omega (arith, depth-so_far no_depth outer inner (component ends), s.maxima.depth);
-      scopes = omega (arith, depth-so_far (most nesting) outer inner (component ends), s.maxima.scopes);
       declared = omega (arith, deep, depth-so_far (most declaring) outer inner (component ends), s.maxima.declared);
     } in
     record {
@@ -188,9 +187,9 @@ sound_open config outer inner deep few s =
 pub addable_bare : (config : Config) (stack : Open) (p : Part) → FormedPart p (scopes_in stack.outer) stack.inner → IsQuiet p → Short (names_in p)
     → (module_count (tree_so_far stack.outer stack.inner) ≤ config.max_modules
     → module_count (tree_so_far stack.outer stack.inner) + (length (modules_in p) + length (imported_modules_in p)) ≤ config.max_modules)
-    → imported_components_in p ≡ [] → imported_instances_in p ≡ [] → anywhere_in components_in p ≡ [] → depth_in p ≡ 1 → scope_depth_in p ≡ 1
-    → declared_depth_in p ≡ 1 → IsAddable config stack p
-addable_bare config stack p f q ns ms cs is none flat low level = record {
+    → imported_components_in p ≡ [] → imported_instances_in p ≡ [] → anywhere_in components_in p ≡ [] → depth_in p ≡ 1 → declared_depth_in p ≡ 1
+    → IsAddable config stack p
+addable_bare config stack p f q ns ms cs is none flat level = record {
   formed = f;
   own = λ o. own_limits-add config stack.inner p o (subst (Fits config) (sym (q.spaces (spaces_of stack.inner))) (fits_of config stack.inner o))
       (no_counted config stack.inner p q.imports q.canons q.exports o) ns;
@@ -200,7 +199,6 @@ addable_bare config stack p f q ns ms cs is none flat low level = record {
   instances = λ h. omega (arith, h, ap length is);
   no_component = none;
   flat = flat;
-  scopes = λ h. omega (arith, h, low);
   declared = λ h. omega (arith, h, level);
 }
 
@@ -208,22 +206,21 @@ pub addable_custom : (config : Config) (stack : Open) (name contents : List ℕ)
 addable_custom config stack name contents short =
     addable_bare config stack (custom name contents) tt
     (record { spaces = λ s. refl; imports = refl; canons = refl; exports = refl }) (short, tt) (λ h. omega (arith, h))
-    refl refl refl refl refl refl
+    refl refl refl refl refl
 
 pub addable_module : (config : Config) (stack : Open) (text : List ℕ) → module_count (tree_so_far stack.outer stack.inner) < config.max_modules
     → IsAddable config stack (core_module text)
 addable_module config stack text few =
     addable_bare config stack (core_module text) tt
-    (record { spaces = λ s. refl; imports = refl; canons = refl; exports = refl }) tt (λ h. omega (arith, few)) refl refl refl refl refl refl
+    (record { spaces = λ s. refl; imports = refl; canons = refl; exports = refl }) tt (λ h. omega (arith, few)) refl refl refl refl refl
 
 -- A part without modules, components and instances, which counts in its component alone.
 pub addable_level : (config : Config) (stack : Open) (p : Part) → FormedPart p (scopes_in stack.outer) stack.inner
     → (OwnLimits config stack.inner → OwnLimits config (add stack.inner p)) → (OwnSizes config stack.inner → OwnSizes config (add stack.inner p))
     → length (modules_in p) + (length (imported_modules_in p) + (length (imported_components_in p) + length (imported_instances_in p))) ≡ 0
     → anywhere_in components_in p ≡ [] → depth_in p ≡ 1
-    → (length stack.outer + 1 ≤ max_depth config → length stack.outer + scope_depth_in p ≤ max_depth config + 1)
     → (length stack.outer + 1 ≤ max_depth config → length stack.outer + declared_depth_in p ≤ max_depth config) → IsAddable config stack p
-addable_level config stack p formed own sizes count none flat scopes declared = record {
+addable_level config stack p formed own sizes count none flat declared = record {
   formed = formed;
   own = own;
   sizes = sizes;
@@ -232,17 +229,16 @@ addable_level config stack p formed own sizes count none flat scopes declared = 
   instances = λ h. omega (arith, h, count);
   no_component = none;
   flat = flat;
-  scopes = scopes;
   declared = declared;
 }
 
 -- Types that find room.
 pub addable_types : (config : Config) (stack : Open) (es : List Entry) → FormedPart (types es) (scopes_in stack.outer) stack.inner
     → length (types_of stack.inner) + length es ≤ config.max_types
-    → AllByRecursion (EntryLimits config) es → length stack.outer + 1 + most nesting es ≤ max (length stack.outer + 2) config.max_nesting_depth
+    → AllByRecursion (EntryLimits config) es
     → length stack.outer + 1 + most declaring es ≤ max (length stack.outer + 1) config.max_nesting_depth
     → SmallTypes config es → IsAddable config stack (types es)
-addable_types config stack es f room limited nested declared small =
+addable_types config stack es f room limited declared small =
     addable_level config stack (types es) f (λ o.
     own_limits-add config stack.inner (types es) o (record {
       types = omega (arith, room, length-append (types_of stack.inner) es);
@@ -251,7 +247,7 @@ addable_types config stack es f room limited nested declared small =
       within_core_types = o.within_core_types;
     }) (no_counted config stack.inner (types es) refl refl refl o) tt)
     (λ o. own_sizes-add config stack.inner (types es) (all_both _ (types_of stack.inner) es o.0 small, o.1)) refl refl refl
-    (λ h. omega (arith, h, nested)) (λ h. omega (arith, h, declared))
+    (λ h. omega (arith, h, declared))
 
 -- Core types that find room.
 pub addable_core_types : (config : Config) (stack : Open) (es : List CoreEntry) → FormedPart (core_types es) (scopes_in stack.outer) stack.inner
@@ -266,7 +262,7 @@ addable_core_types config stack es f room limited small =
       within_core_types = all_both _ (core_types_of stack.inner) es o.within_core_types limited;
     }) (no_counted config stack.inner (core_types es) refl refl refl o) tt)
     (λ o. own_sizes-add config stack.inner (core_types es) (o.0, all_both _ (core_types_of stack.inner) es o.1 small)) refl refl refl
-    (λ h. omega (arith, h)) (λ h. omega (arith, h))
+    (λ h. omega (arith, h))
 
 own_length : {A : Type 0} (f : Part → List A) (p : Part) → anywhere_in components_in p ≡ [] → length (anywhere_in f p) ≡ length (f p)
 own_length f p none = ap length (in_own f p none)

@@ -7,8 +7,9 @@ use Rattle.std.specs.List.{AllByRecursion}
 use Rattle.std.specs.Prelude.{slice_get}
 use Rattle.smith_syntax.specs.Entries.{EntryOf, Entry, Signature, defined, function, component_type, instance_type, plain}
 use Rattle.smith_syntax.specs.Flat.{is_scalar}
-use Rattle.smith_syntax.specs.Scope.{places}
-use Rattle.smith_syntax.specs.Shown.{full_type, has_signature, is_of_signature, shown_type}
+use Rattle.smith_syntax.specs.Places.{places}
+use Rattle.smith_syntax.specs.Shown.{full_type, shown_type}
+use Rattle.smith_syntax.specs.HasSignature.{has_signature, is_of_signature}
 use Rattle.smith_syntax.specs.SameSignature.{same_signature_Decides}
 use Rattle.smith_syntax.specs.declared.deftype.DefType.{DefType}
 use Rattle.smith_scopes.specs.Scopes.{Contents, last_of, own_scope}
@@ -111,7 +112,7 @@ scalars_entries s es g =
     (all_weaker (λ ty. ty < length s.types) (λ ty. is_scalar_type (s.types ++ es) ty ≡ is_scalar_type s.types ty)
     (λ ty h. ap (λ o. elim o as (λ _. Bool) [ None ↦ false | Some e ↦ is_scalar_entry e ]) (get_left s.types es ty h)) s.functions g.known)
 
--- A function more stands behind them where its type flattens.
+-- A function more stands after them where its type flattens.
 pub scalars_lift : (s : Spaces) (c t : ℕ) → scalar_functions (after_canon s (lift c t)) ≡ scalar_functions s ++ cond (is_scalar_type s.types t)
     (length s.functions ∷ []) []
 scalars_lift s c t =
@@ -160,7 +161,7 @@ pub equal_own : (scopes : List Contents) (signature : Signature)
     → places (has_signature signature) 0 (last_of scopes).types ≡ places (is_of_signature signature) 0 (own_scope scopes).types
 equal_own scopes signature = equal_places signature 0 (last_of scopes).types ∙ ap (λ s. places (is_of_signature signature) 0 s.types) (sym (own_last scopes))
 
--- Canonical functions in a row, where one more is formed behind them.
+-- Canonical functions in a row, where one more is formed after them.
 pub formed_canons-snoc : (s : Spaces) (cs : List Canon) (c : Canon) → FormedCanons cs s → FormedCanon (fold after_canon s cs) c → FormedCanons (cs ++ c ∷ []) s
 formed_canons-snoc s [] c all h = (h, tt)
 formed_canons-snoc s (d ∷ cs) c all h = (all.0, formed_canons-snoc (after_canon s d) cs c all.1 h)

@@ -9,12 +9,14 @@ use Rattle.std.proofs.lemmas.Option.{slice_get_within}
 use Rattle.smith_input.specs.Names.{Holds}
 use Rattle.smith_syntax.specs.Entries.{Entry, defined, function, component_type, instance_type, Signature}
 use Rattle.smith_syntax.specs.Flat.{is_scalar}
-use Rattle.smith_syntax.specs.Scope.{Scope, places}
+use Rattle.smith_syntax.specs.Scope.{Scope}
+use Rattle.smith_syntax.specs.Places.{places}
 use Rattle.smith_scopes.proofs.Places.{get_left, place_stands}
 use Rattle.smith_scopes.proofs.Stack.{places-append}
 use Rattle.smith_tree.specs.Offers.{is_scalar_entry, is_scalar_type, scalar_functions}
 use Rattle.smith_component.specs.Tables.{AddsCoreFunction, AddsFunction, IsGrounded, IsLowerable, Tabled}
-use Rattle.smith_tree.specs.Spaces.{core_functions_of, functions_of, spaces_of, types_of}
+use Rattle.smith_tree.specs.Spaces.{spaces_of, types_of}
+use Rattle.smith_tree.specs.Functions.{core_functions_of, functions_of}
 use Rattle.smith_tree.specs.Tree.{Tree, Part, add, exports_of, function_count, own}
 use Rattle.smith_tree.specs.WellFormed.{export_names, scope_of}
 use Rattle.smith_component.specs.declared.builder.tables.Tables.{Tables}

@@ -6,7 +6,8 @@ use Rattle.smith_format.specs.declared.config.Config.{Config}
 use Rattle.smith_syntax.specs.Entries.{Signature, function}
 use Rattle.smith_component.specs.Canonicals.{CanonTurn, Growing, LiftsTo, ReadsCanons, empty_section, given_up, grown, to_defined, to_equal}
 use Rattle.smith_component.specs.Sound.{Totalled}
-use Rattle.smith_tree.specs.Spaces.{after_part, core_functions_of, functions_of, spaces_of, types_of}
+use Rattle.smith_tree.specs.Spaces.{after_part, spaces_of, types_of}
+use Rattle.smith_tree.specs.Functions.{core_functions_of, functions_of}
 use Rattle.smith_tree.specs.Tree.{Tree, Part, types, canons, add, module_of, component_of, instance_of}
 use Rattle.smith_tree.specs.Tree.{exports_in, exports_of, function_count}
 use Rattle.smith_tree.specs.Tree.{imports_in, imported_modules_in, imported_components_in, imported_instances_in}

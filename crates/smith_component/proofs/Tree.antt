@@ -4,7 +4,7 @@ use Rattle.std.specs.List.{AllByRecursion, flat_map}
 use Rattle.smith_scopes.proofs.Plain.{all_back, all_both, all_front}
 use Rattle.smith_syntax.specs.Entries.{Entry, ImportEntry}
 use Rattle.smith_tree.specs.Tree.{Tree, ends, first, Part, custom, core_module, core_types, component, types, canons, imports, exports, add}
-use Rattle.smith_tree.specs.Tree.{join, own, anywhere}
+use Rattle.smith_tree.specs.Tree.{own, anywhere}
 use Rattle.smith_tree.specs.Tree.{anywhere_in, inside, components_in, depth_by, depth_by_in}
 use Rattle.smith_tree.specs.Tree.{canons_in, function_count, function_of, imported_functions_in, imports_in}
 use Rattle.smith_tree.specs.Open.{tree_so_far}
@@ -142,6 +142,11 @@ all_inner P [] t h = h.0
 all_inner P (u ∷ outer) t h =
     let x : Tree = tree_so_far outer t in
     all_inner P outer t (all_back P (inside u) (x ∷ inside x) (subst (AllByRecursion P) (anywhere-add components_in u (component x)) h.1))
+
+-- the parts of one tree after those of another
+abbrev pub join : Tree → Tree → Tree
+join ends u = u
+join (first p t) u = first p (join t u)
 
 pub join-ends : (t : Tree) → join t ends ≡ t
 join-ends ends = refl

@@ -1,10 +1,10 @@
 -- Well formed trees grow at the inner component.
 use Rattle.std.proofs.Common.{List, [], ◌∷◌, sym, subst}
 use Rattle.smith_syntax.specs.Scope.{Scope}
-use Rattle.smith_tree.specs.Tree.{Tree, ends, first, Part, component, add, join}
+use Rattle.smith_tree.specs.Tree.{Tree, ends, first, Part, component, add}
 use Rattle.smith_tree.specs.Open.{tree_so_far, scopes_from}
 use Rattle.smith_tree.specs.WellFormed.{Formed, FormedPart, scope_of}
-use Rattle.smith_component.proofs.Tree.{join-ends, join-add}
+use Rattle.smith_component.proofs.Tree.{join-ends, join-add, join}
 
 pub formed-add : (t : Tree) (p : Part) (outer : List Scope) (before : Tree) → Formed t outer before → FormedPart p outer (join before t)
     → Formed (add t p) outer before

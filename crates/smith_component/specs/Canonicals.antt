@@ -7,8 +7,8 @@ use Rattle.smith_format.specs.CoreTypes.{Function}
 use Rattle.smith_format.specs.declared.config.Config.{Config}
 use Rattle.smith_syntax.specs.Entries.{function, Signature}
 use Rattle.smith_syntax.specs.Flat.{Flattens}
-use Rattle.smith_syntax.specs.Scope.{places}
-use Rattle.smith_syntax.specs.Shown.{is_of_signature}
+use Rattle.smith_syntax.specs.Places.{places}
+use Rattle.smith_syntax.specs.HasSignature.{is_of_signature}
 use Rattle.smith_types.specs.Lifting.{ReadsLiftedType}
 use Rattle.smith_tree.specs.Spaces.{Spaces, spaces_of}
 use Rattle.smith_tree.specs.Tree.{Canon, lift, lower, Tree, types, canons, add, function_count}
@@ -41,7 +41,7 @@ ReadsLower s bytes rest next = (f : ℕ) × ReadsAmong (scalar_functions (spaces
 abbrev pub equal_types : Growing → Signature → List ℕ
 equal_types s signature = places (is_of_signature signature) 0 (spaces_at s).types
 
--- A type section of that type behind the canonical section, and a canonical section with the lift behind that.
+-- A type section of that type after the canonical section, and a canonical section with the lift after that.
 abbrev pub with_defined : Growing → ℕ → Signature → Growing
 with_defined s c signature = record { before = add (grown s) (types (function signature ∷ [])); funcs = lift c (length (spaces_at s).types) ∷ [] }
 

@@ -2,7 +2,7 @@
 use Rattle.std.specs.Prelude.{◌≡◌, ℕ, Bool, true, false, List, [], ◌∷◌, ◌++◌, map, length, nat_lt, Some, slice_get}
 use Rattle.smith_input.specs.Offers.{offers_of}
 use Rattle.smith_format.specs.CoreTypes.{Function}
-use Rattle.smith_format.specs.Limits.{IsConsistent}
+use Rattle.smith_format.specs.Consistency.{IsConsistent}
 use Rattle.smith_format.specs.declared.config.Config.{Config}
 use Rattle.smith_syntax.specs.Entries.{Signature, function}
 use Rattle.smith_syntax.specs.Flat.{Flattens, is_scalar}
@@ -22,7 +22,7 @@ use Rattle.smith_component.specs.declared.component.Section.{Section}
 use Rattle.smith_tree.specs.declared.choices.CanonItem.{CanonItem}
 use Rattle.smith_tree.specs.declared.choices.CanonItem.TheVariants.{Lower, Lift}
 
--- the section that grows behind the sections of a component
+-- the section that grows after the sections of a component
 abbrev pub growing : OpenComponent → List Func → Growing
 growing component funcs = record { before = shown_sections component.sections.items; funcs = map shown_canon funcs }
 
@@ -53,7 +53,7 @@ pub record SameLoans (old new : CanonicalDraft) : Type 0 where
   pub component : new.component.ghost_name ≡ old.component.ghost_name
   pub funcs : new.funcs.ghost_name ≡ old.funcs.ghost_name
 
--- It goes on behind what stood before, in the same scopes.
+-- It goes on after what stood before, in the same scopes.
 pub record DraftsOn (old new : CanonicalDraft) : Type 0 where
   pub draft : IsDraft new
   pub front : KeepsFront old.component.now new.component.now

@@ -1,6 +1,7 @@
 -- A section of types or of core types as the program makes it.
 use Rattle.std.specs.Prelude.{◌≡◌, ◌≤◌, List, length}
-use Rattle.smith_format.specs.Limits.{IsConsistent, configured}
+use Rattle.smith_format.specs.Limits.{configured}
+use Rattle.smith_format.specs.Consistency.{IsConsistent}
 use Rattle.smith_format.specs.declared.config.Config.{Config}
 use Rattle.smith_format.specs.declared.types.ValType.{ValType}
 use Rattle.smith_scopes.specs.Scopes.{Contents, outer_scopes}

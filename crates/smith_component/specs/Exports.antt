@@ -5,11 +5,11 @@ use Rattle.smith_input.specs.Names.{ReadsNew}
 use Rattle.smith_input.specs.Reading.{Reads}
 use Rattle.smith_format.specs.declared.config.Config.{Config}
 use Rattle.smith_tree.specs.Offers.{with_exports}
-use Rattle.smith_tree.specs.Spaces.{functions_of}
+use Rattle.smith_tree.specs.Functions.{functions_of}
 use Rattle.smith_tree.specs.Tree.{ExportEntry, Tree, exports_of}
 use Rattle.smith_tree.specs.WellFormed.{export_names}
 
--- An export behind these of its section: a choice among the component functions, those that the section exports too, and a name that is new
+-- An export after these of its section: a choice among the component functions, those that the section exports too, and a name that is new
 -- among the component's exports.
 pub record ReadsExport (t : Tree) (es : List ExportEntry) (bytes : List ℕ) (x : ExportEntry) (rest : List ℕ) (next : List ExportEntry) : Type 0 where
   pub mid : List ℕ

@@ -1,7 +1,8 @@
 -- Where what lacks of the minima can be filled, whatever the input.
 use Rattle.std.specs.Prelude.{ℕ, ◌+◌, ◌-◌, ◌<◌, ◌≤◌, ◌⊎◌, length}
 use Rattle.smith_format.specs.declared.config.Config.{Config}
-use Rattle.smith_syntax.specs.Scope.{places, is_func}
+use Rattle.smith_syntax.specs.Scope.{is_func}
+use Rattle.smith_syntax.specs.Places.{places}
 use Rattle.smith_tree.specs.Offers.{scalar_functions}
 use Rattle.smith_tree.specs.Spaces.{spaces_of, types_of}
 use Rattle.smith_tree.specs.Tree.{Tree, imports_of, function_count}

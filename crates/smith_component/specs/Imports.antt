@@ -11,7 +11,7 @@ use Rattle.smith_tree.specs.Tree.{imports_of}
 use Rattle.smith_tree.specs.WellFormed.{scope_of, import_names}
 use Rattle.smith_tree.specs.Offers.{with_imports, totals_of, import_kinds}
 
--- An import behind these of its section: what it is of, a name that is new among the component's imports, and a URL or none, which is
+-- An import after these of its section: what it is of, a name that is new among the component's imports, and a URL or none, which is
 -- new among some of which a plain tree knows nothing.
 pub record ReadsImport (config : Config) (stack : Open) (is : List ImportEntry) (bytes : List ℕ) (x : ImportEntry) (rest : List ℕ)
     (next : List ImportEntry) : Type 0 where

@@ -58,7 +58,7 @@ externs_in (Exports s) = []
 abbrev pub externs_of : List Section → List NamedExtern
 externs_of sections = flat_map externs_in sections
 
--- An import behind these of its section, in a component with those before: what it is of, a name that is new among the component's
+-- An import after these of its section, in a component with those before: what it is of, a name that is new among the component's
 -- imports, and a URL or none, which has a name that is new among those in their URLs.
 pub record ReadsImportValue (config : Config) (stack : Open) (before : List NamedExtern) (is : List Import) (bytes : List ℕ) (x : Import) (rest : List ℕ)
     (next : List Import) : Type 0 where

@@ -1,7 +1,8 @@
 -- What is true of a builder at every moment, and which parts keep it true.
 use Rattle.std.specs.Prelude.{◌≡◌, ◌+◌, ◌≤◌, List, [], ◌∷◌, ◌++◌, length}
 use Rattle.std.specs.List.{AllByRecursion, flat_map}
-use Rattle.smith_format.specs.Limits.{IsConsistent, configured}
+use Rattle.smith_format.specs.Limits.{configured}
+use Rattle.smith_format.specs.Consistency.{IsConsistent}
 use Rattle.smith_format.specs.declared.config.Config.{Config}
 use Rattle.smith_format.specs.declared.types.ValType.{ValType}
 use Rattle.smith_syntax.specs.Scope.{Scope}
@@ -9,8 +10,8 @@ use Rattle.smith_tree.specs.Limits.{max_depth, OwnLimits, OwnSizes, Maxima, Mini
 use Rattle.smith_tree.specs.Open.{Open, tree_so_far, scopes_in}
 use Rattle.smith_tree.specs.Spaces.{Spaces, after_part}
 use Rattle.smith_tree.specs.Tree.{Tree, Part, add, inside, module_count, component_count, instance_count, imports_in, modules_in, imported_modules_in}
-use Rattle.smith_tree.specs.Tree.{imported_components_in, imported_instances_in, anywhere_in, canons_in, components_in, depth_in, exports_in}
-use Rattle.smith_tree.specs.Tree.{declared_depth_in, scope_depth_in}
+use Rattle.smith_tree.specs.Tree.{imported_components_in, imported_instances_in, anywhere_in, canons_in, components_in, exports_in}
+use Rattle.smith_tree.specs.Depths.{depth_in, declared_depth_in}
 use Rattle.smith_tree.specs.WellFormed.{WellFormed, FormedPart, scope_of}
 use Rattle.smith_component.specs.declared.builder.totals.TreeTotals.{TreeTotals}
 
@@ -58,7 +59,6 @@ pub record IsAddable (config : Config) (stack : Open) (p : Part) : Type 0 where
       → instance_count (tree_so_far stack.outer stack.inner) + length (imported_instances_in p) ≤ config.max_instances
   pub no_component : anywhere_in components_in p ≡ []
   pub flat : depth_in p ≡ 1
-  pub scopes : length stack.outer + 1 ≤ max_depth config → length stack.outer + scope_depth_in p ≤ max_depth config + 1
   pub declared : length stack.outer + 1 ≤ max_depth config → length stack.outer + declared_depth_in p ≤ max_depth config
 
 -- A part that leaves the index spaces as they are, and adds nothing that is counted in its component.

@@ -63,7 +63,7 @@ AddsValues config item.Module old b step rest = (new : Building) × (step ≡ St
 AddsValues config item.Component old b step rest = Unit {0}
 AddsValues config item.Exports old b step rest = Unit {0}
 
--- One turn by the sections that it adds: a choice names an item, and what that adds is what the bytes behind the choice give, URLs, what
+-- One turn by the sections that it adds: a choice names an item, and what that adds is what the bytes after the choice give, URLs, what
 -- outer aliases keep, and the parts of a core module included.
 pub record TurnAdds (config : Config) (old : Building) (left : List ℕ) (step : Step) (left2 : List ℕ) : Type 0 where
   pub item : Item

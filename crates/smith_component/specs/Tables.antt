@@ -9,7 +9,8 @@ use Rattle.smith_types.specs.MakingTypes.{HoldsExterns}
 use Rattle.smith_tree.specs.Offers.{is_scalar_type, scalar_functions}
 use Rattle.smith_component.specs.SectionValues.{externs_of}
 use Rattle.smith_component.specs.Shown.{shown_sections}
-use Rattle.smith_tree.specs.Spaces.{Spaces, core_functions_of, functions_of, spaces_of, types_of}
+use Rattle.smith_tree.specs.Spaces.{Spaces, spaces_of, types_of}
+use Rattle.smith_tree.specs.Functions.{core_functions_of, functions_of}
 use Rattle.smith_tree.specs.Tree.{Tree, exports_of, function_count}
 use Rattle.smith_tree.specs.WellFormed.{HasSignature, export_names}
 use Rattle.smith_component.specs.declared.builder.open.OpenComponent.{OpenComponent}

@@ -2,7 +2,7 @@
 
 ghost use Rattle.std.specs.Prelude.{◌≡◌, ℕ, List, [], IfOk, IfErr};
 ghost use Rattle.smith_input.specs.Reading.{IsTail};
-ghost use Rattle.smith_format.specs.Limits.{IsConsistent};
+ghost use Rattle.smith_format.specs.Consistency.{IsConsistent};
 ghost use Rattle.smith_component.specs.Building.{open_of};
 ghost use Rattle.smith_component.specs.BuilderView.{building_of, stack_of, IsSound};
 ghost use Rattle.smith_component.specs.Filling.{CanFill};

@@ -2,7 +2,7 @@
 
 ghost use Rattle.std.specs.Prelude.{◌≡◌, ℕ, List, ◌++◌, IfOk, IfErr, OnOk};
 ghost use Rattle.smith_input.specs.Reading.{IsTail};
-ghost use Rattle.smith_format.specs.Limits.{IsConsistent};
+ghost use Rattle.smith_format.specs.Consistency.{IsConsistent};
 ghost use Rattle.smith_tree.specs.Generates.{Generates};
 ghost use Rattle.smith_component.specs.Runs.{IsMade};
 ghost use Rattle.smith_component.specs.Refusals.{IsGenerateRefusal};
@@ -34,7 +34,7 @@ pub fn generate(alloc: Global, config: Config, u: &mut Unstructured) -> Result<G
     ensures generated { IfOk result (λ g. Generates config g.component g.bytes.items) }
 
     // The component is that of a run of turns over the input, which leaves what is left, and one of those that can be
-    // generated. With `reach` and `answers`, exactly these are.
+    // generated. With `reach` and `answers`, exactly those of these that have bytes are.
     ensures made { IfOk result (λ g. IsMade config u.old g.component u.new) }
 
     // An input that begins with the script of a plan gives the plan's bytes, and leaves what is after it.

@@ -5,7 +5,7 @@ ghost use Rattle.smith_core.specs.Module.{module_text};
 ghost use Rattle.smith_core.specs.Parts.{Agree};
 ghost use Rattle.smith_core.specs.TooLong.{ModuleTooLong};
 ghost use Rattle.smith_core.specs.declared.module.parts.ModuleParts.{ModuleParts};
-ghost use Rattle.smith_format.specs.Limits.{IsConsistent};
+ghost use Rattle.smith_format.specs.Consistency.{IsConsistent};
 ghost use Rattle.smith_format.specs.TooLong.{ContentsTooLong};
 ghost use Rattle.smith_format.specs.declared.config.Config.{Config};
 ghost use Rattle.smith_input.specs.Reading.{IsDecided, IsReadAs, IsTail};

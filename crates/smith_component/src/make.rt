@@ -2,8 +2,7 @@
 
 ghost use Rattle.std.specs.Prelude.{◌≡◌, ℕ, List, ◌+◌, ◌≤◌, ◌++◌, length, IfOk, IfErr, OnOk};
 ghost use Rattle.smith_input.specs.Reading.{IsTail};
-ghost use Rattle.smith_format.specs.Limits.{IsConsistent};
-ghost use Rattle.smith_format.specs.Limits.{IsDefault};
+ghost use Rattle.smith_format.specs.Consistency.{IsConsistent, IsDefault};
 ghost use Rattle.smith_component.specs.Runs.{IsMade, RunsTo};
 ghost use Rattle.smith_tree.specs.Limits.{Limits, Sized};
 ghost use Rattle.smith_component.specs.Refusals.{IsRefusal};

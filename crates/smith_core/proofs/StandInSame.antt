@@ -67,7 +67,7 @@ module _ (config : Config) where
   shown_read s b t r z i = subst (λ f. ReadsFunction (configured config) (max_results config) b f r)
       (sym (as_function_is t.composite_type i.function i.composite)) i.reads
 
--- the types behind others, each in a group by itself
+-- the types after others, each in a group by itself
 one_group : (front ts : List SubType) (t : SubType) (at : ℕ) → length front ≡ at → rec_type (slice_range (front ++ t ∷ ts) at (at + 1)) ≡ sub_type t
 one_group front ts t at e =
     let one : (at + 1) - at ≡ 1 = omega arith in

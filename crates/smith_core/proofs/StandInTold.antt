@@ -20,7 +20,7 @@ use Rattle.smith_format.proofs.Digits.{digits_last, digits_more, unsigned_last}
 use Rattle.smith_format.proofs.Piece.{joined, left_none, number_fits, parts_are, u_cases, u_fits}
 use Rattle.smith_core.specs.Preamble.{core_preamble}
 use Rattle.smith_core.specs.StandInScript.{IsStandIn, all_memories, counted_functions, function_of}
-use Rattle.smith_core.specs.StandInScript.{functions_of, memories_of, memory_of, past_number, stand_in_of, types_of, value_of, values_of}
+use Rattle.smith_core.specs.StandInScript.{functions_from, memories_of, memory_of, past_number, stand_in_of, types_from, value_of, values_of}
 use Rattle.smith_core.proofs.StandInMade.{few_results}
 use Rattle.smith_core.specs.StandInText.{StandIn, listed, stand_in_text}
 use Rattle.smith_input.proofs.Lists.{all_both}
@@ -158,7 +158,7 @@ module _ (config : Config) where
             ap (λ (z : List ValType × List ℕ). let o = values_of z.1 in ((z.0, o.0), o.1)) params ∙ ap (λ (o : List ValType × List ℕ). ((f.0, o.0), o.1)) results;
       }
 
-  functions_told : (fs : List Function) → AllByRecursion (FormedFunction (configured config) (max_results config)) fs → Told (each core_function fs) (functions_of (length fs)) fs
+  functions_told : (fs : List Function) → AllByRecursion (FormedFunction (configured config) (max_results config)) fs → Told (each core_function fs) (functions_from (length fs)) fs
   functions_told [] all = record { are = []; is = refl; found = λ rest. refl }
   functions_told (f ∷ fs) all =
       let one = function_told f all.0 in
@@ -169,7 +169,7 @@ module _ (config : Config) where
         found = λ rest.
             let first : function_of ((one.are ++ more.are) ++ rest) ≡ (f, more.are ++ rest) =
             ap function_of (append_assoc one.are more.are rest) ∙ one.found (more.are ++ rest) in
-            ap (λ (z : Function × List ℕ). let o = functions_of (length fs) z.1 in (z.0 ∷ o.0, o.1)) first
+            ap (λ (z : Function × List ℕ). let o = functions_from (length fs) z.1 in (z.0 ∷ o.0, o.1)) first
             ∙ ap (λ (o : List Function × List ℕ). (f ∷ o.0, o.1)) (more.found rest);
       }
 
@@ -230,19 +230,19 @@ memories_told (m ∷ ms) all = memory_told m ms all.0 (memories_told ms all.1)
 
 module _ (config : Config) where
   types_told : (fs : List Function) (t m : List ℕ) → AllByRecursion (FormedFunction (configured config) (max_results config)) fs → length fs ≤ 20
-      → types_of m ≡ ([], m) → listed 1 core_function fs ≡ Some t → types_of (t ++ m) ≡ (fs, m)
-  types_told [] t m all few none e = let f : [] ≡ t = let g : Some [] ≡ Some t = e in cc in ap (λ z. types_of (z ++ m)) (sym f) ∙ none
+      → types_from m ≡ ([], m) → listed 1 core_function fs ≡ Some t → types_from (t ++ m) ≡ (fs, m)
+  types_told [] t m all few none e = let f : [] ≡ t = let g : Some [] ≡ Some t = e in cc in ap (λ z. types_from (z ++ m)) (sym f) ∙ none
   types_told (f ∷ fs) t m all few none e =
       let c = counted_told config (f ∷ fs) all few in
       let is : t ≡ 1 ∷ unsigned (length c.are) ++ c.are = section_read 1 c.are t (ap (λ p. sized 1 p) (sym c.is) ∙ e) in
-      ap (λ z. types_of (z ++ m)) is
+      ap (λ z. types_from (z ++ m)) is
       ∙ ap (λ z. counted_functions (past_number z)) (append_assoc (unsigned (length c.are)) c.are m)
       ∙ ap counted_functions (past_unsigned (length c.are) (c.are ++ m))
       ∙ c.found m
 
 memory_section_told : (ms : List MemoryType) (m : List ℕ) → AllByRecursion FormedMemory ms → listed 5 memory_type ms ≡ Some m
-    → (memories_of m ≡ ms) × (types_of m ≡ ([], m))
-memory_section_told [] m all e = let f : [] ≡ m = let g : Some [] ≡ Some m = e in cc in (ap memories_of (sym f), subst (λ z. types_of z ≡ ([], z)) f refl)
+    → (memories_of m ≡ ms) × (types_from m ≡ ([], m))
+memory_section_told [] m all e = let f : [] ≡ m = let g : Some [] ≡ Some m = e in cc in (ap memories_of (sym f), subst (λ z. types_from z ≡ ([], z)) f refl)
 memory_section_told (x ∷ xs) m all e =
     let t = memories_told (x ∷ xs) all in
     let count : ℕ = length (x ∷ xs) in
@@ -251,13 +251,13 @@ memory_section_told (x ∷ xs) m all e =
   where
     by_count : (t : ToldMemories (x ∷ xs)) (count : ℕ) → sized 5 (u count ⊕ Some t.are) ≡ Some m
         → ((u count ≡ Some (unsigned count)) × (count < 2 ^ 32)) ⊎ ((u count ≡ None) × (2 ^ 32 ≤ count))
-        → (memories_of m ≡ x ∷ xs) × (types_of m ≡ ([], m))
+        → (memories_of m ≡ x ∷ xs) × (types_from m ≡ ([], m))
     by_count t count said (inl h) =
         let c : List ℕ = unsigned count ++ t.are in
         let contents : u count ⊕ Some t.are ≡ Some c = ap (λ p. p ⊕ Some t.are) h.0 ∙ joined (unsigned count) t.are in
         let is : m ≡ 5 ∷ unsigned (length c) ++ c = section_read 5 c m (ap (λ p. sized 5 p) (sym contents) ∙ said) in (
           ap memories_of is ∙ ap (λ z. all_memories (past_number z)) (past_unsigned (length c) c) ∙ ap all_memories (past_unsigned count t.are) ∙ t.found,
-          subst (λ z. types_of z ≡ ([], z)) (sym is) refl,
+          subst (λ z. types_from z ≡ ([], z)) (sym is) refl,
         )
     by_count t count said (inr h) =
         let contents : u count ⊕ Some t.are ≡ None = ap (λ p. p ⊕ Some t.are) h.0 ∙ left_none (Some t.are) in

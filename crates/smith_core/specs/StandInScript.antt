@@ -42,34 +42,34 @@ value_of b =
     )
     )
 
--- what is behind a number in LEB128: bytes of at least 128, and one more
+-- what is after a number in LEB128: bytes of at least 128, and one more
 abbrev pub past_number : List ℕ → List ℕ
 past_number [] = []
 past_number (b ∷ bs) = if nat_le 128 b then past_number bs else bs
 
--- a byte that counts value types, so many of them, and what is behind
+-- a byte that counts value types, so many of them, and what is after
 abbrev pub values_of : List ℕ → List ValType × List ℕ
 values_of [] = ([], [])
 values_of (count ∷ bs) = (map value_of (take count bs), drop count bs)
 
--- a function type, whose first byte is 0x60, and what is behind
+-- a function type, whose first byte is 0x60, and what is after
 abbrev pub function_of : List ℕ → Function × List ℕ
 function_of bs = let params = values_of (drop 1 bs) in let results = values_of params.1 in ((params.0, results.0), results.1)
 
--- so many function types, and what is behind
-abbrev pub functions_of : ℕ → List ℕ → List Function × List ℕ
-functions_of zero bs = ([], bs)
-functions_of (suc more) bs = let first = function_of bs in let others = functions_of more first.1 in (first.0 ∷ others.0, others.1)
+-- so many function types, and what is after
+abbrev pub functions_from : ℕ → List ℕ → List Function × List ℕ
+functions_from zero bs = ([], bs)
+functions_from (suc more) bs = let first = function_of bs in let others = functions_from more first.1 in (first.0 ∷ others.0, others.1)
 
--- a byte that counts function types, so many of them, and what is behind
+-- a byte that counts function types, so many of them, and what is after
 abbrev pub counted_functions : List ℕ → List Function × List ℕ
 counted_functions [] = ([], [])
-counted_functions (count ∷ bs) = functions_of count bs
+counted_functions (count ∷ bs) = functions_from count bs
 
--- the function types of a type section, if there is one, and what is behind
-abbrev pub types_of : List ℕ → List Function × List ℕ
-types_of [] = ([], [])
-types_of (id ∷ bs) = if nat_eq id 1 then counted_functions (past_number bs) else ([], id ∷ bs)
+-- the function types of a type section, if there is one, and what is after
+abbrev pub types_from : List ℕ → List Function × List ℕ
+types_from [] = ([], [])
+types_from (id ∷ bs) = if nat_eq id 1 then counted_functions (past_number bs) else ([], id ∷ bs)
 
 -- a memory type
 abbrev pub memory_of : ℕ → Option ℕ → MemoryType
@@ -90,4 +90,4 @@ memories_of (id ∷ bs) = if nat_eq id 5 then all_memories (past_number (past_nu
 
 -- the function types and the memories of these bytes, which are a stand-in's
 abbrev pub stand_in_of : List ℕ → StandIn
-stand_in_of bs = let types = types_of (drop 8 bs) in record { types = types.0; memories = memories_of types.1 }
+stand_in_of bs = let types = types_from (drop 8 bs) in record { types = types.0; memories = memories_of types.1 }

@@ -72,7 +72,8 @@ pub fn stand_in_scripts_are_bytes()
 /// memories within the limits.
 pub fn stand_ins_are_exact()
     ensures { (config : Config) (b : List ℕ)
-        → ((input rest : List ℕ) × (m : ModuleParts) × ReadsStandIn config input m rest × (module_text m ≡ Some b))
+        → ((input rest : List ℕ) × AreBytes input × (m : ModuleParts) × ReadsStandIn config input m rest
+        × (module_text m ≡ Some b))
         ↔ ((s : StandIn) × IsStandIn config s × (stand_in_text s ≡ Some b)) }
 {}
 

@@ -3,8 +3,7 @@
 ghost use Rattle.std.specs.Prelude.{◌≡◌, ◌↔◌, ◌⊎◌, ◌+◌, ◌≤◌, IsOk, IfOk, IfErr, IsErrOf};
 ghost use Rattle.std.specs.Prelude.{None, Some};
 ghost use Rattle.std.specs.Vec.{vec_len, vec_capacity};
-ghost use Rattle.smith_format.specs.Piece.{piece_length};
-ghost use Rattle.smith_format.specs.Writing.{Appends, Measures, Puts};
+ghost use Rattle.smith_format.specs.Writing.{Appends, Measures, Puts, piece_length};
 ghost use Rattle.smith_core.specs.Module.{module_text};
 ghost use Rattle.smith_core.specs.Parts.{Agree};
 

@@ -26,7 +26,7 @@ use Rattle.smith_core_types.proofs.ModuleFronts.{front_decls, front_state}
 use Rattle.smith_core_types.proofs.ModuleSaid.{decls_sayable}
 use Rattle.smith_core_types.proofs.ModuleScript.{IsSayable, decl_read}
 
--- of declarations that can be read those behind some can be read behind them
+-- of declarations that can be read those after some can be read after them
 readable_back : (before front back : List ModuleDecl) → AreReadableModuleDecls before (front ++ back) → AreReadableModuleDecls (before ++ front) back
 readable_back before [] back h = subst (λ z. AreReadableModuleDecls z back) (sym (append-nil before)) h
 readable_back before (d ∷ ds) back h =
@@ -41,7 +41,7 @@ module _ (config : Config) (around : Scope) where
       let r = after_decls (with_decl around.core_types s d) ds in
       (r.0 ∙ append_assoc s.decls (d ∷ []) ds, omega (arith, r.1))
 
-  -- What stands behind what the canonical ABI asks can be said.
+  -- What stands after what the canonical ABI asks can be said.
   pub behind_sayable : (fuel : ℕ) (ds : List ModuleDecl) → FormedCore (core_module ds) around.core_types → ModuleLimits config ds
       → AreReadableModuleDecls [] ds → core_size (core_module ds) < fuel → length around.core_types ≤ 2 ^ 63
       → let x = fronted ds in Along (IsSayable config around) (with_decl around.core_types) (front_state fuel x.memory x.reallocs x.frees) (after_front ds)
@@ -58,7 +58,7 @@ module _ (config : Config) (around : Scope) where
       readable_back [] (front_decls x.memory x.reallocs x.frees) more (subst (AreReadableModuleDecls []) whole texts) in
       decls_sayable config around ds limits small start more whole (front_types x.memory x.reallocs x.frees) behind readable lasts
 
-  -- the state behind it
+  -- the state after it
   pub begun : (fuel : ℕ) (ds : List ModuleDecl) → let x = fronted ds in
       front_before fuel ds (after_front ds) ≡ front_state fuel x.memory x.reallocs x.frees
   begun fuel ds = let x = fronted ds in front_before_is fuel x.memory x.reallocs x.frees ds (after_front ds) (whole_front x)

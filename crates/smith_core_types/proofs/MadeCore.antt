@@ -40,7 +40,8 @@ use Rattle.smith_core_types.specs.MadeCore.{ReadsDecl}
 use Rattle.smith_core_types.specs.MadeCore.{EndsModuleType, no_fuel, no_import, no_export, ReadsLine, not_allowed, declined, taken, MemoryLine, ReadsFunctionLine}
 use Rattle.smith_core_types.specs.MadeCore.{ReadsFront, MadeModule, MadeCore, spent_core, of_function, of_module}
 use Rattle.smith_syntax.specs.ModuleTypes.{func_in, aliased, is_tag_type, count_of_kind, names_from, realloc, free}
-use Rattle.smith_syntax.specs.Scope.{Scope, is_core_func, places}
+use Rattle.smith_syntax.specs.Scope.{Scope}
+use Rattle.smith_syntax.specs.Places.{is_core_func, places}
 use Rattle.smith_tree.specs.CoreTypeScript.{script_core_type}
 use Rattle.smith_syntax.specs.WellFormed.{FormedEntity, FormedDecl, FormedCore, core_size}
 use Rattle.smith_tree.specs.declared.choices.ModuleItem.{ModuleItem}

@@ -21,8 +21,9 @@ use Rattle.smith_core_types.specs.MadeCore.{no_export, no_import}
 use Rattle.smith_tree.specs.CoreTypeOffers.{indexes, module_items}
 use Rattle.smith_tree.specs.CoreTypeOffers.{Declared as SoFar}
 use Rattle.smith_core_types.specs.MakingCore.{AddsDecl, DeclTurn, choices_among, names_taken}
-use Rattle.smith_syntax.specs.ModuleTypes.{adds, aliased, export_names, module_export_of, module_import_of, names_from}
-use Rattle.smith_syntax.specs.Scope.{Scope, is_core_func, own_of, places}
+use Rattle.smith_syntax.specs.ModuleTypes.{adds, aliased, module_export_names, module_export_of, module_import_of, names_from}
+use Rattle.smith_syntax.specs.Scope.{Scope}
+use Rattle.smith_syntax.specs.Places.{is_core_func, own_of, places}
 use Rattle.smith_scopes.specs.Scopes.{Contents, inward, last_of}
 use Rattle.smith_syntax.specs.Shown.{shown_core, shown_decl}
 use Rattle.smith_syntax.specs.declared.core_types.CoreType.{CoreType}
@@ -52,10 +53,10 @@ own_at xs k h = let e : 0 + k ≡ k = omega arith in index_at 0 xs k h ∙ ap So
 
 -- names
 
-exports_more : (d : ModuleDecl) (ds : List ModuleDecl) → export_names (d ∷ ds) ≡ export_names (d ∷ []) ++ export_names ds
+exports_more : (d : ModuleDecl) (ds : List ModuleDecl) → module_export_names (d ∷ ds) ≡ module_export_names (d ∷ []) ++ module_export_names ds
 exports_more d ds =
     ap (map (λ x. x.0)) (flat_map-cons module_export_of d ds) ∙ map-append (λ x. x.0) (module_export_of d) (flat_map module_export_of ds)
-    ∙ ap (λ z. map (λ x. x.0) z ++ export_names ds) (sym (append-nil (module_export_of d)))
+    ∙ ap (λ z. map (λ x. x.0) z ++ module_export_names ds) (sym (append-nil (module_export_of d)))
 
 imports_more : (from : List ℕ) (d : ModuleDecl) (ds : List ModuleDecl) → names_from from (d ∷ ds) ≡ names_from from (d ∷ []) ++ names_from from ds
 imports_more from d ds =

@@ -1,4 +1,4 @@
--- A module type that is well formed and within the limits: each of its declarations can be said behind those before it.
+-- A module type that is well formed and within the limits: each of its declarations can be said after those before it.
 use Rattle.std.proofs.Common.{◌≡◌, ◌+◌, ◌<◌, ◌≤◌, ◌^◌, true, List, [], ◌∷◌, ◌++◌, length, refl, sym, ap, ◌∙◌, subst, arith, append_assoc}
 use Rattle.std.proofs.Common.{length-append}
 use Rattle.std.proofs.lemmas.Grind.{flat_map-append}
@@ -114,7 +114,7 @@ module _ (config : Config) (around : Scope) (whole : List ModuleDecl) (limits : 
   more_counted own before d counted formed =
       omega (arith, types_both before (d ∷ []), counted, adds_counted own d formed, length-append own (adds around.core_types own d))
 
-  -- What stands behind a part of the declarations can be said behind it.
+  -- What stands after a part of the declarations can be said after it.
   pub decls_sayable : length whole + length around.core_types ≤ 2 ^ 64 → (s : Declared) (ds : List ModuleDecl) → whole ≡ s.decls ++ ds
       → type_count s.decls ≡ length s.own → FormedDecls around.core_types s.own ds → AreReadableModuleDecls s.decls ds → length ds < s.fuel
       → Along (IsSayable config around) (with_decl around.core_types) s ds

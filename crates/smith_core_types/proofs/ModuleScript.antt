@@ -36,8 +36,9 @@ use Rattle.smith_format.specs.declared.types.RefType.{RefType}
 use Rattle.smith_format.specs.declared.types.RefType.TheVariants.{FuncRef, ExternRef}
 use Rattle.smith_format.proofs.CoreScript.{function_read, ref_Decides, same_val_Decides}
 use Rattle.smith_syntax.specs.Entries.{CoreEntry, ModuleDecl, core_func, core_module, imports, declares, aliases, exports}
-use Rattle.smith_syntax.specs.ModuleTypes.{aliased, export_names, func_in, is_tag_type, names_from}
-use Rattle.smith_syntax.specs.Scope.{Scope, is_core_func, places}
+use Rattle.smith_syntax.specs.ModuleTypes.{aliased, module_export_names, func_in, is_tag_type, names_from}
+use Rattle.smith_syntax.specs.Scope.{Scope}
+use Rattle.smith_syntax.specs.Places.{is_core_func, places}
 use Rattle.smith_syntax.specs.WellFormed.{FormedDecl, FormedEntity}
 use Rattle.smith_scopes.proofs.Places.{place_found}
 use Rattle.smith_scopes.proofs.Stack.{length-places}
@@ -62,11 +63,11 @@ kind_Decides a b = (same_true kind_type tt a b, true_same kind_type a b)
 item_Decides : (a b : ModuleItem) → Decides (items.eq a b) (a ≡ b)
 item_Decides a b = (same_true item_type tt a b, true_same item_type a b)
 
--- What can be said of what is imported or exported, behind these declarations.
+-- What can be said of what is imported or exported, after these declarations.
 abbrev pub IsSayableEntity : Config → Declared → EntityType → Type 0
 IsSayableEntity config s e = EntityFits config s.decls e × FormedEntity s.own e
 
--- A declaration can be said behind others, and the fuel lasts for it.
+-- A declaration can be said after others, and the fuel lasts for it.
 pub record IsSayable (config : Config) (around : Scope) (s : Declared) (d : ModuleDecl) : Type 0 where
   pub lasts : 0 < s.fuel - 1
   pub few : length s.own + length around.core_types ≤ 2 ^ 64
@@ -206,10 +207,10 @@ module _ (config : Config) (around : Scope) where
       says s (imports from name e) item.Import 0 true (a ++ (b ++ c)) rest h.lasts refl refl
       (subst P (sym whole) (from, name, c ++ rest, (b ++ (c ++ rest), module_name, new), e, entity, refl))
   decl_read s (exports name e) rest h =
-      let b : List ℕ = script_new_text 100 (length (export_names s.decls)) name in
+      let b : List ℕ = script_new_text 100 (length (module_export_names s.decls)) name in
       let c : List ℕ = script_entity config s e in
       let P : List ℕ → Type 0 = λ z. ReadsDeclOf config around s item.Export z (exports name e) rest in
-      let new = new_read (export_names s.decls) name (c ++ rest) h.text in
+      let new = new_read (module_export_names s.decls) name (c ++ rest) h.text in
       let entity = entity_read config s (omega (arith, h.few)) e rest (h.fits, h.formed) in
       says s (exports name e) item.Export 1 true (b ++ c) rest h.lasts refl refl
       (subst P (sym (append_assoc b c rest)) (name, c ++ rest, new, e, entity, refl))

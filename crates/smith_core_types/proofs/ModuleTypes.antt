@@ -28,7 +28,7 @@ use Rattle.smith_core_types.specs.MakingCore.{own_after}
 use Rattle.smith_syntax.specs.ModuleTypes.{adds, aliased, alias_of, func_of, module_import_of, module_export_of, declared_in, type_count, entities_of}
 use Rattle.smith_syntax.specs.ModuleTypes.{entities_in}
 use Rattle.smith_syntax.specs.ModuleTypes.{is_of_kind, count_of_kind}
-use Rattle.smith_syntax.specs.ModuleTypes.{names_from, export_names, HasNewNames, realloc, free}
+use Rattle.smith_syntax.specs.ModuleTypes.{names_from, module_export_names, HasNewNames, realloc, free}
 use Rattle.smith_syntax.specs.WellFormed.{FormedDecl, FormedDecls}
 use Rattle.smith_core_types.proofs.ModuleFronts.{front_own, front_decls, IsFront}
 use Rattle.smith_core_types.proofs.Names.{AreNew, new_distinct, new_more}
@@ -46,7 +46,7 @@ names_more from ds d =
     ∙ (ap (map (λ i. i.1)) (filter-append (λ i. bytes_eq i.0 from) (flat_map module_import_of ds) (module_import_of d))
     ∙ map-append (λ i. i.1) (filter (λ i. bytes_eq i.0 from) (flat_map module_import_of ds)) (filter (λ i. bytes_eq i.0 from) (module_import_of d)))
 
-pub exported_more : (ds : List ModuleDecl) (d : ModuleDecl) → export_names (ds ++ d ∷ []) ≡ export_names ds ++ map (λ x. x.0) (module_export_of d)
+pub exported_more : (ds : List ModuleDecl) (d : ModuleDecl) → module_export_names (ds ++ d ∷ []) ≡ module_export_names ds ++ map (λ x. x.0) (module_export_of d)
 exported_more ds d = ap (map (λ x. x.0)) (snoc_flat module_export_of ds d) ∙ map-append (λ x. x.0) (flat_map module_export_of ds) (module_export_of d)
 
 pub own_more : (around : List CoreEntry) (own : List Function) (ds : List ModuleDecl) (d : ModuleDecl)
@@ -64,14 +64,14 @@ abbrev pub HasNewName : List ModuleDecl → ModuleDecl → Type 0
 HasNewName ds (imports m n e) = is_among (names_from m ds) n ≡ false
 HasNewName ds (declares f) = Unit {0}
 HasNewName ds (aliases count i) = Unit {0}
-HasNewName ds (exports n e) = is_among (export_names ds) n ≡ false
+HasNewName ds (exports n e) = is_among (module_export_names ds) n ≡ false
 
 -- well formed so far, these being the own types
 pub record Judged (around : List CoreEntry) (own : List Function) (ds : List ModuleDecl) : Type 0 where
   pub formed : FormedDecls around [] ds
   pub types : own ≡ own_after around [] ds
   pub imported : (from : List ℕ) → AreNew [] (names_from from ds)
-  pub exported : AreNew [] (export_names ds)
+  pub exported : AreNew [] (module_export_names ds)
 
 none_more : (names : List (List ℕ)) → AreNew [] names → AreNew [] (names ++ [])
 none_more names a = subst (AreNew []) (sym (append-nil names)) a
@@ -90,12 +90,12 @@ import_new ds (declares f) from new a = none_more (names_from from ds) a
 import_new ds (aliases count i) from new a = none_more (names_from from ds) a
 import_new ds (exports n e) from new a = none_more (names_from from ds) a
 
-pub export_new : (ds : List ModuleDecl) (d : ModuleDecl) → HasNewName ds d → AreNew [] (export_names ds)
-    → AreNew [] (export_names ds ++ map (λ x. x.0) (module_export_of d))
-export_new ds (imports m n e) new a = none_more (export_names ds) a
-export_new ds (declares f) new a = none_more (export_names ds) a
-export_new ds (aliases count i) new a = none_more (export_names ds) a
-export_new ds (exports n e) new a = new_more [] (export_names ds) n a new
+pub export_new : (ds : List ModuleDecl) (d : ModuleDecl) → HasNewName ds d → AreNew [] (module_export_names ds)
+    → AreNew [] (module_export_names ds ++ map (λ x. x.0) (module_export_of d))
+export_new ds (imports m n e) new a = none_more (module_export_names ds) a
+export_new ds (declares f) new a = none_more (module_export_names ds) a
+export_new ds (aliases count i) new a = none_more (module_export_names ds) a
+export_new ds (exports n e) new a = new_more [] (module_export_names ds) n a new
 
 pub judged_more : (around : List CoreEntry) (own : List Function) (ds : List ModuleDecl) (d : ModuleDecl) → Judged around own ds → FormedDecl around own d
     → HasNewName ds d → Judged around (own ++ adds around own d) (ds ++ d ∷ [])
@@ -109,7 +109,7 @@ judged_more around own ds d j one new = record {
 pub judged_names : (around : List CoreEntry) (own : List Function) (ds : List ModuleDecl) → Judged around own ds → HasNewNames ds
 judged_names around own ds j = record {
   imported = λ from. new_distinct [] (names_from from ds) (j.imported from);
-  exported = new_distinct [] (export_names ds) j.exported;
+  exported = new_distinct [] (module_export_names ds) j.exported;
 }
 
 pub judged_front : (around : List CoreEntry) (m : Option MemoryType) (r f : Bool) → IfSome m FormedMemory → Judged around (front_own r f) (front_decls m r f)

@@ -52,7 +52,7 @@ pub new_front : (before front back : List (List ℕ)) → AreNew before (front +
 new_front before [] back h = tt
 new_front before (n ∷ ns) back h = (h.0, new_front (before ++ n ∷ []) ns back h.1)
 
--- of new names those behind some are new behind them
+-- of new names those after some are new after them
 pub new_back : (before front back : List (List ℕ)) → AreNew before (front ++ back) → AreNew (before ++ front) back
 new_back before [] back h = subst (λ z. AreNew z back) (sym (append-nil before)) h
 new_back before (n ∷ ns) back h = subst (λ z. AreNew z back) (append_assoc before (n ∷ []) ns) (new_back (before ++ n ∷ []) ns back h.1)

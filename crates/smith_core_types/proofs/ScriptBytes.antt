@@ -24,8 +24,9 @@ use Rattle.smith_format.specs.declared.types.MemoryType.{MemoryType}
 use Rattle.smith_format.specs.declared.types.RefType.TheVariants.{FuncRef, ExternRef}
 use Rattle.smith_syntax.specs.CoreLimits.{CoreLimits, ModuleLimits}
 use Rattle.smith_syntax.specs.Entries.{CoreEntry, ModuleDecl, core_func, core_module, imports, declares, aliases, exports}
-use Rattle.smith_syntax.specs.ModuleTypes.{after_front, export_names, free, is_tag_type, names_from, realloc}
-use Rattle.smith_syntax.specs.Scope.{Scope, is_core_func, places}
+use Rattle.smith_syntax.specs.ModuleTypes.{after_front, module_export_names, free, is_tag_type, names_from, realloc}
+use Rattle.smith_syntax.specs.Scope.{Scope}
+use Rattle.smith_syntax.specs.Places.{is_core_func, places}
 use Rattle.smith_syntax.specs.WellFormed.{FormedCore, FormedDecls, FormedEntity, core_size}
 use Rattle.smith_scopes.proofs.Places.{place_found}
 use Rattle.smith_scopes.proofs.Stack.{length-places}
@@ -101,7 +102,7 @@ module _ (config : Config) (around : Scope) where
       (small_join (small_name (names_from from s.decls) name h.text.1) (small_entity config s (let few = h.few in omega (arith, few)) e h.formed)))
   small_decl s (exports name e) h =
       small_join (small_item s item.Export)
-      (small_join (small_name (export_names s.decls) name h.text) (small_entity config s (let few = h.few in omega (arith, few)) e h.formed))
+      (small_join (small_name (module_export_names s.decls) name h.text) (small_entity config s (let few = h.few in omega (arith, few)) e h.formed))
   small_decl s (declares f) h = small_join (small_item s item.Type) (small_function config f)
   small_decl s (aliases count i) h =
       let cs : List (ℕ × ℕ) = alias_choices around s in

@@ -18,8 +18,9 @@ use Rattle.smith_format.specs.declared.types.GlobalType.{GlobalType}
 use Rattle.smith_format.specs.declared.types.MemoryType.{MemoryType}
 use Rattle.smith_format.specs.Limits.{max_results}
 use Rattle.smith_syntax.specs.Entries.{CoreEntry, ModuleDecl, core_func, core_module, imports, declares, aliases, exports}
-use Rattle.smith_syntax.specs.ModuleTypes.{adds, aliased, alias_of, export_names, free, is_tag_type, names_from, realloc}
-use Rattle.smith_syntax.specs.Scope.{Scope, places}
+use Rattle.smith_syntax.specs.ModuleTypes.{adds, aliased, alias_of, module_export_names, free, is_tag_type, names_from, realloc}
+use Rattle.smith_syntax.specs.Scope.{Scope}
+use Rattle.smith_syntax.specs.Places.{places}
 use Rattle.smith_tree.specs.CoreTypeOffers.{Declared, alias_choices, allows_function, allows_type, entity_kinds, indexes, module_items, undeclared, with_decl}
 use Rattle.smith_tree.specs.CoreTypeOffers.{with_front}
 use Rattle.smith_tree.specs.declared.choices.ModuleItem.{ModuleItem}
@@ -45,7 +46,7 @@ abbrev pub ReadsImportNames : Declared → List ℕ → List ℕ → List ℕ �
 ReadsImportNames s bytes from name rest = (mid : List ℕ) × ReadsText 100 bytes from mid × ReadsNewText 100 (names_from from s.decls) mid name rest
 
 abbrev pub ReadsExportName : Declared → List ℕ → List ℕ → List ℕ → Type 0
-ReadsExportName s bytes name rest = ReadsNewText 100 (export_names s.decls) bytes name rest
+ReadsExportName s bytes name rest = ReadsNewText 100 (module_export_names s.decls) bytes name rest
 
 -- a declaration of a sort
 abbrev pub ReadsDeclOf : Config → Scope → Declared → ModuleItem → List ℕ → ModuleDecl → List ℕ → Type 0

@@ -15,8 +15,9 @@ use Rattle.smith_tree.specs.CoreTypeOffers.{alias_choices, entity_kinds}
 use Rattle.smith_core_types.specs.MadeCore.{with_fuel}
 use Rattle.smith_tree.specs.CoreTypeOffers.{with_decl}
 use Rattle.smith_tree.specs.CoreTypeOffers.{Declared as SoFar}
-use Rattle.smith_syntax.specs.ModuleTypes.{adds, aliased, export_names, is_tag_type, names_from}
-use Rattle.smith_syntax.specs.Scope.{Scope, places}
+use Rattle.smith_syntax.specs.ModuleTypes.{adds, aliased, module_export_names, is_tag_type, names_from}
+use Rattle.smith_syntax.specs.Scope.{Scope}
+use Rattle.smith_syntax.specs.Places.{places}
 use Rattle.smith_syntax.specs.Shown.{shown_decl}
 use Rattle.smith_syntax.specs.declared.core_types.CoreType.{CoreType}
 use Rattle.smith_syntax.specs.declared.core_types.CoreType.TheVariants as core
@@ -52,7 +53,7 @@ HasChoiceFor around s item.Alias = 0 < length (alias_choices around s)
 -- the names that are imported from a module, or those that are exported
 abbrev pub names_taken : Bool → List ℕ → List ModuleDecl → List (List ℕ)
 names_taken true from ds = names_from from ds
-names_taken false from ds = export_names ds
+names_taken false from ds = module_export_names ds
 
 -- an entity, or none where nothing can be imported or exported, and then nothing is read
 abbrev pub MaybeEntity : Config → SoFar → List ℕ → Option EntityType → List ℕ → Type 0

@@ -7,7 +7,7 @@ ghost use Rattle.smith_format.specs.Shown.{shown_func};
 ghost use Rattle.smith_syntax.specs.Entries.{declares};
 ghost use Rattle.smith_core_types.specs.MakingCore.{KeepsDeclared, shown_funcs};
 ghost use Rattle.smith_syntax.specs.ModuleTypes.{count_of_kind, is_tag_type};
-ghost use Rattle.smith_syntax.specs.Scope.{places};
+ghost use Rattle.smith_syntax.specs.Places.{places};
 ghost use Rattle.smith_syntax.specs.Shown.{shown_decl};
 
 use smith_format::{ExportKind, FuncType};

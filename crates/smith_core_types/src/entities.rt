@@ -9,7 +9,7 @@ ghost use Rattle.smith_core_types.specs.MadeCore.{ReadsEntityOf};
 ghost use Rattle.smith_tree.specs.CoreTypeOffers.{entity_kinds, indexes};
 ghost use Rattle.smith_core_types.specs.MakingCore.{HasTypeFor, MaybeEntity, shown_funcs, so_far};
 ghost use Rattle.smith_syntax.specs.ModuleTypes.{count_of_kind, is_tag_type};
-ghost use Rattle.smith_syntax.specs.Scope.{places};
+ghost use Rattle.smith_syntax.specs.Places.{places};
 ghost use Rattle.smith_syntax.specs.Shown.{shown_decl};
 
 use crate::declared::{Declared, allows, has_tag_type, tag_types};

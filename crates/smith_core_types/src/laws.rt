@@ -49,6 +49,6 @@ pub fn core_scripts_are_bytes()
 /// names can be read and for which there is fuel.
 pub fn core_types_are_exact()
     ensures { (config : Config) (around : Scope) (fuel : ℕ) (e : CoreEntry) → length around.core_types ≤ 2 ^ 63
-        → ((bytes rest : List ℕ) × (left : ℕ) × MadeCore config around bytes fuel e rest left)
+        → ((bytes rest : List ℕ) × AreBytes bytes × (left : ℕ) × MadeCore config around bytes fuel e rest left)
         ↔ (FormedCore e around.core_types × CoreLimits config e × IsReadableCore e × (core_need e ≤ fuel)) }
 {}

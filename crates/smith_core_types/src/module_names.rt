@@ -6,7 +6,7 @@ ghost use Rattle.smith_input.specs.NewNames.{is_among};
 ghost use Rattle.smith_input.specs.Reading.{IsTail};
 ghost use Rattle.smith_input.specs.Texts.{ReadsNewText, ReadsText};
 ghost use Rattle.smith_core_types.specs.MakingCore.{names_taken};
-ghost use Rattle.smith_syntax.specs.ModuleTypes.{export_names, names_from};
+ghost use Rattle.smith_syntax.specs.ModuleTypes.{module_export_names, names_from};
 ghost use Rattle.smith_syntax.specs.Shown.{shown_decl};
 
 use smith_input::{Error, MAX_NAME_LEN, TakenNames, Unstructured, limited_string, new_string};
@@ -35,8 +35,8 @@ fn imported_name<'a>(def: &'a ModuleTypeDef, from: &str) -> Option<&'a str>
 // The name of an export.
 fn exported_name(def: &ModuleTypeDef) -> Option<&str>
     ensures { MatchOption result
-        (export_names (shown_decl def.now ∷ []) ≡ [])
-        (λ name. export_names (shown_decl def.now ∷ []) ≡ name.now ∷ []) }
+        (module_export_names (shown_decl def.now ∷ []) ≡ [])
+        (λ name. module_export_names (shown_decl def.now ∷ []) ≡ name.now ∷ []) }
 {
     match def {
         ModuleTypeDef::Export(name, _) => Some(name.as_str()),
@@ -141,7 +141,7 @@ pub(crate) fn export_name(
     defs: &[ModuleTypeDef],
 ) -> Result<String, Error>
     ensures reads { IfOk result (λ n.
-        ReadsNewText 100 (export_names (map shown_decl defs.now)) u.old (string_bytes n) u.new) }
+        ReadsNewText 100 (module_export_names (map shown_decl defs.now)) u.old (string_bytes n) u.new) }
     ensures memory { IfErr result (λ e. e ≡ Error.OutOfMemory) }
     ensures tail { IsTail u.new u.old }
 {

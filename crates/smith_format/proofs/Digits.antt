@@ -8,7 +8,8 @@ use Rattle.std.specs.Prelude.{◌≤ℤ◌, ◌<ℤ◌, int_lt}
 use Rattle.std.specs.Int.RustNames.{FitsSigned}
 use Rattle.std.specs.Int.{w64}
 use borrow.Author.Tests.{ltb-true}
-use Rattle.smith_format.specs.Numbers.{digits, unsigned, signed, as_it_is, turned, low_bits, high_bits}
+use Rattle.smith_format.specs.Numbers.{digits, unsigned, signed, as_it_is, turned}
+use Rattle.smith_format.specs.Division.{low_bits, high_bits}
 
 module _ (bits : ℕ → ℕ) (last : ℕ) where
   pub digits_last : (more n : ℕ) → n < last → digits bits last more n ≡ bits n ∷ []

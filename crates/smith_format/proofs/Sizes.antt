@@ -4,8 +4,8 @@ use Rattle.std.proofs.Common.{ap, subst, sym, ◌∙◌, arith, take_all, Option
 use Rattle.smith_input.specs.declared.error.Error.{Error}
 use Rattle.smith_input.specs.declared.error.Error.TheVariants.{TooLong}
 use Rattle.smith_format.specs.Numbers.{unsigned}
-use Rattle.smith_format.specs.Piece.{Piece, ◌⊕◌, piece_length, byte, bytes, u, number, s_index, text, each, many, framed, sized}
-use Rattle.smith_format.specs.Writing.{Takes, TakesTooMuch, IsLengthOf, Measures}
+use Rattle.smith_format.specs.Piece.{Piece, ◌⊕◌, byte, bytes, u, number, s_index, text, each, many, framed, sized}
+use Rattle.smith_format.specs.Writing.{Takes, TakesTooMuch, IsLengthOf, Measures, piece_length}
 use Rattle.smith_format.proofs.Piece.{assoc, joined, right_none, left_none, length_join, none_join, u_fits, u_none, u_cases, s_index_fits, s_index_none}
 use Rattle.smith_format.proofs.Piece.{text_is, number_fits, number_none, number_cases}
 use Rattle.std.proofs.lemmas.Bool.{ltb-false}

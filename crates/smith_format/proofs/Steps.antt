@@ -9,8 +9,8 @@ use Rattle.std.specs.declared.vec.Vec.{Vec}
 use Rattle.std.specs.declared.alloc.Global.{Global}
 use Rattle.smith_input.specs.declared.error.Error.{Error}
 use Rattle.smith_input.specs.declared.error.Error.TheVariants.{TooLong}
-use Rattle.smith_format.specs.Piece.{Piece, ◌⊕◌, piece_length, byte, u, framed, sized}
-use Rattle.smith_format.specs.Writing.{Gains, Begins, Keeps, IsDue, Puts, Appends, Takes, WantsMemoryFor}
+use Rattle.smith_format.specs.Piece.{Piece, ◌⊕◌, byte, u, framed, sized}
+use Rattle.smith_format.specs.Writing.{Gains, Begins, Keeps, IsDue, Puts, Appends, Takes, WantsMemoryFor, piece_length}
 use Rattle.smith_format.proofs.Piece.{text_is, assoc, right_none, left_none, joined, length_join}
 
 pub take_take : (i j : ℕ) (xs : List ℕ) → i ≤ j → take i (take j xs) ≡ take i xs

@@ -1,9 +1,11 @@
 pub mod Numbers
+pub mod Division
 pub mod Piece
 pub mod CoreTypes
 pub mod Entities
 pub mod Shown
 pub mod Limits
+pub mod Consistency
 pub mod CoreFormed
 pub mod CoreReading
 pub mod Equality

@@ -1,6 +1,5 @@
 -- Numbers in LEB128 (core specification, Binary Format, Values, Integers), each with the fewest bytes.
-use Rattle.std.specs.Prelude.{ℕ, zero, suc, ◌+◌, ◌-◌, ◌/◌, ◌%◌, List, [], ◌∷◌, nat_lt, if◌then◌else◌, ℤ, pos, negsuc, unsigned_abs}
-use Rattle.std.specs.Int.{int_div_euclid, int_rem_euclid}
+use Rattle.std.specs.Prelude.{ℕ, zero, suc, ◌+◌, ◌-◌, ◌/◌, ◌%◌, List, [], ◌∷◌, nat_lt, if◌then◌else◌, ℤ, pos, negsuc}
 
 -- Seven bits a byte, the least of them first, and 128 more in each byte but the last. A number below `last` is the last
 -- byte. `bits` is how seven bits are written. There are at most `more` bytes in front of the last.
@@ -23,11 +22,3 @@ unsigned n = digits as_it_is 128 n n
 unfoldable pub signed : ℤ → List ℕ
 signed (pos n) = digits as_it_is 64 n n
 signed (negsuc n) = digits turned 64 n n
-
--- the remainder of a division by 128, from 0 to 127
-abbrev pub low_bits : ℤ → ℕ
-low_bits z = unsigned_abs (int_rem_euclid z (pos 128))
-
--- the quotient of a division by 128, rounded down
-abbrev pub high_bits : ℤ → ℤ
-high_bits z = int_div_euclid z (pos 128)

@@ -15,11 +15,6 @@ None ⊕ q = None
 (Some a) ⊕ None = None
 (Some a) ⊕ (Some b) = Some (a ++ b)
 
--- how many bytes the encoding has, and 0 where there is none
-abbrev pub piece_length : Piece → ℕ
-piece_length None = 0
-piece_length (Some b) = length b
-
 -- the bytes of a piece, and none where it has no encoding
 abbrev pub bytes_of : Piece → List ℕ
 bytes_of None = []

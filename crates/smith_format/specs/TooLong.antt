@@ -4,7 +4,8 @@ use Rattle.std.specs.List.{Any, AllByRecursion}
 use Rattle.std.specs.Str.{IsUtf8}
 use Rattle.smith_format.specs.CoreTypes.{Function}
 use Rattle.smith_format.specs.Entities.{CoreImport}
-use Rattle.smith_format.specs.Piece.{Piece, piece_length}
+use Rattle.smith_format.specs.Piece.{Piece}
+use Rattle.smith_format.specs.Writing.{piece_length}
 use Rattle.smith_format.specs.declared.types.EntityType.{EntityType}
 use Rattle.smith_format.specs.declared.types.EntityType.TheVariants.{Func, Table, Memory, Global, Tag}
 use Rattle.smith_format.specs.declared.types.MemoryType.{MemoryType}

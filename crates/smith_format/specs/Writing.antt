@@ -1,11 +1,16 @@
 -- What a writer did to a buffer, and how long a piece is.
-use Rattle.std.specs.Prelude.{◌≡◌, ℕ, ◌+◌, ◌^◌, ◌<◌, ◌≤◌, ◌⊎◌, take, Option, Some, None, Result, Ok, Err, IfErr}
+use Rattle.std.specs.Prelude.{◌≡◌, ℕ, length, ◌+◌, ◌^◌, ◌<◌, ◌≤◌, ◌⊎◌, take, Option, Some, None, Result, Ok, Err, IfErr}
 use Rattle.std.specs.Vec.{vec_len, vec_capacity}
 use Rattle.std.specs.declared.vec.Vec.{Vec}
 use Rattle.std.specs.declared.alloc.Global.{Global}
 use Rattle.smith_input.specs.declared.error.Error.{Error}
 use Rattle.smith_input.specs.declared.error.Error.TheVariants.{TooLong, OutOfMemory}
-use Rattle.smith_format.specs.Piece.{Piece, ◌⊕◌, piece_length}
+use Rattle.smith_format.specs.Piece.{Piece, ◌⊕◌}
+
+-- how many bytes the encoding has, and 0 where there is none
+abbrev pub piece_length : Piece → ℕ
+piece_length None = 0
+piece_length (Some b) = length b
 
 -- new begins with what old held, and the writer gave up no room
 pub record Begins (old new : Vec ℕ Global) : Type 0 where

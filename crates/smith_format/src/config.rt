@@ -60,7 +60,7 @@ pub struct Config {
 }
 
 impl Default for Config {
-    ghost use Rattle.smith_format.specs.Limits.{IsDefault};
+    ghost use Rattle.smith_format.specs.Consistency.{IsDefault};
 
     ghost is_default = { IsDefault };
 
@@ -96,7 +96,7 @@ impl Default for Config {
 }
 
 impl Config {
-    ghost use Rattle.smith_format.specs.Limits.{IsConsistent};
+    ghost use Rattle.smith_format.specs.Consistency.{IsConsistent};
 
     /// Accepts limits that fit together: no minimum exceeds its maximum, counts that are written are at most
     /// 4,294,967,295, those of functions and of exports together, and the nesting depth is at most 1000. Others are

@@ -18,7 +18,7 @@ use Rattle.smith_input.proofs.NameShapes.{kebab_less, kebab_within, short_within
 use Rattle.smith_input.proofs.ReadsTexts.{text_read}
 use Rattle.std.proofs.lemmas.Bool.{leb-true, le-leb}
 
--- Texts with digits behind them.
+-- Texts with digits after them.
 
 appended_more : (text ds : List ℕ) (n m : ℕ) → appended (appended text ds n) ds m ≡ appended text ds (n + m)
 appended_more text ds n zero = let e : n ≡ n + 0 = omega arith in ap (appended text ds) e
@@ -41,7 +41,7 @@ times_few text ds some (suc n) = omega (arith, some, times_few text ds some n, l
 
 -- The first text that can be read: a nearer one has all its stages among those of one further off.
 module _ (can_read : List ℕ → Bool) where
-  -- it is found behind no more digits than any other
+  -- it is found after no more digits than any other
   record Found (text ds : List ℕ) (fuel times : ℕ) : Type 0 where
     n : ℕ
     few : n ≤ times

@@ -81,7 +81,7 @@ short_suffices zero begins (c ∷ cs) g l = absurd (omega (arith, l))
 short_suffices (suc n) begins [] g l = tt
 short_suffices (suc n) begins (c ∷ cs) g l = short_suffices n (nat_eq c 45) cs g.1 (omega (arith, l))
 
--- names that end in `-a`, behind the character p
+-- names that end in `-a`, after the character p
 
 a_suffices : (n p : ℕ) (cs front : List ℕ) → p ∷ cs ≡ front ++ 45 ∷ 97 ∷ [] → length front ≡ n → Suffices n (nat_eq p 45) cs
 a_suffices zero p cs [] e l =
@@ -157,7 +157,7 @@ name_read max name rest h k l =
     (ap (script_name max) (take_all max name l))
     (within_read max name rest h k (short_within max name l))
 
--- What choices give is as long as they are, or has an `a` more behind a hyphen; p stands in front.
+-- What choices give is as long as they are, or has an `a` more after a hyphen; p stands in front.
 abbrev Shaped : ℕ → List ℕ → Type 0
 Shaped p ks =
     (length (characters (nat_eq p 45) ks) ≡ length ks)

@@ -11,7 +11,7 @@ use Rattle.std.specs.List.{AllByRecursion}
 use Rattle.std.specs.Prelude.{slice_get}
 use Rattle.smith_input.specs.Kebab.{Kebab}
 use Rattle.smith_input.specs.Loops.{Along}
-use Rattle.smith_input.specs.NameScript.{first_readable, is_short, is_within, script_new, script_new_text, stem_of, IsReachableText}
+use Rattle.smith_input.specs.NameScript.{first_readable, is_short, is_within, script_new, script_new_text, script_within, stem_of, IsReachableText}
 use Rattle.smith_input.specs.Script.{AreBytes, big_endian, code, pick, rank_of, script_among, script_bytes, script_characters, script_end, script_loop}
 use Rattle.smith_input.specs.Script.{script_more, script_name, script_text, width_within}
 use Rattle.smith_input.proofs.Choices.{rank_found}
@@ -153,6 +153,10 @@ counted max cs h all short = small_join (small_pick (max + 1) (length cs) (omega
 
 pub small_name : (max : ℕ) (name : List ℕ) → max < 2 ^ 64 → Kebab name → length name ≤ max → Small (script_name max name)
 small_name max name h k short = counted max name h (have_codes true name (kebab_goes k)) short
+
+pub small_within : (max : ℕ) (name : List ℕ) → max < 2 ^ 64 → Kebab name → Small (script_within max name)
+small_within max name h k =
+    counted max (take max name) h (taken HasCode max name (have_codes true name (kebab_goes k))) (omega (arith, length-take max name))
 
 pub small_new : (max count : ℕ) (name : List ℕ) → max < 2 ^ 64 → Kebab name → Small (script_new max count name)
 small_new max count name h k =

@@ -25,7 +25,7 @@ IsMadeOf can_read names name = (text : List ℕ) × (can_read text ≡ true) × 
 abbrev pub IsReachable : ℕ → List (List ℕ) → List ℕ → Type 0
 IsReachable max names name = IsMadeOf (is_within max) names name
 
--- Each of these names is so behind the names there and those of them before it.
+-- Each of these names is so after the names there and those of them before it.
 abbrev pub AreReachable : ℕ → List (List ℕ) → List (List ℕ) → Type 0
 AreReachable max before [] = Unit {0}
 AreReachable max before (n ∷ ns) = IsReachable max before n × AreReachable max (before ++ n ∷ []) ns

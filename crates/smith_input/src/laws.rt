@@ -115,10 +115,11 @@ pub fn kebab_names_are_read()
         → IsReadAs (ReadsKebab max) (script_within max name) name }
 {}
 
-/// The names in kebab case of these lengths are read, and no others.
+/// The names in kebab case of these lengths are read from some bytes, and no others.
 pub fn kebab_names_are_exact()
     ensures { (max : ℕ) (name : List ℕ) → max < 2 ^ 64
-        → ((bytes rest : List ℕ) × ReadsKebab max bytes name rest) ↔ (Kebab name × (is_within max name ≡ true)) }
+        → ((bytes rest : List ℕ) × AreBytes bytes × ReadsKebab max bytes name rest)
+        ↔ (Kebab name × (is_within max name ≡ true)) }
 {}
 
 /// Where some name that can be read becomes a new name, the new name's script is read as it.
@@ -128,10 +129,10 @@ pub fn new_names_are_read()
         → IsReadAs (ReadsNew max names) (script_new max (length names) name) name }
 {}
 
-/// These new names come, and no others.
+/// These new names are read from some bytes, and no others.
 pub fn new_names_are_exact()
     ensures { (max : ℕ) (names : List (List ℕ)) (name : List ℕ) → max < 2 ^ 64
-        → ((bytes rest : List ℕ) × ReadsNew max names bytes name rest)
+        → ((bytes rest : List ℕ) × AreBytes bytes × ReadsNew max names bytes name rest)
         ↔ (Kebab name × (is_among names name ≡ false) × IsReachable max names name) }
 {}
 
@@ -142,10 +143,10 @@ pub fn new_texts_are_read()
         → IsReadAs (ReadsNewText max names) (script_new_text max (length names) name) name }
 {}
 
-/// These new texts come, and no others.
+/// These new texts are read from some bytes, and no others.
 pub fn new_texts_are_exact()
     ensures { (max : ℕ) (names : List (List ℕ)) (name : List ℕ) → max < 2 ^ 64
-        → ((bytes rest : List ℕ) × ReadsNewText max names bytes name rest)
+        → ((bytes rest : List ℕ) × AreBytes bytes × ReadsNewText max names bytes name rest)
         ↔ (IsUtf8 name × (is_among names name ≡ false) × IsReachableText max names name) }
 {}
 
@@ -165,7 +166,7 @@ pub fn short_names_stay()
         → script_new_text max count name ≡ script_text max name }
 {}
 
-/// Names that come, and one that does not: a last `a` for which nothing is chosen, and digits twice behind a text.
+/// Names that can be read, and one that can't: a last `a` for which nothing is chosen, and digits twice after a text.
 pub fn worked_names()
     ensures hyphen { (is_within 2 (codes "a-a") ≡ true) × (script_within 2 (codes "a-a") ≡ 2 ∷ 0 ∷ 36 ∷ []) }
     ensures longest { is_within 100 (replicate 99 97 ++ codes "-a") ≡ true }

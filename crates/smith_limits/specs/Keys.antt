@@ -1,7 +1,9 @@
--- The names of the limits, and how great each may be.
+-- The limits by name: what each is of a configuration, and how great it may be.
 use lib.Pointwise.{pointwise}
 use Rattle.std.specs.List.{list_any}
-use Rattle.std.specs.Prelude.{eqb, ℕ, Bool, true, false, List, [], ◌∷◌, codes}
+use Rattle.std.specs.Prelude.{eqb, ℕ, pos, Bool, true, false, List, [], ◌∷◌, codes}
+use Rattle.toml.specs.Data.{Data, boolean, integer}
+use Rattle.smith_format.specs.declared.config.Config.{Config}
 use Rattle.smith_limits.specs.declared.keys.Key.{Key}
 use Rattle.smith_limits.specs.declared.keys.Key.TheVariants.{MinTypes, MinImports, MinFuncs, MinMemories, MaxTypes, MaxImports, MaxFuncs, MaxExports, MaxGlobals, MaxTables, MaxTags, MaxMemories, MaxModules, MaxComponents, MaxInstances, MaxNestingDepth, MaxTypeSize, MultiValueEnabled, ExceptionsEnabled, ReferenceTypesEnabled, SimdEnabled, AllowFloats, BulkMemoryEnabled}
 
@@ -31,6 +33,32 @@ name_of SimdEnabled = codes "simd_enabled"
 name_of AllowFloats = codes "allow_floats"
 name_of BulkMemoryEnabled = codes "bulk_memory_enabled"
 
+-- what it is, as a value of TOML
+abbrev pub value_of : Config → Key → Data
+value_of c MinTypes = integer (pos c.min_types)
+value_of c MinImports = integer (pos c.min_imports)
+value_of c MinFuncs = integer (pos c.min_funcs)
+value_of c MinMemories = integer (pos c.min_memories)
+value_of c MaxTypes = integer (pos c.max_types)
+value_of c MaxImports = integer (pos c.max_imports)
+value_of c MaxFuncs = integer (pos c.max_funcs)
+value_of c MaxExports = integer (pos c.max_exports)
+value_of c MaxGlobals = integer (pos c.max_globals)
+value_of c MaxTables = integer (pos c.max_tables)
+value_of c MaxTags = integer (pos c.max_tags)
+value_of c MaxMemories = integer (pos c.max_memories)
+value_of c MaxModules = integer (pos c.max_modules)
+value_of c MaxComponents = integer (pos c.max_components)
+value_of c MaxInstances = integer (pos c.max_instances)
+value_of c MaxNestingDepth = integer (pos c.max_nesting_depth)
+value_of c MaxTypeSize = integer (pos c.max_type_size)
+value_of c MultiValueEnabled = boolean c.multi_value_enabled
+value_of c ExceptionsEnabled = boolean c.exceptions_enabled
+value_of c ReferenceTypesEnabled = boolean c.reference_types_enabled
+value_of c SimdEnabled = boolean c.simd_enabled
+value_of c AllowFloats = boolean c.allow_floats
+value_of c BulkMemoryEnabled = boolean c.bulk_memory_enabled
+
 -- all of them
 abbrev pub all_keys : List Key
 all_keys =
@@ -40,29 +68,13 @@ all_keys =
 
 -- whether it is a truth value, and not a number
 abbrev pub is_switch : Key → Bool
-is_switch MinTypes = false
-is_switch MinImports = false
-is_switch MinFuncs = false
-is_switch MinMemories = false
-is_switch MaxTypes = false
-is_switch MaxImports = false
-is_switch MaxFuncs = false
-is_switch MaxExports = false
-is_switch MaxGlobals = false
-is_switch MaxTables = false
-is_switch MaxTags = false
-is_switch MaxMemories = false
-is_switch MaxModules = false
-is_switch MaxComponents = false
-is_switch MaxInstances = false
-is_switch MaxNestingDepth = false
-is_switch MaxTypeSize = false
 is_switch MultiValueEnabled = true
 is_switch ExceptionsEnabled = true
 is_switch ReferenceTypesEnabled = true
 is_switch SimdEnabled = true
 is_switch AllowFloats = true
 is_switch BulkMemoryEnabled = true
+is_switch _ = false
 
 -- one of them has this name
 abbrev pub is_name : List ℕ → Bool
@@ -71,26 +83,13 @@ is_name text = list_any (λ key. pointwise eqb (name_of key) text) all_keys
 -- the greatest number that it may be, of itself: what is counted in 32 bits of the written bytes, how deep components nest, and else what 64
 -- bits hold
 abbrev pub most_of : Key → ℕ
-most_of MinTypes = 18446744073709551615
-most_of MinImports = 18446744073709551615
-most_of MinFuncs = 18446744073709551615
-most_of MinMemories = 18446744073709551615
 most_of MaxTypes = 4294967295
 most_of MaxImports = 4294967295
 most_of MaxFuncs = 4294967295
 most_of MaxExports = 4294967295
-most_of MaxGlobals = 18446744073709551615
-most_of MaxTables = 18446744073709551615
-most_of MaxTags = 18446744073709551615
-most_of MaxMemories = 18446744073709551615
 most_of MaxModules = 4294967295
 most_of MaxComponents = 4294967295
 most_of MaxInstances = 4294967295
 most_of MaxNestingDepth = 1000
 most_of MaxTypeSize = 4294967295
-most_of MultiValueEnabled = 18446744073709551615
-most_of ExceptionsEnabled = 18446744073709551615
-most_of ReferenceTypesEnabled = 18446744073709551615
-most_of SimdEnabled = 18446744073709551615
-most_of AllowFloats = 18446744073709551615
-most_of BulkMemoryEnabled = 18446744073709551615
+most_of _ = 18446744073709551615

@@ -1,12 +1,13 @@
-//! The default limits as text.
+//! The default limits as text, which `examples/limits --write` writes.
 
-/// The default limits as TOML, each behind a line that says what it limits.
+/// The default limits as TOML, each after a comment that says what it limits.
 pub const DEFAULT_LIMITS: &str = "\
 # The fewest types of a component. They can always be added.
 min_types = 0
 # The fewest imports of a component. Where they can not be added, it is refused with MinimumNotMet.
 min_imports = 0
-# The fewest functions of a component: imported ones, lifts and lowers together. Where they can not be added, likewise.
+# The fewest functions of a component: imported ones, lifts and lowers together. Where they can not be added, it is
+# refused with MinimumNotMet.
 min_funcs = 0
 # The fewest memories of a core module.
 min_memories = 0

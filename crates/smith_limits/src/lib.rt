@@ -4,7 +4,9 @@
 mod default_limits;
 mod keys;
 mod limits;
+mod text;
 
 pub use default_limits::DEFAULT_LIMITS;
-pub use keys::Key;
-pub use limits::{Fault, Pair, Wrong, apart, limits_of};
+pub use keys::{KEYS, Key, Wrong};
+pub use limits::{Fault, Pair, apart, limits_of};
+pub use text::{TextFault, limits_of_text};

@@ -83,6 +83,6 @@ scoping_type =
 abbrev pub scoped_type : Tree
 scoped_type = first (types (to_nothing ∷ defined (primitive_type prim.U32) ∷ scoping_type ∷ [])) ends
 
--- a component in one, behind a type section
+-- a component in one, after a type section
 abbrev pub nested : Tree
 nested = first (types (u32_to_bool ∷ [])) (first (component lower_and_lift) (first (imports (import_of_type (codes "c") 0 ∷ [])) ends))

@@ -9,7 +9,7 @@ use Rattle.smith_read.specs.Reads.{IsWithin, Reads, behind, most_depth, at_offse
 use Rattle.smith_read.specs.declared.nodes.ComponentTree.{ComponentTree}
 use Rattle.smith_read.proofs.TellingParts.{component_found, component_only}
 
--- a section's contents fail, or are there, as they did without the bytes behind them
+-- a section's contents fail, or are there, as they did without the bytes after them
 pub behind_fails : {X A : Type 0} (view : X → A) (more : ℕ) (r : Result X Unread) (e : Unread) (q : Option A) → Err e ≡ behind more r → Gives view r q
     → Fails e q
 behind_fails view more (Ok x) e q is g = absurd cc

@@ -7,7 +7,8 @@ use Rattle.smith_format.specs.Piece.{Piece, ◌⊕◌, byte, bytes, u, raw, text
 use Rattle.smith_format.proofs.Piece.{joined, parts_are, raw_whole, two_bytes}
 use Rattle.smith_tree.specs.Grammar.{preamble, embedded, canon, export_entry, part, parts, component_text, Spells}
 use Rattle.smith_tree.specs.Tree.{Canon, lift, lower, Part, Tree, ends, first, custom, core_module, core_types, component, types, canons}
-use Rattle.smith_tree.specs.Tree.{imports, exports, tree_of, scope_depth, scope_depth_in, most}
+use Rattle.smith_tree.specs.Tree.{imports, exports, tree_of, most}
+use Rattle.smith_tree.specs.Depths.{scope_depth, scope_depth_in}
 use Rattle.smith_read_types.specs.Levels.{entry_in, types_at}
 use Rattle.smith_read_types.specs.Reading.{Found, ◌>>=◌, byte_at, behind, both_at, framed_at, u_at, skip_at, text_at}
 use Rattle.smith_read_types.specs.Tells.{Begins, Tells, TellsAll}
@@ -18,7 +19,7 @@ use Rattle.std.proofs.lemmas.Slice.Eq.{starts_is}
 use Rattle.std.proofs.lemmas.Bool.Decides.{Decides-eqb}
 use Rattle.smith_read_types.proofs.Inner.{NestWithin, Under, under_then, many_under, many_same}
 use Rattle.smith_syntax.specs.Entries.{Entry}
-use Rattle.smith_syntax.specs.TypeLimits.{nesting}
+use Rattle.smith_syntax.specs.Nesting.{nesting}
 use Rattle.smith_read_types.proofs.TellingLevels.{tells_entry}
 use Rattle.smith_read_types.proofs.TellingFrames.{framed_chain, framed_nothing, framed_seen, tells_all, tells_framed}
 use Rattle.smith_read.specs.PartNodes.{export_of, import_of}

@@ -1,7 +1,8 @@
 -- What reading answers.
 use Rattle.std.specs.Prelude.{◌≡◌, ◌≤◌, ◌+◌, ◌-◌, ℕ, List, Result, Ok, Err, IfOk, IfErr, min}
 use Rattle.smith_tree.specs.Grammar.{Spells}
-use Rattle.smith_tree.specs.Tree.{Tree, scope_depth}
+use Rattle.smith_tree.specs.Tree.{Tree}
+use Rattle.smith_tree.specs.Depths.{scope_depth}
 use Rattle.smith_read.specs.PartNodes.{shown_tree}
 use Rattle.smith_read.specs.declared.error.ReadError.{ReadError}
 use Rattle.smith_read.specs.declared.error.ReadError.TheVariants as error

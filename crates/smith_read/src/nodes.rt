@@ -37,7 +37,7 @@ pub struct ExportNode {
 pub enum PartNode {
     /// A custom section: its name, and any bytes.
     Custom { name: String, contents: Vec<u8> },
-    /// A core module: any bytes behind the core preamble, which they begin with.
+    /// A core module: any bytes after the core preamble, which they begin with.
     CoreModule(Vec<u8>),
     CoreTypes(Vec<CoreNode>),
     /// The sections of a component in this one.

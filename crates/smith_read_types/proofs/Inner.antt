@@ -8,7 +8,7 @@ use Rattle.smith_syntax.specs.Entries.{Entry, defined, function, component_type,
 use Rattle.smith_syntax.specs.Entries.{Decl, Decls, core_type_decl, type_decl, type_alias, core_type_alias, import_decl, export_decl, no_decls, then_decls}
 use Rattle.smith_syntax.specs.Entries.{decl_count}
 use Rattle.smith_syntax.specs.Grammar.{entry, decl, decls}
-use Rattle.smith_syntax.specs.TypeLimits.{nesting, decl_nesting, decls_nesting}
+use Rattle.smith_syntax.specs.Nesting.{nesting, decl_nesting, decls_nesting}
 use Rattle.smith_read_types.specs.Levels.{decl_in, decls_in, around, entry_in}
 
 -- there is no first piece, or it is the second

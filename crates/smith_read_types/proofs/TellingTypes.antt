@@ -93,7 +93,7 @@ unfolding maybe_valtype_at
 maybe_read b None rest e = rw (byte_read b (0, rest) (lit< tt) e) refl
 maybe_read b (Some v) rest e = let r = row_whole Some 1 (lit< tt) tells_val b v rest e in rw (r.front, r.is) refl
 
--- nothing, behind its byte
+-- nothing, after its byte
 none_sound : (n : ℕ) (b : List ℕ) (t : ℕ × List ℕ) (x : Option ComponentValType × List ℕ) → byte_at b ≡ Some t → t.0 ≡ n → Some (None, t.1) ≡ Some x
     → (x.0 ≡ None) × (byte n ⊕ Some x.1 ≡ Some b)
 none_sound n b t x e f g = subst (λ (y : Option ComponentValType × List ℕ). (y.0 ≡ None) × (byte n ⊕ Some y.1 ≡ Some b)) (same_Some (None, t.1) x g)
@@ -223,7 +223,7 @@ tells_defined = record {
   whole = λ b x e. let r = defined_read b x.0 x.1 e in rw r.1 r.2;
 }
 
--- ---- types of functions, behind their byte
+-- ---- types of functions, after their byte
 
 abbrev pub function_body : Signature → Piece
 function_body s = many labelvaltype s.params ⊕ resultlist s.result

@@ -22,7 +22,7 @@ pub enum Reason {
     /// The eight bytes of the preamble of a component or a core module do not stand here.
     #[error("a preamble is missing")]
     Preamble,
-    /// Bytes stand behind the last entry of a section.
+    /// Bytes stand after the last entry of a section.
     #[error("bytes are left over")]
     LeftOver,
     /// A scope stands too deep.

@@ -1,4 +1,4 @@
-//! Texts, and lists behind their count.
+//! Texts, and lists after their count.
 
 ghost use Rattle.std.specs.Prelude.{ℕ, List, map, string_bytes};
 ghost use Rattle.smith_read_types.specs.Reading.{Found, Gives, text_at, frame_at, skip_at, times_at, many_at};

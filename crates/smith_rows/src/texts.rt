@@ -2,7 +2,7 @@
 
 use crate::bytes::PREAMBLE;
 use smith_component::{Config, Error};
-use smith_limits::{DEFAULT_LIMITS, limits_of};
+use smith_limits::{DEFAULT_LIMITS, KEYS, limits_of};
 use smith_read::{ComponentTree, PartNode, read};
 use smith_script::{Reason, ScriptError, script};
 use smith_write::write;
@@ -43,14 +43,15 @@ pub fn texts(alloc: Global) -> Result<String, AllocError> {
     Ok(answers)
 }
 
-/// How many limits the text of the default limits sets, and whether all of them are the defaults.
+/// Whether the text of the default limits sets each limit, and all of them are the defaults.
 pub fn defaults(alloc: Global) -> Result<String, AllocError> {
     let Ok(table) = toml::table_from_str(alloc, DEFAULT_LIMITS) else {
         return String::from_str(alloc, "= no limits\n");
     };
+    // Every key of a table that sets limits is a limit, so that as many keys as limits are each of them.
+    let sets_each = table.len() == KEYS.len();
     let are_defaults = limits_of(alloc, &table) == Ok(Config::default());
-    let limits = table.len();
-    format!(in alloc; "= limits: {limits}, all of them the defaults: {are_defaults}\n")
+    format!(in alloc; "= sets each limit: {sets_each}, all of them the defaults: {are_defaults}\n")
 }
 
 /// What is answered to the script of the empty component where there must be more types than there may be.

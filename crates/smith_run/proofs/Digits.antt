@@ -4,7 +4,7 @@ use Rattle.std.specs.Prelude.{map}
 use Rattle.std.specs.List.{join_with_byte}
 use Rattle.std.proofs.lemmas.List.{take_more, map-append, length-map}
 
--- one piece behind others
+-- one piece after others
 join_more : (c : ℕ) (pieces : List (List ℕ)) (piece : List ℕ) → 0 < length pieces
     → join_with_byte c (pieces ++ piece ∷ []) ≡ (join_with_byte c pieces ++ c ∷ []) ++ piece
 join_more c [] piece h = absurd (omega arith)

@@ -1,5 +1,5 @@
 -- What a run takes from its reader, and what it gives to its writer. `Some` bytes are what a reader has left, or a writer holds; `None` tells nothing.
-use Rattle.std.specs.Prelude.{◌≢◌, ℕ, ◌≡◌, ◌+◌, ◌≤◌, ◌++◌, List, length, ⊤, Option}
+use Rattle.std.specs.Prelude.{◌≢◌, ℕ, ◌≡◌, ◌+◌, ◌≤◌, ◌++◌, List, length, ⊤, Option, Result, Ok, Err}
 use Rattle.std.specs.Io.KnownBytes.{Appends, Consumes, IsAtEnd}
 use Rattle.smith_input.specs.Reading.{IsTail}
 use Rattle.smith_input.specs.declared.error.Error.TheVariants.{OutOfMemory}
@@ -68,3 +68,8 @@ status_of (Refused error) = 1
 status_of ReadFault = 2
 status_of InputTooLong = 2
 status_of WriteFault = 2
+
+-- the same of how a run ended: 0 where it did not give up
+abbrev pub status_of_answer : {A : Type 0} → Result A RunError → ℕ
+status_of_answer (Ok _) = 0
+status_of_answer (Err error) = status_of error

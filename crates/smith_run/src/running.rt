@@ -5,7 +5,7 @@ ghost use Rattle.std.specs.Prelude.{length};
 ghost use Rattle.std.specs.Prelude.{IfOk, OnOk, IfErr, OnErr, IsErrOf, vec_len};
 ghost use Rattle.std.specs.Io.KnownBytes.{Appends, Consumes, IsAtEnd};
 ghost use Rattle.smith_input.specs.declared.error.Error.TheVariants.{OutOfMemory};
-ghost use Rattle.smith_format.specs.Limits.{IsConsistent};
+ghost use Rattle.smith_format.specs.Consistency.{IsConsistent};
 ghost use Rattle.smith_run.specs.Running.{ComesAfterReading, GivesAll, GivesTooMuch, IsRefusedOn, Writes};
 ghost use Rattle.smith_run.specs.Running.{longest_input, status_of, written_text};
 
@@ -23,7 +23,7 @@ const CHUNK: usize = 8192;
 /// Why a run gives up.
 #[derive(Debug, PartialEq, Eq, Drop, thiserror::Error)]
 pub enum RunError {
-    /// No component is made of the input, or memory is wanting.
+    /// No component is made of the input, or there is no memory for it.
     #[error("{0:?}")]
     Refused(Error),
     /// A read failed.
@@ -72,7 +72,7 @@ impl From<AllocError> for RunError {
     }
 }
 
-// One read, which goes behind the input. At most one byte too many is taken.
+// One read, which goes after the input. At most one byte too many is taken.
 fn read_some<R: Read>(
     reader: &mut R,
     chunk: &mut [u8],
@@ -151,7 +151,7 @@ fn formatted(alloc: Global, form: Form, bytes: Vec<u8>, left: usize) -> Result<V
 /// it in the form. Answers how many bytes of the input are left.
 ///
 /// Any error of a read is `ReadFault`, a byte past `LONGEST_INPUT` is `InputTooLong`, and any error of a write or
-/// of the flush behind it is `WriteFault`. What `generate` refuses with, or want of memory, is `Refused`. The text
+/// of the flush after it is `WriteFault`. What `generate` refuses with, or being out of memory, is `Refused`. The text
 /// is made whole before its first byte is written, so any part of it may be out after `WriteFault` alone.
 pub fn convert<R: Read, W: Write>(
     alloc: Global,

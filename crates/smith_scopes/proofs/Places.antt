@@ -1,7 +1,7 @@
 -- Places of a list: what stands at those where a test holds.
 use Rattle.std.proofs.Common.{◌≡◌, ◌⊎◌, inl, inr, ℕ, zero, suc, ◌+◌, ◌<◌, Bool, true, false, cond, List, [], ◌∷◌, ◌++◌, map, length, refl, ap, ◌∙◌, arith}
 use Rattle.std.specs.Prelude.{Some, None, slice_get}
-use Rattle.smith_syntax.specs.Scope.{places}
+use Rattle.smith_syntax.specs.Places.{places}
 
 module _ {A : Type 0} (test : A → Bool) where
   -- What stands at a place where the test holds passes it.

@@ -2,7 +2,8 @@
 use Rattle.std.proofs.Common.{◌≡◌, ℕ, ◌+◌, ◌<◌, ◌≤◌, Bool, true, false, cond, List, [], ◌∷◌, ◌++◌, get_or, length, map, reverse, refl, sym, ap, ◌∙◌, arith}
 use Rattle.std.proofs.Common.{append-nil}
 use Rattle.std.proofs.lemmas.List.{reverse-append, map-append, length-map, length-reverse}
-use Rattle.smith_syntax.specs.Scope.{Scope, empty_scope, with_type, with_types, with_core_type, with_core_types, own_of, outer_of, places}
+use Rattle.smith_syntax.specs.Scope.{Scope, empty_scope, with_type, with_types, with_core_type, with_core_types}
+use Rattle.smith_syntax.specs.Places.{own_of, outer_of, places}
 use Rattle.smith_scopes.specs.Scopes.{Contents, shown_scope, inward, last_of, Changes, AddsType, AddsCoreType}
 use Rattle.smith_syntax.specs.Shown.{shown_type, shown_core}
 use Rattle.smith_syntax.specs.declared.core_types.CoreType.{CoreType}

@@ -8,10 +8,12 @@ use Rattle.std.specs.declared.alloc.Global.{Global}
 use Rattle.std.specs.declared.rc.Rc.{Rc}
 use Rattle.std.specs.declared.vec.Vec.{Vec}
 use Rattle.smith_format.specs.declared.types.FuncType.{FuncType as CoreFuncType}
-use Rattle.smith_format.specs.Limits.{max_u32}
+use Rattle.smith_format.specs.Consistency.{max_u32}
 use Rattle.smith_syntax.specs.Entries.{Signature, plain}
-use Rattle.smith_syntax.specs.Scope.{places, is_defined, is_func, is_component, is_instance, is_core_func, is_core_module}
-use Rattle.smith_syntax.specs.Shown.{full_type, has_signature, is_of_signature}
+use Rattle.smith_syntax.specs.Scope.{is_defined, is_func, is_component, is_instance, is_core_module}
+use Rattle.smith_syntax.specs.Places.{places, is_core_func}
+use Rattle.smith_syntax.specs.Shown.{full_type}
+use Rattle.smith_syntax.specs.HasSignature.{has_signature, is_of_signature}
 use Rattle.smith_scopes.specs.Scopes.{row_in, row_of, Notes, SameRows, values_of, IsTied, IsCoreTied}
 use Rattle.smith_syntax.specs.Shown.{shown_type, shown_core}
 use Rattle.smith_syntax.specs.SameSignature.{same_signature, same_signature_Decides, same_signature_equiv}

@@ -4,11 +4,13 @@ use Rattle.std.specs.HashMap.{HashMap, get}
 use Rattle.std.specs.declared.alloc.Global.{Global}
 use Rattle.std.specs.declared.rc.Rc.{Rc}
 use Rattle.std.specs.declared.vec.Vec.{Vec}
-use Rattle.smith_format.specs.Limits.{max_u32}
+use Rattle.smith_format.specs.Consistency.{max_u32}
 use Rattle.smith_syntax.specs.Entries.{Signature}
-use Rattle.smith_syntax.specs.Scope.{ScopeOf, Scope, empty_scope, with_type, with_core_type, own_of, outer_of, places, is_defined, is_func, is_component}
-use Rattle.smith_syntax.specs.Scope.{is_instance, is_core_func, is_core_module}
-use Rattle.smith_syntax.specs.Shown.{shown_type, shown_core, has_signature}
+use Rattle.smith_syntax.specs.Scope.{ScopeOf, Scope, empty_scope, with_type, with_core_type, is_defined, is_func, is_component}
+use Rattle.smith_syntax.specs.Places.{own_of, outer_of, places, is_core_func}
+use Rattle.smith_syntax.specs.Scope.{is_instance, is_core_module}
+use Rattle.smith_syntax.specs.Shown.{shown_type, shown_core}
+use Rattle.smith_syntax.specs.HasSignature.{has_signature}
 use Rattle.smith_syntax.specs.SameSignature.{same_signature}
 use Rattle.smith_syntax.specs.declared.core_types.CoreType.{CoreType}
 use Rattle.smith_scopes.specs.declared.scopes.Kind.{Kind}

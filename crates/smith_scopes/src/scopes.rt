@@ -2,10 +2,11 @@
 
 ghost use Rattle.std.specs.Prelude.{◌≡◌, ◌+◌, ◌<◌, ◌≤◌, [], ◌∷◌, ◌++◌, length, Some};
 ghost use Rattle.std.specs.Prelude.{OnOk, IfOk, OnErr, IfErr};
-ghost use Rattle.smith_format.specs.Limits.{max_u32};
-ghost use Rattle.smith_syntax.specs.Scope.{empty_scope, with_type, with_core_type, places};
+ghost use Rattle.smith_format.specs.Consistency.{max_u32};
+ghost use Rattle.smith_syntax.specs.Scope.{empty_scope, with_type, with_core_type};
+ghost use Rattle.smith_syntax.specs.Places.{places};
 ghost use Rattle.smith_scopes.specs.Scopes.{shown_scope, kind_places, last_of};
-ghost use Rattle.smith_syntax.specs.Shown.{has_signature};
+ghost use Rattle.smith_syntax.specs.HasSignature.{has_signature};
 ghost use Rattle.smith_scopes.specs.Scopes.{AddsType, AddsCoreType, Notes, SameRows};
 
 mod queries;

@@ -3,7 +3,7 @@ use Rattle.std.proofs.Common.{◌≡◌, ℕ, ◌<◌, ◌↔◌, List, [], ◌�
 use Rattle.smith_input.specs.Script.{AreBytes}
 use Rattle.smith_input.specs.declared.error.Error.{Error}
 use Rattle.smith_input.specs.declared.error.Error.TheVariants.{OutOfMemory}
-use Rattle.smith_format.specs.Limits.{IsConsistent}
+use Rattle.smith_format.specs.Consistency.{IsConsistent}
 use Rattle.smith_format.specs.declared.config.Config.{Config}
 use Rattle.smith_tree.specs.Grammar.{Spells}
 use Rattle.smith_component.specs.Refusals.{IsGenerateRefusal}

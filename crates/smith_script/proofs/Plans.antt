@@ -1,6 +1,6 @@
 -- Every plan has a script.
 use Rattle.std.proofs.Common.{◌≡◌, ℕ, List, [], refl, subst, append-nil}
-use Rattle.smith_format.specs.Limits.{IsConsistent}
+use Rattle.smith_format.specs.Consistency.{IsConsistent}
 use Rattle.smith_format.specs.declared.config.Config.{Config}
 use Rattle.smith_component.specs.Runs.{RunsTo}
 use Rattle.smith_tree.specs.Script.{Within, script}

@@ -17,7 +17,8 @@ use Rattle.smith_tree.specs.Offers.{totals_of, with_exports, with_imports}
 use Rattle.smith_tree.specs.Open.{Open, is_export_offered, more_items, scopes_in}
 use Rattle.smith_tree.specs.Script.{item_of, script_core_types, script_export, script_from, script_import}
 use Rattle.smith_tree.specs.Script.{script_item, script_part, script_types}
-use Rattle.smith_tree.specs.Spaces.{Spaces, after_canon as canon_behind, core_types_of, functions_of, spaces_of, types_of}
+use Rattle.smith_tree.specs.Spaces.{Spaces, after_canon as canon_behind, core_types_of, spaces_of, types_of}
+use Rattle.smith_tree.specs.Functions.{functions_of}
 use Rattle.smith_tree.specs.Tree.{Canon, ExportEntry, lift, lower, Tree, Part, ends, first, custom, core_module, core_types, component, types, canons}
 use Rattle.smith_tree.specs.Tree.{imports, exports, add, exports_of, function_count, imports_of}
 use Rattle.smith_tree.specs.WellFormed.{scope_of}

@@ -12,7 +12,7 @@ use Rattle.smith_script.specs.Preceding.{Preceding, after_part}
 use Rattle.smith_script.proofs.Steps.{map_drop, map_dropped}
 
 module _ (config : Config) (outer : List Scope) (s : Preceding) (xs : List PartNode) (i : ℕ) where
-  -- a part, and those behind it
+  -- a part, and those after it
   pub parts_at : (x : PartNode) → i < length xs → x ≡ get_or xs i x
       → tree_says (tree_of (map shown_part_node (drop i xs))) config outer s
       ≡ item_says config outer s (item_of (shown_part_node x)) ++ part_says (shown_part_node x) config outer s

@@ -1,7 +1,7 @@
 -- What the script of a component is.
 use Rattle.std.specs.Prelude.{◌≡◌, ℕ, List, []}
 use Rattle.smith_input.specs.Script.{AreBytes}
-use Rattle.smith_format.specs.Limits.{IsConsistent}
+use Rattle.smith_format.specs.Consistency.{IsConsistent}
 use Rattle.smith_format.specs.declared.config.Config.{Config}
 use Rattle.smith_tree.specs.Grammar.{Spells}
 use Rattle.smith_component.specs.Runs.{RunsTo}

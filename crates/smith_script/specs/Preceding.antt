@@ -52,7 +52,7 @@ with_import t r = record {
   instances = t.instances + length (instance_of r);
 }
 
--- behind an entry of a section
+-- after an entry of a section
 
 abbrev pub after_core_type : Preceding → CoreEntry → Preceding
 after_core_type s x = record s { scope = with_core_type s.scope (core_entry_of (core_sort_of x)) }
@@ -70,7 +70,7 @@ after_import s x = record s { functions = s.functions ++ function_of x.to; impor
 abbrev pub after_export : Preceding → ExportEntry → Preceding
 after_export s x = record s { functions = s.functions ++ option_to_list (slice_get s.functions x.func); exports = s.exports + 1 }
 
--- behind a core module
+-- after a core module
 abbrev pub after_module : Preceding → Preceding
 after_module s = record s {
   totals = record { modules = s.totals.modules + 1; funcs = s.totals.funcs; components = s.totals.components; instances = s.totals.instances };

@@ -54,7 +54,7 @@ fn scalar_functions(alloc: Global, here: &Open<'_>) -> Result<Vec<usize>, Unsaid
 }
 
 // Which sort of canonical function it is, where so many component functions can be lowered and so many core functions
-// stand there. One that is not offered stands behind those that are.
+// stand there. One that is not offered stands after those that are.
 fn put_canon_item(
     out: &mut Vec<u8>,
     scalars: usize,

@@ -18,7 +18,7 @@ pub enum Reason {
     /// It is not well formed.
     #[error("it is not well formed")]
     NotWellFormed,
-    /// Anything else, as a lift whose type stands behind it.
+    /// Anything else, as a lift whose type stands after it.
     #[error("it is not what would be read")]
     Unlike,
 }

@@ -48,7 +48,7 @@ impl Offered {
         6 + usize::from(self.modules) + usize::from(self.components) + usize::from(self.exports)
     }
 
-    // The place of the item of a part. One that is not offered stands behind those that are.
+    // The place of the item of a part. One that is not offered stands after those that are.
     fn place_of(self, part: &PartNode) -> usize
         ensures { result ≡ rank_of equal.eq (more_items self.modules self.components self.exports)
             (item_of (shown_part_node part.now)) }

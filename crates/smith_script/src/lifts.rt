@@ -2,8 +2,8 @@
 
 ghost use Rattle.std.specs.Prelude.{◌≡◌, ◌++◌, Some, map, slice_get, nat_eq};
 ghost use Rattle.smith_input.specs.Script.{script_among};
-ghost use Rattle.smith_syntax.specs.Scope.{places};
-ghost use Rattle.smith_syntax.specs.Shown.{is_of_signature};
+ghost use Rattle.smith_syntax.specs.Places.{places};
+ghost use Rattle.smith_syntax.specs.HasSignature.{is_of_signature};
 ghost use Rattle.smith_syntax.specs.Signature.{named};
 ghost use Rattle.smith_read_types.specs.TypeNodes.{shown_type_node};
 ghost use Rattle.smith_tree.specs.TypeScript.{script_lifted, script_params, script_result, script_scalar};

@@ -32,7 +32,7 @@ fn is_taken(names: &[&[u8]], name: &[u8]) -> bool {
     false
 }
 
-/// Does the name come behind these? It is read, or it is one of them that comes, and their number behind it.
+/// Does the name come after these? It is read, or it is one of them that comes, and their number after it.
 pub(crate) fn comes(
     alloc: Global,
     form: Form,

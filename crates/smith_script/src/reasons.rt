@@ -42,7 +42,7 @@ fn long_unless(comes: bool) -> Option<Reason> {
     Some(Reason::LongName)
 }
 
-// The next name in kebab case, which is put behind those before it.
+// The next name in kebab case, which is put after those before it.
 fn next_name<'a>(alloc: Global, before: &mut Vec<&'a [u8]>, name: &'a str) -> Told {
     let comes = comes(alloc, Form::Kebab, before, name.as_bytes())?;
     before.push(name.as_bytes())?;
@@ -77,7 +77,7 @@ fn exported<'a>(alloc: Global, decls: &'a [ModuleNode]) -> Result<Vec<&'a [u8]>,
     Ok(names)
 }
 
-// A declaration of a module type, behind these.
+// A declaration of a module type, after these.
 fn in_module_decl(alloc: Global, before: &[ModuleNode], decl: &ModuleNode) -> Told {
     let comes = match decl {
         ModuleNode::Import { module, name, .. } => {
@@ -281,7 +281,7 @@ fn in_part<'a>(
     }
 }
 
-// The first section in which something is wrong, behind the path to the component.
+// The first section in which something is wrong, after the path to the component.
 #[cycle(sections)]
 fn in_parts(alloc: Global, config: &Config, path: &mut Vec<usize>, parts: &[PartNode]) -> Told {
     let mut names = Names::new(alloc);

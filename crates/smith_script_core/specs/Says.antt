@@ -14,7 +14,7 @@ pub record Adds (old new : Vec ℕ Global) (script : List ℕ) : Type 0 where
 pub record IsUnsaid (e : Unsaid) (script : List ℕ) : Type 0 where
   pub is : e ≡ error.NoBytes → ¬ AreBytes script
 
--- A writer put the script behind what was there. After an error any bytes may stand in the buffer.
+-- A writer put the script after what was there. After an error any bytes may stand in the buffer.
 abbrev pub Says : {A : Type 0} → Result A Unsaid → Vec ℕ Global → Vec ℕ Global → List ℕ → Type 0
 Says (Ok _) old new script = Adds old new script
 Says (Err e) old new script = IsUnsaid e script

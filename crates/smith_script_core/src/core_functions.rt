@@ -43,7 +43,7 @@ fn put_values(
     put_core_values(out, valtypes, most_results, &ty.results)
 }
 
-/// A core function type behind what says that it is one.
+/// A core function type after what says that it is one.
 pub fn put_core_function(
     alloc: Global,
     out: &mut Vec<u8>,

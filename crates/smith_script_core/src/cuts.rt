@@ -12,7 +12,7 @@ pub(crate) fn front(text: &[u8], most: usize) -> &[u8]
     &text[..most]
 }
 
-/// What stands behind the first so many.
+/// What stands after the first so many.
 pub(crate) fn behind(text: &[u8], most: usize) -> &[u8]
     ensures { result.now ≡ drop most text.now }
 {

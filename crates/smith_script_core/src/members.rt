@@ -11,7 +11,7 @@ use crate::choices::{put_among, put_end, put_more};
 use crate::error::Unsaid;
 use smith_format::ValType;
 
-/// What has a script in a context, behind so many.
+/// What has a script in a context, after so many.
 pub trait Scripted<Context> {
     ghost script: { Context → ℕ → Self → List ℕ };
 

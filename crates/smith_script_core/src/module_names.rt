@@ -1,7 +1,7 @@
 //! How many names a module type has taken.
 
 ghost use Rattle.std.specs.Prelude.{◌≡◌, ◌∷◌, [], length, map, if◌then◌else◌};
-ghost use Rattle.smith_syntax.specs.ModuleTypes.{export_names, names_from};
+ghost use Rattle.smith_syntax.specs.ModuleTypes.{module_export_names, names_from};
 ghost use Rattle.smith_read_types.specs.Nodes.{shown_module_node};
 
 use smith_read_types::ModuleNode;
@@ -31,7 +31,7 @@ pub fn imports_from(decls: &[ModuleNode], from: &str) -> usize
 
 // Is it an export?
 fn is_export(decl: &ModuleNode) -> bool
-    ensures { length (export_names (shown_module_node decl.now ∷ [])) ≡ (if result then 1 else 0) }
+    ensures { length (module_export_names (shown_module_node decl.now ∷ [])) ≡ (if result then 1 else 0) }
 {
     match decl {
         ModuleNode::Export { .. } => true,
@@ -41,7 +41,7 @@ fn is_export(decl: &ModuleNode) -> bool
 
 /// How many exports there are.
 pub fn exports_in(decls: &[ModuleNode]) -> usize
-    ensures { result ≡ length (export_names (map shown_module_node decls.now)) }
+    ensures { result ≡ length (module_export_names (map shown_module_node decls.now)) }
 {
     let mut count = 0;
     for decl in decls {

@@ -1,7 +1,7 @@
 //! The places in a list of what a test accepts.
 
 ghost use Rattle.std.specs.Prelude.{◌≡◌, Bool, true, IfOk, IfErr};
-ghost use Rattle.smith_syntax.specs.Scope.{places};
+ghost use Rattle.smith_syntax.specs.Places.{places};
 ghost use Rattle.smith_script_core.specs.declared.error.Unsaid.TheVariants.{OutOfMemory};
 
 use crate::error::Unsaid;

@@ -2,9 +2,9 @@
 
 ghost use Rattle.std.specs.Prelude.{◌≡◌, ◌≤◌, ◌<◌, [], ◌∷◌, length, map, IfOk, IfErr, MatchOption};
 ghost use Rattle.smith_format.specs.CoreScript.{script_function, script_values};
-ghost use Rattle.smith_core.specs.StandInScript.{all_memories, counted_functions, function_of, functions_of};
+ghost use Rattle.smith_core.specs.StandInScript.{all_memories, counted_functions, function_of, functions_from};
 ghost use Rattle.smith_core.specs.StandInScript.{memories_of, memory_of, past_number, script_stand_in, stand_in_of};
-ghost use Rattle.smith_core.specs.StandInScript.{types_of, value_of, values_of};
+ghost use Rattle.smith_core.specs.StandInScript.{types_from, value_of, values_of};
 ghost use Rattle.smith_script_core.specs.Says.{Says};
 ghost use Rattle.smith_script_core.specs.StandIns.{script_functions, script_memories};
 ghost use Rattle.smith_script_core.specs.declared.error.Unsaid.TheVariants.{OutOfMemory};
@@ -45,7 +45,7 @@ fn values_in(alloc: Global, bytes: &[u8]) -> Result<Vec<ValType>, Unsaid>
     Ok(values)
 }
 
-// What is behind a number.
+// What is after a number.
 fn past_number(bytes: &[u8]) -> &[u8]
     ensures { result.now ≡ past_number bytes.now }
 {
@@ -57,7 +57,7 @@ fn past_number(bytes: &[u8]) -> &[u8]
     &[]
 }
 
-// The value types behind their count. The answer is what is behind them.
+// The value types after their count. The answer is what is after them.
 fn put_values<'b>(
     alloc: Global,
     out: &mut Vec<u8>,
@@ -77,7 +77,7 @@ fn put_values<'b>(
     Ok(behind(rest, usize::from(*count)))
 }
 
-// A function type. The answer is what is behind it.
+// A function type. The answer is what is after it.
 fn put_function<'b>(
     alloc: Global,
     out: &mut Vec<u8>,
@@ -93,7 +93,7 @@ fn put_function<'b>(
     put_values(alloc, out, valtypes, most_results, results)
 }
 
-// So many function types. The answer is what is behind them.
+// So many function types. The answer is what is after them.
 fn put_functions<'b>(
     alloc: Global,
     out: &mut Vec<u8>,
@@ -101,8 +101,8 @@ fn put_functions<'b>(
     count: usize,
     bytes: &'b [u8],
 ) -> Result<&'b [u8], Unsaid>
-    ensures said { Says result out.old out.new (script_functions config.now 0 (functions_of count bytes.now).0) }
-    ensures left { IfOk result (λ left. left.now ≡ (functions_of count bytes.now).1) }
+    ensures said { Says result out.old out.new (script_functions config.now 0 (functions_from count bytes.now).0) }
+    ensures left { IfOk result (λ left. left.now ≡ (functions_from count bytes.now).1) }
 {
     let valtypes = valtypes_of(alloc, config)?;
     let most_results = max_results(config);
@@ -115,9 +115,9 @@ fn put_functions<'b>(
     Ok(left)
 }
 
-// How many function types there are, and what is behind their count.
+// How many function types there are, and what is after their count.
 fn counted_functions(bytes: &[u8]) -> (usize, &[u8])
-    ensures { functions_of result.0 result.1.now ≡ counted_functions bytes.now }
+    ensures { functions_from result.0 result.1.now ≡ counted_functions bytes.now }
 {
     match bytes.split_first() {
         Some((count, rest)) => (usize::from(*count), rest),
@@ -127,7 +127,7 @@ fn counted_functions(bytes: &[u8]) -> (usize, &[u8])
 
 // The same of a type section, if there is one.
 fn types_of(bytes: &[u8]) -> (usize, &[u8])
-    ensures { functions_of result.0 result.1.now ≡ types_of bytes.now }
+    ensures { functions_from result.0 result.1.now ≡ types_from bytes.now }
 {
     match bytes.split_first() {
         Some((1, rest)) => counted_functions(past_number(rest)),
@@ -135,7 +135,7 @@ fn types_of(bytes: &[u8]) -> (usize, &[u8])
     }
 }
 
-// A memory type, by its minimum and its maximum, and what is behind it.
+// A memory type, by its minimum and its maximum, and what is after it.
 fn next_memory(bytes: &[u8]) -> Option<(u64, Option<u64>, &[u8])>
     ensures one { MatchOption result (all_memories bytes.now ≡ [])
         (λ m. all_memories bytes.now ≡ memory_of m.0 m.1 ∷ all_memories m.2.now) }

@@ -9,7 +9,8 @@ use Rattle.smith_syntax.specs.Entries.{Case}
 use Rattle.smith_syntax.specs.Entries.{Decl, Decls, core_type_decl, type_decl, type_alias, core_type_alias, import_decl, export_decl, no_decls, then_decls}
 use Rattle.smith_syntax.specs.Entries.{DefValType, primitive_type, record_type, variant_type, list_type, tuple_type, flags_type, enum_type, option_type}
 use Rattle.smith_syntax.specs.Entries.{result_type}
-use Rattle.smith_syntax.specs.Scope.{Scope, places, is_defined, is_func, is_component, is_instance, is_core_module, defined_places, after_decl, type_named}
+use Rattle.smith_syntax.specs.Scope.{Scope, is_defined, is_func, is_component, is_instance, is_core_module, after_decl, type_named}
+use Rattle.smith_syntax.specs.Places.{places, defined_places}
 use Rattle.smith_syntax.specs.Scope.{core_type_named, exported_type, empty_scope}
 use Rattle.smith_syntax.specs.declared.deftype.ComponentTypeRef.{ComponentTypeRef}
 use Rattle.smith_syntax.specs.declared.deftype.ComponentTypeRef.TheVariants as to

@@ -17,7 +17,7 @@ use Rattle.smith_script_types.proofs.Alike.{all_same, script_decls_alike}
 use Rattle.smith_script_types.specs.Scopes.{Alike}
 
 module _ (config : Config) (importing : Bool) (outer : List Scope) where
-  -- a declaration, and those behind it
+  -- a declaration, and those after it
   pub decls_at : (xs : List DeclNode) (i fuel : ℕ) (taken : Taken) (own : Scope) (x : DeclNode) → i < length xs → x ≡ get_or xs i x
       → script_decls (in_order (map shown_decl_node (drop i xs))) config importing fuel i taken own outer
       ≡ (1 ∷ []) ++ (script_decl (shown_decl_node x) config importing (fuel - 1) taken own outer

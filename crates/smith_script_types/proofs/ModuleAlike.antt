@@ -9,8 +9,9 @@ use Rattle.smith_format.specs.declared.config.Config.{Config}
 use Rattle.smith_format.specs.declared.types.EntityType.{EntityType}
 use Rattle.smith_format.specs.declared.types.EntityType.TheVariants.{Func, Table, Memory, Global, Tag}
 use Rattle.smith_syntax.specs.Entries.{CoreEntry, core_func, core_module, ModuleDecl, imports, declares, aliases, exports}
-use Rattle.smith_syntax.specs.ModuleTypes.{adds, export_names, is_tag_type, names_from}
-use Rattle.smith_syntax.specs.Scope.{Scope, is_core_func, places}
+use Rattle.smith_syntax.specs.ModuleTypes.{adds, module_export_names, is_tag_type, names_from}
+use Rattle.smith_syntax.specs.Scope.{Scope}
+use Rattle.smith_syntax.specs.Places.{is_core_func, places}
 use Rattle.smith_tree.specs.ModuleScript.{alias_place, script_decl, script_entity, script_entity_of, script_module}
 use Rattle.smith_tree.specs.CoreTypeOffers.{Declared, alias_choices, entity_kinds, indexes, module_items, with_decl}
 use Rattle.smith_tree.specs.CoreTypeScript.{script_core}
@@ -73,7 +74,7 @@ module _ (a b : Scope) (alike : Alike a b) where
         both (item_alike config item.Alias)
         (ap (λ xs. pick (length xs) (alias_place a count i)) choices_alike ∙ ap (λ k. pick (length (alias_choices b t)) k) (place_alike count i))
     decl_alike config (exports name e) = both (item_alike config item.Export)
-        (both (ap (λ ds. script_new_text 100 (length (export_names ds)) name) same.decls) (entity_alike s t same config e))
+        (both (ap (λ ds. script_new_text 100 (length (module_export_names ds)) name) same.decls) (entity_alike s t same config e))
 
     adds_alike : (d : ModuleDecl) → map func_sort_of (adds a.core_types s.own d) ≡ map func_sort_of (adds b.core_types t.own d)
     adds_alike (imports from name e) = refl

@@ -52,7 +52,7 @@ line_taken may ds behind h =
     ap (λ b. if b then pick 100 0 ++ flat_map script_asked (entities_of (in_front ds behind)) else (if may then pick 100 99 else []))
     (lt-ltb (length behind) (length ds) h)
 
--- what stands behind the front
+-- what stands after the front
 
 module _ (front behind ds : List ModuleDecl) (e : ds ≡ front ++ behind) where
   front_length : length front + length behind ≡ length ds
@@ -75,7 +75,7 @@ module _ (config : Config) (around : Scope) where
   abbrev turns : ℕ → Declared → List ModuleDecl → List ℕ
   turns done s ds = script_loop (script_decl config around) (with_decl around.core_types) 0 100 done s ds
 
-  -- a declaration, and those behind it
+  -- a declaration, and those after it
   pub module_at : (xs : List ModuleNode) (i done : ℕ) (s : Declared) (x : ModuleNode) → i < length xs → x ≡ get_or xs i x
       → turns done s (map shown_module_node (drop i xs))
       ≡ (script_more 0 done ++ script_decl config around s (shown_module_node x))
@@ -128,7 +128,7 @@ module _ (config : Config) (around : Scope) where
       (with_decl around.core_types s (shown_module_node x)) now (next_alike xs i own added x h e more)
       ∙ ap (λ z. turns (i + 1 - front) (with_sorts z (map shown_module_node (take (i + 1) xs))) (map shown_module_node (drop (i + 1) xs))) (sym grown)) u
 
-  -- before the first declaration behind the first so many
+  -- before the first declaration after the first so many
   pub module_start : (xs : List ModuleNode) (front : ℕ) (own : List FuncSort) → own ≡ map func_sort_of (declared_in (map shown_module_node (take front xs)))
       → script_behind config around front (map shown_module_node xs)
       ≡ turns (front - front) (with_sorts own (map shown_module_node (take front xs))) (map shown_module_node (drop front xs))

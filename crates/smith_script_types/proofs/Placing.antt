@@ -4,7 +4,7 @@ use Rattle.std.proofs.Common.{get_or, Some, None, ◌≤◌}
 use Rattle.std.proofs.lemmas.List.{length-map}
 use Rattle.std.proofs.lemmas.Option.{slice_get-get_or, slice_get-map, slice_get_past}
 use Rattle.std.specs.Prelude.{option_map, slice_get}
-use Rattle.smith_syntax.specs.Scope.{places}
+use Rattle.smith_syntax.specs.Places.{places}
 
 pub places_row : (b c : Bool) (i : ℕ) (xs ys : List ℕ) → b ≡ c → xs ≡ ys → cond b (i ∷ xs) xs ≡ cond c (i ∷ ys) ys
 places_row true true i xs ys e f = ap (λ zs. i ∷ zs) f
@@ -25,7 +25,7 @@ module _ {X A : Type 0} (f : X → A) where
   get_past : (xs : List X) (n : ℕ) → length xs ≤ n → slice_get (map f xs) n ≡ None
   get_past xs n l = slice_get_past (map f xs) n (omega (arith, length-map xs f))
 
-  -- what stands behind the first
+  -- what stands after the first
   pub get_behind : (a : A) (xs : List X) (n : ℕ) (d : X) → 0 < n → n - 1 < length xs → slice_get (a ∷ map f xs) n ≡ Some (f (get_or xs (n - 1) d))
   get_behind a xs zero d h l = absurd (omega arith)
   get_behind a xs (suc n) d h l = let less : suc n - 1 ≡ n = omega arith in rw less (get_mapped xs n d (rw less at l))

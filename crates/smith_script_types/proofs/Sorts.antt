@@ -7,7 +7,8 @@ use Rattle.std.proofs.lemmas.Option.{slice_get-map}
 use Rattle.smith_format.specs.CoreTypes.{Function}
 use Rattle.smith_syntax.specs.Entries.{Entry, CoreEntry, defined, function, component_type, instance_type, core_func, core_module}
 use Rattle.smith_syntax.specs.ModuleTypes.{func_in, is_tag_type}
-use Rattle.smith_syntax.specs.Scope.{places, is_defined, is_func, is_component, is_instance, is_core_func, is_core_module}
+use Rattle.smith_syntax.specs.Scope.{is_defined, is_func, is_component, is_instance, is_core_module}
+use Rattle.smith_syntax.specs.Places.{places, is_core_func}
 use Rattle.smith_script_types.proofs.Placing.{places_map}
 use Rattle.smith_script_types.specs.Scopes.{core_entry_of, core_sort_of, entry_of, func_sort_of, function_of, sort_of}
 use Rattle.smith_script_types.specs.declared.scopes.CoreSort.{CoreSort}
@@ -72,7 +73,7 @@ same_places test seen back same xs ys e =
 pub same_length : {A B : Type 0} (seen : A → B) (xs ys : List A) → map seen xs ≡ map seen ys → length xs ≡ length ys
 same_length seen xs ys e = sym (length-map xs seen) ∙ ap length e ∙ length-map ys seen
 
--- what stands behind the same
+-- what stands after the same
 pub behind : (k : List ℕ) {x y : List ℕ} → x ≡ y → k ++ x ≡ k ++ y
 behind k e = ap (λ t. k ++ t) e
 

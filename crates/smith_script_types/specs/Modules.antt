@@ -23,7 +23,7 @@ pub record DeclaredAlike (a b : PlainDeclared) : Type 0 where
   pub own : map func_sort_of a.own ≡ map func_sort_of b.own
   pub decls : a.decls ≡ b.decls
 
--- the declarations behind the first so many
+-- the declarations after the first so many
 abbrev pub script_behind : Config → PlainScope → ℕ → List ModuleDecl → List ℕ
 script_behind config around front ds =
     script_loop (script_decl config around) (with_decl around.core_types) 0 100 0 (with_front (undeclared 0) (take front ds)) (drop front ds)

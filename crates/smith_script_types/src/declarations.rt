@@ -96,7 +96,7 @@ pub(crate) fn put_type_alias(
     }
 }
 
-/// An outer alias of a core type, which stands behind the types.
+/// An outer alias of a core type, which stands after the types.
 pub(crate) fn put_core_type_alias(
     out: &mut Vec<u8>,
     place: Place<'_>,

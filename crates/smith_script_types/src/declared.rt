@@ -4,7 +4,7 @@ ghost use Rattle.std.specs.Prelude.{◌≡◌, ◌∷◌, ◌++◌, [], map, nat
 ghost use Rattle.std.specs.Prelude.{if◌then◌else◌};
 ghost use Rattle.std.specs.Option.{option_to_list};
 ghost use Rattle.smith_syntax.specs.ModuleTypes.{adds, count_of_kind, declared_in, entities_of, is_tag_type};
-ghost use Rattle.smith_syntax.specs.Scope.{places};
+ghost use Rattle.smith_syntax.specs.Places.{places};
 ghost use Rattle.smith_tree.specs.CoreTypeOffers.{allows_function, allows_type, indexes};
 ghost use Rattle.smith_read_types.specs.Nodes.{shown_module_node};
 ghost use Rattle.smith_script_core.specs.declared.error.Unsaid.TheVariants.{OutOfMemory};

@@ -7,7 +7,7 @@ ghost use Rattle.smith_format.specs.Limits.{configured};
 ghost use Rattle.smith_format.specs.contracts.types.ExportKindPartialEq.TheImpl.{ghosts as kinds};
 ghost use Rattle.smith_format.specs.declared.types.ExportKind.TheVariants as kind;
 ghost use Rattle.smith_syntax.specs.ModuleTypes.{count_of_kind, is_tag_type};
-ghost use Rattle.smith_syntax.specs.Scope.{places};
+ghost use Rattle.smith_syntax.specs.Places.{places};
 ghost use Rattle.smith_tree.specs.ModuleScript.{script_bit, script_element, script_entity, script_entity_of};
 ghost use Rattle.smith_tree.specs.CoreTypeOffers.{entity_kinds};
 ghost use Rattle.smith_script_core.specs.Says.{Says};
@@ -96,7 +96,7 @@ fn put_entity_kind(
     put_offered(place.alloc, out, &offers, kind)
 }
 
-// An entity behind its kind.
+// An entity after its kind.
 fn put_entity_of(
     out: &mut Vec<u8>,
     place: Place<'_>,

@@ -1,4 +1,4 @@
-//! How much fuel is left behind a declaration.
+//! How much fuel is left after a declaration.
 
 ghost use Rattle.std.specs.Prelude.{◌≡◌, ◌-◌, ◌+◌, map};
 ghost use Rattle.smith_syntax.specs.Entries.{function, in_order};

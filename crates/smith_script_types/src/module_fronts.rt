@@ -42,7 +42,7 @@ fn put_all_asked(out: &mut Vec<u8>, decls: &[ModuleNode]) -> Result<(), Unsaid>
     Ok(())
 }
 
-// A line of what the canonical ABI asks, which is allowed or not, and behind which these declarations stand.
+// A line of what the canonical ABI asks, which is allowed or not, and after which these declarations stand.
 fn put_line(
     out: &mut Vec<u8>,
     may: bool,

@@ -82,7 +82,7 @@ fn put_alias(
     put_choice(out, choices, alias_place(place, count, index)?)
 }
 
-// A name behind so many, and what is imported or exported by it.
+// A name after so many, and what is imported or exported by it.
 fn put_named(
     out: &mut Vec<u8>,
     place: Place<'_>,
@@ -123,7 +123,7 @@ fn put_import(
     )
 }
 
-// A declaration behind these.
+// A declaration after these.
 fn put_decl(
     out: &mut Vec<u8>,
     place: Place<'_>,
@@ -165,7 +165,7 @@ fn put_decl(
     }
 }
 
-// The declarations behind the first so many.
+// The declarations after the first so many.
 fn put_behind(
     out: &mut Vec<u8>,
     place: Place<'_>,
@@ -191,8 +191,8 @@ fn put_behind(
     put_end(out, decls.len() - front, 100)
 }
 
-/// A module type behind what says that it is one, whatever fuel it has: what the canonical ABI asks, and the
-/// declarations behind it.
+/// A module type after what says that it is one, whatever fuel it has: what the canonical ABI asks, and the
+/// declarations after it.
 pub(crate) fn put_module(
     out: &mut Vec<u8>,
     place: Place<'_>,

@@ -144,7 +144,7 @@ pub fn put_reference(
     put_among(out, &places, &(index_in(to) as usize))
 }
 
-/// The name of an import or an export behind so many, and that it has no URL.
+/// The name of an import or an export after so many, and that it has no URL.
 pub fn put_extern(out: &mut Vec<u8>, count: usize, name: &str) -> Result<(), Unsaid>
     ensures { Says result out.old out.new (script_extern count name.now) }
 {

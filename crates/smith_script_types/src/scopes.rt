@@ -3,7 +3,8 @@
 ghost use Rattle.std.specs.Prelude.{◌≡◌, ℕ, true, length, map, option_map, slice_get, IfOk, IfErr};
 ghost use Rattle.smith_format.specs.Shown.{shown_func};
 ghost use Rattle.smith_syntax.specs.ModuleTypes.{func_in};
-ghost use Rattle.smith_syntax.specs.Scope.{empty_scope, is_core_func, is_core_module, places};
+ghost use Rattle.smith_syntax.specs.Scope.{empty_scope, is_core_module};
+ghost use Rattle.smith_syntax.specs.Places.{is_core_func, places};
 ghost use Rattle.smith_read_types.specs.Nodes.{shown_core_node};
 ghost use Rattle.smith_read_types.specs.TypeNodes.{shown_type_node};
 ghost use Rattle.smith_tree.specs.TypeOffers.{aliases_of, is_occupied};

@@ -49,7 +49,7 @@ fn put_defined_kind(out: &mut Vec<u8>, fuel: u32) -> Result<(), Unsaid>
     put_type_kind(out, TypeKind::Defined)
 }
 
-// What is imported or exported within a type, and its name behind so many.
+// What is imported or exported within a type, and its name after so many.
 fn put_declared(
     out: &mut Vec<u8>,
     place: Place<'_>,

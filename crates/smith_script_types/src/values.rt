@@ -128,7 +128,7 @@ fn put_list<'s, T: Scripted<Place<'s>>>(
     put_members(out, place, 1, max, items)
 }
 
-/// A type of values behind what says that it is one.
+/// A type of values after what says that it is one.
 pub(crate) fn put_defined(
     out: &mut Vec<u8>,
     place: Place<'_>,

@@ -15,7 +15,8 @@ use Rattle.smith_syntax.specs.declared.deftype.InstanceType.{InstanceType}
 use Rattle.smith_syntax.specs.declared.deftype.OuterAliasKind.TheVariants as kind
 use Rattle.smith_syntax.specs.Entries.{DeclOf, DeclsOf, in_order, no_decls, then_decls, decl_count, plain_decl, plain_decls}
 use Rattle.smith_syntax.specs.Grammar.{decl, decls, entry}
-use Rattle.smith_syntax.specs.Shown.{full_component_decl, full_instance_decl, shown_alias, shown_component_decl, shown_instance_decl, shown_type}
+use Rattle.smith_syntax.specs.Shown.{shown_type}
+use Rattle.smith_syntax.specs.ShownDecls.{full_component_decl, full_instance_decl, shown_alias, shown_component_decl, shown_instance_decl}
 use Rattle.smith_syntax.proofs.Shown.{alias_of_core_type, alias_of_type, shown_component_is, shown_instance_is}
 
 -- Declarations in order are written as a list of them, where `all` writes one after another by `one`.

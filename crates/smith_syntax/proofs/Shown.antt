@@ -19,7 +19,8 @@ use Rattle.smith_syntax.specs.declared.func.FuncType.{FuncType}
 use Rattle.smith_syntax.specs.declared.types.DefinedType.{DefinedType}
 use Rattle.smith_syntax.specs.Entries.{component_type, core_type_alias, core_type_decl, defined, export_decl, function, import_decl, in_order, instance_type}
 use Rattle.smith_syntax.specs.Entries.{keeps_core_type, keeps_functions, keeps_type, plain, plain_decls, type_alias, type_decl}
-use Rattle.smith_syntax.specs.Shown.{full_alias, full_component_decl, full_instance_decl, full_type, kept_core, shown_core, shown_defined, shown_type}
+use Rattle.smith_syntax.specs.Shown.{full_type, kept_core, shown_core, shown_defined, shown_type}
+use Rattle.smith_syntax.specs.ShownDecls.{full_alias, full_component_decl, full_instance_decl}
 use Rattle.smith_syntax.specs.Shown.{shown_url}
 
 -- types with URLs and with what their aliases keep

@@ -13,7 +13,8 @@ use Rattle.smith_format.proofs.Piece.{assoc}
 use Rattle.smith_format.proofs.Many.{many-map}
 use Rattle.smith_syntax.specs.Entries.{Signature, EntryOf, defined, function, component_type, instance_type, plain}
 use Rattle.smith_syntax.specs.Grammar.{labelvaltype, resultlist, functype}
-use Rattle.smith_syntax.specs.Shown.{full_type, shown_type, is_of_signature, has_signature}
+use Rattle.smith_syntax.specs.Shown.{full_type, shown_type}
+use Rattle.smith_syntax.specs.HasSignature.{is_of_signature, has_signature}
 use Rattle.smith_syntax.specs.Signature.{named, signature}
 use Rattle.smith_syntax.specs.SameSignature.{same_field, field_input, signature_input, same_signature_Decides}
 use Rattle.smith_syntax.specs.contracts.types.ComponentValTypeHash.TheImpl.{ghosts as val_hash}

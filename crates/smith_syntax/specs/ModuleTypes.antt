@@ -91,13 +91,13 @@ abbrev pub names_from : List ℕ → List ModuleDecl → List (List ℕ)
 names_from from ds = map (λ i. i.1) (filter (λ i. bytes_eq i.0 from) (flat_map module_import_of ds))
 
 -- the names that are exported
-abbrev pub export_names : List ModuleDecl → List (List ℕ)
-export_names ds = map (λ x. x.0) (flat_map module_export_of ds)
+abbrev pub module_export_names : List ModuleDecl → List (List ℕ)
+module_export_names ds = map (λ x. x.0) (flat_map module_export_of ds)
 
 -- No name is imported twice from a module, and none is exported twice.
 pub record HasNewNames (ds : List ModuleDecl) : Type 0 where
   pub imported : (from : List ℕ) → IsDistinct bytes_eq (names_from from ds)
-  pub exported : IsDistinct bytes_eq (export_names ds)
+  pub exported : IsDistinct bytes_eq (module_export_names ds)
 
 -- Has it no results, as the type of a tag has none?
 abbrev pub is_tag_type : Function → Bool

@@ -1,5 +1,5 @@
 -- Scopes: what types stand where (Explainer.md, index spaces).
-use Rattle.std.specs.Prelude.{ℕ, ◌+◌, Bool, true, false, List, [], ◌∷◌, ◌++◌, Option, Some, None, slice_get, if◌then◌else◌}
+use Rattle.std.specs.Prelude.{ℕ, Bool, true, false, List, [], ◌∷◌, ◌++◌, Option, Some, None, slice_get}
 use Rattle.std.specs.Option.{option_to_list}
 use Rattle.smith_syntax.specs.Entries.{Entry, defined, function, component_type, instance_type, CoreEntry, core_func, core_module}
 use Rattle.smith_syntax.specs.Entries.{DeclOf, core_type_decl, type_decl, type_alias, core_type_alias, import_decl, export_decl, plain}
@@ -35,15 +35,6 @@ module _ {T C : Type 0} where
   abbrev pub with_core_type : ScopeOf T C → C → ScopeOf T C
   with_core_type s t = record { types = s.types; core_types = s.core_types ++ t ∷ [] }
 
--- the innermost scope, and those around it
-abbrev pub own_of : List Scope → Scope
-own_of [] = empty_scope
-own_of (own ∷ outer) = own
-
-abbrev pub outer_of : List Scope → List Scope
-outer_of [] = []
-outer_of (own ∷ outer) = outer
-
 -- Is it a type of values, as against one of functions, components or instances?
 abbrev pub is_defined : Entry → Bool
 is_defined (defined t) = true
@@ -72,24 +63,10 @@ is_instance (function s) = false
 is_instance (component_type ds) = false
 is_instance (instance_type ds) = true
 
--- Is it a core function type?
-abbrev pub is_core_func : CoreEntry → Bool
-is_core_func (core_func f) = true
-is_core_func (core_module ds) = false
-
 -- Is it the type of a core module?
 abbrev pub is_core_module : CoreEntry → Bool
 is_core_module (core_func f) = false
 is_core_module (core_module ds) = true
-
--- the indexes of the items that pass, ascending, where the first item has the index i
-abbrev pub places : {A : Type 0} → (A → Bool) → ℕ → List A → List ℕ
-places test i [] = []
-places test i (x ∷ xs) = if test x then i ∷ places test (i + 1) xs else places test (i + 1) xs
-
--- the indexes of the defined types, ascending
-abbrev pub defined_places : Scope → List ℕ
-defined_places s = places is_defined 0 s.types
 
 -- what stands in the scope of that count, where the scopes are given innermost first and 0 is the first
 abbrev pub in_scope : {A : Type 0} → (Scope → List A) → List Scope → ℕ → ℕ → Option A

@@ -1,5 +1,5 @@
 -- The types of the program as plain trees.
-use Rattle.std.specs.Prelude.{ℕ, Bool, false, List, [], ◌∷◌, Option, Some, None, map, String, string_bytes}
+use Rattle.std.specs.Prelude.{ℕ, List, [], ◌∷◌, Option, Some, None, map, String, string_bytes}
 use Rattle.std.specs.List.{flat_map}
 use Rattle.std.specs.declared.alloc.Global.{Global}
 use Rattle.std.specs.declared.rc.Rc.{Rc}
@@ -13,7 +13,6 @@ use Rattle.smith_syntax.specs.Entries.{keeps_type, keeps_core_type, keeps_functi
 use Rattle.smith_syntax.specs.Entries.{Signature, Entry, ImportEntry, Decl, defined, function, CoreEntry, core_func, core_module, ModuleDecl, declares, imports}
 use Rattle.smith_syntax.specs.Entries.{aliases, exports}
 use Rattle.smith_syntax.specs.Signature.{named}
-use Rattle.smith_syntax.specs.SameSignature.{same_signature}
 use Rattle.smith_syntax.specs.declared.core_types.CoreType.{CoreType}
 use Rattle.smith_syntax.specs.declared.core_types.CoreType.TheVariants as core
 use Rattle.smith_syntax.specs.declared.core_types.ModuleTypeDef.{ModuleTypeDef}
@@ -28,7 +27,7 @@ use Rattle.smith_syntax.specs.declared.deftype.Import.{Import}
 use Rattle.smith_syntax.specs.declared.deftype.ComponentTypeDef.TheOpen as layer
 use Rattle.smith_syntax.specs.declared.deftype.ComponentTypeDef.TheOpen.{ComponentTypeDef-F, DefType-F, InstanceTypeDecl-F, OuterAliasKind-F, Alias-F}
 use Rattle.smith_syntax.specs.declared.deftype.ComponentTypeDef.TheOpen.{ComponentType-F, InstanceType-F}
-use Rattle.smith_syntax.specs.declared.deftype.ComponentTypeDef.TheFolds.{fold-DefType, fold-ComponentTypeDef, fold-InstanceTypeDecl, fold-Alias}
+use Rattle.smith_syntax.specs.declared.deftype.ComponentTypeDef.TheFolds.{fold-DefType}
 
 abbrev pub shown_defined : DefinedType → DefValType
 shown_defined (value.Primitive p) = primitive_type p
@@ -111,32 +110,9 @@ abbrev pub full_type : DefType → FullEntry
 full_type = fold-DefType FullDecl FullEntry FullDecl (ℕ → ℕ → FullDecl) FullDecl FullDecls FullDecls component_decl_step type_step instance_decl_step kind_step
     alias_step component_step instance_step
 
-abbrev pub full_component_decl : ComponentTypeDef → FullDecl
-full_component_decl = fold-ComponentTypeDef FullDecl FullEntry FullDecl (ℕ → ℕ → FullDecl) FullDecl FullDecls FullDecls component_decl_step type_step
-    instance_decl_step kind_step alias_step component_step instance_step
-
-abbrev pub full_instance_decl : InstanceTypeDecl → FullDecl
-full_instance_decl = fold-InstanceTypeDecl FullDecl FullEntry FullDecl (ℕ → ℕ → FullDecl) FullDecl FullDecls FullDecls component_decl_step type_step
-    instance_decl_step kind_step alias_step component_step instance_step
-
-abbrev pub full_alias : Alias → FullDecl
-full_alias = fold-Alias FullDecl FullEntry FullDecl (ℕ → ℕ → FullDecl) FullDecl FullDecls FullDecls component_decl_step type_step instance_decl_step kind_step
-    alias_step component_step instance_step
-
 -- A type as a plain tree: URLs and what is kept are left out.
 abbrev pub shown_type : DefType → Entry
 shown_type t = plain (full_type t)
-
--- what is declared, as plain trees
-
-abbrev pub shown_component_decl : ComponentTypeDef → Decl
-shown_component_decl d = plain_decl (full_component_decl d)
-
-abbrev pub shown_instance_decl : InstanceTypeDecl → Decl
-shown_instance_decl d = plain_decl (full_instance_decl d)
-
-abbrev pub shown_alias : Alias → Decl
-shown_alias a = plain_decl (full_alias a)
 
 -- what a shared type shows
 abbrev pub shown_shared : Rc DefType Global → Entry
@@ -145,13 +121,3 @@ shown_shared t = shown_type t.value
 -- an import of a component: its URL is left out
 abbrev pub import_shown : Import → ImportEntry
 import_shown i = record { name = string_bytes i.name; to = i.ty }
-
--- Is it a function type with that signature?
-abbrev pub is_of_signature : {N K : Type 0} → Signature → EntryOf N K → Bool
-is_of_signature s (defined t) = false
-is_of_signature s (function f) = same_signature s f
-is_of_signature s (component_type ds) = false
-is_of_signature s (instance_type ds) = false
-
-abbrev pub has_signature : Signature → DefType → Bool
-has_signature s t = is_of_signature s (full_type t)

@@ -119,7 +119,7 @@ impl Drop for InstanceType {
 impl From<InstanceTypeDecl> for ComponentTypeDef {
     ghost use Rattle.std.specs.Prelude.{◌≡◌};
     ghost use Rattle.smith_syntax.specs.SameDecl.{SameDecl};
-    ghost use Rattle.smith_syntax.specs.Shown.{full_component_decl, full_instance_decl};
+    ghost use Rattle.smith_syntax.specs.ShownDecls.{full_component_decl, full_instance_decl};
 
     /// The same declaration in a component type.
     fn from(decl: InstanceTypeDecl) -> ComponentTypeDef

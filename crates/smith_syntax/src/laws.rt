@@ -4,7 +4,8 @@ ghost use Rattle.std.specs.Prelude.{◌≡◌, ◌↔◌, ℕ, true, List, None}
 ghost use Rattle.smith_format.specs.Clear.{IsClear};
 ghost use Rattle.smith_syntax.specs.Entries.{Signature, Entry, function, CoreEntry};
 ghost use Rattle.smith_syntax.specs.Grammar.{valtype, maybe_valtype, entry, core_entry, named_extern};
-ghost use Rattle.smith_syntax.specs.Shown.{shown_type, has_signature};
+ghost use Rattle.smith_syntax.specs.Shown.{shown_type};
+ghost use Rattle.smith_syntax.specs.HasSignature.{has_signature};
 ghost use Rattle.smith_syntax.specs.SameSignature.{same_signature};
 ghost use Rattle.smith_syntax.specs.TooLong.{EntryTooLong, CoreEntryTooLong, ExternTooLong};
 ghost use Rattle.smith_syntax.specs.declared.deftype.ComponentTypeRef.{ComponentTypeRef};

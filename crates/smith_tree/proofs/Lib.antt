@@ -1,5 +1,6 @@
 pub mod Aliases
 pub mod Clear
+pub mod Depths
 pub mod Parts
 pub mod TooLong
 pub mod TypeNeeds

@@ -1,12 +1,12 @@
 -- What types need of fuel and what they take of it, how large they are, and where they may be declared.
 use Rattle.std.proofs.Common.{ℕ, zero, suc, ◌+◌, ◌≤◌, List, [], ◌∷◌, arith}
-use Rattle.std.specs.Prelude.{max}
+use Rattle.std.specs.Prelude.{◌<◌, max}
 use Rattle.smith_format.specs.declared.config.Config.{Config}
 use Rattle.smith_syntax.specs.Entries.{Entry, Decl, Decls, type_alias, core_type_alias, import_decl, export_decl, no_decls, then_decls}
 use Rattle.smith_syntax.specs.Entries.{CoreEntry, core_func, core_module, defined, function, component_type, instance_type, type_decl, core_type_decl}
 use Rattle.smith_syntax.specs.WellFormed.{size, decl_size, decls_size, defined_size, core_size}
 use Rattle.smith_tree.specs.CoreTypeNeeds.{core_cost, core_need}
-use Rattle.smith_tree.specs.TypeNeeds.{need_of, need, decl_need, decls_need, Nests, DeclNests, DeclsNest, declaring, decl_declaring, decls_declaring}
+use Rattle.smith_tree.specs.TypeNeeds.{need_of, need, decl_need, decls_need, declaring, decl_declaring, decls_declaring}
 use Rattle.smith_tree.specs.TypeNeeds.{cost, decl_cost, decls_cost}
 
 -- what a type takes it needs, but where it needs none
@@ -87,7 +87,27 @@ type_sizes (function s) = omega arith
 type_sizes (component_type ds) = omega (arith, decls_sizes ds, decls_costs ds)
 type_sizes (instance_type ds) = omega (arith, decls_sizes ds, decls_costs ds)
 
--- where types may be declared, by how deep they stand
+-- Where so many scopes are on the stack, a type is declared in a type only where one more may nest.
+abbrev mutual
+  pub Nests : Entry → Config → ℕ → Type 0
+  Nests (defined t) config scopes = Unit {0}
+  Nests (function s) config scopes = Unit {0}
+  Nests (component_type ds) config scopes = DeclsNest ds config (suc scopes)
+  Nests (instance_type ds) config scopes = DeclsNest ds config (suc scopes)
+
+  pub DeclNests : Decl → Config → ℕ → Type 0
+  DeclNests (core_type_decl t k) config scopes = Unit {0}
+  DeclNests (type_decl e) config scopes = (scopes < config.max_nesting_depth) × Nests e config scopes
+  DeclNests (type_alias count i k) config scopes = Unit {0}
+  DeclNests (core_type_alias count i k) config scopes = Unit {0}
+  DeclNests (import_decl name n r) config scopes = Unit {0}
+  DeclNests (export_decl name n r) config scopes = Unit {0}
+
+  pub DeclsNest : Decls → Config → ℕ → Type 0
+  DeclsNest no_decls config scopes = Unit {0}
+  DeclsNest (then_decls d ds) config scopes = DeclNests d config scopes × DeclsNest ds config scopes
+
+-- the same by how deep they are declared
 
 mutual
   pub declared_within : (e : Entry) (config : Config) (scopes : ℕ) → Nests e config scopes → scopes + declaring e ≤ max scopes config.max_nesting_depth

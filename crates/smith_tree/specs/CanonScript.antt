@@ -2,8 +2,8 @@
 use Rattle.std.specs.Prelude.{ℕ, List, [], ◌++◌, length, Option, Some, None, nat_eq, slice_get}
 use Rattle.smith_input.specs.Script.{pick, script_among, script_loop}
 use Rattle.smith_syntax.specs.Entries.{Entry, defined, function, component_type, instance_type}
-use Rattle.smith_syntax.specs.Scope.{places}
-use Rattle.smith_syntax.specs.Shown.{is_of_signature}
+use Rattle.smith_syntax.specs.Places.{places}
+use Rattle.smith_syntax.specs.HasSignature.{is_of_signature}
 use Rattle.smith_tree.specs.Offers.{canon_items, scalar_functions}
 use Rattle.smith_tree.specs.Tree.{Canon, lift, lower}
 use Rattle.smith_tree.specs.Spaces.{Spaces, after_canon}

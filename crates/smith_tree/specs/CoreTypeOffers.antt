@@ -7,7 +7,8 @@ use Rattle.smith_format.specs.declared.types.ExportKind.{ExportKind}
 use Rattle.smith_format.specs.declared.types.ExportKind.TheVariants as kind
 use Rattle.smith_syntax.specs.Entries.{CoreEntry, ModuleDecl}
 use Rattle.smith_syntax.specs.ModuleTypes.{adds, count_of_kind, declared_in, is_tag_type}
-use Rattle.smith_syntax.specs.Scope.{Scope, is_core_func, places}
+use Rattle.smith_syntax.specs.Scope.{Scope}
+use Rattle.smith_syntax.specs.Places.{is_core_func, places}
 use Rattle.smith_tree.specs.declared.choices.ModuleItem.{ModuleItem}
 use Rattle.smith_tree.specs.declared.choices.ModuleItem.TheVariants as item
 

@@ -2,6 +2,8 @@ pub mod CanonScript
 pub mod CoreTypeNeeds
 pub mod CoreTypeOffers
 pub mod CoreTypeScript
+pub mod Depths
+pub mod Functions
 pub mod Generates
 pub mod Grammar
 pub mod Limits

@@ -8,10 +8,10 @@ use Rattle.smith_syntax.specs.TypeLimits.{EntryLimits}
 use Rattle.smith_tree.specs.CoreTypeNeeds.{core_need}
 use Rattle.smith_tree.specs.TypeNeeds.{need}
 use Rattle.smith_tree.specs.Spaces.{core_types_of, types_of}
-use Rattle.smith_tree.specs.Tree.{Tree, own, inside, module_count, component_count, instance_count, depth, scope_depth, names_in}
+use Rattle.smith_tree.specs.Tree.{Tree, own, inside, module_count, component_count, instance_count, depth, names_in}
 use Rattle.smith_tree.specs.Tree.{declared_depth, exports_of, function_count, imports_of}
 
--- how deep components may stand, the root at 1
+-- how deep components may be, the root at 1
 abbrev pub max_depth : Config → ℕ
 max_depth config = max config.max_nesting_depth 1
 
@@ -26,15 +26,13 @@ pub record OwnLimits (config : Config) (tree : Tree) : Type 0 where
   pub within_core_types : AllByRecursion (CoreLimits config) (core_types_of tree)
   pub names : AllByRecursion (λ name. length name ≤ 1000) (own names_in tree)
 
--- The most that the whole tree has. The scopes of component types and instance types may stand one deeper than components, and what
--- they declare as types may not.
+-- The most that the whole tree has. Types that component types and instance types declare are no deeper than components.
 pub record Maxima (config : Config) (tree : Tree) : Type 0 where
   pub each : AllByRecursion (OwnLimits config) (tree ∷ inside tree)
   pub modules : module_count tree ≤ config.max_modules
   pub components : component_count tree ≤ config.max_components
   pub instances : instance_count tree ≤ config.max_instances
   pub depth : depth tree ≤ max_depth config
-  pub scopes : scope_depth tree ≤ max_depth config + 1
   pub declared : declared_depth tree ≤ max_depth config
 
 -- the least that each component has, when it is finished

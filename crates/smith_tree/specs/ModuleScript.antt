@@ -17,9 +17,10 @@ use Rattle.smith_format.specs.declared.types.EntityType.TheVariants.{Func, Table
 use Rattle.smith_format.specs.declared.types.RefType.{RefType}
 use Rattle.smith_format.specs.declared.types.RefType.TheVariants.{FuncRef, ExternRef}
 use Rattle.smith_syntax.specs.Entries.{ModuleDecl, imports, declares, aliases, exports}
-use Rattle.smith_syntax.specs.ModuleTypes.{export_names, names_from}
+use Rattle.smith_syntax.specs.ModuleTypes.{module_export_names, names_from}
 use Rattle.smith_syntax.specs.ModuleTypes.{after_memory, after_realloc, after_front, entities_of, is_tag_type}
-use Rattle.smith_syntax.specs.Scope.{Scope, is_core_func, places}
+use Rattle.smith_syntax.specs.Scope.{Scope}
+use Rattle.smith_syntax.specs.Places.{is_core_func, places}
 use Rattle.smith_tree.specs.CoreTypeOffers.{Declared, alias_choices, allows_function, allows_type, entity_kinds, indexes, module_items, undeclared, with_decl}
 use Rattle.smith_tree.specs.CoreTypeOffers.{with_front}
 use Rattle.smith_tree.specs.contracts.choices.ModuleItemPartialEq.TheImpl.{ghosts as items}
@@ -34,7 +35,7 @@ script_element config t = if config.reference_types_enabled then script_among re
 abbrev pub script_bit : Bool → List ℕ
 script_bit b = if b then 1 ∷ [] else 0 ∷ []
 
--- an entity behind the choice of its kind
+-- an entity after the choice of its kind
 abbrev pub script_entity_of : Config → Declared → EntityType → List ℕ
 script_entity_of config s (Func i) = script_among nat_eq (indexes s.own) i
 script_entity_of config s (Table t) = script_element config t.element_type ++ script_limits t.minimum t.maximum
@@ -55,13 +56,13 @@ alias_place around (suc n) i = rank_of nat_eq (places is_core_func 0 around.core
 abbrev pub script_item : Config → Scope → Declared → ModuleItem → List ℕ
 script_item config around s i = script_among items.eq (module_items config around s) i
 
--- a declaration behind those so far: its sort, and then its names and what it is of
+-- a declaration after those so far: its sort, and then its names and what it is of
 abbrev pub script_decl : Config → Scope → Declared → ModuleDecl → List ℕ
 script_decl config around s (imports from name e) =
     script_item config around s item.Import
     ++ (script_text 100 from ++ (script_new_text 100 (length (names_from from s.decls)) name ++ script_entity config s e))
 script_decl config around s (exports name e) =
-    script_item config around s item.Export ++ (script_new_text 100 (length (export_names s.decls)) name ++ script_entity config s e)
+    script_item config around s item.Export ++ (script_new_text 100 (length (module_export_names s.decls)) name ++ script_entity config s e)
 script_decl config around s (declares f) = script_item config around s item.Type ++ core.script_function (configured config) (max_results config) f
 script_decl config around s (aliases count i) =
     script_item config around s item.Alias ++ pick (length (alias_choices around s)) (alias_place around count i)
@@ -78,7 +79,7 @@ script_asked (Memory m) = script_limits m.minimum m.maximum
 script_asked (Global g) = []
 script_asked (Tag t) = []
 
--- A line of what the canonical ABI asks, behind which these declarations stand: where it stands in front of them it is taken, and
+-- A line of what the canonical ABI asks, after which these declarations stand: where it stands in front of them it is taken, and
 -- else it is declined where it is allowed.
 abbrev pub script_line : Bool → List ModuleDecl → List ModuleDecl → List ℕ
 script_line may ds behind =
@@ -92,14 +93,14 @@ front_before fuel ds behind = with_front (undeclared fuel) (in_front ds behind)
 abbrev pub may_declare : Config → Declared → Bool
 may_declare config s = allows_function config s && allows_type config s
 
--- what the canonical ABI asks, in its three lines, and these declarations behind each
+-- what the canonical ABI asks, in its three lines, and these declarations after each
 abbrev pub script_front : Config → ℕ → List ModuleDecl → List ModuleDecl → List ModuleDecl → List ModuleDecl → List ℕ
 script_front config fuel ds behind_memory behind_realloc behind_free =
     script_line (nat_lt 0 config.max_memories) ds behind_memory
     ++ (script_line (may_declare config (front_before fuel ds behind_memory)) behind_memory behind_realloc
     ++ script_line (may_declare config (front_before fuel ds behind_realloc)) behind_realloc behind_free)
 
--- a module type: what the canonical ABI asks, and then the declarations behind it
+-- a module type: what the canonical ABI asks, and then the declarations after it
 abbrev pub script_module : Config → Scope → ℕ → List ModuleDecl → List ℕ
 script_module config around fuel ds =
     script_front config fuel ds (after_memory ds) (after_realloc (after_memory ds)) (after_front ds)

@@ -4,7 +4,7 @@ use Rattle.smith_input.specs.Offers.{offers_of}
 use Rattle.smith_format.specs.declared.config.Config.{Config}
 use Rattle.smith_syntax.specs.Entries.{Entry, defined, function, component_type, instance_type, ImportEntry}
 use Rattle.smith_syntax.specs.Flat.{is_scalar}
-use Rattle.smith_syntax.specs.Scope.{places}
+use Rattle.smith_syntax.specs.Places.{places}
 use Rattle.smith_tree.specs.TypeOffers.{ref_kinds}
 use Rattle.smith_tree.specs.declared.choices.RefKind.{RefKind}
 use Rattle.smith_tree.specs.declared.totals.RefTotals.{RefTotals}

@@ -1,4 +1,4 @@
--- Which components can be read, and which come: each name comes behind those before it, core modules stand for generated ones, and export
+-- Which components can be read, and which come: each name comes after those before it, core modules stand for generated ones, and export
 -- sections are there only where there may be exports.
 use Rattle.std.specs.Prelude.{◌≡◌, ℕ, ◌<◌, List}
 use Rattle.std.specs.List.{AllByRecursion}
@@ -19,7 +19,7 @@ use Rattle.smith_tree.specs.WellFormed.{WellFormed, export_names, import_names}
 abbrev pub StandsForModule : Config → List ℕ → Type 0
 StandsForModule config text = (s : StandIn) × IsStandIn config s × (text ≡ bytes_of (stand_in_text s))
 
--- Each part can be read behind those before it.
+-- Each part can be read after those before it.
 abbrev mutual
   pub IsReadableRest : Config → Tree → Tree → Type 0
   IsReadableRest config ends before = Unit {0}

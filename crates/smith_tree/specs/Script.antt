@@ -8,7 +8,8 @@ use Rattle.smith_syntax.specs.Entries.{Entry, CoreEntry, ImportEntry}
 use Rattle.smith_syntax.specs.Scope.{Scope, with_type, with_core_type}
 use Rattle.smith_tree.specs.CoreTypeScript.{script_core}
 use Rattle.smith_tree.specs.TypeScript.{script_type, script_ref, script_extern}
-use Rattle.smith_tree.specs.Spaces.{core_types_of, functions_of, spaces_of, types_of}
+use Rattle.smith_tree.specs.Spaces.{core_types_of, spaces_of, types_of}
+use Rattle.smith_tree.specs.Functions.{functions_of}
 use Rattle.smith_tree.specs.Tree.{Tree, ends, first, Part, custom, core_module, core_types, component, types, canons, imports, exports, add}
 use Rattle.smith_tree.specs.Tree.{ExportEntry, exports_of, function_count, imports_of}
 use Rattle.smith_tree.specs.CanonScript.{script_canons}

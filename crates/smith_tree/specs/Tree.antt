@@ -2,7 +2,6 @@
 use Rattle.std.specs.Prelude.{ℕ, ◌+◌, List, [], ◌∷◌, ◌++◌, length, max}
 use Rattle.std.specs.List.{flat_map}
 use Rattle.smith_syntax.specs.Entries.{Entry, CoreEntry, ImportEntry}
-use Rattle.smith_syntax.specs.TypeLimits.{nesting}
 use Rattle.smith_syntax.specs.declared.deftype.ComponentTypeRef.{ComponentTypeRef}
 use Rattle.smith_syntax.specs.declared.deftype.ComponentTypeRef.TheVariants as to
 use Rattle.smith_tree.specs.TypeNeeds.{declaring}
@@ -42,11 +41,6 @@ tree_of (p ∷ ps) = first p (tree_of ps)
 abbrev pub add : Tree → Part → Tree
 add ends p = first p ends
 add (first q t) p = first q (add t p)
-
--- the parts of one tree after those of another
-abbrev pub join : Tree → Tree → Tree
-join ends u = u
-join (first p t) u = first p (join t u)
 
 -- the parts of a tree, in order
 abbrev pub parts_of : Tree → List Part
@@ -208,24 +202,11 @@ no_depth ts = 0
 abbrev pub depth : Tree → ℕ
 depth t = depth_by no_depth t
 
-abbrev pub depth_in : Part → ℕ
-depth_in p = depth_by_in no_depth p
-
 -- the greatest number that an entry has
 abbrev pub most : (Entry → ℕ) → List Entry → ℕ
 most number [] = 0
 most number (t ∷ ts) = max (number t) (most number ts)
 
--- how deep scopes stand: those of components, and those that component types and instance types open
-abbrev pub scope_depth : Tree → ℕ
-scope_depth t = depth_by (most nesting) t
-
-abbrev pub scope_depth_in : Part → ℕ
-scope_depth_in p = depth_by_in (most nesting) p
-
 -- how deep components stand, and the types that component types and instance types declare, each one below the scope that declares it
 abbrev pub declared_depth : Tree → ℕ
 declared_depth t = depth_by (most declaring) t
-
-abbrev pub declared_depth_in : Part → ℕ
-declared_depth_in p = depth_by_in (most declaring) p

@@ -1,6 +1,5 @@
--- How much fuel a type takes, how much it needs to be read at all, and where types may be declared in it.
-use Rattle.std.specs.Prelude.{ℕ, suc, zero, ◌+◌, ◌<◌, max}
-use Rattle.smith_format.specs.declared.config.Config.{Config}
+-- How much fuel a type takes, how much it needs to be read at all, and how deep types are declared in it.
+use Rattle.std.specs.Prelude.{ℕ, suc, zero, ◌+◌, max}
 use Rattle.smith_tree.specs.CoreTypeNeeds.{core_cost, core_need}
 use Rattle.smith_syntax.specs.Entries.{Entry, defined, function, component_type, instance_type}
 use Rattle.smith_syntax.specs.Entries.{Decl, Decls, core_type_decl, type_decl, type_alias, core_type_alias, import_decl, export_decl, no_decls, then_decls}
@@ -50,26 +49,6 @@ abbrev mutual
   pub decls_need : Decls → ℕ
   decls_need no_decls = 0
   decls_need (then_decls d ds) = max 2 (max (decl_need d + 1) (decls_need ds + decl_cost d + 1))
-
--- Where so many scopes are on the stack, a type is declared in a type only where one more may nest.
-abbrev mutual
-  pub Nests : Entry → Config → ℕ → Type 0
-  Nests (defined t) config scopes = Unit {0}
-  Nests (function s) config scopes = Unit {0}
-  Nests (component_type ds) config scopes = DeclsNest ds config (suc scopes)
-  Nests (instance_type ds) config scopes = DeclsNest ds config (suc scopes)
-
-  pub DeclNests : Decl → Config → ℕ → Type 0
-  DeclNests (core_type_decl t k) config scopes = Unit {0}
-  DeclNests (type_decl e) config scopes = (scopes < config.max_nesting_depth) × Nests e config scopes
-  DeclNests (type_alias count i k) config scopes = Unit {0}
-  DeclNests (core_type_alias count i k) config scopes = Unit {0}
-  DeclNests (import_decl name n r) config scopes = Unit {0}
-  DeclNests (export_decl name n r) config scopes = Unit {0}
-
-  pub DeclsNest : Decls → Config → ℕ → Type 0
-  DeclsNest no_decls config scopes = Unit {0}
-  DeclsNest (then_decls d ds) config scopes = DeclNests d config scopes × DeclsNest ds config scopes
 
 -- How deep below the innermost scope there is those types stand that a type declares: each one below the scope in which it is declared.
 abbrev mutual

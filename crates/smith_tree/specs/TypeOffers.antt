@@ -6,7 +6,8 @@ use Rattle.smith_format.specs.declared.config.Config.{Config}
 use Rattle.smith_format.specs.declared.types.ValType.{ValType}
 use Rattle.smith_format.specs.declared.types.ValType.TheVariants.{I32, I64, F32, F64, V128, Ref}
 use Rattle.smith_syntax.specs.Entries.{FullDecl, type_alias, core_type_alias, keeps_type, keeps_core_type}
-use Rattle.smith_syntax.specs.Scope.{Scope, places, is_func, is_component, is_instance, is_core_module}
+use Rattle.smith_syntax.specs.Scope.{Scope, is_func, is_component, is_instance, is_core_module}
+use Rattle.smith_syntax.specs.Places.{places}
 use Rattle.smith_syntax.specs.declared.deftype.ComponentTypeRef.{ComponentTypeRef}
 use Rattle.smith_syntax.specs.declared.deftype.ComponentTypeRef.TheVariants as to
 use Rattle.smith_syntax.specs.declared.types.PrimitiveValType.{PrimitiveValType}

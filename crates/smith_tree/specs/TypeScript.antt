@@ -10,7 +10,8 @@ use Rattle.smith_syntax.specs.Entries.{DefValType, primitive_type, record_type, 
 use Rattle.smith_syntax.specs.Entries.{result_type, Field, Case, Signature, Entry, defined, function, component_type, instance_type}
 use Rattle.smith_syntax.specs.Entries.{Decl, Decls, core_type_decl, type_decl, type_alias, core_type_alias, import_decl, export_decl, no_decls}
 use Rattle.smith_syntax.specs.Entries.{then_decls}
-use Rattle.smith_syntax.specs.Scope.{Scope, empty_scope, defined_places, after_decl}
+use Rattle.smith_syntax.specs.Scope.{Scope, empty_scope, after_decl}
+use Rattle.smith_syntax.specs.Places.{defined_places}
 use Rattle.smith_syntax.specs.WellFormed.{import_of, export_of}
 use Rattle.smith_syntax.specs.declared.deftype.ComponentTypeRef.{ComponentTypeRef}
 use Rattle.smith_syntax.specs.declared.deftype.ComponentTypeRef.TheVariants as to
@@ -61,7 +62,7 @@ script_field own count f = script_label count f.0 ++ script_val own f.1
 abbrev pub script_case : Scope → ℕ → Case → List ℕ
 script_case own count c = script_label count c.0 ++ script_maybe own c.1
 
--- members, each of which has a script behind so many before it
+-- members, each of which has a script after so many before it
 abbrev pub script_members : {A : Type 0} → (ℕ → A → List ℕ) → ℕ → ℕ → List A → List ℕ
 script_members f min max xs = script_loop f (λ count x. count + 1) min max 0 0 xs
 
@@ -91,7 +92,7 @@ abbrev pub script_scalar : ComponentValType → List ℕ
 script_scalar (Primitive p) = elim (flat_primitive p) [ None ↦ [] | Some v ↦ script_among prims.eq (lifted v) p ]
 script_scalar (Indexed i) = []
 
--- parameters behind so many
+-- parameters after so many
 abbrev pub script_params : ℕ → List Field → List ℕ
 script_params count [] = []
 script_params count (f ∷ fs) = script_label count f.0 ++ (script_scalar f.1 ++ script_params (count + 1) fs)
@@ -124,7 +125,7 @@ abbrev pub script_ref : Config → Scope → RefTotals → Bool → Bool → Com
 script_ref config own totals for_import for_type_def r =
     script_among refs.eq (ref_kinds config own totals for_import for_type_def) (kind_in r) ++ script_among nat_eq (ref_places own (kind_in r)) (index_in r)
 
--- a name behind so many, and no URL
+-- a name after so many, and no URL
 abbrev pub script_extern : ℕ → List ℕ → List ℕ
 script_extern count name = script_label count name ++ 0 ∷ []
 
@@ -140,7 +141,7 @@ none_taken = record { imports = 0; exports = 0 }
 abbrev pub after_taken : Taken → Decl → Taken
 after_taken taken d = record { imports = taken.imports + length (import_of d); exports = taken.exports + length (export_of d) }
 
--- an outer alias: a choice of the scope, and of what stands in it, the core types behind the types
+-- an outer alias: a choice of the scope, and of what stands in it, the core types after the types
 abbrev pub script_entry : ℕ → (Scope → ℕ) → Option Scope → List ℕ
 script_entry count place None = []
 script_entry count place (Some s) = pick (length (aliases_of count s)) (place s)

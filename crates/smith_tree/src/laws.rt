@@ -1,10 +1,13 @@
 //! Laws of trees. Each function does nothing: its contract is the law.
 
-ghost use Rattle.std.specs.Prelude.{◌≡◌, ◌≤◌, ◌↔◌, ℕ, List, None};
+ghost use Rattle.std.specs.Prelude.{◌≡◌, ◌+◌, ◌≤◌, ◌↔◌, ℕ, List, None};
+ghost use Rattle.smith_format.specs.declared.config.Config.{Config};
 ghost use Rattle.smith_syntax.specs.Entries.{CoreEntry, Entry};
 ghost use Rattle.smith_syntax.specs.WellFormed.{core_size, size};
 ghost use Rattle.smith_tree.specs.CoreTypeNeeds.{core_need};
+ghost use Rattle.smith_tree.specs.Depths.{scope_depth};
 ghost use Rattle.smith_tree.specs.Grammar.{Spells, component_text};
+ghost use Rattle.smith_tree.specs.Limits.{Maxima, max_depth};
 ghost use Rattle.smith_tree.specs.TooLong.{TreeTooLong};
 ghost use Rattle.smith_tree.specs.Tree.{Tree};
 ghost use Rattle.smith_tree.specs.TypeNeeds.{need};
@@ -19,6 +22,11 @@ pub fn one_reading()
 /// limits numbers of 64 bits, as those of the program are.
 pub fn long_components_have_no_encoding()
     ensures { (t : Tree) → (component_text t ≡ None) ↔ TreeTooLong t }
+{}
+
+/// The scopes of component types and instance types are at most one deeper than components may be.
+pub fn scopes_are_within()
+    ensures { (config : Config) (tree : Tree) → Maxima config tree → scope_depth tree ≤ max_depth config + 1 }
 {}
 
 /// No type is larger than the fuel that it needs.

@@ -10,8 +10,10 @@ use Rattle.std.specs.Prelude.{nat_lt, Some, option_map, slice_get}
 use Rattle.smith_input.specs.Choices.{ReadsAmong}
 use Rattle.smith_input.specs.Reading.{Reads}
 use Rattle.smith_syntax.specs.Entries.{FullDecl, type_alias, core_type_alias, keeps_type, keeps_core_type}
-use Rattle.smith_syntax.specs.Scope.{Scope, empty_scope, with_type, with_types, with_core_type, with_core_types, own_of, outer_of, places, after_decl}
-use Rattle.smith_syntax.specs.Shown.{shown_type, shown_core, full_alias}
+use Rattle.smith_syntax.specs.Scope.{Scope, empty_scope, with_type, with_types, with_core_type, with_core_types, after_decl}
+use Rattle.smith_syntax.specs.Places.{own_of, outer_of, places}
+use Rattle.smith_syntax.specs.Shown.{shown_type, shown_core}
+use Rattle.smith_syntax.specs.ShownDecls.{full_alias}
 use Rattle.smith_syntax.specs.WellFormed.{FormedRef}
 use Rattle.smith_syntax.proofs.Shown.{alias_of_type, alias_of_core_type}
 use Rattle.smith_syntax.specs.declared.deftype.Alias.{Alias}

@@ -2,25 +2,29 @@
 -- that nest.
 use Rattle.std.proofs.Common.{ℕ, zero, suc, ◌+◌, ◌-◌, ◌≤◌, List, [], ◌∷◌, ◌++◌, length, arith, subst, sym}
 use Rattle.std.specs.Prelude.{max, ◌↔◌}
+use Rattle.smith_input.specs.Script.{AreBytes}
+use Rattle.smith_input.proofs.Utf8Bytes.{joined_bytes}
 use Rattle.smith_format.specs.declared.config.Config.{Config}
 use Rattle.smith_syntax.specs.Entries.{DefValType, primitive_type, record_type, variant_type, list_type, tuple_type, flags_type, enum_type, option_type}
 use Rattle.smith_syntax.specs.Entries.{result_type}
-use Rattle.smith_syntax.specs.Entries.{Entry, defined, function, component_type, instance_type}
+use Rattle.smith_syntax.specs.Entries.{Entry, defined, function, component_type, instance_type, plain}
 use Rattle.smith_syntax.specs.Entries.{Decl, Decls, core_type_decl, type_decl, type_alias, core_type_alias, import_decl, export_decl, no_decls, then_decls}
 use Rattle.smith_syntax.specs.Scope.{Scope, empty_scope, after_decl}
 use Rattle.smith_syntax.specs.TypeLimits.{EntryLimits}
 use Rattle.smith_syntax.specs.WellFormed.{FormedDefined, FormedEntry, FormedDeclaration, FormedDeclarations}
 use Rattle.smith_types.specs.Made.{MadeWith}
-use Rattle.smith_tree.specs.TypeNeeds.{need_of, need, decl_need, decls_need, Nests, DeclNests, DeclsNest}
+use Rattle.smith_tree.specs.TypeNeeds.{need_of, need, decl_need, decls_need, declaring}
+use Rattle.smith_tree.proofs.TypeNeeds.{Nests, DeclNests, DeclsNest, declared_within, nests_within}
 use Rattle.smith_tree.specs.TypeNeeds.{decl_cost}
 use Rattle.smith_tree.specs.ReadableTypes.{IsReadableType}
-use Rattle.smith_types.specs.Sayable.{Fit, Lasts, LastsDecl, LastsDecls, LastsDefined}
+use Rattle.smith_types.specs.Sayable.{Fit, IsSayable, Lasts, LastsDecl, LastsDecls, LastsDefined}
 use Rattle.smith_tree.specs.TypeScript.{script_type}
 use Rattle.smith_types.proofs.MadeFormed.{made_formed}
 use Rattle.smith_types.proofs.MadeReadable.{made_readable}
 use Rattle.smith_types.proofs.MadeTypes.{made_limits}
 use Rattle.smith_types.proofs.Needs.{made_needs}
 use Rattle.smith_types.proofs.ScopedScript.{type_read}
+use Rattle.smith_types.proofs.ScriptBytes.{type_bytes}
 
 at_least : (n fuel : ℕ) → 1 ≤ n → need_of n ≤ fuel → n + 2 ≤ fuel
 at_least zero fuel h l = absurd (omega arith)
@@ -75,12 +79,14 @@ mutual
 -- What is asked of a type that is to be read with so much fuel where these scopes stand.
 abbrev Asked : Config → Scope → List Scope → ℕ → Entry → Type 0
 Asked config own outer fuel e =
-    FormedEntry e own outer × EntryLimits config e × IsReadableType e × (need e ≤ fuel) × Nests e config (length (own ∷ outer))
+    FormedEntry e own outer × EntryLimits config e × IsReadableType e × (need e ≤ fuel)
+    × (length (own ∷ outer) + declaring e ≤ max (length (own ∷ outer)) config.max_nesting_depth)
 
 pub exact : (config : Config) (own : Scope) (outer : List Scope) (fuel : ℕ) (e : Entry) → config.max_nesting_depth ≤ 1000 → Fit (own ∷ outer)
-    → length (own ∷ outer) ≤ 1000 → ((bytes rest : List ℕ) × MadeWith config own outer fuel bytes e rest) ↔ Asked config own outer fuel e
+    → length (own ∷ outer) ≤ 1000
+    → ((bytes rest : List ℕ) × AreBytes bytes × MadeWith config own outer fuel bytes e rest) ↔ Asked config own outer fuel e
 exact config own outer fuel e deep fit few = (
-  λ (bytes, rest, made).
+  λ (bytes, rest, all, made).
       let m = made.made in
       let r = made_needs config own outer bytes fuel made.full rest made.left m in
       subst (Asked config own outer fuel) (sym made.shown) (
@@ -88,18 +94,20 @@ exact config own outer fuel e deep fit few = (
         made_limits config own outer bytes fuel made.full rest made.left m,
         made_readable config own outer bytes fuel made.full rest made.left m,
         r.enough,
-        r.nests,
+        declared_within (plain made.full) config (length (own ∷ outer)) r.nests,
       ),
-  λ (f, m, names, n, x). (
-    script_type e config fuel own outer ++ [],
-    [],
-    type_read config deep own outer fuel e [] (record {
-      formed = f;
-      limits = m;
-      readable = names;
-      lasts = lasts e config own outer (length (own ∷ outer)) fuel f x n;
-      fit = fit;
-      shallow = few;
-    }),
-  ),
+  λ (f, m, names, n, x).
+      let sayable : IsSayable config own outer fuel e = record {
+        formed = f;
+        limits = m;
+        readable = names;
+        lasts = lasts e config own outer (length (own ∷ outer)) fuel f (nests_within e config (length (own ∷ outer)) x) n;
+        fit = fit;
+        shallow = few;
+      } in (
+        script_type e config fuel own outer ++ [],
+        [],
+        joined_bytes (script_type e config fuel own outer) [] (type_bytes config own outer fuel e deep sayable) tt,
+        type_read config deep own outer fuel e [] sayable,
+      ),
 )

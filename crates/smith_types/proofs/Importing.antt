@@ -6,7 +6,8 @@ use Rattle.smith_format.specs.declared.config.Config.{Config}
 use Rattle.smith_input.specs.Reading.{Reads}
 use Rattle.smith_input.specs.Offers.{offers_of}
 use Rattle.smith_syntax.specs.Entries.{FullDecl, import_decl, export_decl}
-use Rattle.smith_syntax.specs.Scope.{Scope, places, is_core_module}
+use Rattle.smith_syntax.specs.Scope.{Scope, is_core_module}
+use Rattle.smith_syntax.specs.Places.{places}
 use Rattle.smith_syntax.specs.declared.deftype.ComponentTypeRef.{ComponentTypeRef}
 use Rattle.smith_types.specs.Declarations.{NamedExtern, NoImportDecl, not_asked, none_fits, ReadsImportDecl, ReadsExportDecl, ReadsNamedExtern}
 use Rattle.smith_tree.specs.TypeOffers.{has_reference, ref_kinds, ref_offers, has_place, uncounted}

@@ -14,7 +14,8 @@ use Rattle.smith_syntax.specs.Entries.{result_type, Signature, function}
 use Rattle.smith_tree.specs.TypeOffers.{primitives}
 use Rattle.smith_types.specs.Made.{ReadsVal, only_primitive, either_primitive, either_index, ReadsMaybe, absent, present, or_bool, MadeMembers, MadeAs}
 use Rattle.smith_types.specs.Made.{MadeDefined, ReadsResult, MadeFunction}
-use Rattle.smith_syntax.specs.Scope.{Scope, defined_places, is_defined}
+use Rattle.smith_syntax.specs.Scope.{Scope, is_defined}
+use Rattle.smith_syntax.specs.Places.{defined_places}
 use Rattle.smith_syntax.specs.WellFormed.{FormedVal, FormedMaybe, FormedDefined, FormedEntry, defined_size, size}
 use Rattle.smith_tree.specs.declared.choices.DefinedKind.{DefinedKind}
 use Rattle.smith_tree.specs.declared.choices.DefinedKind.TheVariants as kind

@@ -8,8 +8,10 @@ use Rattle.smith_input.proofs.Choices.{among_tail}
 use Rattle.smith_input.proofs.Reading.{tail_trans, more_tail, more_within}
 use Rattle.smith_format.specs.declared.config.Config.{Config}
 use Rattle.smith_syntax.specs.Entries.{FullEntry, FullDecl, FullDecls, plain, plain_decl, plain_decls, decl_count}
-use Rattle.smith_syntax.specs.Scope.{Scope, own_of, outer_of}
-use Rattle.smith_syntax.specs.TypeLimits.{EntryLimits, DeclLimits, DeclsLimits, nesting, decl_nesting, decls_nesting}
+use Rattle.smith_syntax.specs.Scope.{Scope}
+use Rattle.smith_syntax.specs.Places.{own_of, outer_of}
+use Rattle.smith_syntax.specs.TypeLimits.{EntryLimits, DeclLimits, DeclsLimits}
+use Rattle.smith_syntax.specs.Nesting.{nesting, decl_nesting, decls_nesting}
 use Rattle.smith_syntax.specs.WellFormed.{size, decl_size, decls_size}
 use Rattle.smith_types.specs.Declarations.{SoFar, nothing_so_far, after_one}
 use Rattle.smith_types.specs.Made.{Made, spent_type, made_defined, made_function, made_component, made_instance}

@@ -101,7 +101,7 @@ module _ {A : Type 0} {Member : List A → List ℕ → A → List ℕ → Type 
       → Named (map name xs)
   members_named b fuel xs rest left l = (members_kebab b fuel xs rest left l, new_distinct [] (map name xs) (members_new b fuel xs rest left l))
 
-  -- the names of members can be read, each behind those before it
+  -- the names of members can be read, each after those before it
   pub members_readable : (b : List ℕ) (fuel : ℕ) (xs : List A) (rest : List ℕ) (left : ℕ) → ReadsMembers Member min max b fuel xs rest left
       → AreReadableNames (map name xs)
   members_readable b fuel xs rest left l =

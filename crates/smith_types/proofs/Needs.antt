@@ -17,12 +17,12 @@ use Rattle.smith_types.specs.Made.{ReadsMembers, MadeMembers, MadeAs, MadeFuncti
 use Rattle.smith_types.specs.Made.{made_instance}
 use Rattle.smith_types.specs.Made.{MadeDeclaration, made_import, made_export, made_alias, made_core_type, made_type, MadeDeclarations, no_more_decls}
 use Rattle.smith_types.specs.Made.{spent_decls, one_decl}
-use Rattle.smith_tree.specs.TypeNeeds.{need_of, need, decl_need, decls_need, Nests, DeclNests, DeclsNest, declaring, decl_declaring, decls_declaring}
+use Rattle.smith_tree.specs.TypeNeeds.{need_of, need, decl_need, decls_need, declaring, decl_declaring, decls_declaring}
 use Rattle.smith_tree.specs.TypeNeeds.{cost, decl_cost, decls_cost}
 use Rattle.smith_tree.specs.declared.choices.DeclarationItem.TheVariants as item
 use Rattle.smith_tree.specs.declared.choices.DefinedKind.{DefinedKind}
 use Rattle.smith_tree.specs.declared.choices.DefinedKind.TheVariants as kind
-use Rattle.smith_tree.proofs.TypeNeeds.{decl_costs}
+use Rattle.smith_tree.proofs.TypeNeeds.{decl_costs, Nests, DeclNests, DeclsNest}
 use Rattle.smith_types.proofs.ReadsDeclarations.{alias_holds, item_offered}
 use Rattle.smith_types.proofs.Made.{defined_within, function_within}
 use Rattle.smith_types.proofs.Members.{members_size}

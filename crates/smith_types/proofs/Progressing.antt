@@ -17,7 +17,7 @@ use Rattle.smith_types.specs.declared.make.scoped.TypeBody.{TypeBody}
 use Rattle.smith_types.specs.declared.make.scoped.TypeBody.TheVariants.{Component, Instance}
 use Rattle.std.specs.declared.vec.Vec.{Vec}
 use Rattle.std.specs.declared.alloc.Global.{Global}
-use Rattle.smith_syntax.specs.Shown.{full_component_decl, full_instance_decl}
+use Rattle.smith_syntax.specs.ShownDecls.{full_component_decl, full_instance_decl}
 use Rattle.smith_syntax.specs.declared.deftype.ComponentTypeDef.{ComponentTypeDef}
 use Rattle.smith_syntax.specs.declared.deftype.InstanceTypeDecl.{InstanceTypeDecl}
 use Rattle.smith_input.proofs.Lists.{one_at_most}

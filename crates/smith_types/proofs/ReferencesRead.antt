@@ -20,7 +20,8 @@ use Rattle.smith_input.proofs.Picks.{reads-pick}
 use Rattle.smith_input.proofs.Reading.{flips_zero}
 use Rattle.smith_format.specs.declared.config.Config.{Config}
 use Rattle.smith_syntax.specs.Entries.{Entry, CoreEntry, FullDecl, type_alias, core_type_alias, keeps_type, keeps_core_type}
-use Rattle.smith_syntax.specs.Scope.{Scope, places, is_func, is_component, is_instance, is_core_module, in_scope, type_named, core_type_named}
+use Rattle.smith_syntax.specs.Scope.{Scope, is_func, is_component, is_instance, is_core_module, in_scope, type_named, core_type_named}
+use Rattle.smith_syntax.specs.Places.{places}
 use Rattle.smith_syntax.specs.WellFormed.{FormedRef, names}
 use Rattle.smith_syntax.specs.declared.deftype.ComponentTypeRef.{ComponentTypeRef}
 use Rattle.smith_syntax.specs.declared.deftype.ComponentTypeRef.TheVariants as to

@@ -114,7 +114,7 @@ export_allowed config own (to.Component i) = refl
 export_allowed config own (to.Instance i) = refl
 
 module _ (config : Config) where
-  -- what stands behind the choice of what is declared
+  -- what stands after the choice of what is declared
   declares_read : (importing : Bool) (outer : List Scope) (own : Scope) (i : DeclarationItem) (said rest : List ℕ) (P : List ℕ → Type 0)
       → P (script_no_import importing own ++ (script_declaration_item config outer own i ++ (said ++ rest)))
       → P ((script_declares config importing own outer i ++ said) ++ rest)

@@ -19,7 +19,8 @@ use Rattle.smith_syntax.specs.Entries.{result_type, Field, Case, Signature, defi
 use Rattle.smith_tree.specs.TypeOffers.{primitives, defined_kinds, type_kinds}
 use Rattle.smith_types.specs.Made.{ReadsVal, only_primitive, either_primitive, either_index, ReadsMaybe, absent, present, ReadsNamed, or_bool, MadeMembers}
 use Rattle.smith_types.specs.Made.{MadeAs, MadeDefined, MadeFunction, Made, spent_type, made_defined, made_function}
-use Rattle.smith_syntax.specs.Scope.{Scope, defined_places, is_defined}
+use Rattle.smith_syntax.specs.Scope.{Scope, is_defined}
+use Rattle.smith_syntax.specs.Places.{defined_places}
 use Rattle.smith_tree.specs.TypeScript.{script_primitive, script_val, script_maybe, script_label, script_field, script_case, script_members, script_kind}
 use Rattle.smith_tree.specs.TypeNeeds.{cost}
 use Rattle.smith_tree.specs.ReadableTypes.{AreReadableNames, IsReadableDefined}

@@ -19,7 +19,8 @@ use Rattle.smith_syntax.specs.Entries.{import_decl, export_decl, no_decls, then_
 use Rattle.smith_syntax.specs.Entries.{variant_type, list_type, tuple_type, flags_type, enum_type, option_type, result_type, Entry, defined, function}
 use Rattle.smith_syntax.specs.Entries.{component_type, Field, instance_type, Signature}
 use Rattle.smith_syntax.specs.Flat.{flat_primitive}
-use Rattle.smith_syntax.specs.Scope.{Scope, after_decl, defined_places, empty_scope, in_scope}
+use Rattle.smith_syntax.specs.Scope.{Scope, after_decl, empty_scope, in_scope}
+use Rattle.smith_syntax.specs.Places.{defined_places}
 use Rattle.smith_syntax.specs.Scope.{is_defined}
 use Rattle.smith_syntax.specs.TypeLimits.{EntryLimits, DeclLimits, DeclsLimits}
 use Rattle.smith_syntax.specs.WellFormed.{decl_exports, decl_imports, export_of, FormedDeclaration, FormedDeclarations, FormedDefined, FormedEntry}
@@ -71,7 +72,7 @@ small_members {A} f P one min max xs all = small_loop f (λ count x. count + 1) 
     each count [] all = tt
     each count (x ∷ xs) all = (one count x all.0, each (count + 1) xs all.1)
 
--- what stands behind names
+-- what stands after names
 small_named : {B : Type 0} (f : B → List ℕ) (P : B → Type 0) → ((x : B) → P x → Small (f x)) → (min max : ℕ) (xs : List (List ℕ × B))
     → AllByRecursion Kebab (map (λ x. x.0) xs) → AllByRecursion (λ x. P x.1) xs
     → Small (script_members (λ count x. script_label count x.0 ++ f x.1) min max xs)

@@ -30,7 +30,7 @@ nothing_so_far = record { own = empty_scope; imports = []; exports = [] }
 abbrev pub after_one : List Scope → SoFar → FullDecl → SoFar
 after_one outer s d = record { own = after_decl outer s.own d; imports = s.imports ++ import_of d; exports = s.exports ++ export_of d }
 
--- what stands in a URL behind the host
+-- what stands in a URL after the host
 abbrev pub url_name : Option (List ℕ) → List (List ℕ)
 url_name None = []
 url_name (Some url) = drop 20 url ∷ []

@@ -8,7 +8,8 @@ use Rattle.smith_input.specs.Reading.{Reads, Flips, More}
 use Rattle.smith_syntax.specs.Entries.{DefValType, primitive_type, record_type, variant_type, list_type, tuple_type, flags_type, enum_type, option_type}
 use Rattle.smith_syntax.specs.Entries.{result_type, Signature, Entry, FullEntry, FullDecl, FullDecls, defined, function, component_type, instance_type, plain}
 use Rattle.smith_syntax.specs.Entries.{core_type_decl, type_decl, no_decls, then_decls, keeps_functions, CoreEntry}
-use Rattle.smith_syntax.specs.Scope.{Scope, defined_places}
+use Rattle.smith_syntax.specs.Scope.{Scope}
+use Rattle.smith_syntax.specs.Places.{defined_places}
 use Rattle.smith_format.specs.declared.config.Config.{Config}
 use Rattle.smith_types.specs.Declarations.{SoFar, nothing_so_far, after_one, ReadsAlias, ReadsExportDecl, ReadsImportDecl, NoImportDecl}
 use Rattle.smith_tree.specs.TypeOffers.{declaration_items, primitives, defined_kinds, type_kinds}

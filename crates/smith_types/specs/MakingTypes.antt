@@ -6,7 +6,8 @@ use Rattle.smith_syntax.specs.Entries.{Kept, keeps_type, keeps_core_type, import
 use Rattle.smith_syntax.specs.Entries.{DefValType, FullEntry, FullDecl, FullDecls, defined, function, component_type, instance_type, core_type_decl, type_decl}
 use Rattle.smith_syntax.specs.Entries.{then_decls, keeps_functions}
 use Rattle.smith_syntax.specs.Scope.{Scope, with_type, with_core_type, with_types, after_decl, exported_type}
-use Rattle.smith_syntax.specs.Shown.{full_component_decl, full_instance_decl, shown_url}
+use Rattle.smith_syntax.specs.Shown.{shown_url}
+use Rattle.smith_syntax.specs.ShownDecls.{full_component_decl, full_instance_decl}
 use Rattle.smith_syntax.specs.WellFormed.{names, import_of, export_of}
 use Rattle.smith_syntax.specs.declared.deftype.ComponentTypeRef.{ComponentTypeRef}
 use Rattle.smith_syntax.specs.declared.deftype.Import.{Import}

@@ -1,18 +1,19 @@
 //! Laws of how types are read. Each function does nothing: its contract is the law.
 
-ghost use Rattle.std.specs.Prelude.{◌≡◌, ◌≤◌, ◌↔◌, ◌∷◌, ℕ, List, [], length, true, false};
+ghost use Rattle.std.specs.Prelude.{◌≡◌, ◌≤◌, ◌↔◌, ◌∷◌, ◌+◌, ℕ, List, [], length, max, true, false};
 ghost use Rattle.std.specs.Prelude.{nat_eq};
 ghost use Rattle.smith_format.specs.declared.config.Config.{Config};
 ghost use Rattle.smith_input.specs.Reading.{IsDecided, IsReadAs};
 ghost use Rattle.smith_input.specs.Script.{AreBytes, script_among};
 ghost use Rattle.smith_tree.specs.CoreTypeNeeds.{core_need};
 ghost use Rattle.smith_syntax.specs.Entries.{CoreEntry, Entry, FullEntry, plain};
-ghost use Rattle.smith_syntax.specs.Scope.{Scope, is_component, is_core_module, is_func, is_instance, places};
+ghost use Rattle.smith_syntax.specs.Scope.{Scope, is_component, is_core_module, is_func, is_instance};
+ghost use Rattle.smith_syntax.specs.Places.{places};
 ghost use Rattle.smith_syntax.specs.TypeLimits.{EntryLimits};
 ghost use Rattle.smith_syntax.specs.WellFormed.{FormedEntry, FormedRef, core_size, size};
 ghost use Rattle.smith_syntax.specs.declared.deftype.ComponentTypeRef.TheVariants.{Func};
 ghost use Rattle.smith_types.specs.Made.{Made, MadeWith};
-ghost use Rattle.smith_tree.specs.TypeNeeds.{need, Nests};
+ghost use Rattle.smith_tree.specs.TypeNeeds.{declaring, need};
 ghost use Rattle.smith_tree.specs.TypeOffers.{IsAllowed};
 ghost use Rattle.smith_tree.specs.ReadableTypes.{IsReadableType};
 ghost use Rattle.smith_types.specs.Sayable.{Fit, IsSayable};
@@ -63,7 +64,9 @@ pub fn answers_need_no_more()
     ensures { (config : Config) (own : Scope) (outer : List Scope) (bytes : List ℕ) (fuel : ℕ) (made : FullEntry)
         (rest : List ℕ) (left : ℕ)
         → Made config own outer bytes fuel made rest left
-        → (need (plain made) ≤ fuel) × Nests (plain made) config (length (own ∷ outer)) × IsReadableType (plain made) }
+        → (need (plain made) ≤ fuel)
+        × (length (own ∷ outer) + declaring (plain made) ≤ max (length (own ∷ outer)) config.max_nesting_depth)
+        × IsReadableType (plain made) }
 {}
 
 /// A type is read on some input exactly if it is well formed in its scopes and within the limits, its names can be
@@ -71,7 +74,7 @@ pub fn answers_need_no_more()
 pub fn types_are_exact()
     ensures { (config : Config) (own : Scope) (outer : List Scope) (fuel : ℕ) (e : Entry)
         → config.max_nesting_depth ≤ 1000 → Fit (own ∷ outer) → length (own ∷ outer) ≤ 1000
-        → ((bytes rest : List ℕ) × MadeWith config own outer fuel bytes e rest)
+        → ((bytes rest : List ℕ) × AreBytes bytes × MadeWith config own outer fuel bytes e rest)
         ↔ (FormedEntry e own outer × EntryLimits config e × IsReadableType e × (need e ≤ fuel)
-        × Nests e config (length (own ∷ outer))) }
+        × (length (own ∷ outer) + declaring e ≤ max (length (own ∷ outer)) config.max_nesting_depth)) }
 {}

@@ -14,14 +14,16 @@ mod values;
 
 ghost use Rattle.std.specs.Prelude.{◌≡◌, ◌+◌, ◌≤◌, ◌++◌, ℕ, List, length, max, IfOk, IfErr};
 ghost use Rattle.smith_input.specs.Reading.{IsTail};
-ghost use Rattle.smith_format.specs.Limits.{configured, IsConsistent};
+ghost use Rattle.smith_format.specs.Limits.{configured};
+ghost use Rattle.smith_format.specs.Consistency.{IsConsistent};
 ghost use Rattle.smith_types.specs.Made.{Made};
 ghost use Rattle.smith_types.specs.Sayable.{IsSayable};
 ghost use Rattle.smith_tree.specs.TypeScript.{script_type};
 ghost use Rattle.smith_scopes.specs.Scopes.{own_scope, outer_scopes};
 ghost use Rattle.smith_syntax.specs.Entries.{Entry};
 ghost use Rattle.smith_syntax.specs.Shown.{full_type, shown_shared};
-ghost use Rattle.smith_syntax.specs.TypeLimits.{EntryLimits, nesting};
+ghost use Rattle.smith_syntax.specs.TypeLimits.{EntryLimits};
+ghost use Rattle.smith_syntax.specs.Nesting.{nesting};
 ghost use Rattle.smith_syntax.specs.WellFormed.{FormedEntry, size};
 
 pub use externs::{ExternNames, named_extern};

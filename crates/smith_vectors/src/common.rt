@@ -27,6 +27,11 @@ pub fn check_bytes<R: Abort>(rt: &R, name: &str, found: &[u8], expected: &[u8]) 
     assert_eq!(rt; found, expected, "{name}");
 }
 
+/// What has this name has the count that is expected.
+pub fn check_count<R: Abort>(rt: &R, name: &str, found: usize, expected: usize) {
+    assert_eq!(rt; found, expected, "{name}");
+}
+
 /// What is expected of what has this name holds.
 pub fn check_holds<R: Abort>(rt: &R, name: &str, holds: bool) {
     assert!(rt; holds, "{name}");

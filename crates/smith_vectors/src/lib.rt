@@ -1,22 +1,38 @@
-//! Worked examples of calls that build components, as tests. Their expected values were written by hand from the binary
-//! format and the reading rules. Examples that are an input and its component are rows of `smith_rows`.
+//! Worked examples of calls, as tests. Their expected values were written by hand from the binary format and the
+//! reading rules. Examples that are an input and its component are rows of `smith_rows`.
 #![tactic(auto)]
 
 #[cfg(test)]
+mod calls;
+#[cfg(test)]
 mod common;
 #[cfg(test)]
-mod components;
-#[cfg(test)]
-mod custom;
+mod core_types;
 #[cfg(test)]
 mod declarations;
 #[cfg(test)]
-mod equal_inputs;
-#[cfg(test)]
-mod exports;
-#[cfg(test)]
-mod functions;
+mod doubles;
 #[cfg(test)]
 mod limits;
 #[cfg(test)]
+mod module_parts;
+#[cfg(test)]
+mod module_sections;
+#[cfg(test)]
+mod modules;
+#[cfg(test)]
+mod names;
+#[cfg(test)]
+mod positions;
+#[cfg(test)]
+mod reader;
+#[cfg(test)]
+mod references;
+#[cfg(test)]
+mod runs;
+#[cfg(test)]
+mod sections;
+#[cfg(test)]
 mod turns;
+#[cfg(test)]
+mod writers;

@@ -1,20 +1,23 @@
 //! Limits that do not fit together, and the greatest limits.
 
-use crate::common::{PREAMBLE, check_bytes, check_holds, small_limits};
+use crate::common::{PREAMBLE, check_bytes, check_count, check_holds, small_limits};
 use smith_component::{Component, Config, Error, Unstructured, generate};
+use std::process::Abort;
 use std::test::Fail;
 
 const PAST_32_BITS: usize = 4_294_967_296;
 
+const MOST_OF_32_BITS: usize = 4_294_967_295;
+
 // The greatest limits that fit together.
 fn greatest_limits() -> Config {
     Config {
-        max_types: 4_294_967_295,
-        max_imports: 4_294_967_295,
-        max_funcs: 4_294_967_295,
-        max_modules: 4_294_967_295,
-        max_components: 4_294_967_295,
-        max_instances: 4_294_967_295,
+        max_types: MOST_OF_32_BITS,
+        max_imports: MOST_OF_32_BITS,
+        max_funcs: MOST_OF_32_BITS,
+        max_modules: MOST_OF_32_BITS,
+        max_components: MOST_OF_32_BITS,
+        max_instances: MOST_OF_32_BITS,
         max_type_size: 4_294_967_295,
         max_nesting_depth: 1000,
         max_globals: usize::MAX,
@@ -25,147 +28,107 @@ fn greatest_limits() -> Config {
     }
 }
 
-// Limits that do not fit together, each with its name.
-fn inconsistent_limits() -> [(&'static str, Config); 12] {
-    let small = small_limits();
-    let great = greatest_limits();
-    [
-        (
-            "min_types past max_types",
-            Config {
-                min_types: 11,
-                ..small
-            },
-        ),
-        (
-            "min_imports past max_imports",
-            Config {
-                min_imports: 11,
-                ..small
-            },
-        ),
-        (
-            "min_funcs past max_funcs",
-            Config {
-                min_funcs: 11,
-                ..small
-            },
-        ),
-        (
-            "a nesting past 1000",
-            Config {
-                max_nesting_depth: 1001,
-                ..small
-            },
-        ),
-        (
-            "types past 32 bits",
-            Config {
-                max_types: PAST_32_BITS,
-                ..small
-            },
-        ),
-        (
-            "instances past 32 bits",
-            Config {
-                max_instances: PAST_32_BITS,
-                ..small
-            },
-        ),
-        (
-            "types past 32 bits, all else at its greatest",
-            Config {
-                max_types: PAST_32_BITS,
-                ..great
-            },
-        ),
-        (
-            "imports past 32 bits",
-            Config {
-                max_imports: PAST_32_BITS,
-                ..great
-            },
-        ),
-        (
-            "functions past 32 bits",
-            Config {
-                max_funcs: PAST_32_BITS,
-                ..great
-            },
-        ),
-        (
-            "modules past 32 bits",
-            Config {
-                max_modules: PAST_32_BITS,
-                ..great
-            },
-        ),
-        (
-            "components past 32 bits",
-            Config {
-                max_components: PAST_32_BITS,
-                ..great
-            },
-        ),
-        (
-            "instances past 32 bits, all else at its greatest",
-            Config {
-                max_instances: PAST_32_BITS,
-                ..great
-            },
-        ),
-    ]
+// As many functions as there may be.
+fn most_functions() -> Config {
+    Config {
+        max_funcs: MOST_OF_32_BITS,
+        ..Config::default()
+    }
+}
+
+#[derive(Clone, Copy)]
+enum Limit {
+    MinTypes,
+    MinImports,
+    MinFuncs,
+    MaxDepth,
+    MaxTypes,
+    MaxImports,
+    MaxFuncs,
+    MaxModules,
+    MaxComponents,
+    MaxInstances,
+    MaxExports,
+}
+
+// These limits, but for one of them.
+fn with(mut config: Config, limit: Limit, value: usize) -> Config {
+    match limit {
+        Limit::MinTypes => config.min_types = value,
+        Limit::MinImports => config.min_imports = value,
+        Limit::MinFuncs => config.min_funcs = value,
+        Limit::MaxDepth => config.max_nesting_depth = value,
+        Limit::MaxTypes => config.max_types = value,
+        Limit::MaxImports => config.max_imports = value,
+        Limit::MaxFuncs => config.max_funcs = value,
+        Limit::MaxModules => config.max_modules = value,
+        Limit::MaxComponents => config.max_components = value,
+        Limit::MaxInstances => config.max_instances = value,
+        Limit::MaxExports => config.max_exports = value,
+    }
+    config
+}
+
+// No call reads a byte within limits that do not fit together.
+fn are_refused<R: Abort + AllocGlobal>(rt: &R, name: &str, config: Config, input: &[u8]) {
+    let mut u = Unstructured::new(input);
+    let refused = generate(rt.alloc(), config, &mut u);
+    check_holds(rt, name, matches!(refused, Err(Error::InconsistentLimits)));
+    let refused = Component::new(rt.alloc(), config, &mut u);
+    check_holds(rt, name, matches!(refused, Err(Error::InconsistentLimits)));
+    check_bytes(rt, name, u.left(), input);
 }
 
 #[test]
 fn limits_that_do_not_fit_together_are_refused_before_a_byte_is_read(rt: HostRuntime) {
-    for (name, config) in inconsistent_limits() {
-        for input in [b"" as &[u8], b"\x03\x01\x00"] {
-            let mut u = Unstructured::new(input);
-            let refused = generate(rt.alloc(), config, &mut u);
-            assert!(rt;
-                matches!(refused, Err(Error::InconsistentLimits)),
-                "generate: {name}"
-            );
-            let refused = Component::new(rt.alloc(), config, &mut u);
-            assert!(rt;
-                matches!(refused, Err(Error::InconsistentLimits)),
-                "Component::new: {name}"
-            );
-            assert_eq!(rt; u.left(), input, "{name}");
-        }
+    let small = small_limits();
+    let great = greatest_limits();
+    let past = PAST_32_BITS;
+    let rows = [
+        ("min_types past max_types", small, Limit::MinTypes, 11),
+        ("min_imports past max_imports", small, Limit::MinImports, 11),
+        ("min_funcs past max_funcs", small, Limit::MinFuncs, 11),
+        ("a nesting past 1000", small, Limit::MaxDepth, 1001),
+        ("types past 32 bits", small, Limit::MaxTypes, past),
+        ("instances past 32 bits", small, Limit::MaxInstances, past),
+        ("types, else great", great, Limit::MaxTypes, past),
+        ("imports past 32 bits", great, Limit::MaxImports, past),
+        ("functions past 32 bits", great, Limit::MaxFuncs, past),
+        ("modules past 32 bits", great, Limit::MaxModules, past),
+        ("components past 32 bits", great, Limit::MaxComponents, past),
+        ("instances, else great", great, Limit::MaxInstances, past),
+        ("exports too", most_functions(), Limit::MaxExports, 1),
+    ];
+    for (name, config, limit, value) in rows {
+        let config = with(config, limit, value);
+        are_refused(&rt, name, config, b"");
+        are_refused(&rt, name, config, b"\x03\x01\x00");
+        are_refused(&rt, name, config, b"\x03");
     }
 }
 
 #[test]
-fn functions_and_exports_together_fit_32_bits(rt: HostRuntime) -> Result<(), Fail> {
-    let full = Config {
-        max_funcs: 4_294_967_295,
-        ..Config::default()
-    };
-    let past = Config {
-        max_exports: 1,
-        ..full
-    };
-    let input = b"\x03" as &[u8];
-    let mut u = Unstructured::new(input);
-    let refused = generate(rt.alloc(), past, &mut u);
-    assert!(rt; matches!(refused, Err(Error::InconsistentLimits)));
-    assert_eq!(rt; u.left(), input);
-    let generated = generate(rt.alloc(), full, &mut u)?;
-    assert_eq!(rt; generated.component.sections().len(), 1);
-    Ok(())
-}
-
-// Types (3): more, defined (0), primitive (0), u32 (6); no more. Finish (0).
-#[test]
-fn a_primitive_type_within_the_greatest_limits(rt: HostRuntime) -> Result<(), Fail> {
-    let mut u = Unstructured::new(b"\x03\x01\x00\x00\x06\x00\x00");
-    let generated = generate(rt.alloc(), greatest_limits(), &mut u)?;
-    let mut expected = Vec::from_slice(rt.alloc(), PREAMBLE)?;
-    expected.extend_from_slice(b"\x07\x02\x01\x79")?;
-    check_bytes(&rt, "a primitive type", &generated.bytes, &expected);
-    check_holds(&rt, "its length", generated.component.measure()? == 12);
-    check_bytes(&rt, "what is left", u.left(), b"");
+fn the_greatest_limits_fit_together(rt: HostRuntime) -> Result<(), Fail> {
+    // Types (3): more, defined (0), primitive (0), u32 (6); no more. Finish (0). Types, and the input ends.
+    let rows: [(&str, Config, &[u8], &[u8]); 2] = [
+        (
+            "a primitive type",
+            greatest_limits(),
+            b"\x03\x01\x00\x00\x06\x00\x00",
+            b"\x07\x02\x01\x79",
+        ),
+        ("no type", most_functions(), b"\x03", b"\x07\x01\x00"),
+    ];
+    for (name, config, input, section) in rows {
+        let mut u = Unstructured::new(input);
+        let generated = generate(rt.alloc(), config, &mut u)?;
+        let mut expected = Vec::from_slice(rt.alloc(), PREAMBLE)?;
+        expected.extend_from_slice(section)?;
+        check_bytes(&rt, name, &generated.bytes, &expected);
+        check_count(&rt, name, generated.component.sections().len(), 1);
+        let length = generated.component.measure()?;
+        check_holds(&rt, name, length == expected.len() as u128);
+        check_bytes(&rt, name, u.left(), b"");
+    }
     Ok(())
 }

@@ -70,36 +70,87 @@ fn check_turns<R: Abort + AllocGlobal>(
     Ok(())
 }
 
-#[test]
-fn each_byte_repeated(rt: HostRuntime) -> Result<(), Fail> {
-    for config in [Config::default(), small_limits(), no_room()] {
-        for byte in 0..=255u8 {
-            let repeated = [byte; 64];
-            for many in [0, 1, 2, 3, 8, 64] {
-                let input = repeated.get(..many).unwrap_or(&repeated);
-                check_turns(&rt, config, "one byte repeated", input)?;
-            }
-        }
+fn check_repeated<R: Abort + AllocGlobal>(rt: &R, config: Config, byte: u8) -> Result<(), Fail> {
+    let repeated = [byte; 64];
+    for many in [0, 1, 2, 3, 5, 8, 64] {
+        let input = repeated.get(..many).unwrap_or(&repeated);
+        check_turns(rt, config, "one byte repeated", input)?;
     }
     Ok(())
 }
 
-// These inputs are read choice by choice in the rows of `smith_rows`.
-const CUT_INPUTS: &[(&str, &[u8])] = &[
-    ("one primitive type", b"\x03\x01\x00\x00\x06\x00\x00"),
+#[test]
+fn each_byte_repeated(rt: HostRuntime) -> Result<(), Fail> {
+    for byte in 0..=255u8 {
+        check_repeated(&rt, Config::default(), byte)?;
+        check_repeated(&rt, small_limits(), byte)?;
+        check_repeated(&rt, no_room(), byte)?;
+    }
+    Ok(())
+}
+
+// Inputs of rows of `smith_rows`, read choice by choice there, some with one more byte.
+const INPUTS: &[(&str, &[u8])] = &[
+    (
+        "a module with a type and a memory",
+        b"\x06\x01\x00\x00\x00\x01\x01\x00\x00",
+    ),
+    ("a module type with all that comes first", b"\x02\x01\x01"),
+    (
+        "a lift that defines its type",
+        b"\x03\x01\x01\x01\x01\x00\x06\x00\x01\x00\x00\x04\x01\x01\x01\x00\x00\
+            \x05\x01\x01\x01\x01\x01\x00\x00\x00\x00\xff",
+    ),
+    (
+        "a name that is taken, and a URL",
+        b"\x03\x01\x01\x00\x00\x00\x04\x01\x01\x00\x00\x01\x01\x00\x01\x01\x00\x00\x00\xff",
+    ),
+    (
+        "an instance type",
+        b"\x03\x01\x03\x01\x00\x00\x00\x00\x00\x00\xff",
+    ),
+    (
+        "an alias, an import and an export in a component type",
+        b"\x03\x01\x01\x00\x00\x01\x02\x01\x00\x01\x00\x01\x01\x00\x01\x01\x00\x00\
+            \x01\x02\x00\x00\x00\x00\xff",
+    ),
+    ("a name that is cut", b"\x01\x00\x03a\xc3\x28"),
+];
+
+#[test]
+fn equal_inputs_give_equal_answers(rt: HostRuntime) -> Result<(), Fail> {
+    for (name, input) in INPUTS {
+        check_turns(&rt, small_limits(), name, input)?;
+        check_turns(&rt, Config::default(), name, input)?;
+    }
+    Ok(())
+}
+
+// These inputs are read choice by choice in the rows of `smith_rows`. Each with how many exports there may be.
+const CUT_INPUTS: &[(&str, usize, &[u8])] = &[
+    ("one primitive type", 0, b"\x03\x01\x00\x00\x06\x00\x00"),
     (
         "a lift to a type that stands",
+        0,
         b"\x03\x01\x01\x01\x01\x00\x06\x00\x01\x00\x00\x04\x01\x01\x01\x00\x00\
             \x05\x01\x01\x01\x01\x00\x07\x01\x00\x00",
     ),
     (
         "an outer alias",
+        0,
         b"\x03\x01\x00\x00\x00\x01\x03\x01\x00\x00\x00\x00",
     ),
     (
         "an alias, an import and an export in a component type",
+        0,
         b"\x03\x01\x01\x00\x00\x01\x02\x01\x00\x01\x00\x01\x01\x00\x01\x01\x00\x00\
             \x01\x02\x00\x00\x00\x00",
+    ),
+    (
+        "a lower of an export",
+        10,
+        b"\x03\x01\x01\x01\x01\x00\x06\x00\x01\x00\x00\x04\x01\x01\x01\x00\x00\
+            \x08\x01\x01\x02\x00\x05\x01\x01\x00\x00",
     ),
 ];
 
@@ -122,14 +173,12 @@ fn check_cuts<R: Abort + AllocGlobal>(
 
 #[test]
 fn inputs_cut_at_every_place(rt: HostRuntime) -> Result<(), Fail> {
-    for (name, input) in CUT_INPUTS {
-        check_cuts(&rt, small_limits(), name, input)?;
+    for (name, max_exports, input) in CUT_INPUTS {
+        let config = Config {
+            max_exports: *max_exports,
+            ..small_limits()
+        };
+        check_cuts(&rt, config, name, input)?;
     }
-    let with_exports = Config {
-        max_exports: 10,
-        ..small_limits()
-    };
-    let input = b"\x03\x01\x01\x01\x01\x00\x06\x00\x01\x00\x00\x04\x01\x01\x01\x00\x00\
-        \x08\x01\x01\x02\x00\x05\x01\x01\x00\x00";
-    check_cuts(&rt, with_exports, "a lower of an export", input)
+    Ok(())
 }

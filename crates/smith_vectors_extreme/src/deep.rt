@@ -1,88 +1,87 @@
 //! Large components within a bounded stack, and in time that grows with the input alone.
 
-use crate::common::PREAMBLE;
-use smith_component::{Component, Config, Unstructured, generate};
+use crate::common::{PREAMBLE, check_bytes, check_count, check_holds};
+use smith_component::{Config, Unstructured, generate};
 use smith_types::{
     Alias, DefType, DefinedType, InstanceType, InstanceTypeDecl, OuterAliasKind, PrimitiveValType,
     Scopes,
 };
-use std::alloc::AllocError;
+use std::alloc::{AllocError, Global};
 use std::process::Abort;
 use std::rc::Rc;
 use std::test::Fail;
 
-#[test]
-fn a_million_sections_are_dropped(rt: HostRuntime) -> Result<(), Fail> {
-    let config = Config {
-        max_imports: 0,
-        ..Config::default()
-    };
-    let input = vec![in rt.alloc(); 4u8; 1_000_000]?;
-    let mut u = Unstructured::new(&input);
-    let component = Component::new(rt.alloc(), config, &mut u)?;
-    assert_eq!(rt; component.sections().len(), 1_000_000);
-    Ok(())
+// What makes an input large.
+#[derive(Clone, Copy)]
+enum Large {
+    // A million import sections, in which there may be no import.
+    Sections,
+    // A million types of one section.
+    Types,
+    // 999 components, each in the one before.
+    Components,
+    // Modules and components, at each depth. Modules that may have neither types nor memories read nothing. Each
+    // component is measured once, when it is finished, and not again at each depth that it stands at: a measure at each
+    // depth would make this take some 300 times as long. 1 MiB of such input took 42 times longer at a depth of 1000
+    // than at a depth of 2.
+    Depths,
+    // A component type without declarations is read from 01 02 00: more, component, no declaration. Each further one is
+    // more, component, more, alias (0 of alias, core type) among the types of the one scope that has some, the last of
+    // them, no more. The first is written in 2 bytes, each other in 41 01, 02 03 02 01 and the index, which takes one
+    // byte up to 127, two up to 16,383, and then three. The section is full and asks for no more.
+    TypesThatName,
+    // The same types, each in a section of its own: 03 before it, 00 behind it where the types are not full. Each
+    // section is of 3 bytes and the type.
+    SectionsThatName,
 }
 
-#[test]
-fn a_million_types_are_dropped(rt: HostRuntime) -> Result<(), Fail> {
-    let config = Config {
-        max_types: 1_000_000,
-        ..Config::default()
-    };
-    let mut input = Vec::new(rt.alloc());
-    input.push(0x03)?;
-    for _ in 0..1_000_000 {
-        input.extend_from_slice(b"\x01\x00\x00\x00")?;
+impl Large {
+    fn limits(self) -> Config {
+        let mut limits = Config::default();
+        match self {
+            Large::Sections => limits.max_imports = 0,
+            Large::Types => limits.max_types = 1_000_000,
+            Large::Components => {
+                limits.max_components = 999;
+                limits.max_nesting_depth = 1000;
+            }
+            Large::Depths => {
+                limits.max_nesting_depth = 1000;
+                limits.max_modules = 60_000;
+                limits.max_components = 60_000;
+                limits.max_types = 0;
+                limits.max_memories = 0;
+            }
+            Large::TypesThatName | Large::SectionsThatName => limits.max_types = 100_000,
+        }
+        limits
     }
-    let mut u = Unstructured::new(&input);
-    let generated = generate(rt.alloc(), config, &mut u)?;
-    assert_eq!(rt; generated.bytes.len(), 8 + 1 + 3 + 3 + 1_000_000);
-    Ok(())
-}
 
-#[test]
-fn a_thousand_components_are_written_and_dropped(rt: HostRuntime) -> Result<(), Fail> {
-    let config = Config {
-        max_components: 999,
-        max_nesting_depth: 1000,
-        ..Config::default()
-    };
-    let input = vec![in rt.alloc(); 7u8; 999]?;
-    let mut u = Unstructured::new(&input);
-    let generated = generate(rt.alloc(), config, &mut u)?;
-    assert!(rt; u.is_empty());
-    assert_eq!(rt;
-        generated.component.measure()?,
-        generated.bytes.len() as u128
-    );
-    Ok(())
-}
-
-// Modules that may have neither types nor memories read nothing. Each component is measured once, when it is finished,
-// and not again at each depth that it stands at: a measure at each depth would make this take some 300 times as long.
-// 1 MiB of such input took 42 times longer at a depth of 1000 than at a depth of 2.
-#[test]
-fn components_at_each_depth_are_written_in_linear_time(rt: HostRuntime) -> Result<(), Fail> {
-    let config = Config {
-        max_modules: 60_000,
-        max_components: 60_000,
-        max_nesting_depth: 1000,
-        max_types: 0,
-        max_memories: 0,
-        ..Config::default()
-    };
-    let mut input = Vec::new(rt.alloc());
-    for _ in 0..60_000 {
-        input.extend_from_slice(b"\x06\x07")?;
+    fn input(self, alloc: Global) -> Result<Vec<u8>, AllocError> {
+        match self {
+            Large::Sections => repeated(alloc, b"", b"\x04", 1_000_000),
+            Large::Types => repeated(alloc, b"\x03", b"\x01\x00\x00\x00", 1_000_000),
+            Large::Components => repeated(alloc, b"", b"\x07", 999),
+            Large::Depths => repeated(alloc, b"", b"\x06\x07", 60_000),
+            Large::TypesThatName => {
+                let first = Vec::from_slice(alloc, b"\x03\x01\x02\x00")?;
+                naming(first, b"\x01\x02\x01\x00", b"\x00")
+            }
+            Large::SectionsThatName => {
+                let first = Vec::from_slice(alloc, b"\x03\x01\x02\x00\x00")?;
+                naming(first, b"\x03\x01\x02\x01\x00", b"\x00\x00")
+            }
+        }
     }
-    let mut u = Unstructured::new(&input);
-    let generated = generate(rt.alloc(), config, &mut u)?;
-    assert_eq!(rt;
-        generated.component.measure()?,
-        generated.bytes.len() as u128
-    );
-    Ok(())
+}
+
+// Some bytes, and then others so many times.
+fn repeated(alloc: Global, first: &[u8], each: &[u8], times: u32) -> Result<Vec<u8>, AllocError> {
+    let mut input = Vec::from_slice(alloc, first)?;
+    for _ in 0..times {
+        input.extend_from_slice(each)?;
+    }
+    Ok(input)
 }
 
 // The place, below that many, as a choice among so many reads it.
@@ -99,54 +98,117 @@ fn push_place(input: &mut Vec<u8>, place: u32, count: u32) -> Result<(), AllocEr
     Ok(())
 }
 
-// A component type without declarations is read from 01 02 00: more, component, no declaration. Each further one is
-// more, component, more, alias (0 of alias, core type, type) among the types of the one scope that has some, the last
-// of them, no more. The first is written in 2 bytes, each other in 41 01, 02 03 02 01 and the index, which takes a byte
-// up to 127, two up to 16,383, and then three. The section is full and asks for no more.
-#[test]
-fn a_hundred_thousand_types_that_name_the_one_before(rt: HostRuntime) -> Result<(), Fail> {
-    let config = Config {
-        max_types: 100_000,
-        ..Config::default()
-    };
-    let mut input = Vec::from_slice(rt.alloc(), b"\x03\x01\x02\x00")?;
+// 99,999 types after the first, each of which names the one before.
+fn naming(mut input: Vec<u8>, front: &[u8], back: &[u8]) -> Result<Vec<u8>, AllocError> {
     for last in 0..99_999u32 {
-        input.extend_from_slice(b"\x01\x02\x01\x00")?;
+        input.extend_from_slice(front)?;
         push_place(&mut input, last, last + 1)?;
-        input.push(0)?;
+        input.extend_from_slice(back)?;
     }
+    Ok(input)
+}
+
+// A large input, how many sections its component has, and how many bytes, where that is known, and the last of them.
+#[derive(Clone, Copy)]
+struct Row<'a> {
+    name: &'a str,
+    large: Large,
+    sections: Option<usize>,
+    bytes: Option<usize>,
+    end: &'a [u8],
+}
+
+// The bytes of the types that name the one before.
+const TYPES: usize = 2 + 99_999 * 6 + 128 + 16_256 * 2 + 83_615 * 3;
+
+const LISTS: &[Row<'static>] = &[
+    Row {
+        name: "a million sections",
+        large: Large::Sections,
+        sections: Some(1_000_000),
+        bytes: Some(8 + 1_000_000 * 3),
+        end: b"\x0a\x01\x00",
+    },
+    Row {
+        name: "a million types",
+        large: Large::Types,
+        sections: Some(1),
+        bytes: Some(8 + 1 + 3 + 3 + 1_000_000),
+        end: b"\x7f",
+    },
+];
+
+const NESTED: &[Row<'static>] = &[
+    Row {
+        name: "a thousand components",
+        large: Large::Components,
+        sections: Some(1),
+        bytes: None,
+        end: PREAMBLE,
+    },
+    Row {
+        name: "components at each depth",
+        large: Large::Depths,
+        sections: None,
+        bytes: None,
+        end: b"",
+    },
+];
+
+const NAMING: &[Row<'static>] = &[
+    Row {
+        name: "types that name the one before",
+        large: Large::TypesThatName,
+        sections: Some(1),
+        bytes: Some(8 + 1 + 3 + 3 + TYPES),
+        end: b"\x41\x01\x02\x03\x02\x01\x9d\x8d\x06\x41\x01\x02\x03\x02\x01\x9e\x8d\x06",
+    },
+    Row {
+        name: "sections that name the one before",
+        large: Large::SectionsThatName,
+        sections: Some(100_000),
+        bytes: Some(8 + 100_000 * 3 + TYPES),
+        end: b"\x07\x0a\x01\x41\x01\x02\x03\x02\x01\x9e\x8d\x06",
+    },
+];
+
+fn check_large<R: Abort + AllocGlobal>(rt: &R, row: &Row<'_>) -> Result<(), Fail> {
+    let input = row.large.input(rt.alloc())?;
     let mut u = Unstructured::new(&input);
-    let component = Component::new(rt.alloc(), config, &mut u)?;
-    assert!(rt; u.is_empty());
-    let bytes = component.to_bytes(rt.alloc())?;
-    let contents = 3 + 2 + 99_999 * 6 + 128 + 16_256 * 2 + 83_615 * 3;
-    assert_eq!(rt; contents, 883_484);
-    assert_eq!(rt; bytes.len(), 8 + 1 + 3 + contents);
-    let end = b"\x41\x01\x02\x03\x02\x01\x9d\x8d\x06\x41\x01\x02\x03\x02\x01\x9e\x8d\x06";
-    assert!(rt; bytes.ends_with(end));
+    let generated = generate(rt.alloc(), row.large.limits(), &mut u)?;
+    check_bytes(rt, row.name, u.left(), b"");
+    let sections = generated.component.sections().len();
+    check_count(rt, row.name, sections, row.sections.unwrap_or(sections));
+    let length = generated.bytes.len();
+    check_count(rt, row.name, length, row.bytes.unwrap_or(length));
+    let measured = generated.component.measure()?;
+    check_holds(rt, row.name, measured == length as u128);
+    check_holds(rt, row.name, generated.bytes.ends_with(row.end));
     Ok(())
 }
 
-// The same types, each in a section of its own: 03 before it, 00 behind it where the types are not full. Each section
-// is of 3 bytes and the type.
 #[test]
-fn a_hundred_thousand_sections_that_name_the_one_before(rt: HostRuntime) -> Result<(), Fail> {
-    let config = Config {
-        max_types: 100_000,
-        ..Config::default()
-    };
-    let mut input = Vec::from_slice(rt.alloc(), b"\x03\x01\x02\x00\x00")?;
-    for last in 0..99_999u32 {
-        input.extend_from_slice(b"\x03\x01\x02\x01\x00")?;
-        push_place(&mut input, last, last + 1)?;
-        input.extend_from_slice(b"\x00\x00")?;
+fn long_lists_are_written_and_dropped(rt: HostRuntime) -> Result<(), Fail> {
+    for row in LISTS {
+        check_large(&rt, row)?;
     }
-    let mut u = Unstructured::new(&input);
-    let generated = generate(rt.alloc(), config, &mut u)?;
-    let types = 2 + 99_999 * 6 + 128 + 16_256 * 2 + 83_615 * 3;
-    assert_eq!(rt; generated.bytes.len(), 8 + 100_000 * 3 + types);
-    let end = b"\x07\x0a\x01\x41\x01\x02\x03\x02\x01\x9e\x8d\x06";
-    assert!(rt; generated.bytes.ends_with(end));
+    Ok(())
+}
+
+#[test]
+fn nested_components_are_written_in_linear_time_and_dropped(rt: HostRuntime) -> Result<(), Fail> {
+    for row in NESTED {
+        check_large(&rt, row)?;
+    }
+    Ok(())
+}
+
+#[test]
+fn types_that_name_the_one_before_are_written_and_dropped(rt: HostRuntime) -> Result<(), Fail> {
+    assert_eq!(rt; TYPES + 3, 883_484);
+    for row in NAMING {
+        check_large(&rt, row)?;
+    }
     Ok(())
 }
 
@@ -188,18 +250,14 @@ fn check_thousand_scopes<R: Abort + AllocGlobal>(
         max_type_size: 10_000,
         ..Config::default()
     };
-    let mut input = Vec::from_slice(rt.alloc(), &[3, 1, 0, 0, 0, 1, choice])?;
-    let mut bytes = Vec::from_slice(rt.alloc(), PREAMBLE)?;
-    bytes.extend_from_slice(b"\x07\xbc\x17\x02\x7f")?;
-    for _ in 0..998 {
-        input.extend_from_slice(&[1, 2, choice])?;
-        bytes.extend_from_slice(&[spelled, 1, 1])?;
-    }
+    let first = [3, 1, 0, 0, 0, 1, choice];
+    let mut input = repeated(rt.alloc(), &first, &[1, 2, choice], 998)?;
     input.extend_from_slice(b"\x01\x02")?;
+    input.extend_from_slice(&[0; 1000])?;
+    let mut front = Vec::from_slice(rt.alloc(), PREAMBLE)?;
+    front.extend_from_slice(b"\x07\xbc\x17\x02\x7f")?;
+    let mut bytes = repeated(rt.alloc(), &front, &[spelled, 1, 1], 998)?;
     bytes.extend_from_slice(&[spelled, 1, 2, 3, 2, 0xe7, 0x07, 0])?;
-    for _ in 0..1000 {
-        input.push(0)?;
-    }
     let mut u = Unstructured::new(&input);
     let generated = generate(rt.alloc(), config, &mut u)?;
     assert!(rt; u.is_empty());
@@ -208,11 +266,7 @@ fn check_thousand_scopes<R: Abort + AllocGlobal>(
 }
 
 #[test]
-fn component_types_in_a_thousand_scopes(rt: HostRuntime) -> Result<(), Fail> {
-    check_thousand_scopes(&rt, 2, 0x41)
-}
-
-#[test]
-fn instance_types_in_a_thousand_scopes(rt: HostRuntime) -> Result<(), Fail> {
+fn types_in_a_thousand_scopes(rt: HostRuntime) -> Result<(), Fail> {
+    check_thousand_scopes(&rt, 2, 0x41)?;
     check_thousand_scopes(&rt, 3, 0x42)
 }

@@ -6,19 +6,6 @@ use smith_read::{MOST_DEPTH, ReadError, Reason, read};
 use std::process::Abort;
 use std::test::Fail;
 
-fn fault_of<R: Abort + AllocGlobal>(rt: &R, bytes: &[u8]) -> Option<ReadError> {
-    match read(rt.alloc(), bytes) {
-        Ok(_) => None,
-        Err(error) => Some(error),
-    }
-}
-
-fn after_preamble<R: Abort + AllocGlobal>(rt: &R, bytes: &[u8]) -> Result<Vec<u8>, Fail> {
-    let mut component = Vec::from_slice(rt.alloc(), PREAMBLE)?;
-    component.extend_from_slice(bytes)?;
-    Ok(component)
-}
-
 // A component whose only section is a component of these contents.
 fn around<R: Abort + AllocGlobal>(rt: &R, inner: &[u8]) -> Result<Vec<u8>, Fail> {
     let mut component = Vec::from_slice(rt.alloc(), PREAMBLE)?;
@@ -39,54 +26,57 @@ fn nested_types<R: Abort + AllocGlobal>(rt: &R, tag: u8, levels: u32) -> Result<
     Ok(section)
 }
 
-// Components nested to the greatest depth, and one deeper. The innermost has the eight bytes of its preamble.
-#[test]
-fn components_at_the_greatest_depth(rt: HostRuntime) -> Result<(), Fail> {
+// Components in one another, types with that tag in one another in the innermost of them, and how far before the end
+// they are too deep. The innermost component is of the eight bytes of its preamble where there are no types, and the
+// innermost type is of two. The component itself is the first scope.
+const ROWS: &[(&str, u32, u8, u32, Option<usize>)] = &[
+    ("components", MOST_DEPTH, 0, 0, None),
+    ("components, one more", MOST_DEPTH + 1, 0, 0, Some(8)),
+    ("component types", 1, 0x41, MOST_DEPTH - 1, None),
+    ("component types, one more", 1, 0x41, MOST_DEPTH, Some(2)),
+    ("instance types", 1, 0x42, MOST_DEPTH - 1, None),
+    ("instance types, one more", 1, 0x42, MOST_DEPTH, Some(2)),
+    ("both", 500, 0x42, MOST_DEPTH - 500, None),
+    ("both, one more", 500, 0x42, MOST_DEPTH - 499, Some(2)),
+];
+
+fn nested<R: Abort + AllocGlobal>(
+    rt: &R,
+    components: u32,
+    tag: u8,
+    types: u32,
+) -> Result<Vec<u8>, Fail> {
     let mut bytes = Vec::from_slice(rt.alloc(), PREAMBLE)?;
-    for _ in 1..MOST_DEPTH {
-        bytes = around(&rt, &bytes)?;
+    if 0 < types {
+        bytes.extend_from_slice(&nested_types(rt, tag, types)?)?;
     }
-    assert_eq!(rt; read(rt.alloc(), &bytes)?.parts.len(), 1);
-    let deeper = around(&rt, &bytes)?;
-    let expected = ReadError::Malformed {
-        offset: deeper.len().saturating_sub(8),
-        reason: Reason::Depth,
-    };
-    assert_eq!(rt; fault_of(&rt, &deeper), Some(expected));
-    Ok(())
+    for _ in 1..components {
+        bytes = around(rt, &bytes)?;
+    }
+    Ok(bytes)
 }
 
-// The component itself is the first scope. The innermost type is of two bytes.
-fn check_nested_types<R: Abort + AllocGlobal>(rt: &R, tag: u8) -> Result<(), Fail> {
-    let section = nested_types(rt, tag, MOST_DEPTH - 1)?;
-    let bytes = after_preamble(rt, &section)?;
-    assert_eq!(rt; read(rt.alloc(), &bytes)?.parts.len(), 1);
-    let section = nested_types(rt, tag, MOST_DEPTH)?;
-    let bytes = after_preamble(rt, &section)?;
-    let expected = ReadError::Malformed {
-        offset: bytes.len().saturating_sub(2),
-        reason: Reason::Depth,
+// The one part of the component, or where it is too deep.
+fn is_read<R: Abort + AllocGlobal>(rt: &R, name: &str, bytes: &[u8], fault: Option<usize>) {
+    let expected = match fault {
+        Some(before) => Err(ReadError::Malformed {
+            offset: bytes.len().saturating_sub(before),
+            reason: Reason::Depth,
+        }),
+        None => Ok(1),
     };
-    assert_eq!(rt; fault_of(rt, &bytes), Some(expected));
-    Ok(())
+    let parts = match read(rt.alloc(), bytes) {
+        Ok(tree) => Ok(tree.parts.len()),
+        Err(error) => Err(error),
+    };
+    assert_eq!(rt; parts, expected, "{name}");
 }
 
 #[test]
-fn types_at_the_greatest_depth(rt: HostRuntime) -> Result<(), Fail> {
-    check_nested_types(&rt, 0x41)?;
-    check_nested_types(&rt, 0x42)
-}
-
-// Half of the depth is components, and the other half types in the innermost of them.
-#[test]
-fn types_in_components_at_the_greatest_depth(rt: HostRuntime) -> Result<(), Fail> {
-    for (levels, is_read) in [(MOST_DEPTH - 500, true), (MOST_DEPTH - 499, false)] {
-        let section = nested_types(&rt, 0x42, levels)?;
-        let mut bytes = after_preamble(&rt, &section)?;
-        for _ in 1..500 {
-            bytes = around(&rt, &bytes)?;
-        }
-        assert_eq!(rt; read(rt.alloc(), &bytes).is_ok(), is_read);
+fn components_and_types_at_the_greatest_depth(rt: HostRuntime) -> Result<(), Fail> {
+    for (name, components, tag, types, fault) in ROWS {
+        let bytes = nested(&rt, *components, *tag, *types)?;
+        is_read(&rt, name, &bytes, *fault);
     }
     Ok(())
 }

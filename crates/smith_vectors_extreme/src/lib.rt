@@ -10,6 +10,8 @@ mod depths;
 #[cfg(test)]
 mod hashes;
 #[cfg(test)]
+mod long_runs;
+#[cfg(test)]
 mod modules;
 #[cfg(test)]
 mod positions;

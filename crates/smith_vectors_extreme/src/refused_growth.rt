@@ -1,13 +1,13 @@
-//! Growths that are refused: each call returns `OutOfMemory` and leaves what it should, until there is enough memory, and
-//! then it returns what it always returns.
+//! Growths that are refused: each call returns `OutOfMemory` and leaves what it should, until there is enough memory,
+//! and then it returns what it always returns.
 
 use crate::common::{
     PREAMBLE, check_bytes, check_count, check_holds, check_out_of_memory, small_limits,
 };
 use crate::modules::{ONE_FUNCTION, PAGE, one_function};
 use crate::scarcity::{LOANS, Scarcity};
-use smith_component::{Error, Unstructured, generate};
-use smith_core::{EntityType, Module, configured_valtypes, write_entity};
+use smith_component::{Component, Error, Unstructured, generate};
+use smith_core::{CORE_PREAMBLE, EntityType, Module, configured_valtypes, write_entity};
 use smith_input::{unique_kebab_string, unique_url};
 use smith_types::{
     ComponentTypeRef, CoreType, DefType, FuncType, Import, Scopes, arbitrary_type, write_core_type,
@@ -123,64 +123,80 @@ fn components_while_memory_runs_out(rt: HostRuntime) -> Result<(), Fail> {
     for row in ROWS {
         check_refusals(&rt, row)?;
     }
-    Ok(())
-}
-
-#[test]
-fn a_custom_section_while_memory_runs_out(rt: HostRuntime) -> Result<(), Fail> {
     let (input, bytes) = section_of_127_bytes(rt.alloc())?;
-    let row = Row {
-        name: "127 bytes",
+    let section = Row {
+        name: "a custom section of 127 bytes",
         input: &input,
         bytes: &bytes,
         left: b"",
     };
-    check_refusals(&rt, &row)
+    check_refusals(&rt, &section)
 }
 
-// A loan of 48 bytes is one block of up to 40; two growths would take two blocks.
-const ONE_GROWTH: usize = 3;
+// What is written to a buffer of its own.
+#[derive(Drop)]
+enum Whole {
+    Component(Component),
+    Module(Module),
+}
 
-#[test]
-fn a_component_is_written_with_one_growth(rt: HostRuntime) -> Result<(), Fail> {
-    let row = ROWS[0];
-    let mut u = Unstructured::new(row.input);
-    let generated = generate(rt.alloc(), small_limits(), &mut u)?;
-    check_holds(&rt, row.name, generated.component.measure()? == 38);
+impl Whole {
+    fn to_bytes(&self, alloc: Global) -> Result<Vec<u8>, Error> {
+        match self {
+            Whole::Component(component) => component.to_bytes(alloc),
+            Whole::Module(module) => module.to_bytes(alloc),
+        }
+    }
+}
+
+// The loans that are refused before there is one block of so many bytes. It takes eight bytes more, in steps of 16, and
+// 32 at least. Two growths would take two blocks.
+fn loans_before(bytes: usize) -> usize {
+    bytes.saturating_add(8).div_ceil(16).max(2)
+}
+
+// The bytes are written with one growth.
+fn check_whole<R: Abort + AllocGlobal>(
+    rt: &R,
+    name: &str,
+    whole: &Whole,
+    expected: &[u8],
+) -> Result<(), Fail> {
     let mut memory = Scarcity::new(rt.alloc())?;
     for refused in 0..LOANS {
         memory.lend();
-        match generated.component.to_bytes(rt.alloc()) {
+        match whole.to_bytes(rt.alloc()) {
             Ok(bytes) => {
-                check_bytes(&rt, row.name, &bytes, &generated.bytes);
-                check_count(&rt, row.name, refused, ONE_GROWTH);
+                check_bytes(rt, name, &bytes, expected);
+                check_count(rt, name, refused, loans_before(expected.len()));
                 return Ok(());
             }
-            Err(error) => check_out_of_memory(&rt, row.name, error),
+            Err(error) => check_out_of_memory(rt, name, error),
         }
     }
-    is_never_enough(&rt, row.name)
+    is_never_enough(rt, name)
 }
 
-#[test]
-fn a_module_is_written_with_one_growth(rt: HostRuntime) -> Result<(), Fail> {
+fn module<R: Abort + AllocGlobal>(rt: &R) -> Result<Module, Fail> {
     let Ok(module) = Module::from_parts(one_function(rt.alloc())?) else {
         panic!(rt; "the parts disagree");
     };
-    let mut memory = Scarcity::new(rt.alloc())?;
-    for refused in 0..LOANS {
-        memory.lend();
-        match module.to_bytes(rt.alloc()) {
-            Ok(bytes) => {
-                check_holds(&rt, "a module", bytes.ends_with(ONE_FUNCTION));
-                check_count(&rt, "a module", bytes.len(), 28);
-                check_count(&rt, "a module", refused, ONE_GROWTH);
-                return Ok(());
-            }
-            Err(error) => check_out_of_memory(&rt, "a module", error),
-        }
-    }
-    is_never_enough(&rt, "a module")
+    Ok(module)
+}
+
+#[test]
+fn components_and_modules_are_written_with_one_growth(rt: HostRuntime) -> Result<(), Fail> {
+    let row = ROWS[0];
+    let mut u = Unstructured::new(row.input);
+    let component = Component::new(rt.alloc(), small_limits(), &mut u)?;
+    check_holds(&rt, row.name, component.measure()? == 38);
+    let mut expected = Vec::from_slice(rt.alloc(), PREAMBLE)?;
+    expected.extend_from_slice(row.bytes)?;
+    check_whole(&rt, row.name, &Whole::Component(component), &expected)?;
+    let mut expected = Vec::from_slice(rt.alloc(), &CORE_PREAMBLE)?;
+    expected.extend_from_slice(ONE_FUNCTION)?;
+    check_count(&rt, "a module", expected.len(), 28);
+    check_whole(&rt, "a module", &Whole::Module(module(&rt)?), &expected)
 }
 
 // What makes a name.
@@ -313,6 +329,15 @@ impl Written {
 // The allocator's smallest block has so many bytes, and what has fewer grows within it without a refusal.
 const SMALLEST_BLOCK: usize = 24;
 
+// The room of a full buffer of the smallest block that has doubled once, or twice in one loan, to hold so many bytes.
+fn doubled(bytes: usize) -> usize {
+    if bytes <= 2 * SMALLEST_BLOCK {
+        2 * SMALLEST_BLOCK
+    } else {
+        4 * SMALLEST_BLOCK
+    }
+}
+
 // The bytes are written after refusals that leave the buffer as it was.
 fn check_written<R: Abort + AllocGlobal>(
     rt: &R,
@@ -329,7 +354,7 @@ fn check_written<R: Abort + AllocGlobal>(
             Ok(()) => {
                 check_holds(rt, name, out.starts_with(&full));
                 check_holds(rt, name, out.ends_with(expected));
-                check_holds(rt, name, 0 < refused);
+                check_count(rt, name, refused, loans_before(doubled(out.len())));
                 return Ok(());
             }
             Err(error) => {
@@ -341,39 +366,49 @@ fn check_written<R: Abort + AllocGlobal>(
     is_never_enough(rt, name)
 }
 
-#[test]
-fn types_are_written_while_memory_runs_out(rt: HostRuntime) -> Result<(), Fail> {
-    let alloc = rt.alloc();
+// A function type of nothing, and a core function type of nothing.
+fn empty_types(alloc: Global) -> Result<(DefType, CoreType), Fail> {
     let func = FuncType {
         params: Vec::new(alloc),
         result: None,
     };
-    let ty = Written::Type(DefType::Func(Rc::new(alloc, func)?));
-    check_written(&rt, "a function type", &ty, b"\x40\x00\x01\x00")?;
     let core = smith_core::FuncType {
         params: Vec::new(alloc),
         results: Vec::new(alloc),
     };
-    let core = Written::CoreType(CoreType::Func(Rc::new(alloc, core)?));
-    check_written(&rt, "a core function type", &core, b"\x60\x00\x00")
+    Ok((
+        DefType::Func(Rc::new(alloc, func)?),
+        CoreType::Func(Rc::new(alloc, core)?),
+    ))
 }
 
 #[test]
-fn imports_are_written_while_memory_runs_out(rt: HostRuntime) -> Result<(), Fail> {
-    let import = Written::Import(Import {
+fn each_sort_is_written_while_memory_runs_out(rt: HostRuntime) -> Result<(), Fail> {
+    let (ty, core) = empty_types(rt.alloc())?;
+    let import = Import {
         name: String::from_str(rt.alloc(), "a")?,
         url: None,
         ty: ComponentTypeRef::Module(3),
-    });
-    check_written(&rt, "an import", &import, b"\x00\x01a\x00\x11\x03")?;
-    let memory = Written::Entity(EntityType::Memory(PAGE));
-    check_written(&rt, "a memory", &memory, b"\x02\x00\x01")
-}
-
-#[test]
-fn modules_are_written_while_memory_runs_out(rt: HostRuntime) -> Result<(), Fail> {
-    let Ok(module) = Module::from_parts(one_function(rt.alloc())?) else {
-        panic!(rt; "the parts disagree");
     };
-    check_written(&rt, "a module", &Written::Module(module), ONE_FUNCTION)
+    let memory = EntityType::Memory(PAGE);
+    let module = Written::Module(module(&rt)?);
+    let rows: [(&str, Written, &[u8]); 5] = [
+        ("a function type", Written::Type(ty), b"\x40\x00\x01\x00"),
+        (
+            "a core function type",
+            Written::CoreType(core),
+            b"\x60\x00\x00",
+        ),
+        (
+            "an import",
+            Written::Import(import),
+            b"\x00\x01a\x00\x11\x03",
+        ),
+        ("a memory", Written::Entity(memory), b"\x02\x00\x01"),
+        ("a module", module, ONE_FUNCTION),
+    ];
+    for (name, written, expected) in &rows {
+        check_written(&rt, name, written, expected)?;
+    }
+    Ok(())
 }

@@ -27,17 +27,22 @@ pub struct Scarcity {
     room: usize,
 }
 
+// A block for each loan.
+fn blocks(alloc: Global) -> Result<Vec<Vec<u8>>, AllocError> {
+    let mut kept = Vec::with_capacity(alloc, LOANS)?;
+    for _ in 0..LOANS {
+        kept.push(Vec::with_capacity(alloc, BLOCK)?)?;
+    }
+    Ok(kept)
+}
+
 impl Scarcity {
     /// Takes all memory. The first loan is of nothing.
     pub fn new(alloc: Global) -> Result<Scarcity, AllocError> {
-        let mut kept = Vec::with_capacity(alloc, LOANS)?;
-        for _ in 0..LOANS {
-            kept.push(Vec::with_capacity(alloc, BLOCK)?)?;
-        }
         let mut memory = Scarcity {
             alloc,
+            kept: blocks(alloc)?,
             taken: Vec::with_capacity(alloc, MOST)?,
-            kept,
             room: 0,
         };
         for exponent in 0..33u32 {
@@ -61,9 +66,9 @@ impl Scarcity {
 
     // Takes the small blocks that are free, of each size.
     fn take_small(&mut self) {
-        for exponent in 0..3u32 {
-            self.take(1usize << (13 - exponent));
-        }
+        self.take(8192);
+        self.take(4096);
+        self.take(2048);
         for steps in 0..128usize {
             self.take(2048 - STEP * steps);
         }

@@ -15,7 +15,7 @@ pub record IsGivenUp (e : Error) (p : Piece) : Type 0 where
   pub only : (e ≡ TooLong) ⊎ (e ≡ OutOfMemory)
   pub too_long : e ≡ TooLong → p ≡ None
 
--- A writer put the piece behind what was there. After an error any bytes may stand in the buffer.
+-- A writer put the piece after what was there. After an error any bytes may stand in the buffer.
 abbrev pub Writes : {A : Type 0} → Result A Error → Vec ℕ Global → Vec ℕ Global → Piece → Type 0
 Writes (Ok _) old new p = Adds old new p
 Writes (Err e) old new p = IsGivenUp e p

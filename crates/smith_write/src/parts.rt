@@ -1,5 +1,5 @@
 //! Components (Binary.md, component definitions). The contents of each section are written into a buffer of their own,
-//! and then put behind their length.
+//! and then put after their length.
 
 ghost use Rattle.std.specs.Prelude.{◌≡◌, None, IfErr, IfOk, map};
 ghost use Rattle.smith_format.specs.Piece.{◌⊕◌, byte, raw, sized, text, u};

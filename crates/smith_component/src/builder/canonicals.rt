@@ -5,7 +5,7 @@ ghost use Rattle.std.specs.Prelude.{IfErr, MatchOption};
 ghost use Rattle.smith_input.specs.Choices.{ReadsAmong};
 ghost use Rattle.smith_input.specs.Loops.{Loop};
 ghost use Rattle.smith_input.specs.Reading.{IsTail};
-ghost use Rattle.smith_format.specs.Limits.{max_u32};
+ghost use Rattle.smith_format.specs.Consistency.{max_u32};
 ghost use Rattle.smith_scopes.specs.Scopes.{own_scope};
 ghost use Rattle.smith_component.specs.AddedSections.{AddsCanons};
 ghost use Rattle.smith_component.specs.BuilderView.{stack_of, IsSound};

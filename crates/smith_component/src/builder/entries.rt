@@ -3,7 +3,7 @@
 ghost use Rattle.std.specs.Prelude.{◌≡◌, ℕ, ◌+◌, ◌<◌, ◌≤◌, List, length, IfOk, IfErr, OnOk};
 ghost use Rattle.smith_input.specs.Loops.{Loop, Never};
 ghost use Rattle.smith_input.specs.Reading.{IsTail};
-ghost use Rattle.smith_format.specs.Limits.{max_u32};
+ghost use Rattle.smith_format.specs.Consistency.{max_u32};
 ghost use Rattle.smith_format.specs.declared.config.Config.{Config};
 ghost use Rattle.smith_scopes.specs.Scopes.{own_scope, outer_scopes};
 ghost use Rattle.smith_syntax.specs.Scope.{Scope};

@@ -3,7 +3,7 @@
 ghost use Rattle.std.specs.Prelude.{◌≡◌, ◌+◌, ◌<◌, ◌≤◌, [], List, length, map, IfOk, IfErr, OnOk};
 ghost use Rattle.smith_input.specs.Reading.{IsTail};
 ghost use Rattle.smith_input.specs.Loops.{Loop};
-ghost use Rattle.smith_format.specs.Limits.{max_u32};
+ghost use Rattle.smith_format.specs.Consistency.{max_u32};
 ghost use Rattle.smith_scopes.specs.Scopes.{own_scope};
 ghost use Rattle.smith_component.specs.Exports.{NoExport, ReadsExport};
 ghost use Rattle.smith_component.specs.ExportsState.{ExportsOne, ExportsState};

@@ -1,7 +1,7 @@
 //! What is kept of a component beside its sections, so that no turn searches them.
 
 ghost use Rattle.std.specs.Prelude.{◌≡◌, ◌+◌, ◌<◌, [], length, OnOk};
-ghost use Rattle.smith_format.specs.Limits.{max_u32};
+ghost use Rattle.smith_format.specs.Consistency.{max_u32};
 ghost use Rattle.smith_types.specs.MakingTypes.{HoldsExterns};
 ghost use Rattle.smith_scopes.specs.Scopes.{own_scope};
 ghost use Rattle.smith_tree.specs.Offers.{is_scalar_type};

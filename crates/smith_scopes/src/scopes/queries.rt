@@ -1,9 +1,9 @@
 //! What stands in scopes: how much, and at which index.
 
 ghost use Rattle.std.specs.Prelude.{◌≡◌, ◌<◌, ◌≤◌, length, Some, slice_get};
-ghost use Rattle.smith_format.specs.Limits.{max_u32};
-ghost use Rattle.smith_syntax.specs.Scope.{places};
-ghost use Rattle.smith_syntax.specs.Shown.{has_signature};
+ghost use Rattle.smith_format.specs.Consistency.{max_u32};
+ghost use Rattle.smith_syntax.specs.Places.{places};
+ghost use Rattle.smith_syntax.specs.HasSignature.{has_signature};
 ghost use Rattle.smith_scopes.specs.Scopes.{own_scope, kind_places, last_of, scope_at};
 
 use crate::scopes::{Kind, Scope, Scopes};

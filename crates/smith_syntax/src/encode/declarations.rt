@@ -5,8 +5,8 @@ ghost use Rattle.std.specs.Prelude.{ℕ, ◌≤◌, Bool, true, false};
 ghost use Rattle.smith_format.specs.Piece.{◌⊕◌, byte, bytes, many, u};
 ghost use Rattle.smith_format.specs.Writing.{Puts, Takes, IsLengthOf};
 ghost use Rattle.smith_syntax.specs.Grammar.{core_entry, named_extern, entry, decl};
-ghost use Rattle.smith_syntax.specs.Shown.{shown_type, shown_core, shown_alias};
-ghost use Rattle.smith_syntax.specs.Shown.{shown_component_decl, shown_instance_decl};
+ghost use Rattle.smith_syntax.specs.Shown.{shown_type, shown_core};
+ghost use Rattle.smith_syntax.specs.ShownDecls.{shown_alias, shown_component_decl, shown_instance_decl};
 
 use super::core_types::{core_type_len, write_core_type};
 use super::externs::{named_len, put_named};

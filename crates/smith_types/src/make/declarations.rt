@@ -4,7 +4,7 @@ ghost use Rattle.std.specs.Prelude.{◌≡◌, ◌<◌, ◌≤◌, List, [], ◌
 ghost use Rattle.std.specs.Prelude.{IfOk, OnOk, IfErr};
 ghost use Rattle.smith_input.specs.Choices.{ReadsAmong};
 ghost use Rattle.smith_input.specs.Reading.{IsTail};
-ghost use Rattle.smith_syntax.specs.Shown.{full_alias, full_instance_decl};
+ghost use Rattle.smith_syntax.specs.ShownDecls.{full_alias, full_instance_decl};
 ghost use Rattle.smith_syntax.specs.WellFormed.{export_of, import_of, FormedRef};
 ghost use Rattle.smith_types.specs.Declarations.{NamedExtern, ReadsAlias, ReadsExportDecl};
 ghost use Rattle.smith_tree.specs.TypeOffers.{declaration_items, has_reference, occupied};

@@ -3,7 +3,7 @@
 ghost use Rattle.std.specs.Prelude.{◌≡◌, ◌≤◌, ◌<◌, List, [], ◌++◌, true};
 ghost use Rattle.std.specs.Prelude.{length, IfOk, IfErr};
 ghost use Rattle.smith_input.specs.Reading.{IsTail};
-ghost use Rattle.smith_syntax.specs.Shown.{full_component_decl, full_instance_decl};
+ghost use Rattle.smith_syntax.specs.ShownDecls.{full_component_decl, full_instance_decl};
 ghost use Rattle.smith_syntax.specs.WellFormed.{export_of, import_of};
 ghost use Rattle.smith_types.specs.Declarations.{NamedExtern, NoImportDecl};
 ghost use Rattle.smith_types.specs.Made.{MadeDeclaration};

@@ -1,7 +1,8 @@
 //! What makers of types go by.
 
 ghost use Rattle.std.specs.Prelude.{◌≡◌};
-ghost use Rattle.smith_format.specs.Limits.{configured, IsConsistent};
+ghost use Rattle.smith_format.specs.Limits.{configured};
+ghost use Rattle.smith_format.specs.Consistency.{IsConsistent};
 
 use smith_format::{Config, ValType};
 use std::alloc::Global;

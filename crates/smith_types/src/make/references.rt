@@ -4,7 +4,7 @@ ghost use Rattle.std.specs.Prelude.{◌≡◌, ◌<◌, ◌≤◌, ◌&&◌, ◌
 ghost use Rattle.std.specs.Prelude.{slice_get, Some, MatchOption};
 ghost use Rattle.smith_input.specs.Choices.{ReadsAmong};
 ghost use Rattle.smith_input.specs.Reading.{IsTail};
-ghost use Rattle.smith_format.specs.Limits.{max_u32};
+ghost use Rattle.smith_format.specs.Consistency.{max_u32};
 ghost use Rattle.smith_syntax.specs.WellFormed.{FormedRef};
 ghost use Rattle.smith_tree.specs.TypeOffers.{IsAllowed, allows_equal, allows_one, has_place, ref_kinds, ref_places};
 ghost use Rattle.smith_types.specs.References.{MaybeRef, ref_to};

@@ -4,7 +4,7 @@ use Rattle.smith_input.specs.Choices.{ReadsAmong}
 use Rattle.smith_syntax.specs.Entries.{aliases}
 use Rattle.smith_core_types.specs.MakingCore.{choices_among, shown_funcs}
 use Rattle.smith_syntax.specs.ModuleTypes.{aliased}
-use Rattle.smith_syntax.specs.Scope.{own_of}
+use Rattle.smith_syntax.specs.Places.{own_of}
 use Rattle.smith_scopes.specs.Scopes.{inward}
 use Rattle.smith_syntax.specs.Shown.{shown_decl}
 use Rattle.smith_syntax.specs.declared.core_types.ModuleTypeDef.TheVariants as decl

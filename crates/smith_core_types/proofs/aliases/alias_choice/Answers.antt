@@ -5,7 +5,7 @@ use Rattle.std.proofs.lemmas.Option.{slice_get-map, slice_get_read}
 use Rattle.smith_format.specs.Shown.{shown_func}
 use Rattle.smith_input.specs.Reading.{Reads}
 use Rattle.smith_core_types.specs.MakingCore.{shown_funcs}
-use Rattle.smith_syntax.specs.Scope.{own_of}
+use Rattle.smith_syntax.specs.Places.{own_of}
 use Rattle.smith_scopes.specs.Scopes.{inward}
 use Rattle.smith_core_types.proofs.MakingCore.{choices_count, choice_around, choice_own}
 use Rattle.smith_core_types.proofs.aliases.alias_choice.Goals as goal

@@ -2,7 +2,7 @@ use Rattle.std.proofs.Common.{arith}
 use Rattle.std.proofs.lemmas.List.{length-map}
 use Rattle.smith_format.specs.Shown.{shown_func}
 use Rattle.smith_core_types.specs.MakingCore.{shown_funcs}
-use Rattle.smith_syntax.specs.Scope.{own_of}
+use Rattle.smith_syntax.specs.Places.{own_of}
 use Rattle.smith_scopes.specs.Scopes.{inward}
 use Rattle.smith_core_types.proofs.MakingCore.{choices_count}
 use Rattle.smith_core_types.proofs.aliases.alias_count.Goals as goal

@@ -2,7 +2,7 @@ use Rattle.std.proofs.Common.{sym, ap, ◌∙◌, subst, ◌+◌, ◌≤◌, ℕ
 use Rattle.smith_syntax.specs.CoreLimits.{CoreLimits}
 use Rattle.smith_core_types.specs.MadeCore.{MadeCore}
 use Rattle.smith_core_types.specs.MakingCore.{KeepsAliased}
-use Rattle.smith_syntax.specs.Scope.{own_of}
+use Rattle.smith_syntax.specs.Places.{own_of}
 use Rattle.smith_scopes.specs.Scopes.{inward}
 use Rattle.smith_syntax.specs.Shown.{shown_core}
 use Rattle.smith_syntax.specs.WellFormed.{FormedCore, core_size}

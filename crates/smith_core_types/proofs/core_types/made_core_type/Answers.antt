@@ -3,7 +3,7 @@ use Rattle.smith_input.specs.Reading.{Reads}
 use Rattle.smith_syntax.specs.Entries.{core_module}
 use Rattle.smith_core_types.specs.MadeCore.{MadeModule, of_function, of_module, spent_core}
 use Rattle.smith_core_types.specs.MakingCore.{KeepEach}
-use Rattle.smith_syntax.specs.Scope.{own_of}
+use Rattle.smith_syntax.specs.Places.{own_of}
 use Rattle.smith_scopes.specs.Scopes.{inward}
 use Rattle.smith_syntax.specs.Shown.{shown_decl}
 use Rattle.smith_core_types.proofs.core_types.made_core_type.Goals as goal

@@ -2,7 +2,7 @@ use Rattle.std.proofs.Common.{◌≡◌, ◌++◌}
 use Rattle.std.proofs.Math.ListN.{drop}
 use Rattle.smith_core_types.specs.MakingCore.{shown_funcs}
 use Rattle.smith_syntax.specs.ModuleTypes.{is_tag_type}
-use Rattle.smith_syntax.specs.Scope.{places}
+use Rattle.smith_syntax.specs.Places.{places}
 use Rattle.smith_core_types.proofs.declared.tag_types.Given as goal
 
 abbrev pub invariant-loop-i : goal.invariant-loop-i

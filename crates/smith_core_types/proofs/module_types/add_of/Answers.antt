@@ -1,6 +1,6 @@
 use Rattle.std.proofs.Common.{true, sym, subst, ◌-◌}
 use Rattle.smith_core_types.specs.MakingCore.{AddsDecl, so_far}
-use Rattle.smith_syntax.specs.Scope.{own_of}
+use Rattle.smith_syntax.specs.Places.{own_of}
 use Rattle.smith_scopes.specs.Scopes.{inward}
 use Rattle.smith_tree.specs.declared.choices.ModuleItem.{ModuleItem}
 use Rattle.smith_core_types.proofs.module_types.add_of.Goals as goal

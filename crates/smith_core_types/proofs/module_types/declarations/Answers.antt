@@ -3,7 +3,7 @@ use Rattle.smith_input.proofs.Loops.{begins, stops, ends_early, ends_full, goes_
 use Rattle.smith_input.proofs.Reading.{tail_same, tail_trans, more_tail}
 use Rattle.smith_core_types.specs.MadeCore.{no_fuel}
 use Rattle.smith_core_types.specs.MakingCore.{DeclTurn, so_far}
-use Rattle.smith_syntax.specs.Scope.{own_of}
+use Rattle.smith_syntax.specs.Places.{own_of}
 use Rattle.smith_scopes.specs.Scopes.{inward}
 use Rattle.smith_core_types.proofs.module_types.declarations.Goals as goal
 

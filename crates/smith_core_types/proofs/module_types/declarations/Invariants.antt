@@ -4,7 +4,7 @@ use Rattle.smith_input.proofs.Loops.{Onward}
 use Rattle.smith_syntax.specs.Entries.{ModuleDecl}
 use Rattle.smith_core_types.specs.MadeCore.{EndsModuleType, ReadsDecl}
 use Rattle.smith_core_types.specs.MakingCore.{KeepsDeclared, so_far}
-use Rattle.smith_syntax.specs.Scope.{own_of}
+use Rattle.smith_syntax.specs.Places.{own_of}
 use Rattle.smith_scopes.specs.Scopes.{inward}
 use Rattle.smith_core_types.proofs.module_types.declarations.Given as goal
 

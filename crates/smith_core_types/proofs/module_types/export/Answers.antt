@@ -3,7 +3,7 @@ use Rattle.smith_syntax.specs.Entries.{exports}
 use Rattle.smith_input.specs.Texts.{ReadsNewText}
 use Rattle.smith_core_types.specs.MadeCore.{ReadsExportName}
 use Rattle.smith_core_types.specs.MakingCore.{MaybeEntity, shown_funcs, so_far}
-use Rattle.smith_syntax.specs.ModuleTypes.{export_names}
+use Rattle.smith_syntax.specs.ModuleTypes.{module_export_names}
 use Rattle.smith_syntax.specs.Shown.{shown_decl}
 use Rattle.smith_core_types.proofs.KeptAliases.{keep_more}
 use Rattle.smith_scopes.proofs.Plain.{pushed}
@@ -14,7 +14,7 @@ pub returns-in-None-clause-adds : goal.returns-in-None-clause-adds
 returns-in-None-clause-adds c around fuel =
     let s = so_far c.args.declared.now fuel in
     let none = subst (λ e. MaybeEntity c.args.making.now.config.now s c.export_name.new.u e c.entity.new.u) c.in-None.is (c.in_ok-entity.ensures.reads fuel) in
-    let N : List _ → Type 0 = λ ds. ReadsNewText 100 (export_names (map shown_decl ds)) c.args.u.now (string_bytes c.in_ok-name.name) c.export_name.new.u in
+    let N : List _ → Type 0 = λ ds. ReadsNewText 100 (module_export_names (map shown_decl ds)) c.args.u.now (string_bytes c.in_ok-name.name) c.export_name.new.u in
     let R : List ℕ → Type 0 = λ r. ReadsExportName s c.args.u.now (string_bytes c.in_ok-name.name) r in
     ((string_bytes c.in_ok-name.name, subst R (sym none.1) (subst N c.deref.ensures.value c.in_ok-name.ensures.reads), none.0), refl)
 
@@ -24,7 +24,7 @@ returns-in_ok-push-in-Some-clause-adds c around fuel =
     let some = subst (λ e. MaybeEntity c.args.making.now.config.now (so_far old fuel) c.export_name.new.u e c.entity.new.u) c.in-Some.is
     (c.in_ok-entity.ensures.reads fuel) in
     let name = string_bytes c.in_ok-name.name in
-    let N : List _ → Type 0 = λ ds. ReadsNewText 100 (export_names (map shown_decl ds)) c.args.u.now name c.export_name.new.u in
+    let N : List _ → Type 0 = λ ds. ReadsNewText 100 (module_export_names (map shown_decl ds)) c.args.u.now name c.export_name.new.u in
     let decls = pushed shown_decl old.defs.items c.push.new.self.items _ c.in_ok-push-in-Some.ensures.items in (
       exports name c.in-Some.entity,
       (name, c.export_name.new.u, subst N c.deref.ensures.value c.in_ok-name.ensures.reads, c.in-Some.entity, some, refl),

@@ -1,4 +1,4 @@
-use Rattle.smith_syntax.specs.Scope.{own_of}
+use Rattle.smith_syntax.specs.Places.{own_of}
 use Rattle.smith_scopes.specs.Scopes.{inward}
 use Rattle.smith_core_types.proofs.module_types.module_type.Goals as goal
 

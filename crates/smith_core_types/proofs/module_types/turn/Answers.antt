@@ -1,6 +1,6 @@
 use Rattle.std.proofs.lemmas.Result.{IfOk-weaker}
 use Rattle.smith_core_types.specs.MakingCore.{so_far}
-use Rattle.smith_syntax.specs.Scope.{own_of}
+use Rattle.smith_syntax.specs.Places.{own_of}
 use Rattle.smith_scopes.specs.Scopes.{inward}
 use Rattle.smith_core_types.proofs.MakingCore.{turns_of}
 use Rattle.smith_core_types.proofs.module_types.turn.Goals as goal

@@ -4,7 +4,8 @@ use Rattle.std.specs.Prelude.{int_lt}
 use Rattle.std.specs.Int.{w64}
 use Rattle.std.specs.Int.RustNames.{FitsSigned}
 use mir.Val.{to_z, of_z}
-use Rattle.smith_format.specs.Numbers.{signed, low_bits, high_bits}
+use Rattle.smith_format.specs.Numbers.{signed}
+use Rattle.smith_format.specs.Division.{low_bits, high_bits}
 use Rattle.smith_format.specs.Piece.{s}
 use Rattle.smith_format.specs.Writing.{Puts}
 use Rattle.smith_format.proofs.Digits.{signed_last, signed_more, signed_some}

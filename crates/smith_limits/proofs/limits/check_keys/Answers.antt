@@ -1,7 +1,7 @@
-use Rattle.std.proofs.Common.{◌≡◌, ◌∙◌, ap, sym, List, ℕ, Option, Some, None, option_map, string_bytes}
+use Rattle.std.proofs.Common.{◌≡◌, ◌∙◌, ap, sym, Some, None, option_map, string_bytes}
 use Rattle.toml.specs.View.{table_view}
 use Rattle.smith_limits.specs.Limits.{unknown_in}
-use Rattle.smith_limits.proofs.Told.{unknown_in-entries}
+use Rattle.smith_limits.proofs.Sets.{unknown_in-entries}
 use Rattle.smith_limits.proofs.limits.check_keys.Goals as goal
 
 pub returns-in-None-clause-known : goal.returns-in-None-clause-known

@@ -4,7 +4,7 @@ use Rattle.std.specs.Option.{is_some}
 use Rattle.toml.specs.View.{table_view}
 use Rattle.smith_limits.specs.Keys.{all_keys}
 use Rattle.smith_limits.specs.Limits.{is_wrong}
-use Rattle.smith_limits.proofs.Told.{wrong_somewhere}
+use Rattle.smith_limits.proofs.Sets.{wrong_somewhere}
 use Rattle.smith_limits.proofs.limits.check_values.Goals as goal
 
 -- What was found to be wrong is not found to be right.

@@ -1,9 +1,9 @@
 use Rattle.toml.specs.View.{table_view}
-use Rattle.smith_format.specs.Limits.{IsDefault}
+use Rattle.smith_format.specs.Consistency.{IsDefault}
 use Rattle.smith_format.specs.declared.config.Config.{Config}
 use Rattle.smith_limits.specs.Limits.{IsRefused}
 use Rattle.smith_limits.specs.declared.limits.Fault.{Fault}
-use Rattle.smith_limits.proofs.Told.{refused}
+use Rattle.smith_limits.proofs.Sets.{refused}
 use Rattle.smith_limits.proofs.limits.limits_of.Goals as goal
 
 pub returns-in_err-check_keys-clause-refused : goal.returns-in_err-check_keys-clause-refused

@@ -1,6 +1,6 @@
 use Rattle.std.proofs.Common.{◌∙◌}
 use Rattle.smith_read_types.specs.TypeNodes.{shown_type_node}
-use Rattle.smith_syntax.specs.Shown.{is_of_signature}
+use Rattle.smith_syntax.specs.HasSignature.{is_of_signature}
 use Rattle.smith_script_core.proofs.Saying.{ends}
 use Rattle.smith_script.proofs.Steps.{places_shown}
 use Rattle.smith_script.proofs.lifts.put_lifted_type.Goals as goal

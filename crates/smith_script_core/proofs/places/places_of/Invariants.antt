@@ -1,5 +1,5 @@
 use Rattle.std.proofs.Common.{◌≡◌, ◌++◌, drop}
-use Rattle.smith_syntax.specs.Scope.{places}
+use Rattle.smith_syntax.specs.Places.{places}
 use Rattle.smith_script_core.proofs.places.places_of.Given as goal
 
 abbrev pub invariant-loop-place : goal.invariant-loop-place

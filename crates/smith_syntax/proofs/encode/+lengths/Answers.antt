@@ -1,7 +1,7 @@
 use Rattle.std.proofs.Common.{arith, true, false}
 use Rattle.smith_format.proofs.Sizes.{sum_none, sum_next, sum_all, each_too_much, each_reaches, many_too_much, length_then, too_much_right}
 use Rattle.smith_syntax.specs.Grammar.{decl}
-use Rattle.smith_syntax.specs.Shown.{shown_component_decl, shown_instance_decl}
+use Rattle.smith_syntax.specs.ShownDecls.{shown_component_decl, shown_instance_decl}
 use Rattle.smith_syntax.proofs.Declarations.{entry_component, entry_instance, length_behind}
 use Rattle.smith_syntax.proofs.encode.+lengths.Goals as goal
 

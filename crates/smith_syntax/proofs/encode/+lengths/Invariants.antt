@@ -1,7 +1,7 @@
 use Rattle.std.proofs.Common.{true, false}
 use Rattle.smith_format.proofs.Sizes.{Sum}
 use Rattle.smith_syntax.specs.Grammar.{decl}
-use Rattle.smith_syntax.specs.Shown.{shown_component_decl, shown_instance_decl}
+use Rattle.smith_syntax.specs.ShownDecls.{shown_component_decl, shown_instance_decl}
 use Rattle.smith_syntax.proofs.encode.+lengths.Given as goal
 
 abbrev pub invariant-declarations::component_decls_len-loop-declared : goal.invariant-declarations::component_decls_len-loop-declared

@@ -1,7 +1,7 @@
 use Rattle.std.proofs.Common.{ℕ, ◌+◌, ◌≤◌, subst}
 use Rattle.std.specs.Prelude.{max}
 use Rattle.smith_syntax.specs.Shown.{shown_shared}
-use Rattle.smith_syntax.specs.TypeLimits.{nesting}
+use Rattle.smith_syntax.specs.Nesting.{nesting}
 use Rattle.smith_scopes.specs.Scopes.{inward}
 use Rattle.smith_types.proofs.MadeFormed.{made_formed}
 use Rattle.smith_types.proofs.MadeTypes.{made_limits, made_size, stack_nesting}

@@ -3,7 +3,8 @@ use Rattle.std.proofs.lemmas.List.{length-map}
 use Rattle.std.specs.BTreeSet.{btree_set_len}
 use Rattle.std.specs.List.{AllByRecursion}
 use Rattle.smith_input.specs.Loops.{Loop}
-use Rattle.smith_syntax.specs.Scope.{Scope, own_of}
+use Rattle.smith_syntax.specs.Scope.{Scope}
+use Rattle.smith_syntax.specs.Places.{own_of}
 use Rattle.smith_types.specs.MakingTypes.{HoldsExterns}
 use Rattle.smith_scopes.specs.Scopes.{own_scope}
 use Rattle.smith_component.specs.BuilderView.{IsSound, stack_of}

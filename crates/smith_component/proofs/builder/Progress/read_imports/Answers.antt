@@ -3,7 +3,7 @@ use Rattle.std.specs.Prelude.{Option}
 use Rattle.smith_input.proofs.Loops.{Onward, begins, ends_early, ends_full, goes_on, stops}
 use Rattle.smith_input.proofs.Reading.{more_tail, tail_same, tail_trans}
 use Rattle.smith_scopes.specs.Scopes.{own_scope}
-use Rattle.smith_syntax.specs.Scope.{own_of}
+use Rattle.smith_syntax.specs.Places.{own_of}
 use Rattle.smith_syntax.specs.declared.deftype.Import.{Import}
 use Rattle.smith_types.specs.MakingTypes.{HoldsExterns}
 use Rattle.smith_component.specs.BuilderView.{IsSound, stack_of}

@@ -1,7 +1,7 @@
 use Rattle.std.proofs.Common.{◌≡◌, ◌+◌, ◌-◌, ◌≤◌, [], length, map}
 use Rattle.smith_input.specs.Reading.{IsTail}
 use Rattle.smith_input.proofs.Loops.{Onward}
-use Rattle.smith_format.specs.Limits.{max_u32}
+use Rattle.smith_format.specs.Consistency.{max_u32}
 use Rattle.smith_scopes.specs.Scopes.{own_scope}
 use Rattle.smith_component.specs.Exports.{NoExport, ReadsExport}
 use Rattle.smith_component.specs.ExportsState.{ExportsState}

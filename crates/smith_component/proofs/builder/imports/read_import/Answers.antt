@@ -6,9 +6,10 @@ use Rattle.std.specs.Prelude.{if◌then◌else◌}
 use Rattle.std.proofs.lemmas.Option.{slice_get_within}
 use Rattle.smith_input.proofs.Reading.{tail_trans}
 use Rattle.smith_format.specs.declared.config.Config.{Config}
-use Rattle.smith_format.specs.Limits.{max_u32}
+use Rattle.smith_format.specs.Consistency.{max_u32}
 use Rattle.smith_syntax.specs.Entries.{ImportEntry}
-use Rattle.smith_syntax.specs.Scope.{Scope, places}
+use Rattle.smith_syntax.specs.Scope.{Scope}
+use Rattle.smith_syntax.specs.Places.{places}
 use Rattle.smith_syntax.specs.Shown.{import_shown}
 use Rattle.smith_syntax.specs.WellFormed.{FormedRef}
 use Rattle.smith_syntax.specs.declared.deftype.ComponentTypeRef.{ComponentTypeRef}

@@ -1,6 +1,6 @@
 use Rattle.std.proofs.Common.{◌≡◌}
 use Rattle.smith_input.specs.Reading.{IsTail}
-use Rattle.smith_format.specs.Limits.{IsConsistent}
+use Rattle.smith_format.specs.Consistency.{IsConsistent}
 use Rattle.smith_component.specs.BuilderView.{stack_of, IsSound}
 use Rattle.smith_component.specs.Runs.{todo}
 use Rattle.smith_component.proofs.RunsTo.{Reached}

@@ -1,4 +1,5 @@
-use Rattle.smith_syntax.specs.Scope.{is_defined, is_func, is_component, is_instance, is_core_func, is_core_module}
+use Rattle.smith_syntax.specs.Scope.{is_defined, is_func, is_component, is_instance, is_core_module}
+use Rattle.smith_syntax.specs.Places.{is_core_func}
 use Rattle.smith_syntax.specs.Shown.{shown_type, shown_core}
 use Rattle.smith_scopes.specs.Scopes.{values_of}
 use Rattle.smith_scopes.proofs.Tied.{few_places}

@@ -1,5 +1,5 @@
 use Rattle.std.proofs.Common.{◌<◌, ◌∷◌, [], ◌++◌, length, sym, ap, ◌∙◌}
-use Rattle.smith_format.specs.Limits.{max_u32}
+use Rattle.smith_format.specs.Consistency.{max_u32}
 use Rattle.smith_scopes.specs.Scopes.{values_of}
 use Rattle.smith_scopes.proofs.Tied.{pushed_core_func, pushed_module, types_kept}
 use Rattle.smith_scopes.proofs.scopes.Scope.push_core_type.Goals as goal

@@ -1,5 +1,5 @@
 use Rattle.std.proofs.Common.{◌<◌, ◌∷◌, [], ◌++◌, length, sym, ap, ◌∙◌, rules}
-use Rattle.smith_format.specs.Limits.{max_u32}
+use Rattle.smith_format.specs.Consistency.{max_u32}
 use Rattle.smith_scopes.specs.Scopes.{row_of, values_of}
 use Rattle.smith_scopes.proofs.Tied.{pushed_defined, pushed_function, pushed_component, pushed_instance, core_kept}
 use Rattle.smith_scopes.proofs.scopes.Scope.push_type.Goals as goal

@@ -1,7 +1,7 @@
 use Rattle.std.proofs.Common.{◌<◌, rules, length}
 use Rattle.std.proofs.lemmas.Option.{slice_get-get_or}
-use Rattle.smith_syntax.specs.Scope.{places}
-use Rattle.smith_syntax.specs.Shown.{has_signature}
+use Rattle.smith_syntax.specs.Places.{places}
+use Rattle.smith_syntax.specs.HasSignature.{has_signature}
 use Rattle.smith_scopes.specs.Scopes.{last_of}
 use Rattle.smith_scopes.proofs.Stack.{places_last}
 use Rattle.smith_scopes.proofs.scopes.Scopes.equal_at.Goals as goal

@@ -1,5 +1,5 @@
 use Rattle.std.proofs.Common.{ap, length}
-use Rattle.smith_syntax.specs.Shown.{has_signature}
+use Rattle.smith_syntax.specs.HasSignature.{has_signature}
 use Rattle.smith_scopes.proofs.Stack.{places_last}
 use Rattle.smith_scopes.proofs.scopes.Scopes.equal_len.Goals as goal
 

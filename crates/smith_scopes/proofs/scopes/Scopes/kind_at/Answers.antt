@@ -1,6 +1,6 @@
 use Rattle.std.proofs.Common.{sym, ap, ◌∙◌}
 use Rattle.std.proofs.lemmas.Option.{slice_get-get_or}
-use Rattle.smith_syntax.specs.Scope.{own_of}
+use Rattle.smith_syntax.specs.Places.{own_of}
 use Rattle.smith_scopes.specs.Scopes.{inward, kind_places}
 use Rattle.smith_scopes.proofs.Stack.{own_shown}
 use Rattle.smith_scopes.proofs.scopes.Scopes.kind_at.Goals as goal

@@ -1,6 +1,6 @@
 use Rattle.std.proofs.Common.{◌≡◌, ◌<◌, sym, ap, ◌∙◌, subst, length}
 use Rattle.std.specs.Prelude.{IfOk}
-use Rattle.smith_format.specs.Limits.{max_u32}
+use Rattle.smith_format.specs.Consistency.{max_u32}
 use Rattle.smith_scopes.specs.Scopes.{last_of}
 use Rattle.smith_scopes.specs.Scopes.{Contents}
 use Rattle.smith_scopes.proofs.Stack.{last_of-snoc}

@@ -1,5 +1,5 @@
 use Rattle.std.proofs.Common.{refl, sym}
-use Rattle.smith_syntax.specs.Scope.{is_core_func}
+use Rattle.smith_syntax.specs.Places.{is_core_func}
 use Rattle.smith_script_types.proofs.Placing.{places_map}
 use Rattle.smith_script_types.specs.Scopes.{core_entry_of}
 use Rattle.smith_script_types.proofs.scopes.Scope.func_places.Goals as goal

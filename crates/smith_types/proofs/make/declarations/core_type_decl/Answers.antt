@@ -1,5 +1,6 @@
 use Rattle.std.proofs.Common.{arith, ap, sym, ◌∙◌}
-use Rattle.smith_syntax.specs.Scope.{own_of, outer_of, after_decl, with_core_type}
+use Rattle.smith_syntax.specs.Scope.{after_decl, with_core_type}
+use Rattle.smith_syntax.specs.Places.{own_of, outer_of}
 use Rattle.smith_syntax.specs.Entries.{core_type_decl, keeps_functions}
 use Rattle.smith_syntax.specs.Shown.{shown_core}
 use Rattle.smith_syntax.proofs.Shown.{instance_core_decl}

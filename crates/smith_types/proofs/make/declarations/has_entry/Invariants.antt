@@ -1,6 +1,6 @@
 use Rattle.std.proofs.Common.{◌≡◌, ◌++◌, []}
 use Rattle.std.proofs.Math.ListN.{drop}
-use Rattle.smith_syntax.specs.Scope.{places}
+use Rattle.smith_syntax.specs.Places.{places}
 use Rattle.smith_tree.specs.TypeOffers.{is_occupied}
 use Rattle.smith_scopes.specs.Scopes.{inward}
 use Rattle.smith_types.proofs.make.declarations.has_entry.Given as goal

@@ -1,6 +1,7 @@
 use Rattle.std.proofs.Common.{ap, sym, subst, ◌∙◌, List, arith, length}
-use Rattle.smith_syntax.specs.Scope.{Scope, after_decl, own_of, outer_of}
-use Rattle.smith_syntax.specs.Shown.{full_alias}
+use Rattle.smith_syntax.specs.Scope.{Scope, after_decl}
+use Rattle.smith_syntax.specs.Places.{own_of, outer_of}
+use Rattle.smith_syntax.specs.ShownDecls.{full_alias}
 use Rattle.smith_types.specs.Declarations.{ReadsAlias}
 use Rattle.smith_scopes.specs.Scopes.{inward}
 use Rattle.smith_syntax.proofs.Shown.{instance_alias}

@@ -2,7 +2,7 @@ use Rattle.std.proofs.Common.{ℕ, List, [], ◌++◌, map}
 use Rattle.smith_input.specs.Loops.{Loop}
 use Rattle.smith_input.specs.Reading.{IsTail}
 use Rattle.smith_types.specs.Made.{IsSpent, ReadsMember}
-use Rattle.smith_syntax.specs.Scope.{own_of}
+use Rattle.smith_syntax.specs.Places.{own_of}
 use Rattle.smith_scopes.specs.Scopes.{inward}
 use Rattle.smith_types.proofs.make.members.members.Given as goal
 

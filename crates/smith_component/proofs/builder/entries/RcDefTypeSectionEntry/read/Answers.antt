@@ -1,6 +1,7 @@
 use Rattle.std.proofs.Common.{◌∷◌, [], length, length-append, sym, ap, ◌∙◌, arith}
 use Rattle.smith_scopes.specs.Scopes.{inward, own_scope}
-use Rattle.smith_syntax.specs.Scope.{own_of, outer_of, with_type}
+use Rattle.smith_syntax.specs.Scope.{with_type}
+use Rattle.smith_syntax.specs.Places.{own_of, outer_of}
 use Rattle.smith_syntax.specs.Shown.{shown_type, shown_shared}
 use Rattle.smith_scopes.proofs.Stack.{length-last, length-inward, Grown, grown}
 use Rattle.smith_component.proofs.builder.entries.RcDefTypeSectionEntry.read.Goals as goal

@@ -1,0 +1,28 @@
+-- What is written within the limits that a text spells, and why nothing is.
+use Rattle.std.specs.Prelude.{◌≡◌, ℕ, List, length, ⊤, Option}
+use Rattle.smith_component.specs.declared.Config.{Config}
+use Rattle.smith_limits.specs.Texts.{IsTextFault, SpellsLimits}
+use Rattle.smith_run.specs.Running.{ComesAfterReading, GivesAll, IsRefusedOn, Writes}
+use Rattle.smith_run.specs.declared.running.Form.{Form}
+use Rattle.lupinanon.specs.declared.converting.WithinError.{WithinError}
+use Rattle.lupinanon.specs.declared.converting.WithinError.TheVariants.{Limits, Run}
+
+-- The component that is made of the whole input within the limits that the text spells is written in the form, and so many bytes of the
+-- input are left. The reader goes from `before` to `after`, and the writer from `old` to `new`.
+abbrev pub WritesWithin : List ℕ → Form → Option (List ℕ) → Option (List ℕ) → Option (List ℕ) → Option (List ℕ) → ℕ → Type 0
+WritesWithin text form before after old new count =
+    (config : Config) × SpellsLimits text config
+    × ((input left : List ℕ) × (count ≡ length left) × GivesAll before after input × Writes config form input left old new)
+
+-- Why nothing is: the text spells no limits, or the run within those that it spells gives up. What comes only after reading comes after the
+-- whole input, and a refusal is one of making a component of it.
+abbrev pub IsWithinError : List ℕ → Option (List ℕ) → Option (List ℕ) → WithinError → Type 0
+IsWithinError text before after (Limits fault) = IsTextFault text fault
+IsWithinError text before after (Run error) =
+    (config : Config) × SpellsLimits text config
+    × (ComesAfterReading error → (input : List ℕ) × GivesAll before after input × IsRefusedOn config input error)
+
+-- the text spells no limits
+abbrev pub IsOfLimits : WithinError → Type 0
+IsOfLimits (Limits fault) = ⊤
+IsOfLimits (Run error) = ⊥

@@ -1,0 +1,47 @@
+//! From a text of limits and a reader of a fuzzer's bytes to a writer of a component.
+
+ghost use Rattle.std.specs.Prelude.{◌≡◌, ◌≢◌, IfOk, IfErr, IsErrOf};
+ghost use Rattle.smith_run.specs.Running.{GivesTooMuch};
+ghost use Rattle.lupinanon.specs.Converting.{IsOfLimits, IsWithinError, WritesWithin};
+
+use smith_limits::{TextFault, limits_of_text};
+use smith_run::{Form, RunError};
+use std::alloc::Global;
+use std::io::{Read, Write};
+
+/// Why no component is written within the limits that a text spells.
+#[derive(Debug, PartialEq, Eq, Drop)]
+pub enum WithinError {
+    /// The text spells no limits.
+    Limits(TextFault),
+    /// The run within the limits gives up.
+    Run(RunError),
+}
+
+/// Reads the whole input, makes a component of it within the limits that the text spells, and writes it in the form, as
+/// `smith_run::convert` does. Answers how many bytes of the input are left. Where the text spells no limits, nothing is
+/// read.
+pub fn convert_within<R: Read, W: Write>(
+    alloc: Global,
+    text: &str,
+    reader: &mut R,
+    writer: &mut W,
+    form: Form,
+) -> Result<usize, WithinError>
+    ensures written { IfOk result (WritesWithin text.now form (R.remaining reader.old) (R.remaining reader.new)
+        (W.contents writer.old) (W.contents writer.new)) }
+    ensures refused { IfErr result (IsWithinError text.now (R.remaining reader.old) (R.remaining reader.new)) }
+    ensures unread { IfErr result (λ e. IsOfLimits e → reader.new ≡ reader.old) }
+    ensures unwritten { IfErr result (λ e. e ≢ WithinError.Run RunError.WriteFault → writer.new ≡ writer.old) }
+    ensures too_long { IsErrOf result (WithinError.Run RunError.InputTooLong)
+        → GivesTooMuch (R.remaining reader.old) (R.remaining reader.new) }
+{
+    let config = match limits_of_text(alloc, text) {
+        Ok(config) => config,
+        Err(fault) => return Err(WithinError::Limits(fault)),
+    };
+    match smith_run::convert(alloc, reader, writer, config, form) {
+        Ok(left) => Ok(left),
+        Err(error) => Err(WithinError::Run(error)),
+    }
+}

@@ -1,0 +1,27 @@
+-- The limits that a text of TOML spells, and why it spells none.
+use Rattle.std.specs.Prelude.{◌≡◌, ℕ, List, Some, None}
+use Rattle.toml.specs.Data.{Members}
+use Rattle.toml.specs.Errors.{IsBlank, IsWithin}
+use Rattle.toml.specs.Parse.{parse_document}
+use Rattle.smith_format.specs.Consistency.{IsConsistent, IsDefault}
+use Rattle.smith_format.specs.declared.config.Config.{Config}
+use Rattle.smith_limits.specs.Limits.{IsRefused, Sets, first_wrong, unknown_in}
+use Rattle.smith_limits.specs.declared.text.TextFault.{TextFault}
+use Rattle.smith_limits.specs.declared.text.TextFault.TheVariants.{NotToml, Limits, OutOfMemory}
+
+-- The text is a table of TOML whose every key is a limit, with a value that the limit may have. It sets these limits, which fit together.
+pub record SpellsLimits (text : List ℕ) (config : Config) : Type 0 where
+  pub members : Members
+  pub is : parse_document text ≡ Some members
+  pub known : unknown_in members ≡ None
+  pub right : first_wrong members ≡ None
+  pub sets : (default : Config) → IsDefault default → Sets members default config
+  pub fits : IsConsistent config
+
+-- Why a text spells no limits: it is no table of TOML, with a place in the text, or its table sets none. Without memory nothing is known but
+-- that the text is more than white space and comments.
+abbrev pub IsTextFault : List ℕ → TextFault → Type 0
+IsTextFault text (NotToml error) = (parse_document text ≡ None) × IsWithin text error
+IsTextFault text (Limits fault) =
+    (members : Members) × (parse_document text ≡ Some members) × ((default : Config) → IsDefault default → IsRefused members default fault)
+IsTextFault text OutOfMemory = ¬ IsBlank text

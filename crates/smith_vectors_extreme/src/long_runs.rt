@@ -1,0 +1,81 @@
+//! Runs over inputs as long as they may be, and longer ones.
+
+use smith_component::Config;
+use smith_run::{Form, LONGEST_INPUT, RunError, convert};
+use std::alloc::{AllocError, Global};
+use std::io;
+use std::io::Read;
+use std::test::Fail;
+
+/// Gives its bytes, at most so many a read, and counts its reads.
+#[derive(Drop)]
+struct Pieces<'a> {
+    bytes: &'a [u8],
+    most: usize,
+    reads: usize,
+}
+
+impl Read for Pieces<'_> {
+    fn read(&mut self, buf: &mut [u8]) -> io::Result<usize> {
+        self.reads = self.reads.saturating_add(1);
+        let room = self.most.min(buf.len());
+        self.bytes.read(&mut buf[..room])
+    }
+}
+
+/// Gives one byte a read, never ends, and counts its reads.
+#[derive(Drop)]
+struct Endless {
+    reads: usize,
+}
+
+impl Read for Endless {
+    fn read(&mut self, buf: &mut [u8]) -> io::Result<usize> {
+        self.reads = self.reads.saturating_add(1);
+        Ok(buf.len().min(1))
+    }
+}
+
+/// What a run within the default limits answers, and what it writes.
+fn run_over<R: Read>(
+    alloc: Global,
+    reader: &mut R,
+) -> Result<(Result<usize, RunError>, Vec<u8>), AllocError> {
+    let mut text = Vec::new(alloc);
+    let answer = convert(alloc, reader, &mut text, Config::default(), Form::Page);
+    Ok((answer, text))
+}
+
+#[test]
+fn the_longest_input_is_read_and_one_byte_more_is_too_long(rt: HostRuntime) -> Result<(), Fail> {
+    let page = b"00 61 73 6d 0d 00 01 00\nleft 1048575\n".as_slice();
+    let rows = [
+        (LONGEST_INPUT, Ok(1_048_575), page),
+        (1_048_577, Err(RunError::InputTooLong), b"".as_slice()),
+    ];
+    for (length, expected, written) in rows {
+        let input = vec![in rt.alloc(); 0u8; length]?;
+        for most in [usize::MAX, 1] {
+            let mut reader = Pieces {
+                bytes: &input,
+                most,
+                reads: 0,
+            };
+            let (answer, text) = run_over(rt.alloc(), &mut reader)?;
+            assert_eq!(rt; answer, expected, "{most} bytes a read");
+            assert_eq!(rt; text.as_slice(), written);
+            assert!(rt; reader.reads <= 1_048_577);
+        }
+    }
+    Ok(())
+}
+
+#[test]
+fn an_endless_input_is_too_long(rt: HostRuntime) -> Result<(), Fail> {
+    let mut reader = Endless { reads: 0 };
+    let (answer, text) = run_over(rt.alloc(), &mut reader)?;
+    assert_eq!(rt; answer, Err(RunError::InputTooLong));
+    assert_eq!(rt; text.len(), 0);
+    assert_eq!(rt; reader.reads, 1_048_577);
+    Ok(())
+}
