@@ -2,6 +2,7 @@
  * To be linked with -Wl,--wrap=malloc,--wrap=realloc. */
 #include "lupinanon.h"
 #include <stdio.h>
+#include <stdlib.h>
 #include <string.h>
 
 void *__real_malloc(size_t size);
@@ -120,11 +121,69 @@ static int bad_arguments_are_refused(void) {
     WANT(lupinanon_generate_into(&limits, plan, 8, NULL, 16, &len, &left) == LUPINANON_BAD_ARGUMENT);
     WANT(lupinanon_generate_into(&limits, plan, SIZE_MAX, output, 16, &len, &left) == LUPINANON_BAD_ARGUMENT);
     WANT(lupinanon_generate_into(&limits, plan, 8, output, 16, NULL, &left) == LUPINANON_BAD_ARGUMENT);
-    WANT(lupinanon_generate_into(&limits, plan, 8, output, 16, &len, NULL) == LUPINANON_BAD_ARGUMENT);
     WANT(lupinanon_generate_into(&limits, NULL, 0, output, 16, &len, &left) == LUPINANON_ANSWERED && len == 8);
     WANT(lupinanon_generate(&limits, plan, 8, NULL, &len, &left) == LUPINANON_BAD_ARGUMENT);
+    WANT(lupinanon_generate(&limits, plan, 8, &bytes, NULL, &left) == LUPINANON_BAD_ARGUMENT && !bytes && !left);
+    WANT(lupinanon_generate(&limits, NULL, 8, &bytes, &len, &left) == LUPINANON_BAD_ARGUMENT && !bytes);
     WANT(lupinanon_generate(NULL, NULL, 0, &bytes, &len, &left) == LUPINANON_ANSWERED && len == 8 && left == 0);
     free(bytes);
+    WANT(lupinanon_check(NULL, 8, &len) == LUPINANON_BAD_ARGUMENT && len == LUPINANON_NO_OFFSET);
+    WANT(lupinanon_check(wanted, SIZE_MAX, &len) == LUPINANON_BAD_ARGUMENT && len == LUPINANON_NO_OFFSET);
+    WANT(lupinanon_check(NULL, 0, &len) == LUPINANON_UNREAD && len == 0);
+    WANT(lupinanon_check(wanted, 12, NULL) == LUPINANON_WELL_FORMED);
+    return 1;
+}
+
+static int left_may_be_null(void) {
+    LupinanonLimits limits;
+    uint8_t output[12], *bytes;
+    size_t len;
+    lupinanon_default_limits(&limits);
+    WANT(lupinanon_generate_into(&limits, plan, 8, output, 12, &len, NULL) == LUPINANON_ANSWERED && len == 12);
+    WANT(lupinanon_generate(&limits, plan, 8, &bytes, &len, NULL) == LUPINANON_ANSWERED && len == 12);
+    free(bytes);
+    return 1;
+}
+
+/* Memory that holds all that is passed, some of it in the same place. */
+typedef union Overlapping {
+    LupinanonLimits limits;
+    uint8_t bytes[ROOM];
+    uint8_t *block;
+    size_t counts[2];
+} Overlapping;
+
+static int overlaps_are_refused(void) {
+    Overlapping memory, other;
+    uint8_t *at = memory.bytes, *bytes;
+    size_t len, left, *counts = memory.counts;
+    LupinanonLimits limits;
+    lupinanon_default_limits(&limits);
+    memset(&memory, 0, sizeof memory);
+    WANT(lupinanon_generate_into(&limits, at, 9, at + 8, 12, &len, &left) == LUPINANON_BAD_ARGUMENT);
+    WANT(lupinanon_generate_into(&limits, at + 19, 8, at + 8, 12, &len, &left) == LUPINANON_BAD_ARGUMENT);
+    WANT(lupinanon_generate_into(&limits, at, 8, at + 8, 12, &len, &left) == LUPINANON_ANSWERED);
+    WANT(lupinanon_generate_into(&limits, at + 20, 8, at + 8, 12, &len, &left) == LUPINANON_ANSWERED);
+    WANT(lupinanon_generate_into(&limits, at + 8, 0, at, 12, &len, &left) == LUPINANON_ANSWERED);
+    WANT(lupinanon_generate_into(&limits, plan, 8, at, 12, counts, &left) == LUPINANON_BAD_ARGUMENT);
+    WANT(lupinanon_generate_into(&limits, plan, 8, at, 12, &len, counts + 1) == LUPINANON_BAD_ARGUMENT);
+    WANT(lupinanon_generate_into(&limits, plan, 8, at, 12, &len, &len) == LUPINANON_BAD_ARGUMENT && !len);
+    WANT(lupinanon_generate_into(&limits, at, 9, other.bytes, 12, counts + 1, &left) == LUPINANON_BAD_ARGUMENT);
+    memory.limits = limits;
+    WANT(lupinanon_generate_into(&memory.limits, plan, 8, at, 12, &len, &left) == LUPINANON_BAD_ARGUMENT);
+    WANT(lupinanon_generate(&limits, plan, 8, &memory.block, counts, &left) == LUPINANON_BAD_ARGUMENT);
+    WANT(lupinanon_generate(&limits, plan, 8, &bytes, &len, &len) == LUPINANON_BAD_ARGUMENT && !bytes && !len);
+    WANT(lupinanon_check(at, 9, counts + 1) == LUPINANON_BAD_ARGUMENT);
+    return 1;
+}
+
+static int words_are_right(void) {
+    WANT(!strcmp(lupinanon_version(), LUPINANON_VERSION));
+    WANT(!strcmp(lupinanon_status_name(LUPINANON_ANSWERED), "answered"));
+    WANT(!strcmp(lupinanon_status_name(LUPINANON_OUT_OF_MEMORY), "out of memory"));
+    WANT(!strcmp(lupinanon_status_name(LUPINANON_UNREAD), "unread"));
+    WANT(!strcmp(lupinanon_status_name(LUPINANON_UNREAD + 1), "unknown status"));
+    WANT(!strcmp(lupinanon_status_name(-1), "unknown status"));
     return 1;
 }
 
@@ -262,9 +321,66 @@ static int growths_are_refused_in_turn(void) {
     return 1;
 }
 
+/* Bytes, what is known of them, and the offset of the entry that breaks a rule. */
+typedef struct Judged {
+    const char *name;
+    Bytes component;
+    int32_t status;
+    size_t offset;
+} Judged;
+
+/* The components of examples/command/judged with these names, and bytes that are none. */
+static const Judged judged[] = {
+    {"nothing", BYTES(PREAMBLE), LUPINANON_WELL_FORMED, LUPINANON_NO_OFFSET},
+    {"a list of the type before it", BYTES(PREAMBLE, 0x07, 0x04, 0x02, 0x7f, 0x70, 0x00), LUPINANON_WELL_FORMED,
+     LUPINANON_NO_OFFSET},
+    {"a list of itself", BYTES(PREAMBLE, 0x07, 0x04, 0x02, 0x7f, 0x70, 0x01), LUPINANON_ILL_FORMED, 12},
+    {"a result of a type that follows, where there is an error",
+     BYTES(PREAMBLE, 0x07, 0x07, 0x03, 0x7f, 0x6a, 0x00, 0x01, 0x02, 0x79), LUPINANON_ILL_FORMED, 12},
+    {"an import of an instance, whose type is missing",
+     BYTES(PREAMBLE, 0x07, 0x03, 0x01, 0x42, 0x00, 0x0a, 0x06, 0x01, 0x00, 0x01, 0x61, 0x05, 0x01),
+     LUPINANON_ILL_FORMED, 16},
+    {"a lower of a function that is missing",
+     BYTES(PREAMBLE, 0x07, 0x05, 0x01, 0x40, 0x00, 0x00, 0x79, 0x0a, 0x06, 0x01, 0x00, 0x01, 0x66, 0x01, 0x00, 0x08,
+           0x05, 0x01, 0x01, 0x00, 0x01, 0x00),
+     LUPINANON_ILL_FORMED, 26},
+    {"a component that imports a function of a type of the component around it",
+     BYTES(PREAMBLE, 0x07, 0x05, 0x01, 0x40, 0x00, 0x00, 0x79, 0x04, 0x10, PREAMBLE, 0x0a, 0x06, 0x01, 0x00, 0x01,
+           0x66, 0x01, 0x00),
+     LUPINANON_ILL_FORMED, 28},
+    {"the preamble of a core module", BYTES(0x00, 0x61, 0x73, 0x6d, 0x01, 0x00, 0x00, 0x00), LUPINANON_UNREAD, 0},
+    {"a section without a length", BYTES(PREAMBLE, 0x07), LUPINANON_UNREAD, 9},
+};
+
+/* Whether a component is judged as it is said, and where its Nth growth is refused, out of memory. */
+static int is_judged(const Judged *it) {
+    int32_t status;
+    size_t offset;
+    long nth;
+    for (nth = 0;; nth++) {
+        offset = 99;
+        until_refusal = nth;
+        status = lupinanon_check(it->component.at, it->component.len, &offset);
+        if (until_refusal >= 0) break;
+        WANT(status == LUPINANON_OUT_OF_MEMORY && offset == LUPINANON_NO_OFFSET);
+    }
+    until_refusal = -1;
+    if (status == it->status && offset == it->offset) return 1;
+    printf("checks.c: %s: %s at %zu\n", it->name, lupinanon_status_name(status), offset);
+    return 0;
+}
+
+static int components_are_judged(void) {
+    const Judged *it, *end = judged + sizeof judged / sizeof *judged;
+    for (it = judged; it < end; it++)
+        if (!is_judged(it)) return 0;
+    return 1;
+}
+
 int main(void) {
     if (!defaults_are_written() || !nothing_passes_the_room() || !refusals_have_their_statuses()) return 1;
     if (!bad_arguments_are_refused() || !memory_is_refused_in_turn() || !growths_are_refused_in_turn()) return 1;
+    if (!left_may_be_null() || !overlaps_are_refused() || !words_are_right() || !components_are_judged()) return 1;
     puts("checks: all is as lupinanon.h says");
     return 0;
 }

@@ -1,12 +1,8 @@
 /* component FILE: makes a component of the file's bytes, writes it to FILE.wasm, and prints what is left. */
 #include "lupinanon.h"
 #include <stdio.h>
+#include <stdlib.h>
 #include <string.h>
-
-static const char *const refusals[] = {
-    "answered",       "inconsistent limits", "minimum not met", "module refused", "too long",
-    "out of memory", "parts disagree",      "no room",         "bad flag",       "bad argument",
-};
 
 /* The file's bytes in a block, or NULL. */
 static uint8_t *read_file(const char *path, size_t *len) {
@@ -57,7 +53,7 @@ int main(int count, char **words) {
     status = lupinanon_generate(NULL, input, input_len, &bytes, &bytes_len, &left);
     free(input);
     if (status != LUPINANON_ANSWERED) {
-        fprintf(stderr, "%s: %s\n", words[1], refusals[status]);
+        fprintf(stderr, "%s: %s\n", words[1], lupinanon_status_name(status));
         return 1;
     }
     snprintf(path, sizeof path, "%s.wasm", words[1]);

@@ -1,11 +1,13 @@
-/* Two threads make components at once, each in an output of its own, and give the same bytes.
+/* Two threads make components at once, each in an output of its own, and give the same bytes. Then the deepest
+ * components are made and checked in a thread whose stack is as lupinanon.h says.
  * Built with -fsanitize=thread where the compiler has it. */
 #include "lupinanon.h"
 #include <pthread.h>
 #include <stdio.h>
+#include <stdlib.h>
 #include <string.h>
 
-enum { INPUT = 512, OUTPUT = 1 << 16, RUNS = 200 };
+enum { INPUT = 512, OUTPUT = 1 << 16, RUNS = 200, MOST_DEPTH = 1000, DEEP_INPUT = 4096 };
 
 static uint8_t input[INPUT];
 
@@ -27,17 +29,92 @@ static void *make(void *argument) {
     return NULL;
 }
 
-int main(void) {
+static int two_threads_make_the_same(void) {
     static struct Made made[2];
     pthread_t threads[2];
     int place;
-    for (place = 0; place < INPUT; place++) input[place] = (uint8_t)(place * 7 % 251);
+    for (place = 0; place < INPUT; place++) input[place] = (uint8_t)((place * 7 + 3) % 251);
     for (place = 0; place < 2; place++)
-        if (pthread_create(&threads[place], NULL, make, &made[place])) return 2;
+        if (pthread_create(&threads[place], NULL, make, &made[place])) return 0;
     for (place = 0; place < 2; place++)
-        if (pthread_join(threads[place], NULL)) return 2;
-    if (made[0].status || made[1].status || made[0].len != made[1].len) return 1;
-    if (made[0].left != made[1].left || memcmp(made[0].output, made[1].output, made[0].len)) return 1;
+        if (pthread_join(threads[place], NULL)) return 0;
+    if (made[0].status || made[1].status || made[0].len != made[1].len) return 0;
+    if (made[0].left != made[1].left || memcmp(made[0].output, made[1].output, made[0].len)) return 0;
     printf("threads: %zu bytes twice\n", made[0].len);
-    return 0;
+    return 1;
 }
+
+/* An input whose component nests as deep as its limits allow, and what comes of it. */
+struct Deep {
+    size_t depth;
+    uint8_t input[DEEP_INPUT];
+    size_t input_len, len;
+    int32_t made, checked;
+};
+
+static void put(struct Deep *deep, uint8_t byte) { deep->input[deep->input_len++] = byte; }
+
+/* Bool, and types of components (2) or of instances (3) in one another, the last of which has an alias of bool. */
+static void put_types(struct Deep *deep, uint8_t choice) {
+    static const uint8_t first[] = {3, 1, 0, 0, 0, 1};
+    size_t place;
+    for (place = 0; place < sizeof first; place++) put(deep, first[place]);
+    put(deep, choice);
+    for (place = 2; place < deep->depth; place++) {
+        put(deep, 1);
+        put(deep, 2);
+        put(deep, choice);
+    }
+    put(deep, 1);
+    put(deep, 2);
+    for (place = 0; place < deep->depth; place++) put(deep, 0);
+}
+
+/* Components in one another. */
+static void put_components(struct Deep *deep) {
+    size_t place;
+    for (place = 1; place < deep->depth; place++) put(deep, 7);
+}
+
+static void *make_and_check(void *argument) {
+    static uint8_t output[OUTPUT];
+    struct Deep *deep = (struct Deep *)argument;
+    LupinanonLimits limits;
+    lupinanon_default_limits(&limits);
+    limits.max_nesting_depth = deep->depth;
+    limits.max_components = MOST_DEPTH;
+    limits.max_type_size = 10 * MOST_DEPTH;
+    deep->made = lupinanon_generate_into(&limits, deep->input, deep->input_len, output, OUTPUT, &deep->len, NULL);
+    deep->checked = lupinanon_check(output, deep->len, NULL);
+    return NULL;
+}
+
+static int has_room(struct Deep *deep, size_t len) {
+    size_t size = LUPINANON_STACK(deep->depth);
+    pthread_attr_t attributes;
+    pthread_t thread;
+    if (pthread_attr_init(&attributes) || pthread_attr_setstacksize(&attributes, size)) return 0;
+    if (pthread_create(&thread, &attributes, make_and_check, deep) || pthread_join(thread, NULL)) return 0;
+    pthread_attr_destroy(&attributes);
+    printf("threads: %zu bytes, %zu deep, in %zu bytes of stack\n", deep->len, deep->depth, size);
+    return deep->made == LUPINANON_ANSWERED && deep->checked == LUPINANON_WELL_FORMED && deep->len == len;
+}
+
+/* Types take 12 bytes before them, 3 each, and 4 more for the last; of 1000 deep, a length and a count have a byte
+ * more. Components take 8 bytes for the root and 10 each, but 11 where the length passes 127: of all but the inner 12. */
+static int the_stack_is_enough(void) {
+    static struct Deep deep[] = {{.depth = 10},         {.depth = 10},         {.depth = 10},
+                                 {.depth = MOST_DEPTH}, {.depth = MOST_DEPTH}, {.depth = MOST_DEPTH}};
+    static const size_t len[] = {43, 43, 98, 3015, 3015, 10985};
+    int place;
+    for (place = 0; place < 6; place += 3) {
+        put_types(&deep[place], 2);
+        put_types(&deep[place + 1], 3);
+        put_components(&deep[place + 2]);
+    }
+    for (place = 0; place < 6; place++)
+        if (!has_room(&deep[place], len[place])) return 0;
+    return 1;
+}
+
+int main(void) { return two_threads_make_the_same() && the_stack_is_enough() ? 0 : 1; }

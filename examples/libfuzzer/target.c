@@ -4,6 +4,7 @@
  * number of the section before, and how long they are. */
 #include "lupinanon.h"
 #include "use.h"
+#include <stdlib.h>
 
 #ifdef __has_attribute
 #if defined(__linux__) && defined(__clang__)

@@ -19,7 +19,7 @@ pub enum WithinError {
 }
 
 /// Reads the whole input, makes a component of it within the limits that the text spells, and writes it in the form, as
-/// `smith_run::convert` does. Answers how many bytes of the input are left. Where the text spells no limits, nothing is
+/// `smith_run::convert` does. Returns how many bytes of the input are left. Where the text spells no limits, nothing is
 /// read.
 pub fn convert_within<R: Read, W: Write>(
     alloc: Global,

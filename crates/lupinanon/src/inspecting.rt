@@ -1,23 +1,29 @@
-//! Looking at a component in a file: whether its bytes are one, and what is in it.
+//! Looking at a component in a file: whether it is well formed, and what is in it.
 
 use crate::FAULT;
 use crate::places::{STANDARD_INPUT, Source, tell_fault};
 use crate::show::Shown;
+use smith_check::{Verdict, check as check_bytes};
 use smith_read::{ComponentTree, read};
+use std::fmt;
 use std::io::{self, Read};
 use std::process::ExitCode;
 
-/// What bytes that are no component end with, and a run that is out of memory.
+/// What bytes that are no component end with, and a run that is out of memory; of `check`, a component that is not well
+/// formed.
 pub const REFUSED: u8 = 1;
 
-fn bytes_of(rt: &HostRuntime, source: &mut Source) -> io::Result<Vec<u8>> {
+// What `check` ends with where the bytes are not in the grammar.
+const UNREAD: u8 = 3;
+
+fn read_whole(rt: &HostRuntime, source: &mut Source) -> io::Result<Vec<u8>> {
     let mut bytes = Vec::new(rt.alloc());
     source.read_to_end(&mut bytes)?;
     Ok(bytes)
 }
 
-/// The component that the file spells, or the status behind a message.
-pub fn component_in(rt: &HostRuntime, path: Option<&str>) -> Result<ComponentTree, ExitCode> {
+// The bytes of the file, or the status after a message.
+fn bytes_in(rt: &HostRuntime, path: Option<&str>) -> Result<Vec<u8>, ExitCode> {
     let mut source = match Source::open(rt, path) {
         Ok(source) => source,
         Err(error) => {
@@ -25,21 +31,29 @@ pub fn component_in(rt: &HostRuntime, path: Option<&str>) -> Result<ComponentTre
             return Err(ExitCode::from(FAULT));
         }
     };
-    let bytes = match bytes_of(rt, &mut source) {
-        Ok(bytes) => bytes,
+    match read_whole(rt, &mut source) {
+        Ok(bytes) => Ok(bytes),
         Err(error) => {
             let fault = source.fault().unwrap_or(&error);
             tell_fault(rt, path, STANDARD_INPUT, Some(fault));
-            return Err(ExitCode::from(FAULT));
+            Err(ExitCode::from(FAULT))
         }
-    };
+    }
+}
+
+// Prints what is wrong with a file, and returns the status.
+fn refuse<W: fmt::Display>(rt: &HostRuntime, path: Option<&str>, why: &W, status: u8) -> ExitCode {
+    let path = path.unwrap_or(STANDARD_INPUT);
+    let _ = eprintln!(rt; "lupinanon: {path}: {why}");
+    ExitCode::from(status)
+}
+
+/// The component that the file spells, or the status after a message.
+pub fn component_in(rt: &HostRuntime, path: Option<&str>) -> Result<ComponentTree, ExitCode> {
+    let bytes = bytes_in(rt, path)?;
     match read(rt.alloc(), &bytes) {
         Ok(component) => Ok(component),
-        Err(error) => {
-            let path = path.unwrap_or(STANDARD_INPUT);
-            let _ = eprintln!(rt; "lupinanon: {path}: {error}");
-            Err(ExitCode::from(REFUSED))
-        }
+        Err(error) => Err(refuse(rt, path, &error, REFUSED)),
     }
 }
 
@@ -50,14 +64,26 @@ fn status_of(printed: io::Result<()>) -> ExitCode {
     }
 }
 
-/// Says whether the file's bytes are a component, and where not.
-pub fn check(rt: &HostRuntime, path: Option<&str>) -> ExitCode {
-    match component_in(rt, path) {
-        Ok(_) => {
+fn report(rt: &HostRuntime, path: Option<&str>, verdict: &Verdict) -> ExitCode {
+    match verdict {
+        Verdict::WellFormed => {
             let path = path.unwrap_or(STANDARD_INPUT);
-            status_of(println!(rt; "{path}: a component"))
+            status_of(println!(rt; "{path}: {verdict}"))
         }
-        Err(status) => status,
+        Verdict::IllFormed { .. } => refuse(rt, path, verdict, REFUSED),
+        Verdict::Unread { .. } => refuse(rt, path, verdict, UNREAD),
+    }
+}
+
+/// Says whether the file is a well-formed component, and else what is wrong with it, and where.
+pub fn check(rt: &HostRuntime, path: Option<&str>) -> ExitCode {
+    let bytes = match bytes_in(rt, path) {
+        Ok(bytes) => bytes,
+        Err(status) => return status,
+    };
+    match check_bytes(rt.alloc(), &bytes) {
+        Ok(verdict) => report(rt, path, &verdict),
+        Err(_) => refuse(rt, path, &"out of memory", FAULT),
     }
 }
 

@@ -12,7 +12,7 @@ pub enum Task<'a> {
     PrintLimits,
     /// Make a component.
     Generate(Options<'a>),
-    /// Say whether a file is a component; standard input where it is absent.
+    /// Say whether a file is a well-formed component; standard input where it is absent.
     Check(Option<&'a str>),
     /// Print the component in a file.
     Show(Option<&'a str>),
@@ -42,10 +42,16 @@ pub struct ScriptOptions<'a> {
 const ABOUT: &str = "Turns a fuzzer's bytes into a WebAssembly component.";
 
 const AFTER: &str =
-    "Ends with 0, with 1 where no component can be made of the input (the refusal's name is on standard\nerror), and with 2 for faults and wrong usage.";
+    "Ends with 0, with 1 where no component can be made of the input (the refusal's name is on standard\n\
+    error), and with 2 for faults and wrong usage.";
 
 const AFTER_SCRIPT: &str =
-    "Ends with 0, with 1 where the bytes are no component or it has no script (the reason is on standard\nerror), and with 2 for faults and wrong usage.";
+    "Ends with 0, with 1 where the bytes are no component or it has no script (the reason is on standard\n\
+    error), and with 2 for faults and wrong usage.";
+
+const AFTER_CHECK: &str =
+    "Ends with 0 where the component is well formed, with 1 where it is not, with 3 where the bytes are not in\n\
+    the grammar (what is wrong, and the offset, are on standard error), and with 2 for faults and wrong usage.";
 
 const COMPONENT: &str = "The component; - is standard input [default: -]";
 
@@ -102,6 +108,11 @@ fn file_command<'a>(
     Command::new(alloc, name).about(about).arg(file)
 }
 
+fn check_command<'a>(alloc: Global) -> Result<Command<'a>, AllocError> {
+    let about = "Say whether a file is a well-formed component, and where it is not";
+    Ok(file_command(alloc, "check", about)?.after_help(AFTER_CHECK))
+}
+
 fn script_command<'a>(alloc: Global) -> Result<Command<'a>, AllocError> {
     let about = "Write an input that gives a component";
     let plain = file_command(alloc, "script", about)?.after_help(AFTER_SCRIPT);
@@ -121,11 +132,7 @@ pub fn command<'a>(alloc: Global) -> Result<Command<'a>, AllocError> {
         .subcommand_required(true)
         .subcommand(generate_command(alloc)?)?
         .subcommand(limits)?
-        .subcommand(file_command(
-            alloc,
-            "check",
-            "Say whether a file is a component, and where not",
-        )?)?
+        .subcommand(check_command(alloc)?)?
         .subcommand(file_command(alloc, "show", "Print a component, a line for each entry")?)?
         .subcommand(script_command(alloc)?)
 }

@@ -1,14 +1,15 @@
 /* WebAssembly components from a fuzzer's bytes.
  *
- * The library has two functions, lupinanon_default_limits and lupinanon_generate_into, and both are proved. What is inline
- * here is plain C over them: it refuses arguments that the proved functions may not be given, and finds memory.
+ * Three functions are proved: lupinanon_default_limits, and those that lupinanon_generate_into and lupinanon_check call
+ * after a check of their arguments. That check, and all else, is the plain C of lupinanon.c.
  *
  * What the caller owes, and nothing checks:
  *  - A pointer that is not NULL points to what its type says, and a length says how much lies there.
- *  - What is written overlaps nothing else that is passed. `output` may hold anything.
- *  - malloc, realloc and free come from one allocator, and a block is aligned to each power of two up to 16 that divides
- *    its size. A hook or a signal handler that runs inside a call touches nothing of what is passed.
+ *  - `output` may hold anything. What else is passed is not written elsewhere while a call runs.
+ *  - malloc, realloc and free come from one allocator, and a block is aligned to each power of two up to 16 that
+ *    divides its size. A hook or a signal handler that runs inside a call touches nothing of what is passed.
  *  - No call is made from a signal handler, or in the forked child of a process with threads.
+ *  - The stack has room for LUPINANON_STACK, which is measured and not proved.
  *
  * The library keeps no state, so calls in several threads at once are fine where each has its own output.
  * It is built for 64 bits.
@@ -81,19 +82,36 @@ typedef struct LupinanonLimits {
     uint8_t bulk_memory_enabled;
 } LupinanonLimits;
 
-/* What a call answers. */
+/* How a call ended. */
 enum LupinanonStatus {
     LUPINANON_ANSWERED = 0,            /* the component's bytes are written */
+    LUPINANON_WELL_FORMED = 0,         /* of lupinanon_check: the bytes are a component that is well formed */
     LUPINANON_INCONSISTENT_LIMITS = 1, /* a minimum passes its maximum, a maximum 32 bits, or the depth 1000 */
     LUPINANON_MINIMUM_NOT_MET = 2,     /* no more imports or functions of a minimum can be added */
     LUPINANON_MODULE_REFUSED = 3,      /* a core module is chosen, and min_memories passes max_memories */
     LUPINANON_TOO_LONG = 4,            /* a length or a count in the bytes would pass 4,294,967,295 */
-    LUPINANON_OUT_OF_MEMORY = 5,       /* malloc or realloc gave NULL */
-    LUPINANON_PARTS_DISAGREE = 6,      /* no call of this library answers it */
+    LUPINANON_OUT_OF_MEMORY = 5,       /* malloc or realloc returned NULL */
+    LUPINANON_PARTS_DISAGREE = 6,      /* no call of this library returns it */
     LUPINANON_NO_ROOM = 7,             /* the output is too short; *bytes_len is how long it has to be */
     LUPINANON_BAD_FLAG = 8,            /* a feature is neither 0 nor 1 */
-    LUPINANON_BAD_ARGUMENT = 9         /* NULL where there has to be memory, or a length of half the memory or more */
+    LUPINANON_BAD_ARGUMENT = 9,        /* NULL where there has to be memory, a length of half the memory or more, or
+                                        * memory to write that overlaps what else is passed */
+    LUPINANON_ILL_FORMED = 10,         /* of lupinanon_check: the bytes are a component that is not well formed */
+    LUPINANON_UNREAD = 11              /* of lupinanon_check: the bytes are no component, or it nests too deep */
 };
+
+/* How many bytes of stack a call takes at most, with a fifth to spare: within limits of that max_nesting_depth, and at
+ * 1000 also lupinanon_check of any bytes. At 1000, the greatest depth, that is 2 MiB. */
+#define LUPINANON_STACK(max_nesting_depth) (49152 + 2048 * (size_t)(max_nesting_depth))
+
+/* What lupinanon_check writes where it knows no offset. */
+#define LUPINANON_NO_OFFSET SIZE_MAX
+
+/* LUPINANON_VERSION of the library, which is another than that of this header where the two do not belong together. */
+const char *lupinanon_version(void);
+
+/* A status in words, as "out of memory"; "unknown status" of any other number. Neither string is ever given back. */
+const char *lupinanon_status_name(int32_t status);
 
 /* Writes the default limits. `limits` is not NULL. */
 void lupinanon_default_limits(LupinanonLimits *limits);
@@ -101,56 +119,32 @@ void lupinanon_default_limits(LupinanonLimits *limits);
 /* Makes the component that the input gives within the limits, and writes its bytes to the front of the output.
  *
  * LUPINANON_ANSWERED: *bytes_len bytes are written, and *left bytes at the end of the input were not used.
- * LUPINANON_NO_ROOM: both are told, and nothing is written. Else both are 0, and nothing is written.
+ * LUPINANON_NO_ROOM: both counts are returned, and no other byte is written. Otherwise both are 0, and no other byte is
+ * written.
  *
- * `input_len` and `output_len` are bytes. Input and output may be NULL where their length is 0. Equal limits and equal
- * input give equal bytes, always. */
+ * `input_len` and `output_len` are in bytes. Input and output may be NULL where their length is 0, and `left` where it
+ * is not needed. Equal limits and equal input give equal bytes, always. */
 int32_t lupinanon_generate_into(const LupinanonLimits *limits, const uint8_t *input, size_t input_len, uint8_t *output,
                                 size_t output_len, size_t *bytes_len, size_t *left);
 
-/* The same behind a check of the arguments: LUPINANON_BAD_ARGUMENT where a pointer is NULL that may not be, or a length is
- * larger than any memory. Whoever includes this header calls this one under the name of the other. */
-static inline int32_t lupinanon_generate_into_checked(const LupinanonLimits *limits, const uint8_t *input,
-                                                      size_t input_len, uint8_t *output, size_t output_len,
-                                                      size_t *bytes_len, size_t *left) {
-    uint8_t nothing = 0;
-    if (!bytes_len || !left) return LUPINANON_BAD_ARGUMENT;
-    *bytes_len = *left = 0;
-    if (!limits || (!input && input_len) || (!output && output_len)) return LUPINANON_BAD_ARGUMENT;
-    if (input_len > PTRDIFF_MAX || output_len > PTRDIFF_MAX) return LUPINANON_BAD_ARGUMENT;
-    return lupinanon_generate_into(limits, input ? input : &nothing, input_len, output ? output : &nothing, output_len,
-                                   bytes_len, left);
-}
-#define lupinanon_generate_into lupinanon_generate_into_checked
+/* Makes the component in a block of its own, which the caller gives back by free. NULL as limits are the default
+ * limits, and `left` may be NULL. Where the status is not LUPINANON_ANSWERED, *bytes is NULL, and *bytes_len and *left
+ * are 0. */
+int32_t lupinanon_generate(const LupinanonLimits *limits, const uint8_t *input, size_t input_len, uint8_t **bytes,
+                           size_t *bytes_len, size_t *left);
 
-/* Makes the component in a block of its own, which the caller gives back by free. NULL as limits are the default limits.
- * Where the answer is not LUPINANON_ANSWERED, *bytes is NULL, and *bytes_len and *left are 0. */
-static inline int32_t lupinanon_generate(const LupinanonLimits *limits, const uint8_t *input, size_t input_len,
-                                         uint8_t **bytes, size_t *bytes_len, size_t *left) {
-    LupinanonLimits standard;
-    size_t size = 4096;
-    if (!bytes || !bytes_len || !left) return LUPINANON_BAD_ARGUMENT;
-    if (!limits) {
-        lupinanon_default_limits(&standard);
-        limits = &standard;
-    }
-    *bytes = NULL;
-    *bytes_len = *left = 0;
-    for (;;) {
-        int32_t status;
-        uint8_t *block = (uint8_t *)malloc(size);
-        if (!block) return LUPINANON_OUT_OF_MEMORY;
-        status = lupinanon_generate_into(limits, input, input_len, block, size, bytes_len, left);
-        if (status == LUPINANON_ANSWERED) {
-            *bytes = block;
-            return status;
-        }
-        free(block);
-        if (status != LUPINANON_NO_ROOM) return status;
-        size = *bytes_len;
-        *bytes_len = *left = 0;
-    }
-}
+/* Whether bytes are a component that is well formed, by the rules of docs/JUDGEMENT.md.
+ *
+ * LUPINANON_WELL_FORMED: they are.
+ * LUPINANON_ILL_FORMED: they are a component that breaks a rule. *offset is where the entry of a section begins that
+ * breaks it, or LUPINANON_NO_OFFSET.
+ * LUPINANON_UNREAD: they are no component of the grammar, or one whose scopes are nested more than 1001 deep. *offset
+ * is where that was seen, at most `bytes_len`.
+ * LUPINANON_OUT_OF_MEMORY, LUPINANON_BAD_ARGUMENT: nothing is known. *offset is then LUPINANON_NO_OFFSET, as of a
+ * component that is well formed.
+ *
+ * Bytes may be NULL where their length is 0, and `offset` where it is not needed. */
+int32_t lupinanon_check(const uint8_t *bytes, size_t bytes_len, size_t *offset);
 
 #ifdef __cplusplus
 }

@@ -25,7 +25,7 @@ use std::alloc::Global;
 /// and `left` how many bytes of the input are not used, as where the bytes are written. Else both are 0. The output is
 /// as it was unless the bytes are written, and after them it is as it was in any case.
 #[unsafe(no_mangle)]
-pub extern "C" fn lupinanon_generate_into(
+pub extern "C" fn lupinanon_proved_generate_into(
     alloc: Global,
     limits: &Limits,
     input: &[u8],

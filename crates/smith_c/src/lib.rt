@@ -2,6 +2,7 @@
 //! such a caller owes.
 #![tactic(auto)]
 
+pub mod check;
 pub mod into;
 pub mod limits;
 pub mod make;

@@ -8,7 +8,7 @@ use smith_input::Error;
 /// How a call ended.
 #[derive(Drop)]
 pub enum Status {
-    /// The component's bytes are in the output.
+    /// The component's bytes are in the output; or the bytes are a component that is well formed.
     Answered,
     /// No component is made of the input, or there is no memory for it.
     Refused(Error),
@@ -16,11 +16,16 @@ pub enum Status {
     NoRoom,
     /// A feature's byte is neither 0 nor 1.
     BadFlag,
+    /// The bytes are a component that is not well formed.
+    IllFormed,
+    /// The bytes are no component of the grammar, or one whose scopes are nested too deep to be read.
+    Unread,
 }
 
 impl Status {
-    /// The number that tells it to C: 0 where the bytes are in the output, 1 to 6 for the refusals in the order of
-    /// `Error`, 7 for want of room, and 8 for a byte that is no flag.
+    /// Its number in C: 0 where the bytes are in the output or are well formed, 1 to 6 for the refusals in the order of
+    /// `Error`, 7 where there is no room, 8 for a byte that is no flag, 10 for a component that is not well formed, and
+    /// 11 for bytes that are none. The header has 9 for arguments that no call may have.
     pub fn code(&self) -> i32
         ensures { result ≡ code_of self.now }
     {
@@ -34,6 +39,8 @@ impl Status {
             Status::Refused(Error::PartsDisagree) => 6,
             Status::NoRoom => 7,
             Status::BadFlag => 8,
+            Status::IllFormed => 10,
+            Status::Unread => 11,
         }
     }
 }

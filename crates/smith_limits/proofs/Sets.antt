@@ -1,6 +1,7 @@
 -- A number that a table sets is within its bound, the unknown keys of a table, and what a `?` passes on.
-use Rattle.std.proofs.Common.{◌≡◌, arith, ℕ, Bool, true, false, not, cond, List, [], ◌∷◌, Option, Some, None, option_map, String, Global, string_bytes, refl, sym, subst}
-use Rattle.std.specs.Prelude.{if◌then◌else◌, nat_lt, ℤ, pos, negsuc, unwrap_or}
+use Rattle.std.proofs.Common.{◌≡◌, refl, sym, subst, arith, ℕ, Bool, true, false, not, cond, List, [], ◌∷◌, Option, Some, None, option_map}
+use Rattle.std.proofs.Common.{String, Global, string_bytes}
+use Rattle.std.specs.Prelude.{if◌then◌else◌, ◌≤◌, nat_lt, ℤ, pos, negsuc, unwrap_or, ⊤}
 use Rattle.std.specs.List.{AllByRecursion, find}
 use Rattle.std.specs.Map.{keys_of}
 use Rattle.std.specs.Option.{IsSome, is_some}
@@ -13,9 +14,10 @@ use Rattle.std.proofs.lemmas.Result.{err_from_is_err_and}
 use Rattle.smith_format.specs.Consistency.{IsDefault}
 use Rattle.smith_format.specs.declared.config.Config.{Config}
 use Rattle.smith_limits.specs.Keys.{all_keys, is_name, is_switch, most_of, value_of}
-use Rattle.smith_limits.specs.Limits.{IsBounded, IsNoInteger, IsWithin, Sets, first_wrong, is_no_integer, is_no_number, is_no_switch, is_wrong, unknown_in, value_at}
+use Rattle.smith_limits.specs.Limits.{IsBounded, IsNoInteger, Sets, first_wrong, is_no_integer, is_no_number, is_no_switch, is_wrong}
+use Rattle.smith_limits.specs.Limits.{unknown_in, value_at}
 use Rattle.smith_limits.specs.declared.keys.Key.{Key}
-use Rattle.smith_limits.specs.declared.keys.Key.TheVariants.{MinTypes}
+use Rattle.smith_limits.specs.declared.keys.Key.TheVariants.{MinTypes, MaxTypes, MaxImports, MaxModules, MaxComponents, MaxInstances, MaxNestingDepth}
 use Rattle.smith_limits.specs.declared.keys.Wrong.{Wrong}
 
 unknown_step : (b : Bool) (key : String Global) (rest : Option (String Global)) (unknown : Option (List ℕ))
@@ -31,15 +33,15 @@ unknown_in-entries [] = refl
 unknown_in-entries (e ∷ es) = unknown_step (is_name (string_bytes e.0)) e.0 _ _ (unknown_in-entries es)
 
 -- where nothing is found
-nothing_found : (b : Bool) (key : Key) (rest : Option Key) → cond b (Some key) rest ≡ None → (b ≡ false) × (rest ≡ None)
-nothing_found true key rest e = absurd (cc)
-nothing_found false key rest e = (refl, e)
+nothing_found : {T : Type 0} (b : Bool) (x : T) (rest : Option T) → cond b (Some x) rest ≡ None → (b ≡ false) × (rest ≡ None)
+nothing_found true x rest e = absurd (cc)
+nothing_found false x rest e = (refl, e)
 
-none_of : (p : Key → Bool) (keys : List Key) → find p keys ≡ None → AllByRecursion (λ key. p key ≡ false) keys
+none_of : {T : Type 0} (p : T → Bool) (xs : List T) → find p xs ≡ None → AllByRecursion (λ x. p x ≡ false) xs
 none_of p [] e = tt
-none_of p (key ∷ keys) e =
-    let one = nothing_found (p key) key (find p keys) e in
-    (one.0, none_of p keys one.1)
+none_of p (x ∷ xs) e =
+    let one = nothing_found (p x) x (find p xs) e in
+    (one.0, none_of p xs one.1)
 
 -- Where nothing is wrong at any limit's name, nothing is at this one's.
 pub right_at : (members : Members) (key : Key) → first_wrong members ≡ None → is_wrong members key ≡ false
@@ -73,15 +75,15 @@ integer_right (Err wrong) most (Some (pos m)) refused right = let within : nat_l
 integer_right (Err wrong) most (Some (negsuc _)) refused right = absurd (cc)
 integer_right (Err wrong) most None refused right = absurd (cc)
 
--- What is found is wrong.
-some_found : (p : Key → Bool) (b : Bool) (first key : Key) (rest : Option Key) → p first ≡ b → (rest ≡ Some key → p key ≡ true)
-    → cond b (Some first) rest ≡ Some key → p key ≡ true
-some_found p true first key rest h later e = let same : first ≡ key = cc in subst (λ k. p k ≡ true) same h
-some_found p false first key rest h later e = later e
+-- What is found meets the test.
+some_found : {T : Type 0} (p : T → Bool) (b : Bool) (first x : T) (rest : Option T) → p first ≡ b → (rest ≡ Some x → p x ≡ true)
+    → cond b (Some first) rest ≡ Some x → p x ≡ true
+some_found p true first x rest h later e = let same : first ≡ x = cc in subst (λ y. p y ≡ true) same h
+some_found p false first x rest h later e = later e
 
-pub wrong_somewhere : (p : Key → Bool) (keys : List Key) (key : Key) → find p keys ≡ Some key → p key ≡ true
-wrong_somewhere p [] key e = absurd (cc)
-wrong_somewhere p (first ∷ keys) key e = some_found p (p first) first key (find p keys) refl (wrong_somewhere p keys key) e
+pub found_meets : {T : Type 0} (p : T → Bool) (xs : List T) (x : T) → find p xs ≡ Some x → p x ≡ true
+found_meets p [] x e = absurd (cc)
+found_meets p (first ∷ xs) x e = some_found p (p first) first x (find p xs) refl (found_meets p xs x) e
 
 -- what a `?` passes on
 pub refused : {T E : Type 0} (r : Result T E) (e : E) (P : E → Type 0) → IsErrAnd r (λ y. y ≡ e) → P e → IfErr r P
@@ -89,19 +91,47 @@ refused r e P h p =
     let s = err_from_is_err_and r h in
     subst (λ x. IfErr x P) (sym s.1) (subst P (sym s.2) p)
 
--- what is set is within its bound, where the default is
-one_within : (most : ℕ) (o : Option Data) (default : Data) → is_no_number most o ≡ false → IsWithin most default → IsWithin most (unwrap_or o default)
-one_within most None default right within = within
-one_within most (Some (integer (pos n))) default right within = let fits : nat_lt most n ≡ false = right in grind (arith, fits)
-one_within most (Some (integer (negsuc _))) default right within = tt
-one_within most (Some _) default right within = tt
+-- What is set is at most what it may be, where the default is.
+abbrev IsAtMost : ℕ → Data → Type 0
+IsAtMost most (integer (pos n)) = n ≤ most
+IsAtMost most _ = ⊤
+
+one_at_most : (most : ℕ) (o : Option Data) (default : Data) → is_no_number most o ≡ false → IsAtMost most default
+    → IsAtMost most (unwrap_or o default)
+one_at_most most None default right within = within
+one_at_most most (Some (integer (pos n))) default right within = let fits : nat_lt most n ≡ false = right in grind (arith, fits)
+one_at_most most (Some (integer (negsuc _))) default right within = tt
+one_at_most most (Some _) default right within = tt
+
+set_at_most : (members : Members) (default config : Config) (key : Key) → first_wrong members ≡ None → Sets members default config
+    → is_switch key ≡ false → IsAtMost (most_of key) (value_of default key) → IsAtMost (most_of key) (value_of config key)
+set_at_most members default config key right sets number within =
+    subst (IsAtMost (most_of key)) (sym (sets key))
+    (one_at_most (most_of key) (value_at members key) (value_of default key) (number_right members key right number) within)
 
 default_bounded : (default : Config) → IsDefault default → IsBounded default
-default_bounded default is MinTypes e = subst (λ (c : Config). IsWithin (most_of MinTypes) (value_of c MinTypes)) (sym is) (omega arith)
-default_bounded default is key e = subst (λ (c : Config). IsWithin (most_of key) (value_of c key)) (sym is) (first_of (omega arith, search))
+default_bounded default is =
+    subst IsBounded (sym is)
+    record {
+      types = omega arith;
+      imports = omega arith;
+      modules = omega arith;
+      components = omega arith;
+      instances = omega arith;
+      nesting = omega arith;
+    }
 
 pub bounded : (members : Members) (default config : Config) → IsDefault default → first_wrong members ≡ None → Sets members default config
     → IsBounded config
-bounded members default config is right sets key number =
-    subst (IsWithin (most_of key)) (sym (sets key))
-    (one_within (most_of key) (value_at members key) (value_of default key) (number_right members key right number) (default_bounded default is key number))
+bounded members default config is right sets =
+    let default_is = default_bounded default is in
+    let at_most : (key : Key) → is_switch key ≡ false → IsAtMost (most_of key) (value_of default key) → IsAtMost (most_of key) (value_of config key) =
+    λ key number within. set_at_most members default config key right sets number within in
+    record {
+      types = at_most MaxTypes refl default_is.types;
+      imports = at_most MaxImports refl default_is.imports;
+      modules = at_most MaxModules refl default_is.modules;
+      components = at_most MaxComponents refl default_is.components;
+      instances = at_most MaxInstances refl default_is.instances;
+      nesting = at_most MaxNestingDepth refl default_is.nesting;
+    }

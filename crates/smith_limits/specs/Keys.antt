@@ -5,7 +5,10 @@ use Rattle.std.specs.Prelude.{eqb, ℕ, pos, Bool, true, false, List, [], ◌∷
 use Rattle.toml.specs.Data.{Data, boolean, integer}
 use Rattle.smith_format.specs.declared.config.Config.{Config}
 use Rattle.smith_limits.specs.declared.keys.Key.{Key}
-use Rattle.smith_limits.specs.declared.keys.Key.TheVariants.{MinTypes, MinImports, MinFuncs, MinMemories, MaxTypes, MaxImports, MaxFuncs, MaxExports, MaxGlobals, MaxTables, MaxTags, MaxMemories, MaxModules, MaxComponents, MaxInstances, MaxNestingDepth, MaxTypeSize, MultiValueEnabled, ExceptionsEnabled, ReferenceTypesEnabled, SimdEnabled, AllowFloats, BulkMemoryEnabled}
+use Rattle.smith_limits.specs.declared.keys.Key.TheVariants.{MinTypes, MinImports, MinFuncs, MinMemories, MaxTypes, MaxImports, MaxFuncs}
+use Rattle.smith_limits.specs.declared.keys.Key.TheVariants.{MaxExports, MaxGlobals, MaxTables, MaxTags, MaxMemories, MaxModules, MaxComponents}
+use Rattle.smith_limits.specs.declared.keys.Key.TheVariants.{MaxInstances, MaxNestingDepth, MaxTypeSize, MultiValueEnabled, ExceptionsEnabled}
+use Rattle.smith_limits.specs.declared.keys.Key.TheVariants.{ReferenceTypesEnabled, SimdEnabled, AllowFloats, BulkMemoryEnabled}
 
 -- its name
 abbrev pub name_of : Key → List ℕ

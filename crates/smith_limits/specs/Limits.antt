@@ -1,8 +1,10 @@
 -- The limits that a table of TOML sets, and why it sets none.
-use Rattle.std.specs.Prelude.{if◌then◌else◌, ◌≡◌, ◌≢◌, ℕ, ◌+◌, ◌≤◌, ◌<◌, nat_lt, Bool, true, false, not, List, [], ◌∷◌, Option, Some, None, ℤ, pos, negsuc, string_bytes, unwrap_or, ⊤}
+use Rattle.std.specs.Prelude.{if◌then◌else◌, ◌≡◌, ◌≢◌, ℕ, ◌+◌, ◌≤◌, ◌<◌, nat_lt, ℤ, pos, negsuc, Bool, true, false, not}
+use Rattle.std.specs.Prelude.{List, [], ◌∷◌, Option, Some, None, unwrap_or, string_bytes}
 use Rattle.std.specs.List.{find}
 use Rattle.std.specs.Option.{is_some}
-use Rattle.toml.specs.Data.{Data, as_bool, as_integer, integer, Members, no_members, member, get_member}
+use Rattle.toml.specs.Data.{Data, as_bool, as_integer, Members, no_members, member, get_member}
+use Rattle.smith_format.specs.Consistency.{max_u32}
 use Rattle.smith_format.specs.declared.config.Config.{Config}
 use Rattle.smith_limits.specs.Keys.{all_keys, is_name, is_switch, most_of, name_of, value_of}
 use Rattle.smith_limits.specs.declared.keys.Key.{Key}
@@ -83,7 +85,7 @@ abbrev pub is_apart : Config → Pair → Bool
 is_apart config Types = nat_lt config.max_types config.min_types
 is_apart config Imports = nat_lt config.max_imports config.min_imports
 is_apart config Funcs = nat_lt config.max_funcs config.min_funcs
-is_apart config Exports = nat_lt 4294967295 (config.max_funcs + config.max_exports)
+is_apart config Exports = nat_lt max_u32 (config.max_funcs + config.max_exports)
 
 -- the first pair that does not fit together
 abbrev pub first_apart : Config → Option Pair
@@ -111,11 +113,11 @@ IsRefused members default (At key wrong) = (first_wrong members ≡ Some key) ×
 IsRefused members default (Apart pair) = (config : Config) × Sets members default config × (first_apart config ≡ Some pair)
 IsRefused members default OutOfMemory = unknown_in members ≢ None
 
--- a number is at most this
-abbrev pub IsWithin : ℕ → Data → Type 0
-IsWithin most (integer (pos n)) = n ≤ most
-IsWithin most _ = ⊤
-
--- Each number is at most what it may be of itself.
-abbrev pub IsBounded : Config → Type 0
-IsBounded config = (key : Key) → is_switch key ≡ false → IsWithin (most_of key) (value_of config key)
+-- What is counted in the written bytes and added to nothing fits 32 bits, and components nest at most 1000 deep.
+pub record IsBounded (config : Config) : Type 0 where
+  pub types : config.max_types ≤ max_u32
+  pub imports : config.max_imports ≤ max_u32
+  pub modules : config.max_modules ≤ max_u32
+  pub components : config.max_components ≤ max_u32
+  pub instances : config.max_instances ≤ max_u32
+  pub nesting : config.max_nesting_depth ≤ 1000

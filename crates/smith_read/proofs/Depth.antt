@@ -60,11 +60,6 @@ module _ (l : ℕ) (inner : List ℕ → Option Tree) where
       sym so_far ∙ ap (λ n. with_parts front (parts_at l inner n bs)) k
       ∙ ap (with_parts front) (one_more (count - (i + 1)) bs some ∙ ap (λ r. r >>= λ q. parts_at l inner (count - (i + 1)) q.1 >>= λ ps. Some (q.0 ∷ ps)) h)
 
-  pub parts_skip : (front : List Part) (m n : ℕ) (bs : List ℕ) (total : Option (List Part)) → length bs ≡ 0 → with_parts front (parts_at l inner m bs) ≡ total
-      → with_parts front (parts_at l inner n bs) ≡ total
-  parts_skip front m n [] total z so_far = ap (with_parts front) (nothing_left n ∙ sym (nothing_left m)) ∙ so_far
-  parts_skip front m n (b ∷ bs) total z so_far = absurd (omega arith)
-
   pub parts_done : (front : List Part) (n : ℕ) (bs : List ℕ) (total : Option (List Part)) → length bs ≡ 0 → with_parts front (parts_at l inner n bs) ≡ total
       → total ≡ Some front
   parts_done front n [] total z so_far = sym so_far ∙ ap (with_parts front) (nothing_left n) ∙ ap Some (append-nil front)

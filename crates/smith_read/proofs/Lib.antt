@@ -1,3 +1,4 @@
 pub mod Depth
 pub mod TellingParts
 pub mod Answering
+pub mod PartNodes

@@ -5,7 +5,7 @@ ghost use Rattle.smith_format.specs.Piece.{raw};
 ghost use Rattle.smith_syntax.specs.Entries.{ImportEntry};
 ghost use Rattle.smith_tree.specs.Grammar.{embedded};
 ghost use Rattle.smith_tree.specs.Tree.{Canon, ExportEntry, tree_of};
-ghost use Rattle.smith_read_types.specs.Reading.{Gives};
+ghost use Rattle.smith_read_types.specs.Reading.{Gives, skip_at};
 ghost use Rattle.smith_read.specs.Parts.{canon_at, component_at, custom_all, export_at, list_all_at, part_at};
 ghost use Rattle.smith_read.specs.Parts.{import_at, parts_at, preamble_at, section_at};
 ghost use Rattle.smith_read.specs.PartNodes.{shown_canon_node, shown_export_node, shown_import_node, shown_part_node};
@@ -56,6 +56,19 @@ impl Readable for ExportNode {
     }
 }
 
+// What follows an empty list of canonical options.
+#[tactic(auto, unfolding(smith_read_types::specs::Reading::skip_at))]
+fn no_options(bytes: &[u8]) -> Result<&[u8], Unread>
+    ensures { Gives (λ x. x.now) result (skip_at 0x00 bytes.now) }
+{
+    let (count, rest) = byte_of(bytes)?;
+    if count == 0x00 {
+        Ok(rest)
+    } else {
+        Err(malformed(bytes, Reason::Options))
+    }
+}
+
 impl Readable for CanonNode {
     ghost Shown = { Canon };
 
@@ -70,14 +83,14 @@ impl Readable for CanonNode {
             0x00 => {
                 let rest = skip(rest, 0x00)?;
                 let (core_func, rest) = count_of(rest)?;
-                let rest = skip(rest, 0x00)?;
+                let rest = no_options(rest)?;
                 let (ty, rest) = count_of(rest)?;
                 Ok((CanonNode::Lift { core_func, ty }, rest))
             }
             0x01 => {
                 let rest = skip(rest, 0x00)?;
                 let (func, rest) = count_of(rest)?;
-                let rest = skip(rest, 0x00)?;
+                let rest = no_options(rest)?;
                 Ok((CanonNode::Lower { func }, rest))
             }
             _ => Err(malformed(bytes, Reason::Byte)),
@@ -170,6 +183,7 @@ fn part_of(alloc: Global, depth: u32, bytes: &[u8]) -> Result<(PartNode, &[u8]),
             let part = with_rest(section_of(alloc, depth, id, inside), rest)?;
             Ok((part, rest))
         }
+        2 | 5 | 6 | 9 | 12 => Err(malformed(bytes, Reason::Section)),
         _ => Err(malformed(bytes, Reason::Byte)),
     }
 }
@@ -182,11 +196,12 @@ fn parts_of(alloc: Global, depth: u32, bytes: &[u8]) -> Result<Vec<PartNode>, Un
     let mut parts = Vec::new(alloc);
     let mut rest = bytes;
     for _ in 0..bytes.len() {
-        if !rest.is_empty() {
-            let (part, after) = part_of(alloc, depth, rest)?;
-            parts.push(part)?;
-            rest = after;
+        if rest.is_empty() {
+            break;
         }
+        let (part, after) = part_of(alloc, depth, rest)?;
+        parts.push(part)?;
+        rest = after;
     }
     if !rest.is_empty() {
         return Err(malformed(rest, Reason::LeftOver));

@@ -10,7 +10,7 @@ pub enum Reason {
     /// The bytes, or those that a length frames, end too soon.
     #[error("the bytes end too soon")]
     Ends,
-    /// No number of its sort stands here: it is padded, too great, or negative.
+    /// There is no number of its sort: it is padded, too great, or negative.
     #[error("a number is padded, too great or negative")]
     Number,
     /// A name is no UTF-8.
@@ -19,13 +19,20 @@ pub enum Reason {
     /// No encoding has this byte here.
     #[error("a byte has no meaning here")]
     Byte,
-    /// The eight bytes of the preamble of a component or a core module do not stand here.
+    /// The eight bytes of the preamble of a component or a core module are missing.
     #[error("a preamble is missing")]
     Preamble,
-    /// Bytes stand after the last entry of a section.
+    /// A section of a component is of a sort that is never generated: core instances, instances, aliases, a start
+    /// function, or values (Binary.md, sections 2, 5, 6, 9 and 12).
+    #[error("Lupinanon has no such section")]
+    Section,
+    /// A canonical function has options (Binary.md, canonopt).
+    #[error("Lupinanon has no canonical options")]
+    Options,
+    /// Bytes follow the last entry of a section.
     #[error("bytes are left over")]
     LeftOver,
-    /// A scope stands too deep.
+    /// A scope is nested too deep.
     #[error("scopes are nested too deep")]
     Depth,
 }
@@ -71,7 +78,7 @@ pub fn malformed(bytes: &[u8], reason: Reason) -> Unread
     }
 }
 
-/// Nothing is read where the byte before these stands.
+/// Nothing is read at the byte before these.
 pub(crate) fn malformed_before(bytes: &[u8], reason: Reason) -> Unread
     ensures { result ≡ Unread.Malformed (min (length bytes.now + 1) 18446744073709551615) reason }
 {

@@ -2,6 +2,7 @@
 
 use crate::bytes::Printed;
 use crate::texts::{defaults, misfit, texts, unwritten};
+use smith_check::{Verdict, check};
 use smith_component::{Config, Error, Unstructured, generate};
 use smith_read::{ReadError, read};
 use smith_script::{ScriptError, script};
@@ -23,6 +24,8 @@ pub enum Task {
     Read,
     /// The same of each front of them.
     Fronts,
+    /// Whether they are a well-formed component.
+    Check,
     /// The texts of the errors.
     Texts,
     /// Whether the text of the default limits is the default.
@@ -41,7 +44,7 @@ const RESTS: [&[u8]; 3] = [b"", b"\xff\x07", b"\x00\x03\x01"];
 struct Generated {
     bytes: Result<Vec<u8>, Error>,
     left: Vec<u8>,
-    // Whether the component is measured and read back as what was generated.
+    // Whether the component is measured and read back as what was generated, and found well formed.
     agrees: bool,
 }
 
@@ -57,10 +60,11 @@ fn generate_from(alloc: Global, limits: Config, input: &[u8]) -> Result<Generate
                 Ok(tree) => tree.parts.len() == sections,
                 Err(_) => false,
             };
+            let is_well_formed = check(alloc, &made.bytes)? == Verdict::WellFormed;
             Ok(Generated {
                 bytes: Ok(made.bytes),
                 left,
-                agrees: is_measured && is_read,
+                agrees: is_measured && is_read && is_well_formed,
             })
         }
         Err(error) => Ok(Generated {
@@ -79,7 +83,7 @@ impl fmt::Display for Generated {
         }
         write!(f, "{}", Printed("left", &self.left))?;
         if !self.agrees {
-            f.write_str("= measured or read back as something else\n")?;
+            f.write_str("= measured or read back as something else, or not well formed\n")?;
         }
         Ok(())
     }
@@ -230,6 +234,7 @@ pub fn answer(
         Task::Script => scripted(alloc, *limits, bytes),
         Task::Read => format!(in alloc; "= {}\n", what_is_read(alloc, bytes)?.as_str()),
         Task::Fronts => fronts(alloc, bytes),
+        Task::Check => format!(in alloc; "= {}\n", check(alloc, bytes)?),
         Task::Texts => texts(alloc),
         Task::Defaults => defaults(alloc),
         Task::Misfit => misfit(alloc, limits),

@@ -28,6 +28,7 @@ fn task_of(word: &str) -> Option<Task> {
         "script" => Some(Task::Script),
         "read" => Some(Task::Read),
         "fronts" => Some(Task::Fronts),
+        "check" => Some(Task::Check),
         "texts" => Some(Task::Texts),
         "defaults" => Some(Task::Defaults),
         "misfit" => Some(Task::Misfit),

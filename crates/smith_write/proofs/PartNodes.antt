@@ -1,5 +1,5 @@
 -- How sections and components are spelled, over the nodes that they hold.
-use Rattle.std.proofs.Common.{◌≡◌, ℕ, List, false, true, map, refl, ap, ◌∙◌, rules, nat_eq, Some, None}
+use Rattle.std.proofs.Common.{◌≡◌, ℕ, List, false, true, map, refl, ap, ◌∙◌, nat_eq, Some, None}
 use Rattle.std.specs.Global.{Vec}
 use Rattle.std.specs.List.{starts_with}
 use Rattle.smith_core.specs.Preamble.{core_preamble}
@@ -7,7 +7,7 @@ use Rattle.smith_format.specs.Piece.{◌⊕◌, bytes, raw, each, many, sized}
 use Rattle.smith_format.proofs.Many.{each-map, many-map}
 use Rattle.smith_syntax.specs.Grammar.{core_entry, entry, import_entry}
 use Rattle.smith_tree.specs.Grammar.{canon, component_text, embedded, export_entry, part, preamble}
-use Rattle.smith_tree.specs.Tree.{canons, component, core_types, exports, imports, tree_of, types}
+use Rattle.smith_tree.specs.Tree.{tree_of}
 use Rattle.smith_read_types.specs.Nodes.{shown_core_node}
 use Rattle.smith_read_types.specs.TypeNodes.{shown_type_node}
 use Rattle.smith_read_types.specs.declared.core_types.CoreNode.{CoreNode}
@@ -17,33 +17,15 @@ use Rattle.smith_read.specs.PartNodes.{shown_canon_node, shown_export_node, show
 use Rattle.smith_read.specs.declared.nodes.CanonNode.{CanonNode}
 use Rattle.smith_read.specs.declared.nodes.ExportNode.{ExportNode}
 use Rattle.smith_read.specs.declared.nodes.PartNode.{PartNode}
-use Rattle.smith_read.specs.declared.nodes.PartNode.TheFolds.{the_lemmas}
 use Rattle.smith_read.specs.declared.nodes.PartNode.TheVariants as node
+use Rattle.smith_read.proofs.PartNodes.{shown_canons, shown_core_types, shown_exports, shown_imports, shown_nested, shown_types}
 use Rattle.smith_tree.proofs.Parts.{parts_each}
-
-shown_core_types : (ts : Vec CoreNode) → shown_part_node (node.CoreTypes ts) ≡ core_types (map shown_core_node ts.items)
-shown_core_types ts = search (rules, the_lemmas)
-
-shown_component : (ns : Vec PartNode) → shown_part_node (node.Component ns) ≡ component (tree_of (map shown_part_node ns.items))
-shown_component ns = search (rules, the_lemmas)
-
-shown_types : (ts : Vec TypeNode) → shown_part_node (node.Types ts) ≡ types (map shown_type_node ts.items)
-shown_types ts = search (rules, the_lemmas)
-
-shown_canons : (fs : Vec CanonNode) → shown_part_node (node.Canons fs) ≡ canons (map shown_canon_node fs.items)
-shown_canons fs = search (rules, the_lemmas)
-
-shown_imports : (is : Vec ImportNode) → shown_part_node (node.Imports is) ≡ imports (map shown_import_node is.items)
-shown_imports is = search (rules, the_lemmas)
-
-shown_exports : (es : Vec ExportNode) → shown_part_node (node.Exports es) ≡ exports (map shown_export_node es.items)
-shown_exports es = search (rules, the_lemmas)
 
 pub part_core_types : (ts : Vec CoreNode) → part (shown_part_node (node.CoreTypes ts)) ≡ sized 3 (many (λ t. core_entry (shown_core_node t)) ts.items)
 part_core_types ts = ap part (shown_core_types ts) ∙ ap (sized 3) (many-map core_entry shown_core_node ts.items)
 
 pub part_component : (ns : Vec PartNode) → part (shown_part_node (node.Component ns)) ≡ sized 4 (component_text (tree_of (map shown_part_node ns.items)))
-part_component ns = ap part (shown_component ns)
+part_component ns = ap part (shown_nested ns)
 
 pub part_types : (ts : Vec TypeNode) → part (shown_part_node (node.Types ts)) ≡ sized 7 (many (λ t. entry (shown_type_node t)) ts.items)
 part_types ts = ap part (shown_types ts) ∙ ap (sized 7) (many-map entry shown_type_node ts.items)

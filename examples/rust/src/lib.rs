@@ -1,12 +1,29 @@
 //! WebAssembly components from a fuzzer's bytes.
 //!
-//! The proved static library behind a safe function. What is unsafe here are its two calls.
+//! The proved static library behind safe functions. What is unsafe here are its calls. It needs no `std`, but the
+//! `malloc`, `realloc` and `free` of a C library.
+//!
+//! ```
+//! use lupinanon::{check, generate, Limits, Verdict};
+//!
+//! let limits = Limits { max_components: 4, ..Limits::default() };
+//! let made = generate(&limits, b"\x03\x01\x00\x00\x06\x00\x00\xff")?;
+//! assert_eq!(made.bytes, b"\x00asm\x0d\x00\x01\x00\x07\x02\x01\x79");
+//! assert_eq!(made.left, 1);
+//! assert_eq!(check(&made.bytes), Ok(Verdict::WellFormed));
+//! # Ok::<(), lupinanon::Refusal>(())
+//! ```
+#![no_std]
+
+extern crate alloc;
 
 mod library;
 mod limits;
 
+use alloc::vec::Vec;
+use core::fmt;
+
 pub use limits::Limits;
-use std::fmt;
 
 impl Default for Limits {
     fn default() -> Limits {
@@ -16,6 +33,7 @@ impl Default for Limits {
 
 /// A component's bytes.
 #[derive(Clone, Debug, PartialEq, Eq)]
+#[non_exhaustive]
 pub struct Generated {
     /// The component in the binary format.
     pub bytes: Vec<u8>,
@@ -25,6 +43,7 @@ pub struct Generated {
 
 /// Why no component is made of an input.
 #[derive(Clone, Copy, Debug, PartialEq, Eq)]
+#[non_exhaustive]
 pub enum Refusal {
     /// A minimum passes its maximum, a maximum 32 bits, or the nesting depth 1000.
     InconsistentLimits,
@@ -36,7 +55,7 @@ pub enum Refusal {
     TooLong,
     /// Out of memory.
     OutOfMemory,
-    /// No call answers it.
+    /// No call returns it.
     PartsDisagree,
 }
 
@@ -53,13 +72,39 @@ impl fmt::Display for Refusal {
     }
 }
 
-impl std::error::Error for Refusal {}
+impl core::error::Error for Refusal {}
 
-/// The component that the input gives within the limits. Equal limits and equal input give equal bytes.
+/// What bytes are.
+#[derive(Clone, Copy, Debug, PartialEq, Eq)]
+#[non_exhaustive]
+pub enum Verdict {
+    /// A component that is well formed.
+    WellFormed,
+    /// A component that breaks a rule, in the entry of a section that begins at this offset.
+    IllFormed { offset: Option<usize> },
+    /// No component of the grammar, or one whose scopes are nested more than 1001 deep, as was seen at this offset.
+    Unread { offset: usize },
+}
+
+/// There was no memory for a check, which then says nothing of the bytes.
+#[derive(Clone, Copy, Debug, PartialEq, Eq)]
+pub struct OutOfMemory;
+
+impl fmt::Display for OutOfMemory {
+    fn fmt(&self, f: &mut fmt::Formatter<'_>) -> fmt::Result {
+        f.write_str("out of memory")
+    }
+}
+
+impl core::error::Error for OutOfMemory {}
+
+/// Returns the component that the input gives within the limits. Equal limits and equal input give equal bytes.
 pub fn generate(limits: &Limits, input: &[u8]) -> Result<Generated, Refusal> {
-    let mut output = Vec::with_capacity(4096);
+    let mut output = Vec::new();
+    let mut room = 4096;
     loop {
-        output.resize(output.capacity(), 0);
+        output.try_reserve_exact(room).map_err(|_| Refusal::OutOfMemory)?;
+        output.resize(room, 0);
         match library::generate_into(limits, input, &mut output)? {
             library::Answer::Written { len, left } => {
                 output.truncate(len);
@@ -67,8 +112,18 @@ pub fn generate(limits: &Limits, input: &[u8]) -> Result<Generated, Refusal> {
             }
             library::Answer::NoRoom { len } => {
                 output.clear();
-                output.reserve(len);
+                room = len;
             }
         }
     }
+}
+
+/// Returns what the bytes are: a component that is well formed, one that is not, or none.
+pub fn check(bytes: &[u8]) -> Result<Verdict, OutOfMemory> {
+    library::check(bytes)
+}
+
+/// Returns the version of the static library.
+pub fn library_version() -> &'static str {
+    library::version()
 }

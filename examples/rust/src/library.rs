@@ -1,13 +1,14 @@
-//! The static library's two functions.
+//! The static library's functions.
 
-use crate::limits::{Limits, RawLimits};
-use crate::Refusal;
-use std::mem::MaybeUninit;
+use crate::{Limits, OutOfMemory, Refusal, Verdict};
+use core::ffi::{c_char, CStr};
+use core::mem::MaybeUninit;
 
 extern "C" {
-    fn lupinanon_default_limits(limits: *mut RawLimits);
+    fn lupinanon_version() -> *const c_char;
+    fn lupinanon_default_limits(limits: *mut Limits);
     fn lupinanon_generate_into(
-        limits: *const RawLimits,
+        limits: *const Limits,
         input: *const u8,
         input_len: usize,
         output: *mut u8,
@@ -15,17 +16,24 @@ extern "C" {
         bytes_len: *mut usize,
         left: *mut usize,
     ) -> i32;
+    fn lupinanon_check(bytes: *const u8, bytes_len: usize, offset: *mut usize) -> i32;
+}
+
+/// The version of the static library.
+pub fn version() -> &'static str {
+    // SAFETY: the call returns a string of the library's own, which is never given back.
+    let version = unsafe { CStr::from_ptr(lupinanon_version()) };
+    version.to_str().expect("a version is ASCII")
 }
 
 /// The limits that hold where none are given.
 pub fn default_limits() -> Limits {
     let mut limits = MaybeUninit::uninit();
-    // SAFETY: the call writes each field, and each may be any number of its type.
-    let limits: RawLimits = unsafe {
+    // SAFETY: the call writes each field; a number of any value, and 0 or 1 where there is a truth value.
+    unsafe {
         lupinanon_default_limits(limits.as_mut_ptr());
         limits.assume_init()
-    };
-    limits.into()
+    }
 }
 
 /// What came of an output of some room.
@@ -38,12 +46,11 @@ pub enum Answer {
 
 /// Writes the component's bytes to the front of the output, where there is room.
 pub fn generate_into(limits: &Limits, input: &[u8], output: &mut [u8]) -> Result<Answer, Refusal> {
-    let limits = RawLimits::from(limits);
     let (mut len, mut left) = (0, 0);
     // SAFETY: no reference is null, the lengths are those of the slices, and nothing written overlaps anything.
     let status = unsafe {
         lupinanon_generate_into(
-            &limits,
+            limits,
             input.as_ptr(),
             input.len(),
             output.as_mut_ptr(),
@@ -61,6 +68,20 @@ pub fn generate_into(limits: &Limits, input: &[u8], output: &mut [u8]) -> Result
         5 => Err(Refusal::OutOfMemory),
         6 => Err(Refusal::PartsDisagree),
         7 => Ok(Answer::NoRoom { len }),
-        other => unreachable!("the flags are made of truth values, and {other} is no status"),
+        other => unreachable!("the arguments are good, and a truth value is 0 or 1; {other} is no status"),
+    }
+}
+
+/// What the bytes are.
+pub fn check(bytes: &[u8]) -> Result<Verdict, OutOfMemory> {
+    let mut offset = 0;
+    // SAFETY: the length is that of the slice, and the offset overlaps nothing of it.
+    let status = unsafe { lupinanon_check(bytes.as_ptr(), bytes.len(), &mut offset) };
+    match status {
+        0 => Ok(Verdict::WellFormed),
+        5 => Err(OutOfMemory),
+        10 => Ok(Verdict::IllFormed { offset: (offset != usize::MAX).then_some(offset) }),
+        11 => Ok(Verdict::Unread { offset }),
+        other => unreachable!("the arguments are good, and {other} is no status of a check"),
     }
 }

@@ -1,4 +1,4 @@
-use lupinanon::{generate, Limits, Refusal};
+use lupinanon::{check, generate, library_version, Limits, Refusal, Verdict};
 
 #[test]
 fn a_component_of_one_type() {
@@ -34,4 +34,20 @@ fn threads_give_the_same_component() {
             assert_eq!(thread.join().unwrap().as_ref(), Ok(&alone));
         }
     });
+}
+
+#[test]
+fn components_are_judged() {
+    let preamble = b"\x00asm\x0d\x00\x01\x00";
+    assert_eq!(check(preamble), Ok(Verdict::WellFormed));
+    assert_eq!(check(&[&preamble[..], b"\x07\x04\x02\x7f\x70\x00"].concat()), Ok(Verdict::WellFormed));
+    let of_itself = [&preamble[..], b"\x07\x04\x02\x7f\x70\x01"].concat();
+    assert_eq!(check(&of_itself), Ok(Verdict::IllFormed { offset: Some(12) }));
+    assert_eq!(check(b"\x00asm\x01\x00\x00\x00"), Ok(Verdict::Unread { offset: 0 }));
+    assert_eq!(check(b""), Ok(Verdict::Unread { offset: 0 }));
+}
+
+#[test]
+fn the_library_is_of_this_version() {
+    assert_eq!(library_version(), env!("CARGO_PKG_VERSION"));
 }

@@ -4,7 +4,6 @@ use Rattle.smith_format.specs.declared.config.Config.{Config}
 use Rattle.smith_format.specs.Consistency.{IsConsistent}
 use Rattle.smith_input.specs.declared.error.Error.TheVariants.{OutOfMemory}
 use Rattle.smith_tree.specs.Script.{Within, script}
-use Rattle.smith_tree.specs.Tree.{Tree}
 use Rattle.smith_c.specs.declared.status.Status.{Status}
 use Rattle.smith_c.specs.declared.status.Status.TheVariants.{Refused}
 use Rattle.smith_c.proofs.Once.{limits_once}

@@ -1,5 +1,4 @@
-use Rattle.std.proofs.Common.{arith, refl}
-use Rattle.smith_limits.specs.declared.keys.Key.TheVariants as key
+use Rattle.std.proofs.Common.{arith}
 use Rattle.smith_limits.proofs.limits.apart.Goals as goal
 
 pub returns-clause-fits : goal.returns-clause-fits
@@ -7,11 +6,11 @@ returns-clause-fits c bounded _ = record {
   types_cross = omega arith;
   imports_cross = omega arith;
   funcs_cross = omega arith;
-  types = bounded key.MaxTypes refl;
-  imports = bounded key.MaxImports refl;
+  types = bounded.types;
+  imports = bounded.imports;
   funcs = omega arith;
-  modules = bounded key.MaxModules refl;
-  components = bounded key.MaxComponents refl;
-  instances = bounded key.MaxInstances refl;
-  nesting = bounded key.MaxNestingDepth refl;
+  modules = bounded.modules;
+  components = bounded.components;
+  instances = bounded.instances;
+  nesting = bounded.nesting;
 }

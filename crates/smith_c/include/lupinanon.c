@@ -1,0 +1,122 @@
+/* What of lupinanon.h is plain C: the check of the arguments before the proved functions, a block for the bytes, and
+ * words. A contract can say neither that a pointer is NULL, nor what is at one that is returned. */
+#include "lupinanon.h"
+
+/* The proved functions. No pointer is NULL, no memory that is written overlaps any other that is passed, and no length
+ * is more than PTRDIFF_MAX. */
+int32_t lupinanon_proved_generate_into(const LupinanonLimits *limits, const uint8_t *input, size_t input_len,
+                                       uint8_t *output, size_t output_len, size_t *bytes_len, size_t *left);
+int32_t lupinanon_proved_check(const uint8_t *bytes, size_t bytes_len, size_t *offset);
+
+enum { FIRST_SIZE = 4096 };
+
+/* Memory that is passed. */
+typedef struct Memory {
+    const void *at;
+    size_t len;
+} Memory;
+
+#define MEMORY_OF(pointer) {pointer, sizeof *(pointer)}
+
+static int is_there(Memory it) { return it.len <= PTRDIFF_MAX && (it.at || !it.len); }
+
+static int is_apart(Memory one, Memory other) {
+    uintptr_t a = (uintptr_t)one.at, b = (uintptr_t)other.at;
+    return !one.len || !other.len || (a < b ? b - a >= one.len : a - b >= other.len);
+}
+
+/* Whether what is written is apart from what is read, and from what else is written. */
+static int are_apart(const Memory *written, size_t written_count, const Memory *read, size_t read_count) {
+    size_t one, other;
+    for (one = 0; one < written_count; one++) {
+        for (other = 0; other < one; other++)
+            if (!is_apart(written[one], written[other])) return 0;
+        for (other = 0; other < read_count; other++)
+            if (!is_apart(written[one], read[other])) return 0;
+    }
+    return 1;
+}
+
+const char *lupinanon_version(void) { return LUPINANON_VERSION; }
+
+const char *lupinanon_status_name(int32_t status) {
+    switch (status) {
+    case LUPINANON_ANSWERED: return "answered";
+    case LUPINANON_INCONSISTENT_LIMITS: return "inconsistent limits";
+    case LUPINANON_MINIMUM_NOT_MET: return "minimum not met";
+    case LUPINANON_MODULE_REFUSED: return "module refused";
+    case LUPINANON_TOO_LONG: return "too long";
+    case LUPINANON_OUT_OF_MEMORY: return "out of memory";
+    case LUPINANON_PARTS_DISAGREE: return "parts disagree";
+    case LUPINANON_NO_ROOM: return "no room";
+    case LUPINANON_BAD_FLAG: return "bad flag";
+    case LUPINANON_BAD_ARGUMENT: return "bad argument";
+    case LUPINANON_ILL_FORMED: return "ill formed";
+    case LUPINANON_UNREAD: return "unread";
+    default: return "unknown status";
+    }
+}
+
+int32_t lupinanon_generate_into(const LupinanonLimits *limits, const uint8_t *input, size_t input_len, uint8_t *output,
+                                size_t output_len, size_t *bytes_len, size_t *left) {
+    uint8_t nothing = 0;
+    size_t not_needed;
+    if (!left) left = &not_needed;
+    *left = 0;
+    if (!bytes_len) return LUPINANON_BAD_ARGUMENT;
+    *bytes_len = 0;
+    {
+        Memory written[] = {{output, output_len}, MEMORY_OF(bytes_len), MEMORY_OF(left)};
+        Memory read[] = {MEMORY_OF(limits), {input, input_len}};
+        if (!is_there(written[0]) || !is_there(read[0]) || !is_there(read[1])) return LUPINANON_BAD_ARGUMENT;
+        if (!are_apart(written, 3, read, 2)) return LUPINANON_BAD_ARGUMENT;
+    }
+    return lupinanon_proved_generate_into(limits, input ? input : &nothing, input_len, output ? output : &nothing,
+                                          output_len, bytes_len, left);
+}
+
+int32_t lupinanon_generate(const LupinanonLimits *limits, const uint8_t *input, size_t input_len, uint8_t **bytes,
+                           size_t *bytes_len, size_t *left) {
+    LupinanonLimits standard;
+    size_t size = FIRST_SIZE, not_needed;
+    int32_t status;
+    uint8_t *block;
+    if (!left) left = &not_needed;
+    *left = 0;
+    if (bytes_len) *bytes_len = 0;
+    if (bytes) *bytes = NULL;
+    if (!bytes || !bytes_len) return LUPINANON_BAD_ARGUMENT;
+    {
+        Memory written[] = {MEMORY_OF(bytes), MEMORY_OF(bytes_len), MEMORY_OF(left)};
+        Memory read[] = {{limits, limits ? sizeof *limits : 0}, {input, input_len}};
+        if (!is_there(read[1]) || !are_apart(written, 3, read, 2)) return LUPINANON_BAD_ARGUMENT;
+    }
+    if (!limits) {
+        lupinanon_default_limits(&standard);
+        limits = &standard;
+    }
+    while ((block = (uint8_t *)malloc(size)) != NULL) {
+        status = lupinanon_generate_into(limits, input, input_len, block, size, bytes_len, left);
+        if (status == LUPINANON_ANSWERED) {
+            *bytes = block;
+            return status;
+        }
+        free(block);
+        if (status != LUPINANON_NO_ROOM) return status;
+        size = *bytes_len;
+    }
+    *bytes_len = *left = 0;
+    return LUPINANON_OUT_OF_MEMORY;
+}
+
+int32_t lupinanon_check(const uint8_t *bytes, size_t bytes_len, size_t *offset) {
+    uint8_t nothing = 0;
+    size_t not_needed;
+    if (!offset) offset = &not_needed;
+    *offset = LUPINANON_NO_OFFSET;
+    {
+        Memory written = MEMORY_OF(offset), read = {bytes, bytes_len};
+        if (!is_there(read) || !is_apart(written, read)) return LUPINANON_BAD_ARGUMENT;
+    }
+    return lupinanon_proved_check(bytes ? bytes : &nothing, bytes_len, offset);
+}

@@ -1,0 +1,53 @@
+//! Whether bytes in memory of the caller's are a well-formed component.
+
+ghost use Rattle.std.specs.Prelude.{◌≡◌, ◌≢◌, ◌≤◌, ◌⊎◌, length};
+ghost use Rattle.smith_tree.specs.Depths.{scope_depth};
+ghost use Rattle.smith_tree.specs.Grammar.{Spells};
+ghost use Rattle.smith_tree.specs.Tree.{Tree};
+ghost use Rattle.smith_tree.specs.WellFormed.{WellFormed};
+ghost use Rattle.smith_read.specs.Reads.{most_depth};
+ghost use Rattle.smith_check.specs.Verdicts.{IsOffset};
+ghost use Rattle.smith_c.specs.Status.{code_of, no_offset};
+ghost use Rattle.smith_c.specs.declared.status.Status.TheVariants.{Answered, Refused, IllFormed, Unread};
+ghost use Rattle.smith_input.specs.declared.error.Error.TheVariants.{OutOfMemory};
+
+use crate::status::Status;
+use smith_check::{Verdict, check};
+use smith_input::Error;
+use std::alloc::Global;
+
+/// Whether the bytes are a component that is well formed, as `check` of `smith_check` says.
+///
+/// The answer is the code of a `Status`: `Answered`, `IllFormed`, `Unread` or that of `OutOfMemory`. `offset` is that of
+/// the entry that breaks a rule, or where it was seen that the bytes are no component, and else 2^64 - 1.
+#[unsafe(no_mangle)]
+pub extern "C" fn lupinanon_proved_check(alloc: Global, bytes: &[u8], offset: &mut usize) -> i32
+    ensures well_formed { result ≡ code_of Answered
+        → ((component : Tree) × Spells component bytes.now × WellFormed component) × (offset.new ≡ no_offset) }
+    ensures ill_formed { result ≡ code_of IllFormed → (component : Tree) × Spells component bytes.now
+        × (¬ WellFormed component) × (offset.new ≢ no_offset → IsOffset component offset.new) }
+    ensures unread { result ≡ code_of Unread
+        → ((component : Tree) → Spells component bytes.now → ¬ (scope_depth component ≤ most_depth))
+        × (offset.new ≤ length bytes.now) }
+    ensures out_of_memory { result ≡ code_of (Refused OutOfMemory) → offset.new ≡ no_offset }
+    ensures statuses { (result ≡ code_of Answered) ⊎ (result ≡ code_of IllFormed) ⊎ (result ≡ code_of Unread)
+        ⊎ (result ≡ code_of (Refused OutOfMemory)) }
+
+    // It is found to be well formed, lack of memory aside.
+    ensures answers { (component : Tree) → Spells component bytes.now → WellFormed component
+        → scope_depth component ≤ most_depth → (result ≡ code_of Answered) ⊎ (result ≡ code_of (Refused OutOfMemory)) }
+{
+    *offset = usize::MAX;
+    match check(alloc, bytes) {
+        Ok(Verdict::WellFormed) => Status::Answered.code(),
+        Ok(Verdict::IllFormed { offset: entry, .. }) => {
+            *offset = entry.unwrap_or(usize::MAX);
+            Status::IllFormed.code()
+        }
+        Ok(Verdict::Unread { offset: place, .. }) => {
+            *offset = place;
+            Status::Unread.code()
+        }
+        Err(_) => Status::Refused(Error::OutOfMemory).code(),
+    }
+}

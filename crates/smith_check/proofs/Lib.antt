@@ -1,0 +1,11 @@
+pub mod FlatSteps
+pub mod Growth
+pub mod Judging
+pub mod KebabSteps
+pub mod Lists
+pub mod ModuleSteps
+pub mod NameSteps
+pub mod NewNames
+pub mod PartSteps
+pub mod SectionSteps
+pub mod TypeSteps

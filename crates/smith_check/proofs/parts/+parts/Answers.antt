@@ -1,0 +1,94 @@
+use Rattle.std.proofs.Common.{map, sym, ◌∙◌, subst}
+use Rattle.smith_tree.specs.WellFormed.{FormedPart}
+use Rattle.smith_read.specs.PartNodes.{shown_part_node}
+use Rattle.smith_check.specs.Preceding.{IsAfter, outer_in, own_in}
+use Rattle.smith_check.proofs.Judging.{judged_by, on_both, on_by, passed_on, refute_by, same_exit, same_step}
+use Rattle.smith_check.proofs.Lists.{head_same}
+use Rattle.smith_read.proofs.PartNodes.{shown_canons, shown_core_types, shown_custom, shown_exports, shown_imports, shown_module, shown_nested, shown_types}
+use Rattle.smith_check.proofs.PartSteps.{after_canons, after_core_types, after_custom, after_exports, after_imports, after_module, after_nested, after_types}
+use Rattle.smith_check.proofs.PartSteps.{exports_formed, imports_formed, parts_at, tree_upto, upto_more}
+use Rattle.smith_check.proofs.parts.+parts.Goals as goal
+
+pub check_part-returns-in-CoreTypes-clause-added : goal.check_part-returns-in-CoreTypes-clause-added
+check_part-returns-in-CoreTypes-clause-added t c = λ before k.
+    rw (c.in-CoreTypes.is, shown_core_types c.in-CoreTypes.types)
+    (on_by c.check_core_types.result (λ e. after_core_types before _ _ k _ _ e) (rw c.deref.ensures.value at c.check_core_types.ensures.own))
+
+pub check_part-returns-in_ok-check_parts-in-Component-clause-added : goal.check_part-returns-in_ok-check_parts-in-Component-clause-added
+check_part-returns-in_ok-check_parts-in-Component-clause-added t c = λ before k.
+    rw (c.in-Component.is, shown_nested c.in-Component.parts)
+    (after_nested before _ _ k _ _
+    (head_same _ _ _ _
+    (sym c.leave.ensures ∙ ((c.in_ok-check_parts-in-Component.ensures {u = tt}).outer ∙ (c.in_ok-enter-in-Component.ensures {u = tt}).outer))))
+
+pub check_part-returns-in-Types-clause-added : goal.check_part-returns-in-Types-clause-added
+check_part-returns-in-Types-clause-added t c = λ before k.
+    rw (c.in-Types.is, shown_types c.in-Types.types)
+    (on_by c.check_types.result (λ e. after_types before _ _ k _ _ e) (rw c.deref-in-Types.ensures.value at c.check_types.ensures.own))
+
+pub check_part-returns-in-Canons-clause-added : goal.check_part-returns-in-Canons-clause-added
+check_part-returns-in-Canons-clause-added t c = λ before k.
+    rw (c.in-Canons.is, shown_canons c.in-Canons.canons)
+    (on_both c.check_canons.result (λ e n. after_canons before _ _ k _ _ e n.0 n.1) (rw c.deref-in-Canons.ensures.value at c.check_canons.ensures.added)
+    c.check_canons.ensures.names)
+
+pub check_part-returns-in-Imports-clause-judged : goal.check_part-returns-in-Imports-clause-judged
+check_part-returns-in-Imports-clause-judged t c = λ before k.
+    let s = imports_formed before _ _ k (outer_in c.args.scopes.now) (map _ c.in-Imports.imports.items) in
+    rw (c.in-Imports.is, shown_imports c.in-Imports.imports)
+    (judged_by c.check_imports.result (λ p. s.to p) (λ q. s.from q) (rw c.deref-in-Imports.ensures.value at (c.check_imports.ensures.judged _ k.imports)))
+
+pub check_part-returns-in-Imports-clause-added : goal.check_part-returns-in-Imports-clause-added
+check_part-returns-in-Imports-clause-added t c = λ before k.
+    rw (c.in-Imports.is, shown_imports c.in-Imports.imports)
+    (on_both c.check_imports.result (λ e n. after_imports before _ _ k _ _ e n c.check_imports.ensures.exports)
+    (rw c.deref-in-Imports.ensures.value at c.check_imports.ensures.added)
+    (rw c.deref-in-Imports.ensures.value at (c.check_imports.ensures.known _ k.imports)))
+
+pub check_part-returns-in-Exports-clause-judged : goal.check_part-returns-in-Exports-clause-judged
+check_part-returns-in-Exports-clause-judged t c = λ before k.
+    let s = exports_formed before _ _ k (outer_in c.args.scopes.now) (map _ c.in-Exports.exports.items) in
+    rw (c.in-Exports.is, shown_exports c.in-Exports.exports)
+    (judged_by c.check_exports.result (λ p. s.to p) (λ q. s.from q)
+    (rw c.deref-in-Exports.ensures.value at (c.check_exports.ensures.judged (own_in c.args.scopes.now) _ k.exports)))
+
+pub check_part-returns-in-Exports-clause-added : goal.check_part-returns-in-Exports-clause-added
+check_part-returns-in-Exports-clause-added t c = λ before k.
+    rw (c.in-Exports.is, shown_exports c.in-Exports.exports)
+    (on_both c.check_exports.result (λ e n. after_exports before _ _ k _ _ e n c.check_exports.ensures.imports)
+    (rw c.deref-in-Exports.ensures.value at (c.check_exports.ensures.added (own_in c.args.scopes.now)))
+    (rw c.deref-in-Exports.ensures.value at (c.check_exports.ensures.known _ k.exports)))
+
+pub check_part-returns-in-Custom-clause-added : goal.check_part-returns-in-Custom-clause-added
+check_part-returns-in-Custom-clause-added t c = λ before k.
+    rw (c.in-Custom.is, shown_custom c.in-Custom._name c.in-Custom._contents) (after_custom before _ _ k _ _)
+
+pub check_part-returns-in-CoreModule-clause-added : goal.check_part-returns-in-CoreModule-clause-added
+check_part-returns-in-CoreModule-clause-added t c = λ before k.
+    rw (c.in-CoreModule.is, shown_module c.in-CoreModule._text) (after_module before _ _ k _)
+
+pub check_parts-loop-part-preserved : goal.check_parts-loop-part-preserved
+check_parts-loop-part-preserved t c =
+    let ps = c.args.parts.now in
+    let i = c.loop-part.part-index in
+    let p = c.part-item.result in
+    let kept = c.in_ok-check_part.ensures {u = tt} in
+    record {
+      outer = kept.outer ∙ c.loop-part.invariant.outer;
+      after =
+          subst (λ b. IsAfter b (own_in c.check_part.new.scopes) c.check_part.new.here) (upto_more ps i p c.loop-part-test.true c.part-item.is)
+          (kept.added _ c.loop-part.invariant.after);
+      left =
+          same_step c.loop-part.invariant.left (parts_at ps i p c.loop-part-test.true c.part-item.is (outer_in c.args.scopes.now))
+          (subst (λ o. FormedPart (shown_part_node p) o (tree_upto i ps)) c.loop-part.invariant.outer (kept.judged _ c.loop-part.invariant.after));
+    }
+
+pub check_parts-returns-in_err-check_part-clause-judged : goal.check_parts-returns-in_err-check_part-clause-judged
+check_parts-returns-in_err-check_part-clause-judged t c =
+    let ps = c.args.parts.now in
+    let i = c.loop-part.part-index in
+    let p = c.part-item.result in
+    passed_on _ _ c.from_residual-in_err-check_part.ensures.1
+    (same_exit c.loop-part.invariant.left (parts_at ps i p c.loop-part-test.true c.part-item.is (outer_in c.args.scopes.now))
+    (refute_by (λ q. subst (λ o. FormedPart (shown_part_node p) o (tree_upto i ps)) (sym c.loop-part.invariant.outer) q)
+    ((c.in_err-check_part.ensures {u = tt}).judged _ c.loop-part.invariant.after)))

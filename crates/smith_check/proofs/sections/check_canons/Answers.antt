@@ -1,0 +1,30 @@
+use Rattle.std.proofs.Common.{◌≡◌, get_or, sym, ◌∙◌}
+use Rattle.smith_tree.specs.Spaces.{after_canon}
+use Rattle.smith_tree.specs.WellFormed.{FormedCanons}
+use Rattle.smith_read.specs.PartNodes.{shown_canon_node}
+use Rattle.smith_read.specs.declared.nodes.CanonNode.TheVariants as canon
+use Rattle.smith_check.specs.Preceding.{own_in, spaces_in}
+use Rattle.smith_check.proofs.Judging.{same_step}
+use Rattle.smith_check.proofs.SectionSteps.{fold_at, left_from, some_item}
+use Rattle.smith_check.proofs.sections.check_canons.Goals as goal
+
+pub loop-canon-preserved : goal.loop-canon-preserved
+loop-canon-preserved c =
+    let here = spaces_in (own_in c.args.scopes.now) c.loop-canon.here in
+    let cs = c.args.canons.now in
+    let i = c.loop-canon.canon-index in
+    let x = get_or cs i (canon.Lift 0 0) in
+    let is : x ≡ get_or cs i x = some_item cs i (canon.Lift 0 0) x c.loop-canon-test.true in
+    record {
+      left =
+          rw ((c.in_ok-add_canon.ensures {u = tt}).added (own_in c.args.scopes.now))
+          (same_step c.loop-canon.invariant.left
+          (left_from shown_canon_node cs i (λ fs. FormedCanons fs here) x c.loop-canon-test.true is)
+          (c.in_ok-check_canon.ensures {u = tt}));
+      added =
+          rw ((c.in_ok-add_canon.ensures {u = tt}).added (own_in c.args.scopes.now))
+          (sym (fold_at shown_canon_node cs i after_canon here x c.loop-canon-test.true is)
+          ∙ c.loop-canon.invariant.added);
+      imports = c.add_canon.ensures.names.0 ∙ c.loop-canon.invariant.imports;
+      exports = c.add_canon.ensures.names.1 ∙ c.loop-canon.invariant.exports;
+    }

@@ -1,0 +1,18 @@
+use Rattle.std.proofs.Common.{◌≡◌, fold, map}
+use Rattle.std.proofs.Math.ListN.{drop}
+use Rattle.smith_tree.specs.Spaces.{after_canon}
+use Rattle.smith_tree.specs.WellFormed.{FormedCanons}
+use Rattle.smith_read.specs.PartNodes.{shown_canon_node}
+use Rattle.smith_check.specs.Preceding.{own_in, spaces_in}
+use Rattle.smith_check.proofs.Judging.{Same}
+use Rattle.smith_check.proofs.sections.check_canons.Given as goal
+
+abbrev pub invariant-loop-canon : goal.invariant-loop-canon
+invariant-loop-canon l = record {
+  left : Same (FormedCanons (map shown_canon_node l.canons) (spaces_in (own_in l.scopes) l.initial.here))
+      (FormedCanons (map shown_canon_node (drop l.canon-index l.canons)) (spaces_in (own_in l.scopes) l.here));
+  added : fold after_canon (spaces_in (own_in l.scopes) l.here) (map shown_canon_node (drop l.canon-index l.canons))
+      ≡ fold after_canon (spaces_in (own_in l.scopes) l.initial.here) (map shown_canon_node l.canons);
+  imports : l.here.imports ≡ l.initial.here.imports;
+  exports : l.here.exports ≡ l.initial.here.exports;
+}

@@ -1,0 +1,17 @@
+use Rattle.std.proofs.Common.{◌≡◌, map}
+use Rattle.std.proofs.Math.ListN.{drop}
+use Rattle.smith_syntax.specs.Scope.{with_core_types}
+use Rattle.smith_syntax.specs.WellFormed.{FormedCores}
+use Rattle.smith_read_types.specs.Nodes.{shown_core_node}
+use Rattle.smith_check.specs.Preceding.{outer_in, own_in}
+use Rattle.smith_check.proofs.Judging.{Same}
+use Rattle.smith_check.proofs.sections.check_core_types.Given as goal
+
+abbrev pub invariant-loop-ty : goal.invariant-loop-ty
+invariant-loop-ty l = record {
+  outer : outer_in l.scopes ≡ outer_in l.initial.scopes;
+  own : with_core_types (own_in l.scopes) (map shown_core_node (drop l.ty-index l.types))
+      ≡ with_core_types (own_in l.initial.scopes) (map shown_core_node l.types);
+  left : Same (FormedCores (map shown_core_node l.types) (own_in l.initial.scopes))
+      (FormedCores (map shown_core_node (drop l.ty-index l.types)) (own_in l.scopes));
+}

@@ -1,0 +1,53 @@
+use Rattle.std.proofs.Common.{subst, sym, ◌∙◌}
+use Rattle.smith_tree.specs.Spaces.{after_export}
+use Rattle.smith_syntax.specs.WellFormed.{Named}
+use Rattle.smith_read.specs.PartNodes.{shown_export_node}
+use Rattle.smith_check.specs.Preceding.{spaces_in}
+use Rattle.smith_check.specs.Taken.{Knows}
+use Rattle.smith_check.proofs.Judging.{passed_on, refute_by, same_step}
+use Rattle.smith_check.proofs.SectionSteps.{exports_at, exports_done, fold_at, named_next, upto_all, upto_next}
+use Rattle.smith_check.proofs.sections.check_exports.Goals as goal
+
+pub returns-in_err-check_export-clause-judged : goal.returns-in_err-check_export-clause-judged
+returns-in_err-check_export-clause-judged c = λ own before k.
+    let es = c.args.exports.now in
+    let at = c.loop-export.export-index in
+    let e = c.export-item.result in
+    let s = exports_at es at e c.loop-export-test.true c.export-item.is (spaces_in own c.loop-export.here) in
+    passed_on _ _ c.from_residual.ensures.1
+    (refute_by
+    (λ p. (
+      (s.to ((c.loop-export.invariant.left own before k).to p.0)).0,
+      named_next (λ x. x.name) shown_export_node before es at e c.loop-export-test.true c.export-item.is p.1,
+    ))
+    ((c.in_err-check_export.ensures {u = tt}).judged _ (c.loop-export.invariant.known before k)))
+
+pub loop-export-preserved : goal.loop-export-preserved
+loop-export-preserved c =
+    let es = c.args.exports.now in
+    let at = c.loop-export.export-index in
+    let e = c.export-item.result in
+    let kept = c.in_ok-check_export.ensures {u = tt} in
+    record {
+      left = λ own before k.
+          rw (kept.added own)
+          (same_step (c.loop-export.invariant.left own before k)
+          (exports_at es at e c.loop-export-test.true c.export-item.is (spaces_in own c.loop-export.here))
+          (kept.judged _ (c.loop-export.invariant.known before k)).0);
+      known = λ before k.
+          subst (Knows c.check_export.new.here.exports) (upto_next (λ x. x.name) shown_export_node before es at e c.loop-export-test.true c.export-item.is)
+          (kept.known _ (c.loop-export.invariant.known before k));
+      added = λ own.
+          rw (kept.added own)
+          (sym (fold_at shown_export_node es at after_export (spaces_in own c.loop-export.here) e c.loop-export-test.true c.export-item.is)
+          ∙ c.loop-export.invariant.added own);
+      imports = kept.imports ∙ c.loop-export.invariant.imports;
+    }
+
+pub returns-clause-judged : goal.returns-clause-judged
+returns-clause-judged c = λ own before k.
+    let es = c.args.exports.now in
+    let at = c.loop-export.export-index in (
+      (c.loop-export.invariant.left own before k).from (exports_done es at c.loop-export-test.false (spaces_in own c.loop-export.here)),
+      subst Named (upto_all (λ x. x.name) shown_export_node before es at c.loop-export-test.false) (c.loop-export.invariant.known before k).named,
+    )

@@ -1,0 +1,10 @@
+use Rattle.smith_check.specs.Preceding.{own_in}
+use Rattle.smith_check.proofs.Judging.{judged_by}
+use Rattle.smith_check.proofs.TypeSteps.{all_some}
+use Rattle.smith_check.proofs.values.check_tuple.Goals as goal
+
+pub returns : goal.returns
+returns c =
+    let s = all_some (own_in c.args.scopes.now) c.args.items.now in
+    let few = c.in_ok-check_count.ensures {u = tt} in
+    judged_by c.check_values.result (λ p. (s.to p, few.0, few.1)) (λ q. s.from q.0) c.check_values.ensures

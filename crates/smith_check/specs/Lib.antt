@@ -1,0 +1,5 @@
+pub mod Judgement
+pub mod Judges
+pub mod Preceding
+pub mod Taken
+pub mod Verdicts

@@ -1,0 +1,20 @@
+//! Whether a component that was read is well formed.
+#![tactic(auto)]
+
+mod canons;
+mod error;
+mod modules;
+mod names;
+mod open;
+mod parts;
+mod references;
+mod scopes;
+mod sections;
+mod track;
+mod types;
+mod values;
+mod verdict;
+
+pub use error::{Fault, Judgement, Place, Rule};
+pub use parts::judged;
+pub use verdict::{Verdict, check};

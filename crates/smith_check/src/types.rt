@@ -1,0 +1,215 @@
+//! Types of all sorts, those of components and of instances among them.
+
+ghost use Rattle.std.specs.Prelude.{◌≡◌, ◌<◌, length, ◌∷◌, ◌++◌, [], List, map, option_map, IfErr, OnOk};
+ghost use Rattle.std.specs.Option.{option_to_list};
+ghost use Rattle.smith_syntax.specs.Entries.{in_order};
+ghost use Rattle.smith_syntax.specs.Scope.{after_decl, empty_scope, with_core_types, with_types};
+ghost use Rattle.smith_syntax.specs.WellFormed.{FormedDeclaration, FormedDeclarations, FormedEntry};
+ghost use Rattle.smith_syntax.specs.WellFormed.{decl_imports, import_of};
+ghost use Rattle.smith_read_types.specs.Nodes.{shown_core_node};
+ghost use Rattle.smith_read_types.specs.declared.nodes.DeclNode.{DeclNode};
+ghost use Rattle.smith_read_types.specs.TypeNodes.{shown_decl_node, shown_type_node};
+ghost use Rattle.smith_check.specs.Judges.{Decides, Judges};
+ghost use Rattle.smith_check.specs.Preceding.{outer_in, own_in};
+ghost use Rattle.smith_check.specs.Taken.{KnowsDeclared, NamedDeclared};
+ghost use Rattle.smith_check.specs.declared.error.Stop.TheVariants.{OutOfMemory};
+
+use crate::error::{Checked, Rule, Stop};
+use crate::modules::check_core;
+use crate::names::Names;
+use crate::references::{check_imported, check_reference};
+use crate::scopes::Scopes;
+use crate::values::{check_defined, check_signature};
+use smith_read::{CoreNode, DeclNode, TypeNode};
+use smith_syntax::ComponentTypeRef;
+use std::alloc::Global;
+
+// The names that a component type or an instance type imports, and those that it exports.
+#[derive(Drop)]
+struct DeclaredNames<'a> {
+    imports: Names<'a>,
+    exports: Names<'a>,
+}
+
+impl<'a> DeclaredNames<'a> {
+    fn new(alloc: Global) -> DeclaredNames<'a>
+        ensures { KnowsDeclared result [] }
+    {
+        DeclaredNames {
+            imports: Names::new(alloc),
+            exports: Names::new(alloc),
+        }
+    }
+
+    // Adds the name of a declaration, if it has one, which has to be in kebab case and new.
+    #[tactic(auto, using(smith_read_types::proofs::ShownNodes::shown_nodes))]
+    fn add(&mut self, decl: &'a DeclNode) -> Checked
+        ensures judged { (before : List DeclNode) → KnowsDeclared self.old before
+            → Judges result (NamedDeclared (before ++ decl.now ∷ [])) }
+        ensures added { (before : List DeclNode) → KnowsDeclared self.old before
+            → OnOk result (KnowsDeclared self.new (before ++ decl.now ∷ [])) }
+    {
+        match decl {
+            DeclNode::Import { name, .. } => self.imports.add(name),
+            DeclNode::Export { name, .. } => self.exports.add(name),
+            DeclNode::Core(_ty) => Ok(()),
+            DeclNode::Type(_ty) => Ok(()),
+            DeclNode::TypeAlias {
+                count: _count,
+                index: _index,
+            } => Ok(()),
+            DeclNode::CoreTypeAlias {
+                count: _count,
+                index: _index,
+            } => Ok(()),
+        }
+    }
+}
+
+// Does it import something?
+#[tactic(auto, using(smith_read_types::proofs::ShownNodes::shown_nodes))]
+fn is_import(decl: &DeclNode) -> bool
+    ensures { Decides result (0 < length (import_of (shown_decl_node decl.now))) }
+{
+    match decl {
+        DeclNode::Import { .. } => true,
+        DeclNode::Core(_)
+        | DeclNode::Type(_)
+        | DeclNode::TypeAlias { .. }
+        | DeclNode::CoreTypeAlias { .. }
+        | DeclNode::Export { .. } => false,
+    }
+}
+
+// Checks that the declarations of an instance type import nothing.
+fn check_no_imports(decls: &[DeclNode]) -> Checked
+    ensures { Judges result (decl_imports (in_order (map shown_decl_node decls.now)) ≡ []) }
+{
+    for decl in decls {
+        if is_import(decl) {
+            return Err(Stop::IllFormed(Rule::InstanceImport));
+        }
+    }
+    Ok(())
+}
+
+// Adds a type to the innermost scope, if there is one.
+fn add_type<'a>(scopes: &mut Scopes<'a>, ty: Option<&'a TypeNode>) -> Checked
+    ensures own { OnOk result (own_in scopes.new
+        ≡ with_types (own_in scopes.old) (option_to_list (option_map (λ t. shown_type_node t.now) ty.entry))) }
+    ensures outer { outer_in scopes.new ≡ outer_in scopes.old }
+    ensures memory { IfErr result (λ e. e ≡ OutOfMemory) }
+{
+    match ty {
+        Some(ty) => scopes.add_type(ty),
+        None => Ok(()),
+    }
+}
+
+// Adds a core type to the innermost scope, if there is one.
+fn add_core_type<'a>(scopes: &mut Scopes<'a>, ty: Option<&'a CoreNode>) -> Checked
+    ensures own { OnOk result (own_in scopes.new
+        ≡ with_core_types (own_in scopes.old) (option_to_list (option_map (λ t. shown_core_node t.now) ty.entry))) }
+    ensures outer { outer_in scopes.new ≡ outer_in scopes.old }
+    ensures memory { IfErr result (λ e. e ≡ OutOfMemory) }
+{
+    match ty {
+        Some(ty) => scopes.add_core_type(ty),
+        None => Ok(()),
+    }
+}
+
+// Adds to the innermost scope what a declaration adds to it.
+#[tactic(auto, using(smith_read_types::proofs::ShownNodes::shown_nodes))]
+fn add_decl<'a>(scopes: &mut Scopes<'a>, decl: &'a DeclNode) -> Checked
+    ensures own { OnOk result (own_in scopes.new
+        ≡ after_decl (outer_in scopes.old) (own_in scopes.old) (shown_decl_node decl.now)) }
+    ensures outer { outer_in scopes.new ≡ outer_in scopes.old }
+    ensures memory { IfErr result (λ e. e ≡ OutOfMemory) }
+{
+    match decl {
+        DeclNode::Core(ty) => scopes.add_core_type(ty),
+        DeclNode::Type(ty) => scopes.add_type(ty),
+        DeclNode::TypeAlias { count, index } => {
+            let ty = scopes.type_named(*count, *index);
+            add_type(scopes, ty)
+        }
+        DeclNode::CoreTypeAlias { count, index } => {
+            let ty = scopes.core_type_named(*count, *index);
+            add_core_type(scopes, ty)
+        }
+        DeclNode::Export {
+            to: ComponentTypeRef::TypeEq(index),
+            ..
+        } => {
+            let ty = scopes.type_at(*index);
+            add_type(scopes, ty)
+        }
+        DeclNode::Import { .. } | DeclNode::Export { .. } => Ok(()),
+    }
+}
+
+/// Checks a type.
+#[cycle(types)]
+#[tactic(auto, using(smith_read_types::proofs::ShownNodes::shown_nodes))]
+pub(crate) fn check_type<'a>(alloc: Global, scopes: &mut Scopes<'a>, ty: &'a TypeNode) -> Checked
+    ensures judged { Judges result (FormedEntry (shown_type_node ty.now) (own_in scopes.old) (outer_in scopes.old)) }
+    ensures own { OnOk result (own_in scopes.new ≡ own_in scopes.old) }
+    ensures outer { OnOk result (outer_in scopes.new ≡ outer_in scopes.old) }
+{
+    match ty {
+        TypeNode::Defined(ty) => check_defined(alloc, scopes, ty),
+        TypeNode::Func(ty) => check_signature(alloc, scopes, ty),
+        TypeNode::Component(decls) => check_decls(alloc, scopes, decls),
+        TypeNode::Instance(decls) => {
+            check_no_imports(decls)?;
+            check_decls(alloc, scopes, decls)
+        }
+    }
+}
+
+// Checks a declaration of a component type or an instance type.
+#[cycle(types)]
+#[tactic(auto, using(smith_read_types::proofs::ShownNodes::shown_nodes))]
+fn check_decl<'a>(alloc: Global, scopes: &mut Scopes<'a>, decl: &'a DeclNode) -> Checked
+    ensures judged { Judges result
+        (FormedDeclaration (shown_decl_node decl.now) (own_in scopes.old) (outer_in scopes.old)) }
+    ensures own { OnOk result (own_in scopes.new ≡ own_in scopes.old) }
+    ensures outer { OnOk result (outer_in scopes.new ≡ outer_in scopes.old) }
+{
+    match decl {
+        DeclNode::Core(ty) => check_core(alloc, scopes, ty),
+        DeclNode::Type(ty) => check_type(alloc, scopes, ty),
+        DeclNode::TypeAlias { count, index } => match scopes.type_named(*count, *index) {
+            Some(_) => Ok(()),
+            None => Err(Stop::IllFormed(Rule::OuterAlias)),
+        },
+        DeclNode::CoreTypeAlias { count, index } => match scopes.core_type_named(*count, *index) {
+            Some(_) => Ok(()),
+            None => Err(Stop::IllFormed(Rule::OuterAlias)),
+        },
+        DeclNode::Import { to, .. } => check_imported(scopes, *to),
+        DeclNode::Export { to, .. } => check_reference(scopes, *to),
+    }
+}
+
+// Checks the declarations of a component type or an instance type, in a scope of their own.
+#[cycle(types)]
+#[tactic(auto, using(smith_read_types::proofs::ShownNodes::shown_nodes))]
+fn check_decls<'a>(alloc: Global, scopes: &mut Scopes<'a>, decls: &'a [DeclNode]) -> Checked
+    ensures judged { Judges result
+        (FormedDeclarations (in_order (map shown_decl_node decls.now)) empty_scope
+        (own_in scopes.old ∷ outer_in scopes.old) × NamedDeclared decls.now) }
+    ensures own { OnOk result (own_in scopes.new ≡ own_in scopes.old) }
+    ensures outer { OnOk result (outer_in scopes.new ≡ outer_in scopes.old) }
+{
+    scopes.enter(alloc)?;
+    let mut names = DeclaredNames::new(alloc);
+    for decl in decls {
+        check_decl(alloc, scopes, decl)?;
+        names.add(decl)?;
+        add_decl(scopes, decl)?;
+    }
+    scopes.leave();
+    Ok(())
+}

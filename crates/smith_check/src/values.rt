@@ -1,0 +1,165 @@
+//! Types of values and of functions.
+
+ghost use Rattle.std.specs.Prelude.{◌≡◌, ◌≤◌, Option, None, Some, length, map, string_bytes};
+ghost use Rattle.std.specs.List.{AllByRecursion};
+ghost use Rattle.smith_syntax.specs.Entries.{function};
+ghost use Rattle.smith_syntax.specs.Shown.{shown_defined};
+ghost use Rattle.smith_syntax.specs.WellFormed.{FormedDefined, FormedEntry, FormedMaybe, FormedVal, Named};
+ghost use Rattle.smith_syntax.specs.declared.types.ComponentValType.{ComponentValType};
+ghost use Rattle.smith_check.specs.Judges.{Judges};
+ghost use Rattle.smith_check.specs.Preceding.{outer_in, own_in};
+
+use crate::error::{Checked, Rule, Stop};
+use crate::names::check_names;
+use crate::scopes::Scopes;
+use smith_input::Labelled;
+use smith_read::TypeNode;
+use smith_syntax::{ComponentValType, DefinedType, FuncType};
+use std::alloc::Global;
+
+/// A member, which has a value type or none.
+pub(crate) trait Valued {
+    ghost value: { Self → Option ComponentValType };
+
+    /// Its value type.
+    fn value(&self) -> Option<ComponentValType>
+        ensures { result ≡ value self.now };
+}
+
+impl Valued for ComponentValType {
+    ghost value = { λ v. Some v };
+
+    fn value(&self) -> Option<ComponentValType> {
+        Some(*self)
+    }
+}
+
+impl Valued for (String, ComponentValType) {
+    ghost value = { λ p. Some p.1 };
+
+    fn value(&self) -> Option<ComponentValType> {
+        Some(self.1)
+    }
+}
+
+impl Valued for (String, Option<ComponentValType>) {
+    ghost value = { λ p. p.1 };
+
+    fn value(&self) -> Option<ComponentValType> {
+        self.1
+    }
+}
+
+// Checks a value type in use.
+fn check_value(scopes: &Scopes<'_>, ty: ComponentValType) -> Checked
+    ensures { Judges result (FormedVal (own_in scopes.now) ty) }
+{
+    match ty {
+        ComponentValType::Primitive(_) => Ok(()),
+        ComponentValType::Indexed(index) => match scopes.type_at(index) {
+            Some(TypeNode::Defined(_)) => Ok(()),
+            Some(_) => Err(Stop::IllFormed(Rule::ValueType)),
+            None => Err(Stop::IllFormed(Rule::NoType)),
+        },
+    }
+}
+
+// Checks a value type in use, if there is one.
+fn check_maybe(scopes: &Scopes<'_>, ty: Option<ComponentValType>) -> Checked
+    ensures { Judges result (FormedMaybe (own_in scopes.now) ty) }
+{
+    match ty {
+        Some(ty) => check_value(scopes, ty),
+        None => Ok(()),
+    }
+}
+
+// Checks the value types of members.
+fn check_values<T: Valued>(scopes: &Scopes<'_>, items: &[T]) -> Checked
+    ensures { Judges result (AllByRecursion (FormedMaybe (own_in scopes.now)) (map T.value items.now)) }
+{
+    for item in items {
+        check_maybe(scopes, item.value())?;
+    }
+    Ok(())
+}
+
+// Checks that a number of members is from 1 to `most`.
+fn check_count(count: usize, most: usize) -> Checked
+    ensures { Judges result ((1 ≤ count) × (count ≤ most)) }
+{
+    if 1 <= count && count <= most {
+        Ok(())
+    } else {
+        Err(Stop::IllFormed(Rule::Members))
+    }
+}
+
+// Checks the names of flags or enums, from 1 to `most`.
+fn check_labels(alloc: Global, items: &[String], most: usize) -> Checked
+    ensures { Judges result (Named (map string_bytes items.now) × (1 ≤ length items.now) × (length items.now ≤ most)) }
+{
+    check_count(items.len(), most)?;
+    check_names(alloc, items)
+}
+
+// Checks members with names and value types, from 1 to 100.
+fn check_members<T: Labelled + Valued>(alloc: Global, scopes: &Scopes<'_>, items: &[T]) -> Checked
+    ensures { Judges result (Named (map T.text items.now)
+        × AllByRecursion (FormedMaybe (own_in scopes.now)) (map T.value items.now)
+        × (1 ≤ length items.now) × (length items.now ≤ 100)) }
+{
+    check_count(items.len(), 100)?;
+    check_names(alloc, items)?;
+    check_values(scopes, items)
+}
+
+// Checks members without names, from 1 to 100.
+fn check_tuple(scopes: &Scopes<'_>, items: &[ComponentValType]) -> Checked
+    ensures { Judges result (AllByRecursion (FormedVal (own_in scopes.now)) items.now
+        × (1 ≤ length items.now) × (length items.now ≤ 100)) }
+{
+    check_count(items.len(), 100)?;
+    check_values(scopes, items)
+}
+
+// Checks the two types of a result.
+fn check_both(
+    scopes: &Scopes<'_>,
+    ok: Option<ComponentValType>,
+    err: Option<ComponentValType>,
+) -> Checked
+    ensures { Judges result (FormedMaybe (own_in scopes.now) ok × FormedMaybe (own_in scopes.now) err) }
+{
+    check_maybe(scopes, ok)?;
+    check_maybe(scopes, err)
+}
+
+/// Checks a type of values.
+pub(crate) fn check_defined(alloc: Global, scopes: &Scopes<'_>, ty: &DefinedType) -> Checked
+    ensures { Judges result (FormedDefined (shown_defined ty.now) (own_in scopes.now)) }
+{
+    match ty {
+        DefinedType::Primitive(_) => Ok(()),
+        DefinedType::Record(ty) => check_members(alloc, scopes, &ty.fields),
+        DefinedType::Variant(ty) => check_members(alloc, scopes, &ty.cases),
+        DefinedType::List(ty) => check_value(scopes, ty.elem_ty),
+        DefinedType::Tuple(ty) => check_tuple(scopes, &ty.fields),
+        DefinedType::Flags(ty) => check_labels(alloc, &ty.fields, 32),
+        DefinedType::Enum(ty) => check_labels(alloc, &ty.variants, 100),
+        DefinedType::Option(ty) => check_value(scopes, ty.inner_ty),
+        DefinedType::Result(ty) => check_both(scopes, ty.ok_ty, ty.err_ty),
+    }
+}
+
+/// Checks a type of functions.
+pub(crate) fn check_signature(alloc: Global, scopes: &Scopes<'_>, ty: &FuncType) -> Checked
+    ensures { Judges result (FormedEntry (function ty.now) (own_in scopes.now) (outer_in scopes.now)) }
+{
+    if ty.params.len() > 16 {
+        return Err(Stop::IllFormed(Rule::Parameters));
+    }
+    check_names(alloc, &ty.params)?;
+    check_values(scopes, &ty.params)?;
+    check_maybe(scopes, ty.result)
+}

@@ -1,0 +1,77 @@
+-- Where an entry of a section is in the bytes of a component: what precedes it (Binary.md, component definitions).
+use Rattle.std.specs.Prelude.{◌≡◌, ℕ, List, [], ◌∷◌, length, take, Option, None, Some, option_map, slice_get, nat_lt, if◌then◌else◌}
+use Rattle.smith_format.specs.Piece.{Piece, ◌⊕◌, byte, bytes, each, many, u}
+use Rattle.smith_syntax.specs.Grammar.{core_entry, entry, import_entry}
+use Rattle.smith_tree.specs.Grammar.{canon, component_text, export_entry, part, preamble}
+use Rattle.smith_tree.specs.Tree.{Part, Tree, canons, component, core_module, core_types, custom, exports, imports, parts_of, types}
+use Rattle.smith_read_types.specs.Reading.{◌>>=◌}
+
+-- a section as far as so much of its contents: its id, the length of all of them, and that much
+abbrev pub opened : ℕ → Piece → Piece → Piece
+opened id contents front = byte id ⊕ (contents >>= λ c. u (length c)) ⊕ front
+
+-- so much of a list as precedes an entry in it: its count, and the entries before that one
+abbrev pub list_before : {A : Type 0} → (A → Piece) → List A → ℕ → Piece
+list_before f xs index = if nat_lt index (length xs) then u (length xs) ⊕ each f (take index xs) else None
+
+-- so much of a section as precedes an entry in it
+abbrev pub before_entry : ℕ → Part → Piece
+before_entry index (custom name contents) = None
+before_entry index (core_module text) = None
+before_entry index (core_types ts) = opened 3 (many core_entry ts) (list_before core_entry ts index)
+before_entry index (component t) = None
+before_entry index (types ts) = opened 7 (many entry ts) (list_before entry ts index)
+before_entry index (canons fs) = opened 8 (many canon fs) (list_before canon fs index)
+before_entry index (imports is) = opened 10 (many import_entry is) (list_before import_entry is index)
+before_entry index (exports es) = opened 11 (many export_entry es) (list_before export_entry es index)
+
+-- what is found in the component that a section holds, and nothing where it holds none
+abbrev pub inside : {A : Type 0} → (Tree → Option A) → Part → Option A
+inside found (custom name contents) = None
+inside found (core_module text) = None
+inside found (core_types ts) = None
+inside found (component t) = found t
+inside found (types ts) = None
+inside found (canons fs) = None
+inside found (imports is) = None
+inside found (exports es) = None
+
+-- so much of a section as precedes something in the component in it
+abbrev pub before_inside : (Tree → Piece) → Part → Piece
+before_inside inner p = inside (λ t. opened 4 (component_text t) (inner t)) p
+
+-- the preamble, and the sections before one
+abbrev pub before_section : ℕ → Tree → Piece
+before_section index t = bytes preamble ⊕ each part (take index (parts_of t))
+
+-- So much of a component as precedes an entry: the entry with that index in the section with the last of these indexes, the first being of
+-- a section of the component, the next of a section of the component in that one, and so on. None where there is no such entry.
+abbrev pub before : List ℕ → ℕ → Tree → Piece
+before [] index t = None
+before (k ∷ []) index t = before_section k t ⊕ (slice_get (parts_of t) k >>= before_entry index)
+before (k ∷ l ∷ path) index t = before_section k t ⊕ (slice_get (parts_of t) k >>= before_inside (before (l ∷ path) index))
+
+-- how many bytes precede it
+abbrev pub offset_in : List ℕ → ℕ → Tree → Option ℕ
+offset_in path index t = option_map length (before path index t)
+
+-- The encoding of that entry.
+
+abbrev pub entry_text : ℕ → Part → Piece
+entry_text index (custom name contents) = None
+entry_text index (core_module text) = None
+entry_text index (core_types ts) = slice_get ts index >>= core_entry
+entry_text index (component t) = None
+entry_text index (types ts) = slice_get ts index >>= entry
+entry_text index (canons fs) = slice_get fs index >>= canon
+entry_text index (imports is) = slice_get is index >>= import_entry
+entry_text index (exports es) = slice_get es index >>= export_entry
+
+abbrev pub place_text : List ℕ → ℕ → Tree → Piece
+place_text [] index t = None
+place_text (k ∷ []) index t = slice_get (parts_of t) k >>= entry_text index
+place_text (k ∷ l ∷ path) index t = slice_get (parts_of t) k >>= inside (place_text (l ∷ path) index)
+
+-- the bytes begin with it
+abbrev pub IsAtFront : Piece → List ℕ → Type 0
+IsAtFront p b = (rest : List ℕ) × (p ⊕ Some rest ≡ Some b)
