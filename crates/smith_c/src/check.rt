@@ -18,8 +18,8 @@ use std::alloc::Global;
 
 /// Whether the bytes are a component that is well formed, as `check` of `smith_check` says.
 ///
-/// The answer is the code of a `Status`: `Answered`, `IllFormed`, `Unread` or that of `OutOfMemory`. `offset` is that of
-/// the entry that breaks a rule, or where it was seen that the bytes are no component, and else 2^64 - 1.
+/// Returns the code of a `Status`: `Answered`, `IllFormed`, `Unread` or that of `OutOfMemory`. `offset` is that of the
+/// entry that breaks a rule, or the one at which it was seen that the bytes are no component, and else 2^64 - 1.
 #[unsafe(no_mangle)]
 pub extern "C" fn lupinanon_proved_check(alloc: Global, bytes: &[u8], offset: &mut usize) -> i32
     ensures well_formed { result ≡ code_of Answered
@@ -32,8 +32,7 @@ pub extern "C" fn lupinanon_proved_check(alloc: Global, bytes: &[u8], offset: &m
     ensures out_of_memory { result ≡ code_of (Refused OutOfMemory) → offset.new ≡ no_offset }
     ensures statuses { (result ≡ code_of Answered) ⊎ (result ≡ code_of IllFormed) ⊎ (result ≡ code_of Unread)
         ⊎ (result ≡ code_of (Refused OutOfMemory)) }
-
-    // It is found to be well formed, lack of memory aside.
+    // A well-formed component is found to be one, allocation failure aside.
     ensures answers { (component : Tree) → Spells component bytes.now → WellFormed component
         → scope_depth component ≤ most_depth → (result ≡ code_of Answered) ⊎ (result ≡ code_of (Refused OutOfMemory)) }
 {
