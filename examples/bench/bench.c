@@ -44,7 +44,7 @@ int main(int count, char **words) {
     }
     corpus_len = fread(corpus, 1, sizeof corpus, file);
     fclose(file);
-    lupinanon_default_limits(&limits);
+    lupinanon_default_limits(&limits, sizeof limits);
     start = seconds();
     while (passes--) {
         if (!pass(&limits, corpus_len, length, &counts)) {

@@ -33,8 +33,11 @@ static const uint8_t wanted[12] = {0, 0x61, 0x73, 0x6d, 0x0d, 0, 1, 0, 7, 2, 1, 
 
 static int defaults_are_written(void) {
     LupinanonLimits limits;
+    size_t place;
     memset(&limits, 0xaa, sizeof limits);
-    lupinanon_default_limits(&limits);
+    WANT(lupinanon_default_limits(&limits, sizeof limits) == LUPINANON_ANSWERED);
+    WANT(limits.size == sizeof limits);
+    for (place = 0; place < sizeof limits.reserved; place++) WANT(limits.reserved[place] == 0);
     /* each default */
     WANT(limits.min_types == 0);
     WANT(limits.min_imports == 0);
@@ -66,7 +69,7 @@ static int nothing_passes_the_room(void) {
     LupinanonLimits limits;
     uint8_t output[16];
     size_t len = 99, left = 99;
-    lupinanon_default_limits(&limits);
+    lupinanon_default_limits(&limits, sizeof limits);
     memset(output, 0xaa, sizeof output);
     WANT(lupinanon_generate_into(&limits, plan, 8, NULL, 0, &len, &left) == LUPINANON_NO_ROOM && len == 12);
     WANT(left == 1);
@@ -96,16 +99,16 @@ static int32_t refusal(const LupinanonLimits *limits, const uint8_t *input, size
 static int refusals_have_their_statuses(void) {
     static const uint8_t module[1] = {6};
     LupinanonLimits limits;
-    lupinanon_default_limits(&limits);
+    lupinanon_default_limits(&limits, sizeof limits);
     limits.max_nesting_depth = 1001;
     WANT(refusal(&limits, plan, 8) == LUPINANON_INCONSISTENT_LIMITS);
-    lupinanon_default_limits(&limits);
+    lupinanon_default_limits(&limits, sizeof limits);
     limits.min_imports = 1;
     WANT(refusal(&limits, plan, 0) == LUPINANON_MINIMUM_NOT_MET);
-    lupinanon_default_limits(&limits);
+    lupinanon_default_limits(&limits, sizeof limits);
     limits.min_memories = 2;
     WANT(refusal(&limits, module, 1) == LUPINANON_MODULE_REFUSED);
-    lupinanon_default_limits(&limits);
+    lupinanon_default_limits(&limits, sizeof limits);
     limits.simd_enabled = 2;
     WANT(refusal(&limits, plan, 8) == LUPINANON_BAD_FLAG);
     return 1;
@@ -115,7 +118,8 @@ static int bad_arguments_are_refused(void) {
     LupinanonLimits limits;
     uint8_t output[16], *bytes;
     size_t len, left;
-    lupinanon_default_limits(&limits);
+    WANT(lupinanon_default_limits(NULL, sizeof limits) == LUPINANON_BAD_ARGUMENT);
+    lupinanon_default_limits(&limits, sizeof limits);
     WANT(lupinanon_generate_into(NULL, plan, 8, output, 16, &len, &left) == LUPINANON_BAD_ARGUMENT);
     WANT(lupinanon_generate_into(&limits, NULL, 8, output, 16, &len, &left) == LUPINANON_BAD_ARGUMENT);
     WANT(lupinanon_generate_into(&limits, plan, 8, NULL, 16, &len, &left) == LUPINANON_BAD_ARGUMENT);
@@ -138,7 +142,7 @@ static int left_may_be_null(void) {
     LupinanonLimits limits;
     uint8_t output[12], *bytes;
     size_t len;
-    lupinanon_default_limits(&limits);
+    lupinanon_default_limits(&limits, sizeof limits);
     WANT(lupinanon_generate_into(&limits, plan, 8, output, 12, &len, NULL) == LUPINANON_ANSWERED && len == 12);
     WANT(lupinanon_generate(&limits, plan, 8, &bytes, &len, NULL) == LUPINANON_ANSWERED && len == 12);
     free(bytes);
@@ -158,7 +162,7 @@ static int overlaps_are_refused(void) {
     uint8_t *at = memory.bytes, *bytes;
     size_t len, left, *counts = memory.counts;
     LupinanonLimits limits;
-    lupinanon_default_limits(&limits);
+    lupinanon_default_limits(&limits, sizeof limits);
     memset(&memory, 0, sizeof memory);
     WANT(lupinanon_generate_into(&limits, at, 9, at + 8, 12, &len, &left) == LUPINANON_BAD_ARGUMENT);
     WANT(lupinanon_generate_into(&limits, at + 19, 8, at + 8, 12, &len, &left) == LUPINANON_BAD_ARGUMENT);
@@ -174,6 +178,127 @@ static int overlaps_are_refused(void) {
     WANT(lupinanon_generate(&limits, plan, 8, &memory.block, counts, &left) == LUPINANON_BAD_ARGUMENT);
     WANT(lupinanon_generate(&limits, plan, 8, &bytes, &len, &len) == LUPINANON_BAD_ARGUMENT && !bytes && !len);
     WANT(lupinanon_check(at, 9, counts + 1) == LUPINANON_BAD_ARGUMENT);
+    return 1;
+}
+
+/* Whether the plan is made within the limits. */
+static int is_made(const LupinanonLimits *limits) {
+    uint8_t output[12], *bytes;
+    size_t len, left;
+    WANT(lupinanon_generate_into(limits, plan, 8, output, 12, &len, &left) == LUPINANON_ANSWERED);
+    WANT(len == 12 && left == 1 && !memcmp(output, wanted, 12));
+    WANT(lupinanon_generate(limits, plan, 8, &bytes, &len, &left) == LUPINANON_ANSWERED);
+    WANT(len == 12 && left == 1 && !memcmp(bytes, wanted, 12));
+    free(bytes);
+    return 1;
+}
+
+static int are_bad_arguments(const LupinanonLimits *limits) {
+    uint8_t *bytes;
+    size_t len, left;
+    WANT(refusal(limits, plan, 8) == LUPINANON_BAD_ARGUMENT);
+    WANT(lupinanon_generate(limits, plan, 8, &bytes, &len, &left) == LUPINANON_BAD_ARGUMENT);
+    return !bytes && !len && !left;
+}
+
+/* Whether the struct of an older header may end there, after a limit of eight bytes, of four or of one. */
+static int is_older_size(size_t size) {
+    size_t of_eight = offsetof(LupinanonLimits, max_type_size);
+    if (size <= of_eight) return size > sizeof(size_t) && size % sizeof(size_t) == 0;
+    return size >= of_eight + sizeof(uint32_t);
+}
+
+/* What follows an older struct in memory is neither written nor read: 0xaa in limits would be refused. */
+static int older_structs_are_taken(void) {
+    LupinanonLimits defaults;
+    Overlapping memory;
+    size_t size, before = sizeof(size_t);
+    lupinanon_default_limits(&defaults, sizeof defaults);
+    for (size = 0; size <= offsetof(LupinanonLimits, reserved); size++) {
+        memset(&memory, 0xaa, sizeof memory);
+        if (!is_older_size(size)) {
+            WANT(lupinanon_default_limits(&memory.limits, size) == LUPINANON_BAD_ARGUMENT);
+            WANT(is_untouched(memory.bytes, 0));
+            memory.limits = defaults;
+            memory.limits.size = size;
+            WANT(are_bad_arguments(&memory.limits));
+            continue;
+        }
+        WANT(lupinanon_default_limits(&memory.limits, size) == LUPINANON_ANSWERED && memory.limits.size == size);
+        WANT(!memcmp(memory.bytes + before, (const uint8_t *)&defaults + before, size - before));
+        WANT(is_made(&memory.limits));
+        memory.limits.min_types = 101;
+        WANT(refusal(&memory.limits, plan, 8) == LUPINANON_INCONSISTENT_LIMITS);
+        WANT(is_untouched(memory.bytes, size));
+    }
+    return 1;
+}
+
+/* The struct of a newer header. */
+typedef struct NewerLimits {
+    LupinanonLimits limits;
+    size_t max_more;
+    uint8_t more_enabled;
+} NewerLimits;
+
+static int newer_structs_are_taken(void) {
+    union {
+        NewerLimits newer;
+        uint8_t bytes[ROOM];
+    } memory;
+    LupinanonLimits *limits = &memory.newer.limits;
+    size_t place;
+    memset(&memory, 0xaa, sizeof memory);
+    WANT(lupinanon_default_limits(limits, sizeof(NewerLimits)) == LUPINANON_ANSWERED);
+    WANT(limits->size == sizeof(NewerLimits) && limits->max_types == 100);
+    WANT(memory.newer.max_more == 0 && memory.newer.more_enabled == 0 && is_made(limits));
+    for (place = offsetof(LupinanonLimits, reserved); place < sizeof(NewerLimits); place++) {
+        memory.bytes[place] = 1;
+        WANT(are_bad_arguments(limits));
+        memory.bytes[place] = 0;
+    }
+    WANT(is_made(limits) && is_untouched(memory.bytes, sizeof(NewerLimits)));
+    limits->min_types = 101;
+    WANT(refusal(limits, plan, 8) == LUPINANON_INCONSISTENT_LIMITS);
+    return 1;
+}
+
+static int wrong_sizes_are_refused(void) {
+    static const size_t sizes[] = {0, 1, sizeof(LupinanonLimits) - 1, 4097, PTRDIFF_MAX, SIZE_MAX};
+    static union {
+        LupinanonLimits limits;
+        uint8_t bytes[4096 + 1];
+    } memory;
+    LupinanonLimits limits;
+    size_t place;
+    for (place = 0; place < sizeof sizes / sizeof *sizes; place++) {
+        lupinanon_default_limits(&limits, sizeof limits);
+        WANT(lupinanon_default_limits(&limits, sizes[place]) == LUPINANON_BAD_ARGUMENT && limits.size == sizeof limits);
+        limits.size = sizes[place];
+        WANT(are_bad_arguments(&limits));
+    }
+    memset(&memory, 0xaa, sizeof memory);
+    WANT(lupinanon_default_limits(&memory.limits, 4096) == LUPINANON_ANSWERED && is_made(&memory.limits));
+    WANT(memory.bytes[4095] == 0 && memory.bytes[4096] == 0xaa);
+    memset(&limits, 0, sizeof limits);
+    WANT(are_bad_arguments(&limits));
+    memset(&limits, 0xaa, sizeof limits);
+    WANT(are_bad_arguments(&limits));
+    return 1;
+}
+
+/* As many bytes as the caller's struct has must be apart from what is written. */
+static int limits_overlap_by_their_size(void) {
+    static const size_t sizes[] = {2 * sizeof(size_t), sizeof(LupinanonLimits), sizeof(NewerLimits)};
+    Overlapping memory;
+    size_t place, size, len, left;
+    for (place = 0; place < 3; place++) {
+        uint8_t *after = memory.bytes + (size = sizes[place]);
+        lupinanon_default_limits(&memory.limits, size);
+        WANT(lupinanon_generate_into(&memory.limits, plan, 8, after - 1, 12, &len, &left) == LUPINANON_BAD_ARGUMENT);
+        WANT(lupinanon_generate_into(&memory.limits, plan, 8, after, 12, &len, &left) == LUPINANON_ANSWERED);
+        WANT(!memcmp(after, wanted, 12));
+    }
     return 1;
 }
 
@@ -211,6 +336,97 @@ typedef struct Bytes {
 
 #define BYTES(...) {(const uint8_t[]){__VA_ARGS__}, sizeof((const uint8_t[]){__VA_ARGS__})}
 
+/* A limit, a value of it that is not the default, and what an input then gives. */
+typedef struct Arriving {
+    const char *name;
+    size_t at, len;
+    uint64_t value;
+    Bytes input;
+    int32_t status;
+    Bytes output;
+} Arriving;
+
+#define LIMIT(name) #name, offsetof(LupinanonLimits, name), sizeof(((LupinanonLimits *)0)->name)
+#define REFUSED(name, value, input, status) {LIMIT(name), value, input, status, {NULL, 0}}
+#define MADE(name, value, input, output) {LIMIT(name), value, input, LUPINANON_ANSWERED, output}
+
+/* A module type without what the canonical ABI asks for. Then a declaration, or two: a type without parameters and
+ * results, and an import with two empty names, of the first, second or fourth kind of entity. */
+#define GLOBAL BYTES(0x02, 0x01, 0x01, 0x63, 0x63, 0x63, 0x01, 0x00, 0x00, 0x00, 0x00)
+#define TABLE BYTES(0x02, 0x01, 0x01, 0x63, 0x63, 0x63, 0x01, 0x00, 0x00, 0x00, 0x01)
+#define TAG BYTES(0x02, 0x01, 0x01, 0x63, 0x63, 0x63, 0x01, 0x02, 0x00, 0x00, 0x01, 0x00, 0x00, 0x00, 0x03)
+/* A core module without types and with a memory; u32 as a type. */
+#define MODULE BYTES(0x06, 0x00, 0x01)
+#define TYPE BYTES(0x03, 0x01, 0x00, 0x00, 0x06)
+
+static const Arriving arriving[] = {
+    REFUSED(min_types, 101, TYPE, LUPINANON_INCONSISTENT_LIMITS),
+    REFUSED(min_imports, 101, TYPE, LUPINANON_INCONSISTENT_LIMITS),
+    REFUSED(min_funcs, 101, TYPE, LUPINANON_INCONSISTENT_LIMITS),
+    REFUSED(min_memories, 2, MODULE, LUPINANON_MODULE_REFUSED),
+    REFUSED(max_types, 0x100000000, TYPE, LUPINANON_INCONSISTENT_LIMITS),
+    REFUSED(max_imports, 0x100000000, TYPE, LUPINANON_INCONSISTENT_LIMITS),
+    REFUSED(max_funcs, 0x100000000, TYPE, LUPINANON_INCONSISTENT_LIMITS),
+    REFUSED(max_exports, 0x100000000 - 100, TYPE, LUPINANON_INCONSISTENT_LIMITS),
+    /* the next kind of entity is imported: a table, a memory, a function */
+    MADE(max_globals, 0, GLOBAL,
+         BYTES(PREAMBLE, 0x03, 0x0a, 0x01, 0x50, 0x01, 0x00, 0x00, 0x00, 0x01, 0x70, 0x00, 0x00)),
+    MADE(max_tables, 0, TABLE, BYTES(PREAMBLE, 0x03, 0x09, 0x01, 0x50, 0x01, 0x00, 0x00, 0x00, 0x02, 0x00, 0x00)),
+    MADE(max_tags, 0, TAG,
+         BYTES(PREAMBLE, 0x03, 0x0c, 0x01, 0x50, 0x02, 0x01, 0x60, 0x00, 0x00, 0x00, 0x00, 0x00, 0x00, 0x00)),
+    /* the byte that asked for a memory is the choice of a custom section */
+    MADE(max_memories, 0, MODULE,
+         BYTES(PREAMBLE, 0x01, 0x08, 0x00, 0x61, 0x73, 0x6d, 0x01, 0x00, 0x00, 0x00, 0x00, 0x01, 0x00)),
+    REFUSED(max_modules, 0x100000000, TYPE, LUPINANON_INCONSISTENT_LIMITS),
+    REFUSED(max_components, 0x100000000, TYPE, LUPINANON_INCONSISTENT_LIMITS),
+    REFUSED(max_instances, 0x100000000, TYPE, LUPINANON_INCONSISTENT_LIMITS),
+    REFUSED(max_nesting_depth, 1001, TYPE, LUPINANON_INCONSISTENT_LIMITS),
+    /* no byte chooses the kind of a type without fuel: the next one is a primitive, and then bool */
+    MADE(max_type_size, 0, TYPE, BYTES(PREAMBLE, 0x07, 0x02, 0x01, 0x7f)),
+    REFUSED(multi_value_enabled, 2, TYPE, LUPINANON_BAD_FLAG),
+    REFUSED(exceptions_enabled, 2, TYPE, LUPINANON_BAD_FLAG),
+    REFUSED(reference_types_enabled, 2, TYPE, LUPINANON_BAD_FLAG),
+    REFUSED(simd_enabled, 2, TYPE, LUPINANON_BAD_FLAG),
+    REFUSED(allow_floats, 2, TYPE, LUPINANON_BAD_FLAG),
+    REFUSED(bulk_memory_enabled, 2, TYPE, LUPINANON_BAD_FLAG),
+};
+
+static void set(LupinanonLimits *limits, const Arriving *it) {
+    size_t number = (size_t)it->value;
+    uint32_t less = (uint32_t)it->value;
+    uint8_t feature = (uint8_t)it->value;
+    const void *value = it->len == 1 ? (const void *)&feature : it->len == 4 ? (const void *)&less : &number;
+    memcpy((uint8_t *)limits + it->at, value, it->len);
+}
+
+static int arrives(const Arriving *it) {
+    LupinanonLimits limits;
+    uint8_t output[ROOM];
+    size_t len, left;
+    int32_t status;
+    lupinanon_default_limits(&limits, sizeof limits);
+    set(&limits, it);
+    status = lupinanon_generate_into(&limits, it->input.at, it->input.len, output, sizeof output, &len, &left);
+    if (status == it->status && !left && len == it->output.len)
+        if (!len || !memcmp(output, it->output.at, len)) return 1;
+    printf("checks.c: %s: %s, %zu bytes, %zu left\n", it->name, lupinanon_status_name(status), len, left);
+    return 0;
+}
+
+/* Each limit arrives, and there is a row for each. */
+static int limits_arrive(void) {
+    const Arriving *it, *end = arriving + sizeof arriving / sizeof *arriving;
+    size_t at = sizeof(size_t), reserved = offsetof(LupinanonLimits, reserved);
+    for (it = arriving; it < end; it++) {
+        if (at == reserved) at += sizeof(((LupinanonLimits *)0)->reserved);
+        WANT(it->at == at);
+        if (!arrives(it)) return 0;
+        at += it->len;
+    }
+    WANT(at == reserved || at == sizeof(LupinanonLimits));
+    return 1;
+}
+
 /* What is generated from an input, and in how many growths. */
 typedef struct Entry {
     const char *name;
@@ -221,7 +437,7 @@ typedef struct Entry {
 } Entry;
 
 static void set_small_limits(LupinanonLimits *limits) {
-    lupinanon_default_limits(limits);
+    lupinanon_default_limits(limits, sizeof *limits);
     limits->max_modules = limits->max_components = limits->max_instances = 1;
     limits->max_nesting_depth = 2;
     limits->max_types = limits->max_imports = limits->max_funcs = 10;
@@ -380,6 +596,8 @@ static int components_are_judged(void) {
 int main(void) {
     if (!defaults_are_written() || !nothing_passes_the_room() || !refusals_have_their_statuses()) return 1;
     if (!bad_arguments_are_refused() || !memory_is_refused_in_turn() || !growths_are_refused_in_turn()) return 1;
+    if (!older_structs_are_taken() || !newer_structs_are_taken() || !wrong_sizes_are_refused()) return 1;
+    if (!limits_overlap_by_their_size() || !limits_arrive()) return 1;
     if (!left_may_be_null() || !overlaps_are_refused() || !words_are_right() || !components_are_judged()) return 1;
     puts("checks: all is as lupinanon.h says");
     return 0;

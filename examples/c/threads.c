@@ -21,7 +21,7 @@ static void *make(void *argument) {
     struct Made *made = (struct Made *)argument;
     LupinanonLimits limits;
     int run;
-    lupinanon_default_limits(&limits);
+    lupinanon_default_limits(&limits, sizeof limits);
     for (run = 0; run < RUNS; run++) {
         made->status = lupinanon_generate_into(&limits, input, INPUT, made->output, OUTPUT, &made->len, &made->left);
         if (made->status) break;
@@ -80,7 +80,7 @@ static void *make_and_check(void *argument) {
     static uint8_t output[OUTPUT];
     struct Deep *deep = (struct Deep *)argument;
     LupinanonLimits limits;
-    lupinanon_default_limits(&limits);
+    lupinanon_default_limits(&limits, sizeof limits);
     limits.max_nesting_depth = deep->depth;
     limits.max_components = MOST_DEPTH;
     limits.max_type_size = 10 * MOST_DEPTH;

@@ -46,7 +46,7 @@ int LLVMFuzzerTestOneInput(const uint8_t *data, size_t size) {
     size_t len, left;
     LupinanonLimits limits;
     int32_t status;
-    lupinanon_default_limits(&limits);
+    lupinanon_default_limits(&limits, sizeof limits);
     limits.max_exports = 10;
     status = lupinanon_generate_into(&limits, data, size, output, sizeof output, &len, &left);
     if (status == LUPINANON_NO_ROOM) return -1; /* larger than what this target is for: not kept in the corpus */

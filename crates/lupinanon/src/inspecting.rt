@@ -1,10 +1,10 @@
 //! Looking at a component in a file: whether it is well formed, and what is in it.
 
 use crate::FAULT;
-use crate::places::{STANDARD_INPUT, Source, tell_fault};
+use crate::places::{STANDARD_INPUT, Source, print_fault, status_of_print};
 use crate::show::Shown;
-use smith_check::{Verdict, check as check_bytes};
 use smith_read::{ComponentTree, read};
+use smith_verdict::{Verdict, check as check_bytes};
 use std::fmt;
 use std::io::{self, Read};
 use std::process::ExitCode;
@@ -22,12 +22,12 @@ fn read_whole(rt: &HostRuntime, source: &mut Source) -> io::Result<Vec<u8>> {
     Ok(bytes)
 }
 
-// The bytes of the file, or the status after a message.
-fn bytes_in(rt: &HostRuntime, path: Option<&str>) -> Result<Vec<u8>, ExitCode> {
+/// The bytes of the file, or the status after a message.
+pub fn bytes_in(rt: &HostRuntime, path: Option<&str>) -> Result<Vec<u8>, ExitCode> {
     let mut source = match Source::open(rt, path) {
         Ok(source) => source,
         Err(error) => {
-            tell_fault(rt, path, STANDARD_INPUT, Some(&error));
+            print_fault(rt, path, STANDARD_INPUT, Some(&error));
             return Err(ExitCode::from(FAULT));
         }
     };
@@ -35,21 +35,26 @@ fn bytes_in(rt: &HostRuntime, path: Option<&str>) -> Result<Vec<u8>, ExitCode> {
         Ok(bytes) => Ok(bytes),
         Err(error) => {
             let fault = source.fault().unwrap_or(&error);
-            tell_fault(rt, path, STANDARD_INPUT, Some(fault));
+            print_fault(rt, path, STANDARD_INPUT, Some(fault));
             Err(ExitCode::from(FAULT))
         }
     }
 }
 
-// Prints what is wrong with a file, and returns the status.
-fn refuse<W: fmt::Display>(rt: &HostRuntime, path: Option<&str>, why: &W, status: u8) -> ExitCode {
+/// Prints what is wrong with a file, and returns the status.
+pub fn refuse<W: fmt::Display>(
+    rt: &HostRuntime,
+    path: Option<&str>,
+    why: &W,
+    status: u8,
+) -> ExitCode {
     let path = path.unwrap_or(STANDARD_INPUT);
     let _ = eprintln!(rt; "lupinanon: {path}: {why}");
     ExitCode::from(status)
 }
 
-/// The component that the file spells, or the status after a message.
-pub fn component_in(rt: &HostRuntime, path: Option<&str>) -> Result<ComponentTree, ExitCode> {
+// The component that the file spells, or the status after a message.
+fn component_in(rt: &HostRuntime, path: Option<&str>) -> Result<ComponentTree, ExitCode> {
     let bytes = bytes_in(rt, path)?;
     match read(rt.alloc(), &bytes) {
         Ok(component) => Ok(component),
@@ -57,21 +62,22 @@ pub fn component_in(rt: &HostRuntime, path: Option<&str>) -> Result<ComponentTre
     }
 }
 
-fn status_of(printed: io::Result<()>) -> ExitCode {
-    match printed {
-        Ok(()) => ExitCode::SUCCESS,
-        Err(_) => ExitCode::from(FAULT),
-    }
-}
-
 fn report(rt: &HostRuntime, path: Option<&str>, verdict: &Verdict) -> ExitCode {
     match verdict {
         Verdict::WellFormed => {
             let path = path.unwrap_or(STANDARD_INPUT);
-            status_of(println!(rt; "{path}: {verdict}"))
+            status_of_print(rt, println!(rt; "{path}: {verdict}"))
         }
         Verdict::IllFormed { .. } => refuse(rt, path, verdict, REFUSED),
         Verdict::Unread { .. } => refuse(rt, path, verdict, UNREAD),
+    }
+}
+
+/// Prints which rule a component breaks, and where, and returns the status.
+pub fn refuse_ill_formed(rt: &HostRuntime, path: Option<&str>, bytes: &[u8]) -> ExitCode {
+    match check_bytes(rt.alloc(), bytes) {
+        Ok(verdict) => refuse(rt, path, &verdict, REFUSED),
+        Err(_) => refuse(rt, path, &"out of memory", REFUSED),
     }
 }
 
@@ -87,10 +93,20 @@ pub fn check(rt: &HostRuntime, path: Option<&str>) -> ExitCode {
     }
 }
 
-/// Prints the component in the file, a line for each entry.
+/// Prints the component in the file, a line for each section and for each entry.
 pub fn show(rt: &HostRuntime, path: Option<&str>) -> ExitCode {
-    match component_in(rt, path) {
-        Ok(component) => status_of(print!(rt; "{}", Shown(&component))),
-        Err(status) => status,
+    let bytes = match bytes_in(rt, path) {
+        Ok(bytes) => bytes,
+        Err(status) => return status,
+    };
+    match read(rt.alloc(), &bytes) {
+        Ok(component) => {
+            let shown = Shown {
+                component: &component,
+                bytes: &bytes,
+            };
+            status_of_print(rt, print!(rt; "{shown}"))
+        }
+        Err(error) => refuse(rt, path, &error, REFUSED),
     }
 }

@@ -4,6 +4,7 @@
 mod converting;
 mod generating;
 mod inspecting;
+mod limits_fault;
 mod limits_file;
 mod options;
 mod places;
@@ -15,10 +16,11 @@ use smith_limits::DEFAULT_LIMITS;
 use std::io;
 use std::process::ExitCode;
 
-// What a fault and wrong usage end with.
+// What a fault and bad arguments end with.
 const FAULT: u8 = 2;
 
-fn tell(rt: &HostRuntime, what: &str) -> ExitCode {
+// Prints what is wrong, and returns the status.
+fn print_error(rt: &HostRuntime, what: &str) -> ExitCode {
     let _ = eprintln!(rt; "lupinanon: {what}");
     ExitCode::from(FAULT)
 }
@@ -28,21 +30,25 @@ fn main(rt: HostRuntime) -> ExitCode {
         Ok(words) => words.collect(rt.alloc()).map_err(io::Error::from),
         Err(error) => Err(error),
     };
-    let Ok(words) = words else {
-        return tell(&rt, "the words are no UTF-8");
+    let words = match words {
+        Ok(words) => words,
+        Err(error) if error.kind() == io::ErrorKind::OutOfMemory => {
+            return print_error(&rt, "out of memory");
+        }
+        Err(_) => return print_error(&rt, "bad arguments: they are not UTF-8"),
     };
     match options::task_of(rt.alloc(), words.as_slice()) {
-        Ok(Task::PrintLimits) => match print!(rt; "{}", DEFAULT_LIMITS) {
-            Ok(()) => ExitCode::SUCCESS,
-            Err(_) => ExitCode::from(FAULT),
-        },
-        Ok(Task::Generate(options)) => generating::generate(&rt, options),
+        Ok(Task::PrintLimits) => places::status_of_print(&rt, print!(rt; "{}", DEFAULT_LIMITS)),
+        Ok(Task::Generate(options)) => generating::generate(&rt, &options),
         Ok(Task::Check(path)) => inspecting::check(&rt, path),
         Ok(Task::Show(path)) => inspecting::show(&rt, path),
-        Ok(Task::Script(options)) => scripting::script(&rt, options),
+        Ok(Task::Script(options)) => scripting::script(&rt, &options),
         Err(error) => {
-            let _ = error.print(&rt);
-            ExitCode::from(if error.use_stderr() { FAULT } else { 0 })
+            let printed = error.print(&rt);
+            if error.use_stderr() {
+                return ExitCode::from(FAULT);
+            }
+            places::status_of_print(&rt, printed)
         }
     }
 }

@@ -6,7 +6,7 @@ use std::alloc::{AllocError, Global};
 use std::convert::AsStr;
 
 /// What is to be done.
-#[derive(Clone, Copy)]
+#[derive(Drop)]
 pub enum Task<'a> {
     /// Print the default limits as TOML.
     PrintLimits,
@@ -20,38 +20,73 @@ pub enum Task<'a> {
     Script(ScriptOptions<'a>),
 }
 
-/// How a component is made. A file that is absent is standard input or output, and absent limits are the default ones.
-#[derive(Clone, Copy)]
+/// Where limits are from: those of the file, or the default ones where there is none, and settings over them.
+#[derive(Drop)]
+pub struct Limits<'a> {
+    /// `-` is standard input.
+    pub file: Option<&'a str>,
+    /// Each is `KEY=VALUE`, and of two with the same key the later one holds.
+    pub settings: Vec<&'a str>,
+}
+
+impl Limits<'_> {
+    /// Whether they are read from standard input.
+    pub fn is_from_standard_input(&self) -> bool {
+        match self.file {
+            Some(name) => named(name).is_none(),
+            None => false,
+        }
+    }
+}
+
+/// How a component is made. A file that is absent is standard input or output.
+#[derive(Drop)]
 pub struct Options<'a> {
     pub input: Option<&'a str>,
     pub output: Option<&'a str>,
-    pub limits: Option<&'a str>,
+    pub limits: Limits<'a>,
     pub form: Form,
-    pub tells_left: bool,
+    pub prints_left: bool,
 }
 
-/// How a component's script is written. Files and limits that are absent are as in `Options`.
-#[derive(Clone, Copy)]
+/// How a component's script is written. Files that are absent are as in `Options`.
+#[derive(Drop)]
 pub struct ScriptOptions<'a> {
     pub component: Option<&'a str>,
     pub output: Option<&'a str>,
-    pub limits: Option<&'a str>,
+    pub limits: Limits<'a>,
     pub form: Form,
 }
 
 const ABOUT: &str = "Turns a fuzzer's bytes into a WebAssembly component.";
 
 const AFTER: &str =
-    "Ends with 0, with 1 where no component can be made of the input (the refusal's name is on standard\n\
-    error), and with 2 for faults and wrong usage.";
+    "`lupinanon COMMAND --help` says what a command accepts and what its status means.";
 
-const AFTER_SCRIPT: &str =
-    "Ends with 0, with 1 where the bytes are no component or it has no script (the reason is on standard\n\
-    error), and with 2 for faults and wrong usage.";
+const AFTER_GENERATE: &str = "Status:
+  0  the component is written
+  1  no component can be made of the input, or memory runs out: the refusal's name is on standard error
+  2  bad arguments, limits that are refused, an input that is too long, or a failed read or write";
 
-const AFTER_CHECK: &str =
-    "Ends with 0 where the component is well formed, with 1 where it is not, with 3 where the bytes are not in\n\
-    the grammar (what is wrong, and the offset, are on standard error), and with 2 for faults and wrong usage.";
+const AFTER_LIMITS: &str = "Status:
+  0  they are printed
+  2  bad arguments, or a failed write";
+
+const AFTER_CHECK: &str = "Status:
+  0  the component is well formed
+  1  it is not: the rule that it breaks, and the offset, are on standard error
+  2  bad arguments, memory runs out, or a failed read or write
+  3  the bytes are not in the grammar: what is wrong, and the offset, are on standard error";
+
+const AFTER_SHOW: &str = "Status:
+  0  the component is printed
+  1  the bytes are no component, or memory runs out: what is wrong, and the offset, are on standard error
+  2  bad arguments, or a failed read or write";
+
+const AFTER_SCRIPT: &str = "Status:
+  0  the script is written
+  1  the bytes are no component, it has no script within the limits, or memory runs out: see standard error
+  2  bad arguments, limits that are refused, or a failed read or write";
 
 const COMPONENT: &str = "The component; - is standard input [default: -]";
 
@@ -70,9 +105,14 @@ fn with_files<'a>(
         .long("limits")
         .value_name("FILE")
         .help(
-            "Limits in TOML, as `lupinanon limits` prints them; what it leaves out has its default",
+            "Limits in TOML; - is standard input. Those left out are as `lupinanon limits` prints",
         );
-    command.arg(output)?.arg(limits)
+    let limit = Arg::new(alloc, "limit")
+        .long("limit")
+        .value_name("KEY=VALUE")
+        .action(ArgAction::Append)
+        .help("One limit, over those of --limits, such as max_types=10; can be repeated");
+    command.arg(output)?.arg(limits)?.arg(limit)
 }
 
 fn switch<'a>(alloc: Global, name: &'a str, help: &'a str) -> Arg<'a> {
@@ -88,12 +128,12 @@ fn generate_command<'a>(alloc: Global) -> Result<Command<'a>, AllocError> {
     );
     let plain = Command::new(alloc, "generate")
         .about("Make a component of a file's bytes")
-        .after_help(AFTER)
+        .after_help(AFTER_GENERATE)
         .arg(input)?;
     let output =
         "Where the component goes; - is standard output [default: -, unless it is a terminal]";
     let hex = "Write the bytes as hexadecimal digits, and how many bytes are left";
-    let left = "Tell on standard error how many bytes of the input are left";
+    let left = "Print on standard error how many bytes of the input are left";
     with_files(alloc, plain, output)?
         .arg(switch(alloc, "hex", hex))?
         .arg(switch(alloc, "left", left))
@@ -113,8 +153,13 @@ fn check_command<'a>(alloc: Global) -> Result<Command<'a>, AllocError> {
     Ok(file_command(alloc, "check", about)?.after_help(AFTER_CHECK))
 }
 
+fn show_command<'a>(alloc: Global) -> Result<Command<'a>, AllocError> {
+    let about = "Print a component, a line with its offset for each section and each entry";
+    Ok(file_command(alloc, "show", about)?.after_help(AFTER_SHOW))
+}
+
 fn script_command<'a>(alloc: Global) -> Result<Command<'a>, AllocError> {
-    let about = "Write an input that gives a component";
+    let about = "Write an input that produces a component";
     let plain = file_command(alloc, "script", about)?.after_help(AFTER_SCRIPT);
     let output = "Where the input goes; - is standard output [default: -, unless it is a terminal]";
     let hex = "Write the input as hexadecimal digits, and that no byte of it is left";
@@ -123,26 +168,34 @@ fn script_command<'a>(alloc: Global) -> Result<Command<'a>, AllocError> {
 
 /// The program's command.
 pub fn command<'a>(alloc: Global) -> Result<Command<'a>, AllocError> {
-    let limits = Command::new(alloc, "limits").about("Print the default limits as TOML");
+    let limits = Command::new(alloc, "limits")
+        .about("Print the default limits as TOML")
+        .after_help(AFTER_LIMITS);
     Command::new(alloc, "lupinanon")
         .bin_name("lupinanon")?
         .about(ABOUT)
+        .after_help(AFTER)
         .version("0.1.0")
         .disable_help_subcommand(true)
         .subcommand_required(true)
         .subcommand(generate_command(alloc)?)?
         .subcommand(limits)?
         .subcommand(check_command(alloc)?)?
-        .subcommand(file_command(alloc, "show", "Print a component, a line for each entry")?)?
+        .subcommand(show_command(alloc)?)?
         .subcommand(script_command(alloc)?)
 }
 
-// A file, unless it is told as standard input or output.
-fn file<'a>(word: Option<&'a str>) -> Option<&'a str> {
-    match word {
-        Some(path) if path != "-" => Some(path),
-        _ => None,
+/// The file of that name; none is standard input or output, which `-` names.
+pub fn named<'a>(name: &'a str) -> Option<&'a str> {
+    if name == "-" {
+        return None;
     }
+    Some(name)
+}
+
+// The file that an argument names, if it is there.
+fn file<'a>(matches: &ArgMatches<'a>, id: &str) -> Option<&'a str> {
+    named(matches.get_str(id)?)
 }
 
 fn form_of(matches: &ArgMatches<'_>) -> Form {
@@ -152,39 +205,50 @@ fn form_of(matches: &ArgMatches<'_>) -> Form {
     Form::Raw
 }
 
-fn options_of<'a>(matches: &ArgMatches<'a>) -> Options<'a> {
-    Options {
-        input: file(matches.get_str("INPUT")),
-        output: file(matches.get_str("output")),
-        limits: matches.get_str("limits"),
-        form: form_of(matches),
-        tells_left: matches.get_flag("left"),
-    }
+fn limits_of<'a>(alloc: Global, matches: &ArgMatches<'a>) -> Result<Limits<'a>, AllocError> {
+    let settings = matches.get_strs("limit").unwrap_or_default();
+    Ok(Limits {
+        file: matches.get_str("limits"),
+        settings: Vec::from_slice(alloc, settings)?,
+    })
 }
 
-fn script_options_of<'a>(matches: &ArgMatches<'a>) -> ScriptOptions<'a> {
-    ScriptOptions {
-        component: file(matches.get_str("FILE")),
-        output: file(matches.get_str("output")),
-        limits: matches.get_str("limits"),
+fn options_of<'a>(alloc: Global, matches: &ArgMatches<'a>) -> Result<Options<'a>, AllocError> {
+    Ok(Options {
+        input: file(matches, "INPUT"),
+        output: file(matches, "output"),
+        limits: limits_of(alloc, matches)?,
         form: form_of(matches),
-    }
+        prints_left: matches.get_flag("left"),
+    })
+}
+
+fn script_options_of<'a>(
+    alloc: Global,
+    matches: &ArgMatches<'a>,
+) -> Result<ScriptOptions<'a>, AllocError> {
+    Ok(ScriptOptions {
+        component: file(matches, "FILE"),
+        output: file(matches, "output"),
+        limits: limits_of(alloc, matches)?,
+        form: form_of(matches),
+    })
 }
 
 /// What the words ask for. The first is the program's name.
 pub fn task_of<'a, S: AsStr>(alloc: Global, words: &'a [S]) -> Result<Task<'a>, Error> {
     let matches = command(alloc)?.try_get_matches_from(words)?;
     if let Some(options) = matches.subcommand_matches("generate") {
-        return Ok(Task::Generate(options_of(options)));
+        return Ok(Task::Generate(options_of(alloc, options)?));
     }
     if let Some(options) = matches.subcommand_matches("check") {
-        return Ok(Task::Check(file(options.get_str("FILE"))));
+        return Ok(Task::Check(file(options, "FILE")));
     }
     if let Some(options) = matches.subcommand_matches("show") {
-        return Ok(Task::Show(file(options.get_str("FILE"))));
+        return Ok(Task::Show(file(options, "FILE")));
     }
     if let Some(options) = matches.subcommand_matches("script") {
-        return Ok(Task::Script(script_options_of(options)));
+        return Ok(Task::Script(script_options_of(alloc, options)?));
     }
     Ok(Task::PrintLimits)
 }

@@ -1,11 +1,12 @@
-//! Where bytes come from and go to. Each keeps the error that it met, so that a message can tell it.
+//! What bytes are read from and written to. Each keeps the error that it met, for a message.
 
 ghost use Rattle.std.specs.Prelude.{◌≤◌, length, IfOk};
 
-use crate::tell;
+use crate::{FAULT, print_error};
 use smith_run::Form;
 use std::fs::File;
 use std::io::{self, IsTerminal, Read, Stdin, Stdout, Write};
+use std::process::ExitCode;
 
 /// What the input is called that is no file.
 pub const STANDARD_INPUT: &str = "standard input";
@@ -93,7 +94,7 @@ impl<'a> Sink<'a> {
         self.fault.as_ref()
     }
 
-    // Keeps the error, and gives one of its kind.
+    // Keeps the error, and returns one of its kind.
     fn keep(&mut self, error: io::Error) -> io::Error {
         let kind = error.kind();
         self.fault = Some(error);
@@ -141,8 +142,13 @@ impl Write for Sink<'_> {
     }
 }
 
-/// Tells a file's path, and the error that a read or a write of it met.
-pub fn tell_fault(rt: &HostRuntime, path: Option<&str>, standard: &str, fault: Option<&io::Error>) {
+/// Prints a file's path, and the error that a read or a write of it met.
+pub fn print_fault(
+    rt: &HostRuntime,
+    path: Option<&str>,
+    standard: &str,
+    fault: Option<&io::Error>,
+) {
     let path = path.unwrap_or(standard);
     let _ = match fault {
         Some(fault) => eprintln!(rt; "lupinanon: {path}: {fault}"),
@@ -150,11 +156,22 @@ pub fn tell_fault(rt: &HostRuntime, path: Option<&str>, standard: &str, fault: O
     };
 }
 
+/// The status after something was printed, or was not, which a message says.
+pub fn status_of_print(rt: &HostRuntime, printed: io::Result<()>) -> ExitCode {
+    match printed {
+        Ok(()) => ExitCode::SUCCESS,
+        Err(error) => {
+            print_fault(rt, None, STANDARD_OUTPUT, Some(&error));
+            ExitCode::from(FAULT)
+        }
+    }
+}
+
 /// Says so where raw bytes would go to a terminal.
 pub fn refuses_terminal(rt: &HostRuntime, path: Option<&str>, form: Form) -> bool {
     let is_shown = path.is_none() && rt.stdout().is_terminal();
     if is_shown && form == Form::Raw {
-        let _status = tell(rt, "standard output is a terminal: give --output or --hex");
+        let _status = print_error(rt, "standard output is a terminal: use --output or --hex");
         return true;
     }
     false

@@ -1,12 +1,11 @@
-//! Writing the script of a component in a file: the input that gives it.
+//! Writing the script of a component in a file: the input that produces it.
 
 use crate::FAULT;
-use crate::inspecting::{REFUSED, component_in};
-use crate::limits_file::config_of;
+use crate::inspecting::{REFUSED, bytes_in, refuse, refuse_ill_formed};
+use crate::limits_file::{config_of, refuses_both};
 use crate::options::ScriptOptions;
-use crate::places::{STANDARD_INPUT, STANDARD_OUTPUT, Sink, refuses_terminal, tell_fault};
+use crate::places::{STANDARD_OUTPUT, Sink, print_fault, refuses_terminal};
 use smith_component::Config;
-use smith_read::ComponentTree;
 use smith_run::{Form, page};
 use smith_script::ScriptError;
 use std::alloc::Global;
@@ -16,8 +15,8 @@ use std::process::ExitCode;
 /// What a refusal of a script ends with.
 pub fn status_of(error: &ScriptError) -> u8 {
     match error {
-        ScriptError::OutOfMemory | ScriptError::NoScript { .. } => REFUSED,
         ScriptError::InconsistentLimits => FAULT,
+        _ => REFUSED,
     }
 }
 
@@ -25,10 +24,10 @@ pub fn status_of(error: &ScriptError) -> u8 {
 fn script_text(
     alloc: Global,
     config: &Config,
-    tree: &ComponentTree,
+    bytes: &[u8],
     form: Form,
 ) -> Result<Vec<u8>, ScriptError> {
-    let input = smith_script::script(alloc, config, tree)?;
+    let input = smith_script::script(alloc, config, bytes)?;
     match form {
         Form::Raw => Ok(input),
         Form::Page => Ok(page(alloc, &input, 0)?),
@@ -38,34 +37,34 @@ fn script_text(
 fn write_text(rt: &HostRuntime, path: Option<&str>, text: &[u8]) -> ExitCode {
     let mut sink = Sink::new(rt, path);
     if sink.write_all(text).is_err() || sink.flush().is_err() {
-        tell_fault(rt, path, STANDARD_OUTPUT, sink.fault());
+        print_fault(rt, path, STANDARD_OUTPUT, sink.fault());
         return ExitCode::from(FAULT);
     }
     ExitCode::SUCCESS
 }
 
 // Writes the script within these limits.
-fn script_within(rt: &HostRuntime, options: ScriptOptions<'_>, config: &Config) -> ExitCode {
-    let tree = match component_in(rt, options.component) {
-        Ok(tree) => tree,
+fn script_within(rt: &HostRuntime, options: &ScriptOptions<'_>, config: &Config) -> ExitCode {
+    let bytes = match bytes_in(rt, options.component) {
+        Ok(bytes) => bytes,
         Err(status) => return status,
     };
-    match script_text(rt.alloc(), config, &tree, options.form) {
+    match script_text(rt.alloc(), config, &bytes, options.form) {
         Ok(text) => write_text(rt, options.output, &text),
-        Err(error) => {
-            let path = options.component.unwrap_or(STANDARD_INPUT);
-            let _ = eprintln!(rt; "lupinanon: {path}: {error}");
-            ExitCode::from(status_of(&error))
-        }
+        // `check` says where.
+        Err(ScriptError::IllFormed(_)) => refuse_ill_formed(rt, options.component, &bytes),
+        Err(error) => refuse(rt, options.component, &error, status_of(&error)),
     }
 }
 
 /// Writes the script that is asked for, or says why there is none.
-pub fn script(rt: &HostRuntime, options: ScriptOptions<'_>) -> ExitCode {
-    if refuses_terminal(rt, options.output, options.form) {
+pub fn script(rt: &HostRuntime, options: &ScriptOptions<'_>) -> ExitCode {
+    if refuses_terminal(rt, options.output, options.form)
+        || refuses_both(rt, &options.limits, "the component", options.component)
+    {
         return ExitCode::from(FAULT);
     }
-    match config_of(rt, options.limits) {
+    match config_of(rt, &options.limits) {
         Ok(config) => script_within(rt, options, &config),
         Err(status) => status,
     }

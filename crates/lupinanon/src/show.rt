@@ -1,52 +1,39 @@
-//! A component as a text for people: a line for each entry, with its index in its index space where it has one.
+//! A component as a text for people: a line for each section and for each entry, with its offset, and with its index in
+//! its index space where it has one.
 
 mod core_types;
+mod lengths;
 mod types;
+mod walk;
 
 use core_types::show_core_type;
-use smith_read::{CanonNode, ComponentTree, ExportNode, ImportNode, MOST_DEPTH, PartNode};
+use lengths::{extern_len, indexes_len};
+use smith_core::COMPONENT_PREAMBLE;
+use smith_format::{count_len, raw_len, text_len};
+use smith_read::{
+    CanonNode, ComponentTree, CoreNode, ExportNode, ImportNode, MOST_DEPTH, PartNode, TypeNode,
+};
 use smith_syntax::ComponentTypeRef;
 use std::fmt;
 use types::show_type;
+use walk::{Walk, next};
 
-/// A component, as a text.
+/// A component, and the bytes that it was read from.
 #[derive(Clone, Copy)]
-pub struct Shown<'a>(pub &'a ComponentTree);
-
-/// How many entries stand in each index space.
-#[derive(Clone, Copy, Default)]
-pub(crate) struct Spaces {
-    pub(crate) core_types: usize,
-    pub(crate) core_functions: usize,
-    pub(crate) modules: usize,
-    pub(crate) types: usize,
-    pub(crate) functions: usize,
-    pub(crate) components: usize,
-    pub(crate) instances: usize,
-}
-
-/// The index of the next entry of a space, which is then one longer.
-pub(crate) fn next(space: &mut usize) -> usize {
-    let index = *space;
-    *space = index.saturating_add(1);
-    index
-}
-
-/// The beginning of a line at that level.
-pub(crate) fn indent<W: fmt::Write>(f: &mut fmt::Formatter<W>, level: u32) -> fmt::Result {
-    for _ in 0..level {
-        f.write_str("  ")?;
-    }
-    Ok(())
+pub struct Shown<'a> {
+    pub component: &'a ComponentTree,
+    pub bytes: &'a [u8],
 }
 
 /// What an import or an export of that name brings, and the line's end.
 pub(crate) fn show_extern<W: fmt::Write>(
     f: &mut fmt::Formatter<W>,
-    spaces: &mut Spaces,
+    walk: &mut Walk,
     name: &str,
     to: ComponentTypeRef,
 ) -> fmt::Result {
+    walk.pass(extern_len(name, to));
+    let spaces = &mut walk.spaces;
     match to {
         ComponentTypeRef::Module(ty) => {
             let index = next(&mut spaces.modules);
@@ -71,119 +58,136 @@ pub(crate) fn show_extern<W: fmt::Write>(
     }
 }
 
-fn show_imports<W: fmt::Write>(
-    f: &mut fmt::Formatter<W>,
-    spaces: &mut Spaces,
-    imports: &[ImportNode],
-    level: u32,
-) -> fmt::Result {
-    for import in imports {
-        indent(f, level)?;
-        f.write_str("import ")?;
-        show_extern(f, spaces, &import.name, import.to)?;
-    }
-    Ok(())
+/// An entry of a section that is a list.
+trait Entry {
+    /// What follows the beginning of its line, and the line's end. The walk passes its bytes.
+    fn show<W: fmt::Write>(&self, f: &mut fmt::Formatter<W>, walk: &mut Walk) -> fmt::Result;
 }
 
-fn show_exports<W: fmt::Write>(
-    f: &mut fmt::Formatter<W>,
-    spaces: &mut Spaces,
-    exports: &[ExportNode],
-    level: u32,
-) -> fmt::Result {
-    for export in exports {
-        indent(f, level)?;
-        let index = next(&mut spaces.functions);
-        let name = export.name.as_str();
-        let func = export.func;
+impl Entry for CoreNode {
+    fn show<W: fmt::Write>(&self, f: &mut fmt::Formatter<W>, walk: &mut Walk) -> fmt::Result {
+        show_core_type(f, walk, self)
+    }
+}
+
+impl Entry for TypeNode {
+    fn show<W: fmt::Write>(&self, f: &mut fmt::Formatter<W>, walk: &mut Walk) -> fmt::Result {
+        show_type(f, walk, self, MOST_DEPTH)
+    }
+}
+
+impl Entry for ImportNode {
+    fn show<W: fmt::Write>(&self, f: &mut fmt::Formatter<W>, walk: &mut Walk) -> fmt::Result {
+        f.write_str("import ")?;
+        show_extern(f, walk, &self.name, self.to)
+    }
+}
+
+impl Entry for ExportNode {
+    fn show<W: fmt::Write>(&self, f: &mut fmt::Formatter<W>, walk: &mut Walk) -> fmt::Result {
+        // 00 precedes the name, 01 the index, and 00 follows it.
+        walk.pass(text_len(&self.name));
+        walk.pass(indexes_len(3, &[self.func]));
+        let index = next(&mut walk.spaces.functions);
+        let name = self.name.as_str();
+        let func = self.func;
         writeln!(
             f,
             "export {name:?}: function {index}, which is function {func}"
-        )?;
+        )
     }
-    Ok(())
 }
 
-fn show_canons<W: fmt::Write>(
-    f: &mut fmt::Formatter<W>,
-    spaces: &mut Spaces,
-    canons: &[CanonNode],
-    level: u32,
-) -> fmt::Result {
-    for canon in canons {
-        indent(f, level)?;
-        match canon {
+impl Entry for CanonNode {
+    fn show<W: fmt::Write>(&self, f: &mut fmt::Formatter<W>, walk: &mut Walk) -> fmt::Result {
+        match self {
             CanonNode::Lift { core_func, ty } => {
-                let index = next(&mut spaces.functions);
+                walk.pass(indexes_len(3, &[*core_func, *ty]));
+                let index = next(&mut walk.spaces.functions);
                 writeln!(
                     f,
                     "function {index}: lift of core function {core_func} to type {ty}"
-                )?;
+                )
             }
             CanonNode::Lower { func } => {
-                let index = next(&mut spaces.core_functions);
-                writeln!(f, "core function {index}: lower of function {func}")?;
+                walk.pass(indexes_len(3, &[*func]));
+                let index = next(&mut walk.spaces.core_functions);
+                writeln!(f, "core function {index}: lower of function {func}")
             }
         }
     }
+}
+
+// What a section is a list of, which ends its line, and a line for each entry.
+fn show_list<W: fmt::Write, T: Entry>(
+    f: &mut fmt::Formatter<W>,
+    walk: &mut Walk,
+    what: &str,
+    entries: &[T],
+) -> fmt::Result {
+    writeln!(f, "{what}")?;
+    walk.pass(count_len(entries.len()));
+    let level = walk.level;
+    walk.level = level.saturating_add(1);
+    for entry in entries {
+        walk.begin_line(f)?;
+        entry.show(f, walk)?;
+    }
+    walk.level = level;
     Ok(())
 }
 
-// A section whose entries hold no components.
+// What a section is, and its entries. The walk is at its contents.
 fn show_section<W: fmt::Write>(
     f: &mut fmt::Formatter<W>,
-    spaces: &mut Spaces,
+    walk: &mut Walk,
     part: &PartNode,
-    level: u32,
 ) -> fmt::Result {
     match part {
         PartNode::Custom { name, contents } => {
-            indent(f, level)?;
+            walk.pass(text_len(name));
+            walk.pass(raw_len(contents));
             let count = contents.len();
-            writeln!(f, "custom section {name:?} of {count} bytes")
+            writeln!(f, "custom {name:?} of {count} bytes")
         }
         PartNode::CoreModule(bytes) => {
-            indent(f, level)?;
-            let index = next(&mut spaces.modules);
+            walk.pass(raw_len(bytes));
+            let index = next(&mut walk.spaces.modules);
             let count = bytes.len();
             writeln!(f, "core module {index} of {count} bytes")
         }
-        PartNode::CoreTypes(types) => {
-            for ty in types {
-                show_core_type(f, spaces, ty, level)?;
-            }
-            Ok(())
-        }
-        PartNode::Types(types) => {
-            for ty in types {
-                show_type(f, spaces, ty, level, MOST_DEPTH)?;
-            }
-            Ok(())
-        }
-        PartNode::Canons(canons) => show_canons(f, spaces, canons, level),
-        PartNode::Imports(imports) => show_imports(f, spaces, imports, level),
-        PartNode::Exports(exports) => show_exports(f, spaces, exports, level),
-        PartNode::Component(_) => Ok(()),
+        PartNode::CoreTypes(types) => show_list(f, walk, "core types", types),
+        PartNode::Types(types) => show_list(f, walk, "types", types),
+        PartNode::Canons(canons) => show_list(f, walk, "canonical functions", canons),
+        PartNode::Imports(imports) => show_list(f, walk, "imports", imports),
+        PartNode::Exports(exports) => show_list(f, walk, "exports", exports),
+        // None that was read is deeper than `MOST_DEPTH`.
+        PartNode::Component(_) => Err(fmt::Error),
     }
 }
 
-// The sections of a component, at least so deep as it goes.
+// The sections of a component, at least so deep as it goes. The bytes are all of the file's.
 fn show_parts<W: fmt::Write>(
     f: &mut fmt::Formatter<W>,
+    walk: &mut Walk,
+    bytes: &[u8],
     parts: &[PartNode],
-    level: u32,
     depth: u32,
 ) -> fmt::Result {
-    let mut spaces = Spaces::default();
-    for part in parts {
+    walk.pass(raw_len(&COMPONENT_PREAMBLE));
+    for (number, part) in parts.iter().enumerate() {
+        walk.begin_line(f)?;
+        walk.pass_head(bytes);
+        write!(f, "section {number}: ")?;
         match part {
             PartNode::Component(inner) if depth > 0 => {
-                indent(f, level)?;
-                let index = next(&mut spaces.components);
+                let index = next(&mut walk.spaces.components);
                 writeln!(f, "component {index}")?;
-                show_parts(f, inner, level.saturating_add(1), depth - 1)?;
+                let mut inside = walk.inside();
+                show_parts(f, &mut inside, bytes, inner, depth - 1)?;
+                walk.offset = inside.offset;
             }
-            _ => show_section(f, &mut spaces, part, level)?,
+            _ => show_section(f, walk, part)?,
         }
     }
     Ok(())
@@ -191,6 +195,7 @@ fn show_parts<W: fmt::Write>(
 
 impl fmt::Display for Shown<'_> {
     fn fmt<W: fmt::Write>(&self, f: &mut fmt::Formatter<W>) -> fmt::Result {
-        show_parts(f, &self.0.parts, 0, MOST_DEPTH)
+        let parts = &self.component.parts;
+        show_parts(f, &mut Walk::default(), self.bytes, parts, MOST_DEPTH)
     }
 }

@@ -1,14 +1,16 @@
 /* What of lupinanon.h is plain C: the check of the arguments before the proved functions, a block for the bytes, and
  * words. A contract can say neither that a pointer is NULL, nor what is at one that is returned. */
 #include "lupinanon.h"
+#include <string.h>
 
 /* The proved functions. No pointer is NULL, no memory that is written overlaps any other that is passed, and no length
- * is more than PTRDIFF_MAX. */
-int32_t lupinanon_proved_generate_into(const LupinanonLimits *limits, const uint8_t *input, size_t input_len,
-                                       uint8_t *output, size_t output_len, size_t *bytes_len, size_t *left);
+ * is more than PTRDIFF_MAX. Their limits are those of a whole LupinanonLimits, without the size before them. */
+void lupinanon_proved_default_limits(void *limits);
+int32_t lupinanon_proved_generate_into(const void *limits, const uint8_t *input, size_t input_len, uint8_t *output,
+                                       size_t output_len, size_t *bytes_len, size_t *left);
 int32_t lupinanon_proved_check(const uint8_t *bytes, size_t bytes_len, size_t *offset);
 
-enum { FIRST_SIZE = 4096 };
+enum { FIRST_SIZE = 4096, MOST_LIMITS_SIZE = 4096 };
 
 /* Memory that is passed. */
 typedef struct Memory {
@@ -37,6 +39,77 @@ static int are_apart(const Memory *written, size_t written_count, const Memory *
     return 1;
 }
 
+#define END_OF(field) (offsetof(LupinanonLimits, field) + sizeof(((LupinanonLimits *)0)->field))
+
+/* The limits as the proved functions take them. */
+#define WITHOUT_SIZE(limits) ((uint8_t *)(limits) + END_OF(size))
+
+/* Where the fields end, and so where the struct of an older header may end. */
+static const size_t ends[] = {
+    END_OF(min_types),
+    END_OF(min_imports),
+    END_OF(min_funcs),
+    END_OF(min_memories),
+    END_OF(max_types),
+    END_OF(max_imports),
+    END_OF(max_funcs),
+    END_OF(max_exports),
+    END_OF(max_globals),
+    END_OF(max_tables),
+    END_OF(max_tags),
+    END_OF(max_memories),
+    END_OF(max_modules),
+    END_OF(max_components),
+    END_OF(max_instances),
+    END_OF(max_nesting_depth),
+    END_OF(max_type_size),
+    END_OF(multi_value_enabled),
+    END_OF(exceptions_enabled),
+    END_OF(reference_types_enabled),
+    END_OF(simd_enabled),
+    END_OF(allow_floats),
+    END_OF(bulk_memory_enabled),
+    END_OF(reserved),
+};
+
+static int is_limits_size(size_t size) {
+    size_t place;
+    if (size > sizeof(LupinanonLimits)) return size <= MOST_LIMITS_SIZE;
+    for (place = sizeof ends / sizeof *ends; place > 0; place--)
+        if (size == ends[place - 1]) return 1;
+    return 0;
+}
+
+/* As many bytes as the limits say, or memory that is not there where no limits have that size. */
+static Memory memory_of_limits(const LupinanonLimits *limits) {
+    Memory it = {limits, limits->size}, none = {NULL, 1};
+    return is_limits_size(it.len) ? it : none;
+}
+
+/* Writes the defaults. The proved function may write anything after the last limit. */
+static void set_defaults(LupinanonLimits *limits) {
+    lupinanon_proved_default_limits(WITHOUT_SIZE(limits));
+    memset(limits->reserved, 0, sizeof limits->reserved);
+    limits->size = sizeof *limits;
+}
+
+static int is_zero(const uint8_t *bytes, size_t len) {
+    while (len)
+        if (bytes[--len]) return 0;
+    return 1;
+}
+
+static size_t smaller(size_t one, size_t other) { return one < other ? one : other; }
+
+/* Copies what a caller has of the limits over the defaults. Returns whether its other bytes are 0. */
+static int complete(LupinanonLimits *limits, Memory given) {
+    size_t known = smaller(given.len, sizeof *limits);
+    set_defaults(limits);
+    memcpy(limits, given.at, known);
+    if (!is_zero(limits->reserved, sizeof limits->reserved)) return 0;
+    return is_zero((const uint8_t *)given.at + known, given.len - known);
+}
+
 const char *lupinanon_version(void) { return LUPINANON_VERSION; }
 
 const char *lupinanon_status_name(int32_t status) {
@@ -57,22 +130,33 @@ const char *lupinanon_status_name(int32_t status) {
     }
 }
 
+int32_t lupinanon_default_limits(LupinanonLimits *limits, size_t size) {
+    LupinanonLimits whole;
+    if (!limits || !is_limits_size(size)) return LUPINANON_BAD_ARGUMENT;
+    set_defaults(&whole);
+    whole.size = size;
+    memset(limits, 0, size);
+    memcpy(limits, &whole, smaller(size, sizeof whole));
+    return LUPINANON_ANSWERED;
+}
+
 int32_t lupinanon_generate_into(const LupinanonLimits *limits, const uint8_t *input, size_t input_len, uint8_t *output,
                                 size_t output_len, size_t *bytes_len, size_t *left) {
+    LupinanonLimits whole;
     uint8_t nothing = 0;
     size_t not_needed;
     if (!left) left = &not_needed;
     *left = 0;
-    if (!bytes_len) return LUPINANON_BAD_ARGUMENT;
-    *bytes_len = 0;
+    if (bytes_len) *bytes_len = 0;
+    if (!bytes_len || !limits) return LUPINANON_BAD_ARGUMENT;
     {
         Memory written[] = {{output, output_len}, MEMORY_OF(bytes_len), MEMORY_OF(left)};
-        Memory read[] = {MEMORY_OF(limits), {input, input_len}};
+        Memory read[] = {memory_of_limits(limits), {input, input_len}};
         if (!is_there(written[0]) || !is_there(read[0]) || !is_there(read[1])) return LUPINANON_BAD_ARGUMENT;
-        if (!are_apart(written, 3, read, 2)) return LUPINANON_BAD_ARGUMENT;
+        if (!are_apart(written, 3, read, 2) || !complete(&whole, read[0])) return LUPINANON_BAD_ARGUMENT;
     }
-    return lupinanon_proved_generate_into(limits, input ? input : &nothing, input_len, output ? output : &nothing,
-                                          output_len, bytes_len, left);
+    return lupinanon_proved_generate_into(WITHOUT_SIZE(&whole), input ? input : &nothing, input_len,
+                                          output ? output : &nothing, output_len, bytes_len, left);
 }
 
 int32_t lupinanon_generate(const LupinanonLimits *limits, const uint8_t *input, size_t input_len, uint8_t **bytes,
@@ -86,14 +170,15 @@ int32_t lupinanon_generate(const LupinanonLimits *limits, const uint8_t *input, 
     if (bytes_len) *bytes_len = 0;
     if (bytes) *bytes = NULL;
     if (!bytes || !bytes_len) return LUPINANON_BAD_ARGUMENT;
+    if (!limits) {
+        set_defaults(&standard);
+        limits = &standard;
+    }
     {
         Memory written[] = {MEMORY_OF(bytes), MEMORY_OF(bytes_len), MEMORY_OF(left)};
-        Memory read[] = {{limits, limits ? sizeof *limits : 0}, {input, input_len}};
-        if (!is_there(read[1]) || !are_apart(written, 3, read, 2)) return LUPINANON_BAD_ARGUMENT;
-    }
-    if (!limits) {
-        lupinanon_default_limits(&standard);
-        limits = &standard;
+        Memory read[] = {memory_of_limits(limits), {input, input_len}};
+        if (!is_there(read[0]) || !is_there(read[1])) return LUPINANON_BAD_ARGUMENT;
+        if (!are_apart(written, 3, read, 2)) return LUPINANON_BAD_ARGUMENT;
     }
     while ((block = (uint8_t *)malloc(size)) != NULL) {
         status = lupinanon_generate_into(limits, input, input_len, block, size, bytes_len, left);

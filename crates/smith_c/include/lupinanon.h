@@ -1,10 +1,11 @@
 /* WebAssembly components from a fuzzer's bytes.
  *
- * Three functions are proved: lupinanon_default_limits, and those that lupinanon_generate_into and lupinanon_check call
+ * Three functions are proved: those that lupinanon_default_limits, lupinanon_generate_into and lupinanon_check call
  * after a check of their arguments. That check, and all else, is the plain C of lupinanon.c.
  *
  * What the caller owes, and nothing checks:
- *  - A pointer that is not NULL points to what its type says, and a length says how much lies there.
+ *  - A pointer that is not NULL points to what its type says, and a length says how much lies there. Limits are as many
+ *    bytes as their size says.
  *  - `output` may hold anything. What else is passed is not written elsewhere while a call runs.
  *  - malloc, realloc and free come from one allocator, and a block is aligned to each power of two up to 16 that
  *    divides its size. A hook or a signal handler that runs inside a call touches nothing of what is passed.
@@ -30,8 +31,14 @@ extern "C" {
 #define LUPINANON_VERSION_NUMBER 100 /* 10000 * major + 100 * minor + patch */
 
 /* The limits of what is made. A minimum is met by every component of the tree, and components nest at most 1000 deep. A
- * feature is on where it is 1, and off where it is 0. lupinanon_default_limits writes the values in brackets. */
+ * feature is on where it is 1, and off where it is 0. lupinanon_default_limits writes the values in brackets.
+ *
+ * Later versions may add limits at the end, or in place of reserved bytes. A program that is built with the header of
+ * one version may be linked with the library of another: a limit that only the library has is at its default, and one
+ * that only the program has must be 0, which is what lupinanon_default_limits then sets. */
 typedef struct LupinanonLimits {
+    /* sizeof(LupinanonLimits) by the program's header. lupinanon_default_limits sets it. */
+    size_t size;
     /* The fewest types of a component. They can always be added. [0] */
     size_t min_types;
     /* The fewest imports of a component. Where they can not be added, it is refused with
@@ -80,11 +87,13 @@ typedef struct LupinanonLimits {
     uint8_t allow_floats;
     /* Whether core modules count their data segments in a section. [1] */
     uint8_t bulk_memory_enabled;
+    /* Reserved, and 0. */
+    uint8_t reserved[6];
 } LupinanonLimits;
 
 /* How a call ended. */
 enum LupinanonStatus {
-    LUPINANON_ANSWERED = 0,            /* the component's bytes are written */
+    LUPINANON_ANSWERED = 0,            /* what was asked for is written */
     LUPINANON_WELL_FORMED = 0,         /* of lupinanon_check: the bytes are a component that is well formed */
     LUPINANON_INCONSISTENT_LIMITS = 1, /* a minimum passes its maximum, a maximum 32 bits, or the depth 1000 */
     LUPINANON_MINIMUM_NOT_MET = 2,     /* no more imports or functions of a minimum can be added */
@@ -94,8 +103,9 @@ enum LupinanonStatus {
     LUPINANON_PARTS_DISAGREE = 6,      /* no call of this library returns it */
     LUPINANON_NO_ROOM = 7,             /* the output is too short; *bytes_len is how long it has to be */
     LUPINANON_BAD_FLAG = 8,            /* a feature is neither 0 nor 1 */
-    LUPINANON_BAD_ARGUMENT = 9,        /* NULL where there has to be memory, a length of half the memory or more, or
-                                        * memory to write that overlaps what else is passed */
+    LUPINANON_BAD_ARGUMENT = 9,        /* NULL where there has to be memory, a length of half the memory or more, memory
+                                        * to write that overlaps what else is passed, limits of a wrong size, or limits
+                                        * with anything but 0 where the library has none */
     LUPINANON_ILL_FORMED = 10,         /* of lupinanon_check: the bytes are a component that is not well formed */
     LUPINANON_UNREAD = 11              /* of lupinanon_check: the bytes are no component, or it nests too deep */
 };
@@ -113,8 +123,13 @@ const char *lupinanon_version(void);
 /* A status in words, as "out of memory"; "unknown status" of any other number. Neither string is ever given back. */
 const char *lupinanon_status_name(int32_t status);
 
-/* Writes the default limits. `limits` is not NULL. */
-void lupinanon_default_limits(LupinanonLimits *limits);
+/* Writes the default limits, and their size: lupinanon_default_limits(&limits, sizeof limits). What the library has no
+ * limit for is set to 0.
+ *
+ * LUPINANON_ANSWERED: all `size` bytes are written, and none after them.
+ * LUPINANON_BAD_ARGUMENT: `limits` is NULL, or the size is wrong: it ends within a field, before the first limit, or
+ * after 4096 bytes. Nothing is written. */
+int32_t lupinanon_default_limits(LupinanonLimits *limits, size_t size);
 
 /* Makes the component that the input gives within the limits, and writes its bytes to the front of the output.
  *

@@ -6,17 +6,17 @@ ghost use Rattle.smith_tree.specs.Grammar.{Spells};
 ghost use Rattle.smith_tree.specs.Tree.{Tree};
 ghost use Rattle.smith_tree.specs.WellFormed.{WellFormed};
 ghost use Rattle.smith_read.specs.Reads.{most_depth};
-ghost use Rattle.smith_check.specs.Verdicts.{IsOffset};
+ghost use Rattle.smith_verdict.specs.Verdicts.{IsOffset};
 ghost use Rattle.smith_c.specs.Status.{code_of, no_offset};
 ghost use Rattle.smith_c.specs.declared.status.Status.TheVariants.{Answered, Refused, IllFormed, Unread};
 ghost use Rattle.smith_input.specs.declared.error.Error.TheVariants.{OutOfMemory};
 
 use crate::status::Status;
-use smith_check::{Verdict, check};
 use smith_input::Error;
+use smith_verdict::{Verdict, check};
 use std::alloc::Global;
 
-/// Whether the bytes are a component that is well formed, as `check` of `smith_check` says.
+/// Whether the bytes are a component that is well formed, as `check` of `smith_verdict` says.
 ///
 /// Returns the code of a `Status`: `Answered`, `IllFormed`, `Unread` or that of `OutOfMemory`. `offset` is that of the
 /// entry that breaks a rule, or the one at which it was seen that the bytes are no component, and else 2^64 - 1.

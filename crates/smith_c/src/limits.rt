@@ -115,7 +115,7 @@ impl Limits {
 
 /// Writes the limits that hold where none are given.
 #[unsafe(no_mangle)]
-pub extern "C" fn lupinanon_default_limits(limits: &mut Limits)
+pub extern "C" fn lupinanon_proved_default_limits(limits: &mut Limits)
     ensures { (config : Config) → IsDefault config → limits.new ≡ limits_of config }
 {
     *limits = Limits::of(&Config::default());

@@ -2,7 +2,6 @@ pub mod FlatSteps
 pub mod Growth
 pub mod Judging
 pub mod KebabSteps
-pub mod Lists
 pub mod ModuleSteps
 pub mod NameSteps
 pub mod NewNames

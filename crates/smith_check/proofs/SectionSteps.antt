@@ -9,7 +9,7 @@ use Rattle.smith_tree.specs.Spaces.{Spaces, after_export}
 use Rattle.smith_tree.specs.WellFormed.{FormedExports}
 use Rattle.smith_syntax.specs.WellFormed.{Named}
 use Rattle.smith_check.proofs.Judging.{Same, same_by}
-use Rattle.smith_check.proofs.Lists.{head_same}
+use Rattle.smith_read_scopes.proofs.Lists.{head_same}
 use Rattle.smith_check.proofs.TypeSteps.{named_front, names_more}
 
 -- the item at an index, whatever it is without one

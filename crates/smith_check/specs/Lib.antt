@@ -2,4 +2,3 @@ pub mod Judgement
 pub mod Judges
 pub mod Preceding
 pub mod Taken
-pub mod Verdicts

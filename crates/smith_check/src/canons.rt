@@ -10,14 +10,15 @@ ghost use Rattle.smith_tree.specs.Tree.{lift, lower};
 ghost use Rattle.smith_tree.specs.WellFormed.{FormedCanon, HasSignature};
 ghost use Rattle.smith_read.specs.PartNodes.{shown_canon_node};
 ghost use Rattle.smith_check.specs.Judges.{Decides, Finds, Judges};
-ghost use Rattle.smith_check.specs.Preceding.{own_in, spaces_in};
+ghost use Rattle.smith_read_scopes.specs.Scopes.{own_in};
+ghost use Rattle.smith_check.specs.Preceding.{spaces_in};
 ghost use Rattle.smith_check.specs.declared.error.Stop.TheVariants.{OutOfMemory};
 
 use crate::error::{Checked, Rule, Stop};
 use crate::open::Open;
-use crate::scopes::Scopes;
 use smith_format::ValType;
 use smith_read::{CanonNode, TypeNode};
+use smith_read_scopes::Scopes;
 use smith_syntax::{ComponentValType, FuncType};
 use smith_tree::flat_primitive;
 

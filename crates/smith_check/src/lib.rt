@@ -8,13 +8,10 @@ mod names;
 mod open;
 mod parts;
 mod references;
-mod scopes;
 mod sections;
 mod track;
 mod types;
 mod values;
-mod verdict;
 
 pub use error::{Fault, Judgement, Place, Rule};
 pub use parts::judged;
-pub use verdict::{Verdict, check};

@@ -12,15 +12,16 @@ ghost use Rattle.smith_syntax.specs.ModuleTypes.{HasNewNames, adds, aliased};
 ghost use Rattle.smith_syntax.specs.WellFormed.{FormedCore, FormedDecl, FormedDecls, FormedEntity};
 ghost use Rattle.smith_read_types.specs.Nodes.{shown_core_node, shown_module_node};
 ghost use Rattle.smith_check.specs.Judges.{Decides, Judges};
-ghost use Rattle.smith_check.specs.Preceding.{functions_in, own_in};
+ghost use Rattle.smith_read_scopes.specs.Scopes.{own_in};
+ghost use Rattle.smith_check.specs.Preceding.{functions_in};
 ghost use Rattle.smith_check.specs.Taken.{HoldsModule, has_pair};
 ghost use Rattle.smith_check.specs.declared.error.Stop.TheVariants.{OutOfMemory};
 
 use crate::error::{Checked, Rule, Stop};
 use crate::names::Names;
-use crate::scopes::Scopes;
 use smith_format::{EntityType, FuncType, MemoryType, RefType, TableType};
 use smith_read::{CoreNode, ModuleNode};
+use smith_read_scopes::Scopes;
 use std::alloc::Global;
 use std::collections::BTreeSet;
 

@@ -7,14 +7,15 @@ ghost use Rattle.smith_tree.specs.WellFormed.{Formed, FormedPart, WellFormed};
 ghost use Rattle.smith_read.specs.PartNodes.{shown_part_node, shown_tree};
 ghost use Rattle.smith_check.specs.Judgement.{Agrees};
 ghost use Rattle.smith_check.specs.Judges.{Judges};
-ghost use Rattle.smith_check.specs.Preceding.{IsAfter, outer_in, own_in};
+ghost use Rattle.smith_read_scopes.specs.Scopes.{outer_in, own_in};
+ghost use Rattle.smith_check.specs.Preceding.{IsAfter};
 
 use crate::error::{Checked, Fault, Judgement, Stop};
 use crate::open::Open;
-use crate::scopes::Scopes;
 use crate::sections::{check_canons, check_core_types, check_exports, check_imports, check_types};
 use crate::track::Track;
 use smith_read::{ComponentTree, PartNode};
+use smith_read_scopes::Scopes;
 use std::alloc::{AllocError, Global};
 
 // Checks a section, after those before it.

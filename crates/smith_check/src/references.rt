@@ -3,11 +3,11 @@
 ghost use Rattle.std.specs.Prelude.{◌≡◌, false};
 ghost use Rattle.smith_syntax.specs.WellFormed.{FormedRef, is_type_eq};
 ghost use Rattle.smith_check.specs.Judges.{Judges};
-ghost use Rattle.smith_check.specs.Preceding.{own_in};
+ghost use Rattle.smith_read_scopes.specs.Scopes.{own_in};
 
 use crate::error::{Checked, Rule, Stop};
-use crate::scopes::Scopes;
 use smith_read::{CoreNode, TypeNode};
+use smith_read_scopes::Scopes;
 use smith_syntax::ComponentTypeRef;
 
 /// Checks what an import or an export is of.

@@ -10,7 +10,8 @@ ghost use Rattle.smith_read.specs.PartNodes.{shown_canon_node, shown_export_node
 ghost use Rattle.smith_tree.specs.Spaces.{after_canon, after_export, after_import};
 ghost use Rattle.smith_tree.specs.WellFormed.{FormedCanons, FormedExports, FormedImport, export_names, import_names};
 ghost use Rattle.smith_check.specs.Judges.{Judges};
-ghost use Rattle.smith_check.specs.Preceding.{outer_in, own_in, spaces_in};
+ghost use Rattle.smith_read_scopes.specs.Scopes.{outer_in, own_in};
+ghost use Rattle.smith_check.specs.Preceding.{spaces_in};
 ghost use Rattle.smith_check.specs.Taken.{Knows};
 
 use crate::canons::check_canon;
@@ -18,10 +19,10 @@ use crate::error::{Checked, Rule, Stop};
 use crate::modules::check_core;
 use crate::open::Open;
 use crate::references::check_imported;
-use crate::scopes::Scopes;
 use crate::track::Track;
 use crate::types::check_type;
 use smith_read::{CanonNode, CoreNode, ExportNode, ImportNode, TypeNode};
+use smith_read_scopes::Scopes;
 use smith_syntax::ComponentTypeRef;
 use std::alloc::Global;
 

@@ -10,7 +10,7 @@ ghost use Rattle.smith_read_types.specs.Nodes.{shown_core_node};
 ghost use Rattle.smith_read_types.specs.declared.nodes.DeclNode.{DeclNode};
 ghost use Rattle.smith_read_types.specs.TypeNodes.{shown_decl_node, shown_type_node};
 ghost use Rattle.smith_check.specs.Judges.{Decides, Judges};
-ghost use Rattle.smith_check.specs.Preceding.{outer_in, own_in};
+ghost use Rattle.smith_read_scopes.specs.Scopes.{outer_in, own_in};
 ghost use Rattle.smith_check.specs.Taken.{KnowsDeclared, NamedDeclared};
 ghost use Rattle.smith_check.specs.declared.error.Stop.TheVariants.{OutOfMemory};
 
@@ -18,10 +18,9 @@ use crate::error::{Checked, Rule, Stop};
 use crate::modules::check_core;
 use crate::names::Names;
 use crate::references::{check_imported, check_reference};
-use crate::scopes::Scopes;
 use crate::values::{check_defined, check_signature};
-use smith_read::{CoreNode, DeclNode, TypeNode};
-use smith_syntax::ComponentTypeRef;
+use smith_read::{DeclNode, TypeNode};
+use smith_read_scopes::Scopes;
 use std::alloc::Global;
 
 // The names that a component type or an instance type imports, and those that it exports.
@@ -93,62 +92,6 @@ fn check_no_imports(decls: &[DeclNode]) -> Checked
     Ok(())
 }
 
-// Adds a type to the innermost scope, if there is one.
-fn add_type<'a>(scopes: &mut Scopes<'a>, ty: Option<&'a TypeNode>) -> Checked
-    ensures own { OnOk result (own_in scopes.new
-        ≡ with_types (own_in scopes.old) (option_to_list (option_map (λ t. shown_type_node t.now) ty.entry))) }
-    ensures outer { outer_in scopes.new ≡ outer_in scopes.old }
-    ensures memory { IfErr result (λ e. e ≡ OutOfMemory) }
-{
-    match ty {
-        Some(ty) => scopes.add_type(ty),
-        None => Ok(()),
-    }
-}
-
-// Adds a core type to the innermost scope, if there is one.
-fn add_core_type<'a>(scopes: &mut Scopes<'a>, ty: Option<&'a CoreNode>) -> Checked
-    ensures own { OnOk result (own_in scopes.new
-        ≡ with_core_types (own_in scopes.old) (option_to_list (option_map (λ t. shown_core_node t.now) ty.entry))) }
-    ensures outer { outer_in scopes.new ≡ outer_in scopes.old }
-    ensures memory { IfErr result (λ e. e ≡ OutOfMemory) }
-{
-    match ty {
-        Some(ty) => scopes.add_core_type(ty),
-        None => Ok(()),
-    }
-}
-
-// Adds to the innermost scope what a declaration adds to it.
-#[tactic(auto, using(smith_read_types::proofs::ShownNodes::shown_nodes))]
-fn add_decl<'a>(scopes: &mut Scopes<'a>, decl: &'a DeclNode) -> Checked
-    ensures own { OnOk result (own_in scopes.new
-        ≡ after_decl (outer_in scopes.old) (own_in scopes.old) (shown_decl_node decl.now)) }
-    ensures outer { outer_in scopes.new ≡ outer_in scopes.old }
-    ensures memory { IfErr result (λ e. e ≡ OutOfMemory) }
-{
-    match decl {
-        DeclNode::Core(ty) => scopes.add_core_type(ty),
-        DeclNode::Type(ty) => scopes.add_type(ty),
-        DeclNode::TypeAlias { count, index } => {
-            let ty = scopes.type_named(*count, *index);
-            add_type(scopes, ty)
-        }
-        DeclNode::CoreTypeAlias { count, index } => {
-            let ty = scopes.core_type_named(*count, *index);
-            add_core_type(scopes, ty)
-        }
-        DeclNode::Export {
-            to: ComponentTypeRef::TypeEq(index),
-            ..
-        } => {
-            let ty = scopes.type_at(*index);
-            add_type(scopes, ty)
-        }
-        DeclNode::Import { .. } | DeclNode::Export { .. } => Ok(()),
-    }
-}
-
 /// Checks a type.
 #[cycle(types)]
 #[tactic(auto, using(smith_read_types::proofs::ShownNodes::shown_nodes))]
@@ -208,7 +151,7 @@ fn check_decls<'a>(alloc: Global, scopes: &mut Scopes<'a>, decls: &'a [DeclNode]
     for decl in decls {
         check_decl(alloc, scopes, decl)?;
         names.add(decl)?;
-        add_decl(scopes, decl)?;
+        scopes.add_decl(decl)?;
     }
     scopes.leave();
     Ok(())

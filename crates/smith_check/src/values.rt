@@ -7,13 +7,13 @@ ghost use Rattle.smith_syntax.specs.Shown.{shown_defined};
 ghost use Rattle.smith_syntax.specs.WellFormed.{FormedDefined, FormedEntry, FormedMaybe, FormedVal, Named};
 ghost use Rattle.smith_syntax.specs.declared.types.ComponentValType.{ComponentValType};
 ghost use Rattle.smith_check.specs.Judges.{Judges};
-ghost use Rattle.smith_check.specs.Preceding.{outer_in, own_in};
+ghost use Rattle.smith_read_scopes.specs.Scopes.{outer_in, own_in};
 
 use crate::error::{Checked, Rule, Stop};
 use crate::names::check_names;
-use crate::scopes::Scopes;
 use smith_input::Labelled;
 use smith_read::TypeNode;
+use smith_read_scopes::Scopes;
 use smith_syntax::{ComponentValType, DefinedType, FuncType};
 use std::alloc::Global;
 

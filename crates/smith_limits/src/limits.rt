@@ -60,7 +60,7 @@ pub enum Fault {
 impl fmt::Display for Fault {
     fn fmt<W: fmt::Write>(&self, f: &mut fmt::Formatter<W>) -> fmt::Result {
         match self {
-            Fault::Unknown(name) => write!(f, "`{name}` is no limit"),
+            Fault::Unknown(name) => write!(f, "unknown limit `{name}`"),
             Fault::At(key, Wrong::NoInteger) => write!(f, "`{}` must be an integer", key.name()),
             Fault::At(key, Wrong::NoBoolean) => write!(f, "`{}` must be true or false", key.name()),
             Fault::At(key, Wrong::Negative) => write!(f, "`{}` is negative", key.name()),

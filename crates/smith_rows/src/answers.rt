@@ -2,10 +2,10 @@
 
 use crate::bytes::Printed;
 use crate::texts::{defaults, misfit, texts, unwritten};
-use smith_check::{Verdict, check};
 use smith_component::{Config, Error, Unstructured, generate};
 use smith_read::{ReadError, read};
 use smith_script::{ScriptError, script};
+use smith_verdict::{Verdict, check};
 use std::alloc::{AllocError, Global};
 use std::fmt;
 
@@ -107,21 +107,20 @@ fn is_generated(
     Ok(is_same && again.agrees && again.left.as_slice() == rest)
 }
 
-// Why there is no script: the reason, and the section in which it was seen.
+// Why there is no script: the limit that is not kept, or what else is wrong.
 #[derive(Clone, Copy)]
 struct NoScript<'a>(&'a ScriptError);
 
 impl fmt::Display for NoScript<'_> {
     fn fmt<W: fmt::Write>(&self, f: &mut fmt::Formatter<W>) -> fmt::Result {
-        let ScriptError::NoScript { part, reason } = self.0 else {
-            return writeln!(f, "= no script: {:?}", self.0);
-        };
-        write!(f, "= no script: {reason:?}")?;
-        for (level, place) in part.iter().enumerate() {
-            f.write_str(if level == 0 { " in section " } else { "." })?;
-            write!(f, "{place}")?;
+        match self.0 {
+            ScriptError::NoScript { limit: None, .. } => writeln!(f, "= no script"),
+            ScriptError::NoScript {
+                limit: Some(limit),
+                ..
+            } => writeln!(f, "= no script: {limit}"),
+            why => writeln!(f, "= no script: {why}"),
         }
-        f.write_str("\n")
     }
 }
 
@@ -132,10 +131,7 @@ fn is_its_script(
     bytes: &[u8],
     input: &[u8],
 ) -> Result<String, AllocError> {
-    let Ok(tree) = read(alloc, bytes) else {
-        return String::from_str(alloc, "= it is not read back\n");
-    };
-    match script(alloc, limits, &tree) {
+    match script(alloc, limits, bytes) {
         Ok(script) if script.as_slice() == input => String::from_str(alloc, "= its script\n"),
         Ok(script) => format!(in alloc; "{}", Printed("script", &script)),
         Err(error) => format!(in alloc; "{}", NoScript(&error)),
@@ -170,11 +166,7 @@ fn generation(
 
 // Whether the component in these bytes is generated from its script.
 fn scripted(alloc: Global, limits: Config, bytes: &[u8]) -> Result<String, AllocError> {
-    let tree = match read(alloc, bytes) {
-        Ok(tree) => tree,
-        Err(error) => return format!(in alloc; "{}", Unread(&error)),
-    };
-    match script(alloc, &limits, &tree) {
+    match script(alloc, &limits, bytes) {
         Ok(script) if is_generated(alloc, limits, &script, b"", bytes)? => {
             String::from_str(alloc, "= generated from its script\n")
         }

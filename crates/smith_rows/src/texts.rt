@@ -3,8 +3,8 @@
 use crate::bytes::PREAMBLE;
 use smith_component::{Config, Error};
 use smith_limits::{DEFAULT_LIMITS, KEYS, limits_of};
-use smith_read::{ComponentTree, PartNode, read};
-use smith_script::{Reason, ScriptError, script};
+use smith_read::{ComponentTree, PartNode};
+use smith_script::{Reason, ScriptError, Unkept, script};
 use smith_write::write;
 use std::alloc::{AllocError, Global};
 
@@ -17,13 +17,23 @@ const ERRORS: [Error; 6] = [
     Error::PartsDisagree,
 ];
 
-// Each reason, and the section in which it was seen.
-const REASONS: [(&[usize], Reason); 5] = [
-    (&[], Reason::Unlike),
-    (&[0], Reason::CoreModule),
-    (&[2, 0], Reason::LongName),
-    (&[0, 10, 1], Reason::Limit),
-    (&[1], Reason::NotWellFormed),
+// Limits that are not kept, and where that is seen.
+const UNKEPT: [(Option<Unkept>, Option<usize>); 4] = [
+    (None, None),
+    (None, Some(12)),
+    (
+        Some(Unkept::Above {
+            name: "max_types",
+            value: 2,
+        }),
+        Some(8),
+    ),
+    (
+        Some(Unkept::Off {
+            name: "simd_enabled",
+        }),
+        None,
+    ),
 ];
 
 /// The texts of the errors of `generate` and of `script`.
@@ -32,12 +42,19 @@ pub fn texts(alloc: Global) -> Result<String, AllocError> {
     for error in ERRORS.iter() {
         answers.push_str(&format!(in alloc; "= {error:?}: {error}\n")?)?;
     }
-    for (path, reason) in REASONS {
-        let part = Vec::from_slice(alloc, path)?;
-        let error = ScriptError::NoScript { part, reason };
-        answers.push_str(&format!(in alloc; "= no script: {reason:?}: {error}\n")?)?;
+    for (limit, offset) in UNKEPT {
+        let error = ScriptError::NoScript { limit, offset };
+        answers.push_str(&format!(in alloc; "= no script: {error}\n")?)?;
     }
-    for error in [ScriptError::OutOfMemory, ScriptError::InconsistentLimits] {
+    let unread = ScriptError::Unread {
+        reason: Reason::Preamble,
+        offset: 0,
+    };
+    for error in [
+        ScriptError::OutOfMemory,
+        ScriptError::InconsistentLimits,
+        unread,
+    ] {
         answers.push_str(&format!(in alloc; "= no script: {error:?}: {error}\n")?)?;
     }
     Ok(answers)
@@ -56,14 +73,11 @@ pub fn defaults(alloc: Global) -> Result<String, AllocError> {
 
 /// What is answered to the script of the empty component where there must be more types than there may be.
 pub fn misfit(alloc: Global, limits: &Config) -> Result<String, AllocError> {
-    let Ok(tree) = read(alloc, PREAMBLE) else {
-        return String::from_str(alloc, "= it is not read\n");
-    };
     let misfit = Config {
         min_types: limits.max_types.saturating_add(1),
         ..*limits
     };
-    match script(alloc, &misfit, &tree) {
+    match script(alloc, &misfit, PREAMBLE) {
         Ok(_) => String::from_str(alloc, "= a script\n"),
         Err(error) => format!(in alloc; "= no script: {error:?}\n"),
     }

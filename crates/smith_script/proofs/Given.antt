@@ -1,5 +1,5 @@
 -- What an answer of `generate` says of a component, and what a refusal does.
-use Rattle.std.proofs.Common.{◌≡◌, ℕ, ◌<◌, ◌↔◌, List, [], ◌∷◌, sym, subst, ◌∙◌, Some, get_or, suc}
+use Rattle.std.proofs.Common.{◌≡◌, ℕ, ◌<◌, ◌≤◌, arith, ◌↔◌, List, [], ◌∷◌, sym, subst, ◌∙◌, Some, get_or, suc}
 use Rattle.smith_input.specs.Script.{AreBytes}
 use Rattle.smith_input.specs.declared.error.Error.{Error}
 use Rattle.smith_input.specs.declared.error.Error.TheVariants.{OutOfMemory}
@@ -11,7 +11,12 @@ use Rattle.smith_component.specs.Runs.{RunsTo}
 use Rattle.smith_tree.specs.Tree.{Tree}
 use Rattle.smith_component.proofs.Decided.{runs_to_same}
 use Rattle.smith_component.proofs.Reproducible.{answer_or_memory}
-use Rattle.smith_script.specs.IsScript.{IsGiven}
+use Rattle.smith_component.proofs.RunsSound.{runs_sound}
+use Rattle.smith_read.specs.Reads.{most_depth}
+use Rattle.smith_tree.proofs.Depths.{scopes_within}
+use Rattle.smith_tree.specs.Depths.{scope_depth}
+use Rattle.smith_tree.specs.WellFormed.{WellFormed}
+use Rattle.smith_script.specs.IsScript.{IsGiven, IsScript}
 
 module _ (config : Config) (t : Tree) (input bytes : List ℕ) (spells : Spells t bytes) where
   module _ (component : Tree) (left made : List ℕ) (run : RunsTo config input component left) (reading : (u : Tree) → Spells u made ↔ (u ≡ component)) where
@@ -34,6 +39,20 @@ module _ (config : Config) (t : Tree) (input bytes : List ℕ) (spells : Spells 
   -- Where it is given, nothing is refused but for want of memory.
   pub given_or_memory : IsGiven config t input → (e : Error) (left : List ℕ) → IsGenerateRefusal config input e left → e ≡ OutOfMemory
   given_or_memory g e left h = answer_or_memory config input t [] bytes g.consistent g.runs spells e left h
+
+-- What is given is well formed, and no deeper than what is read.
+
+module _ (config : Config) (t : Tree) (input : List ℕ) (g : IsGiven config t input) where
+  pub given_formed : WellFormed t
+  given_formed = (runs_sound config input t [] g.consistent g.runs).0
+
+  pub given_shallow : scope_depth t ≤ most_depth
+  given_shallow =
+      omega (arith, scopes_within config t (runs_sound config input t [] g.consistent g.runs).1.maxima, g.consistent.nesting)
+
+-- The script of a tree gives it.
+pub script_given : (config : Config) (t : Tree) (b : List ℕ) → IsScript config t b → IsGiven config t b
+script_given config t b s = record { consistent = s.consistent; runs = s.runs }
 
 pub are_bytes : (bs : List ℕ) → ((i : ℕ) → get_or bs i 0 < 256) → AreBytes bs
 are_bytes [] h = tt

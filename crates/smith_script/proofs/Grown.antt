@@ -1,12 +1,13 @@
--- What stands in a component, where a part more stands there.
-use Rattle.std.proofs.Common.{◌≡◌, ℕ, ◌+◌, List, [], ◌∷◌, ◌++◌, fold, map, length, refl, ap, sym, ◌∙◌, arith, append_assoc, append-nil, length-append}
-use Rattle.std.proofs.lemmas.List.{map-append}
+-- What there is in a component, where a part more is there.
+use Rattle.std.proofs.Common.{◌≡◌, ℕ, ◌+◌, List, [], ◌∷◌, ◌++◌, fold, length, refl, ap, sym, ◌∙◌, arith, append_assoc, append-nil, length-append}
 use Rattle.std.specs.List.{flat_map}
+use Rattle.std.specs.Option.{option_to_list}
+use Rattle.std.specs.Prelude.{slice_get}
 use Rattle.smith_syntax.specs.Entries.{Entry, CoreEntry, ImportEntry}
 use Rattle.smith_syntax.specs.declared.deftype.ComponentTypeRef.{ComponentTypeRef}
 use Rattle.smith_tree.specs.declared.totals.RefTotals.{RefTotals}
-use Rattle.smith_tree.specs.Offers.{totals_of}
-use Rattle.smith_tree.specs.Spaces.{Spaces, no_spaces, after_canon as canon_behind, after_export as export_behind, after_import as import_behind}
+use Rattle.smith_tree.specs.Offers.{scalar_functions, totals_of}
+use Rattle.smith_tree.specs.Spaces.{Spaces, after_canon as canon_behind, after_export as export_behind, after_import as import_behind}
 use Rattle.smith_tree.specs.Spaces.{after_part as part_behind, spaces_of}
 use Rattle.smith_tree.specs.Tree.{Canon, ExportEntry, lift, lower, Tree, Part, ends, first, custom, core_module, core_types, component, types, canons}
 use Rattle.smith_tree.specs.Tree.{imports, exports, add, anywhere, anywhere_in, canons_in, components_in, exports_in, exports_of, function_count}
@@ -18,22 +19,23 @@ use Rattle.smith_component.proofs.Growth.{scope_at, spaces-add}
 use Rattle.smith_component.proofs.Sound.{component_count-so_far, instance_count-so_far, module_count-so_far}
 use Rattle.smith_component.proofs.Tree.{function_count-add, functions_in, length-own-add, tree_so_far-close}
 use Rattle.smith_script.specs.Preceding.{Preceding, after_canon, after_core_type, after_export, after_import, after_part, after_tree, after_type, closed}
-use Rattle.smith_script.specs.Preceding.{empty_in, opened, with_function, with_import}
-use Rattle.smith_script.proofs.Loops.{plain_core_type, plain_type, sorted}
+use Rattle.smith_script.specs.Preceding.{empty_in, opened, with_function, with_function_of, with_functions, with_import}
+use Rattle.smith_script.proofs.Known.{Known, scalars_more, types_stay}
 
--- what stands where these spaces do, so many imports and exports, and these totals
+-- what there is where these spaces are, so many imports and exports, and these totals
 abbrev pub stands : Spaces → ℕ → ℕ → RefTotals → Preceding
 stands sp i e t = record {
-  scope = sorted (scope_at sp);
+  scope = scope_at sp;
   types = sp.types;
   functions = sp.functions;
+  scalars = scalar_functions sp;
   core_functions = sp.core_functions;
   imports = i;
   exports = e;
   totals = t;
 }
 
--- what stands in the inner component of those that are open
+-- what there is in the inner component of those that are open
 abbrev pub standing_at : List Tree → Tree → Preceding
 standing_at outer t = stands (spaces_of t) (length (imports_of t)) (length (exports_of t)) (totals_of (record { outer = outer; inner = t }))
 
@@ -91,28 +93,52 @@ core_types_grow : (ts : List CoreEntry) (sp : Spaces) (i e : ℕ) (t : RefTotals
     → fold after_core_type (stands sp i e t) ts ≡ stands (part_behind sp (core_types ts)) i e t
 core_types_grow [] sp i e t = let a = sym (append-nil sp.core_types) in λ x. stands (record sp { core_types = a x }) i e t
 core_types_grow (c ∷ ts) sp i e t =
-    let one : after_core_type (stands sp i e t) c ≡ stands (part_behind sp (core_types (c ∷ []))) i e t =
-    let m = sym (map-append plain_core_type sp.core_types (c ∷ [])) in
-    λ x. record (stands sp i e t) { scope = record { types = map plain_type sp.types; core_types = m x } } in
     let a = append_assoc sp.core_types (c ∷ []) ts in
-    ap (λ s. fold after_core_type s ts) one
-    ∙ (core_types_grow ts (part_behind sp (core_types (c ∷ []))) i e t ∙ (λ x. stands (record sp { core_types = a x }) i e t))
+    core_types_grow ts (part_behind sp (core_types (c ∷ []))) i e t ∙ (λ x. stands (record sp { core_types = a x }) i e t)
 
-types_grow : (ts : List Entry) (sp : Spaces) (i e : ℕ) (t : RefTotals) → fold after_type (stands sp i e t) ts ≡ stands (part_behind sp (types ts)) i e t
-types_grow [] sp i e t = let a = sym (append-nil sp.types) in λ x. stands (record sp { types = a x }) i e t
-types_grow (c ∷ ts) sp i e t =
-    let one : after_type (stands sp i e t) c ≡ stands (part_behind sp (types (c ∷ []))) i e t =
-    let m = sym (map-append plain_type sp.types (c ∷ [])) in
-    λ x. record (stands (part_behind sp (types (c ∷ []))) i e t) { scope = record { types = m x; core_types = map plain_core_type sp.core_types } } in
-    let a = append_assoc sp.types (c ∷ []) ts in
-    ap (λ s. fold after_type s ts) one ∙ (types_grow ts (part_behind sp (types (c ∷ []))) i e t ∙ (λ x. stands (record sp { types = a x }) i e t))
+-- the types, where those of the component functions are known
+after_types : (ts : List Entry) (sp : Spaces) (i e : ℕ) (t : RefTotals)
+    → fold after_type (stands sp i e t) ts ≡ record (stands (part_behind sp (types ts)) i e t) { scalars = scalar_functions sp }
+after_types ts sp i e t = more ts sp.types
+  where
+    more : (ts : List Entry) (front : List Entry)
+        → fold after_type (record (stands (record sp { types = front }) i e t) { scalars = scalar_functions sp }) ts
+        ≡ record (stands (record sp { types = front ++ ts }) i e t) { scalars = scalar_functions sp }
+    more [] front = let a = sym (append-nil front) in λ x. record (stands (record sp { types = a x }) i e t) { scalars = scalar_functions sp }
+    more (c ∷ ts) front =
+        let a = append_assoc front (c ∷ []) ts in
+        more ts (front ++ c ∷ []) ∙ (λ x. record (stands (record sp { types = a x }) i e t) { scalars = scalar_functions sp })
+
+types_grow : (ts : List Entry) (sp : Spaces) (i e : ℕ) (t : RefTotals) → Known sp
+    → fold after_type (stands sp i e t) ts ≡ stands (part_behind sp (types ts)) i e t
+types_grow ts sp i e t known =
+    let same = types_stay sp ts known in
+    after_types ts sp i e t ∙ (λ x. record (stands (part_behind sp (types ts)) i e t) { scalars = same x })
+
+-- the same with other counts
+abbrev counting : Preceding → ℕ → ℕ → RefTotals → Preceding
+counting s i e t = record s { imports = i; exports = e; totals = t }
+
+-- component functions
+function_grows : (ty : ℕ) (sp : Spaces) (i e : ℕ) (t : RefTotals)
+    → with_function_of (stands sp i e t) ty ≡ stands (record sp { functions = sp.functions ++ ty ∷ [] }) i e t
+function_grows ty sp i e t =
+    let a = scalars_more sp.types sp.functions ty in λ x. record (stands (record sp { functions = sp.functions ++ ty ∷ [] }) i e t) { scalars = a x }
+
+functions_grow : (tys : List ℕ) (sp : Spaces) (i e : ℕ) (t : RefTotals)
+    → with_functions (stands sp i e t) tys ≡ stands (record sp { functions = sp.functions ++ tys }) i e t
+functions_grow [] sp i e t = let a = sym (append-nil sp.functions) in λ x. stands (record sp { functions = a x }) i e t
+functions_grow (ty ∷ tys) sp i e t =
+    let a = append_assoc sp.functions (ty ∷ []) tys in
+    ap (λ s. with_functions s tys) (function_grows ty sp i e t)
+    ∙ (functions_grow tys (record sp { functions = sp.functions ++ ty ∷ [] }) i e t ∙ (λ x. stands (record sp { functions = a x }) i e t))
 
 -- canonical functions
 abbrev more_funcs : RefTotals → ℕ → RefTotals
 more_funcs t n = record { modules = t.modules; funcs = t.funcs + n; components = t.components; instances = t.instances }
 
 canon_grows : (c : Canon) (sp : Spaces) (i e : ℕ) (t : RefTotals) → after_canon (stands sp i e t) c ≡ stands (canon_behind sp c) i e (with_function t)
-canon_grows (lift c ty) sp i e t = refl
+canon_grows (lift c ty) sp i e t = ap (λ (s : Preceding). counting s s.imports s.exports (with_function t)) (function_grows ty sp i e t)
 canon_grows (lower f) sp i e t = refl
 
 canons_grow : (cs : List Canon) (sp : Spaces) (i e : ℕ) (t : RefTotals)
@@ -147,6 +173,10 @@ module _ (x : ImportEntry) (is : List ImportEntry) where
 none_more : (n : ℕ) → n ≡ n + 0
 none_more n = omega arith
 
+import_grows : (x : ImportEntry) (sp : Spaces) (i e : ℕ) (t : RefTotals)
+    → after_import (stands sp i e t) x ≡ stands (import_behind sp x) (i + 1) e (with_import t x.to)
+import_grows x sp i e t = ap (λ (s : Preceding). counting s (i + 1) s.exports (with_import t x.to)) (functions_grow (function_of x.to) sp i e t)
+
 imports_grow : (is : List ImportEntry) (sp : Spaces) (i e : ℕ) (t : RefTotals)
     → fold after_import (stands sp i e t) is ≡ stands (fold import_behind sp is) (i + length is) e (with_imports t is)
 imports_grow [] sp i e t =
@@ -156,14 +186,19 @@ imports_grow [] sp i e t =
 imports_grow (x ∷ is) sp i e t =
     let a : i + 1 + length is ≡ i + length (x ∷ is) = omega arith in
     let b = imports_more x is t in
-    imports_grow is (import_behind sp x) (i + 1) e (with_import t x.to) ∙ (λ y. stands (fold import_behind sp (x ∷ is)) (a y) e (b y))
+    ap (λ s. fold after_import s is) (import_grows x sp i e t)
+    ∙ (imports_grow is (import_behind sp x) (i + 1) e (with_import t x.to) ∙ (λ y. stands (fold import_behind sp (x ∷ is)) (a y) e (b y)))
+
+export_grows : (x : ExportEntry) (sp : Spaces) (i e : ℕ) (t : RefTotals) → after_export (stands sp i e t) x ≡ stands (export_behind sp x) i (e + 1) t
+export_grows x sp i e t = ap (λ (s : Preceding). counting s s.imports (e + 1) s.totals) (functions_grow (option_to_list (slice_get sp.functions x.func)) sp i e t)
 
 exports_grow : (es : List ExportEntry) (sp : Spaces) (i e : ℕ) (t : RefTotals)
     → fold after_export (stands sp i e t) es ≡ stands (fold export_behind sp es) i (e + length es) t
 exports_grow [] sp i e t = let a = none_more e in λ x. stands sp i (a x) t
 exports_grow (x ∷ es) sp i e t =
     let a : e + 1 + length es ≡ e + length (x ∷ es) = omega arith in
-    exports_grow es (export_behind sp x) i (e + 1) t ∙ (λ y. stands (fold export_behind sp (x ∷ es)) i (a y) t)
+    ap (λ s. fold after_export s es) (export_grows x sp i e t)
+    ∙ (exports_grow es (export_behind sp x) i (e + 1) t ∙ (λ y. stands (fold export_behind sp (x ∷ es)) i (a y) t))
 
 -- A part that counts so.
 settle : (p : Part) (sp : Spaces) (i e i2 e2 : ℕ) (t u : RefTotals) → i2 ≡ i + length (imports_in p) → e2 ≡ e + length (exports_in p) → u ≡ counted p t
@@ -199,35 +234,86 @@ joined p u t =
     )
     ) (omega (arith, length-append (anywhere_in imported_instances_in p) (anywhere imported_instances_in u)))
 
-mutual
-  pub part_grows : (p : Part) (sp : Spaces) (i e : ℕ) (t : RefTotals) → after_part p (stands sp i e t) ≡ grown p sp i e t
-  part_grows (custom n c) sp i e t = settle (custom n c) sp i e i e t t (none_more i) (none_more e) (uncounted (custom n c) t refl refl refl refl)
-  part_grows (core_module bs) sp i e t =
-      settle (core_module bs) sp i e i e t (record t { modules = t.modules + 1 }) (none_more i) (none_more e)
-      (totals_are (record t { modules = t.modules + 1 }) (counted (core_module bs) t) (omega arith) (omega arith) (omega arith) (omega arith))
-  part_grows (core_types ts) sp i e t =
-      core_types_grow ts sp i e t
-      ∙ settle (core_types ts) sp i e i e t t (none_more i) (none_more e) (uncounted (core_types ts) t refl refl refl refl)
-  part_grows (component u) sp i e t =
-      settle (component u) sp i e i e t (closed t (after_tree u (empty_in (opened t))).totals) (none_more i) (none_more e)
-      (ap (closed t) (tree_counts u no_spaces 0 0 (opened t))
-      ∙ totals_are (closed t (counted_tree u (opened t))) (counted (component u) t) (omega arith) (omega arith) (omega arith) (omega arith))
-  part_grows (types ts) sp i e t =
-      types_grow ts sp i e t ∙ settle (types ts) sp i e i e t t (none_more i) (none_more e) (uncounted (types ts) t refl refl refl refl)
-  part_grows (canons fs) sp i e t =
-      canons_grow fs sp i e t
-      ∙ settle (canons fs) sp i e i e t (more_funcs t (length fs)) (none_more i) (none_more e)
-      (totals_are (more_funcs t (length fs)) (counted (canons fs) t) (omega arith) (omega arith) (omega arith) (omega arith))
-  part_grows (imports is) sp i e t =
-      imports_grow is sp i e t
-      ∙ settle (imports is) sp i e (i + length is) e t (with_imports t is) refl (none_more e)
-      (totals_are (with_imports t is) (counted (imports is) t) (omega arith) (omega arith) (omega arith) (omega arith))
-  part_grows (exports es) sp i e t =
-      exports_grow es sp i e t ∙ settle (exports es) sp i e i (e + length es) t t (none_more i) refl (uncounted (exports es) t refl refl refl refl)
+-- What a part counts, whatever there is before it.
 
-  pub tree_counts : (u : Tree) (sp : Spaces) (i e : ℕ) (t : RefTotals) → (after_tree u (stands sp i e t)).totals ≡ counted_tree u t
-  tree_counts ends sp i e t =
-      totals_are t (counted_tree ends t) (omega arith) (omega arith) (omega arith) (omega arith)
-  tree_counts (first p u) sp i e t =
-      ap (λ s. (after_tree u s).totals) (part_grows p sp i e t)
-      ∙ (tree_counts u (part_behind sp p) (i + length (imports_in p)) (e + length (exports_in p)) (counted p t) ∙ joined p u t)
+abbrev Counts : {A : Type 0} → (Preceding → A → Preceding) → List A → Type 0
+Counts after xs = (s : Preceding) → (fold after s xs).totals ≡ s.totals
+
+core_types_count : (ts : List CoreEntry) → Counts after_core_type ts
+core_types_count [] s = refl
+core_types_count (c ∷ ts) s = core_types_count ts (after_core_type s c)
+
+types_count : (ts : List Entry) → Counts after_type ts
+types_count [] s = refl
+types_count (c ∷ ts) s = types_count ts (after_type s c)
+
+functions_count : (tys : List ℕ) (s : Preceding) → (with_functions s tys).totals ≡ s.totals
+functions_count [] s = refl
+functions_count (ty ∷ tys) s = functions_count tys (with_function_of s ty)
+
+canon_counts : (c : Canon) (s : Preceding) → (after_canon s c).totals ≡ with_function s.totals
+canon_counts (lift c ty) s = refl
+canon_counts (lower f) s = refl
+
+canons_count : (cs : List Canon) (s : Preceding) → (fold after_canon s cs).totals ≡ more_funcs s.totals (length cs)
+canons_count [] s = let f : s.totals.funcs ≡ s.totals.funcs + 0 = omega arith in λ x. record (more_funcs s.totals 0) { funcs = f x }
+canons_count (c ∷ cs) s =
+    let f : s.totals.funcs + 1 + length cs ≡ s.totals.funcs + length (c ∷ cs) = omega arith in
+    canons_count cs (after_canon s c)
+    ∙ (ap (λ t. more_funcs t (length cs)) (canon_counts c s) ∙ (λ x. record (more_funcs s.totals 0) { funcs = f x }))
+
+imports_count : (is : List ImportEntry) (s : Preceding) → (fold after_import s is).totals ≡ with_imports s.totals is
+imports_count [] s =
+    totals_are s.totals (with_imports s.totals []) (none_more s.totals.modules) (none_more s.totals.funcs) (none_more s.totals.components)
+    (none_more s.totals.instances)
+imports_count (x ∷ is) s = imports_count is (after_import s x) ∙ imports_more x is s.totals
+
+exports_count : (es : List ExportEntry) → Counts after_export es
+exports_count [] s = refl
+exports_count (x ∷ es) s = exports_count es (after_export s x) ∙ functions_count (option_to_list (slice_get s.functions x.func)) s
+
+mutual
+  part_counts : (p : Part) (s : Preceding) → (after_part p s).totals ≡ counted p s.totals
+  part_counts (custom n c) s = uncounted (custom n c) s.totals refl refl refl refl
+  part_counts (core_module bs) s =
+      totals_are (record s.totals { modules = s.totals.modules + 1 }) (counted (core_module bs) s.totals) (omega arith) (omega arith) (omega arith) (omega arith)
+  part_counts (core_types ts) s = core_types_count ts s ∙ uncounted (core_types ts) s.totals refl refl refl refl
+  part_counts (component u) s =
+      ap (closed s.totals) (tree_counts u (empty_in (opened s.totals)))
+      ∙ totals_are (closed s.totals (counted_tree u (opened s.totals))) (counted (component u) s.totals) (omega arith) (omega arith) (omega arith) (omega arith)
+  part_counts (types ts) s = types_count ts s ∙ uncounted (types ts) s.totals refl refl refl refl
+  part_counts (canons fs) s =
+      canons_count fs s
+      ∙ totals_are (more_funcs s.totals (length fs)) (counted (canons fs) s.totals) (omega arith) (omega arith) (omega arith) (omega arith)
+  part_counts (imports is) s =
+      imports_count is s
+      ∙ totals_are (with_imports s.totals is) (counted (imports is) s.totals) (omega arith) (omega arith) (omega arith) (omega arith)
+  part_counts (exports es) s = exports_count es s ∙ uncounted (exports es) s.totals refl refl refl refl
+
+  tree_counts : (u : Tree) (s : Preceding) → (after_tree u s).totals ≡ counted_tree u s.totals
+  tree_counts ends s = totals_are s.totals (counted_tree ends s.totals) (omega arith) (omega arith) (omega arith) (omega arith)
+  tree_counts (first p u) s = tree_counts u (after_part p s) ∙ (ap (counted_tree u) (part_counts p s) ∙ joined p u s.totals)
+
+-- What a part adds, where the types of the component functions are there.
+pub part_grows : (p : Part) (sp : Spaces) (i e : ℕ) (t : RefTotals) → Known sp → after_part p (stands sp i e t) ≡ grown p sp i e t
+part_grows (custom n c) sp i e t known = settle (custom n c) sp i e i e t t (none_more i) (none_more e) (uncounted (custom n c) t refl refl refl refl)
+part_grows (core_module bs) sp i e t known =
+    settle (core_module bs) sp i e i e t (record t { modules = t.modules + 1 }) (none_more i) (none_more e) (part_counts (core_module bs) (stands sp i e t))
+part_grows (core_types ts) sp i e t known =
+    core_types_grow ts sp i e t
+    ∙ settle (core_types ts) sp i e i e t t (none_more i) (none_more e) (uncounted (core_types ts) t refl refl refl refl)
+part_grows (component u) sp i e t known =
+    settle (component u) sp i e i e t (closed t (after_tree u (empty_in (opened t))).totals) (none_more i) (none_more e)
+    (part_counts (component u) (stands sp i e t))
+part_grows (types ts) sp i e t known =
+    types_grow ts sp i e t known ∙ settle (types ts) sp i e i e t t (none_more i) (none_more e) (uncounted (types ts) t refl refl refl refl)
+part_grows (canons fs) sp i e t known =
+    canons_grow fs sp i e t
+    ∙ settle (canons fs) sp i e i e t (more_funcs t (length fs)) (none_more i) (none_more e)
+    (totals_are (more_funcs t (length fs)) (counted (canons fs) t) (omega arith) (omega arith) (omega arith) (omega arith))
+part_grows (imports is) sp i e t known =
+    imports_grow is sp i e t
+    ∙ settle (imports is) sp i e (i + length is) e t (with_imports t is) refl (none_more e)
+    (totals_are (with_imports t is) (counted (imports is) t) (omega arith) (omega arith) (omega arith) (omega arith))
+part_grows (exports es) sp i e t known =
+    exports_grow es sp i e t ∙ settle (exports es) sp i e i (e + length es) t t (none_more i) refl (uncounted (exports es) t refl refl refl refl)

@@ -1,6 +1,9 @@
+pub mod Differing
 pub mod Given
 pub mod Grown
+pub mod Known
 pub mod Loops
+pub mod Noted
 pub mod Plans
 pub mod Same
 pub mod Scalars

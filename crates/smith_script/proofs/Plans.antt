@@ -10,7 +10,7 @@ use Rattle.smith_component.proofs.RunsReadable.{runs_come}
 use Rattle.smith_component.proofs.ScriptBytes.{plan_bytes}
 use Rattle.smith_script.specs.IsScript.{CannotBeGenerated, IsScript}
 use Rattle.smith_script.specs.declared.error.ScriptError.{ScriptError}
-use Rattle.smith_script.specs.declared.error.ScriptError.TheVariants.{InconsistentLimits, NoScript, OutOfMemory}
+use Rattle.smith_script.specs.declared.error.ScriptError.TheVariants.{IllFormed, InconsistentLimits, NoScript, OutOfMemory, Unread}
 
 module _ (config : Config) (plan : Tree) (consistent : IsConsistent config) (within : Within config plan) where
   plan_script : IsScript config plan (script config plan)
@@ -26,7 +26,9 @@ module _ (config : Config) (plan : Tree) (consistent : IsConsistent config) (wit
   pub plan_or_memory : (e : ScriptError) → (¬ (e ≡ OutOfMemory) → (b : List ℕ) → ¬ IsScript config plan b) → e ≡ OutOfMemory
   plan_or_memory OutOfMemory h = refl
   plan_or_memory InconsistentLimits h = absurd (h (λ (e : InconsistentLimits ≡ OutOfMemory). cc) (script config plan) plan_script)
-  plan_or_memory (NoScript part reason) h = absurd (h (λ (e : NoScript part reason ≡ OutOfMemory). cc) (script config plan) plan_script)
+  plan_or_memory (Unread reason offset) h = absurd (h (λ (e : Unread reason offset ≡ OutOfMemory). cc) (script config plan) plan_script)
+  plan_or_memory (IllFormed fault) h = absurd (h (λ (e : IllFormed fault ≡ OutOfMemory). cc) (script config plan) plan_script)
+  plan_or_memory (NoScript limit offset) h = absurd (h (λ (e : NoScript limit offset ≡ OutOfMemory). cc) (script config plan) plan_script)
 
 -- What is refused for another reason comes on no input, since else it would be a plan.
 pub refused_comes_on_none : (config : Config) (t : Tree) → IsConsistent config → (e : ScriptError)

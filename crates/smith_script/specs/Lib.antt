@@ -1,4 +1,7 @@
+pub mod Difference
+pub mod Equals
+pub mod Functions
 pub mod IsScript
 pub mod Lifted
-pub mod Saying
 pub mod Preceding
+pub mod Saying

@@ -1,41 +1,44 @@
--- What a script needs to know of what stands before a place, and how it grows.
-use Rattle.std.specs.Prelude.{ℕ, ◌+◌, List, [], ◌∷◌, ◌++◌, fold, map, length, slice_get}
+-- What a script needs to know of what there is before a place, and how it grows.
+use Rattle.std.specs.Prelude.{ℕ, ◌+◌, List, [], ◌∷◌, ◌++◌, fold, map, length, slice_get, if◌then◌else◌}
 use Rattle.std.specs.Option.{option_to_list}
 use Rattle.smith_syntax.specs.Entries.{Entry, CoreEntry, ImportEntry}
 use Rattle.smith_syntax.specs.Scope.{Scope, empty_scope, with_type, with_core_type}
 use Rattle.smith_syntax.specs.declared.deftype.ComponentTypeRef.{ComponentTypeRef}
 use Rattle.smith_tree.specs.declared.totals.RefTotals.{RefTotals}
 use Rattle.smith_read_types.specs.TypeNodes.{shown_type_node}
-use Rattle.smith_script_types.specs.Scopes.{core_entry_of, core_sort_of, entry_of, shown_scope, sort_of}
+use Rattle.smith_tree.specs.Offers.{is_scalar_type}
 use Rattle.smith_tree.specs.Spaces.{Spaces}
 use Rattle.smith_tree.specs.Tree.{Canon, ExportEntry, lift, lower, Tree, Part, ends, first, custom, core_module, core_types, component, types, canons}
 use Rattle.smith_tree.specs.Tree.{imports, exports, function_of, module_of, component_of, instance_of}
 use Rattle.smith_script.specs.declared.preceding.Open.{Open}
 
--- In one open component: a scope of the same sorts as its own, its types, its component functions by the indexes of their types and its
--- core functions by what they lower, how many imports and exports it has, and how many functions; and how many modules, components and
--- instances there are in the whole tree.
+-- In one open component: its scope, its types, its component functions by the indexes of their types, those of them whose type flattened
+-- where they were added, its core functions by what they lower, how many imports and exports it has, and how many functions; and how many
+-- modules, components and instances there are in the whole tree.
 pub record Preceding : Type 0 where
   pub scope : Scope
   pub types : List Entry
   pub functions : List ℕ
+  pub scalars : List ℕ
   pub core_functions : List ℕ
   pub imports : ℕ
   pub exports : ℕ
   pub totals : RefTotals
 
-abbrev pub preceding : Open → Preceding
-preceding o = record {
-  scope = shown_scope o.scope;
-  types = map (λ t. shown_type_node t.now) o.types.items;
-  functions = o.functions.items;
+-- in an open component of that scope
+abbrev pub preceding : Scope → Open → Preceding
+preceding own o = record {
+  scope = own;
+  types = map shown_type_node o.types;
+  functions = o.functions.0;
+  scalars = o.functions.1;
   core_functions = o.core_functions.items;
   imports = o.imports;
   exports = o.exports;
   totals = o.totals;
 }
 
--- the index spaces, where one core type of a sort is as good as another
+-- its index spaces
 abbrev pub spaces_in : Preceding → Spaces
 spaces_in s = record { types = s.types; core_types = s.scope.core_types; functions = s.functions; core_functions = s.core_functions }
 
@@ -52,23 +55,33 @@ with_import t r = record {
   instances = t.instances + length (instance_of r);
 }
 
+-- component functions more, of the types with these indexes
+abbrev pub with_function_of : Preceding → ℕ → Preceding
+with_function_of s ty = record s {
+  functions = s.functions ++ ty ∷ [];
+  scalars = s.scalars ++ (if is_scalar_type s.types ty then length s.functions ∷ [] else []);
+}
+
+abbrev pub with_functions : Preceding → List ℕ → Preceding
+with_functions s tys = fold with_function_of s tys
+
 -- after an entry of a section
 
 abbrev pub after_core_type : Preceding → CoreEntry → Preceding
-after_core_type s x = record s { scope = with_core_type s.scope (core_entry_of (core_sort_of x)) }
+after_core_type s x = record s { scope = with_core_type s.scope x }
 
 abbrev pub after_type : Preceding → Entry → Preceding
-after_type s e = record s { scope = with_type s.scope (entry_of (sort_of e)); types = s.types ++ e ∷ [] }
+after_type s e = record s { scope = with_type s.scope e; types = s.types ++ e ∷ [] }
 
 abbrev pub after_canon : Preceding → Canon → Preceding
-after_canon s (lift c t) = record s { functions = s.functions ++ t ∷ []; totals = with_function s.totals }
+after_canon s (lift c t) = record (with_function_of s t) { totals = with_function s.totals }
 after_canon s (lower f) = record s { core_functions = s.core_functions ++ f ∷ []; totals = with_function s.totals }
 
 abbrev pub after_import : Preceding → ImportEntry → Preceding
-after_import s x = record s { functions = s.functions ++ function_of x.to; imports = s.imports + 1; totals = with_import s.totals x.to }
+after_import s x = record (with_functions s (function_of x.to)) { imports = s.imports + 1; totals = with_import s.totals x.to }
 
 abbrev pub after_export : Preceding → ExportEntry → Preceding
-after_export s x = record s { functions = s.functions ++ option_to_list (slice_get s.functions x.func); exports = s.exports + 1 }
+after_export s x = record (with_functions s (option_to_list (slice_get s.functions x.func))) { exports = s.exports + 1 }
 
 -- after a core module
 abbrev pub after_module : Preceding → Preceding
@@ -78,7 +91,7 @@ after_module s = record s {
 
 -- in an empty component of a tree with these totals
 abbrev pub empty_in : RefTotals → Preceding
-empty_in t = record { scope = empty_scope; types = []; functions = []; core_functions = []; imports = 0; exports = 0; totals = t }
+empty_in t = record { scope = empty_scope; types = []; functions = []; scalars = []; core_functions = []; imports = 0; exports = 0; totals = t }
 
 -- the totals where a component is opened
 abbrev pub opened : RefTotals → RefTotals

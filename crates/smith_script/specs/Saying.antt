@@ -1,6 +1,7 @@
--- The script of a component, said of what stands before each place.
-use Rattle.std.specs.Prelude.{ℕ, ◌+◌, ◌-◌, ◌&&◌, true, false, List, ◌∷◌, ◌++◌, length, map, nat_lt}
+-- The script of a component, said of what there is before each place.
+use Rattle.std.specs.Prelude.{ℕ, ◌+◌, ◌-◌, ◌&&◌, true, false, List, [], ◌∷◌, ◌++◌, length, nat_eq, nat_lt, slice_get}
 use Rattle.smith_input.specs.NameScript.{script_new}
+use Rattle.smith_input.specs.Offers.{offers_of}
 use Rattle.smith_input.specs.Script.{pick, script_among, script_bytes, script_loop, script_text}
 use Rattle.smith_core.specs.StandInScript.{script_stand_in, stand_in_of}
 use Rattle.smith_format.specs.declared.config.Config.{Config}
@@ -8,20 +9,16 @@ use Rattle.smith_syntax.specs.Entries.{Entry, CoreEntry, ImportEntry}
 use Rattle.smith_syntax.specs.Scope.{Scope}
 use Rattle.smith_tree.specs.CoreTypeScript.{script_core}
 use Rattle.smith_tree.specs.TypeScript.{script_extern, script_ref, script_type}
-use Rattle.smith_script_types.specs.Scopes.{shown_scope}
-use Rattle.smith_tree.specs.CanonScript.{script_canon}
+use Rattle.smith_tree.specs.CanonScript.{canon_item_of, script_lift}
 use Rattle.smith_tree.specs.Open.{is_export_offered, more_items}
 use Rattle.smith_tree.specs.Script.{item_of}
-use Rattle.smith_tree.specs.Tree.{Canon, ExportEntry, Tree, Part, ends, first, custom, core_module, core_types, component, types, canons, imports, exports}
+use Rattle.smith_tree.specs.Tree.{Canon, lift, lower, ExportEntry, Tree, Part, ends, first, custom, core_module, core_types, component, types, canons, imports, exports}
 use Rattle.smith_tree.specs.contracts.choices.ItemPartialEq.TheImpl.{ghosts as equal}
+use Rattle.smith_tree.specs.contracts.choices.CanonItemPartialEq.TheImpl.{ghosts as canons_equal}
+use Rattle.smith_tree.specs.declared.choices.CanonItem.TheVariants.{Lift, Lower}
 use Rattle.smith_tree.specs.declared.choices.Item.{Item}
 use Rattle.smith_tree.specs.declared.choices.Item.TheVariants as item
 use Rattle.smith_script.specs.Preceding.{Preceding, after_canon, after_core_type, after_export, after_import, after_part, after_type, empty_in, opened, spaces_in}
-use Rattle.smith_script.specs.declared.around.Around.{Around}
-
--- the scopes around, innermost first
-abbrev pub outer_in : Around → List Scope
-outer_in a = map (λ s. shown_scope s.now) a.outer.now
 
 -- entries of sections
 
@@ -31,8 +28,20 @@ core_type_says config outer s x = script_core config s.scope config.max_type_siz
 abbrev pub type_says : Config → List Scope → Preceding → Entry → List ℕ
 type_says config outer s e = script_type e config config.max_type_size s.scope outer
 
-abbrev pub canon_says : Config → List Scope → Preceding → Canon → List ℕ
-canon_says config outer s c = script_canon (spaces_in s) c
+-- a canonical function: which of two it is, and what it is of
+abbrev pub canon_item_says : Preceding → Canon → List ℕ
+canon_item_says s c =
+    script_among canons_equal.eq (offers_of ((nat_lt 0 (length s.scalars), Lower) ∷ (nat_lt 0 (length s.core_functions), Lift) ∷ [])) (canon_item_of c)
+
+abbrev pub canon_rest_says : Preceding → Canon → List ℕ
+canon_rest_says s (lift c t) = pick (length s.core_functions) c ++ script_lift (spaces_in s) t (slice_get s.types t)
+canon_rest_says s (lower f) = script_among nat_eq s.scalars f
+
+abbrev pub canon_says : Preceding → Canon → List ℕ
+canon_says s c = canon_item_says s c ++ canon_rest_says s c
+
+abbrev pub canon_row_says : Config → List Scope → Preceding → Canon → List ℕ
+canon_row_says config outer s c = canon_says s c
 
 abbrev pub import_says : Config → List Scope → Preceding → ImportEntry → List ℕ
 import_says config outer s x = script_ref config s.scope s.totals true false x.to ++ script_extern s.imports x.name
@@ -64,7 +73,7 @@ abbrev mutual
   part_says (core_module text) config outer s = script_stand_in config (stand_in_of text)
   part_says (core_types ts) config outer s = rows_say (core_type_says config outer) after_core_type (config.max_types - length s.scope.core_types) s ts
   part_says (component t) config outer s = tree_says t config (s.scope ∷ outer) (empty_in (opened s.totals))
-  part_says (types ts) config outer s = rows_say (type_says config outer) after_type (config.max_types - length s.types) s ts
-  part_says (canons fs) config outer s = rows_say (canon_says config outer) after_canon (config.max_funcs - s.totals.funcs) s fs
+  part_says (types ts) config outer s = rows_say (type_says config outer) after_type (config.max_types - length s.scope.types) s ts
+  part_says (canons fs) config outer s = rows_say (canon_row_says config outer) after_canon (config.max_funcs - s.totals.funcs) s fs
   part_says (imports is) config outer s = rows_say (import_says config outer) after_import (config.max_imports - s.imports) s is
   part_says (exports es) config outer s = rows_say (export_says config outer) after_export (config.max_exports - s.exports) s es

@@ -1,60 +1,93 @@
 //! Why there is no script.
 
+use smith_check::{Fault, Place};
+use smith_read::Reason;
 use std::alloc::{AllocError, AllocFailed};
 use std::fmt;
 
-/// Why a component has no script, as far as a look at its sections tells.
-#[derive(Clone, Copy, Debug, PartialEq, Eq, thiserror::Error)]
-pub enum Reason {
-    /// A core module stands there that is none of those that are read.
-    #[error("a core module has no script")]
-    CoreModule,
-    /// A name is longer than those that are read.
-    #[error("a name is too long to be read")]
-    LongName,
-    /// A limit is passed, or a minimum is not met.
-    #[error("a limit of the configuration is passed")]
-    Limit,
-    /// It is not well formed.
-    #[error("it is not well formed")]
-    NotWellFormed,
-    /// Anything else, as a lift whose type stands after it.
-    #[error("it is not what would be read")]
-    Unlike,
+/// A limit that a component does not keep, by the name and the value of its field of `Config`.
+#[derive(Clone, Copy, Debug, PartialEq, Eq)]
+pub enum Unkept {
+    /// There is more than that.
+    Above { name: &'static str, value: usize },
+    /// There is less than that.
+    Below { name: &'static str, value: usize },
+    /// There is what takes a feature that is off.
+    Off { name: &'static str },
+}
+
+impl fmt::Display for Unkept {
+    fn fmt<W: fmt::Write>(&self, f: &mut fmt::Formatter<W>) -> fmt::Result {
+        match self {
+            Unkept::Above { name, value } => write!(f, "more than {name} = {value}"),
+            Unkept::Below { name, value } => write!(f, "less than {name} = {value}"),
+            Unkept::Off { name } => write!(f, "{name} = false"),
+        }
+    }
 }
 
 /// Why no script is given.
-#[derive(Debug, PartialEq, Eq, Drop, thiserror::Error)]
+#[derive(Debug, PartialEq, Eq, Drop)]
 pub enum ScriptError {
     /// A growth was refused.
-    #[error("out of memory")]
     OutOfMemory,
     /// The limits of the configuration do not fit together.
-    #[error("the limits of the configuration do not fit together")]
     InconsistentLimits,
-    /// The component is not what its script gives, or has none. The reason was seen in the section with that index, and
-    /// in a component there in the section with the next; an empty path is the component itself.
-    #[error("{}{reason}", At {path: .part})]
-    NoScript { part: Vec<usize>, reason: Reason },
+    /// The bytes are no component of the grammar, or one whose scopes are nested too deep: why, and the offset at which
+    /// that was seen.
+    Unread {
+        reason: Reason,
+        offset: usize,
+    },
+    /// The component is not well formed: the first rule that it breaks, and where.
+    IllFormed(Fault),
+    /// The component is well formed, but no input gives it within the limits. A limit that it does not keep is named; else
+    /// a name is too long, or a core module is none of those that can be generated. `offset` is that of the first byte
+    /// in which the component that its script gives differs, so far as there is one.
+    NoScript {
+        limit: Option<Unkept>,
+        offset: Option<usize>,
+    },
 }
 
-// Where it was seen, in front of what was seen: `section 2.0: `.
-#[derive(Drop)]
-struct At<'p> {
-    path: &'p [usize],
+// A place as `section 2.0, entry 3`.
+fn write_place<W: fmt::Write>(f: &mut fmt::Formatter<W>, place: &Place) -> fmt::Result {
+    let mut before = "section ";
+    for index in &place.sections {
+        write!(f, "{before}{index}")?;
+        before = ".";
+    }
+    let entry = place.entry;
+    write!(f, ", entry {entry}")
 }
 
-impl<'p> fmt::Display for At<'p> {
+impl fmt::Display for ScriptError {
     fn fmt<W: fmt::Write>(&self, f: &mut fmt::Formatter<W>) -> fmt::Result {
-        let mut before = "section ";
-        for index in self.path {
-            write!(f, "{before}{index}")?;
-            before = ".";
+        match self {
+            ScriptError::OutOfMemory => f.write_str("out of memory"),
+            ScriptError::InconsistentLimits => {
+                f.write_str("the limits of the configuration do not fit together")
+            }
+            ScriptError::Unread { reason, offset } => write!(f, "{reason} at offset {offset}"),
+            ScriptError::IllFormed(fault) => {
+                let rule = fault.rule;
+                write!(f, "{rule} in ")?;
+                write_place(f, &fault.place)
+            }
+            ScriptError::NoScript { limit, offset } => {
+                f.write_str("it cannot be generated")?;
+                if let Some(limit) = limit {
+                    write!(f, ": {limit}")?;
+                }
+                match offset {
+                    Some(offset) => write!(
+                        f,
+                        "; what its script produces differs at offset {offset}"
+                    ),
+                    None => Ok(()),
+                }
+            }
         }
-        if self.path.is_empty() {
-            return Ok(());
-        }
-        write!(f, ": ")
     }
 }
 

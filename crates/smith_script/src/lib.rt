@@ -1,19 +1,21 @@
 //! The script of a component: the input on which `generate` gives it.
 #![tactic(auto, using(smith_script_core::proofs::Saying::saying))]
 
-mod around;
 mod canons;
+mod difference;
 mod error;
+mod functions;
 mod items;
 mod lifts;
-mod long_names;
+mod limits;
 mod parts;
 mod preceding;
-mod reasons;
 mod rows;
 mod scripting;
+mod types;
 
-pub use error::{Reason, ScriptError};
+pub use error::{ScriptError, Unkept};
 pub use scripting::script;
+pub use smith_check::Fault;
 pub use smith_format::Config;
-pub use smith_read::ComponentTree;
+pub use smith_read::Reason;

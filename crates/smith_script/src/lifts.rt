@@ -1,9 +1,7 @@
 //! The types of lifts.
 
-ghost use Rattle.std.specs.Prelude.{◌≡◌, ◌++◌, Some, map, slice_get, nat_eq};
-ghost use Rattle.smith_input.specs.Script.{script_among};
-ghost use Rattle.smith_syntax.specs.Places.{places};
-ghost use Rattle.smith_syntax.specs.HasSignature.{is_of_signature};
+ghost use Rattle.std.specs.Prelude.{◌≡◌, Some, map, slice_get};
+ghost use Rattle.smith_syntax.specs.Scope.{Scope};
 ghost use Rattle.smith_syntax.specs.Signature.{named};
 ghost use Rattle.smith_read_types.specs.TypeNodes.{shown_type_node};
 ghost use Rattle.smith_tree.specs.TypeScript.{script_lifted, script_params, script_result, script_scalar};
@@ -14,10 +12,9 @@ ghost use Rattle.smith_script.specs.Preceding.{spaces_in, preceding};
 
 use crate::preceding::Open;
 use smith_read::TypeNode;
-use smith_script_types::{Test, Unsaid, places_of, put_among, put_name};
+use smith_script_types::{Unsaid, put_among, put_name, put_position};
 use smith_syntax::{ComponentValType, FuncType, PrimitiveValType};
 use smith_tree::{flat_primitive, lifted};
-use std::alloc::Global;
 
 // The primitives that flatten as it does. A string does not.
 fn flat_like(ty: PrimitiveValType) -> &'static [PrimitiveValType]
@@ -67,68 +64,28 @@ fn put_signature(out: &mut Vec<u8>, signature: &FuncType) -> Result<(), Unsaid>
     put_result(out, signature.result)
 }
 
-// Is a type one of functions with that signature?
-#[derive(Drop)]
-struct OfSignature<'s> {
-    signature: &'s FuncType,
-}
-
-impl<'s, 'a> Test<&'a TypeNode> for OfSignature<'s> {
-    ghost passed = { λ s t. is_of_signature s.signature.now (shown_type_node t.now) };
-
-    fn accepts(&self, item: &&'a TypeNode) -> bool {
-        match *item {
-            TypeNode::Func(signature) => *self.signature == *signature,
-            TypeNode::Defined(_) | TypeNode::Component(_) | TypeNode::Instance(_) => false,
-        }
-    }
-}
-
-// The type of a lift: its signature, and a choice among the types that are equal to it.
-fn put_lifted_type(
-    alloc: Global,
-    out: &mut Vec<u8>,
-    types: &[&TypeNode],
-    signature: &FuncType,
-    ty: u32,
-) -> Result<(), Unsaid>
-    ensures { Says result out.old out.new (script_lifted signature.now ++ script_among nat_eq
-        (places (is_of_signature signature.now) 0 (map (λ t. shown_type_node t.now) types.now)) ty) }
-{
-    put_signature(out, signature)?;
-    let equal = places_of(alloc, &OfSignature { signature }, types)?;
-    put_among(out, &equal, &(ty as usize))
-}
-
-// What follows the choice of the core function of a lift to the type of that index, which is this one.
-fn put_lift_to(
-    alloc: Global,
-    out: &mut Vec<u8>,
-    here: &Open<'_>,
-    ty: u32,
-    entry: &TypeNode,
-) -> Result<(), Unsaid>
-    ensures { Says result out.old out.new
-        (script_lift (spaces_in (preceding here.now)) ty (Some (shown_type_node entry.now))) }
+// What follows the choice of the core function of a lift to the type of that index, which is this one: its signature,
+// and a choice among the types that are equal to it.
+fn put_lift_to(out: &mut Vec<u8>, here: &Open<'_>, ty: u32, entry: &TypeNode) -> Result<(), Unsaid>
+    ensures { (own : Scope) → Says result out.old out.new
+        (script_lift (spaces_in (preceding own here.now)) ty (Some (shown_type_node entry.now))) }
 {
     match entry {
-        TypeNode::Func(signature) => put_lifted_type(alloc, out, &here.types, signature, ty),
+        TypeNode::Func(signature) => {
+            put_signature(out, signature)?;
+            put_position(out, here.types.equals(signature), ty as usize)
+        }
         TypeNode::Defined(_) | TypeNode::Component(_) | TypeNode::Instance(_) => Ok(()),
     }
 }
 
 /// What follows the choice of the core function of a lift to the type of that index.
-pub(crate) fn put_lifted(
-    alloc: Global,
-    out: &mut Vec<u8>,
-    here: &Open<'_>,
-    ty: u32,
-) -> Result<(), Unsaid>
-    ensures { Says result out.old out.new
-        (script_lift (spaces_in (preceding here.now)) ty (slice_get (preceding here.now).types ty)) }
+pub(crate) fn put_lifted(out: &mut Vec<u8>, here: &Open<'_>, ty: u32) -> Result<(), Unsaid>
+    ensures { (own : Scope) → Says result out.old out.new (script_lift (spaces_in (preceding own here.now)) ty
+        (slice_get (preceding own here.now).types ty)) }
 {
-    match here.types.get(ty as usize) {
-        Some(entry) => put_lift_to(alloc, out, here, ty, entry),
+    match here.types.get(ty) {
+        Some(entry) => put_lift_to(out, here, ty, entry),
         None => Ok(()),
     }
 }

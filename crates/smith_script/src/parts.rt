@@ -1,26 +1,26 @@
 //! The sections of components.
 
-ghost use Rattle.std.specs.Prelude.{◌≡◌, ◌++◌, ◌∷◌, IfOk, IfErr, OnOk, map};
+ghost use Rattle.std.specs.Prelude.{◌≡◌, ◌++◌, ◌∷◌, ◌-◌, IfOk, IfErr, OnOk, map};
 ghost use Rattle.smith_input.specs.Script.{script_bytes, script_text};
 ghost use Rattle.smith_core.specs.StandInScript.{script_stand_in, stand_in_of};
-ghost use Rattle.smith_tree.specs.Script.{script};
+ghost use Rattle.smith_syntax.specs.Scope.{Scope, empty_scope};
 ghost use Rattle.smith_tree.specs.Tree.{component, tree_of};
+ghost use Rattle.smith_tree.specs.WellFormed.{WellFormed};
+ghost use Rattle.smith_tree.specs.Script.{script};
 ghost use Rattle.smith_read.specs.PartNodes.{shown_part_node, shown_tree};
+ghost use Rattle.smith_read_scopes.specs.Scopes.{outer_in, own_in};
 ghost use Rattle.smith_script_core.specs.Says.{Says};
 ghost use Rattle.smith_script_core.specs.declared.error.Unsaid.TheVariants.{OutOfMemory};
-ghost use Rattle.smith_script_types.specs.Scopes.{shown_scope};
-ghost use Rattle.smith_script.specs.Saying.{outer_in, part_says, tree_says};
+ghost use Rattle.smith_script.specs.Saying.{part_says, tree_says};
 ghost use Rattle.smith_script.specs.Preceding.{after_module, after_part, after_tree, empty_in, opened, preceding};
 
-use crate::around::{Around, scopes_around};
-use crate::items::{put_finish, put_item};
+use crate::items::{item_of, put_item};
 use crate::preceding::{Open, one_more};
 use crate::rows::put_rows;
-use smith_format::Config;
 use smith_read::{ComponentTree, PartNode};
-use smith_script_types::{Scope, Unsaid, put_contents, put_stand_in, put_text};
-use smith_tree::RefTotals;
-use std::alloc::Global;
+use smith_read_scopes::Scopes;
+use smith_script_types::{Given, Unsaid, put_contents, put_stand_in, put_text};
+use smith_tree::{Item, RefTotals};
 
 // The totals where a component is opened.
 fn opened(totals: RefTotals) -> Result<RefTotals, Unsaid>
@@ -43,56 +43,59 @@ fn put_custom(out: &mut Vec<u8>, name: &str, contents: &[u8]) -> Result<(), Unsa
     put_contents(out, contents)
 }
 
-// A core module, which is added to what stands there.
+// A core module, which is added to what is before the next section.
 fn put_module(
-    around: Around<'_>,
+    given: Given<'_>,
     out: &mut Vec<u8>,
     here: &mut Open<'_>,
     text: &[u8],
 ) -> Result<(), Unsaid>
-    ensures said { Says result out.old out.new (script_stand_in around.entry.config.now (stand_in_of text.now)) }
-    ensures added { OnOk result (preceding here.new ≡ after_module (preceding here.old)) }
+    ensures said { Says result out.old out.new (script_stand_in given.entry.config.now (stand_in_of text.now)) }
+    ensures added { (own : Scope) → OnOk result (preceding own here.new ≡ after_module (preceding own here.old)) }
 {
-    put_stand_in(around.alloc, out, around.config, text)?;
+    put_stand_in(given.alloc, out, given.config, text)?;
     here.add_module()
 }
 
-// What follows the choice of the item of a part, which is added to what stands there.
+// What follows the choice of the item of a part, which is added to what is before the next.
 #[cycle(parts)]
 fn put_part<'a>(
-    around: Around<'_>,
+    given: Given<'_>,
     out: &mut Vec<u8>,
+    scopes: &mut Scopes<'a>,
     here: &mut Open<'a>,
     part: &'a PartNode,
 ) -> Result<(), Unsaid>
-    ensures said { Says result out.old out.new
-        (part_says (shown_part_node part.now) around.entry.config.now (outer_in around.entry) (preceding here.old)) }
-    ensures added { OnOk result (preceding here.new ≡ after_part (shown_part_node part.now) (preceding here.old)) }
+    ensures said { Says result out.old out.new (part_says (shown_part_node part.now) given.entry.config.now
+        (outer_in scopes.old) (preceding (own_in scopes.old) here.old)) }
+    ensures added { OnOk result (preceding (own_in scopes.new) here.new
+        ≡ after_part (shown_part_node part.now) (preceding (own_in scopes.old) here.old)) }
+    ensures outer { OnOk result (outer_in scopes.new ≡ outer_in scopes.old) }
 {
-    let config = around.config;
+    let config = given.config;
     match part {
         PartNode::Custom { name, contents } => put_custom(out, name, contents),
-        PartNode::CoreModule(text) => put_module(around, out, here, text),
+        PartNode::CoreModule(text) => put_module(given, out, here, text),
         PartNode::CoreTypes(types) => {
-            let most = config.max_types.saturating_sub(here.scope.core_types.len());
-            put_rows(around, out, here, most, types)
+            let most = config.max_types.saturating_sub(scopes.own.core_types_len());
+            put_rows(given, out, scopes, here, most, types)
         }
-        PartNode::Component(parts) => put_component(around, out, here, parts),
+        PartNode::Component(parts) => put_component(given, out, scopes, here, parts),
         PartNode::Types(types) => {
-            let most = config.max_types.saturating_sub(here.types.len());
-            put_rows(around, out, here, most, types)
+            let most = config.max_types.saturating_sub(scopes.own.types_len());
+            put_rows(given, out, scopes, here, most, types)
         }
         PartNode::Canons(canons) => {
             let most = config.max_funcs.saturating_sub(here.totals.funcs);
-            put_rows(around, out, here, most, canons)
+            put_rows(given, out, scopes, here, most, canons)
         }
         PartNode::Imports(imports) => {
             let most = config.max_imports.saturating_sub(here.imports);
-            put_rows(around, out, here, most, imports)
+            put_rows(given, out, scopes, here, most, imports)
         }
         PartNode::Exports(exports) => {
             let most = config.max_exports.saturating_sub(here.exports);
-            put_rows(around, out, here, most, exports)
+            put_rows(given, out, scopes, here, most, exports)
         }
     }
 }
@@ -100,17 +103,23 @@ fn put_part<'a>(
 // A component in the open one, with a scope of its own.
 #[cycle(parts)]
 fn put_component<'a>(
-    around: Around<'_>,
+    given: Given<'_>,
     out: &mut Vec<u8>,
+    scopes: &mut Scopes<'a>,
     here: &mut Open<'a>,
     parts: &'a [PartNode],
 ) -> Result<(), Unsaid>
     ensures said { Says result out.old out.new (part_says (component (tree_of (map shown_part_node parts.now)))
-        around.entry.config.now (outer_in around.entry) (preceding here.old)) }
-    ensures added { OnOk result (preceding here.new
-        ≡ after_part (component (tree_of (map shown_part_node parts.now))) (preceding here.old)) }
+        given.entry.config.now (outer_in scopes.old) (preceding (own_in scopes.old) here.old)) }
+    ensures added { OnOk result (preceding (own_in scopes.new) here.new
+        ≡ after_part (component (tree_of (map shown_part_node parts.now)))
+        (preceding (own_in scopes.old) here.old)) }
+    ensures outer { OnOk result (outer_in scopes.new ≡ outer_in scopes.old) }
 {
-    let inner = put_inside(around, out, &here.scope, opened(here.totals)?, parts)?;
+    let totals = opened(here.totals)?;
+    scopes.enter(given.alloc)?;
+    let inner = put_parts(given, out, scopes, totals, parts)?;
+    scopes.leave();
     here.totals = RefTotals {
         funcs: here.totals.funcs,
         ..inner
@@ -118,59 +127,39 @@ fn put_component<'a>(
     Ok(())
 }
 
-// What stands in a component that is opened in this scope with these totals. The answer are those where it is closed.
+// The sections of a component that is opened with these totals, in an empty scope. The answer are those where it ends.
 #[cycle(parts)]
-fn put_inside(
-    around: Around<'_>,
+fn put_parts<'a>(
+    given: Given<'_>,
     out: &mut Vec<u8>,
-    own: &Scope,
+    scopes: &mut Scopes<'a>,
     totals: RefTotals,
-    parts: &[PartNode],
+    parts: &'a [PartNode],
 ) -> Result<RefTotals, Unsaid>
+    requires { own_in scopes.old ≡ empty_scope }
     ensures said { Says result out.old out.new (tree_says (tree_of (map shown_part_node parts.now))
-        around.entry.config.now (shown_scope own.now ∷ outer_in around.entry) (empty_in totals)) }
+        given.entry.config.now (outer_in scopes.old) (empty_in totals)) }
     ensures totals { IfOk result
         (λ t. t ≡ (after_tree (tree_of (map shown_part_node parts.now)) (empty_in totals)).totals) }
+    ensures outer { OnOk result (outer_in scopes.new ≡ outer_in scopes.old) }
 {
-    let scopes = scopes_around(around.alloc, own, around.outer)?;
-    let inside = Around {
-        alloc: around.alloc,
-        config: around.config,
-        outer: &scopes,
-    };
-    let mut here = Open::new(around.alloc, totals);
-    put_parts(inside, out, &mut here, parts)?;
+    let mut here = Open::new(given.alloc, totals);
+    let depth = scopes.outer.len();
+    for part in parts {
+        put_item(out, given, depth, &here, item_of(part))?;
+        put_part(given, out, scopes, &mut here, part)?;
+    }
+    put_item(out, given, depth, &here, Item::Finish)?;
     Ok(here.totals)
 }
 
-// The rest of an open component.
-#[cycle(parts)]
-fn put_parts<'a>(
-    around: Around<'_>,
-    out: &mut Vec<u8>,
-    here: &mut Open<'a>,
-    parts: &'a [PartNode],
-) -> Result<(), Unsaid>
-    ensures said { Says result out.old out.new (tree_says (tree_of (map shown_part_node parts.now))
-        around.entry.config.now (outer_in around.entry) (preceding here.old)) }
-    ensures added { OnOk result (preceding here.new
-        ≡ after_tree (tree_of (map shown_part_node parts.now)) (preceding here.old)) }
-{
-    for part in parts {
-        put_item(around, out, here, part)?;
-        put_part(around, out, here, part)?;
-    }
-    put_finish(around, out, here)
-}
-
-/// The script of a component.
+/// The script of a component, as it is defined of one that is well formed.
 pub(crate) fn put_tree(
-    alloc: Global,
     out: &mut Vec<u8>,
-    config: &Config,
+    given: Given<'_>,
     tree: &ComponentTree,
 ) -> Result<(), Unsaid>
-    ensures { Says result out.old out.new (script config.now (shown_tree tree.now)) }
+    ensures { WellFormed (shown_tree tree.now) → Says result out.old out.new (script given.entry.config.now (shown_tree tree.now)) }
 {
     let totals = RefTotals {
         modules: 0,
@@ -178,11 +167,7 @@ pub(crate) fn put_tree(
         components: 0,
         instances: 0,
     };
-    let around = Around {
-        alloc,
-        config,
-        outer: &[],
-    };
-    let mut here = Open::new(alloc, totals);
-    put_parts(around, out, &mut here, &tree.parts)
+    let mut scopes = Scopes::new(given.alloc);
+    put_parts(given, out, &mut scopes, totals, &tree.parts)?;
+    Ok(())
 }

@@ -1,29 +1,31 @@
-//! What stands in an open component.
+//! What there is before a place in an open component.
 
-ghost use Rattle.std.specs.Prelude.{◌≡◌, ◌+◌, ◌++◌, slice_get, IfOk, IfErr, OnOk};
+ghost use Rattle.std.specs.Prelude.{◌≡◌, ◌+◌, ◌∷◌, [], map, IfOk, IfErr, OnOk};
 ghost use Rattle.std.specs.Option.{option_to_list};
-ghost use Rattle.smith_read_types.specs.Nodes.{shown_core_node};
 ghost use Rattle.smith_read_types.specs.TypeNodes.{shown_type_node};
 ghost use Rattle.smith_read.specs.PartNodes.{shown_export_node, shown_import_node};
-ghost use Rattle.smith_tree.specs.Tree.{lift, lower};
+ghost use Rattle.smith_syntax.specs.Scope.{Scope, empty_scope, with_type};
+ghost use Rattle.smith_tree.specs.Offers.{is_scalar_entry, is_scalar_type};
+ghost use Rattle.smith_tree.specs.Tree.{function_of, lift, lower};
 ghost use Rattle.smith_script_core.specs.declared.error.Unsaid.TheVariants.{OutOfMemory};
-ghost use Rattle.smith_script.specs.Preceding.{after_canon, after_core_type, after_export, after_import, after_module};
-ghost use Rattle.smith_script.specs.Preceding.{after_type, empty_in, preceding, with_import};
+ghost use Rattle.smith_script.specs.Preceding.{after_canon, after_export, after_import, after_module};
+ghost use Rattle.smith_script.specs.Preceding.{after_type, empty_in, preceding, with_functions, with_import};
 
-use smith_read::{CoreNode, ExportNode, ImportNode, TypeNode};
-use smith_script_types::{Scope, Unsaid, core_sort_of, sort_of};
+use crate::functions::Functions;
+use crate::types::Types;
+use smith_read::{ExportNode, ImportNode, TypeNode};
+use smith_script_types::Unsaid;
 use smith_syntax::ComponentTypeRef;
 use smith_tree::RefTotals;
 use std::alloc::Global;
 
-/// What stands in an open component: the sorts of its types and core types, its types, its component functions by the
-/// indexes of their types, its core functions by what they lower, how many imports and exports it has, and how many
-/// functions; and how many modules, components and instances the whole tree has.
+/// What there is before a place in an open component beside its scope: its types, its component functions, its core
+/// functions by what they lower, how many imports and exports it has, and how many functions; and how many modules,
+/// components and instances the whole tree has.
 #[derive(Drop)]
 pub(crate) struct Open<'a> {
-    pub(crate) scope: Scope,
-    pub(crate) types: Vec<&'a TypeNode>,
-    pub(crate) functions: Vec<u32>,
+    pub(crate) types: Types<'a>,
+    pub(crate) functions: Functions,
     pub(crate) core_functions: Vec<u32>,
     pub(crate) imports: usize,
     pub(crate) exports: usize,
@@ -73,33 +75,46 @@ fn with_import(totals: RefTotals, to: ComponentTypeRef) -> Result<RefTotals, Uns
     }
 }
 
-// The type of the component function with that index.
-fn type_at(functions: &[u32], func: u32) -> Option<u32>
-    ensures { result ≡ slice_get functions.now func }
+// The type of the function that an import adds.
+fn function_of(to: ComponentTypeRef) -> Option<u32>
+    ensures { option_to_list result ≡ function_of to }
 {
-    functions.get(func as usize).copied()
+    match to {
+        ComponentTypeRef::Func(ty) => Some(ty),
+        _ => None,
+    }
 }
 
-// One component function more, of that type, if there is one.
-fn push_type(functions: &mut Vec<u32>, ty: Option<u32>) -> Result<(), Unsaid>
-    ensures added { OnOk result (functions.new.items ≡ functions.old.items ++ option_to_list ty) }
-    ensures memory { IfErr result (λ e. e ≡ OutOfMemory) }
+// Is it a function type that flattens?
+fn is_scalar(ty: &TypeNode) -> bool
+    ensures { result ≡ is_scalar_entry (shown_type_node ty.now) }
 {
-    if let Some(ty) = ty {
-        functions.push(ty)?;
+    match ty {
+        TypeNode::Func(signature) => signature.is_scalar(),
+        TypeNode::Defined(_) | TypeNode::Component(_) | TypeNode::Instance(_) => false,
     }
-    Ok(())
+}
+
+impl<'a> Types<'a> {
+    // Is the type of that index a function type that flattens?
+    fn is_scalar(&self, ty: u32) -> bool
+        ensures { result ≡ is_scalar_type (map shown_type_node self.now) ty }
+    {
+        match self.get(ty) {
+            Some(ty) => is_scalar(ty),
+            None => false,
+        }
+    }
 }
 
 impl<'a> Open<'a> {
     /// An empty component.
     pub(crate) fn new(alloc: Global, totals: RefTotals) -> Open<'a>
-        ensures { preceding result ≡ empty_in totals }
+        ensures { preceding empty_scope result ≡ empty_in totals }
     {
         Open {
-            scope: Scope::new(alloc),
-            types: Vec::new(alloc),
-            functions: Vec::new(alloc),
+            types: Types::new(alloc),
+            functions: Functions::new(alloc),
             core_functions: Vec::new(alloc),
             imports: 0,
             exports: 0,
@@ -107,42 +122,59 @@ impl<'a> Open<'a> {
         }
     }
 
+    // One component function more, of the type with that index.
+    fn add_function(&mut self, ty: u32) -> Result<(), Unsaid>
+        ensures added { (own : Scope) → OnOk result
+            (preceding own self.new ≡ with_functions (preceding own self.old) (ty ∷ [])) }
+        ensures memory { IfErr result (λ e. e ≡ OutOfMemory) }
+    {
+        let is_scalar = self.types.is_scalar(ty);
+        self.functions.push(ty, is_scalar)?;
+        Ok(())
+    }
+
+    // The same if there is a type.
+    fn add_function_of(&mut self, ty: Option<u32>) -> Result<(), Unsaid>
+        ensures added { (own : Scope) → OnOk result
+            (preceding own self.new ≡ with_functions (preceding own self.old) (option_to_list ty)) }
+        ensures memory { IfErr result (λ e. e ≡ OutOfMemory) }
+    {
+        match ty {
+            Some(ty) => self.add_function(ty),
+            None => Ok(()),
+        }
+    }
+
     pub(crate) fn add_module(&mut self) -> Result<(), Unsaid>
-        ensures added { OnOk result (preceding self.new ≡ after_module (preceding self.old)) }
+        ensures added { (own : Scope) → OnOk result (preceding own self.new ≡ after_module (preceding own self.old)) }
         ensures memory { IfErr result (λ e. e ≡ OutOfMemory) }
     {
         self.totals.modules = one_more(self.totals.modules)?;
         Ok(())
     }
 
-    pub(crate) fn add_core_type(&mut self, ty: &CoreNode) -> Result<(), Unsaid>
-        ensures added { OnOk result (preceding self.new ≡ after_core_type (preceding self.old) (shown_core_node ty.now)) }
-        ensures memory { IfErr result (λ e. e ≡ OutOfMemory) }
-    {
-        self.scope.core_types.push(core_sort_of(ty))?;
-        Ok(())
-    }
-
     pub(crate) fn add_type(&mut self, ty: &'a TypeNode) -> Result<(), Unsaid>
-        ensures added { OnOk result (preceding self.new ≡ after_type (preceding self.old) (shown_type_node ty.now)) }
+        ensures added { (own : Scope) → OnOk result (preceding (with_type own (shown_type_node ty.now)) self.new
+            ≡ after_type (preceding own self.old) (shown_type_node ty.now)) }
         ensures memory { IfErr result (λ e. e ≡ OutOfMemory) }
     {
-        self.scope.types.push(sort_of(ty))?;
         self.types.push(ty)?;
         Ok(())
     }
 
     pub(crate) fn add_lift(&mut self, core_func: u32, ty: u32) -> Result<(), Unsaid>
-        ensures added { OnOk result (preceding self.new ≡ after_canon (preceding self.old) (lift core_func ty)) }
+        ensures added { (own : Scope) → OnOk result
+            (preceding own self.new ≡ after_canon (preceding own self.old) (lift core_func ty)) }
         ensures memory { IfErr result (λ e. e ≡ OutOfMemory) }
     {
-        self.functions.push(ty)?;
+        self.add_function(ty)?;
         self.totals.funcs = one_more(self.totals.funcs)?;
         Ok(())
     }
 
     pub(crate) fn add_lower(&mut self, func: u32) -> Result<(), Unsaid>
-        ensures added { OnOk result (preceding self.new ≡ after_canon (preceding self.old) (lower func)) }
+        ensures added { (own : Scope) → OnOk result
+            (preceding own self.new ≡ after_canon (preceding own self.old) (lower func)) }
         ensures memory { IfErr result (λ e. e ≡ OutOfMemory) }
     {
         self.core_functions.push(func)?;
@@ -151,25 +183,23 @@ impl<'a> Open<'a> {
     }
 
     pub(crate) fn add_import(&mut self, import: &ImportNode) -> Result<(), Unsaid>
-        ensures added { OnOk result
-            (preceding self.new ≡ after_import (preceding self.old) (shown_import_node import.now)) }
+        ensures added { (own : Scope) → OnOk result
+            (preceding own self.new ≡ after_import (preceding own self.old) (shown_import_node import.now)) }
         ensures memory { IfErr result (λ e. e ≡ OutOfMemory) }
     {
-        if let ComponentTypeRef::Func(ty) = import.to {
-            self.functions.push(ty)?;
-        }
+        self.add_function_of(function_of(import.to))?;
         self.imports = one_more(self.imports)?;
         self.totals = with_import(self.totals, import.to)?;
         Ok(())
     }
 
     pub(crate) fn add_export(&mut self, export: &ExportNode) -> Result<(), Unsaid>
-        ensures added { OnOk result
-            (preceding self.new ≡ after_export (preceding self.old) (shown_export_node export.now)) }
+        ensures added { (own : Scope) → OnOk result
+            (preceding own self.new ≡ after_export (preceding own self.old) (shown_export_node export.now)) }
         ensures memory { IfErr result (λ e. e ≡ OutOfMemory) }
     {
-        let ty = type_at(&self.functions, export.func);
-        push_type(&mut self.functions, ty)?;
+        let ty = self.functions.type_of(export.func);
+        self.add_function_of(ty)?;
         self.exports = one_more(self.exports)?;
         Ok(())
     }

@@ -3,24 +3,25 @@
 ghost use Rattle.std.specs.Prelude.{◌≡◌, ℕ, List, fold, map, OnOk};
 ghost use Rattle.smith_format.specs.declared.config.Config.{Config};
 ghost use Rattle.smith_syntax.specs.Entries.{CoreEntry, Entry, ImportEntry};
-ghost use Rattle.smith_syntax.specs.Scope.{Scope as PlainScope};
+ghost use Rattle.smith_syntax.specs.Scope.{Scope};
 ghost use Rattle.smith_read_types.specs.Nodes.{shown_core_node};
 ghost use Rattle.smith_read_types.specs.TypeNodes.{shown_type_node};
 ghost use Rattle.smith_read.specs.PartNodes.{shown_canon_node, shown_export_node, shown_import_node};
+ghost use Rattle.smith_read_scopes.specs.Scopes.{outer_in, own_in};
 ghost use Rattle.smith_tree.specs.Tree.{Canon, ExportEntry};
 ghost use Rattle.smith_script_core.specs.Says.{Says};
-ghost use Rattle.smith_script.specs.Saying.{canon_says, core_type_says, export_says, import_says, outer_in, rows_say};
+ghost use Rattle.smith_script.specs.Saying.{canon_row_says, core_type_says, export_says, import_says, rows_say};
 ghost use Rattle.smith_script.specs.Saying.{type_says};
 ghost use Rattle.smith_script.specs.Preceding.{Preceding, after_canon, after_core_type, after_export, after_import};
 ghost use Rattle.smith_script.specs.Preceding.{after_type, preceding};
 
-use crate::around::Around;
 use crate::canons::put_canon;
 use crate::preceding::Open;
 use smith_read::{CanonNode, CoreNode, ExportNode, ImportNode, TypeNode};
+use smith_read_scopes::Scopes;
 use smith_script_types::{
-    Place, Unsaid, put_choice, put_core, put_end, put_extern, put_more, put_name, put_reference,
-    put_type,
+    Given, Purpose, Unsaid, put_choice, put_core, put_end, put_extern, put_more, put_name,
+    put_reference, put_type,
 };
 
 /// An entry of a section.
@@ -29,39 +30,45 @@ pub(crate) trait Row {
 
     ghost shown: { Self → Shown };
 
-    ghost says: { Config → List PlainScope → Preceding → Shown → List ℕ };
+    ghost says: { Config → List Scope → Preceding → Shown → List ℕ };
 
     ghost after: { Preceding → Shown → Preceding };
 
-    /// Puts the script of the entry, and adds it to what stands there.
+    /// Puts the script of the entry, and adds it to what is before the next.
     fn put<'a>(
         &'a self,
-        around: Around<'_>,
+        given: Given<'_>,
         out: &mut Vec<u8>,
+        scopes: &mut Scopes<'a>,
         here: &mut Open<'a>,
     ) -> Result<(), Unsaid>
         ensures said { Says result out.old out.new
-            (says around.entry.config.now (outer_in around.entry) (preceding here.old) (shown self.now)) }
-        ensures added { OnOk result (preceding here.new ≡ after (preceding here.old) (shown self.now)) };
+            (says given.entry.config.now (outer_in scopes.old) (preceding (own_in scopes.old) here.old) (shown self.now)) }
+        ensures added { OnOk result (preceding (own_in scopes.new) here.new
+            ≡ after (preceding (own_in scopes.old) here.old) (shown self.now)) }
+        ensures outer { OnOk result (outer_in scopes.new ≡ outer_in scopes.old) };
 }
 
 /// A section with these entries, of which there are at most so many.
 pub(crate) fn put_rows<'a, T: Row>(
-    around: Around<'_>,
+    given: Given<'_>,
     out: &mut Vec<u8>,
+    scopes: &mut Scopes<'a>,
     here: &mut Open<'a>,
     max: usize,
     rows: &'a [T],
 ) -> Result<(), Unsaid>
     ensures said { Says result out.old out.new (rows_say
-        (T.says around.entry.config.now (outer_in around.entry)) T.after max (preceding here.old)
+        (T.says given.entry.config.now (outer_in scopes.old)) T.after max (preceding (own_in scopes.old) here.old)
         (map T.shown rows.now)) }
-    ensures added { OnOk result (preceding here.new ≡ fold T.after (preceding here.old) (map T.shown rows.now)) }
+    ensures added { OnOk result (preceding (own_in scopes.new) here.new
+        ≡ fold T.after (preceding (own_in scopes.old) here.old) (map T.shown rows.now)) }
+    ensures outer { OnOk result (outer_in scopes.new ≡ outer_in scopes.old) }
 {
     let mut done = 0;
     for row in rows {
         put_more(out, 0, done)?;
-        row.put(around, out, here)?;
+        row.put(given, out, scopes, here)?;
         done += 1;
     }
     put_end(out, done, max)
@@ -78,17 +85,14 @@ impl Row for CoreNode {
 
     fn put<'a>(
         &'a self,
-        around: Around<'_>,
+        given: Given<'_>,
         out: &mut Vec<u8>,
-        here: &mut Open<'a>,
+        scopes: &mut Scopes<'a>,
+        _here: &mut Open<'a>,
     ) -> Result<(), Unsaid> {
-        put_core(
-            out,
-            around.place(&here.scope),
-            around.config.max_type_size,
-            self,
-        )?;
-        here.add_core_type(self)
+        put_core(out, given.place(scopes), given.config.max_type_size, self)?;
+        scopes.add_core_type(self)?;
+        Ok(())
     }
 }
 
@@ -103,16 +107,13 @@ impl Row for TypeNode {
 
     fn put<'a>(
         &'a self,
-        around: Around<'_>,
+        given: Given<'_>,
         out: &mut Vec<u8>,
+        scopes: &mut Scopes<'a>,
         here: &mut Open<'a>,
     ) -> Result<(), Unsaid> {
-        put_type(
-            out,
-            around.place(&here.scope),
-            around.config.max_type_size,
-            self,
-        )?;
+        put_type(out, given, scopes, given.config.max_type_size, self)?;
+        scopes.add_type(self)?;
         here.add_type(self)
     }
 }
@@ -122,17 +123,18 @@ impl Row for CanonNode {
 
     ghost shown = { shown_canon_node };
 
-    ghost says = { canon_says };
+    ghost says = { canon_row_says };
 
     ghost after = { after_canon };
 
     fn put<'a>(
         &'a self,
-        around: Around<'_>,
+        given: Given<'_>,
         out: &mut Vec<u8>,
+        _scopes: &mut Scopes<'a>,
         here: &mut Open<'a>,
     ) -> Result<(), Unsaid> {
-        put_canon(around.alloc, out, here, self)?;
+        put_canon(given.alloc, out, here, self)?;
         match *self {
             CanonNode::Lift { core_func, ty } => here.add_lift(core_func, ty),
             CanonNode::Lower { func } => here.add_lower(func),
@@ -151,18 +153,17 @@ impl Row for ImportNode {
 
     fn put<'a>(
         &'a self,
-        around: Around<'_>,
+        given: Given<'_>,
         out: &mut Vec<u8>,
+        scopes: &mut Scopes<'a>,
         here: &mut Open<'a>,
     ) -> Result<(), Unsaid> {
-        put_reference(
-            out,
-            around.place(&here.scope),
-            here.totals,
-            true,
-            false,
-            self.to,
-        )?;
+        let purpose = Purpose {
+            totals: here.totals,
+            for_import: true,
+            for_type_def: false,
+        };
+        put_reference(out, given.place(scopes), purpose, self.to)?;
         put_extern(out, here.imports, &self.name)?;
         here.add_import(self)
     }
@@ -179,8 +180,9 @@ impl Row for ExportNode {
 
     fn put<'a>(
         &'a self,
-        _around: Around<'_>,
+        _given: Given<'_>,
         out: &mut Vec<u8>,
+        _scopes: &mut Scopes<'a>,
         here: &mut Open<'a>,
     ) -> Result<(), Unsaid> {
         put_choice(out, here.functions.len(), self.func as usize)?;

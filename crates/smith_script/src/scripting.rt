@@ -1,107 +1,172 @@
 //! The script of a component.
 
-ghost use Rattle.std.specs.Prelude.{◌≡◌, ◌↔◌, ℕ, List, true, false, IfOk, IfErr};
+ghost use Rattle.std.specs.Prelude.{◌≡◌, ◌↔◌, ℕ, List, IfOk, IfErr};
 ghost use Rattle.smith_format.specs.Consistency.{IsConsistent};
 ghost use Rattle.smith_input.specs.Script.{AreBytes};
 ghost use Rattle.smith_tree.specs.Grammar.{Spells};
-ghost use Rattle.smith_tree.specs.Script.{Within, script};
+ghost use Rattle.smith_tree.specs.Script.{Within};
 ghost use Rattle.smith_tree.specs.Tree.{Tree};
+ghost use Rattle.smith_tree.specs.WellFormed.{WellFormed};
 ghost use Rattle.smith_read.specs.PartNodes.{shown_tree};
-ghost use Rattle.smith_script_core.specs.Says.{IsUnsaid};
 ghost use Rattle.smith_script.specs.IsScript.{CannotBeGenerated, IsGiven, IsScript};
 ghost use Rattle.smith_script.specs.declared.error.ScriptError.TheVariants.{InconsistentLimits, OutOfMemory};
+ghost use Rattle.smith_script.specs.declared.scripting.Trial.TheVariants as trial;
 
+use crate::difference::common_length;
 use crate::error::ScriptError;
+use crate::limits::unkept;
 use crate::parts::put_tree;
-use crate::reasons::no_script;
+use smith_check::{Judgement, judged};
 use smith_component::generate;
 use smith_format::Config;
 use smith_input::{Error, Unstructured};
-use smith_read::ComponentTree;
-use smith_script_types::Unsaid;
-use smith_write::{WriteError, write};
+use smith_read::{ComponentTree, ReadError, read};
+use smith_script_types::{Given, Unsaid};
 use std::alloc::Global;
 
-// The script of a component as it is defined, whatever it gives.
-fn written_script(alloc: Global, config: &Config, tree: &ComponentTree) -> Result<Vec<u8>, Unsaid>
-    ensures written { IfOk result (λ b. b.items ≡ script config.now (shown_tree tree.now)) }
-    ensures refuses { IfErr result (λ e. IsUnsaid e (script config.now (shown_tree tree.now))) }
-{
-    let mut input = Vec::new(alloc);
-    put_tree(alloc, &mut input, config, tree)?;
-    Ok(input)
+// What an input gives, where these bytes are expected.
+#[derive(Clone, Copy)]
+enum Trial {
+    // These bytes, and nothing of the input is left.
+    These,
+    // Others, or something is left. Both begin with so many bytes.
+    Others(usize),
+    // No component.
+    Nothing,
 }
 
-// Want of memory aside, a refusal says that an input does not give a component.
-fn refused(error: Error) -> Result<bool, ScriptError>
-    ensures not_given { IfOk result (λ is. (is ≡ false) × ¬ (error ≡ Error.OutOfMemory)) }
+// Out of memory aside, a refusal says that an input gives no component.
+fn refused(error: Error) -> Result<Trial, ScriptError>
+    ensures not_given { IfOk result (λ t. (t ≡ trial.Nothing) × ¬ (error ≡ Error.OutOfMemory)) }
     ensures memory { IfErr result (λ e. e ≡ OutOfMemory) }
 {
     match error {
         Error::OutOfMemory => Err(ScriptError::OutOfMemory),
-        _ => Ok(false),
+        _ => Ok(Trial::Nothing),
     }
 }
 
 // Does the input give a component of these bytes, and is nothing left?
-fn gives(alloc: Global, config: &Config, input: &[u8], bytes: &[u8]) -> Result<bool, ScriptError>
+fn tried(alloc: Global, config: &Config, input: &[u8], bytes: &[u8]) -> Result<Trial, ScriptError>
     ensures answered { IfOk result
-        (λ is. is ≡ true → (t : Tree) → Spells t bytes.now → IsGiven config.now t input.now) }
+        (λ x. x ≡ trial.These → (t : Tree) → Spells t bytes.now → IsGiven config.now t input.now) }
     ensures refuses { IfOk result
-        (λ is. is ≡ false → (t : Tree) → Spells t bytes.now → ¬ IsGiven config.now t input.now) }
+        (λ x. ¬ (x ≡ trial.These) → (t : Tree) → Spells t bytes.now → ¬ IsGiven config.now t input.now) }
     ensures bytes { AreBytes input.now }
     ensures memory { IfErr result (λ e. e ≡ OutOfMemory) }
 {
     let mut left = Unstructured::new(input);
     match generate(alloc, *config, &mut left) {
-        Ok(generated) => Ok(left.is_empty() && generated.bytes.as_slice() == bytes),
+        Ok(generated) => {
+            if left.is_empty() && generated.bytes.as_slice() == bytes {
+                return Ok(Trial::These);
+            }
+            Ok(Trial::Others(common_length(&generated.bytes, bytes)))
+        }
         Err(error) => refused(error),
     }
 }
 
-// The script of a component, written as it is defined, and tried.
-fn tried(alloc: Global, config: &Config, tree: &ComponentTree) -> Result<Vec<u8>, ScriptError>
+// That no input gives the component, where its script was tried, or as much of it as there is.
+fn no_script(
+    config: &Config,
+    tree: &ComponentTree,
+    tried: Result<Trial, ScriptError>,
+) -> ScriptError
+    ensures { ¬ (result ≡ InconsistentLimits) }
+{
+    let offset = match tried {
+        Ok(Trial::Others(common)) => Some(common),
+        _ => None,
+    };
+    ScriptError::NoScript {
+        limit: unkept(config, tree),
+        offset,
+    }
+}
+
+// The script of a component that is well formed: written as it is defined, and tried.
+fn written(
+    alloc: Global,
+    config: &Config,
+    bytes: &[u8],
+    tree: &ComponentTree,
+) -> Result<Vec<u8>, ScriptError>
+    requires consistent { IsConsistent config.now }
+    requires spelled { Spells (shown_tree tree.now) bytes.now }
+    requires formed { WellFormed (shown_tree tree.now) }
     ensures answered { IfOk result (λ b. IsScript config.now (shown_tree tree.now) b.items) }
     ensures refuses { IfErr result
         (λ e. ¬ (e ≡ OutOfMemory) → (b : List ℕ) → ¬ IsScript config.now (shown_tree tree.now) b) }
+    ensures limits { IfErr result (λ e. ¬ (e ≡ InconsistentLimits)) }
+{
+    let mut input = Vec::new(alloc);
+    match put_tree(&mut input, Given { alloc, config }, tree) {
+        Ok(_) => {}
+        Err(Unsaid::OutOfMemory) => return Err(ScriptError::OutOfMemory),
+        Err(Unsaid::NoBytes) => {
+            let part = tried(alloc, config, &input, bytes);
+            return Err(no_script(config, tree, part));
+        }
+    }
+    match tried(alloc, config, &input, bytes)? {
+        Trial::These => Ok(input),
+        other => Err(no_script(config, tree, Ok(other))),
+    }
+}
+
+// The script of the component that these bytes are, where the limits fit together: read, judged, written and tried.
+fn consistent_script(alloc: Global, config: &Config, bytes: &[u8]) -> Result<Vec<u8>, ScriptError>
+    requires { IsConsistent config.now }
+    ensures answered { IfOk result (λ b. (t : Tree) × Spells t bytes.now × IsScript config.now t b.items) }
+    ensures refuses { IfErr result (λ e. ¬ (e ≡ OutOfMemory)
+        → (t : Tree) → Spells t bytes.now → (b : List ℕ) → ¬ IsScript config.now t b) }
+    ensures limits { IfErr result (λ e. ¬ (e ≡ InconsistentLimits)) }
+{
+    let tree = match read(alloc, bytes) {
+        Ok(tree) => tree,
+        Err(ReadError::OutOfMemory) => return Err(ScriptError::OutOfMemory),
+        Err(ReadError::Malformed { offset, reason }) => {
+            return Err(ScriptError::Unread { reason, offset });
+        }
+    };
+    match judged(alloc, &tree)? {
+        Judgement::WellFormed => written(alloc, config, bytes, &tree),
+        Judgement::IllFormed(fault) => Err(ScriptError::IllFormed(fault)),
+    }
+}
+
+// The same, whatever the limits.
+fn scripted(alloc: Global, config: &Config, bytes: &[u8]) -> Result<Vec<u8>, ScriptError>
+    ensures answered { IfOk result (λ b. (t : Tree) × Spells t bytes.now × IsScript config.now t b.items) }
+    ensures refuses { IfErr result (λ e. ¬ (e ≡ OutOfMemory)
+        → (t : Tree) → Spells t bytes.now → (b : List ℕ) → ¬ IsScript config.now t b) }
     ensures limits { IfErr result (λ e. (e ≡ InconsistentLimits) ↔ (¬ IsConsistent config.now)) }
 {
     if config.check().is_err() {
         return Err(ScriptError::InconsistentLimits);
     }
-    let input = match written_script(alloc, config, tree) {
-        Ok(input) => input,
-        Err(Unsaid::OutOfMemory) => return Err(ScriptError::OutOfMemory),
-        Err(Unsaid::NoBytes) => return Err(no_script(alloc, config, tree)),
-    };
-    let bytes = match write(alloc, tree) {
-        Ok(bytes) => bytes,
-        Err(WriteError::OutOfMemory) => return Err(ScriptError::OutOfMemory),
-        Err(WriteError::NoEncoding) => return Err(no_script(alloc, config, tree)),
-    };
-    if gives(alloc, config, &input, &bytes)? {
-        return Ok(input);
-    }
-    Err(no_script(alloc, config, tree))
+    consistent_script(alloc, config, bytes)
 }
 
-/// The script of a component: the input on which `generate` gives it, and of which nothing is left.
+/// The script of the component that these bytes are: the input on which `generate` gives them, and of which nothing is
+/// left.
 ///
-/// It is written as the script is defined, and tried: it is answered exactly where `generate` gives the component's
-/// bytes on it. Why another has none is told by the first of its sections in which something stands that no script
-/// says, as far as a look tells.
-pub fn script(alloc: Global, config: &Config, tree: &ComponentTree) -> Result<Vec<u8>, ScriptError>
-    ensures answered { IfOk result (λ b. IsScript config.now (shown_tree tree.now) b.items) }
-    ensures refuses { IfErr result
-        (λ e. ¬ (e ≡ OutOfMemory) → (b : List ℕ) → ¬ IsScript config.now (shown_tree tree.now) b) }
+/// The bytes are read and judged, the script is written as it is defined, and tried: it is returned exactly where
+/// `generate` gives the bytes on it. The time is that of the bytes and of the script, times a logarithm.
+pub fn script(alloc: Global, config: &Config, bytes: &[u8]) -> Result<Vec<u8>, ScriptError>
+    ensures answered { IfOk result
+        (λ b. (t : Tree) × Spells t bytes.now × IsScript config.now t b.items) }
+    ensures refuses { IfErr result (λ e. ¬ (e ≡ OutOfMemory)
+        → (t : Tree) → Spells t bytes.now → (b : List ℕ) → ¬ IsScript config.now t b) }
     // Exactly where the limits do not fit together, that is the refusal.
     ensures limits { IfErr result (λ e. (e ≡ InconsistentLimits) ↔ (¬ IsConsistent config.now)) }
-    // A plan is refused for want of memory alone.
-    ensures plans { IsConsistent config.now → Within config.now (shown_tree tree.now)
+    // A plan is refused only where memory runs out.
+    ensures plans { (t : Tree) → Spells t bytes.now → IsConsistent config.now → Within config.now t
         → IfErr result (λ e. e ≡ OutOfMemory) }
-    // What is refused for another reason comes on no input.
-    ensures no_input { IsConsistent config.now
-        → IfErr result (λ e. ¬ (e ≡ OutOfMemory) → CannotBeGenerated config.now (shown_tree tree.now)) }
+    // What is refused for another reason is given by no input.
+    ensures no_input { IsConsistent config.now → IfErr result (λ e. ¬ (e ≡ OutOfMemory)
+        → (t : Tree) → Spells t bytes.now → CannotBeGenerated config.now t) }
 {
-    tried(alloc, config, tree)
+    scripted(alloc, config, bytes)
 }

@@ -58,8 +58,8 @@ pub fn put_choice(out: &mut Vec<u8>, n: usize, k: usize) -> Result<(), Unsaid>
     put_big_endian(out, width, k as u64)
 }
 
-/// The place of the first item that is equal to that one, or how many there are.
-pub fn place_of<T: PartialEq>(items: &[T], item: &T) -> usize
+// The place of the first item that is equal to that one, or how many there are.
+fn place_of<T: PartialEq>(items: &[T], item: &T) -> usize
     ensures { result ≡ rank_of T.eq items.now item.now }
 {
     for place in 0..items.len() {

@@ -9,22 +9,16 @@ mod error;
 mod fronts;
 mod limits;
 mod members;
-mod module_names;
 mod names;
 mod offers;
-mod places;
 mod stand_ins;
 
-pub use choices::{
-    place_of, put_among, put_byte, put_choice, put_contents, put_end, put_more, put_text,
-};
+pub use choices::{put_among, put_byte, put_choice, put_contents, put_end, put_more, put_text};
 pub use core_functions::{put_core_function, valtypes_of};
 pub use error::Unsaid;
 pub use fronts::{after_front, after_memory, after_realloc, core_size};
 pub use limits::put_limits;
 pub use members::{Scripted, put_members};
-pub use module_names::{exports_in, imports_from};
 pub use names::{put_core_name, put_name, put_new_core_name};
 pub use offers::put_offered;
-pub use places::{Any, Test, places_of};
 pub use stand_ins::put_stand_in;

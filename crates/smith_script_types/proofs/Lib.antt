@@ -1,8 +1,7 @@
-pub mod Alike
-pub mod Declaring
-pub mod ModuleAlike
+pub mod Decls
 pub mod ModuleTurns
 pub mod Nodes
-pub mod Placing
-pub mod Sorts
+pub mod Occupied
+pub mod Ranks
+pub mod TableSteps
 pub mod Turns

@@ -1,5 +1,4 @@
-pub mod Added
+pub mod Declaring
 pub mod Modules
 pub mod Places
-pub mod Scopes
-pub mod Taken
+pub mod Tables

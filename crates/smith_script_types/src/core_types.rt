@@ -16,7 +16,7 @@ use smith_read_types::{CoreNode, ModuleNode};
 use smith_script_core::{Unsaid, put_choice, put_core_function};
 
 // A core function type: the first of two, and then its parameters and its results.
-fn put_core_func(out: &mut Vec<u8>, place: Place<'_>, ty: &FuncType) -> Result<(), Unsaid>
+fn put_core_func(out: &mut Vec<u8>, place: Place<'_, '_>, ty: &FuncType) -> Result<(), Unsaid>
     ensures { Says result out.old out.new (script_core_type place.entry.config.now (shown_func ty.now)) }
 {
     put_choice(out, 2, 0)?;
@@ -24,7 +24,11 @@ fn put_core_func(out: &mut Vec<u8>, place: Place<'_>, ty: &FuncType) -> Result<(
 }
 
 // A module type: the second of two, and then what it declares.
-fn put_core_module(out: &mut Vec<u8>, place: Place<'_>, decls: &[ModuleNode]) -> Result<(), Unsaid>
+fn put_core_module<'a>(
+    out: &mut Vec<u8>,
+    place: Place<'_, 'a>,
+    decls: &'a [ModuleNode],
+) -> Result<(), Unsaid>
     ensures { (fuel : ℕ) → Says result out.old out.new
         (pick 2 1 ++ script_module place.entry.config.now (own_at place.entry) fuel (map shown_module_node decls.now)) }
 {
@@ -33,7 +37,12 @@ fn put_core_module(out: &mut Vec<u8>, place: Place<'_>, decls: &[ModuleNode]) ->
 }
 
 /// A core type with so much fuel. Where it does not last the type is the empty module type, which is no bytes.
-pub fn put_core(out: &mut Vec<u8>, place: Place<'_>, fuel: u32, ty: &CoreNode) -> Result<(), Unsaid>
+pub fn put_core<'a>(
+    out: &mut Vec<u8>,
+    place: Place<'_, 'a>,
+    fuel: u32,
+    ty: &'a CoreNode,
+) -> Result<(), Unsaid>
     ensures { Says result out.old out.new
         (script_core place.entry.config.now (own_at place.entry) fuel (shown_core_node ty.now)) }
 {

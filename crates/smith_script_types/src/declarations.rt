@@ -1,53 +1,93 @@
 //! What a declaration says before what it declares, and outer aliases.
 
-ghost use Rattle.std.specs.Prelude.{◌≡◌, ◌∷◌, ◌+◌, length, nat_eq, nat_lt, IfOk, IfErr};
+ghost use Rattle.std.specs.Prelude.{◌≡◌, ◌∷◌, ◌++◌, ◌+◌, [], ℕ, length, nat_eq, nat_lt, if◌then◌else◌};
+ghost use Rattle.std.specs.Prelude.{IfOk, IfErr, OnOk};
+ghost use Rattle.std.specs.List.Sorted.{IsStrictlyIncreasing};
 ghost use Rattle.smith_input.specs.Script.{script_among};
-ghost use Rattle.smith_tree.specs.TypeOffers.{occupied};
+ghost use Rattle.smith_read_scopes.specs.Scopes.{outer_in, own_in, shown_scope};
+ghost use Rattle.smith_tree.specs.TypeOffers.{aliases_of, is_occupied, occupied};
 ghost use Rattle.smith_tree.specs.TypeScript.{script_alias, script_declaration_item, script_declares, script_no_import};
 ghost use Rattle.smith_script_core.specs.Says.{Says};
 ghost use Rattle.smith_script_core.specs.declared.error.Unsaid.TheVariants.{OutOfMemory};
 ghost use Rattle.smith_script_types.specs.Places.{outer_at, own_at};
 
 use crate::place::Place;
-use crate::scopes::occupied_places;
-use smith_script_core::{Unsaid, put_among, put_choice, put_offered};
+use crate::positions::put_position;
+use crate::references::has_reference;
+use smith_read_scopes::{Scope, Scopes};
+use smith_script_core::{Unsaid, put_choice, put_offered};
 use smith_tree::DeclarationItem;
+use std::alloc::Global;
 
 // That no import is declared, where one might be.
-fn put_no_import(out: &mut Vec<u8>, place: Place<'_>, importing: bool) -> Result<(), Unsaid>
+fn put_no_import(out: &mut Vec<u8>, place: Place<'_, '_>, importing: bool) -> Result<(), Unsaid>
     ensures { Says result out.old out.new (script_no_import importing (own_at place.entry)) }
 {
-    if importing && place.has_reference()? {
+    if importing && has_reference(&place.scopes.own) {
         return put_choice(out, 4, 1);
     }
     Ok(())
 }
 
-// Has one of the scopes an entry?
-fn has_entry(place: Place<'_>) -> Result<bool, Unsaid>
+fn is_occupied(scope: &Scope<'_>) -> bool
+    ensures { result ≡ is_occupied (shown_scope scope.now) }
+{
+    scope.types_len() > 0 || scope.core_types_len() > 0
+}
+
+// Adds the count of a scope if it has an entry.
+fn push_occupied(counts: &mut Vec<usize>, count: usize, scope: &Scope<'_>) -> Result<(), Unsaid>
+    ensures added { OnOk result (counts.new.items
+        ≡ counts.old.items ++ (if is_occupied (shown_scope scope.now) then count ∷ [] else [])) }
+    ensures memory { IfErr result (λ e. e ≡ OutOfMemory) }
+{
+    if is_occupied(scope) {
+        counts.push(count)?;
+    }
+    Ok(())
+}
+
+// The counts of the scopes that have an entry.
+fn occupied(alloc: Global, scopes: &Scopes<'_>) -> Result<Vec<usize>, Unsaid>
+    ensures list { IfOk result (λ v. v.items ≡ occupied (own_in scopes.now ∷ outer_in scopes.now)) }
+    ensures ascending { IfOk result (λ v. IsStrictlyIncreasing v.items) }
+    ensures memory { IfErr result (λ e. e ≡ OutOfMemory) }
+{
+    let mut counts = Vec::new(alloc);
+    push_occupied(&mut counts, 0, &scopes.own)?;
+    let depth = scopes.outer.len();
+    for place in 0..depth {
+        push_occupied(&mut counts, place + 1, &scopes.outer[depth - 1 - place])?;
+    }
+    Ok(counts)
+}
+
+// Has one of the scopes an entry? The others are looked at only where the innermost has none.
+fn has_entry(place: Place<'_, '_>) -> Result<bool, Unsaid>
     ensures has { IfOk result (λ b. b ≡ nat_lt 0 (length (occupied (own_at place.entry ∷ outer_at place.entry)))) }
     ensures memory { IfErr result (λ e. e ≡ OutOfMemory) }
 {
-    let scopes = place.scopes()?;
-    let occupied = occupied_places(place.alloc, &scopes)?;
-    Ok(!occupied.is_empty())
+    if is_occupied(&place.scopes.own) {
+        return Ok(true);
+    }
+    let counts = occupied(place.alloc, place.scopes)?;
+    Ok(!counts.is_empty())
 }
 
 // May one more scope nest?
-fn may_nest(place: Place<'_>) -> bool
-    ensures { result
-        ≡ nat_lt (length (own_at place.entry ∷ outer_at place.entry)) place.entry.config.now.max_nesting_depth }
+fn may_nest(place: Place<'_, '_>) -> bool
+    ensures { result ≡ nat_lt (length (own_at place.entry ∷ outer_at place.entry)) place.entry.config.now.max_nesting_depth }
 {
-    place.outer.len() < place.config.max_nesting_depth.saturating_sub(1)
+    place.scopes.outer.len() < place.config.max_nesting_depth.saturating_sub(1)
 }
 
 // What is declared.
-fn put_item(out: &mut Vec<u8>, place: Place<'_>, item: DeclarationItem) -> Result<(), Unsaid>
+fn put_item(out: &mut Vec<u8>, place: Place<'_, '_>, item: DeclarationItem) -> Result<(), Unsaid>
     ensures { Says result out.old out.new
         (script_declaration_item place.entry.config.now (outer_at place.entry) (own_at place.entry) item) }
 {
     let offers = [
-        (place.has_reference()?, DeclarationItem::Export),
+        (has_reference(&place.scopes.own), DeclarationItem::Export),
         (has_entry(place)?, DeclarationItem::Alias),
         (true, DeclarationItem::CoreType),
         (may_nest(place), DeclarationItem::Type),
@@ -55,10 +95,10 @@ fn put_item(out: &mut Vec<u8>, place: Place<'_>, item: DeclarationItem) -> Resul
     put_offered(place.alloc, out, &offers, item)
 }
 
-/// What stands before that which is declared.
+/// What precedes that which is declared.
 pub(crate) fn put_declares(
     out: &mut Vec<u8>,
-    place: Place<'_>,
+    place: Place<'_, '_>,
     importing: bool,
     item: DeclarationItem,
 ) -> Result<(), Unsaid>
@@ -70,36 +110,40 @@ pub(crate) fn put_declares(
 }
 
 // The choice of the scope of an outer alias.
-fn put_scope(out: &mut Vec<u8>, place: Place<'_>, count: u32) -> Result<(), Unsaid>
-    ensures { Says result out.old out.new
-        (script_among nat_eq (occupied (own_at place.entry ∷ outer_at place.entry)) count) }
+fn put_scope(out: &mut Vec<u8>, place: Place<'_, '_>, count: u32) -> Result<(), Unsaid>
+    ensures { Says result out.old out.new (script_among nat_eq (occupied (own_at place.entry ∷ outer_at place.entry)) count) }
 {
-    let scopes = place.scopes()?;
-    let occupied = occupied_places(place.alloc, &scopes)?;
-    put_among(out, &occupied, &(count as usize))
+    let counts = occupied(place.alloc, place.scopes)?;
+    put_position(out, &counts, count as usize)
+}
+
+// How many entries a scope has, or no less than memory has bytes.
+fn entries_in(scope: &Scope<'_>) -> usize
+    ensures { (count : ℕ) → result ≡ length (aliases_of count (shown_scope scope.now)) }
+{
+    scope.types_len() + scope.core_types_len()
 }
 
 /// An outer alias of a type: the scope, and its entry.
 pub(crate) fn put_type_alias(
     out: &mut Vec<u8>,
-    place: Place<'_>,
+    place: Place<'_, '_>,
     count: u32,
     index: u32,
 ) -> Result<(), Unsaid>
-    ensures { Says result out.old out.new
-        (script_alias (own_at place.entry ∷ outer_at place.entry) count (λ s. index)) }
+    ensures { Says result out.old out.new (script_alias (own_at place.entry ∷ outer_at place.entry) count (λ s. index)) }
 {
     put_scope(out, place, count)?;
-    match place.scope_at(count) {
+    match place.scopes.scope_at(count) {
         None => Ok(()),
-        Some(scope) => put_choice(out, scope.len(), index as usize),
+        Some(scope) => put_choice(out, entries_in(scope), index as usize),
     }
 }
 
-/// An outer alias of a core type, which stands after the types.
+/// An outer alias of a core type, which is after the types.
 pub(crate) fn put_core_type_alias(
     out: &mut Vec<u8>,
-    place: Place<'_>,
+    place: Place<'_, '_>,
     count: u32,
     index: u32,
 ) -> Result<(), Unsaid>
@@ -107,8 +151,8 @@ pub(crate) fn put_core_type_alias(
         (script_alias (own_at place.entry ∷ outer_at place.entry) count (λ s. length s.types + index)) }
 {
     put_scope(out, place, count)?;
-    match place.scope_at(count) {
+    match place.scopes.scope_at(count) {
         None => Ok(()),
-        Some(scope) => put_choice(out, scope.len(), scope.types_len() + index as usize),
+        Some(scope) => put_choice(out, entries_in(scope), scope.types_len() + index as usize),
     }
 }

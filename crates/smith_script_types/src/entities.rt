@@ -1,21 +1,18 @@
 //! What a module type imports and exports.
 
-ghost use Rattle.std.specs.Prelude.{◌≡◌, ◌&&◌, ◌++◌, length, nat_lt, IfOk, IfErr};
+ghost use Rattle.std.specs.Prelude.{◌++◌};
 ghost use Rattle.smith_input.specs.Script.{script_among};
 ghost use Rattle.smith_format.specs.Equality.{same_val};
 ghost use Rattle.smith_format.specs.Limits.{configured};
 ghost use Rattle.smith_format.specs.contracts.types.ExportKindPartialEq.TheImpl.{ghosts as kinds};
-ghost use Rattle.smith_format.specs.declared.types.ExportKind.TheVariants as kind;
-ghost use Rattle.smith_syntax.specs.ModuleTypes.{count_of_kind, is_tag_type};
-ghost use Rattle.smith_syntax.specs.Places.{places};
 ghost use Rattle.smith_tree.specs.ModuleScript.{script_bit, script_element, script_entity, script_entity_of};
 ghost use Rattle.smith_tree.specs.CoreTypeOffers.{entity_kinds};
 ghost use Rattle.smith_script_core.specs.Says.{Says};
-ghost use Rattle.smith_script_core.specs.declared.error.Unsaid.TheVariants.{OutOfMemory};
 ghost use Rattle.smith_script_types.specs.Modules.{so_far};
 
 use crate::declared::Declared;
 use crate::place::Place;
+use crate::positions::{put_index, put_position};
 use smith_format::{Config, EntityType, ExportKind, GlobalType, RefType};
 use smith_script_core::{Unsaid, put_among, put_byte, put_limits, put_offered, valtypes_of};
 use std::alloc::Global;
@@ -30,16 +27,6 @@ fn put_element(out: &mut Vec<u8>, config: &Config, ty: RefType) -> Result<(), Un
     Ok(())
 }
 
-fn put_bit(out: &mut Vec<u8>, value: bool) -> Result<(), Unsaid>
-    ensures { Says result out.old out.new (script_bit value) }
-{
-    if value {
-        put_byte(out, 1)
-    } else {
-        put_byte(out, 0)
-    }
-}
-
 // A global type: one of the value types, and whether it may change.
 fn put_global(
     alloc: Global,
@@ -52,45 +39,32 @@ fn put_global(
 {
     let valtypes = valtypes_of(alloc, config)?;
     put_among(out, &valtypes, &ty.val_type)?;
-    put_bit(out, ty.mutable)
-}
-
-// Is a tag allowed: below the limit, where there are tags, and where there is a type for one?
-fn allows_tag(place: Place<'_>, declared: Declared<'_>) -> Result<bool, Unsaid>
-    ensures allowed { IfOk result
-        (λ b. b ≡ (nat_lt (count_of_kind kind.Tag (so_far declared.entry).decls) place.entry.config.now.max_tags
-        && place.entry.config.now.exceptions_enabled
-        && nat_lt 0 (length (places is_tag_type 0 (so_far declared.entry).own)))) }
-    ensures memory { IfErr result (λ e. e ≡ OutOfMemory) }
-{
-    let tag_types = declared.tag_types(place.alloc)?;
-    Ok(
-        declared.allows(ExportKind::Tag, place.config.max_tags)
-            && place.config.exceptions_enabled
-            && tag_types.len() > 0,
-    )
+    put_byte(out, u8::from(ty.mutable))
 }
 
 // The kind of an entity: each below its limit, a tag where there is a type for it, a function where there is a type.
 fn put_entity_kind(
     out: &mut Vec<u8>,
-    place: Place<'_>,
-    declared: Declared<'_>,
+    place: Place<'_, '_>,
+    declared: &Declared<'_>,
     kind: ExportKind,
 ) -> Result<(), Unsaid>
     ensures { Says result out.old out.new
-        (script_among kinds.eq (entity_kinds place.entry.config.now (so_far declared.entry)) kind) }
+        (script_among kinds.eq (entity_kinds place.entry.config.now (so_far declared.now)) kind) }
 {
     let config = place.config;
     let with_global = declared.allows(ExportKind::Global, config.max_globals);
     let with_table = declared.allows(ExportKind::Table, config.max_tables);
     let with_memory = declared.allows(ExportKind::Memory, config.max_memories);
-    let with_func = declared.own.len() > 0 && declared.allows_function(config);
+    let with_tag = declared.allows(ExportKind::Tag, config.max_tags)
+        && config.exceptions_enabled
+        && declared.tables.tags.len() > 0;
+    let with_func = declared.tables.own.len() > 0 && declared.allows_function(config);
     let offers = [
         (with_global, ExportKind::Global),
         (with_table, ExportKind::Table),
         (with_memory, ExportKind::Memory),
-        (allows_tag(place, declared)?, ExportKind::Tag),
+        (with_tag, ExportKind::Tag),
         (with_func, ExportKind::Func),
     ];
     put_offered(place.alloc, out, &offers, kind)
@@ -99,40 +73,35 @@ fn put_entity_kind(
 // An entity after its kind.
 fn put_entity_of(
     out: &mut Vec<u8>,
-    place: Place<'_>,
-    declared: Declared<'_>,
+    place: Place<'_, '_>,
+    declared: &Declared<'_>,
     entity: EntityType,
 ) -> Result<(), Unsaid>
     ensures { Says result out.old out.new
-        (script_entity_of place.entry.config.now (so_far declared.entry) entity) }
+        (script_entity_of place.entry.config.now (so_far declared.now) entity) }
 {
+    let tables = &declared.tables;
     match entity {
-        EntityType::Func(index) => {
-            let types = declared.all_types(place.alloc)?;
-            put_among(out, &types, &(index as usize))
-        }
+        EntityType::Func(index) => put_index(out, tables.own.len(), index as usize),
         EntityType::Table(table) => {
             put_element(out, place.config, table.element_type)?;
             put_limits(out, table.minimum, table.maximum)
         }
         EntityType::Memory(memory) => put_limits(out, memory.minimum, memory.maximum),
         EntityType::Global(global) => put_global(place.alloc, out, place.config, global),
-        EntityType::Tag(tag) => {
-            let tag_types = declared.tag_types(place.alloc)?;
-            put_among(out, &tag_types, &(tag.func_type_idx as usize))
-        }
+        EntityType::Tag(tag) => put_position(out, &tables.tags, tag.func_type_idx as usize),
     }
 }
 
 /// What is imported or exported: its kind, and then what it is.
 pub(crate) fn put_entity(
     out: &mut Vec<u8>,
-    place: Place<'_>,
-    declared: Declared<'_>,
+    place: Place<'_, '_>,
+    declared: &Declared<'_>,
     entity: EntityType,
 ) -> Result<(), Unsaid>
     ensures { Says result out.old out.new
-        (script_entity place.entry.config.now (so_far declared.entry) entity) }
+        (script_entity place.entry.config.now (so_far declared.now) entity) }
 {
     put_entity_kind(out, place, declared, entity.kind())?;
     put_entity_of(out, place, declared, entity)

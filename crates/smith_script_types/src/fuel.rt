@@ -1,13 +1,14 @@
-//! How much fuel is left after a declaration.
+//! How much fuel is left after a type.
 
-ghost use Rattle.std.specs.Prelude.{◌≡◌, ◌-◌, ◌+◌, map};
-ghost use Rattle.smith_syntax.specs.Entries.{function, in_order};
+ghost use Rattle.std.specs.Prelude.{◌≡◌, ◌-◌, ◌+◌};
+ghost use Rattle.smith_syntax.specs.Entries.{defined, function};
 ghost use Rattle.smith_syntax.specs.Shown.{shown_defined};
-ghost use Rattle.smith_syntax.specs.WellFormed.{core_size, defined_size, size};
-ghost use Rattle.smith_read_types.specs.TypeNodes.{shown_decl_node, shown_type_node};
-ghost use Rattle.smith_tree.specs.TypeNeeds.{cost, decl_cost, decls_cost};
+ghost use Rattle.smith_syntax.specs.WellFormed.{defined_size};
+ghost use Rattle.smith_read_types.specs.Nodes.{shown_core_node};
+ghost use Rattle.smith_tree.specs.CoreTypeNeeds.{core_cost};
+ghost use Rattle.smith_tree.specs.TypeNeeds.{cost};
 
-use smith_read_types::{DeclNode, TypeNode};
+use smith_read_types::CoreNode;
 use smith_script_core::core_size;
 use smith_syntax::{DefinedType, FuncType};
 
@@ -38,50 +39,24 @@ fn defined_size(ty: &DefinedType) -> usize
     }
 }
 
-// What a function type leaves of the fuel.
-fn after_func(fuel: u32, ty: &FuncType) -> u32
-    ensures { result ≡ fuel - (size (function ty.now) + 1) }
+/// What a type of values leaves of the fuel.
+pub(crate) fn after_defined(fuel: u32, ty: &DefinedType) -> u32
+    ensures { result ≡ fuel - cost (defined (shown_defined ty.now)) }
+{
+    burned(burned(fuel, defined_size(ty)), 1)
+}
+
+/// What a function type leaves of the fuel.
+pub(crate) fn after_function(fuel: u32, ty: &FuncType) -> u32
+    ensures { result ≡ fuel - cost (function ty.now) }
 {
     let results = if ty.result.is_some() { 1 } else { 0 };
     burned(burned(burned(fuel, ty.params.len()), results), 1)
 }
 
-#[cycle(costs)]
-fn after_type(fuel: u32, ty: &TypeNode) -> u32
-    ensures { result ≡ fuel - cost (shown_type_node ty.now) }
+/// What a core type leaves of the fuel.
+pub(crate) fn after_core(fuel: u32, ty: &CoreNode) -> u32
+    ensures { result ≡ fuel - core_cost (shown_core_node ty.now) }
 {
-    match ty {
-        TypeNode::Defined(ty) => burned(burned(fuel, defined_size(ty)), 1),
-        TypeNode::Func(ty) => after_func(fuel, ty),
-        TypeNode::Component(decls) | TypeNode::Instance(decls) => burned(
-            after_decls(fuel, decls),
-            1,
-        ),
-    }
-}
-
-/// What a declaration leaves of the fuel.
-#[cycle(costs)]
-pub(crate) fn after_decl(fuel: u32, decl: &DeclNode) -> u32
-    ensures { result ≡ fuel - decl_cost (shown_decl_node decl.now) }
-{
-    match decl {
-        DeclNode::Core(ty) => burned(burned(fuel, core_size(ty)), 1),
-        DeclNode::Type(ty) => after_type(fuel, ty),
-        DeclNode::TypeAlias { .. }
-        | DeclNode::CoreTypeAlias { .. }
-        | DeclNode::Import { .. }
-        | DeclNode::Export { .. } => fuel,
-    }
-}
-
-#[cycle(costs)]
-fn after_decls(fuel: u32, decls: &[DeclNode]) -> u32
-    ensures { result ≡ fuel - decls_cost (in_order (map shown_decl_node decls.now)) }
-{
-    let mut left = fuel;
-    for decl in decls {
-        left = burned(after_decl(left, decl), 1);
-    }
-    left
+    burned(burned(fuel, core_size(ty)), 1)
 }

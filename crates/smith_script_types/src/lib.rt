@@ -5,23 +5,24 @@
 mod core_types;
 mod declarations;
 mod declared;
+mod declaring;
 mod entities;
 mod fuel;
 mod module_fronts;
 mod modules;
 mod place;
+mod positions;
 mod references;
-mod scopes;
-mod taken;
+mod tables;
 mod types;
 mod values;
 
 pub use core_types::put_core;
-pub use place::Place;
-pub use references::{put_extern, put_reference};
-pub use scopes::{Added, CoreSort, FuncSort, Scope, Sort, core_sort_of, sort_of};
+pub use place::{Given, Place};
+pub use positions::put_position;
+pub use references::{Purpose, put_extern, put_reference};
 pub use smith_script_core::{
-    Test, Unsaid, places_of, put_among, put_byte, put_choice, put_contents, put_end, put_more,
-    put_name, put_offered, put_stand_in, put_text,
+    Unsaid, put_among, put_byte, put_choice, put_contents, put_end, put_more, put_name,
+    put_offered, put_stand_in, put_text,
 };
 pub use types::put_type;

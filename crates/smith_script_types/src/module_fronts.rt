@@ -9,27 +9,30 @@ ghost use Rattle.smith_tree.specs.ModuleScript.{script_line};
 ghost use Rattle.smith_script_core.specs.Says.{Says};
 ghost use Rattle.smith_script_core.specs.declared.error.Unsaid.TheVariants.{OutOfMemory};
 
-use crate::declared::{Declared, declared_sorts, entity_in};
+use crate::declared::Declared;
 use crate::place::Place;
 use smith_format::EntityType;
 use smith_read_types::ModuleNode;
 use smith_script_core::{Unsaid, after_front, after_memory, after_realloc, put_choice, put_limits};
 
 // The declarations in front of these.
-fn in_front<'b>(decls: &'b [ModuleNode], behind: &[ModuleNode]) -> &'b [ModuleNode]
+fn in_front<'a>(decls: &'a [ModuleNode], after: &[ModuleNode]) -> &'a [ModuleNode]
     ensures { map shown_module_node result.now
-        ≡ in_front (map shown_module_node decls.now) (map shown_module_node behind.now) }
+        ≡ in_front (map shown_module_node decls.now) (map shown_module_node after.now) }
 {
-    &decls[..decls.len().saturating_sub(behind.len())]
+    &decls[..decls.len().saturating_sub(after.len())]
 }
 
 // What a declaration leaves open: the limits of a memory.
 fn put_asked(out: &mut Vec<u8>, decl: &ModuleNode) -> Result<(), Unsaid>
     ensures { Says result out.old out.new (flat_map script_asked (entities_of (shown_module_node decl.now ∷ []))) }
 {
-    match entity_in(decl) {
-        Some(EntityType::Memory(memory)) => put_limits(out, memory.minimum, memory.maximum),
-        _ => Ok(()),
+    match decl {
+        ModuleNode::Import { entity, .. } | ModuleNode::Export { entity, .. } => match entity {
+            EntityType::Memory(memory) => put_limits(out, memory.minimum, memory.maximum),
+            _ => Ok(()),
+        },
+        ModuleNode::Func(_) | ModuleNode::OuterAlias { .. } => Ok(()),
     }
 }
 
@@ -47,14 +50,14 @@ fn put_line(
     out: &mut Vec<u8>,
     may: bool,
     decls: &[ModuleNode],
-    behind: &[ModuleNode],
+    after: &[ModuleNode],
 ) -> Result<(), Unsaid>
     ensures { Says result out.old out.new
-        (script_line may (map shown_module_node decls.now) (map shown_module_node behind.now)) }
+        (script_line may (map shown_module_node decls.now) (map shown_module_node after.now)) }
 {
-    if behind.len() < decls.len() {
+    if after.len() < decls.len() {
         put_choice(out, 100, 0)?;
-        return put_all_asked(out, in_front(decls, behind));
+        return put_all_asked(out, in_front(decls, after));
     }
     if may {
         return put_choice(out, 100, 99);
@@ -64,27 +67,22 @@ fn put_line(
 
 // Is a function of a type of its own still allowed where these declarations are left?
 fn may_declare(
-    place: Place<'_>,
+    place: Place<'_, '_>,
     decls: &[ModuleNode],
-    behind: &[ModuleNode],
+    after: &[ModuleNode],
 ) -> Result<bool, Unsaid>
     ensures may { (fuel : ℕ) → IfOk result (λ b. b ≡ may_declare place.entry.config.now
-        (front_before fuel (map shown_module_node decls.now) (map shown_module_node behind.now))) }
+        (front_before fuel (map shown_module_node decls.now) (map shown_module_node after.now))) }
     ensures memory { IfErr result (λ e. e ≡ OutOfMemory) }
 {
-    let front = in_front(decls, behind);
-    let own = declared_sorts(place.alloc, front)?;
-    let declared = Declared {
-        own: &own,
-        decls: front,
-    };
+    let declared = Declared::in_front(place.alloc, in_front(decls, after))?;
     Ok(declared.allows_function(place.config) && declared.allows_type(place.config))
 }
 
 /// What the canonical ABI asks, in its three lines, whatever fuel there is.
 pub(crate) fn put_front(
     out: &mut Vec<u8>,
-    place: Place<'_>,
+    place: Place<'_, '_>,
     decls: &[ModuleNode],
 ) -> Result<(), Unsaid>
     ensures { (fuel : ℕ) → Says result out.old out.new (script_front place.entry.config.now fuel

@@ -1,66 +1,72 @@
 //! What imports and exports are of, and their names.
 
-ghost use Rattle.std.specs.Prelude.{◌≡◌, ◌&&◌, IfOk, IfErr};
+ghost use Rattle.std.specs.Prelude.{◌≡◌, ◌&&◌, length, nat_eq};
 ghost use Rattle.smith_input.specs.Script.{script_among};
+ghost use Rattle.smith_read_scopes.specs.Scopes.{shown_scope};
 ghost use Rattle.smith_tree.specs.TypeOffers.{allows_equal, allows_one, has_place, has_reference, ref_kinds, ref_places};
 ghost use Rattle.smith_tree.specs.TypeScript.{index_in, kind_in, script_extern, script_ref};
 ghost use Rattle.smith_tree.specs.contracts.choices.RefKindPartialEq.TheImpl.{ghosts as refs};
 ghost use Rattle.smith_script_core.specs.Says.{Says};
-ghost use Rattle.smith_script_core.specs.declared.error.Unsaid.TheVariants.{OutOfMemory};
 ghost use Rattle.smith_script_types.specs.Places.{own_at};
 
 use crate::place::Place;
-use crate::scopes::Sort;
-use smith_script_core::{Unsaid, put_among, put_byte, put_name, put_offered};
+use crate::positions::{put_index, put_position};
+use smith_read_scopes::{Kind, Scope};
+use smith_script_core::{Unsaid, put_byte, put_name, put_offered};
 use smith_syntax::ComponentTypeRef;
 use smith_tree::{RefKind, RefTotals};
 
-impl<'s> Place<'s> {
-    // The indexes of the entries of a kind.
-    fn ref_places(self, kind: RefKind) -> Result<Vec<usize>, Unsaid>
-        ensures list { IfOk result (λ v. v.items ≡ ref_places (own_at self.entry) kind) }
-        ensures memory { IfErr result (λ e. e ≡ OutOfMemory) }
-    {
-        match kind {
-            RefKind::Module => self.own.module_places(self.alloc),
-            RefKind::TypeEq => self.own.all_places(self.alloc),
-            RefKind::Func => self.own.places(self.alloc, Sort::Func),
-            RefKind::Component => self.own.places(self.alloc, Sort::Component),
-            RefKind::Instance => self.own.places(self.alloc, Sort::Instance),
-        }
-    }
+/// What a reference is for: whether it is imported, whether within a type, and what is counted before it. Public for the
+/// crate above alone.
+#[derive(Clone, Copy)]
+pub struct Purpose {
+    pub totals: RefTotals,
+    pub for_import: bool,
+    pub for_type_def: bool,
+}
 
-    // A kind, and whether it may be chosen: where there is an entry of it, and one more is allowed.
-    fn offer(self, kind: RefKind, allowed: bool) -> Result<(bool, RefKind), Unsaid>
-        ensures offer { IfOk result (λ o. o ≡ (has_place (own_at self.entry) kind && allowed, kind)) }
-        ensures memory { IfErr result (λ e. e ≡ OutOfMemory) }
-    {
-        let places = self.ref_places(kind)?;
-        Ok((!places.is_empty() && allowed, kind))
-    }
-
-    /// Is there something that an import or an export may be of?
-    pub(crate) fn has_reference(self) -> Result<bool, Unsaid>
-        ensures has { IfOk result (λ b. b ≡ has_reference (own_at self.entry)) }
-        ensures memory { IfErr result (λ e. e ≡ OutOfMemory) }
-    {
-        let modules = self.own.module_places(self.alloc)?;
-        Ok(!self.own.types.is_empty() || !modules.is_empty())
+// How many entries of a kind a scope has.
+fn ref_count(scope: &Scope<'_>, kind: RefKind) -> usize
+    ensures { result ≡ length (ref_places (shown_scope scope.now) kind) }
+{
+    match kind {
+        RefKind::Module => scope.places(Kind::CoreModule).len(),
+        RefKind::TypeEq => scope.types_len(),
+        RefKind::Func => scope.places(Kind::Func).len(),
+        RefKind::Component => scope.places(Kind::Component).len(),
+        RefKind::Instance => scope.places(Kind::Instance).len(),
     }
 }
 
-// May one more be had of what has these totals?
-fn allows_one(for_import: bool, for_type_def: bool, count: usize, max: usize) -> bool
-    ensures { result ≡ allows_one for_import for_type_def count max }
+/// Is there something that an import or an export may be of?
+pub(crate) fn has_reference(scope: &Scope<'_>) -> bool
+    ensures { result ≡ has_reference (shown_scope scope.now) }
 {
-    !for_import || for_type_def || count < max
+    scope.types_len() > 0 || !scope.places(Kind::CoreModule).is_empty()
 }
 
-// May it be of a type that is equal to one?
-fn allows_equal(place: Place<'_>, for_import: bool, for_type_def: bool) -> bool
-    ensures { result ≡ allows_equal place.entry.config.now (own_at place.entry) for_import for_type_def }
+impl Purpose {
+    // May one more be had of what has this count?
+    fn allows_one(self, count: usize, max: usize) -> bool
+        ensures { result ≡ allows_one self.for_import self.for_type_def count max }
+    {
+        !self.for_import || self.for_type_def || count < max
+    }
+
+    // May it be of a type that is equal to one?
+    fn allows_equal(self, place: Place<'_, '_>) -> bool
+        ensures { result ≡ allows_equal place.entry.config.now (own_at place.entry) self.for_import self.for_type_def }
+    {
+        !self.for_import
+            && (self.for_type_def || place.scopes.own.types_len() < place.config.max_types)
+    }
+}
+
+// A kind, and whether it may be chosen: where there is an entry of it, and one more is allowed.
+fn offer(scope: &Scope<'_>, kind: RefKind, allowed: bool) -> (bool, RefKind)
+    ensures { result ≡ (has_place (shown_scope scope.now) kind && allowed, kind) }
 {
-    !for_import && (for_type_def || place.own.types.len() < place.config.max_types)
+    (ref_count(scope, kind) > 0 && allowed, kind)
 }
 
 fn kind_in(to: ComponentTypeRef) -> RefKind
@@ -75,73 +81,79 @@ fn kind_in(to: ComponentTypeRef) -> RefKind
     }
 }
 
-fn index_in(to: ComponentTypeRef) -> u32
-    ensures { result ≡ index_in to }
-{
-    match to {
-        ComponentTypeRef::Module(index)
-        | ComponentTypeRef::TypeEq(index)
-        | ComponentTypeRef::Func(index)
-        | ComponentTypeRef::Component(index)
-        | ComponentTypeRef::Instance(index) => index,
-    }
-}
-
 // The kind of what an import or an export is of.
 fn put_ref_kind(
     out: &mut Vec<u8>,
-    place: Place<'_>,
-    totals: RefTotals,
-    for_import: bool,
-    for_type_def: bool,
+    place: Place<'_, '_>,
+    purpose: Purpose,
     kind: RefKind,
 ) -> Result<(), Unsaid>
-    ensures { Says result out.old out.new
-        (script_among refs.eq
-        (ref_kinds place.entry.config.now (own_at place.entry) totals for_import for_type_def) kind) }
+    ensures { Says result out.old out.new (script_among refs.eq
+        (ref_kinds place.entry.config.now (own_at place.entry) purpose.totals purpose.for_import purpose.for_type_def) kind) }
 {
     let config = place.config;
-    let modules = allows_one(for_import, for_type_def, totals.modules, config.max_modules);
-    let types = allows_equal(place, for_import, for_type_def);
-    let funcs = allows_one(for_import, for_type_def, totals.funcs, config.max_funcs);
-    let components = allows_one(
-        for_import,
-        for_type_def,
-        totals.components,
-        config.max_components,
-    );
-    let instances = allows_one(
-        for_import,
-        for_type_def,
-        totals.instances,
-        config.max_instances,
-    );
+    let totals = purpose.totals;
+    let own = &place.scopes.own;
     let offers = [
-        place.offer(RefKind::Module, modules)?,
-        place.offer(RefKind::TypeEq, types)?,
-        place.offer(RefKind::Func, funcs)?,
-        place.offer(RefKind::Component, components)?,
-        place.offer(RefKind::Instance, instances)?,
+        offer(
+            own,
+            RefKind::Module,
+            purpose.allows_one(totals.modules, config.max_modules),
+        ),
+        offer(own, RefKind::TypeEq, purpose.allows_equal(place)),
+        offer(
+            own,
+            RefKind::Func,
+            purpose.allows_one(totals.funcs, config.max_funcs),
+        ),
+        offer(
+            own,
+            RefKind::Component,
+            purpose.allows_one(totals.components, config.max_components),
+        ),
+        offer(
+            own,
+            RefKind::Instance,
+            purpose.allows_one(totals.instances, config.max_instances),
+        ),
     ];
     put_offered(place.alloc, out, &offers, kind)
+}
+
+// An entry of its kind.
+fn put_entry(out: &mut Vec<u8>, scope: &Scope<'_>, to: ComponentTypeRef) -> Result<(), Unsaid>
+    ensures { Says result out.old out.new
+        (script_among nat_eq (ref_places (shown_scope scope.now) (kind_in to)) (index_in to)) }
+{
+    match to {
+        ComponentTypeRef::Module(index) => {
+            put_position(out, scope.places(Kind::CoreModule), index as usize)
+        }
+        ComponentTypeRef::TypeEq(index) => put_index(out, scope.types_len(), index as usize),
+        ComponentTypeRef::Func(index) => {
+            put_position(out, scope.places(Kind::Func), index as usize)
+        }
+        ComponentTypeRef::Component(index) => {
+            put_position(out, scope.places(Kind::Component), index as usize)
+        }
+        ComponentTypeRef::Instance(index) => {
+            put_position(out, scope.places(Kind::Instance), index as usize)
+        }
+    }
 }
 
 /// What an import or an export is of: a kind, and an entry of it.
 pub fn put_reference(
     out: &mut Vec<u8>,
-    place: Place<'_>,
-    totals: RefTotals,
-    for_import: bool,
-    for_type_def: bool,
+    place: Place<'_, '_>,
+    purpose: Purpose,
     to: ComponentTypeRef,
 ) -> Result<(), Unsaid>
-    ensures { Says result out.old out.new
-        (script_ref place.entry.config.now (own_at place.entry) totals for_import for_type_def to) }
+    ensures { Says result out.old out.new (script_ref place.entry.config.now (own_at place.entry)
+        purpose.totals purpose.for_import purpose.for_type_def to) }
 {
-    let kind = kind_in(to);
-    put_ref_kind(out, place, totals, for_import, for_type_def, kind)?;
-    let places = place.ref_places(kind)?;
-    put_among(out, &places, &(index_in(to) as usize))
+    put_ref_kind(out, place, purpose, kind_in(to))?;
+    put_entry(out, &place.scopes.own, to)
 }
 
 /// The name of an import or an export after so many, and that it has no URL.

@@ -1,28 +1,26 @@
 //! Types.
 
-ghost use Rattle.std.specs.Prelude.{◌∷◌, ◌++◌, [], true, map, nat_le, if◌then◌else◌};
+ghost use Rattle.std.specs.Prelude.{◌≡◌, ◌∷◌, ◌-◌, [], map, nat_le, if◌then◌else◌, IfOk, OnOk};
 ghost use Rattle.smith_syntax.specs.Entries.{in_order};
 ghost use Rattle.smith_syntax.specs.Scope.{empty_scope};
+ghost use Rattle.smith_read_scopes.specs.Scopes.{outer_in, own_in};
 ghost use Rattle.smith_read_types.specs.TypeNodes.{shown_decl_node, shown_type_node};
-ghost use Rattle.smith_tree.specs.TypeOffers.{uncounted};
-ghost use Rattle.smith_tree.specs.TypeScript.{none_taken, script_decl, script_decls, script_extern, script_ref, script_type};
-ghost use Rattle.smith_tree.specs.TypeScript.{script_type_kind};
+ghost use Rattle.smith_tree.specs.TypeNeeds.{cost, decl_cost, decls_cost};
+ghost use Rattle.smith_tree.specs.TypeScript.{none_taken, script_decl, script_decls, script_type, script_type_kind};
 ghost use Rattle.smith_tree.specs.declared.choices.TypeKind.TheVariants.{Defined};
 ghost use Rattle.smith_script_core.specs.Says.{Says};
-ghost use Rattle.smith_script_types.specs.Places.{outer_at, own_at};
-ghost use Rattle.smith_script_types.specs.Taken.{shown_taken};
+ghost use Rattle.smith_script_types.specs.Declaring.{taken_in};
 
 use crate::core_types::put_core;
 use crate::declarations::{put_core_type_alias, put_declares, put_type_alias};
-use crate::fuel::after_decl;
-use crate::place::Place;
-use crate::references::{put_extern, put_reference};
-use crate::scopes::Scope;
-use crate::taken::{Taken, export_count, import_count};
+use crate::declaring::Declaring;
+use crate::fuel::{after_core, after_defined, after_function};
+use crate::place::Given;
+use crate::references::{Purpose, put_extern, put_reference};
 use crate::values::{put_defined, put_signature};
+use smith_read_scopes::Scopes;
 use smith_read_types::{DeclNode, TypeNode};
 use smith_script_core::{Unsaid, put_among, put_byte, put_choice, put_end};
-use smith_syntax::ComponentTypeRef;
 use smith_tree::{DeclarationItem, RefTotals, TypeKind, type_kinds};
 
 // Nothing is counted within types.
@@ -31,6 +29,18 @@ const UNCOUNTED: RefTotals = RefTotals {
     funcs: 0,
     components: 0,
     instances: 0,
+};
+
+const IMPORT: Purpose = Purpose {
+    totals: UNCOUNTED,
+    for_import: true,
+    for_type_def: true,
+};
+
+const EXPORT: Purpose = Purpose {
+    totals: UNCOUNTED,
+    for_import: false,
+    for_type_def: true,
 };
 
 fn put_type_kind(out: &mut Vec<u8>, kind: TypeKind) -> Result<(), Unsaid>
@@ -49,128 +59,128 @@ fn put_defined_kind(out: &mut Vec<u8>, fuel: u32) -> Result<(), Unsaid>
     put_type_kind(out, TypeKind::Defined)
 }
 
-// What is imported or exported within a type, and its name after so many.
-fn put_declared(
-    out: &mut Vec<u8>,
-    place: Place<'_>,
-    for_import: bool,
-    count: usize,
-    name: &str,
-    to: ComponentTypeRef,
-) -> Result<(), Unsaid>
-    ensures { Says result out.old out.new
-        (script_ref place.entry.config.now (own_at place.entry) uncounted for_import true to
-        ++ script_extern count name.now) }
-{
-    put_reference(out, place, UNCOUNTED, for_import, true, to)?;
-    put_extern(out, count, name)
-}
-
-/// A type with so much fuel.
+/// A type with so much fuel, and how much it leaves of it.
 #[cycle(types)]
 #[tactic(auto, using(crate::proofs::Nodes::nodes))]
-pub fn put_type(out: &mut Vec<u8>, place: Place<'_>, fuel: u32, ty: &TypeNode) -> Result<(), Unsaid>
-    ensures { Says result out.old out.new
-        (script_type (shown_type_node ty.now) place.entry.config.now fuel (own_at place.entry) (outer_at place.entry)) }
+pub fn put_type<'a>(
+    out: &mut Vec<u8>,
+    given: Given<'_>,
+    scopes: &mut Scopes<'a>,
+    fuel: u32,
+    ty: &'a TypeNode,
+) -> Result<u32, Unsaid>
+    ensures said { Says result out.old out.new (script_type (shown_type_node ty.now) given.entry.config.now fuel
+        (own_in scopes.old) (outer_in scopes.old)) }
+    ensures left { IfOk result (λ left. left ≡ fuel - cost (shown_type_node ty.now)) }
+    ensures own { OnOk result (own_in scopes.new ≡ own_in scopes.old) }
+    ensures outer { OnOk result (outer_in scopes.new ≡ outer_in scopes.old) }
 {
     match ty {
         TypeNode::Defined(ty) => {
             put_defined_kind(out, fuel)?;
-            put_defined(out, place, ty)
+            put_defined(out, &scopes.own, ty)?;
+            Ok(after_defined(fuel, ty))
         }
         TypeNode::Func(ty) => {
             put_type_kind(out, TypeKind::Function)?;
-            put_signature(out, place, ty)
+            put_signature(out, &scopes.own, ty)?;
+            Ok(after_function(fuel, ty))
         }
         TypeNode::Component(decls) => {
             put_type_kind(out, TypeKind::Component)?;
-            put_decls(out, place, true, fuel.saturating_sub(1), decls)
+            let start = Declaring::new(true, fuel.saturating_sub(1));
+            put_decls(out, given, scopes, start, decls)
         }
         TypeNode::Instance(decls) => {
             put_type_kind(out, TypeKind::Instance)?;
-            put_decls(out, place, false, fuel.saturating_sub(1), decls)
+            let start = Declaring::new(false, fuel.saturating_sub(1));
+            put_decls(out, given, scopes, start, decls)
         }
     }
 }
 
-// A declaration with so much fuel.
+// A declaration, and how much fuel it leaves.
 #[cycle(types)]
 #[tactic(auto, using(crate::proofs::Nodes::nodes))]
-fn put_decl(
+fn put_decl<'a>(
     out: &mut Vec<u8>,
-    place: Place<'_>,
-    importing: bool,
-    fuel: u32,
-    taken: Taken,
-    decl: &DeclNode,
-) -> Result<(), Unsaid>
-    ensures { Says result out.old out.new
-        (script_decl (shown_decl_node decl.now) place.entry.config.now importing fuel (shown_taken taken)
-        (own_at place.entry) (outer_at place.entry)) }
+    given: Given<'_>,
+    scopes: &mut Scopes<'a>,
+    here: Declaring,
+    decl: &'a DeclNode,
+) -> Result<u32, Unsaid>
+    ensures said { Says result out.old out.new (script_decl (shown_decl_node decl.now) given.entry.config.now here.importing
+        here.fuel (taken_in here) (own_in scopes.old) (outer_in scopes.old)) }
+    ensures left { IfOk result (λ left. left ≡ here.fuel - decl_cost (shown_decl_node decl.now)) }
+    ensures own { OnOk result (own_in scopes.new ≡ own_in scopes.old) }
+    ensures outer { OnOk result (outer_in scopes.new ≡ outer_in scopes.old) }
 {
+    let importing = here.importing;
     match decl {
         DeclNode::Core(ty) => {
-            put_declares(out, place, importing, DeclarationItem::CoreType)?;
-            put_core(out, place, fuel, ty)
+            put_declares(
+                out,
+                given.place(scopes),
+                importing,
+                DeclarationItem::CoreType,
+            )?;
+            put_core(out, given.place(scopes), here.fuel, ty)?;
+            return Ok(after_core(here.fuel, ty));
         }
         DeclNode::Type(ty) => {
-            put_declares(out, place, importing, DeclarationItem::Type)?;
-            put_type(out, place, fuel, ty)
+            put_declares(out, given.place(scopes), importing, DeclarationItem::Type)?;
+            return put_type(out, given, scopes, here.fuel, ty);
         }
         DeclNode::TypeAlias { count, index } => {
-            put_declares(out, place, importing, DeclarationItem::Alias)?;
-            put_type_alias(out, place, *count, *index)
+            put_declares(out, given.place(scopes), importing, DeclarationItem::Alias)?;
+            put_type_alias(out, given.place(scopes), *count, *index)?;
         }
         DeclNode::CoreTypeAlias { count, index } => {
-            put_declares(out, place, importing, DeclarationItem::Alias)?;
-            put_core_type_alias(out, place, *count, *index)
+            put_declares(out, given.place(scopes), importing, DeclarationItem::Alias)?;
+            put_core_type_alias(out, given.place(scopes), *count, *index)?;
         }
         DeclNode::Import { name, to } => {
             put_choice(out, 4, 0)?;
-            put_declared(out, place, true, taken.imports, name, *to)
+            put_reference(out, given.place(scopes), IMPORT, *to)?;
+            put_extern(out, here.imports, name)?;
         }
         DeclNode::Export { name, to } => {
-            put_declares(out, place, importing, DeclarationItem::Export)?;
-            put_declared(out, place, false, taken.exports, name, *to)
+            put_declares(out, given.place(scopes), importing, DeclarationItem::Export)?;
+            put_reference(out, given.place(scopes), EXPORT, *to)?;
+            put_extern(out, here.exports, name)?;
         }
     }
+    Ok(here.fuel)
 }
 
-// What a type declares, in a scope of its own.
+// What a type declares, in a scope of its own, and how much fuel it leaves.
 #[cycle(types)]
 #[tactic(auto, using(crate::proofs::Nodes::nodes))]
-fn put_decls(
+fn put_decls<'a>(
     out: &mut Vec<u8>,
-    around: Place<'_>,
-    importing: bool,
-    fuel: u32,
-    decls: &[DeclNode],
-) -> Result<(), Unsaid>
-    ensures { Says result out.old out.new (script_decls (in_order (map shown_decl_node decls.now))
-        around.entry.config.now importing fuel 0 none_taken empty_scope (own_at around.entry ∷ outer_at around.entry)) }
+    given: Given<'_>,
+    scopes: &mut Scopes<'a>,
+    start: Declaring,
+    decls: &'a [DeclNode],
+) -> Result<u32, Unsaid>
+    requires { taken_in start ≡ none_taken }
+    ensures said { Says result out.old out.new (script_decls (in_order (map shown_decl_node decls.now))
+        given.entry.config.now start.importing start.fuel 0 none_taken empty_scope
+        (own_in scopes.old ∷ outer_in scopes.old)) }
+    ensures left { IfOk result (λ left. left ≡ start.fuel - decls_cost (in_order (map shown_decl_node decls.now))) }
+    ensures own { OnOk result (own_in scopes.new ≡ own_in scopes.old) }
+    ensures outer { OnOk result (outer_in scopes.new ≡ outer_in scopes.old) }
 {
-    let outer = around.scopes()?;
-    let mut own = Scope::new(around.alloc);
-    let mut taken = Taken {
-        imports: 0,
-        exports: 0,
-    };
-    let mut fuel = fuel;
+    scopes.enter(given.alloc)?;
+    let mut here = start;
     for decl in decls {
         put_byte(out, 1)?;
-        let place = Place {
-            own: &own,
-            outer: &outer,
-            ..around
-        };
-        put_decl(out, place, importing, fuel.saturating_sub(1), taken, decl)?;
-        let added = place.added(decl);
-        own.add(added)?;
-        taken = Taken {
-            imports: taken.imports + import_count(decl),
-            exports: taken.exports + export_count(decl),
-        };
-        fuel = after_decl(fuel.saturating_sub(1), decl);
+        let turn = here.with_fuel(here.fuel.saturating_sub(1));
+        let left = put_decl(out, given, scopes, turn, decl)?;
+        scopes.add_decl(decl)?;
+        here = turn.after(decl, left);
     }
-    put_end(out, decls.len(), 100)
+    scopes.leave();
+    put_end(out, decls.len(), 100)?;
+    Ok(here.fuel)
 }

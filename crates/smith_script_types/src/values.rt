@@ -8,14 +8,20 @@ ghost use Rattle.smith_tree.specs.TypeScript.{script_case, script_defined, scrip
 ghost use Rattle.smith_tree.specs.TypeScript.{script_label};
 ghost use Rattle.smith_tree.specs.TypeScript.{script_maybe, script_members, script_primitive, script_signature};
 ghost use Rattle.smith_tree.specs.TypeScript.{script_val};
+ghost use Rattle.smith_read_scopes.specs.Scope.{shown_scope};
 ghost use Rattle.smith_script_core.specs.Says.{Says};
-ghost use Rattle.smith_script_types.specs.Places.{own_at};
 
-use crate::place::Place;
-use crate::scopes::Sort;
+use crate::positions::put_position;
+use smith_read_scopes::{Kind, Scope};
 use smith_script_core::{Scripted, Unsaid, put_among, put_byte, put_choice, put_members, put_name};
 use smith_syntax::{ComponentValType, DefinedType, FuncType, PrimitiveValType, ResultType};
 use smith_tree::{DefinedKind, defined_kinds, primitives};
+
+// The scope that types of values refer to.
+#[derive(Clone, Copy)]
+struct Own<'a> {
+    scope: &'a Scope<'a>,
+}
 
 fn put_primitive(out: &mut Vec<u8>, ty: PrimitiveValType) -> Result<(), Unsaid>
     ensures { Says result out.old out.new (script_primitive ty) }
@@ -39,10 +45,10 @@ fn put_either(out: &mut Vec<u8>, count: usize) -> Result<(), Unsaid>
     put_choice(out, 2, 0)
 }
 
-fn put_value(out: &mut Vec<u8>, place: Place<'_>, ty: ComponentValType) -> Result<(), Unsaid>
-    ensures { Says result out.old out.new (script_val (own_at place.entry) ty) }
+fn put_value(out: &mut Vec<u8>, own: &Scope<'_>, ty: ComponentValType) -> Result<(), Unsaid>
+    ensures { Says result out.old out.new (script_val (shown_scope own.now) ty) }
 {
-    let defined = place.own.places(place.alloc, Sort::Defined)?;
+    let defined = own.places(Kind::Defined);
     match ty {
         ComponentValType::Primitive(primitive) => {
             put_either(out, defined.len())?;
@@ -50,138 +56,164 @@ fn put_value(out: &mut Vec<u8>, place: Place<'_>, ty: ComponentValType) -> Resul
         }
         ComponentValType::Indexed(index) => {
             put_choice(out, 2, 1)?;
-            put_among(out, &defined, &(index as usize))
+            put_position(out, defined, index as usize)
         }
     }
 }
 
 fn put_maybe_value(
     out: &mut Vec<u8>,
-    place: Place<'_>,
+    own: &Scope<'_>,
     ty: Option<ComponentValType>,
 ) -> Result<(), Unsaid>
-    ensures { Says result out.old out.new (script_maybe (own_at place.entry) ty) }
+    ensures { Says result out.old out.new (script_maybe (shown_scope own.now) ty) }
 {
     match ty {
         None => put_byte(out, 0),
         Some(ty) => {
             put_byte(out, 1)?;
-            put_value(out, place, ty)
+            put_value(out, own, ty)
         }
     }
 }
 
 // The two types of a result.
-fn put_both(out: &mut Vec<u8>, place: Place<'_>, ty: &ResultType) -> Result<(), Unsaid>
+fn put_both(out: &mut Vec<u8>, own: &Scope<'_>, ty: &ResultType) -> Result<(), Unsaid>
     ensures { Says result out.old out.new
-        (script_maybe (own_at place.entry) ty.now.ok_ty ++ script_maybe (own_at place.entry) ty.now.err_ty) }
+        (script_maybe (shown_scope own.now) ty.now.ok_ty ++ script_maybe (shown_scope own.now) ty.now.err_ty) }
 {
-    put_maybe_value(out, place, ty.ok_ty)?;
-    put_maybe_value(out, place, ty.err_ty)
+    put_maybe_value(out, own, ty.ok_ty)?;
+    put_maybe_value(out, own, ty.err_ty)
 }
 
-impl<'s> Scripted<Place<'s>> for ComponentValType {
-    ghost script = { λ place _ ty. script_val (own_at place) ty };
+impl<'a> Scripted<Own<'a>> for ComponentValType {
+    ghost script = { λ own _ ty. script_val (shown_scope own.scope.now) ty };
 
-    fn say(&self, context: &Place<'s>, _done: usize, out: &mut Vec<u8>) -> Result<(), Unsaid> {
-        put_value(out, *context, *self)
+    fn say(&self, context: &Own<'a>, _done: usize, out: &mut Vec<u8>) -> Result<(), Unsaid> {
+        put_value(out, context.scope, *self)
     }
 }
 
-impl<'s> Scripted<Place<'s>> for String {
-    ghost script = { λ place count name. script_label count (string_bytes name) };
+impl<'a> Scripted<Own<'a>> for String {
+    ghost script = { λ own count name. script_label count (string_bytes name) };
 
-    fn say(&self, _context: &Place<'s>, done: usize, out: &mut Vec<u8>) -> Result<(), Unsaid> {
+    fn say(&self, _context: &Own<'a>, done: usize, out: &mut Vec<u8>) -> Result<(), Unsaid> {
         put_name(out, done, self)
     }
 }
 
-impl<'s> Scripted<Place<'s>> for (String, ComponentValType) {
-    ghost script = { λ place count field. script_field (own_at place) count (named field) };
+impl<'a> Scripted<Own<'a>> for (String, ComponentValType) {
+    ghost script = { λ own count field. script_field (shown_scope own.scope.now) count (named field) };
 
-    fn say(&self, context: &Place<'s>, done: usize, out: &mut Vec<u8>) -> Result<(), Unsaid> {
+    fn say(&self, context: &Own<'a>, done: usize, out: &mut Vec<u8>) -> Result<(), Unsaid> {
         put_name(out, done, &self.0)?;
-        put_value(out, *context, self.1)
+        put_value(out, context.scope, self.1)
     }
 }
 
-impl<'s> Scripted<Place<'s>> for (String, Option<ComponentValType>) {
-    ghost script = { λ place count case. script_case (own_at place) count (named case) };
+impl<'a> Scripted<Own<'a>> for (String, Option<ComponentValType>) {
+    ghost script = { λ own count case. script_case (shown_scope own.scope.now) count (named case) };
 
-    fn say(&self, context: &Place<'s>, done: usize, out: &mut Vec<u8>) -> Result<(), Unsaid> {
+    fn say(&self, context: &Own<'a>, done: usize, out: &mut Vec<u8>) -> Result<(), Unsaid> {
         put_name(out, done, &self.0)?;
-        put_maybe_value(out, *context, self.1)
+        put_maybe_value(out, context.scope, self.1)
     }
 }
 
 // A kind of type of values, and then its members, at least one and at most max.
-fn put_list<'s, T: Scripted<Place<'s>>>(
+fn put_list<'a, T: Scripted<Own<'a>>>(
     out: &mut Vec<u8>,
-    place: &Place<'s>,
+    own: &Own<'a>,
     kind: DefinedKind,
     max: usize,
     items: &[T],
 ) -> Result<(), Unsaid>
-    ensures { Says result out.old out.new (script_kind kind ++ script_members (T.script place.now) 1 max items.now) }
+    ensures { Says result out.old out.new (script_kind kind ++ script_members (T.script own.now) 1 max items.now) }
 {
     put_kind(out, kind)?;
-    put_members(out, place, 1, max, items)
+    put_members(out, own, 1, max, items)
 }
 
 /// A type of values after what says that it is one.
 pub(crate) fn put_defined(
     out: &mut Vec<u8>,
-    place: Place<'_>,
+    own: &Scope<'_>,
     ty: &DefinedType,
 ) -> Result<(), Unsaid>
-    ensures { Says result out.old out.new (script_defined (own_at place.entry) (shown_defined ty.now)) }
+    ensures { Says result out.old out.new (script_defined (shown_scope own.now) (shown_defined ty.now)) }
 {
     match ty {
         DefinedType::Primitive(primitive) => {
             put_kind(out, DefinedKind::Primitive)?;
             put_primitive(out, *primitive)
         }
-        DefinedType::Record(ty) => put_list(out, &place, DefinedKind::Record, 100, &ty.fields),
-        DefinedType::Variant(ty) => put_list(out, &place, DefinedKind::Variant, 100, &ty.cases),
+        DefinedType::Record(ty) => put_list(
+            out,
+            &Own { scope: own },
+            DefinedKind::Record,
+            100,
+            &ty.fields,
+        ),
+        DefinedType::Variant(ty) => put_list(
+            out,
+            &Own { scope: own },
+            DefinedKind::Variant,
+            100,
+            &ty.cases,
+        ),
         DefinedType::List(list) => {
             put_kind(out, DefinedKind::List)?;
-            put_value(out, place, list.elem_ty)
+            put_value(out, own, list.elem_ty)
         }
-        DefinedType::Tuple(ty) => put_list(out, &place, DefinedKind::Tuple, 100, &ty.fields),
-        DefinedType::Flags(ty) => put_list(out, &place, DefinedKind::Flags, 32, &ty.fields),
-        DefinedType::Enum(ty) => put_list(out, &place, DefinedKind::Enum, 100, &ty.variants),
+        DefinedType::Tuple(ty) => put_list(
+            out,
+            &Own { scope: own },
+            DefinedKind::Tuple,
+            100,
+            &ty.fields,
+        ),
+        DefinedType::Flags(ty) => put_list(
+            out,
+            &Own { scope: own },
+            DefinedKind::Flags,
+            32,
+            &ty.fields,
+        ),
+        DefinedType::Enum(ty) => put_list(
+            out,
+            &Own { scope: own },
+            DefinedKind::Enum,
+            100,
+            &ty.variants,
+        ),
         DefinedType::Option(option) => {
             put_kind(out, DefinedKind::Option)?;
-            put_value(out, place, option.inner_ty)
+            put_value(out, own, option.inner_ty)
         }
         DefinedType::Result(result) => {
             put_kind(out, DefinedKind::Result)?;
-            put_both(out, place, result)
+            put_both(out, own, result)
         }
     }
 }
 
 fn put_result(
     out: &mut Vec<u8>,
-    place: Place<'_>,
+    own: &Scope<'_>,
     ty: Option<ComponentValType>,
 ) -> Result<(), Unsaid>
-    ensures { Says result out.old out.new (script_members (λ count v. script_val (own_at place.entry) v) 0 1 (option_to_list ty)) }
+    ensures { Says result out.old out.new (script_members (λ count v. script_val (shown_scope own.now) v) 0 1 (option_to_list ty)) }
 {
     match ty {
-        None => put_members(out, &place, 0, 1, &[] as &[ComponentValType]),
-        Some(ty) => put_members(out, &place, 0, 1, &[ty]),
+        None => put_members(out, &Own { scope: own }, 0, 1, &[] as &[ComponentValType]),
+        Some(ty) => put_members(out, &Own { scope: own }, 0, 1, &[ty]),
     }
 }
 
 /// The parameters of a function type, and its result or none.
-pub(crate) fn put_signature(
-    out: &mut Vec<u8>,
-    place: Place<'_>,
-    ty: &FuncType,
-) -> Result<(), Unsaid>
-    ensures { Says result out.old out.new (script_signature (own_at place.entry) ty.now) }
+pub(crate) fn put_signature(out: &mut Vec<u8>, own: &Scope<'_>, ty: &FuncType) -> Result<(), Unsaid>
+    ensures { Says result out.old out.new (script_signature (shown_scope own.now) ty.now) }
 {
-    put_members(out, &place, 0, 16, &ty.params)?;
-    put_result(out, place, ty.result)
+    put_members(out, &Own { scope: own }, 0, 16, &ty.params)?;
+    put_result(out, own, ty.result)
 }

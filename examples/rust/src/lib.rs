@@ -19,6 +19,7 @@ extern crate alloc;
 
 mod library;
 mod limits;
+mod raw_limits;
 
 use alloc::vec::Vec;
 use core::fmt;
@@ -99,6 +100,10 @@ impl fmt::Display for OutOfMemory {
 impl core::error::Error for OutOfMemory {}
 
 /// Returns the component that the input gives within the limits. Equal limits and equal input give equal bytes.
+///
+/// # Panics
+///
+/// Where the static library is older than this crate and does not have a limit that is set.
 pub fn generate(limits: &Limits, input: &[u8]) -> Result<Generated, Refusal> {
     let mut output = Vec::new();
     let mut room = 4096;

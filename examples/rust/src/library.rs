@@ -1,14 +1,15 @@
 //! The static library's functions.
 
+use crate::raw_limits::RawLimits;
 use crate::{Limits, OutOfMemory, Refusal, Verdict};
 use core::ffi::{c_char, CStr};
-use core::mem::MaybeUninit;
+use core::mem::{size_of, MaybeUninit};
 
 extern "C" {
     fn lupinanon_version() -> *const c_char;
-    fn lupinanon_default_limits(limits: *mut Limits);
+    fn lupinanon_default_limits(limits: *mut RawLimits, size: usize) -> i32;
     fn lupinanon_generate_into(
-        limits: *const Limits,
+        limits: *const RawLimits,
         input: *const u8,
         input_len: usize,
         output: *mut u8,
@@ -29,11 +30,13 @@ pub fn version() -> &'static str {
 /// The limits that hold where none are given.
 pub fn default_limits() -> Limits {
     let mut limits = MaybeUninit::uninit();
-    // SAFETY: the call writes each field; a number of any value, and 0 or 1 where there is a truth value.
-    unsafe {
-        lupinanon_default_limits(limits.as_mut_ptr());
+    // SAFETY: a call that returns 0 has written each byte of the struct, and 0 or 1 where there is a truth value.
+    let limits = unsafe {
+        let status = lupinanon_default_limits(limits.as_mut_ptr(), size_of::<RawLimits>());
+        assert_eq!(status, 0, "the size is that of the header's struct");
         limits.assume_init()
-    }
+    };
+    limits.limits()
 }
 
 /// What came of an output of some room.
@@ -46,11 +49,12 @@ pub enum Answer {
 
 /// Writes the component's bytes to the front of the output, where there is room.
 pub fn generate_into(limits: &Limits, input: &[u8], output: &mut [u8]) -> Result<Answer, Refusal> {
+    let limits = RawLimits::of(limits);
     let (mut len, mut left) = (0, 0);
     // SAFETY: no reference is null, the lengths are those of the slices, and nothing written overlaps anything.
     let status = unsafe {
         lupinanon_generate_into(
-            limits,
+            &limits,
             input.as_ptr(),
             input.len(),
             output.as_mut_ptr(),
@@ -68,6 +72,7 @@ pub fn generate_into(limits: &Limits, input: &[u8], output: &mut [u8]) -> Result
         5 => Err(Refusal::OutOfMemory),
         6 => Err(Refusal::PartsDisagree),
         7 => Ok(Answer::NoRoom { len }),
+        9 => panic!("a limit is set that the library, of version {}, does not have", version()),
         other => unreachable!("the arguments are good, and a truth value is 0 or 1; {other} is no status"),
     }
 }

@@ -2,9 +2,6 @@
 
 /// The limits of what is made. Components nest at most 1000 deep. `Limits::default()` has those that hold where none
 /// are given: write `..Limits::default()` after those that you set, since there may be more limits one day.
-///
-/// They are laid out as lupinanon.h has them: a truth value is a byte that is 0 or 1 in both.
-#[repr(C)]
 #[derive(Clone, Copy, Debug, PartialEq, Eq)]
 pub struct Limits {
     /// The fewest types of a component. They can always be added.

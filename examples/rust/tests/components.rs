@@ -14,6 +14,14 @@ fn limits_that_cross_are_refused() {
 }
 
 #[test]
+fn limits_arrive() {
+    let limits = Limits { max_type_size: 0, ..Limits::default() };
+    let made = generate(&limits, b"\x03\x01\x00\x00\x06").unwrap();
+    assert_eq!(made.bytes, b"\x00asm\x0d\x00\x01\x00\x07\x02\x01\x7f");
+    assert!(Limits::default().bulk_memory_enabled);
+}
+
+#[test]
 fn a_component_larger_than_the_first_output() {
     let mut input = b"\x01\x00\x00".to_vec();
     for _ in 0..10_000 {

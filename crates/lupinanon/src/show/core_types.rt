@@ -1,7 +1,9 @@
 //! Core types as a text.
 
-use super::{Spaces, indent, next};
+use super::lengths::module_decl_len;
+use super::walk::{Walk, next};
 use smith_core::{EntityType, FuncType, GlobalType, MemoryType, RefType, TableType, ValType};
+use smith_format::{count_len, func_type_len};
 use smith_read::{CoreNode, ModuleNode};
 use std::fmt;
 
@@ -93,18 +95,19 @@ fn show_entity<W: fmt::Write>(f: &mut fmt::Formatter<W>, ty: &EntityType) -> fmt
 
 fn show_decl<W: fmt::Write>(
     f: &mut fmt::Formatter<W>,
-    types: &mut usize,
+    walk: &mut Walk,
     decl: &ModuleNode,
 ) -> fmt::Result {
+    walk.pass(module_decl_len(decl));
     match decl {
         ModuleNode::Func(ty) => {
-            let index = next(types);
+            let index = next(&mut walk.spaces.core_types);
             write!(f, "type {index}: ")?;
             show_function(f, ty)?;
             writeln!(f)
         }
         ModuleNode::OuterAlias { count, index } => {
-            let own = next(types);
+            let own = next(&mut walk.spaces.core_types);
             writeln!(
                 f,
                 "type {own}: outer alias of core type {index}, count {count}"
@@ -125,28 +128,30 @@ fn show_decl<W: fmt::Write>(
     }
 }
 
-/// A core type, in so many lines as it has declarations, and one more.
+/// A core type, which ends the line, and a line for each of its declarations.
 pub(crate) fn show_core_type<W: fmt::Write>(
     f: &mut fmt::Formatter<W>,
-    spaces: &mut Spaces,
+    walk: &mut Walk,
     ty: &CoreNode,
-    level: u32,
 ) -> fmt::Result {
-    indent(f, level)?;
-    let index = next(&mut spaces.core_types);
+    let index = next(&mut walk.spaces.core_types);
     write!(f, "core type {index}: ")?;
     match ty {
         CoreNode::Func(ty) => {
+            walk.pass(func_type_len(ty));
             show_function(f, ty)?;
             writeln!(f)
         }
         CoreNode::Module(decls) => {
             writeln!(f, "module")?;
-            let mut types = 0;
+            walk.pass(Some(1));
+            walk.pass(count_len(decls.len()));
+            let mut inside = walk.inside();
             for decl in decls {
-                indent(f, level.saturating_add(1))?;
-                show_decl(f, &mut types, decl)?;
+                inside.begin_line(f)?;
+                show_decl(f, &mut inside, decl)?;
             }
+            walk.offset = inside.offset;
             Ok(())
         }
     }

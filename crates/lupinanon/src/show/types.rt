@@ -1,7 +1,10 @@
 //! Types of components as a text.
 
 use super::core_types::show_core_type;
-use super::{Spaces, indent, next, show_extern};
+use super::lengths::{defined_len, function_len, indexes_len};
+use super::show_extern;
+use super::walk::{Walk, next};
+use smith_format::count_len;
 use smith_read::{DeclNode, TypeNode};
 use smith_syntax::{ComponentValType, DefinedType, FuncType, PrimitiveValType};
 use std::fmt;
@@ -31,7 +34,7 @@ fn show_val<W: fmt::Write>(f: &mut fmt::Formatter<W>, ty: &ComponentValType) -> 
     }
 }
 
-// A type behind a word, where there is one.
+// A type after a word, where there is one.
 fn show_maybe<W: fmt::Write>(
     f: &mut fmt::Formatter<W>,
     word: &str,
@@ -137,85 +140,104 @@ fn show_function<W: fmt::Write>(f: &mut fmt::Formatter<W>, ty: &FuncType) -> fmt
     show_maybe(f, " -> ", &ty.result)
 }
 
+// An outer alias of a type or a core type, and the line's end.
+fn show_alias<W: fmt::Write>(
+    f: &mut fmt::Formatter<W>,
+    what: &str,
+    own: usize,
+    count: u32,
+    index: u32,
+) -> fmt::Result {
+    writeln!(
+        f,
+        "{what} {own}: outer alias of {what} {index}, count {count}"
+    )
+}
+
 #[cycle(showing)]
 fn show_decl<W: fmt::Write>(
     f: &mut fmt::Formatter<W>,
-    spaces: &mut Spaces,
+    walk: &mut Walk,
     decl: &DeclNode,
-    level: u32,
     depth: u32,
 ) -> fmt::Result {
     match decl {
-        DeclNode::Core(ty) => return show_core_type(f, spaces, ty, level),
-        DeclNode::Type(ty) if depth > 0 => return show_type(f, spaces, ty, level, depth - 1),
-        _ => indent(f, level)?,
-    }
-    match decl {
+        DeclNode::Core(ty) => {
+            walk.pass(Some(1));
+            show_core_type(f, walk, ty)
+        }
+        DeclNode::Type(ty) if depth > 0 => {
+            walk.pass(Some(1));
+            show_type(f, walk, ty, depth - 1)
+        }
+        // None that was read is deeper than `MOST_DEPTH`.
+        DeclNode::Type(_) => Err(fmt::Error),
         DeclNode::TypeAlias { count, index } => {
-            let own = next(&mut spaces.types);
-            writeln!(f, "type {own}: outer alias of type {index}, count {count}")
+            walk.pass(indexes_len(3, &[*count, *index]));
+            let own = next(&mut walk.spaces.types);
+            show_alias(f, "type", own, *count, *index)
         }
         DeclNode::CoreTypeAlias { count, index } => {
-            let own = next(&mut spaces.core_types);
-            writeln!(
-                f,
-                "core type {own}: outer alias of core type {index}, count {count}"
-            )
+            walk.pass(indexes_len(4, &[*count, *index]));
+            let own = next(&mut walk.spaces.core_types);
+            show_alias(f, "core type", own, *count, *index)
         }
         DeclNode::Import { name, to } => {
+            walk.pass(Some(1));
             f.write_str("import ")?;
-            show_extern(f, spaces, name, *to)
+            show_extern(f, walk, name, *to)
         }
         DeclNode::Export { name, to } => {
+            walk.pass(Some(1));
             f.write_str("export ")?;
-            show_extern(f, spaces, name, *to)
+            show_extern(f, walk, name, *to)
         }
-        DeclNode::Core(_) | DeclNode::Type(_) => Ok(()),
     }
 }
 
+// What a component type or an instance type is, which ends the line, and a line for each declaration.
 #[cycle(showing)]
 fn show_decls<W: fmt::Write>(
     f: &mut fmt::Formatter<W>,
+    walk: &mut Walk,
+    what: &str,
     decls: &[DeclNode],
-    level: u32,
     depth: u32,
 ) -> fmt::Result {
-    let mut spaces = Spaces::default();
+    writeln!(f, "{what}")?;
+    walk.pass(Some(1));
+    walk.pass(count_len(decls.len()));
+    let mut inside = walk.inside();
     for decl in decls {
-        show_decl(f, &mut spaces, decl, level, depth)?;
+        inside.begin_line(f)?;
+        show_decl(f, &mut inside, decl, depth)?;
     }
+    walk.offset = inside.offset;
     Ok(())
 }
 
-/// A type, in so many lines as it has declarations, and one more.
+/// A type, which ends the line, and a line for each of its declarations.
 #[cycle(showing)]
 pub(crate) fn show_type<W: fmt::Write>(
     f: &mut fmt::Formatter<W>,
-    spaces: &mut Spaces,
+    walk: &mut Walk,
     ty: &TypeNode,
-    level: u32,
     depth: u32,
 ) -> fmt::Result {
-    indent(f, level)?;
-    let index = next(&mut spaces.types);
+    let index = next(&mut walk.spaces.types);
     write!(f, "type {index}: ")?;
     match ty {
         TypeNode::Defined(ty) => {
+            walk.pass(defined_len(ty));
             show_defined(f, ty)?;
             writeln!(f)
         }
         TypeNode::Func(ty) => {
+            walk.pass(function_len(ty));
             show_function(f, ty)?;
             writeln!(f)
         }
-        TypeNode::Component(decls) => {
-            writeln!(f, "component")?;
-            show_decls(f, decls, level.saturating_add(1), depth)
-        }
-        TypeNode::Instance(decls) => {
-            writeln!(f, "instance")?;
-            show_decls(f, decls, level.saturating_add(1), depth)
-        }
+        TypeNode::Component(decls) => show_decls(f, walk, "component", decls, depth),
+        TypeNode::Instance(decls) => show_decls(f, walk, "instance", decls, depth),
     }
 }

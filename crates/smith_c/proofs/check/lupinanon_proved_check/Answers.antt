@@ -1,7 +1,7 @@
 use Rattle.std.proofs.Common.{subst}
 use Rattle.smith_tree.proofs.Clear.{spells_law}
 use Rattle.smith_tree.specs.WellFormed.{WellFormed}
-use Rattle.smith_check.specs.Verdicts.{IsVerdict}
+use Rattle.smith_verdict.specs.Verdicts.{IsVerdict}
 use Rattle.smith_c.proofs.check.lupinanon_proved_check.Goals as goal
 
 pub returns-in-Ok-IllFormed-clause-answers : goal.returns-in-Ok-IllFormed-clause-answers

@@ -3,7 +3,8 @@ use Rattle.std.proofs.Math.ListN.{drop}
 use Rattle.smith_syntax.specs.ModuleTypes.{HasNewNames}
 use Rattle.smith_syntax.specs.WellFormed.{FormedDecls}
 use Rattle.smith_read_types.specs.Nodes.{shown_module_node}
-use Rattle.smith_check.specs.Preceding.{functions_in, own_in}
+use Rattle.smith_read_scopes.specs.Scopes.{own_in}
+use Rattle.smith_check.specs.Preceding.{functions_in}
 use Rattle.smith_check.specs.Taken.{HoldsModule}
 use Rattle.smith_check.proofs.Judging.{Same}
 use Rattle.smith_check.proofs.modules.check_module.Given as goal

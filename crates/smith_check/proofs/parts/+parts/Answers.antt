@@ -1,9 +1,10 @@
 use Rattle.std.proofs.Common.{map, sym, ◌∙◌, subst}
 use Rattle.smith_tree.specs.WellFormed.{FormedPart}
 use Rattle.smith_read.specs.PartNodes.{shown_part_node}
-use Rattle.smith_check.specs.Preceding.{IsAfter, outer_in, own_in}
+use Rattle.smith_read_scopes.specs.Scopes.{outer_in, own_in}
+use Rattle.smith_check.specs.Preceding.{IsAfter}
 use Rattle.smith_check.proofs.Judging.{judged_by, on_both, on_by, passed_on, refute_by, same_exit, same_step}
-use Rattle.smith_check.proofs.Lists.{head_same}
+use Rattle.smith_read_scopes.proofs.Lists.{head_same}
 use Rattle.smith_read.proofs.PartNodes.{shown_canons, shown_core_types, shown_custom, shown_exports, shown_imports, shown_module, shown_nested, shown_types}
 use Rattle.smith_check.proofs.PartSteps.{after_canons, after_core_types, after_custom, after_exports, after_imports, after_module, after_nested, after_types}
 use Rattle.smith_check.proofs.PartSteps.{exports_formed, imports_formed, parts_at, tree_upto, upto_more}

@@ -2,7 +2,8 @@ use Rattle.std.proofs.Common.{◌≡◌, map}
 use Rattle.smith_tree.specs.Tree.{ends, tree_of}
 use Rattle.smith_tree.specs.WellFormed.{Formed}
 use Rattle.smith_read.specs.PartNodes.{shown_part_node}
-use Rattle.smith_check.specs.Preceding.{IsAfter, outer_in, own_in}
+use Rattle.smith_read_scopes.specs.Scopes.{outer_in, own_in}
+use Rattle.smith_check.specs.Preceding.{IsAfter}
 use Rattle.smith_check.proofs.Judging.{Same}
 use Rattle.smith_check.proofs.PartSteps.{tree_from, tree_upto}
 use Rattle.smith_check.proofs.parts.+parts.Given as goal

@@ -3,7 +3,8 @@ use Rattle.smith_tree.specs.Spaces.{after_canon}
 use Rattle.smith_tree.specs.WellFormed.{FormedCanons}
 use Rattle.smith_read.specs.PartNodes.{shown_canon_node}
 use Rattle.smith_read.specs.declared.nodes.CanonNode.TheVariants as canon
-use Rattle.smith_check.specs.Preceding.{own_in, spaces_in}
+use Rattle.smith_read_scopes.specs.Scopes.{own_in}
+use Rattle.smith_check.specs.Preceding.{spaces_in}
 use Rattle.smith_check.proofs.Judging.{same_step}
 use Rattle.smith_check.proofs.SectionSteps.{fold_at, left_from, some_item}
 use Rattle.smith_check.proofs.sections.check_canons.Goals as goal

@@ -3,7 +3,8 @@ use Rattle.std.proofs.Math.ListN.{drop}
 use Rattle.smith_tree.specs.Spaces.{after_canon}
 use Rattle.smith_tree.specs.WellFormed.{FormedCanons}
 use Rattle.smith_read.specs.PartNodes.{shown_canon_node}
-use Rattle.smith_check.specs.Preceding.{own_in, spaces_in}
+use Rattle.smith_read_scopes.specs.Scopes.{own_in}
+use Rattle.smith_check.specs.Preceding.{spaces_in}
 use Rattle.smith_check.proofs.Judging.{Same}
 use Rattle.smith_check.proofs.sections.check_canons.Given as goal
 

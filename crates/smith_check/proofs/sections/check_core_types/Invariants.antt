@@ -3,7 +3,7 @@ use Rattle.std.proofs.Math.ListN.{drop}
 use Rattle.smith_syntax.specs.Scope.{with_core_types}
 use Rattle.smith_syntax.specs.WellFormed.{FormedCores}
 use Rattle.smith_read_types.specs.Nodes.{shown_core_node}
-use Rattle.smith_check.specs.Preceding.{outer_in, own_in}
+use Rattle.smith_read_scopes.specs.Scopes.{outer_in, own_in}
 use Rattle.smith_check.proofs.Judging.{Same}
 use Rattle.smith_check.proofs.sections.check_core_types.Given as goal
 

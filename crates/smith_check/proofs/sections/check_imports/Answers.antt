@@ -2,7 +2,8 @@ use Rattle.std.proofs.Common.{subst, sym, ◌∙◌}
 use Rattle.smith_tree.specs.Spaces.{after_import}
 use Rattle.smith_tree.specs.WellFormed.{FormedImport}
 use Rattle.smith_read.specs.PartNodes.{shown_import_node}
-use Rattle.smith_check.specs.Preceding.{own_in, spaces_in}
+use Rattle.smith_read_scopes.specs.Scopes.{own_in}
+use Rattle.smith_check.specs.Preceding.{spaces_in}
 use Rattle.smith_check.specs.Taken.{Knows}
 use Rattle.smith_check.proofs.Judging.{left_at, passed_on, refute_by, same_step}
 use Rattle.smith_check.proofs.SectionSteps.{fold_at, named_next, upto_next}

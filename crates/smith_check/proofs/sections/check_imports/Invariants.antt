@@ -4,7 +4,8 @@ use Rattle.std.specs.List.{AllByRecursion}
 use Rattle.smith_tree.specs.Spaces.{after_import}
 use Rattle.smith_tree.specs.WellFormed.{FormedImport, import_names}
 use Rattle.smith_read.specs.PartNodes.{shown_import_node}
-use Rattle.smith_check.specs.Preceding.{own_in, spaces_in}
+use Rattle.smith_read_scopes.specs.Scopes.{own_in}
+use Rattle.smith_check.specs.Preceding.{spaces_in}
 use Rattle.smith_check.specs.Taken.{Knows}
 use Rattle.smith_check.proofs.Judging.{AllLeft, Same}
 use Rattle.smith_check.proofs.sections.check_imports.Given as goal

@@ -3,7 +3,9 @@ use Rattle.smith_script.proofs.Plans.{plan_or_memory, refused_comes_on_none}
 use Rattle.smith_script.proofs.scripting.script.Goals as goal
 
 pub returns-clause-plans : goal.returns-clause-plans
-returns-clause-plans c consistent within = IfErr-weaker c.tried.result _ _ (plan_or_memory _ _ consistent within) c.tried.ensures.refuses
+returns-clause-plans c t spells consistent within =
+    IfErr-weaker c.scripted.result _ _ (λ e h. plan_or_memory _ t consistent within e (λ n. h n t spells)) c.scripted.ensures.refuses
 
 pub returns-clause-no_input : goal.returns-clause-no_input
-returns-clause-no_input c consistent = IfErr-weaker c.tried.result _ _ (refused_comes_on_none _ _ consistent) c.tried.ensures.refuses
+returns-clause-no_input c consistent =
+    IfErr-weaker c.scripted.result _ _ (λ e h n t spells. refused_comes_on_none _ t consistent e (λ m. h m t spells) n) c.scripted.ensures.refuses

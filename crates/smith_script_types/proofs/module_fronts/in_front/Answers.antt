@@ -5,5 +5,5 @@ use Rattle.smith_script_types.proofs.module_fronts.in_front.Goals as goal
 
 pub returns : goal.returns
 returns c =
-    rw (length-map c.args.decls.now shown_module_node, length-map c.args.behind.now shown_module_node, c.saturating_sub.ensures)
+    rw (length-map c.args.decls.now shown_module_node, length-map c.args.after.now shown_module_node, c.saturating_sub.ensures)
     (sym (take-map shown_module_node _ c.args.decls.now))

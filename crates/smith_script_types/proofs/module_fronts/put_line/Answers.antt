@@ -5,8 +5,8 @@ use Rattle.smith_script_core.proofs.Saying.{ends}
 use Rattle.smith_script_types.proofs.ModuleTurns.{line_taken}
 use Rattle.smith_script_types.proofs.module_fronts.put_line.Goals as goal
 
-pub returns-then-behind-decls : goal.returns-then-behind-decls
-returns-then-behind-decls c =
-    rw (line_taken c.args.may (map shown_module_node c.args.decls.now) (map shown_module_node c.args.behind.now)
-    (omega (arith, c.if-behind-decls.true, length-map c.args.decls.now shown_module_node, length-map c.args.behind.now shown_module_node)))
+pub returns-then-after-decls : goal.returns-then-after-decls
+returns-then-after-decls c =
+    rw (line_taken c.args.may (map shown_module_node c.args.decls.now) (map shown_module_node c.args.after.now)
+    (omega (arith, c.if-after-decls.true, length-map c.args.decls.now shown_module_node, length-map c.args.after.now shown_module_node)))
     (ends c.put_all_asked.result _ _ (c.in_ok-put_choice.ensures {u = tt}) (rw c.in_front.ensures at c.put_all_asked.ensures))

@@ -1,32 +1,79 @@
-use Rattle.std.proofs.Common.{◌≡◌, ap, length, map, sym, ◌∙◌, arith}
+use Rattle.std.proofs.Common.{◌≡◌, ◌-◌, ◌++◌, ◌∷◌, [], ap, length, map, refl, subst, ◌∙◌, arith}
 use Rattle.std.proofs.lemmas.List.{length-map}
 use Rattle.smith_syntax.specs.ModuleTypes.{after_front}
 use Rattle.smith_read_types.specs.Nodes.{shown_module_node}
-use Rattle.smith_script_core.proofs.Saying.{ends, gives_up, unsaid_left}
-use Rattle.smith_script_types.proofs.ModuleTurns.{behind_is, behind_within}
+use Rattle.smith_script_core.proofs.Saying.{Towards, adds_then, gives_up, memory_unsaid, towards_end, towards_exit, towards_start, towards_step, unsaid_left, unsaid_right}
+use Rattle.smith_script_types.proofs.ModuleTurns.{after_within, module_at, module_over, module_start}
+use Rattle.smith_script_types.proofs.TableSteps.{shown_more}
 use Rattle.smith_script_types.specs.Places.{own_at}
 use Rattle.smith_script_types.proofs.modules.put_module.Goals as goal
 
 pub returns-in_err-put_front : goal.returns-in_err-put_front
 returns-in_err-put_front c fuel = gives_up _ _ _ _ c.from_residual.ensures.1 (unsaid_left _ (c.in_err-put_front.ensures {u = tt} fuel))
 
-pub overflow_sub-decls : goal.overflow_sub-decls
-overflow_sub-decls c =
-    let ds = map shown_module_node c.args.decls.now in
-    let left = ap length c.after_front.ensures in
+pub overflow_sub-front : goal.overflow_sub-front
+overflow_sub-front c =
+    let xs = c.args.decls.now in
+    let after = c.after_front.result.now in
     omega (
       arith,
-      left,
-      length-map c.args.decls.now shown_module_node,
-      length-map c.after_front.result.now shown_module_node,
-      behind_within ds,
+      ap length c.after_front.ensures,
+      length-map xs shown_module_node,
+      length-map after shown_module_node,
+      after_within (map shown_module_node xs),
     )
+
+pub loop-index-init : goal.loop-index-init
+loop-index-init c =
+    let xs = c.args.decls.now in
+    let after = c.after_front.result.now in
+    let front : length xs - length after ≡ length xs - length (after_front (map shown_module_node xs)) =
+    omega (arith, ap length c.after_front.ensures, length-map after shown_module_node) in
+    record {
+      from = omega arith;
+      decls = ap (λ s. s.decls) (c.in_ok-declared.ensures {u = tt}).front;
+      left = λ fuel.
+          subst (Towards c.args.out.now c.put_front.new.out _)
+          (module_start c.args.place.config.now (own_at c.args.place) xs fuel _ _ front (c.in_ok-declared.ensures {u = tt}).front)
+          (towards_step _ _ (towards_start _ _) refl (c.in_ok-put_front.ensures {u = tt} fuel));
+    }
+
+pub loop-index-preserved : goal.loop-index-preserved
+loop-index-preserved c =
+    let xs = c.args.decls.now in
+    let x = c.index-decls-index.result in
+    let more = (c.in_ok-declared-2.ensures {u = tt}).more in
+    record {
+      from = omega (arith, c.loop-index.invariant.from);
+      decls = ap (λ s. s.decls) more ∙ ap (λ ds. ds ++ shown_module_node x ∷ []) c.loop-index.invariant.decls
+          ∙ shown_more xs c.loop-index.index x c.loop-index-test.true c.index-decls-index.is;
+      left = λ fuel.
+          towards_step _ _ (c.loop-index.invariant.left fuel)
+          (module_at c.args.place.config.now (own_at c.args.place) xs _ _ _ _ x c.loop-index.invariant.from c.loop-index-test.true c.index-decls-index.is more)
+          (adds_then (c.in_ok-put_more.ensures {u = tt}) (c.in_ok-put_decl.ensures {u = tt}));
+    }
+
+pub returns-in_err-put_more : goal.returns-in_err-put_more
+returns-in_err-put_more c fuel =
+    gives_up _ _ _ _ c.from_residual-in_err-put_more.ensures.1
+    (towards_exit _ _ (c.loop-index.invariant.left fuel)
+    (module_at c.args.place.config.now (own_at c.args.place) c.args.decls.now _ _ _ _ c.index-decls-index.result c.loop-index.invariant.from
+    c.loop-index-test.true c.index-decls-index.is refl)
+    (unsaid_left _ (c.in_err-put_more.ensures {u = tt})))
+
+pub returns-in_err-put_decl : goal.returns-in_err-put_decl
+returns-in_err-put_decl c fuel =
+    gives_up _ _ _ _ c.from_residual-in_err-put_decl.ensures.1
+    (towards_exit _ _ (c.loop-index.invariant.left fuel)
+    (module_at c.args.place.config.now (own_at c.args.place) c.args.decls.now _ _ _ _ c.index-decls-index.result c.loop-index.invariant.from
+    c.loop-index-test.true c.index-decls-index.is refl)
+    (unsaid_right _ (c.in_err-put_decl.ensures {u = tt})))
+
+pub returns-in_err-declared-2 : goal.returns-in_err-declared-2
+returns-in_err-declared-2 c fuel = gives_up _ _ _ _ c.from_residual-in_err-declared-2.ensures.1 (memory_unsaid _ _ (c.in_err-declared-2.ensures {u = tt}).memory)
 
 pub returns : goal.returns
 returns c fuel =
-    let ds = map shown_module_node c.args.decls.now in
-    let all : length c.args.decls.now ≡ length ds = sym (length-map c.args.decls.now shown_module_node) in
-    let left : length c.after_front.result.now ≡ length (after_front ds) =
-    sym (length-map c.after_front.result.now shown_module_node) ∙ ap length c.after_front.ensures in
-    ends c.put_behind.result _ _ (c.in_ok-put_front.ensures {u = tt} fuel)
-    (rw (all, left, behind_is c.args.place.config.now (own_at c.args.place) fuel ds) at c.put_behind.ensures)
+    let all : c.loop-index.index ≡ length c.args.decls.now = omega (arith, c.loop-index-test.false, c.loop-index.auto.index-end) in
+    towards_end c.put_end.result _ (c.loop-index.invariant.left fuel)
+    (rw (module_over c.args.place.config.now (own_at c.args.place) c.args.decls.now _ _ _ c.loop-index-test.false, all) c.put_end.ensures)

@@ -1,0 +1,12 @@
+-- Scopes of types that were read, one in another.
+use Rattle.std.specs.Prelude.{List, map, reverse}
+use Rattle.smith_syntax.specs.Scope.{Scope as PlainScope}
+use Rattle.smith_read_scopes.specs.declared.scopes.Scopes.{Scopes}
+pub use Rattle.smith_read_scopes.specs.Scope.{nodes_of, shown_scope}
+
+-- the innermost scope, and those around it, innermost first
+abbrev pub own_in : Scopes → PlainScope
+own_in s = shown_scope s.own
+
+abbrev pub outer_in : Scopes → List PlainScope
+outer_in s = reverse (map shown_scope s.outer.items)

@@ -1,0 +1,172 @@
+//! Scopes, one in another (Explainer.md, index spaces).
+
+ghost use Rattle.std.specs.Prelude.{◌≡◌, ◌<◌, ◌∷◌, [], length, option_map, slice_get, None, Some};
+ghost use Rattle.std.specs.Prelude.{MatchOption, OnOk};
+ghost use Rattle.std.specs.Option.{option_to_list};
+ghost use Rattle.smith_syntax.specs.Scope.{after_decl, core_type_named, empty_scope, type_named};
+ghost use Rattle.smith_syntax.specs.Scope.{with_core_type, with_core_types, with_type, with_types};
+ghost use Rattle.smith_read_types.specs.Nodes.{shown_core_node};
+ghost use Rattle.smith_read_types.specs.TypeNodes.{shown_decl_node, shown_type_node};
+ghost use Rattle.smith_read_scopes.specs.Scopes.{outer_in, own_in, shown_scope};
+
+use crate::scope::Scope;
+use smith_read_types::{CoreNode, DeclNode, TypeNode};
+use smith_syntax::ComponentTypeRef;
+use std::alloc::{AllocError, Global};
+use std::mem::replace;
+
+/// The innermost scope, and those around it, outermost first.
+#[derive(Drop)]
+pub struct Scopes<'a> {
+    pub own: Scope<'a>,
+    pub outer: Vec<Scope<'a>>,
+}
+
+impl<'a> Scopes<'a> {
+    /// One empty scope.
+    pub fn new(alloc: Global) -> Scopes<'a>
+        ensures own { own_in result ≡ empty_scope }
+        ensures outer { outer_in result ≡ [] }
+    {
+        Scopes {
+            own: Scope::new(alloc),
+            outer: Vec::new(alloc),
+        }
+    }
+
+    /// Enters an empty scope.
+    pub fn enter(&mut self, alloc: Global) -> Result<(), AllocError>
+        ensures own { OnOk result (own_in self.new ≡ empty_scope) }
+        ensures outer { OnOk result (outer_in self.new ≡ own_in self.old ∷ outer_in self.old) }
+    {
+        let own = replace(&mut self.own, Scope::new(alloc));
+        self.outer.push(own)?;
+        Ok(())
+    }
+
+    /// Leaves the innermost scope, which has one around it.
+    pub fn leave(&mut self)
+        requires { 0 < length (outer_in self.old) }
+        ensures { outer_in self.old ≡ own_in self.new ∷ outer_in self.new }
+    {
+        if let Some(own) = self.outer.pop() {
+            let _inner = replace(&mut self.own, own);
+        }
+    }
+
+    /// The scope of that count, innermost first.
+    pub fn scope_at(&self, count: u32) -> Option<&Scope<'a>>
+        ensures { MatchOption result
+            (slice_get (own_in self.now ∷ outer_in self.now) count ≡ None)
+            (λ s. slice_get (own_in self.now ∷ outer_in self.now) count ≡ Some (shown_scope s.now)) }
+    {
+        if count == 0 {
+            return Some(&self.own);
+        }
+        let count = count as usize;
+        if count <= self.outer.len() {
+            Some(&self.outer[self.outer.len() - count])
+        } else {
+            None
+        }
+    }
+
+    /// The type that an outer alias names.
+    pub fn type_named(&self, count: u32, index: u32) -> Option<&'a TypeNode>
+        ensures { option_map (λ t. shown_type_node t.now) result
+            ≡ type_named (own_in self.now ∷ outer_in self.now) count index }
+    {
+        self.scope_at(count)?.type_at(index)
+    }
+
+    /// The core type that an outer alias names.
+    pub fn core_type_named(&self, count: u32, index: u32) -> Option<&'a CoreNode>
+        ensures { option_map (λ t. shown_core_node t.now) result
+            ≡ core_type_named (own_in self.now ∷ outer_in self.now) count index }
+    {
+        self.scope_at(count)?.core_type_at(index)
+    }
+
+    /// The type with that index in the innermost scope.
+    pub fn type_at(&self, index: u32) -> Option<&'a TypeNode>
+        ensures { option_map (λ t. shown_type_node t.now) result ≡ slice_get (own_in self.now).types index }
+    {
+        self.own.type_at(index)
+    }
+
+    /// The core type with that index in the innermost scope.
+    pub fn core_type_at(&self, index: u32) -> Option<&'a CoreNode>
+        ensures { option_map (λ t. shown_core_node t.now) result ≡ slice_get (own_in self.now).core_types index }
+    {
+        self.own.core_type_at(index)
+    }
+
+    /// Adds a type to the innermost scope.
+    pub fn add_type(&mut self, ty: &'a TypeNode) -> Result<(), AllocError>
+        ensures own { OnOk result (own_in self.new ≡ with_type (own_in self.old) (shown_type_node ty.now)) }
+        ensures outer { outer_in self.new ≡ outer_in self.old }
+    {
+        self.own.push_type(ty)
+    }
+
+    /// Adds a core type to the innermost scope.
+    pub fn add_core_type(&mut self, ty: &'a CoreNode) -> Result<(), AllocError>
+        ensures own { OnOk result (own_in self.new ≡ with_core_type (own_in self.old) (shown_core_node ty.now)) }
+        ensures outer { outer_in self.new ≡ outer_in self.old }
+    {
+        self.own.push_core_type(ty)
+    }
+
+    // Adds a type, if there is one.
+    fn add_named(&mut self, ty: Option<&'a TypeNode>) -> Result<(), AllocError>
+        ensures own { OnOk result (own_in self.new
+            ≡ with_types (own_in self.old) (option_to_list (option_map (λ t. shown_type_node t.now) ty.entry))) }
+        ensures outer { outer_in self.new ≡ outer_in self.old }
+    {
+        match ty {
+            Some(ty) => self.add_type(ty),
+            None => Ok(()),
+        }
+    }
+
+    // Adds a core type, if there is one.
+    fn add_core_named(&mut self, ty: Option<&'a CoreNode>) -> Result<(), AllocError>
+        ensures own { OnOk result (own_in self.new
+            ≡ with_core_types (own_in self.old) (option_to_list (option_map (λ t. shown_core_node t.now) ty.entry))) }
+        ensures outer { outer_in self.new ≡ outer_in self.old }
+    {
+        match ty {
+            Some(ty) => self.add_core_type(ty),
+            None => Ok(()),
+        }
+    }
+
+    /// Adds to the innermost scope what a declaration adds to it.
+    #[tactic(auto, using(smith_read_types::proofs::ShownNodes::shown_nodes))]
+    pub fn add_decl(&mut self, decl: &'a DeclNode) -> Result<(), AllocError>
+        ensures own { OnOk result (own_in self.new
+            ≡ after_decl (outer_in self.old) (own_in self.old) (shown_decl_node decl.now)) }
+        ensures outer { outer_in self.new ≡ outer_in self.old }
+    {
+        match decl {
+            DeclNode::Core(ty) => self.add_core_type(ty),
+            DeclNode::Type(ty) => self.add_type(ty),
+            DeclNode::TypeAlias { count, index } => {
+                let ty = self.type_named(*count, *index);
+                self.add_named(ty)
+            }
+            DeclNode::CoreTypeAlias { count, index } => {
+                let ty = self.core_type_named(*count, *index);
+                self.add_core_named(ty)
+            }
+            DeclNode::Export {
+                to: ComponentTypeRef::TypeEq(index),
+                ..
+            } => {
+                let ty = self.type_at(*index);
+                self.add_named(ty)
+            }
+            DeclNode::Import { .. } | DeclNode::Export { .. } => Ok(()),
+        }
+    }
+}

@@ -1,0 +1,20 @@
+use Rattle.std.proofs.Common.{ap, map, ◌∙◌}
+use Rattle.smith_read_scopes.proofs.Tied.{ascend_as}
+use Rattle.smith_read_types.proofs.ShownNodes.{shown_function}
+use Rattle.smith_read_types.specs.TypeNodes.{shown_type_node}
+use Rattle.smith_syntax.specs.HasSignature.{is_of_signature}
+use Rattle.smith_script_core.proofs.Saying.{ends, gives_up, unsaid_left}
+use Rattle.smith_script.proofs.lifts.put_lift_to.Goals as goal
+
+pub returns-in_err-put_signature-in-Func : goal.returns-in_err-put_signature-in-Func
+returns-in_err-put_signature-in-Func c own =
+    rw (ap shown_type_node c.in-Func.is ∙ shown_function c.in-Func.signature)
+    (gives_up _ _ _ _ c.from_residual.ensures.1 (unsaid_left _ (c.in_err-put_signature-in-Func.ensures {u = tt})))
+
+pub returns-in_ok-put_signature-in-Func : goal.returns-in_ok-put_signature-in-Func
+returns-in_ok-put_signature-in-Func c own =
+    rw (ap shown_type_node c.in-Func.is ∙ shown_function c.in-Func.signature)
+    (ends c.put_position.result _ _ (c.in_ok-put_signature-in-Func.ensures {u = tt}) (rw c.equals.ensures at c.put_position.ensures))
+
+pub put_position-requires : goal.put_position-requires
+put_position-requires c = ascend_as (is_of_signature c.in-Func.signature) (map shown_type_node c.args.here.now.types) _ c.equals.ensures

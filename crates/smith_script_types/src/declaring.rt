@@ -1,0 +1,92 @@
+//! Where a type of a component or an instance is in its declarations.
+
+ghost use Rattle.std.specs.Prelude.{◌≡◌, ◌≤◌, ◌+◌, ◌<◌, length};
+ghost use Rattle.smith_syntax.specs.WellFormed.{export_of, import_of};
+ghost use Rattle.smith_tree.specs.TypeScript.{after_taken, none_taken};
+ghost use Rattle.smith_read_types.specs.TypeNodes.{shown_decl_node};
+ghost use Rattle.smith_script_types.specs.Declaring.{taken_in};
+
+use smith_read_types::DeclNode;
+
+/// Where a type of a component or an instance is in its declarations: whether it may import, how much fuel is left, and
+/// how many imports and exports are before.
+#[derive(Clone, Copy)]
+pub(crate) struct Declaring {
+    pub(crate) importing: bool,
+    pub(crate) fuel: u32,
+    pub(crate) imports: usize,
+    pub(crate) exports: usize,
+}
+
+// How many imports a declaration is.
+#[tactic(auto, using(crate::proofs::Nodes::nodes))]
+fn import_count(decl: &DeclNode) -> usize
+    ensures count { result ≡ length (import_of (shown_decl_node decl.now)) }
+    ensures few { result ≤ 1 }
+{
+    match decl {
+        DeclNode::Import { .. } => 1,
+        DeclNode::Core(_)
+        | DeclNode::Type(_)
+        | DeclNode::TypeAlias { .. }
+        | DeclNode::CoreTypeAlias { .. }
+        | DeclNode::Export { .. } => 0,
+    }
+}
+
+// How many exports a declaration is.
+#[tactic(auto, using(crate::proofs::Nodes::nodes))]
+fn export_count(decl: &DeclNode) -> usize
+    ensures count { result ≡ length (export_of (shown_decl_node decl.now)) }
+    ensures few { result ≤ 1 }
+{
+    match decl {
+        DeclNode::Export { .. } => 1,
+        DeclNode::Core(_)
+        | DeclNode::Type(_)
+        | DeclNode::TypeAlias { .. }
+        | DeclNode::CoreTypeAlias { .. }
+        | DeclNode::Import { .. } => 0,
+    }
+}
+
+impl Declaring {
+    /// Before the first declaration.
+    pub(crate) fn new(importing: bool, fuel: u32) -> Declaring
+        ensures importing { result.importing ≡ importing }
+        ensures fuel { result.fuel ≡ fuel }
+        ensures none { taken_in result ≡ none_taken }
+    {
+        Declaring {
+            importing,
+            fuel,
+            imports: 0,
+            exports: 0,
+        }
+    }
+
+    /// The same with so much fuel.
+    pub(crate) fn with_fuel(self, fuel: u32) -> Declaring
+        ensures importing { result.importing ≡ self.importing }
+        ensures fuel { result.fuel ≡ fuel }
+        ensures taken { taken_in result ≡ taken_in self }
+    {
+        Declaring { fuel, ..self }
+    }
+
+    /// After a declaration, which leaves so much fuel.
+    pub(crate) fn after(self, decl: &DeclNode, fuel: u32) -> Declaring
+        requires { (self.imports < 18446744073709551615) × (self.exports < 18446744073709551615) }
+        ensures importing { result.importing ≡ self.importing }
+        ensures fuel { result.fuel ≡ fuel }
+        ensures taken { taken_in result ≡ after_taken (taken_in self) (shown_decl_node decl.now) }
+        ensures few { (result.imports ≤ self.imports + 1) × (result.exports ≤ self.exports + 1) }
+    {
+        Declaring {
+            importing: self.importing,
+            fuel,
+            imports: self.imports + import_count(decl),
+            exports: self.exports + export_count(decl),
+        }
+    }
+}
