@@ -28,6 +28,7 @@ void *__wrap_realloc(void *block, size_t size) { return is_refused() ? NULL : __
 
 enum { ROOM = 256 };
 
+/* A type, and a byte after its script. */
 static const uint8_t plan[8] = {3, 1, 0, 0, 6, 0, 0, 0xff};
 static const uint8_t wanted[12] = {0, 0x61, 0x73, 0x6d, 0x0d, 0, 1, 0, 7, 2, 1, 0x79};
 
@@ -77,6 +78,12 @@ static int nothing_passes_the_room(void) {
     WANT(left == 1 && output[0] == 0xaa);
     WANT(lupinanon_generate_into(&limits, plan, 8, output, 12, &len, &left) == LUPINANON_ANSWERED && len == 12);
     WANT(left == 1 && !memcmp(output, wanted, 12) && output[12] == 0xaa);
+    memset(output, 0xaa, sizeof output);
+    WANT(lupinanon_script_into(&limits, wanted, 12, NULL, 0, &len, &left) == LUPINANON_NO_ROOM && len == 7);
+    WANT(lupinanon_script_into(&limits, wanted, 12, output, 6, &len, &left) == LUPINANON_NO_ROOM && len == 7);
+    WANT(left == LUPINANON_NO_OFFSET && output[0] == 0xaa);
+    WANT(lupinanon_script_into(&limits, wanted, 12, output, 7, &len, &left) == LUPINANON_ANSWERED && len == 7);
+    WANT(left == LUPINANON_NO_OFFSET && !memcmp(output, plan, 7) && output[7] == 0xaa);
     return 1;
 }
 
@@ -138,6 +145,27 @@ static int bad_arguments_are_refused(void) {
     return 1;
 }
 
+static int bad_arguments_have_no_script(void) {
+    LupinanonLimits limits;
+    uint8_t output[16];
+    size_t len = 99, offset = 99;
+    lupinanon_default_limits(&limits, sizeof limits);
+    WANT(lupinanon_script_into(NULL, wanted, 12, output, 16, &len, &offset) == LUPINANON_BAD_ARGUMENT && !len);
+    WANT(offset == LUPINANON_NO_OFFSET);
+    WANT(lupinanon_script_into(&limits, NULL, 12, output, 16, &len, &offset) == LUPINANON_BAD_ARGUMENT);
+    WANT(lupinanon_script_into(&limits, wanted, 12, NULL, 16, &len, &offset) == LUPINANON_BAD_ARGUMENT);
+    WANT(lupinanon_script_into(&limits, wanted, SIZE_MAX, output, 16, &len, &offset) == LUPINANON_BAD_ARGUMENT);
+    WANT(lupinanon_script_into(&limits, wanted, 12, output, SIZE_MAX, &len, &offset) == LUPINANON_BAD_ARGUMENT);
+    offset = 99;
+    WANT(lupinanon_script_into(&limits, wanted, 12, output, 16, NULL, &offset) == LUPINANON_BAD_ARGUMENT);
+    WANT(offset == LUPINANON_NO_OFFSET);
+    WANT(lupinanon_script_into(&limits, NULL, 0, output, 16, &len, &offset) == LUPINANON_UNREAD && !len && !offset);
+    WANT(lupinanon_script_into(&limits, wanted, 12, output, 16, &len, NULL) == LUPINANON_ANSWERED && len == 7);
+    limits.size--;
+    WANT(lupinanon_script_into(&limits, wanted, 12, output, 16, &len, &offset) == LUPINANON_BAD_ARGUMENT && !len);
+    return 1;
+}
+
 static int left_may_be_null(void) {
     LupinanonLimits limits;
     uint8_t output[12], *bytes;
@@ -154,7 +182,7 @@ typedef union Overlapping {
     LupinanonLimits limits;
     uint8_t bytes[ROOM];
     uint8_t *block;
-    size_t counts[2];
+    size_t counts[5];
 } Overlapping;
 
 static int overlaps_are_refused(void) {
@@ -178,6 +206,29 @@ static int overlaps_are_refused(void) {
     WANT(lupinanon_generate(&limits, plan, 8, &memory.block, counts, &left) == LUPINANON_BAD_ARGUMENT);
     WANT(lupinanon_generate(&limits, plan, 8, &bytes, &len, &len) == LUPINANON_BAD_ARGUMENT && !bytes && !len);
     WANT(lupinanon_check(at, 9, counts + 1) == LUPINANON_BAD_ARGUMENT);
+    return 1;
+}
+
+static int overlaps_have_no_script(void) {
+    Overlapping memory;
+    uint8_t *at = memory.bytes, output[16];
+    size_t len, offset, *counts = memory.counts;
+    LupinanonLimits limits;
+    lupinanon_default_limits(&limits, sizeof limits);
+    memset(&memory, 0, sizeof memory);
+    memcpy(at + 24, wanted, 12);
+    WANT(lupinanon_script_into(&limits, at + 24, 12, at + 18, 7, &len, &offset) == LUPINANON_BAD_ARGUMENT);
+    WANT(lupinanon_script_into(&limits, at + 24, 12, at + 35, 7, &len, &offset) == LUPINANON_BAD_ARGUMENT);
+    WANT(lupinanon_script_into(&limits, at + 24, 12, at + 17, 7, &len, &offset) == LUPINANON_ANSWERED);
+    WANT(lupinanon_script_into(&limits, at + 24, 12, at + 36, 7, &len, &offset) == LUPINANON_ANSWERED);
+    WANT(lupinanon_script_into(&limits, at + 24, 12, output, 16, counts + 3, &offset) == LUPINANON_BAD_ARGUMENT);
+    memcpy(at + 24, wanted, 12);
+    WANT(lupinanon_script_into(&limits, at + 24, 12, output, 16, &len, counts + 4) == LUPINANON_BAD_ARGUMENT);
+    WANT(lupinanon_script_into(&limits, wanted, 12, at, 9, &len, counts + 1) == LUPINANON_BAD_ARGUMENT);
+    WANT(lupinanon_script_into(&limits, wanted, 12, at, 9, counts + 1, &offset) == LUPINANON_BAD_ARGUMENT);
+    WANT(lupinanon_script_into(&limits, wanted, 12, output, 16, &len, &len) == LUPINANON_BAD_ARGUMENT);
+    memory.limits = limits;
+    WANT(lupinanon_script_into(&memory.limits, wanted, 12, at, 16, &len, &offset) == LUPINANON_BAD_ARGUMENT);
     return 1;
 }
 
@@ -307,7 +358,8 @@ static int words_are_right(void) {
     WANT(!strcmp(lupinanon_status_name(LUPINANON_ANSWERED), "answered"));
     WANT(!strcmp(lupinanon_status_name(LUPINANON_OUT_OF_MEMORY), "out of memory"));
     WANT(!strcmp(lupinanon_status_name(LUPINANON_UNREAD), "unread"));
-    WANT(!strcmp(lupinanon_status_name(LUPINANON_UNREAD + 1), "unknown status"));
+    WANT(!strcmp(lupinanon_status_name(LUPINANON_NO_SCRIPT), "no script"));
+    WANT(!strcmp(lupinanon_status_name(LUPINANON_NO_SCRIPT + 1), "unknown status"));
     WANT(!strcmp(lupinanon_status_name(-1), "unknown status"));
     return 1;
 }
@@ -593,12 +645,114 @@ static int components_are_judged(void) {
     return 1;
 }
 
+/* A component, the limits, and its script, or why there is none and the offset. */
+typedef struct Scripted {
+    const char *name;
+    void (*set_limits)(LupinanonLimits *limits);
+    Bytes component;
+    int32_t status;
+    Bytes script;
+    size_t offset;
+} Scripted;
+
+static void set_default_limits(LupinanonLimits *limits) { lupinanon_default_limits(limits, sizeof *limits); }
+
+static void set_an_import(LupinanonLimits *limits) {
+    lupinanon_default_limits(limits, sizeof *limits);
+    limits->min_imports = 1;
+}
+
+static void set_too_deep(LupinanonLimits *limits) {
+    lupinanon_default_limits(limits, sizeof *limits);
+    limits->max_nesting_depth = 1001;
+}
+
+static void set_no_flag(LupinanonLimits *limits) {
+    lupinanon_default_limits(limits, sizeof *limits);
+    limits->simd_enabled = 2;
+}
+
+#define SCRIPT(...) LUPINANON_ANSWERED, BYTES(__VA_ARGS__), LUPINANON_NO_OFFSET
+#define NONE(status, offset) status, {NULL, 0}, offset
+#define ELEVEN_TYPES \
+    BYTES(PREAMBLE, 0x07, 0x0c, 0x0b, 0x7f, 0x7f, 0x7f, 0x7f, 0x7f, 0x7f, 0x7f, 0x7f, 0x7f, 0x7f, 0x7f)
+
+/* The rows of crates/smith_rows with these names have the scripts. Eleven types differ from ten in the length of their
+ * section, and where an import is missing no component is made. */
+static const Scripted scripted[] = {
+    {"nothing", set_default_limits, BYTES(PREAMBLE), SCRIPT(0x00)},
+    {"one type", set_default_limits, BYTES(PREAMBLE, 0x07, 0x02, 0x01, 0x79),
+     SCRIPT(0x03, 0x01, 0x00, 0x00, 0x06, 0x00, 0x00)},
+    {"an import, a lower and a lift to the same type", set_small_limits,
+     BYTES(PREAMBLE, 0x07, 0x08, 0x01, 0x40, 0x01, 0x01, 0x61, 0x79, 0x00, 0x7f, 0x0a, 0x06, 0x01, 0x00, 0x01, 0x62,
+           0x01, 0x00, 0x08, 0x0a, 0x02, 0x01, 0x00, 0x00, 0x00, 0x00, 0x00, 0x00, 0x00, 0x00),
+     SCRIPT(0x03, 0x01, 0x01, 0x01, 0x01, 0x00, 0x06, 0x00, 0x01, 0x00, 0x00, 0x04, 0x01, 0x01, 0x01, 0x00, 0x00, 0x05,
+            0x01, 0x01, 0x01, 0x01, 0x00, 0x07, 0x01, 0x00, 0x00)},
+    {"eleven types where there may be ten", set_small_limits, ELEVEN_TYPES, NONE(LUPINANON_NO_SCRIPT, 9)},
+    {"no import where there must be one", set_an_import, BYTES(PREAMBLE),
+     NONE(LUPINANON_NO_SCRIPT, LUPINANON_NO_OFFSET)},
+    {"a list of itself", set_default_limits, BYTES(PREAMBLE, 0x07, 0x04, 0x02, 0x7f, 0x70, 0x01),
+     NONE(LUPINANON_ILL_FORMED, LUPINANON_NO_OFFSET)},
+    {"the preamble of a core module", set_default_limits, BYTES(0x00, 0x61, 0x73, 0x6d, 0x01, 0x00, 0x00, 0x00),
+     NONE(LUPINANON_UNREAD, 0)},
+    {"a section without a length", set_default_limits, BYTES(PREAMBLE, 0x07), NONE(LUPINANON_UNREAD, 9)},
+    {"limits that nest too deep", set_too_deep, BYTES(PREAMBLE),
+     NONE(LUPINANON_INCONSISTENT_LIMITS, LUPINANON_NO_OFFSET)},
+    {"a byte that is no flag", set_no_flag, BYTES(PREAMBLE), NONE(LUPINANON_BAD_FLAG, LUPINANON_NO_OFFSET)},
+};
+
+/* Whether a component has the script that is said, and where its Nth growth is refused, out of memory. */
+static int has_script(const Scripted *it) {
+    LupinanonLimits limits;
+    uint8_t output[ROOM];
+    size_t len, offset;
+    int32_t status;
+    long nth;
+    it->set_limits(&limits);
+    for (nth = 0;; nth++) {
+        len = offset = 99;
+        memset(output, 0xaa, sizeof output);
+        until_refusal = nth;
+        status = lupinanon_script_into(&limits, it->component.at, it->component.len, output, sizeof output, &len,
+                                       &offset);
+        if (until_refusal >= 0) break;
+        WANT(status == LUPINANON_OUT_OF_MEMORY && !len && offset == LUPINANON_NO_OFFSET && is_untouched(output, 0));
+    }
+    until_refusal = -1;
+    if (status == it->status && offset == it->offset && len == it->script.len && is_untouched(output, len))
+        if (!len || !memcmp(output, it->script.at, len)) return 1;
+    printf("checks.c: script of %s: %s at %zu, %zu bytes\n", it->name, lupinanon_status_name(status), offset, len);
+    return 0;
+}
+
+/* Whether the script of what is generated generates it again, and nothing is left. */
+static int is_generated_again(const Entry *entry) {
+    LupinanonLimits limits;
+    uint8_t script[2 * ROOM], output[ROOM];
+    size_t script_len, len, left;
+    const Bytes *made = &entry->output;
+    entry->set_limits(&limits);
+    WANT(!lupinanon_script_into(&limits, made->at, made->len, script, sizeof script, &script_len, NULL));
+    WANT(!lupinanon_generate_into(&limits, script, script_len, output, sizeof output, &len, &left));
+    return !left && len == made->len && !memcmp(output, made->at, len);
+}
+
+static int components_have_scripts(void) {
+    const Scripted *it, *end = scripted + sizeof scripted / sizeof *scripted;
+    const Entry *entry, *last = entries + sizeof entries / sizeof *entries;
+    for (it = scripted; it < end; it++)
+        if (!has_script(it)) return 0;
+    for (entry = entries; entry < last; entry++) WANT(is_generated_again(entry));
+    return 1;
+}
+
 int main(void) {
     if (!defaults_are_written() || !nothing_passes_the_room() || !refusals_have_their_statuses()) return 1;
     if (!bad_arguments_are_refused() || !memory_is_refused_in_turn() || !growths_are_refused_in_turn()) return 1;
     if (!older_structs_are_taken() || !newer_structs_are_taken() || !wrong_sizes_are_refused()) return 1;
     if (!limits_overlap_by_their_size() || !limits_arrive()) return 1;
     if (!left_may_be_null() || !overlaps_are_refused() || !words_are_right() || !components_are_judged()) return 1;
+    if (!bad_arguments_have_no_script() || !overlaps_have_no_script() || !components_have_scripts()) return 1;
     puts("checks: all is as lupinanon.h says");
     return 0;
 }

@@ -1,5 +1,5 @@
 /* Two threads make components at once, each in an output of its own, and give the same bytes. Then the deepest
- * components are made and checked in a thread whose stack is as lupinanon.h says.
+ * components are made and checked, and made again from their scripts, in a thread whose stack is as lupinanon.h says.
  * Built with -fsanitize=thread where the compiler has it. */
 #include "lupinanon.h"
 #include <pthread.h>
@@ -49,7 +49,8 @@ struct Deep {
     size_t depth;
     uint8_t input[DEEP_INPUT];
     size_t input_len, len;
-    int32_t made, checked;
+    int32_t made, checked, scripted, made_again, too_deep;
+    int is_same;
 };
 
 static void put(struct Deep *deep, uint8_t byte) { deep->input[deep->input_len++] = byte; }
@@ -77,8 +78,9 @@ static void put_components(struct Deep *deep) {
 }
 
 static void *make_and_check(void *argument) {
-    static uint8_t output[OUTPUT];
+    static uint8_t output[OUTPUT], script[OUTPUT], again[OUTPUT];
     struct Deep *deep = (struct Deep *)argument;
+    size_t script_len, again_len;
     LupinanonLimits limits;
     lupinanon_default_limits(&limits, sizeof limits);
     limits.max_nesting_depth = deep->depth;
@@ -86,6 +88,11 @@ static void *make_and_check(void *argument) {
     limits.max_type_size = 10 * MOST_DEPTH;
     deep->made = lupinanon_generate_into(&limits, deep->input, deep->input_len, output, OUTPUT, &deep->len, NULL);
     deep->checked = lupinanon_check(output, deep->len, NULL);
+    deep->scripted = lupinanon_script_into(&limits, output, deep->len, script, OUTPUT, &script_len, NULL);
+    deep->made_again = lupinanon_generate_into(&limits, script, script_len, again, OUTPUT, &again_len, NULL);
+    deep->is_same = again_len == deep->len && !memcmp(again, output, again_len);
+    limits.max_nesting_depth--;
+    deep->too_deep = lupinanon_script_into(&limits, output, deep->len, script, OUTPUT, &script_len, NULL);
     return NULL;
 }
 
@@ -97,7 +104,8 @@ static int has_room(struct Deep *deep, size_t len) {
     if (pthread_create(&thread, &attributes, make_and_check, deep) || pthread_join(thread, NULL)) return 0;
     pthread_attr_destroy(&attributes);
     printf("threads: %zu bytes, %zu deep, in %zu bytes of stack\n", deep->len, deep->depth, size);
-    return deep->made == LUPINANON_ANSWERED && deep->checked == LUPINANON_WELL_FORMED && deep->len == len;
+    if (deep->made || deep->checked != LUPINANON_WELL_FORMED || deep->len != len) return 0;
+    return !deep->scripted && !deep->made_again && deep->is_same && deep->too_deep == LUPINANON_NO_SCRIPT;
 }
 
 /* Types take 12 bytes before them, 3 each, and 4 more for the last; of 1000 deep, a length and a count have a byte

@@ -9,6 +9,8 @@ void lupinanon_proved_default_limits(void *limits);
 int32_t lupinanon_proved_generate_into(const void *limits, const uint8_t *input, size_t input_len, uint8_t *output,
                                        size_t output_len, size_t *bytes_len, size_t *left);
 int32_t lupinanon_proved_check(const uint8_t *bytes, size_t bytes_len, size_t *offset);
+int32_t lupinanon_proved_script_into(const void *limits, const uint8_t *bytes, size_t bytes_len, uint8_t *output,
+                                     size_t output_len, size_t *script_len, size_t *offset);
 
 enum { FIRST_SIZE = 4096, MOST_LIMITS_SIZE = 4096 };
 
@@ -110,6 +112,16 @@ static int complete(LupinanonLimits *limits, Memory given) {
     return is_zero((const uint8_t *)given.at + known, given.len - known);
 }
 
+/* Whether the limits, what else is read and what is written, an output and two numbers, may be passed on. The limits
+ * are then copied over the defaults. */
+static int are_good(LupinanonLimits *whole, const LupinanonLimits *limits, Memory input, const Memory written[3]) {
+    Memory read[2];
+    read[0] = memory_of_limits(limits);
+    read[1] = input;
+    if (!is_there(written[0]) || !is_there(read[0]) || !is_there(read[1])) return 0;
+    return are_apart(written, 3, read, 2) && complete(whole, read[0]);
+}
+
 const char *lupinanon_version(void) { return LUPINANON_VERSION; }
 
 const char *lupinanon_status_name(int32_t status) {
@@ -126,6 +138,7 @@ const char *lupinanon_status_name(int32_t status) {
     case LUPINANON_BAD_ARGUMENT: return "bad argument";
     case LUPINANON_ILL_FORMED: return "ill formed";
     case LUPINANON_UNREAD: return "unread";
+    case LUPINANON_NO_SCRIPT: return "no script";
     default: return "unknown status";
     }
 }
@@ -150,10 +163,8 @@ int32_t lupinanon_generate_into(const LupinanonLimits *limits, const uint8_t *in
     if (bytes_len) *bytes_len = 0;
     if (!bytes_len || !limits) return LUPINANON_BAD_ARGUMENT;
     {
-        Memory written[] = {{output, output_len}, MEMORY_OF(bytes_len), MEMORY_OF(left)};
-        Memory read[] = {memory_of_limits(limits), {input, input_len}};
-        if (!is_there(written[0]) || !is_there(read[0]) || !is_there(read[1])) return LUPINANON_BAD_ARGUMENT;
-        if (!are_apart(written, 3, read, 2) || !complete(&whole, read[0])) return LUPINANON_BAD_ARGUMENT;
+        Memory written[] = {{output, output_len}, MEMORY_OF(bytes_len), MEMORY_OF(left)}, read = {input, input_len};
+        if (!are_good(&whole, limits, read, written)) return LUPINANON_BAD_ARGUMENT;
     }
     return lupinanon_proved_generate_into(WITHOUT_SIZE(&whole), input ? input : &nothing, input_len,
                                           output ? output : &nothing, output_len, bytes_len, left);
@@ -204,4 +215,21 @@ int32_t lupinanon_check(const uint8_t *bytes, size_t bytes_len, size_t *offset) 
         if (!is_there(read) || !is_apart(written, read)) return LUPINANON_BAD_ARGUMENT;
     }
     return lupinanon_proved_check(bytes ? bytes : &nothing, bytes_len, offset);
+}
+
+int32_t lupinanon_script_into(const LupinanonLimits *limits, const uint8_t *bytes, size_t bytes_len, uint8_t *output,
+                              size_t output_len, size_t *script_len, size_t *offset) {
+    LupinanonLimits whole;
+    uint8_t nothing = 0;
+    size_t not_needed;
+    if (!offset) offset = &not_needed;
+    *offset = LUPINANON_NO_OFFSET;
+    if (script_len) *script_len = 0;
+    if (!script_len || !limits) return LUPINANON_BAD_ARGUMENT;
+    {
+        Memory written[] = {{output, output_len}, MEMORY_OF(script_len), MEMORY_OF(offset)}, read = {bytes, bytes_len};
+        if (!are_good(&whole, limits, read, written)) return LUPINANON_BAD_ARGUMENT;
+    }
+    return lupinanon_proved_script_into(WITHOUT_SIZE(&whole), bytes ? bytes : &nothing, bytes_len,
+                                        output ? output : &nothing, output_len, script_len, offset);
 }

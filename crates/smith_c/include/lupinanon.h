@@ -1,7 +1,7 @@
 /* WebAssembly components from a fuzzer's bytes.
  *
- * Three functions are proved: those that lupinanon_default_limits, lupinanon_generate_into and lupinanon_check call
- * after a check of their arguments. That check, and all else, is the plain C of lupinanon.c.
+ * Four functions are proved: those that lupinanon_default_limits, lupinanon_generate_into, lupinanon_check and
+ * lupinanon_script_into call after a check of their arguments. That check, and all else, is the plain C of lupinanon.c.
  *
  * What the caller owes, and nothing checks:
  *  - A pointer that is not NULL points to what its type says, and a length says how much lies there. Limits are as many
@@ -101,20 +101,23 @@ enum LupinanonStatus {
     LUPINANON_TOO_LONG = 4,            /* a length or a count in the bytes would pass 4,294,967,295 */
     LUPINANON_OUT_OF_MEMORY = 5,       /* malloc or realloc returned NULL */
     LUPINANON_PARTS_DISAGREE = 6,      /* no call of this library returns it */
-    LUPINANON_NO_ROOM = 7,             /* the output is too short; *bytes_len is how long it has to be */
+    LUPINANON_NO_ROOM = 7,             /* the output is too short; *bytes_len or *script_len is how long it has to be */
     LUPINANON_BAD_FLAG = 8,            /* a feature is neither 0 nor 1 */
     LUPINANON_BAD_ARGUMENT = 9,        /* NULL where there has to be memory, a length of half the memory or more, memory
                                         * to write that overlaps what else is passed, limits of a wrong size, or limits
                                         * with anything but 0 where the library has none */
-    LUPINANON_ILL_FORMED = 10,         /* of lupinanon_check: the bytes are a component that is not well formed */
-    LUPINANON_UNREAD = 11              /* of lupinanon_check: the bytes are no component, or it nests too deep */
+    LUPINANON_ILL_FORMED = 10,         /* the bytes are a component that is not well formed */
+    LUPINANON_UNREAD = 11,             /* the bytes are no component, or it nests too deep */
+    LUPINANON_NO_SCRIPT = 12           /* the bytes are a component that is well formed, but no input produces it
+                                        * within the limits */
 };
 
 /* How many bytes of stack a call takes at most, with a fifth to spare: within limits of that max_nesting_depth, and at
- * 1000 also lupinanon_check of any bytes. At 1000, the greatest depth, that is 2 MiB. */
+ * 1000 also lupinanon_check and lupinanon_script_into of any bytes: theirs grows with how deep the bytes nest, whatever
+ * the limits. At 1000, the greatest depth, that is 2 MiB. */
 #define LUPINANON_STACK(max_nesting_depth) (49152 + 2048 * (size_t)(max_nesting_depth))
 
-/* What lupinanon_check writes where it knows no offset. */
+/* What lupinanon_check and lupinanon_script_into write where they know no offset. */
 #define LUPINANON_NO_OFFSET SIZE_MAX
 
 /* LUPINANON_VERSION of the library, which is another than that of this header where the two do not belong together. */
@@ -160,6 +163,23 @@ int32_t lupinanon_generate(const LupinanonLimits *limits, const uint8_t *input, 
  *
  * Bytes may be NULL where their length is 0, and `offset` where it is not needed. */
 int32_t lupinanon_check(const uint8_t *bytes, size_t bytes_len, size_t *offset);
+
+/* Writes the script of the component that bytes are to the front of the output: an input from which
+ * lupinanon_generate_into produces these bytes, within the same limits, and of which nothing is left. Each component
+ * that can be generated has one. docs/SCRIPTS.md says more.
+ *
+ * LUPINANON_ANSWERED: *script_len bytes are written.
+ * LUPINANON_NO_ROOM: *script_len is how long the script is, and otherwise it is 0. Nothing is written to the output.
+ * LUPINANON_NO_SCRIPT: no input produces the component within the limits. *offset is where what its script produces
+ * first differs, so far as there is one, or LUPINANON_NO_OFFSET.
+ * LUPINANON_UNREAD: as of lupinanon_check, with its *offset.
+ * LUPINANON_ILL_FORMED: as of lupinanon_check, which also knows the entry.
+ * *offset is LUPINANON_NO_OFFSET where the status is another.
+ *
+ * `bytes_len` and `output_len` are in bytes. Bytes and output may be NULL where their length is 0, and `offset` where
+ * it is not needed. */
+int32_t lupinanon_script_into(const LupinanonLimits *limits, const uint8_t *bytes, size_t bytes_len, uint8_t *output,
+                              size_t output_len, size_t *script_len, size_t *offset);
 
 #ifdef __cplusplus
 }

@@ -1,3 +1,4 @@
 pub mod Limits
 pub mod Makes
+pub mod Scripts
 pub mod Status

@@ -2,7 +2,7 @@
 use Rattle.std.specs.Prelude.{ℕ, ℤ, pos}
 use Rattle.smith_input.specs.declared.error.Error.TheVariants.{InconsistentLimits, MinimumNotMet, ModuleRefused, TooLong, OutOfMemory, PartsDisagree}
 use Rattle.smith_c.specs.declared.status.Status.{Status}
-use Rattle.smith_c.specs.declared.status.Status.TheVariants.{Answered, Refused, NoRoom, BadFlag, IllFormed, Unread}
+use Rattle.smith_c.specs.declared.status.Status.TheVariants.{Answered, Refused, NoRoom, BadFlag, IllFormed, Unread, NoScript}
 
 -- the number in C that says how a call ended
 abbrev pub code_of : Status → ℤ
@@ -17,6 +17,7 @@ code_of NoRoom = pos 7
 code_of BadFlag = pos 8
 code_of IllFormed = pos 10
 code_of Unread = pos 11
+code_of NoScript = pos 12
 
 -- what is written where no offset is known: 2^64 - 1
 abbrev pub no_offset : ℕ

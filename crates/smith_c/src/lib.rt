@@ -6,4 +6,5 @@ pub mod check;
 pub mod into;
 pub mod limits;
 pub mod make;
+pub mod script;
 pub mod status;

@@ -8,11 +8,11 @@ use smith_input::Error;
 /// How a call ended.
 #[derive(Drop)]
 pub enum Status {
-    /// The component's bytes are in the output; or the bytes are a component that is well formed.
+    /// What was asked for is in the output; or the bytes are a component that is well formed.
     Answered,
-    /// No component is made of the input, or there is no memory for it.
+    /// No component is made of the input, or there is no memory for what was asked for.
     Refused(Error),
-    /// The output has no room for the component's bytes.
+    /// The output has no room for what was asked for.
     NoRoom,
     /// A feature's byte is neither 0 nor 1.
     BadFlag,
@@ -20,12 +20,14 @@ pub enum Status {
     IllFormed,
     /// The bytes are no component of the grammar, or one whose scopes are nested too deep to be read.
     Unread,
+    /// The bytes are a component that is well formed, but no input produces it within the limits.
+    NoScript,
 }
 
 impl Status {
-    /// Its number in C: 0 where the bytes are in the output or are well formed, 1 to 6 for the refusals in the order of
-    /// `Error`, 7 where there is no room, 8 for a byte that is no flag, 10 for a component that is not well formed, and
-    /// 11 for bytes that are none. The header has 9 for arguments that no call may have.
+    /// Its number in C: 0 where the output has it or the bytes are well formed, 1 to 6 for the refusals in the order of
+    /// `Error`, 7 where there is no room, 8 for a byte that is no flag, 10 for a component that is not well formed, 11
+    /// for bytes that are none, and 12 where there is no script. The header has 9 for arguments that no call may have.
     pub fn code(&self) -> i32
         ensures { result ≡ code_of self.now }
     {
@@ -41,6 +43,7 @@ impl Status {
             Status::BadFlag => 8,
             Status::IllFormed => 10,
             Status::Unread => 11,
+            Status::NoScript => 12,
         }
     }
 }

@@ -1,6 +1,7 @@
 -- Texts that can be read, as the writer finds them.
-use Rattle.std.proofs.Common.{◌≡◌, ℕ, zero, suc, ◌+◌, ◌-◌, ◌/◌, ◌%◌, ◌<◌, ◌≤◌, ◌^◌, Bool, true, false, List, [], ◌∷◌, length, take, refl, ap, ◌∙◌, arith}
+use Rattle.std.proofs.Common.{◌≡◌, ℕ, zero, suc, ◌+◌, ◌-◌, ◌*◌, ◌/◌, ◌%◌, ◌<◌, ◌≤◌, ◌^◌, Bool, true, false, List, [], ◌∷◌, length, take, refl, ap, sym, ◌∙◌, arith}
 use Rattle.std.proofs.Common.{length-append}
+use Rattle.std.proofs.lemmas.List.{length-take-le, take_all, take-take}
 use Rattle.std.proofs.lemmas.Fmt.{decimal_digit, decimal_step, length-decimal-le}
 use Rattle.std.specs.Fmt.{decimal}
 use Rattle.std.specs.Prelude.{if◌then◌else◌}
@@ -31,3 +32,20 @@ module _ (can_read : List ℕ → Bool) (digits : ℕ) where
       let same : fuel ≡ less = omega (arith, e) in
       ap (λ b. if b then name else first_readable can_read digits fuel (take (length name - digits) name)) c
       ∙ ap (λ n. first_readable can_read digits n (take (length name - digits) name)) same
+
+  -- as often as what is left is too long
+  module _ (some : 0 < digits) (longs : (text : List ℕ) → 101 < length text → can_read text ≡ false) where
+    pub first_cut : (cuts fuel : ℕ) (name : List ℕ) → cuts ≤ fuel → cuts * digits ≤ length name - 101
+        → first_readable can_read digits fuel name ≡ first_readable can_read digits (fuel - cuts) (take (length name - cuts * digits) name)
+    first_cut zero fuel name f long =
+        let all : take (length name - 0 * digits) name ≡ name = take_all (length name - 0 * digits) name (omega arith) in
+        let whole : fuel ≡ fuel - 0 = omega arith in
+        ap (λ n. first_readable can_read digits n name) whole ∙ ap (first_readable can_read digits (fuel - 0)) (sym all)
+    first_cut (suc cuts) fuel name f long =
+        let left = take (length name - cuts * digits) name in
+        let many : length left ≡ length name - cuts * digits = length-take-le (length name - cuts * digits) name (omega arith) in
+        let shorter : length left - digits ≡ length name - suc cuts * digits = omega (arith, many) in
+        first_cut cuts fuel name (omega (arith, f)) (omega (arith, long))
+        ∙ (first_further (fuel - cuts) (fuel - suc cuts) left (omega (arith, f)) (longs left (omega (arith, many, long, some)))
+        ∙ ap (first_readable can_read digits (fuel - suc cuts))
+        (ap (λ n. take n left) shorter ∙ take-take (length name - suc cuts * digits) (length name - cuts * digits) name (omega arith)))

@@ -1,7 +1,7 @@
 //! Names as a script spells them: by a text that can be read and becomes the name.
 
 ghost use Rattle.std.specs.Fmt.{decimal};
-ghost use Rattle.std.specs.Prelude.{◌≡◌, ◌≤◌, ℕ, List, Bool, length};
+ghost use Rattle.std.specs.Prelude.{◌≡◌, ◌<◌, ◌≤◌, ℕ, List, Bool, false, length};
 ghost use Rattle.smith_input.specs.NameScript.{is_short, is_within, script_new, script_new_text, stem_of};
 ghost use Rattle.smith_input.specs.Script.{script_name, script_text};
 ghost use Rattle.smith_script_core.specs.Says.{Says};
@@ -17,6 +17,10 @@ trait Readable {
 
     fn reads(&self, text: &[u8]) -> bool
         ensures { result ≡ can_read self.now text.now };
+
+    // What has more than one byte more than `MAX_NAME_LEN` is not read.
+    fn refuses_long(&self)
+        ensures { (text : List ℕ) → 101 < length text → can_read self.now text ≡ false };
 }
 
 // Texts that become names in kebab case.
@@ -30,6 +34,8 @@ impl Readable for Label {
         text.len() <= MAX_NAME_LEN
             || text.len() == MAX_NAME_LEN + 1 && text.ends_with(&[b'-', b'a'])
     }
+
+    fn refuses_long(&self) {}
 }
 
 // Texts that become other names.
@@ -42,11 +48,14 @@ impl Readable for Text {
     fn reads(&self, text: &[u8]) -> bool {
         text.len() <= MAX_NAME_LEN
     }
+
+    fn refuses_long(&self) {}
 }
 
 // How many decimal digits a number has.
 fn decimal_len(n: usize) -> usize
     ensures count { result ≡ length (decimal n) }
+    ensures some { 0 < result }
     ensures few { result ≤ 20 }
 {
     if n < 10 {
@@ -55,13 +64,17 @@ fn decimal_len(n: usize) -> usize
     decimal_len(n / 10) + 1
 }
 
-// The longest text that can be read and becomes the name, where so many names are there.
+// The longest text that can be read and becomes the name, where so many names are there. What is too long is cut in one
+// step, so that a long name costs no more than a short one.
 fn stem_of<'b, R: Readable>(rule: &R, count: usize, name: &'b [u8]) -> &'b [u8]
     ensures { result.now ≡ stem_of (R.can_read rule.now) count name.now }
 {
     let digits = decimal_len(count);
-    let mut text = name;
-    for _turn in 0..name.len() {
+    rule.refuses_long();
+    let excess = name.len().saturating_sub(MAX_NAME_LEN + 1);
+    let cuts = excess / digits;
+    let mut text = &name[..name.len() - cuts * digits];
+    for _turn in cuts..name.len() {
         if rule.reads(text) {
             return text;
         }

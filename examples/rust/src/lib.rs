@@ -4,14 +4,15 @@
 //! `malloc`, `realloc` and `free` of a C library.
 //!
 //! ```
-//! use lupinanon::{check, generate, Limits, Verdict};
+//! use lupinanon::{check, generate, script, Limits, Verdict};
 //!
 //! let limits = Limits { max_components: 4, ..Limits::default() };
 //! let made = generate(&limits, b"\x03\x01\x00\x00\x06\x00\x00\xff")?;
 //! assert_eq!(made.bytes, b"\x00asm\x0d\x00\x01\x00\x07\x02\x01\x79");
 //! assert_eq!(made.left, 1);
 //! assert_eq!(check(&made.bytes), Ok(Verdict::WellFormed));
-//! # Ok::<(), lupinanon::Refusal>(())
+//! assert_eq!(script(&limits, &made.bytes)?, b"\x03\x01\x00\x00\x06\x00\x00");
+//! # Ok::<(), Box<dyn std::error::Error>>(())
 //! ```
 #![no_std]
 
@@ -99,6 +100,41 @@ impl fmt::Display for OutOfMemory {
 
 impl core::error::Error for OutOfMemory {}
 
+/// Why bytes have no script.
+#[derive(Clone, Copy, Debug, PartialEq, Eq)]
+#[non_exhaustive]
+pub enum NoScript {
+    /// A minimum passes its maximum, a maximum 32 bits, or the nesting depth 1000.
+    InconsistentLimits,
+    /// They are no component of the grammar, or one whose scopes are nested more than 1001 deep, as was seen at this
+    /// offset.
+    Unread { offset: usize },
+    /// They are a component that breaks a rule. `check` knows in which entry.
+    IllFormed,
+    /// No input produces them within the limits. What their script produces first differs at this offset, so far as
+    /// there is one.
+    CannotBeGenerated { offset: Option<usize> },
+    /// Out of memory.
+    OutOfMemory,
+}
+
+impl fmt::Display for NoScript {
+    fn fmt(&self, f: &mut fmt::Formatter<'_>) -> fmt::Result {
+        match self {
+            NoScript::InconsistentLimits => f.write_str("the limits do not fit together"),
+            NoScript::Unread { offset } => write!(f, "no component, as is seen at offset {offset}"),
+            NoScript::IllFormed => f.write_str("the component is not well formed"),
+            NoScript::CannotBeGenerated { offset: None } => f.write_str("it cannot be generated"),
+            NoScript::CannotBeGenerated { offset: Some(offset) } => {
+                write!(f, "it cannot be generated; what its script produces differs at offset {offset}")
+            }
+            NoScript::OutOfMemory => f.write_str("out of memory"),
+        }
+    }
+}
+
+impl core::error::Error for NoScript {}
+
 /// Returns the component that the input gives within the limits. Equal limits and equal input give equal bytes.
 ///
 /// # Panics
@@ -126,6 +162,28 @@ pub fn generate(limits: &Limits, input: &[u8]) -> Result<Generated, Refusal> {
 /// Returns what the bytes are: a component that is well formed, one that is not, or none.
 pub fn check(bytes: &[u8]) -> Result<Verdict, OutOfMemory> {
     library::check(bytes)
+}
+
+/// Returns the script of the component that the bytes are: an input from which `generate` produces these bytes within
+/// the same limits, and of which nothing is left. Each component that can be generated has one.
+///
+/// # Panics
+///
+/// As `generate` does.
+pub fn script(limits: &Limits, bytes: &[u8]) -> Result<Vec<u8>, NoScript> {
+    let mut output = Vec::new();
+    let mut room = 4096;
+    loop {
+        output.try_reserve_exact(room).map_err(|_| NoScript::OutOfMemory)?;
+        output.resize(room, 0);
+        let len = library::script_into(limits, bytes, &mut output)?;
+        if len <= room {
+            output.truncate(len);
+            return Ok(output);
+        }
+        output.clear();
+        room = len;
+    }
 }
 
 /// Returns the version of the static library.

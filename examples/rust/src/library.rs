@@ -1,7 +1,7 @@
 //! The static library's functions.
 
 use crate::raw_limits::RawLimits;
-use crate::{Limits, OutOfMemory, Refusal, Verdict};
+use crate::{Limits, NoScript, OutOfMemory, Refusal, Verdict};
 use core::ffi::{c_char, CStr};
 use core::mem::{size_of, MaybeUninit};
 
@@ -18,6 +18,15 @@ extern "C" {
         left: *mut usize,
     ) -> i32;
     fn lupinanon_check(bytes: *const u8, bytes_len: usize, offset: *mut usize) -> i32;
+    fn lupinanon_script_into(
+        limits: *const RawLimits,
+        bytes: *const u8,
+        bytes_len: usize,
+        output: *mut u8,
+        output_len: usize,
+        script_len: *mut usize,
+        offset: *mut usize,
+    ) -> i32;
 }
 
 /// The version of the static library.
@@ -72,9 +81,21 @@ pub fn generate_into(limits: &Limits, input: &[u8], output: &mut [u8]) -> Result
         5 => Err(Refusal::OutOfMemory),
         6 => Err(Refusal::PartsDisagree),
         7 => Ok(Answer::NoRoom { len }),
+        other => unexpected(other),
+    }
+}
+
+// A status that no call returns, unless a limit is set that the library does not have.
+fn unexpected(status: i32) -> ! {
+    match status {
         9 => panic!("a limit is set that the library, of version {}, does not have", version()),
         other => unreachable!("the arguments are good, and a truth value is 0 or 1; {other} is no status"),
     }
+}
+
+// An offset, where it is one.
+fn known(offset: usize) -> Option<usize> {
+    (offset != usize::MAX).then_some(offset)
 }
 
 /// What the bytes are.
@@ -85,8 +106,35 @@ pub fn check(bytes: &[u8]) -> Result<Verdict, OutOfMemory> {
     match status {
         0 => Ok(Verdict::WellFormed),
         5 => Err(OutOfMemory),
-        10 => Ok(Verdict::IllFormed { offset: (offset != usize::MAX).then_some(offset) }),
+        10 => Ok(Verdict::IllFormed { offset: known(offset) }),
         11 => Ok(Verdict::Unread { offset }),
         other => unreachable!("the arguments are good, and {other} is no status of a check"),
+    }
+}
+
+/// How long the script of the bytes is. It is written to the front of the output, where there is room.
+pub fn script_into(limits: &Limits, bytes: &[u8], output: &mut [u8]) -> Result<usize, NoScript> {
+    let limits = RawLimits::of(limits);
+    let (mut len, mut offset) = (0, 0);
+    // SAFETY: no reference is null, the lengths are those of the slices, and nothing written overlaps anything.
+    let status = unsafe {
+        lupinanon_script_into(
+            &limits,
+            bytes.as_ptr(),
+            bytes.len(),
+            output.as_mut_ptr(),
+            output.len(),
+            &mut len,
+            &mut offset,
+        )
+    };
+    match status {
+        0 | 7 => Ok(len),
+        1 => Err(NoScript::InconsistentLimits),
+        5 => Err(NoScript::OutOfMemory),
+        10 => Err(NoScript::IllFormed),
+        11 => Err(NoScript::Unread { offset }),
+        12 => Err(NoScript::CannotBeGenerated { offset: known(offset) }),
+        other => unexpected(other),
     }
 }

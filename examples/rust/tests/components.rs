@@ -1,4 +1,4 @@
-use lupinanon::{check, generate, library_version, Limits, Refusal, Verdict};
+use lupinanon::{check, generate, library_version, script, Limits, NoScript, Refusal, Verdict};
 
 #[test]
 fn a_component_of_one_type() {
@@ -53,6 +53,43 @@ fn components_are_judged() {
     assert_eq!(check(&of_itself), Ok(Verdict::IllFormed { offset: Some(12) }));
     assert_eq!(check(b"\x00asm\x01\x00\x00\x00"), Ok(Verdict::Unread { offset: 0 }));
     assert_eq!(check(b""), Ok(Verdict::Unread { offset: 0 }));
+}
+
+#[test]
+fn a_component_has_its_script() {
+    let component = b"\x00asm\x0d\x00\x01\x00\x07\x02\x01\x79";
+    let written = script(&Limits::default(), component).unwrap();
+    assert_eq!(written, b"\x03\x01\x00\x00\x06\x00\x00");
+    let made = generate(&Limits::default(), &written).unwrap();
+    assert_eq!((made.bytes, made.left), (component.to_vec(), 0));
+}
+
+#[test]
+fn a_script_larger_than_the_first_output() {
+    let mut input = b"\x01\x00\x00".to_vec();
+    for _ in 0..10_000 {
+        input.extend_from_slice(b"\x01\x2a");
+    }
+    input.extend_from_slice(b"\x00\x00");
+    let made = generate(&Limits::default(), &input).unwrap();
+    assert_eq!(made.left, 0);
+    assert_eq!(script(&Limits::default(), &made.bytes), Ok(input));
+}
+
+#[test]
+fn what_has_no_script_is_refused() {
+    let preamble = b"\x00asm\x0d\x00\x01\x00";
+    let crossed = Limits { min_types: 5, max_types: 4, ..Limits::default() };
+    assert_eq!(script(&crossed, preamble), Err(NoScript::InconsistentLimits));
+    assert_eq!(script(&Limits::default(), b""), Err(NoScript::Unread { offset: 0 }));
+    let of_itself = [&preamble[..], b"\x07\x04\x02\x7f\x70\x01"].concat();
+    assert_eq!(script(&Limits::default(), &of_itself), Err(NoScript::IllFormed));
+    // Two types where there may be one: the length of their section is that of one type more.
+    let few = Limits { max_types: 1, ..Limits::default() };
+    let two = [&preamble[..], b"\x07\x03\x02\x7f\x7f"].concat();
+    assert_eq!(script(&few, &two), Err(NoScript::CannotBeGenerated { offset: Some(9) }));
+    let imports = Limits { min_imports: 1, ..Limits::default() };
+    assert_eq!(script(&imports, preamble), Err(NoScript::CannotBeGenerated { offset: None }));
 }
 
 #[test]

@@ -1,8 +1,20 @@
-use Rattle.std.proofs.Common.{◌≡◌, ◌∙◌, ◌+◌, ◌-◌, ap, sym, arith, length}
+use Rattle.std.proofs.Common.{◌≡◌, ◌∙◌, ◌+◌, ◌-◌, ◌*◌, ◌/◌, ◌≤◌, ap, sym, arith, length}
 use Rattle.std.specs.Prelude.{take}
 use Rattle.smith_input.specs.NameScript.{first_readable}
-use Rattle.smith_script_core.proofs.ReadableTexts.{first_further, first_here}
+use Rattle.smith_script_core.proofs.ReadableTexts.{first_cut, first_further, first_here}
 use Rattle.smith_script_core.proofs.names.stem_of.Goals as goal
+
+pub loop-turn-init : goal.loop-turn-init
+loop-turn-init g c =
+    let can_read = g.R.Readable.can_read c.args.rule.now in
+    let name = c.args.name.now in
+    let digits = c.decimal_len-digits.result in
+    let excess = c.saturating_sub-excess.result in
+    let less : excess / digits ≤ excess = omega arith in
+    let times : excess / digits * digits ≤ excess = omega arith in
+    let is : excess ≡ length name - 101 = c.saturating_sub-excess.ensures in
+    sym (first_cut can_read digits c.decimal_len-digits.ensures.some c.refuses_long.ensures (excess / digits) (length name) name
+    (omega (arith, less, is)) (omega (arith, times, is)))
 
 pub loop-turn-preserved : goal.loop-turn-preserved
 loop-turn-preserved g c =
