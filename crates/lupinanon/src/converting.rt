@@ -14,7 +14,7 @@ use std::io::{Read, Write};
 pub enum WithinError {
     /// The text spells no limits.
     Limits(TextFault),
-    /// The run within the limits gives up.
+    /// The run within the limits fails.
     Run(RunError),
 }
 

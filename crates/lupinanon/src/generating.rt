@@ -9,7 +9,7 @@ use crate::places::{STANDARD_INPUT, STANDARD_OUTPUT, Sink, Source, print_fault, 
 use smith_run::{LONGEST_INPUT, RunError};
 use std::process::ExitCode;
 
-// Prints why a run gave up, and returns its status.
+// Prints why a run failed, and returns its status.
 fn status_of_run(
     rt: &HostRuntime,
     options: &Options<'_>,

@@ -123,7 +123,7 @@ enum LupinanonStatus {
 /* LUPINANON_VERSION of the library, which is another than that of this header where the two do not belong together. */
 const char *lupinanon_version(void);
 
-/* A status in words, as "out of memory"; "unknown status" of any other number. Neither string is ever given back. */
+/* A status in words, as "out of memory"; "unknown status" of any other number. Neither string is ever freed. */
 const char *lupinanon_status_name(int32_t status);
 
 /* Writes the default limits, and their size: lupinanon_default_limits(&limits, sizeof limits). What the library has no
@@ -134,18 +134,18 @@ const char *lupinanon_status_name(int32_t status);
  * after 4096 bytes. Nothing is written. */
 int32_t lupinanon_default_limits(LupinanonLimits *limits, size_t size);
 
-/* Makes the component that the input gives within the limits, and writes its bytes to the front of the output.
+/* Makes the component that the input produces within the limits, and writes its bytes to the front of the output.
  *
  * LUPINANON_ANSWERED: *bytes_len bytes are written, and *left bytes at the end of the input were not used.
  * LUPINANON_NO_ROOM: both counts are returned, and no other byte is written. Otherwise both are 0, and no other byte is
  * written.
  *
  * `input_len` and `output_len` are in bytes. Input and output may be NULL where their length is 0, and `left` where it
- * is not needed. Equal limits and equal input give equal bytes, always. */
+ * is not needed. Equal limits and equal input produce equal bytes, always. */
 int32_t lupinanon_generate_into(const LupinanonLimits *limits, const uint8_t *input, size_t input_len, uint8_t *output,
                                 size_t output_len, size_t *bytes_len, size_t *left);
 
-/* Makes the component in a block of its own, which the caller gives back by free. NULL as limits are the default
+/* Makes the component in a block of its own, which the caller frees with free. NULL as limits are the default
  * limits, and `left` may be NULL. Where the status is not LUPINANON_ANSWERED, *bytes is NULL, and *bytes_len and *left
  * are 0. */
 int32_t lupinanon_generate(const LupinanonLimits *limits, const uint8_t *input, size_t input_len, uint8_t **bytes,

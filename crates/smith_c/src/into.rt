@@ -21,9 +21,9 @@ use std::alloc::Global;
 /// Makes a component of the input within the limits, as `generate` does, and writes its bytes to the front of the
 /// output.
 ///
-/// The answer is the code of a `Status`. Where the output has no room, `bytes_len` is how many bytes it lacks room for,
-/// and `left` how many bytes of the input are not used, as where the bytes are written. Else both are 0. The output is
-/// as it was unless the bytes are written, and after them it is as it was in any case.
+/// The answer is the code of a `Status`. Where the output has no room, `bytes_len` is how long the bytes are, and `left`
+/// how many bytes of the input are not used, as where the bytes are written. Else both are 0. The output is as it was
+/// unless the bytes are written, and after them it is as it was in any case.
 #[unsafe(no_mangle)]
 pub extern "C" fn lupinanon_proved_generate_into(
     alloc: Global,
@@ -42,12 +42,12 @@ pub extern "C" fn lupinanon_proved_generate_into(
         × (status : Status) × (result ≡ code_of status) × Stops limits.now input.now status }
     ensures kept { result ≢ code_of Answered → output.new ≡ output.old }
 
-    // An input that begins with the script of a plan gives the plan's bytes, and leaves what stands after it.
+    // An input that begins with the script of a plan produces the plan's bytes, and leaves what is after it.
     ensures reach { (config : Config) (plan : Tree) (rest : List ℕ) → limits.now ≡ limits_of config
         → Within config plan → input.now ≡ script config plan ++ rest
         → result ≡ code_of Answered → Spells plan (take bytes_len.new output.new) × (left.new ≡ length rest) }
 
-    // It is answered, want of memory and of room aside.
+    // It is answered, memory and room aside.
     ensures answers { (config : Config) (plan : Tree) (rest : List ℕ) → limits.now ≡ limits_of config
         → IsConsistent config → Within config plan → input.now ≡ script config plan ++ rest
         → (result ≡ code_of Answered) ⊎ (result ≡ code_of NoRoom) ⊎ (result ≡ code_of (Refused OutOfMemory)) }

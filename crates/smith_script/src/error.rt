@@ -41,9 +41,9 @@ pub enum ScriptError {
     },
     /// The component is not well formed: the first rule that it breaks, and where.
     IllFormed(Fault),
-    /// The component is well formed, but no input gives it within the limits. A limit that it does not keep is named; else
-    /// a name is too long, or a core module is none of those that can be generated. `offset` is that of the first byte
-    /// in which the component that its script gives differs, so far as there is one.
+    /// The component is well formed, but no input produces it within the limits. A limit that it does not keep is
+    /// named; else a name is too long, or a core module is none of those that can be generated. `offset` is that of the
+    /// first byte in which the component that its script produces differs, so far as there is one.
     NoScript {
         limit: Option<Unkept>,
         offset: Option<usize>,

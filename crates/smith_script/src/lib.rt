@@ -1,4 +1,4 @@
-//! The script of a component: the input on which `generate` gives it.
+//! The script of a component: the input from which `generate` produces it.
 #![tactic(auto, using(smith_script_core::proofs::Saying::saying))]
 
 mod canons;

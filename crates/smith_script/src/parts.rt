@@ -159,7 +159,8 @@ pub(crate) fn put_tree(
     given: Given<'_>,
     tree: &ComponentTree,
 ) -> Result<(), Unsaid>
-    ensures { WellFormed (shown_tree tree.now) → Says result out.old out.new (script given.entry.config.now (shown_tree tree.now)) }
+    ensures { WellFormed (shown_tree tree.now)
+        → Says result out.old out.new (script given.entry.config.now (shown_tree tree.now)) }
 {
     let totals = RefTotals {
         modules: 0,

@@ -42,8 +42,8 @@ pub(crate) trait Row {
         scopes: &mut Scopes<'a>,
         here: &mut Open<'a>,
     ) -> Result<(), Unsaid>
-        ensures said { Says result out.old out.new
-            (says given.entry.config.now (outer_in scopes.old) (preceding (own_in scopes.old) here.old) (shown self.now)) }
+        ensures said { Says result out.old out.new (says given.entry.config.now (outer_in scopes.old)
+            (preceding (own_in scopes.old) here.old) (shown self.now)) }
         ensures added { OnOk result (preceding (own_in scopes.new) here.new
             ≡ after (preceding (own_in scopes.old) here.old) (shown self.now)) }
         ensures outer { OnOk result (outer_in scopes.new ≡ outer_in scopes.old) };

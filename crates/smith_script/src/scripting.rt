@@ -24,7 +24,7 @@ use smith_read::{ComponentTree, ReadError, read};
 use smith_script_types::{Given, Unsaid};
 use std::alloc::Global;
 
-// What an input gives, where these bytes are expected.
+// What an input produces, where these bytes are expected.
 #[derive(Clone, Copy)]
 enum Trial {
     // These bytes, and nothing of the input is left.
@@ -35,7 +35,7 @@ enum Trial {
     Nothing,
 }
 
-// Out of memory aside, a refusal says that an input gives no component.
+// Out of memory aside, a refusal says that an input produces no component.
 fn refused(error: Error) -> Result<Trial, ScriptError>
     ensures not_given { IfOk result (λ t. (t ≡ trial.Nothing) × ¬ (error ≡ Error.OutOfMemory)) }
     ensures memory { IfErr result (λ e. e ≡ OutOfMemory) }
@@ -46,7 +46,7 @@ fn refused(error: Error) -> Result<Trial, ScriptError>
     }
 }
 
-// Does the input give a component of these bytes, and is nothing left?
+// Does the input produce a component of these bytes, and is nothing left?
 fn tried(alloc: Global, config: &Config, input: &[u8], bytes: &[u8]) -> Result<Trial, ScriptError>
     ensures answered { IfOk result
         (λ x. x ≡ trial.These → (t : Tree) → Spells t bytes.now → IsGiven config.now t input.now) }
@@ -67,7 +67,7 @@ fn tried(alloc: Global, config: &Config, input: &[u8], bytes: &[u8]) -> Result<T
     }
 }
 
-// That no input gives the component, where its script was tried, or as much of it as there is.
+// That no input produces the component, where its script was tried, or as much of it as there is.
 fn no_script(
     config: &Config,
     tree: &ComponentTree,
@@ -149,11 +149,12 @@ fn scripted(alloc: Global, config: &Config, bytes: &[u8]) -> Result<Vec<u8>, Scr
     consistent_script(alloc, config, bytes)
 }
 
-/// The script of the component that these bytes are: the input on which `generate` gives them, and of which nothing is
-/// left.
+/// The script of the component that these bytes are: the input from which `generate` produces them, and of which
+/// nothing is left.
 ///
 /// The bytes are read and judged, the script is written as it is defined, and tried: it is returned exactly where
-/// `generate` gives the bytes on it. The time is that of the bytes and of the script, times a logarithm.
+/// `generate` produces the bytes from it. The time is linear in the bytes and the script, times a logarithm, but that
+/// each lift takes the time to hash the names of its function type.
 pub fn script(alloc: Global, config: &Config, bytes: &[u8]) -> Result<Vec<u8>, ScriptError>
     ensures answered { IfOk result
         (λ b. (t : Tree) × Spells t bytes.now × IsScript config.now t b.items) }
@@ -164,7 +165,7 @@ pub fn script(alloc: Global, config: &Config, bytes: &[u8]) -> Result<Vec<u8>, S
     // A plan is refused only where memory runs out.
     ensures plans { (t : Tree) → Spells t bytes.now → IsConsistent config.now → Within config.now t
         → IfErr result (λ e. e ≡ OutOfMemory) }
-    // What is refused for another reason is given by no input.
+    // No input produces what is refused for another reason.
     ensures no_input { IsConsistent config.now → IfErr result (λ e. ¬ (e ≡ OutOfMemory)
         → (t : Tree) → Spells t bytes.now → CannotBeGenerated config.now t) }
 {
