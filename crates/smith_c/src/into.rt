@@ -21,9 +21,9 @@ use std::alloc::Global;
 /// Makes a component of the input within the limits, as `generate` does, and writes its bytes to the front of the
 /// output.
 ///
-/// The answer is the code of a `Status`. Where the output has no room, `bytes_len` is how long the bytes are, and `left`
-/// how many bytes of the input are not used, as where the bytes are written. Else both are 0. The output is as it was
-/// unless the bytes are written, and after them it is as it was in any case.
+/// The answer is the code of a `Status`. Where the output has no room, `bytes_len` is how long the bytes are, and
+/// `left` how many bytes of the input are not used, as where the bytes are written. Else both are 0. The output is as
+/// it was unless the bytes are written, and after them it is as it was in any case.
 #[unsafe(no_mangle)]
 pub extern "C" fn lupinanon_proved_generate_into(
     alloc: Global,

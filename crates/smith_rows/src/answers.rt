@@ -138,7 +138,8 @@ fn is_its_script(
     }
 }
 
-// What is generated from an input, with other bytes after it too where the task asks that, and whether it is the script.
+// What is generated from an input, with other bytes after it too where the task asks that, and whether it is the
+// script.
 fn generation(
     alloc: Global,
     limits: Config,

@@ -1,8 +1,9 @@
 //! A table, line by line.
 //!
-//! `limits` sets the limits of what follows, by their names; the others have their defaults. A row begins with a task and
-//! the row's name, has its bytes on lines that begin with a space, and ends before an empty line. What follows a `#` is a
-//! comment. Each line is printed as it is, and what is found goes to lines that begin with `=` at the end of the row.
+//! `limits` sets the limits of what follows, by their names; the others have their defaults. A row begins with a task
+//! and the row's name, has its bytes on lines that begin with a space, and ends before an empty line. What follows a
+//! `#` is a comment. Each line is printed as it is, and what is found goes to lines that begin with `=` at the end of
+//! the row.
 
 use crate::answers::{Task, answer};
 use crate::bytes::push_line;
