@@ -2,8 +2,10 @@
 #![tactic(auto, using(smith_script_core::proofs::Saying::saying))]
 
 mod canons;
+mod core_limits;
 mod difference;
 mod error;
+mod extents;
 mod functions;
 mod items;
 mod lifts;
