@@ -1,5 +1,5 @@
-/* bench PASSES LENGTH FILE: takes the file's bytes as inputs of so many bytes each, makes a component of each in so many
- * passes, and prints inputs a second, and bytes in and out. */
+/* bench PASSES LENGTH FILE [SECTIONS]: takes the file's bytes as inputs of so many bytes each, makes a component of each in
+ * so many passes, and prints inputs a second, and bytes in and out. SECTIONS is finish_after, 0 where it is left out. */
 #include "lupinanon.h"
 #include <stdio.h>
 #include <string.h>
@@ -37,14 +37,15 @@ int main(int count, char **words) {
     size_t corpus_len, length;
     long passes;
     double start, took;
-    FILE *file = count == 4 ? fopen(words[3], "rb") : NULL;
+    FILE *file = count == 4 || count == 5 ? fopen(words[3], "rb") : NULL;
     if (!file || (passes = atol(words[1])) < 1 || (length = (size_t)atol(words[2])) < 1) {
-        fprintf(stderr, "usage: bench PASSES LENGTH FILE\n");
+        fprintf(stderr, "usage: bench PASSES LENGTH FILE [SECTIONS]\n");
         return 2;
     }
     corpus_len = fread(corpus, 1, sizeof corpus, file);
     fclose(file);
     lupinanon_default_limits(&limits, sizeof limits);
+    limits.finish_after = count == 5 ? (size_t)atol(words[4]) : 0;
     start = seconds();
     while (passes--) {
         if (!pass(&limits, corpus_len, length, &counts)) {

@@ -63,6 +63,7 @@ static int defaults_are_written(void) {
     WANT(limits.simd_enabled == 1);
     WANT(limits.allow_floats == 1);
     WANT(limits.bulk_memory_enabled == 1);
+    WANT(limits.finish_after == 0);
     return 1;
 }
 
@@ -304,6 +305,7 @@ static int newer_structs_are_taken(void) {
     WANT(limits->size == sizeof(NewerLimits) && limits->max_types == 100);
     WANT(memory.newer.max_more == 0 && memory.newer.more_enabled == 0 && is_made(limits));
     for (place = offsetof(LupinanonLimits, reserved); place < sizeof(NewerLimits); place++) {
+        if (place == offsetof(LupinanonLimits, finish_after)) place = sizeof(LupinanonLimits);
         memory.bytes[place] = 1;
         WANT(are_bad_arguments(limits));
         memory.bytes[place] = 0;
@@ -441,6 +443,8 @@ static const Arriving arriving[] = {
     REFUSED(simd_enabled, 2, TYPE, LUPINANON_BAD_FLAG),
     REFUSED(allow_floats, 2, TYPE, LUPINANON_BAD_FLAG),
     REFUSED(bulk_memory_enabled, 2, TYPE, LUPINANON_BAD_FLAG),
+    /* the byte that would finish the component is the choice of a custom section */
+    MADE(finish_after, 1, BYTES(0x00), BYTES(PREAMBLE, 0x00, 0x01, 0x00)),
 };
 
 static void set(LupinanonLimits *limits, const Arriving *it) {

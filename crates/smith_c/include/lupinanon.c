@@ -72,6 +72,7 @@ static const size_t ends[] = {
     END_OF(allow_floats),
     END_OF(bulk_memory_enabled),
     END_OF(reserved),
+    END_OF(finish_after),
 };
 
 static int is_limits_size(size_t size) {

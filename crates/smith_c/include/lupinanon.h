@@ -89,6 +89,9 @@ typedef struct LupinanonLimits {
     uint8_t bulk_memory_enabled;
     /* Reserved, and 0. */
     uint8_t reserved[6];
+    /* How many sections a component has at least when the input finishes it. Where no input is left, it is finished
+     * whatever it has. [0] */
+    size_t finish_after;
 } LupinanonLimits;
 
 /* How a call ended. */

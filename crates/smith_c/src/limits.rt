@@ -34,6 +34,7 @@ pub struct Limits {
     pub simd_enabled: u8,
     pub allow_floats: u8,
     pub bulk_memory_enabled: u8,
+    pub finish_after: usize,
 }
 
 // Whether a feature is on. No byte but 0 and 1 says it.
@@ -77,6 +78,7 @@ impl Limits {
             simd_enabled: u8::from(config.simd_enabled),
             allow_floats: u8::from(config.allow_floats),
             bulk_memory_enabled: u8::from(config.bulk_memory_enabled),
+            finish_after: config.finish_after,
         }
     }
 
@@ -109,6 +111,7 @@ impl Limits {
             max_instances: self.max_instances,
             max_nesting_depth: self.max_nesting_depth,
             max_type_size: self.max_type_size,
+            finish_after: self.finish_after,
         })
     }
 }

@@ -47,3 +47,4 @@ pub mod Encoded
 pub mod Plan
 pub mod Planned
 pub mod RunsReadable
+pub mod RunsFinishable

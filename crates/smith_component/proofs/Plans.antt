@@ -16,7 +16,9 @@ use Rattle.smith_component.proofs.Script.{reach}
 -- The script of a plan, followed by any bytes, leads to that plan and leaves them.
 pub script_runs : (config : Config) (plan : Tree) (rest : List ℕ) → IsConsistent config → Within config plan
     → RunsTo config (script config plan ++ rest) plan rest
-script_runs config plan rest consistent w = let r = reach config plan rest consistent w.possible (plan_stands config plan w) in runs_to config (script config plan ++ rest) plan rest r.0 r.1
+script_runs config plan rest consistent w =
+    let r = reach config plan rest consistent w.possible w.finishable (plan_stands config plan w) in
+    runs_to config (script config plan ++ rest) plan rest r.0 r.1
 
 module _ (config : Config) (input : List ℕ) (plan : Tree) (rest : List ℕ) (consistent : IsConsistent config) (w : Within config plan)
     (begins : input ≡ script config plan ++ rest) where

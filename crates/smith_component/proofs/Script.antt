@@ -21,12 +21,12 @@ use Rattle.smith_tree.specs.Tree.{Tree, ends, first, Part, custom, core_module, 
 use Rattle.smith_tree.specs.Tree.{component_count, module_count, no_depth, most}
 use Rattle.smith_tree.specs.WellFormed.{Formed, FormedPart}
 use Rattle.smith_tree.specs.Limits.{OwnLimits, Maxima, Minima}
-use Rattle.smith_tree.specs.Open.{Open, root, items, items_with_input, offers, is_module_offered, is_component_offered, is_export_offered, tree_so_far}
-use Rattle.smith_tree.specs.Open.{scopes_in}
+use Rattle.smith_tree.specs.Open.{Open, root, item_offers, items, items_with_input, is_finish_offered, is_module_offered, is_component_offered, is_export_offered}
+use Rattle.smith_tree.specs.Open.{scopes_in, tree_so_far}
 use Rattle.smith_component.specs.Turn.{Next, building, answered, Closes, Does, Turn, with_open, with_part}
 use Rattle.smith_component.specs.Runs.{Turns}
 use Rattle.smith_tree.specs.Script.{Continues, item_of, script_item, script_part, script_from, script}
-use Rattle.smith_tree.specs.Readable.{CanBeGenerated, IsReadablePart, IsReadableRest}
+use Rattle.smith_tree.specs.Readable.{AreFinishable, CanBeGenerated, IsFinishable, IsReadablePart, IsReadableRest}
 use Rattle.smith_tree.specs.contracts.choices.Item.{the_type}
 use Rattle.smith_tree.specs.contracts.choices.ItemPartialEq.TheImpl.{ghosts as equal}
 use Rattle.smith_tree.specs.declared.choices.Item.{Item}
@@ -53,7 +53,7 @@ pub item_read : (config : Config) (outer : List Tree) (inner : Tree) (item : Ite
 item_read config outer inner item place rest e =
     let stack : Open = record { outer = outer; inner = inner } in
     let xs : List Item = items_with_input config stack in
-    let some = items_some (is_module_offered config stack) (is_component_offered config stack) (is_export_offered config) in
+    let some = items_some config stack in
     let at : ℕ = rank_of equal.eq xs item in
     let below : at < length xs = slice_get_within xs at item (rank_found equal.eq item_Decides xs item place e) in
     let byte : pick (length xs) at ≡ at ∷ [] = pick-byte (length xs) at (omega (arith, some.0)) (omega (arith, some.1)) in
@@ -61,30 +61,44 @@ item_read config outer inner item place rest e =
     let Q : List ℕ → Type 0 = λ b. ReadsAmong xs (b ++ rest) item rest in
     subst P (sym byte) (subst Q byte (among_read equal.eq item_Decides xs item place rest (omega (arith, some.1)) e))
 
--- what stands at each place
-front : (config : Config) (outer : List Tree) (before : Tree) → let xs = items_with_input config (record { outer = outer; inner = before }) in
-    (slice_get xs 0 ≡ Some Finish) × (slice_get xs 1 ≡ Some Custom) × (slice_get xs 2 ≡ Some CoreTypes) × (slice_get xs 3 ≡ Some Types)
-    × (slice_get xs 4 ≡ Some Imports) × (slice_get xs 5 ≡ Some Canonical)
-front config outer before = (refl, refl, refl, refl, refl, refl)
+-- An item, and where it is among those that are offered.
+abbrev Offered : Config → Open → Item → Type 0
+Offered config stack item = (place : ℕ) × (slice_get (items_with_input config stack) place ≡ Some item)
 
--- where the items with a condition stand, where it holds
-component_item : (config : Config) (stack : Open) → is_component_offered config stack ≡ true
-    → (place : ℕ) × (slice_get (items_with_input config stack) place ≡ Some Component)
+-- those without a condition
+custom_item : (config : Config) (stack : Open) → Offered config stack Custom
+custom_item config stack = offers_found (item_offers config stack) 1 true Custom refl refl
+
+core_types_item : (config : Config) (stack : Open) → Offered config stack CoreTypes
+core_types_item config stack = offers_found (item_offers config stack) 2 true CoreTypes refl refl
+
+types_item : (config : Config) (stack : Open) → Offered config stack Types
+types_item config stack = offers_found (item_offers config stack) 3 true Types refl refl
+
+imports_item : (config : Config) (stack : Open) → Offered config stack Imports
+imports_item config stack = offers_found (item_offers config stack) 4 true Imports refl refl
+
+canons_item : (config : Config) (stack : Open) → Offered config stack Canonical
+canons_item config stack = offers_found (item_offers config stack) 5 true Canonical refl refl
+
+-- those with a condition, where it holds
+finish_item : (config : Config) (stack : Open) → IsFinishable config stack.inner → Offered config stack Finish
+finish_item config stack enough =
+    let offered : is_finish_offered config stack.inner ≡ true = grind (arith, nat_tests, enough) in
+    offers_found (item_offers config stack) 0 (is_finish_offered config stack.inner) Finish refl offered
+
+component_item : (config : Config) (stack : Open) → is_component_offered config stack ≡ true → Offered config stack Component
 component_item config stack offered =
-    offers_found (offers (is_module_offered config stack) (is_component_offered config stack) (is_export_offered config)) 7
-    (is_component_offered config stack) Component refl offered
+    offers_found (item_offers config stack) 7 (is_component_offered config stack) Component refl offered
 
-module_item : (config : Config) (stack : Open) → is_module_offered config stack ≡ true
-    → (place : ℕ) × (slice_get (items_with_input config stack) place ≡ Some Module)
+module_item : (config : Config) (stack : Open) → is_module_offered config stack ≡ true → Offered config stack Module
 module_item config stack offered =
-    offers_found (offers (is_module_offered config stack) (is_component_offered config stack) (is_export_offered config)) 6
-    (is_module_offered config stack) Module refl offered
+    offers_found (item_offers config stack) 6 (is_module_offered config stack) Module refl offered
 
-exports_item : (config : Config) (stack : Open) → 0 < config.max_exports → (place : ℕ) × (slice_get (items_with_input config stack) place ≡ Some Exports)
+exports_item : (config : Config) (stack : Open) → 0 < config.max_exports → Offered config stack Exports
 exports_item config stack some =
     let offered : is_export_offered config ≡ true = grind (arith, nat_tests, some) in
-    offers_found (offers (is_module_offered config stack) (is_component_offered config stack) (is_export_offered config)) 8
-    (is_export_offered config) Exports refl offered
+    offers_found (item_offers config stack) 8 (is_export_offered config) Exports refl offered
 
 -- What has at most what it may have has so in front.
 pub limits_front : (t : Tree) (config : Config) (outer : List Tree) (a : Tree) → Maxima config (tree_so_far outer (join a t))
@@ -164,8 +178,17 @@ pub limits_past : (p : Part) (t : Tree) (config : Config) (outer : List Tree) (b
     → Maxima config (tree_so_far outer (join (add before p) t))
 limits_past p t config outer before l = subst (λ x. Maxima config (tree_so_far outer x)) (sym (join-add before p t)) l
 
-enough_past : (p : Part) (t : Tree) (config : Config) (before : Tree) → Minima config (join before (first p t)) → Minima config (join (add before p) t)
-enough_past p t config before m = subst (Minima config) (sym (join-add before p t)) m
+-- A component that is finished meets the minima, and input may be left then.
+record Ends (config : Config) (t : Tree) : Type 0 where
+  minima : Minima config t
+  finishable : IsFinishable config t
+
+all_end : (config : Config) (ts : List Tree) → AllByRecursion (Minima config) ts → AllByRecursion (IsFinishable config) ts → AllByRecursion (Ends config) ts
+all_end config [] m f = tt
+all_end config (t ∷ ts) m f = (record { minima = m.0; finishable = f.0 }, all_end config ts m.1 f.1)
+
+enough_past : (p : Part) (t : Tree) (config : Config) (before : Tree) → Ends config (join before (first p t)) → Ends config (join (add before p) t)
+enough_past p t config before m = subst (Ends config) (sym (join-add before p t)) m
 
 after_past : (p : Part) (t : Tree) (config : Config) (outer : List Tree) (before : Tree) (next : Next) (left : List ℕ) (k : ℕ) (rest : List ℕ)
     → ((n : Next) → Closes (record { outer = outer; inner = join before (first p t) }) n → Turns config n rest next left k) → (n : Next)
@@ -182,11 +205,13 @@ reach_from : (t : Tree) (config : Config) (consistent : IsConsistent config) (ou
     (spoken : AllByRecursion Spoken (types_of before)) (rest : List ℕ) (next : Next) (left : List ℕ) (k : ℕ) → IsReadableRest config t before
     → Stands config (suc (length outer)) t
     → Formed t (scopes_in outer) before → Maxima config (tree_so_far outer (join before t))
-    → AllByRecursion (Minima config) (inside t) → Minima config (join before t)
+    → AllByRecursion (Ends config) (inside t) → Ends config (join before t)
     → ((n : Next) → Closes (record { outer = outer; inner = join before t }) n → Turns config n rest next left k)
     → Leads config outer before next left before (script_from t config outer before ++ rest)
 reach_from ends config consistent outer before spoken rest next left k readable stands formed l each enough after =
     let c = closes_some outer before in
+    let here : Ends config before = subst (Ends config) (join-ends before) enough in
+    let offered = finish_item config (record { outer = outer; inner = before }) here.finishable in
     let P : Tree → Type 0 = λ x. Closes (record { outer = outer; inner = x }) c.0 in (
       suc k,
       (
@@ -195,15 +220,16 @@ reach_from ends config consistent outer before spoken rest next left k readable 
         record {
           item = Finish;
           after = rest;
-          chooses = item_read config outer before Finish 0 rest (front config outer before).0;
-          does = (before, fills_nothing config (record { outer = outer; inner = before }) rest (subst (Minima config) (join-ends before) enough), c.1);
+          chooses = item_read config outer before Finish offered.0 rest offered.1;
+          does = (before, fills_nothing config (record { outer = outer; inner = before }) rest here.minima, c.1);
         },
         after c.0 (subst P (sym (join-ends before)) c.1),
       ),
     )
 reach_from (first (custom name contents) t) config consistent outer before spoken rest next left k readable stands formed l each enough after =
     let p : Part = custom name contents in
-    adds config outer before next left p 1 (script_from t config outer (add before p)) rest (front config outer before).1
+    let offered = custom_item config (record { outer = outer; inner = before }) in
+    adds config outer before next left p offered.0 (script_from t config outer (add before p)) rest offered.1
     (custom_part config (record { outer = outer; inner = before }) (script_from t config outer (add before p) ++ rest) name contents readable.0 stands.0 formed.0
     (part_limits p t config outer before l))
     (reach_from t config consistent outer (add before p) (spoken_past config p (scopes_in outer) before readable.0 formed.0 spoken) rest next
@@ -211,7 +237,8 @@ reach_from (first (custom name contents) t) config consistent outer before spoke
     (after_past p t config outer before next left k rest after))
 reach_from (first (core_types ts) t) config consistent outer before spoken rest next left k readable stands formed l each enough after =
     let p : Part = core_types ts in
-    adds config outer before next left p 2 (script_from t config outer (add before p)) rest (front config outer before).2
+    let offered = core_types_item config (record { outer = outer; inner = before }) in
+    adds config outer before next left p offered.0 (script_from t config outer (add before p)) rest offered.1
     (core_types_part config (record { outer = outer; inner = before }) (script_from t config outer (add before p) ++ rest) consistent ts readable.0 stands.0 formed.0
     (part_limits p t config outer before l))
     (reach_from t config consistent outer (add before p) (spoken_past config p (scopes_in outer) before readable.0 formed.0 spoken) rest next
@@ -219,7 +246,8 @@ reach_from (first (core_types ts) t) config consistent outer before spoken rest 
     (after_past p t config outer before next left k rest after))
 reach_from (first (types es) t) config consistent outer before spoken rest next left k readable stands formed l each enough after =
     let p : Part = types es in
-    adds config outer before next left p 3 (script_from t config outer (add before p)) rest (front config outer before).3
+    let offered = types_item config (record { outer = outer; inner = before }) in
+    adds config outer before next left p offered.0 (script_from t config outer (add before p)) rest offered.1
     (types_part config (record { outer = outer; inner = before }) (script_from t config outer (add before p) ++ rest) consistent es
     (limits_front t config outer (add before p) (limits_past p t config outer before l)) readable.0 stands.0 formed.0 (part_limits p t config outer before l))
     (reach_from t config consistent outer (add before p) (spoken_past config p (scopes_in outer) before readable.0 formed.0 spoken) rest next
@@ -227,7 +255,8 @@ reach_from (first (types es) t) config consistent outer before spoken rest next 
     (after_past p t config outer before next left k rest after))
 reach_from (first (imports is) t) config consistent outer before spoken rest next left k readable stands formed l each enough after =
     let p : Part = imports is in
-    adds config outer before next left p 4 (script_from t config outer (add before p)) rest (front config outer before).4
+    let offered = imports_item config (record { outer = outer; inner = before }) in
+    adds config outer before next left p offered.0 (script_from t config outer (add before p)) rest offered.1
     (imports_part config (record { outer = outer; inner = before }) (script_from t config outer (add before p) ++ rest) consistent is
     (limits_front t config outer (add before p) (limits_past p t config outer before l)) readable.0 stands.0 formed.0 (part_limits p t config outer before l))
     (reach_from t config consistent outer (add before p) (spoken_past config p (scopes_in outer) before readable.0 formed.0 spoken) rest next
@@ -235,7 +264,8 @@ reach_from (first (imports is) t) config consistent outer before spoken rest nex
     (after_past p t config outer before next left k rest after))
 reach_from (first (canons fs) t) config consistent outer before spoken rest next left k readable stands formed l each enough after =
     let p : Part = canons fs in
-    adds config outer before next left p 5 (script_from t config outer (add before p)) rest (front config outer before).5
+    let offered = canons_item config (record { outer = outer; inner = before }) in
+    adds config outer before next left p offered.0 (script_from t config outer (add before p)) rest offered.1
     (canons_part config (record { outer = outer; inner = before }) (script_from t config outer (add before p) ++ rest) consistent spoken fs readable.0 stands.0 formed.0
     (part_limits p t config outer before l))
     (reach_from t config consistent outer (add before p) (spoken_past config p (scopes_in outer) before readable.0 formed.0 spoken) rest next
@@ -262,13 +292,13 @@ reach_from (first (core_module text) t) config consistent outer before spoken re
     (after_past p t config outer before next left k rest after))
 reach_from (first (component u) t) config consistent outer before spoken rest next left k readable stands formed l each enough after =
     let p : Part = component u in
-    let minima : AllByRecursion (Minima config) ((u ∷ inside u) ++ inside t) = each in
-    let in_it : AllByRecursion (Minima config) (u ∷ inside u) = all_front (Minima config) (u ∷ inside u) (inside t) minima in
+    let minima : AllByRecursion (Ends config) ((u ∷ inside u) ++ inside t) = each in
+    let in_it : AllByRecursion (Ends config) (u ∷ inside u) = all_front (Ends config) (u ∷ inside u) (inside t) minima in
     let st : List ℕ = script_from t config outer (add before p) in
     let su : List ℕ = script_from u config (outer ++ before ∷ []) ends in
     let choice : List ℕ = script_item config outer before Component in
     let m = reach_from t config consistent outer (add before p) (spoken_past config p (scopes_in outer) before readable.0 formed.0 spoken) rest
-    next left k readable.1 stands.1 formed.1 (limits_past p t config outer before l) (all_back (Minima config) (u ∷ inside u) (inside t) minima)
+    next left k readable.1 stands.1 formed.1 (limits_past p t config outer before l) (all_back (Ends config) (u ∷ inside u) (inside t) minima)
     (enough_past p t config before enough) (after_past p t config outer before next left k rest after) in
     let here : Maxima config (tree_so_far outer (add before p)) = limits_front t config outer (add before p) (limits_past p t config outer before l) in
     let there : Maxima config (tree_so_far (outer ++ before ∷ []) u) = subst (Maxima config) (sym (tree_so_far-close outer before u)) here in
@@ -304,10 +334,12 @@ reach_from (first (component u) t) config consistent outer before spoken rest ne
       ),
     )
 
-pub reach : (config : Config) (plan : Tree) (rest : List ℕ) → IsConsistent config → CanBeGenerated config plan → Stands config 1 plan
+pub reach : (config : Config) (plan : Tree) (rest : List ℕ) → IsConsistent config → CanBeGenerated config plan → AreFinishable config plan
+    → Stands config 1 plan
     → (k : ℕ) × Turns config (building root) (script config plan ++ rest) (answered plan) rest k
-reach config plan rest consistent c stands =
-    reach_from plan config consistent [] ends tt rest (answered plan) rest zero c.readable stands c.formed c.limits.maxima c.limits.minima.1 c.limits.minima.0
+reach config plan rest consistent c finishable stands =
+    let all : AllByRecursion (Ends config) (plan ∷ inside plan) = all_end config (plan ∷ inside plan) c.limits.minima finishable in
+    reach_from plan config consistent [] ends tt rest (answered plan) rest zero c.readable stands c.formed c.limits.maxima all.1 all.0
     (λ n d. elim d [ inl (x, y) ↦ (sym y, refl) | inr (o, p, x, y) ↦ absurd (not_empty o p (sym x)) ])
 
 -- Turns of a script by themselves.
@@ -330,11 +362,6 @@ spoken_in (first p t) config outer before readable formed spoken =
     (spoken_in t config outer (add before p) readable.1 formed.1 (spoken_past config p outer before readable.0 formed.0 spoken))
 
 module _ (config : Config) (consistent : IsConsistent config) (stack : Open) where
-  at : (config : Config) (stack : Open) → let xs = items_with_input config stack in
-      (slice_get xs 1 ≡ Some Custom) × (slice_get xs 2 ≡ Some CoreTypes) × (slice_get xs 3 ≡ Some Types) × (slice_get xs 4 ≡ Some Imports)
-      × (slice_get xs 5 ≡ Some Canonical)
-  at config stack = (refl, refl, refl, refl, refl)
-
   pub part_turn : (p : Part) (rest : List ℕ) → ¬ (item_of p ≡ Component) → Continues config stack p
       → PartStands config (suc (length stack.outer)) p
       → Turn config stack ((script_item config stack.outer stack.inner (item_of p) ++ script_part p config stack.outer stack.inner) ++ rest) (with_part stack p)
@@ -350,18 +377,27 @@ module _ (config : Config) (consistent : IsConsistent config) (stack : Open) whe
           → AllByRecursion Spoken (types_of stack.inner) → Turn config stack
           ((script_item config stack.outer stack.inner (item_of p) ++ script_part p config stack.outer stack.inner) ++ rest) (with_part stack p) rest
       does (custom name contents) flat m readable stands formed own spoken =
-          turn_of config stack Custom 1 _ rest _ (at config stack).0 (custom_part config stack rest name contents readable stands formed own)
+          let offered = custom_item config stack in
+          turn_of config stack Custom offered.0 _ rest _ offered.1 (custom_part config stack rest name contents readable stands formed own)
       does (core_module text) flat m readable stands formed own spoken =
           let last = module_item config stack (module_offered config stack.outer stack.inner text m) in
           turn_of config stack Module last.0 _ rest _ last.1 (module_part config stack rest text readable stands formed own)
-      does (core_types ts) flat m readable stands formed own spoken = turn_of config stack CoreTypes 2 _ rest _ (at config stack).1
+      does (core_types ts) flat m readable stands formed own spoken =
+          let offered = core_types_item config stack in
+          turn_of config stack CoreTypes offered.0 _ rest _ offered.1
           (core_types_part config stack rest consistent ts readable stands formed own)
       does (component t) flat m readable stands formed own spoken = absurd (flat refl)
-      does (types ts) flat m readable stands formed own spoken = turn_of config stack Types 3 _ rest _ (at config stack).2
+      does (types ts) flat m readable stands formed own spoken =
+          let offered = types_item config stack in
+          turn_of config stack Types offered.0 _ rest _ offered.1
           (types_part config stack rest consistent ts m readable stands formed own)
-      does (canons fs) flat m readable stands formed own spoken = turn_of config stack Canonical 5 _ rest _ (at config stack).4
+      does (canons fs) flat m readable stands formed own spoken =
+          let offered = canons_item config stack in
+          turn_of config stack Canonical offered.0 _ rest _ offered.1
           (canons_part config stack rest consistent spoken fs readable stands formed own)
-      does (imports is) flat m readable stands formed own spoken = turn_of config stack Imports 4 _ rest _ (at config stack).3
+      does (imports is) flat m readable stands formed own spoken =
+          let offered = imports_item config stack in
+          turn_of config stack Imports offered.0 _ rest _ offered.1
           (imports_part config stack rest consistent is m readable stands formed own)
       does (exports es) flat m readable stands formed own spoken =
           let last = exports_item config stack readable.0 in
@@ -373,12 +409,14 @@ opening_turn config stack rest offered =
     let last = component_item config stack offered in
     record { item = Component; after = rest; chooses = item_read config stack.outer stack.inner Component last.0 rest last.1; does = (refl, refl) }
 
-pub closing_turn : (config : Config) (stack : Open) (next : Next) (rest : List ℕ) → Minima config stack.inner → Closes stack next
+pub closing_turn : (config : Config) (stack : Open) (next : Next) (rest : List ℕ) → Minima config stack.inner → IsFinishable config stack.inner
+    → Closes stack next
     → Turn config stack (script_item config stack.outer stack.inner Finish ++ rest) next rest
-closing_turn config stack next rest enough closes =
+closing_turn config stack next rest enough finishable closes =
+    let offered = finish_item config stack finishable in
     record {
       item = Finish;
       after = rest;
-      chooses = item_read config stack.outer stack.inner Finish 0 rest (front config stack.outer stack.inner).0;
+      chooses = item_read config stack.outer stack.inner Finish offered.0 rest offered.1;
       does = (stack.inner, fills_nothing config stack rest enough, closes);
     }

@@ -33,7 +33,7 @@ use Rattle.smith_tree.specs.CanonScript.{canon_item_of, script_canon, script_lif
 use Rattle.smith_tree.specs.Grammar.{part, parts, preamble}
 use Rattle.smith_tree.specs.Limits.{OwnLimits}
 use Rattle.smith_tree.specs.Offers.{canon_items, canon_offers, is_scalar_entry, is_scalar_type, totals_of, with_exports, with_imports}
-use Rattle.smith_tree.specs.Open.{is_component_offered, is_export_offered, is_module_offered, items_with_input, offers, Open, scopes_in}
+use Rattle.smith_tree.specs.Open.{item_offers, items_with_input, Open, scopes_in}
 use Rattle.smith_tree.specs.Readable.{IsReadableRest}
 use Rattle.smith_tree.specs.Script.{item_of, script, script_export, script_from, script_import, script_item}
 use Rattle.smith_tree.specs.Script.{script_part, Within}
@@ -128,7 +128,7 @@ small_canons (c ∷ cs) s f spoken many few =
 small_item : (config : Config) (outer : List Tree) (before : Tree) (item : Item) → Small (script_item config outer before item)
 small_item config outer before item =
     let stack : Open = record { outer = outer; inner = before } in
-    let few = offers_few (offers (is_module_offered config stack) (is_component_offered config stack) (is_export_offered config)) in
+    let few = offers_few (item_offers config stack) in
     small_few equal.eq (items_with_input config stack) item (omega (arith, few))
 
 -- What has the rest of a component of a plan, where these components are open around it and these parts stand before it.

@@ -1,5 +1,5 @@
 -- What a turn chooses, and that it lowers what is left to do.
-use Rattle.std.proofs.Common.{◌≡◌, ℕ, zero, suc, ◌+◌, ◌^◌, ◌≤◌, List, [], ◌∷◌, ◌++◌, length, drop, arith, ap, sym, subst, ◌∙◌, refl, true, Bool, inl}
+use Rattle.std.proofs.Common.{◌≡◌, ℕ, zero, suc, ◌+◌, ◌^◌, ◌≤◌, List, [], ◌∷◌, ◌++◌, length, drop, arith, ap, sym, subst, ◌∙◌, refl, true, Bool, false, inl}
 use Rattle.std.proofs.Common.{inr, map, length-append, length-drop}
 use Rattle.std.specs.List.{AllByRecursion}
 use Rattle.std.specs.Prelude.{slice_get, Some}
@@ -11,7 +11,8 @@ use Rattle.smith_format.specs.declared.config.Config.{Config}
 use Rattle.smith_tree.specs.Tree.{Tree, ends, Part, custom, core_module, core_types, component, exports, add}
 use Rattle.smith_component.specs.Building.{Building, open_of}
 use Rattle.smith_tree.specs.Limits.{max_depth}
-use Rattle.smith_tree.specs.Open.{Open, more_items, is_component_offered, is_export_offered, is_module_offered, items, offers, with_inner}
+use Rattle.smith_tree.specs.Open.{Open, more_items, is_component_offered, is_export_offered, is_finish_offered, is_module_offered, item_offers, items}
+use Rattle.smith_tree.specs.Open.{items_with_input, offers, with_inner}
 use Rattle.smith_component.specs.Shown.{shown_module, shown_sections}
 use Rattle.smith_component.specs.Steps.{AddsSections}
 use Rattle.smith_component.specs.Turn.{Next, building, answered, Turn, Closes, Does, with_part}
@@ -36,8 +37,13 @@ only_finish zero item e = cc
 only_finish (suc place) item e = absurd (cc)
 
 -- how many items there are where input is left
-pub items_some : (m c e : Bool) → (6 ≤ length (more_items m c e)) × (length (more_items m c e) ≤ 9)
-items_some m c e = (omega arith, offers_few (offers m c e))
+items_some_by : (f m c e : Bool) → (5 ≤ length (more_items f m c e)) × (length (more_items f m c e) ≤ 9)
+items_some_by true m c e = (omega arith, offers_few (offers true m c e))
+items_some_by false m c e = (omega arith, offers_few (offers false m c e))
+
+pub items_some : (config : Config) (stack : Open) → (5 ≤ length (items_with_input config stack)) × (length (items_with_input config stack) ≤ 9)
+items_some config stack =
+    items_some_by (is_finish_offered config stack.inner) (is_module_offered config stack) (is_component_offered config stack) (is_export_offered config)
 
 -- One byte tells from 2 to 256 things apart.
 pub one_byte : (n : ℕ) → 2 ≤ n → n ≤ 256 → IsWidth n 1
@@ -139,8 +145,7 @@ chosen config stack (x ∷ xs) after item r =
     let P : Item → Type 0 = WasOffered config stack in
     let other : (i : Item) → (i ≡ Module → ⊥) → (i ≡ Component → ⊥) → (i ≡ Exports → ⊥) → P i = λ i m c x.
     (λ e. absurd (m e), λ e. absurd (c e), λ e. absurd (x e)) in
-    let all : AllByRecursion (λ o. o.0 ≡ true → P o.1) (offers
-    (is_module_offered config stack) (is_component_offered config stack) (is_export_offered config)) = (
+    let all : AllByRecursion (λ o. o.0 ≡ true → P o.1) (item_offers config stack) = (
       λ h. other Finish (λ e. cc) (λ e. cc) (λ e. cc),
       (
         λ h. other Custom (λ e. cc) (λ e. cc) (λ e. cc),
@@ -162,7 +167,21 @@ chosen config stack (x ∷ xs) after item r =
         ),
       ),
     ) in
-    offer_holds P (offers (is_module_offered config stack) (is_component_offered config stack) (is_export_offered config)) all r.place item r.named
+    offer_holds P (item_offers config stack) all r.place item r.named
+
+-- What is finished where input is left was offered.
+pub finish_offered : (config : Config) (stack : Open) (x : ℕ) (xs after : List ℕ) → ReadsAmong (items config stack (x ∷ xs)) (x ∷ xs) Finish after
+    → is_finish_offered config stack.inner ≡ true
+finish_offered config stack x xs after r =
+    let P : Item → Type 0 = λ i. i ≡ Finish → is_finish_offered config stack.inner ≡ true in
+    let all : AllByRecursion (λ o. o.0 ≡ true → P o.1) (item_offers config stack) = (
+      λ h e. h,
+      (
+        λ h e. absurd (cc),
+        (λ h e. absurd (cc), (λ h e. absurd (cc), (λ h e. absurd (cc), (λ h e. absurd (cc), (λ h e. absurd (cc), (λ h e. absurd (cc), (λ h e. absurd (cc), tt))))))),
+      ),
+    ) in
+    offer_holds P (item_offers config stack) all r.place Finish r.named refl
 
 does_finish : (config : Config) (stack : Open) (item : Item) (b r : List ℕ) (next : Next) → item ≡ Finish → Does config item stack b next r
     → (full : Tree) × FillsAll config stack b full r × Closes (with_inner stack full) next
@@ -182,7 +201,7 @@ turn_falls config stack next [] left2 m t =
     let e : left2 ≡ [] = tail.1 ∙ (ap (drop tail.0) none ∙ drop_none tail.0) in
     subst (λ l. todo config l next + 1 ≤ length stack.outer + 1) (sym e) (omega (arith, closes_length (with_inner stack f.0) next f.2))
 turn_falls config stack next (x ∷ xs) left2 m t =
-    let some = items_some (is_module_offered config stack) (is_component_offered config stack) (is_export_offered config) in
+    let some = items_some config stack in
     let deep = does_depth config t.item stack next t.after left2 (chosen config stack (x ∷ xs) t.after t.item t.chooses).1 m t.does in
     let few = tail_length left2 t.after (does_tail config t.item stack (building next) t.after left2 t.does) in
     let a : t.after ≡ xs = after_one _ x xs t.chooses.place t.after (omega (arith, some.0)) (omega (arith, some.1)) t.chooses.reads in

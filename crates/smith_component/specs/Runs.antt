@@ -1,11 +1,11 @@
 -- Turns in a row.
-use Rattle.std.specs.Prelude.{◌≡◌, ℕ, ◌+◌, ◌≤◌, zero, suc, List, [], ◌∷◌, length}
+use Rattle.std.specs.Prelude.{◌≡◌, ℕ, ◌+◌, ◌≤◌, ◌<◌, ◌⊎◌, zero, suc, List, [], ◌∷◌, length}
 use Rattle.smith_format.specs.declared.config.Config.{Config}
 use Rattle.smith_tree.specs.Tree.{Tree}
 use Rattle.smith_tree.specs.Limits.{max_depth}
 use Rattle.smith_tree.specs.Open.{Open, root}
 use Rattle.smith_component.specs.Turn.{Next, Turn, building, answered}
-use Rattle.smith_tree.specs.Readable.{CanBeGenerated}
+use Rattle.smith_tree.specs.Readable.{AreFinishable, CanBeGenerated}
 
 -- k such turns in a row
 abbrev pub Turns : Config → Next → List ℕ → Next → List ℕ → ℕ → Type 0
@@ -24,10 +24,16 @@ pub record RunsTo (config : Config) (input : List ℕ) (tree : Tree) (left : Lis
   pub few : turns ≤ length input + max_depth config
   pub run : Run config input tree left turns
 
--- A component that is made of the input: it is that of a run, and one of those that can be generated.
+-- Something is left, or the end of the input changes nothing: the input finished each component.
+abbrev pub IsFollowed : Config → List ℕ → Type 0
+IsFollowed config left = (config.finish_after ≡ 0) ⊎ (0 < length left)
+
+-- A component that is made of the input: it is that of a run, and one of those that can be generated. Where the input did not end in it, each
+-- component of it has as many sections as that takes.
 pub record IsMade (config : Config) (input : List ℕ) (tree : Tree) (left : List ℕ) : Type 0 where
   pub run : RunsTo config input tree left
   pub image : CanBeGenerated config tree
+  pub finishable : IsFollowed config left → AreFinishable config tree
 
 -- what is left to do
 abbrev pub todo : Config → List ℕ → Open → ℕ

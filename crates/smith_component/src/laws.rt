@@ -21,8 +21,8 @@ ghost use Rattle.smith_component.specs.Shown.{shown_module};
 ghost use Rattle.smith_tree.specs.TooLong.{PartTooLong, TreeTooLong};
 ghost use Rattle.smith_tree.specs.Tree.{Part, Tree, core_module};
 ghost use Rattle.smith_component.specs.Turn.{Closes, Next, Turn, with_open, with_part};
-ghost use Rattle.smith_tree.specs.Readable.{CanBeGenerated};
-ghost use Rattle.smith_component.specs.Runs.{RunsTo};
+ghost use Rattle.smith_tree.specs.Readable.{AreFinishable, CanBeGenerated, IsFinishable};
+ghost use Rattle.smith_component.specs.Runs.{IsFollowed, RunsTo};
 ghost use Rattle.smith_tree.specs.declared.choices.Item.TheVariants.{Component as ItemComponent, Finish};
 
 /// A section with a core module whose parts agree has no bytes exactly where the module has none, or has more than
@@ -44,6 +44,13 @@ pub fn runs_are_sound()
         → RunsTo config input tree left → CanBeGenerated config tree }
 {}
 
+/// Where a run leaves input, or no number of sections is asked of components that are finished, each component of what
+/// it leads to has that number.
+pub fn followed_runs_finish_components()
+    ensures { (config : Config) (input : List ℕ) (tree : Tree) (left : List ℕ) → IsFollowed config left
+        → RunsTo config input tree left → AreFinishable config tree }
+{}
+
 /// The script of a plan, followed by any bytes, leads to that plan, and leaves those bytes.
 pub fn plans_are_read()
     ensures { (config : Config) (plan : Tree) → IsConsistent config → Within config plan
@@ -56,10 +63,13 @@ pub fn scripts_are_bytes()
         → AreBytes (script config plan) }
 {}
 
-/// Exactly those components that have bytes come on some input that are well formed, within the limits and readable.
+/// Exactly those components that have bytes are produced by some input that is followed by more, or by any where no
+/// number of sections is asked of components that are finished, that are well formed, within the limits, readable and of
+/// that number of sections.
 pub fn components_are_exact()
     ensures { (config : Config) (tree : Tree) (b : List ℕ) → IsConsistent config → Spells tree b
-        → ((input left : List ℕ) × AreBytes input × RunsTo config input tree left) ↔ CanBeGenerated config tree }
+        → ((input left : List ℕ) × AreBytes input × IsFollowed config left × RunsTo config input tree left)
+        ↔ (CanBeGenerated config tree × AreFinishable config tree) }
 {}
 
 /// Where a run leads to a component that has bytes, nothing is refused but for want of memory.
@@ -102,8 +112,10 @@ pub fn scripted_components_are_opened()
         → IsReadAs (Turn config stack) (script_item config stack.outer stack.inner ItemComponent) (with_open stack) }
 {}
 
-/// Where the inner component lacks nothing, the script of the choice to finish is a turn that closes it as it is.
+/// Where the inner component meets the minima and may be finished, the script of the choice to finish is a turn that
+/// closes it as it is.
 pub fn scripted_ends_are_closed()
-    ensures { (config : Config) (stack : Open) (next : Next) → Minima config stack.inner → Closes stack next
+    ensures { (config : Config) (stack : Open) (next : Next) → Minima config stack.inner
+        → IsFinishable config stack.inner → Closes stack next
         → IsReadAs (Turn config stack) (script_item config stack.outer stack.inner Finish) next }
 {}

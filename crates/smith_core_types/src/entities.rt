@@ -19,6 +19,7 @@ use smith_format::{
     arbitrary_table_type, arbitrary_tag_type,
 };
 use smith_input::{Error, Unstructured, choose_offered};
+use smith_tree::kind_offers;
 use std::rc::Rc;
 
 // A global type: one of the value types, and a boolean for whether it may change.
@@ -72,13 +73,9 @@ fn entity_kind(u: &mut Unstructured, config: &Config, declared: &Declared) -> Op
     let with_global = allows(&declared.defs, ExportKind::Global, config.max_globals);
     let with_table = allows(&declared.defs, ExportKind::Table, config.max_tables);
     let with_memory = allows(&declared.defs, ExportKind::Memory, config.max_memories);
-    let offers = [
-        (with_global, ExportKind::Global),
-        (with_table, ExportKind::Table),
-        (with_memory, ExportKind::Memory),
-        (allows_tag(config, declared), ExportKind::Tag),
-        (allows_function(config, declared), ExportKind::Func),
-    ];
+    let with_tag = allows_tag(config, declared);
+    let with_func = allows_function(config, declared);
+    let offers = kind_offers(with_global, with_table, with_memory, with_tag, with_func);
     choose_offered(u, &offers)
 }
 

@@ -25,7 +25,7 @@ use smith_format::{Config, Import, burn};
 use smith_input::{Error, Unstructured, choose_offered};
 use smith_scopes::Scopes;
 use smith_syntax::ModuleTypeDef;
-use smith_tree::ModuleItem;
+use smith_tree::{ModuleItem, module_item_offers};
 
 // Is one more type below the limit?
 fn allows_type(config: &Config, declared: &Declared) -> bool
@@ -55,13 +55,9 @@ fn module_item(
         u.old result u.new }
     ensures possible { HasChoiceFor (own_scope scopes.now) (so_far declared.now 0) result }
 {
-    let offers = [
-        (true, ModuleItem::Import),
-        (true, ModuleItem::Export),
-        (allows_type(config, declared), ModuleItem::Type),
-        (allows_alias(config, scopes, declared), ModuleItem::Alias),
-    ];
-    choose_offered(u, &offers).unwrap_or(ModuleItem::Import)
+    let with_type = allows_type(config, declared);
+    let with_alias = allows_alias(config, scopes, declared);
+    choose_offered(u, &module_item_offers(with_type, with_alias)).unwrap_or(ModuleItem::Import)
 }
 
 // An import, or false where nothing can be imported.

@@ -47,4 +47,5 @@ IsDefault c =
       max_instances = 10;
       max_nesting_depth = 10;
       max_type_size = 1000;
+      finish_after = 0;
     }

@@ -57,6 +57,9 @@ pub struct Config {
     pub max_nesting_depth: usize,
     /// The fuel of a type: its members and declarations at all depths are at most so many.
     pub max_type_size: u32,
+    /// How many sections a component has at least when the input finishes it. Where no input is left, it is finished
+    /// whatever it has.
+    pub finish_after: usize,
 }
 
 impl Default for Config {
@@ -65,7 +68,7 @@ impl Default for Config {
     ghost is_default = { IsDefault };
 
     /// Minima of 0, counts of 100 within a component and of 10 over the tree, no exports, one memory, a depth of
-    /// 10, a fuel of 1000, and every feature on.
+    /// 10, a fuel of 1000, every feature on, and components that may be finished at once.
     fn default() -> Config {
         Config {
             min_types: 0,
@@ -91,6 +94,7 @@ impl Default for Config {
             max_instances: 10,
             max_nesting_depth: 10,
             max_type_size: 1000,
+            finish_after: 0,
         }
     }
 }

@@ -49,4 +49,7 @@ simd_enabled = true
 allow_floats = true
 # Whether core modules count their data segments in a section.
 bulk_memory_enabled = true
+# How many sections a component has at least when the input finishes it. Where no input is left, it is finished whatever
+# it has.
+finish_after = 0
 ";

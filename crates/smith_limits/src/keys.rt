@@ -54,10 +54,11 @@ pub enum Key {
     SimdEnabled,
     AllowFloats,
     BulkMemoryEnabled,
+    FinishAfter,
 }
 
 /// All limits, in the order in which what is wrong is looked for.
-pub const KEYS: [Key; 23] = [
+pub const KEYS: [Key; 24] = [
     Key::MinTypes,
     Key::MinImports,
     Key::MinFuncs,
@@ -81,6 +82,7 @@ pub const KEYS: [Key; 23] = [
     Key::SimdEnabled,
     Key::AllowFloats,
     Key::BulkMemoryEnabled,
+    Key::FinishAfter,
 ];
 
 // What is counted in 32 bits of the written bytes.
@@ -117,6 +119,7 @@ impl Key {
             Key::SimdEnabled => "simd_enabled",
             Key::AllowFloats => "allow_floats",
             Key::BulkMemoryEnabled => "bulk_memory_enabled",
+            Key::FinishAfter => "finish_after",
         }
     }
 
@@ -263,6 +266,7 @@ fn set_over(table: &Table, base: Config) -> Config
         simd_enabled: switch(table, Key::SimdEnabled, base.simd_enabled),
         allow_floats: switch(table, Key::AllowFloats, base.allow_floats),
         bulk_memory_enabled: switch(table, Key::BulkMemoryEnabled, base.bulk_memory_enabled),
+        finish_after: number(table, Key::FinishAfter, base.finish_after),
     }
 }
 

@@ -35,6 +35,7 @@ small_limits = record {
   max_instances = 1;
   max_nesting_depth = 2;
   max_type_size = 10;
+  finish_after = 0;
 }
 
 -- the same, and 10 exports

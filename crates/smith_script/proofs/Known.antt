@@ -1,9 +1,10 @@
 -- Component functions of types that are there.
-use Rattle.std.proofs.Common.{◌≡◌, ℕ, ◌+◌, ◌<◌, false, List, [], ◌∷◌, ◌++◌, fold, length, refl, sym, ap, subst, ◌∙◌, arith, length-append, zero, suc}
+use Rattle.std.proofs.Common.{◌≡◌, ℕ, ◌+◌, ◌<◌, false, List, [], ◌∷◌, ◌++◌, fold, length, refl, sym, ap, subst, ◌∙◌, arith, length-append, zero, suc, Bool}
 use Rattle.std.proofs.lemmas.Option.{slice_get_within}
 use Rattle.std.specs.List.{AllByRecursion}
 use Rattle.std.specs.Option.{option_to_list}
 use Rattle.std.specs.Prelude.{Some, None, slice_get, if◌then◌else◌}
+use Rattle.smith_component.proofs.Tables.{all_weaker, places_agree}
 use Rattle.smith_input.proofs.Lists.{all_both}
 use Rattle.smith_scopes.proofs.Places.{get_left}
 use Rattle.smith_scopes.proofs.Stack.{places-append}
@@ -18,13 +19,10 @@ use Rattle.smith_tree.specs.Spaces.{Spaces, after_canon, after_export, after_imp
 use Rattle.smith_tree.specs.Tree.{Canon, ExportEntry, lift, lower, Tree, Part, custom, core_module, core_types, component, types, canons, imports, exports}
 use Rattle.smith_tree.specs.Tree.{function_of}
 use Rattle.smith_tree.specs.WellFormed.{FormedCanons, FormedImport, FormedPart, scope_of}
+use Rattle.smith_script.specs.Preceding.{Known}
 
 abbrev AreBelow : ℕ → List ℕ → Type 0
 AreBelow n tys = AllByRecursion (λ ty. ty < n) tys
-
--- The types of all component functions are there.
-abbrev pub Known : Spaces → Type 0
-Known sp = AreBelow (length sp.types) sp.functions
 
 -- one component function more
 pub scalars_more : (ts : List Entry) (fs : List ℕ) (ty : ℕ)
@@ -35,29 +33,17 @@ scalars_more ts fs ty =
     ∙ ap (λ n. places (is_scalar_type ts) 0 fs ++ (if is_scalar_type ts ty then n ∷ [] else [])) at)
 
 -- Which functions flatten stays as it is where there are more types.
-
-module _ (ts us : List Entry) where
-  same_scalar : (ty : ℕ) → ty < length ts → is_scalar_type ts ty ≡ is_scalar_type (ts ++ us) ty
-  same_scalar ty h = ap (λ e. elim e [ None ↦ false | Some x ↦ is_scalar_entry x ]) (sym (get_left ts us ty h))
-
-  same_scalars : (i : ℕ) (fs : List ℕ) → AreBelow (length ts) fs → places (is_scalar_type ts) i fs ≡ places (is_scalar_type (ts ++ us)) i fs
-  same_scalars i [] known = refl
-  same_scalars i (f ∷ fs) known =
-      let a = same_scalar f known.0 in
-      let b = same_scalars (i + 1) fs known.1 in
-      λ x. if a x then i ∷ b x else b x
-
 pub types_stay : (sp : Spaces) (us : List Entry) → Known sp → scalar_functions sp ≡ scalar_functions (after_part sp (types us))
-types_stay sp us known = same_scalars sp.types us 0 sp.functions known
+types_stay sp us known =
+    places_agree (is_scalar_type sp.types) (is_scalar_type (sp.types ++ us)) 0 sp.functions
+    (all_weaker (λ ty. ty < length sp.types) (λ ty. is_scalar_type sp.types ty ≡ is_scalar_type (sp.types ++ us) ty)
+    (λ ty h. ap (λ o. elim o as (λ _. Bool) [ None ↦ false | Some x ↦ is_scalar_entry x ]) (sym (get_left sp.types us ty h))) sp.functions known)
 
 -- The types stay known, part by part.
 
-below_more : (m n : ℕ) (fs : List ℕ) → AreBelow m fs → AreBelow (m + n) fs
-below_more m n [] all = tt
-below_more m n (f ∷ fs) all = (omega (arith, all.0), below_more m n fs all.1)
-
 known_types : (sp : Spaces) (us : List Entry) → Known sp → Known (after_part sp (types us))
-known_types sp us known = rw (length-append sp.types us) (below_more (length sp.types) (length us) sp.functions known)
+known_types sp us known =
+    all_weaker (λ ty. ty < length sp.types) (λ ty. ty < length (sp.types ++ us)) (λ ty h. omega (arith, h, length-append sp.types us)) sp.functions known
 
 known_with : (sp : Spaces) (tys : List ℕ) → Known sp → AreBelow (length sp.types) tys → Known (record sp { functions = sp.functions ++ tys })
 known_with sp tys known more = all_both (λ ty. ty < length sp.types) sp.functions tys known more

@@ -2,7 +2,6 @@ pub mod Differing
 pub mod Given
 pub mod Grown
 pub mod Known
-pub mod Loops
 pub mod Noted
 pub mod Plans
 pub mod Same

@@ -6,6 +6,7 @@ use Rattle.smith_component.specs.Runs.{RunsTo}
 use Rattle.smith_tree.specs.Script.{Within, script}
 use Rattle.smith_tree.specs.Tree.{Tree}
 use Rattle.smith_component.proofs.Plans.{script_runs}
+use Rattle.smith_component.proofs.RunsFinishable.{runs_finish}
 use Rattle.smith_component.proofs.RunsReadable.{runs_come}
 use Rattle.smith_component.proofs.ScriptBytes.{plan_bytes}
 use Rattle.smith_script.specs.IsScript.{CannotBeGenerated, IsScript}
@@ -33,6 +34,10 @@ module _ (config : Config) (plan : Tree) (consistent : IsConsistent config) (wit
 -- What is refused for another reason comes on no input, since else it would be a plan.
 pub refused_comes_on_none : (config : Config) (t : Tree) → IsConsistent config → (e : ScriptError)
     → (¬ (e ≡ OutOfMemory) → (b : List ℕ) → ¬ IsScript config t b) → ¬ (e ≡ OutOfMemory) → CannotBeGenerated config t
-refused_comes_on_none config t consistent e h not input left c spells run =
-    let within : Within config t = record { possible = runs_come config input t left consistent run; spelled = (c, spells) } in
+refused_comes_on_none config t consistent e h not input left c spells followed run =
+    let within : Within config t = record {
+      possible = runs_come config input t left consistent run;
+      finishable = runs_finish config input t left followed run;
+      spelled = (c, spells);
+    } in
     not (plan_or_memory config t consistent within e h)

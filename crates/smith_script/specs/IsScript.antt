@@ -4,7 +4,7 @@ use Rattle.smith_input.specs.Script.{AreBytes}
 use Rattle.smith_format.specs.Consistency.{IsConsistent}
 use Rattle.smith_format.specs.declared.config.Config.{Config}
 use Rattle.smith_tree.specs.Grammar.{Spells}
-use Rattle.smith_component.specs.Runs.{RunsTo}
+use Rattle.smith_component.specs.Runs.{IsFollowed, RunsTo}
 use Rattle.smith_tree.specs.Script.{script}
 use Rattle.smith_tree.specs.Tree.{Tree}
 
@@ -21,6 +21,6 @@ pub record IsScript (config : Config) (t : Tree) (b : List ℕ) : Type 0 where
   pub spelled : (c : List ℕ) × Spells t c
   pub runs : RunsTo config b t []
 
--- No input leads to the tree, of which there are bytes.
+-- No input leads to the tree, of which there are bytes, but for one whose end finishes a component of it early.
 abbrev pub CannotBeGenerated : Config → Tree → Type 0
-CannotBeGenerated config t = (input left c : List ℕ) → Spells t c → ¬ RunsTo config input t left
+CannotBeGenerated config t = (input left c : List ℕ) → Spells t c → IsFollowed config left → ¬ RunsTo config input t left

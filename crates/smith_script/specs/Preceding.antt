@@ -1,15 +1,17 @@
 -- What a script needs to know of what there is before a place, and how it grows.
-use Rattle.std.specs.Prelude.{ℕ, ◌+◌, List, [], ◌∷◌, ◌++◌, fold, map, length, slice_get, if◌then◌else◌}
+use Rattle.std.specs.Prelude.{◌≡◌, ℕ, ◌+◌, ◌<◌, List, [], ◌∷◌, ◌++◌, fold, map, length, slice_get, if◌then◌else◌}
+use Rattle.std.specs.List.{AllByRecursion}
 use Rattle.std.specs.Option.{option_to_list}
 use Rattle.smith_syntax.specs.Entries.{Entry, CoreEntry, ImportEntry}
 use Rattle.smith_syntax.specs.Scope.{Scope, empty_scope, with_type, with_core_type}
 use Rattle.smith_syntax.specs.declared.deftype.ComponentTypeRef.{ComponentTypeRef}
 use Rattle.smith_tree.specs.declared.totals.RefTotals.{RefTotals}
 use Rattle.smith_read_types.specs.TypeNodes.{shown_type_node}
-use Rattle.smith_tree.specs.Offers.{is_scalar_type}
-use Rattle.smith_tree.specs.Spaces.{Spaces}
-use Rattle.smith_tree.specs.Tree.{Canon, ExportEntry, lift, lower, Tree, Part, ends, first, custom, core_module, core_types, component, types, canons}
-use Rattle.smith_tree.specs.Tree.{imports, exports, function_of, module_of, component_of, instance_of}
+use Rattle.smith_tree.specs.Offers.{is_scalar_type, scalar_functions, totals_of}
+use Rattle.smith_tree.specs.Open.{scopes_in}
+use Rattle.smith_tree.specs.Spaces.{Spaces, spaces_of}
+use Rattle.smith_tree.specs.Tree.{Canon, ExportEntry, lift, lower, Tree, Part, custom, core_module, core_types, component, types, canons}
+use Rattle.smith_tree.specs.Tree.{imports, exports, exports_of, imports_of, function_of, module_of, component_of, instance_of}
 use Rattle.smith_script.specs.declared.preceding.Open.{Open}
 
 -- In one open component: its scope, its types, its component functions by the indexes of their types, those of them whose type flattened
@@ -97,21 +99,43 @@ empty_in t = record { scope = empty_scope; types = []; functions = []; scalars =
 abbrev pub opened : RefTotals → RefTotals
 opened t = record { modules = t.modules; funcs = 0; components = t.components + 1; instances = t.instances }
 
--- those where it is closed with these
-abbrev pub closed : RefTotals → RefTotals → RefTotals
-closed outer inner = record { modules = inner.modules; funcs = outer.funcs; components = inner.components; instances = inner.instances }
+-- after a section. A component in it is none.
+abbrev pub after_section : Part → Preceding → Preceding
+after_section (custom name contents) s = s
+after_section (core_module text) s = after_module s
+after_section (core_types ts) s = fold after_core_type s ts
+after_section (component t) s = s
+after_section (types ts) s = fold after_type s ts
+after_section (canons fs) s = fold after_canon s fs
+after_section (imports is) s = fold after_import s is
+after_section (exports es) s = fold after_export s es
 
-abbrev mutual
-  pub after_tree : Tree → Preceding → Preceding
-  after_tree ends s = s
-  after_tree (first p t) s = after_tree t (after_part p s)
+-- what there is where these spaces are, so many imports and exports, and these totals
+abbrev pub stands : Spaces → ℕ → ℕ → RefTotals → Preceding
+stands sp i e t = record {
+  scope = record { types = sp.types; core_types = sp.core_types };
+  types = sp.types;
+  functions = sp.functions;
+  scalars = scalar_functions sp;
+  core_functions = sp.core_functions;
+  imports = i;
+  exports = e;
+  totals = t;
+}
 
-  pub after_part : Part → Preceding → Preceding
-  after_part (custom name contents) s = s
-  after_part (core_module text) s = after_module s
-  after_part (core_types ts) s = fold after_core_type s ts
-  after_part (component t) s = record s { totals = closed s.totals (after_tree t (empty_in (opened s.totals))).totals }
-  after_part (types ts) s = fold after_type s ts
-  after_part (canons fs) s = fold after_canon s fs
-  after_part (imports is) s = fold after_import s is
-  after_part (exports es) s = fold after_export s es
+-- the totals, and what there is, in the inner component of those that are open
+abbrev pub totals_in : List Tree → Tree → RefTotals
+totals_in outer t = totals_of (record { outer = outer; inner = t })
+
+abbrev pub standing_at : List Tree → Tree → Preceding
+standing_at outer t = stands (spaces_of t) (length (imports_of t)) (length (exports_of t)) (totals_in outer t)
+
+-- The types of all component functions are there.
+abbrev pub Known : Spaces → Type 0
+Known sp = AllByRecursion (λ ty. ty < length sp.types) sp.functions
+
+-- Where these components are open, the inner one after these parts, there are these scopes around, and this before.
+pub record IsAfter (outer : List Tree) (before : Tree) (around : List Scope) (s : Preceding) : Type 0 where
+  pub scopes : around ≡ scopes_in outer
+  pub here : s ≡ standing_at outer before
+  pub known : Known (spaces_of before)

@@ -1,5 +1,5 @@
 -- The script of a component, said of what there is before each place.
-use Rattle.std.specs.Prelude.{ℕ, ◌+◌, ◌-◌, ◌&&◌, true, false, List, [], ◌∷◌, ◌++◌, length, nat_eq, nat_lt, slice_get}
+use Rattle.std.specs.Prelude.{ℕ, ◌+◌, ◌-◌, ◌&&◌, true, false, List, [], ◌∷◌, ◌++◌, length, nat_eq, nat_le, nat_lt, slice_get}
 use Rattle.smith_input.specs.NameScript.{script_new}
 use Rattle.smith_input.specs.Offers.{offers_of}
 use Rattle.smith_input.specs.Script.{pick, script_among, script_bytes, script_loop, script_text}
@@ -11,14 +11,12 @@ use Rattle.smith_tree.specs.CoreTypeScript.{script_core}
 use Rattle.smith_tree.specs.TypeScript.{script_extern, script_ref, script_type}
 use Rattle.smith_tree.specs.CanonScript.{canon_item_of, script_lift}
 use Rattle.smith_tree.specs.Open.{is_export_offered, more_items}
-use Rattle.smith_tree.specs.Script.{item_of}
-use Rattle.smith_tree.specs.Tree.{Canon, lift, lower, ExportEntry, Tree, Part, ends, first, custom, core_module, core_types, component, types, canons, imports, exports}
+use Rattle.smith_tree.specs.Tree.{Canon, lift, lower, ExportEntry, Part, custom, core_module, core_types, component, types, canons, imports, exports}
 use Rattle.smith_tree.specs.contracts.choices.ItemPartialEq.TheImpl.{ghosts as equal}
 use Rattle.smith_tree.specs.contracts.choices.CanonItemPartialEq.TheImpl.{ghosts as canons_equal}
 use Rattle.smith_tree.specs.declared.choices.CanonItem.TheVariants.{Lift, Lower}
 use Rattle.smith_tree.specs.declared.choices.Item.{Item}
-use Rattle.smith_tree.specs.declared.choices.Item.TheVariants as item
-use Rattle.smith_script.specs.Preceding.{Preceding, after_canon, after_core_type, after_export, after_import, after_part, after_type, empty_in, opened, spaces_in}
+use Rattle.smith_script.specs.Preceding.{Preceding, after_canon, after_core_type, after_export, after_import, after_type, spaces_in}
 
 -- entries of sections
 
@@ -53,27 +51,21 @@ export_says config outer s x = pick (length s.functions) x.func ++ script_new 10
 abbrev pub rows_say : {A : Type 0} → (Preceding → A → List ℕ) → (Preceding → A → Preceding) → ℕ → Preceding → List A → List ℕ
 rows_say says after max s xs = script_loop says after 0 max 0 s xs
 
--- the choice of an item
-abbrev pub item_says : Config → List Scope → Preceding → Item → List ℕ
-item_says config outer s chosen =
+-- the choice of an item after so many sections
+abbrev pub item_says : Config → List Scope → ℕ → Preceding → Item → List ℕ
+item_says config outer sections s chosen =
     script_among equal.eq
-    (more_items (nat_lt s.totals.modules config.max_modules)
+    (more_items (nat_le config.finish_after sections) (nat_lt s.totals.modules config.max_modules)
     (nat_lt (length outer + 1) config.max_nesting_depth && nat_lt s.totals.components config.max_components) (is_export_offered config))
     chosen
 
--- the rest of a component, and what follows the choice of the item of a part
-abbrev mutual
-  pub tree_says : Tree → Config → List Scope → Preceding → List ℕ
-  tree_says ends config outer s = item_says config outer s item.Finish
-  tree_says (first p t) config outer s =
-      item_says config outer s (item_of p) ++ part_says p config outer s ++ tree_says t config outer (after_part p s)
-
-  pub part_says : Part → Config → List Scope → Preceding → List ℕ
-  part_says (custom name contents) config outer s = script_text 1000 name ++ script_bytes contents
-  part_says (core_module text) config outer s = script_stand_in config (stand_in_of text)
-  part_says (core_types ts) config outer s = rows_say (core_type_says config outer) after_core_type (config.max_types - length s.scope.core_types) s ts
-  part_says (component t) config outer s = tree_says t config (s.scope ∷ outer) (empty_in (opened s.totals))
-  part_says (types ts) config outer s = rows_say (type_says config outer) after_type (config.max_types - length s.scope.types) s ts
-  part_says (canons fs) config outer s = rows_say (canon_row_says config outer) after_canon (config.max_funcs - s.totals.funcs) s fs
-  part_says (imports is) config outer s = rows_say (import_says config outer) after_import (config.max_imports - s.imports) s is
-  part_says (exports es) config outer s = rows_say (export_says config outer) after_export (config.max_exports - s.exports) s es
+-- what follows the choice of the item of a section. A component in it is none.
+abbrev pub section_says : Part → Config → List Scope → Preceding → List ℕ
+section_says (custom name contents) config outer s = script_text 1000 name ++ script_bytes contents
+section_says (core_module text) config outer s = script_stand_in config (stand_in_of text)
+section_says (core_types ts) config outer s = rows_say (core_type_says config outer) after_core_type (config.max_types - length s.scope.core_types) s ts
+section_says (component t) config outer s = []
+section_says (types ts) config outer s = rows_say (type_says config outer) after_type (config.max_types - length s.scope.types) s ts
+section_says (canons fs) config outer s = rows_say (canon_row_says config outer) after_canon (config.max_funcs - s.totals.funcs) s fs
+section_says (imports is) config outer s = rows_say (import_says config outer) after_import (config.max_imports - s.imports) s is
+section_says (exports es) config outer s = rows_say (export_says config outer) after_export (config.max_exports - s.exports) s es

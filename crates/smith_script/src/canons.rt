@@ -9,8 +9,8 @@ ghost use Rattle.smith_script.specs.Preceding.{preceding};
 use crate::lifts::put_lifted;
 use crate::preceding::Open;
 use smith_read::CanonNode;
-use smith_script_types::{Unsaid, put_choice, put_offered, put_position};
-use smith_tree::CanonItem;
+use smith_script_types::{Error, put_choice, put_offered, put_position};
+use smith_tree::{CanonItem, canon_offers};
 use std::alloc::Global;
 
 // Which sort of canonical function it is.
@@ -19,7 +19,7 @@ fn put_canon_item(
     out: &mut Vec<u8>,
     here: &Open<'_>,
     canon: &CanonNode,
-) -> Result<(), Unsaid>
+) -> Result<(), Error>
     ensures { (own : Scope) → Says result out.old out.new
         (canon_item_says (preceding own here.now) (shown_canon_node canon.now)) }
 {
@@ -27,15 +27,15 @@ fn put_canon_item(
         CanonNode::Lift { .. } => CanonItem::Lift,
         CanonNode::Lower { .. } => CanonItem::Lower,
     };
-    let offers = [
-        (here.functions.scalars().len() > 0, CanonItem::Lower),
-        (here.core_functions.len() > 0, CanonItem::Lift),
-    ];
+    let offers = canon_offers(
+        here.functions.scalars().len() > 0,
+        here.core_functions.len() > 0,
+    );
     put_offered(alloc, out, &offers, item)
 }
 
 // What follows the choice of the item.
-fn put_canon_rest(out: &mut Vec<u8>, here: &Open<'_>, canon: &CanonNode) -> Result<(), Unsaid>
+fn put_canon_rest(out: &mut Vec<u8>, here: &Open<'_>, canon: &CanonNode) -> Result<(), Error>
     ensures { (own : Scope) → Says result out.old out.new
         (canon_rest_says (preceding own here.now) (shown_canon_node canon.now)) }
 {
@@ -54,7 +54,7 @@ pub(crate) fn put_canon(
     out: &mut Vec<u8>,
     here: &Open<'_>,
     canon: &CanonNode,
-) -> Result<(), Unsaid>
+) -> Result<(), Error>
     ensures { (own : Scope) → Says result out.old out.new
         (canon_says (preceding own here.now) (shown_canon_node canon.now)) }
 {

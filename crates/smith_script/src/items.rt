@@ -1,7 +1,9 @@
 //! Choices of items.
 
-ghost use Rattle.std.specs.Prelude.{◌≡◌, List, length};
+ghost use Rattle.std.specs.Prelude.{◌≡◌, ◌+◌, List, length, IfOk, IfErr};
+ghost use Rattle.smith_input.specs.declared.error.Error.TheVariants.{OutOfMemory};
 ghost use Rattle.smith_read.specs.PartNodes.{shown_part_node};
+ghost use Rattle.smith_read_scopes.specs.Scopes.{outer_in};
 ghost use Rattle.smith_syntax.specs.Scope.{Scope};
 ghost use Rattle.smith_tree.specs.Script.{item_of};
 ghost use Rattle.smith_script_core.specs.Says.{Says};
@@ -10,8 +12,9 @@ ghost use Rattle.smith_script.specs.Preceding.{preceding};
 
 use crate::preceding::Open;
 use smith_read::PartNode;
-use smith_script_types::{Given, Unsaid, put_offered};
-use smith_tree::Item;
+use smith_read_scopes::Scopes;
+use smith_script_types::{Error, Given, one_more, put_offered};
+use smith_tree::{Item, item_offers};
 
 /// The item of a part.
 pub(crate) fn item_of(part: &PartNode) -> Item
@@ -29,32 +32,50 @@ pub(crate) fn item_of(part: &PartNode) -> Item
     }
 }
 
-/// The choice of an item, so deep in components.
+/// Where a turn is: so deep in components, and after so many sections of the innermost one.
+#[derive(Clone, Copy)]
+pub(crate) struct Turn {
+    pub(crate) depth: usize,
+    pub(crate) sections: usize,
+}
+
+impl Turn {
+    /// The first turn of a component in these scopes.
+    pub(crate) fn first(scopes: &Scopes<'_>) -> Turn
+        ensures depth { length (outer_in scopes.now) ≡ result.depth }
+        ensures none { result.sections ≡ 0 }
+    {
+        let depth = scopes.outer.len();
+        Turn { depth, sections: 0 }
+    }
+
+    /// The turn after one that adds a section.
+    pub(crate) fn next(self) -> Result<Turn, Error>
+        ensures next { IfOk result (λ t. (t.depth ≡ self.depth) × (t.sections ≡ self.sections + 1)) }
+        ensures memory { IfErr result (λ e. e ≡ OutOfMemory) }
+    {
+        let sections = one_more(self.sections)?;
+        Ok(Turn { sections, ..self })
+    }
+}
+
+/// The choice of an item.
 pub(crate) fn put_item(
     out: &mut Vec<u8>,
     given: Given<'_>,
-    depth: usize,
+    turn: Turn,
     here: &Open<'_>,
     item: Item,
-) -> Result<(), Unsaid>
-    ensures { (own : Scope) (outer : List Scope) → length outer ≡ depth → Says result out.old out.new
-        (item_says given.entry.config.now outer (preceding own here.now) item) }
+) -> Result<(), Error>
+    ensures { (own : Scope) (outer : List Scope) → length outer ≡ turn.depth → Says result out.old out.new
+        (item_says given.entry.config.now outer turn.sections (preceding own here.now) item) }
 {
     let config = given.config;
+    let finish = turn.sections >= config.finish_after;
     let modules = here.totals.modules < config.max_modules;
-    let components = depth < config.max_nesting_depth.saturating_sub(1)
+    let components = turn.depth < config.max_nesting_depth.saturating_sub(1)
         && here.totals.components < config.max_components;
     let exports = config.max_exports > 0;
-    let offers = [
-        (true, Item::Finish),
-        (true, Item::Custom),
-        (true, Item::CoreTypes),
-        (true, Item::Types),
-        (true, Item::Imports),
-        (true, Item::Canonical),
-        (modules, Item::Module),
-        (components, Item::Component),
-        (exports, Item::Exports),
-    ];
+    let offers = item_offers(finish, modules, components, exports);
     put_offered(given.alloc, out, &offers, item)
 }

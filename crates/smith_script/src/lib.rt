@@ -2,7 +2,6 @@
 #![tactic(auto, using(smith_script_core::proofs::Saying::saying))]
 
 mod canons;
-mod core_limits;
 mod difference;
 mod error;
 mod extents;
@@ -10,6 +9,7 @@ mod functions;
 mod items;
 mod lifts;
 mod limits;
+mod needs;
 mod parts;
 mod preceding;
 mod rows;

@@ -12,7 +12,7 @@ ghost use Rattle.smith_script.specs.Preceding.{spaces_in, preceding};
 
 use crate::preceding::Open;
 use smith_read::TypeNode;
-use smith_script_types::{Unsaid, put_among, put_name, put_position};
+use smith_script_types::{Error, put_among, put_name, put_position};
 use smith_syntax::{ComponentValType, FuncType, PrimitiveValType};
 use smith_tree::{flat_primitive, lifted};
 
@@ -27,7 +27,7 @@ fn flat_like(ty: PrimitiveValType) -> &'static [PrimitiveValType]
 }
 
 // A primitive among those that flatten as it does.
-fn put_scalar(out: &mut Vec<u8>, ty: ComponentValType) -> Result<(), Unsaid>
+fn put_scalar(out: &mut Vec<u8>, ty: ComponentValType) -> Result<(), Error>
     ensures { Says result out.old out.new (script_scalar ty) }
 {
     match ty {
@@ -36,7 +36,7 @@ fn put_scalar(out: &mut Vec<u8>, ty: ComponentValType) -> Result<(), Unsaid>
     }
 }
 
-fn put_params(out: &mut Vec<u8>, params: &[(String, ComponentValType)]) -> Result<(), Unsaid>
+fn put_params(out: &mut Vec<u8>, params: &[(String, ComponentValType)]) -> Result<(), Error>
     ensures { Says result out.old out.new (script_params 0 (map named params.now)) }
 {
     for done in 0..params.len() {
@@ -47,7 +47,7 @@ fn put_params(out: &mut Vec<u8>, params: &[(String, ComponentValType)]) -> Resul
     Ok(())
 }
 
-fn put_result(out: &mut Vec<u8>, result_type: Option<ComponentValType>) -> Result<(), Unsaid>
+fn put_result(out: &mut Vec<u8>, result_type: Option<ComponentValType>) -> Result<(), Error>
     ensures { Says result out.old out.new (script_result result_type) }
 {
     match result_type {
@@ -57,7 +57,7 @@ fn put_result(out: &mut Vec<u8>, result_type: Option<ComponentValType>) -> Resul
 }
 
 // The signature of a lift.
-fn put_signature(out: &mut Vec<u8>, signature: &FuncType) -> Result<(), Unsaid>
+fn put_signature(out: &mut Vec<u8>, signature: &FuncType) -> Result<(), Error>
     ensures { Says result out.old out.new (script_lifted signature.now) }
 {
     put_params(out, &signature.params)?;
@@ -66,21 +66,22 @@ fn put_signature(out: &mut Vec<u8>, signature: &FuncType) -> Result<(), Unsaid>
 
 // What follows the choice of the core function of a lift to the type of that index, which is this one: its signature,
 // and a choice among the types that are equal to it.
-fn put_lift_to(out: &mut Vec<u8>, here: &Open<'_>, ty: u32, entry: &TypeNode) -> Result<(), Unsaid>
+fn put_lift_to(out: &mut Vec<u8>, here: &Open<'_>, ty: u32, entry: &TypeNode) -> Result<(), Error>
+    requires { slice_get (map shown_type_node here.now.types) ty ≡ Some (shown_type_node entry.now) }
     ensures { (own : Scope) → Says result out.old out.new
         (script_lift (spaces_in (preceding own here.now)) ty (Some (shown_type_node entry.now))) }
 {
     match entry {
         TypeNode::Func(signature) => {
             put_signature(out, signature)?;
-            put_position(out, here.types.equals(signature), ty as usize)
+            put_position(out, here.types.equals(ty), ty as usize)
         }
         TypeNode::Defined(_) | TypeNode::Component(_) | TypeNode::Instance(_) => Ok(()),
     }
 }
 
 /// What follows the choice of the core function of a lift to the type of that index.
-pub(crate) fn put_lifted(out: &mut Vec<u8>, here: &Open<'_>, ty: u32) -> Result<(), Unsaid>
+pub(crate) fn put_lifted(out: &mut Vec<u8>, here: &Open<'_>, ty: u32) -> Result<(), Error>
     ensures { (own : Scope) → Says result out.old out.new (script_lift (spaces_in (preceding own here.now)) ty
         (slice_get (preceding own here.now).types ty)) }
 {

@@ -1,176 +1,83 @@
 //! Which limit a component does not keep. No contract depends on it.
 
-use crate::core_limits::{Kept, add, at_most, keeps_core_type};
 use crate::error::Unkept;
-use crate::extents::{extent_of, extent_of_core};
+use crate::needs::Needs;
 use smith_format::Config;
-use smith_read::{ComponentTree, CoreNode, ImportNode, PartNode, TypeNode};
-use smith_syntax::ComponentTypeRef;
+use smith_read::ComponentTree;
 
-// That a count is at least the value of a limit.
-fn at_least(name: &'static str, value: usize, count: usize) -> Kept {
-    if count < value {
-        return Err(Unkept::Below { name, value });
-    }
-    Ok(())
+// That there is more than a limit has.
+fn above(name: &'static str, value: usize, count: usize) -> Option<Unkept> {
+    (count > value).then_some(Unkept::Above { name, value })
 }
 
-// How many of each sort there are: in a component, or in the whole tree.
-#[derive(Clone, Copy, Default)]
-struct Counts {
-    types: usize,
-    core_types: usize,
-    imports: usize,
-    exports: usize,
-    funcs: usize,
-    modules: usize,
-    components: usize,
-    instances: usize,
+// That there is less.
+fn below(name: &'static str, value: usize, count: usize) -> Option<Unkept> {
+    (count < value).then_some(Unkept::Below { name, value })
 }
 
-impl Counts {
-    // That these are within the maxima.
-    fn keeps_maxima(self, config: &Config) -> Kept {
-        at_most(
-            "max_types",
-            config.max_types,
-            self.types.max(self.core_types),
-        )?;
-        at_most("max_imports", config.max_imports, self.imports)?;
-        at_most("max_exports", config.max_exports, self.exports)?;
-        at_most("max_funcs", config.max_funcs, self.funcs)?;
-        at_most("max_modules", config.max_modules, self.modules)?;
-        at_most("max_components", config.max_components, self.components)?;
-        at_most("max_instances", config.max_instances, self.instances)
-    }
-
-    // That a finished component meets the minima.
-    fn keeps_minima(self, config: &Config) -> Kept {
-        at_least("min_types", config.min_types, self.types)?;
-        at_least("min_imports", config.min_imports, self.imports)?;
-        at_least("min_funcs", config.min_funcs, self.funcs)
-    }
-
-    fn add_import(&mut self, import: &ImportNode) {
-        add(&mut self.imports, 1);
-        match import.to {
-            ComponentTypeRef::Module(_) => add(&mut self.modules, 1),
-            ComponentTypeRef::Func(_) => add(&mut self.funcs, 1),
-            ComponentTypeRef::Component(_) => add(&mut self.components, 1),
-            ComponentTypeRef::Instance(_) => add(&mut self.instances, 1),
-            ComponentTypeRef::TypeEq(_) => 0,
-        };
-    }
-
-    // What a component counts by itself, where this is what the whole tree has.
-    fn opened(self) -> Counts {
-        Counts {
-            modules: self.modules,
-            components: self.components.saturating_add(1),
-            instances: self.instances,
-            ..Counts::default()
-        }
-    }
-
-    // The same where the component is finished that has these.
-    fn closed(self, inner: Counts) -> Counts {
-        Counts {
-            modules: inner.modules,
-            components: inner.components,
-            instances: inner.instances,
-            ..self
-        }
-    }
+// That there is what takes a feature that is off.
+fn off(name: &'static str, is_on: bool, is_needed: bool) -> Option<Unkept> {
+    (is_needed && !is_on).then_some(Unkept::Off { name })
 }
 
-// That a type of a component so deep keeps the limits.
-fn keeps_type(config: &Config, depth: usize, ty: &TypeNode) -> Kept {
-    let extent = extent_of(config, ty)?;
-    at_most("max_type_size", config.max_type_size as usize, extent.need)?;
-    at_most(
-        "max_nesting_depth",
-        config.max_nesting_depth.max(1),
-        depth.saturating_add(extent.depth),
-    )
-}
-
-// The same of a core type.
-fn keeps_core_size(config: &Config, ty: &CoreNode) -> Kept {
-    keeps_core_type(config, ty)?;
-    at_most(
-        "max_type_size",
-        config.max_type_size as usize,
-        extent_of_core(ty).need,
-    )
-}
-
-// The counts after a section of a component so deep.
-#[cycle(parts)]
-fn after_part(
-    config: &Config,
-    depth: usize,
-    before: Counts,
-    part: &PartNode,
-) -> Result<Counts, Unkept> {
-    let mut counts = before;
-    match part {
-        PartNode::Custom { .. } => {}
-        PartNode::CoreModule(_) => {
-            add(&mut counts.modules, 1);
-        }
-        PartNode::CoreTypes(types) => {
-            for ty in types {
-                keeps_core_size(config, ty)?;
-            }
-            add(&mut counts.core_types, types.len());
-        }
-        PartNode::Component(parts) => {
-            let inner = after_parts(config, depth.saturating_add(1), counts.opened(), parts)?;
-            counts = counts.closed(inner);
-        }
-        PartNode::Types(types) => {
-            for ty in types {
-                keeps_type(config, depth, ty)?;
-            }
-            add(&mut counts.types, types.len());
-        }
-        PartNode::Canons(canons) => {
-            add(&mut counts.funcs, canons.len());
-        }
-        PartNode::Imports(imports) => {
-            for import in imports {
-                counts.add_import(import);
-            }
-        }
-        PartNode::Exports(exports) => {
-            add(&mut counts.exports, exports.len());
+// The first limit of these that is not kept.
+fn first(limits: &[Option<Unkept>]) -> Option<Unkept> {
+    for unkept in limits {
+        if unkept.is_some() {
+            return *unkept;
         }
     }
-    counts.keeps_maxima(config)?;
-    Ok(counts)
+    None
 }
 
-#[cycle(parts)]
-fn after_parts(
-    config: &Config,
-    depth: usize,
-    before: Counts,
-    parts: &[PartNode],
-) -> Result<Counts, Unkept> {
-    at_most("max_nesting_depth", config.max_nesting_depth.max(1), depth)?;
-    before.keeps_maxima(config)?;
-    let mut counts = before;
-    for part in parts {
-        counts = after_part(config, depth, counts, part)?;
-    }
-    counts.keeps_minima(config)?;
-    Ok(counts)
+fn above_a_maximum(config: &Config, needs: &Needs) -> Option<Unkept> {
+    let depth = config.max_nesting_depth.max(1);
+    let size = config.max_type_size as usize;
+    first(&[
+        above("max_nesting_depth", depth, needs.depth),
+        above("max_types", config.max_types, needs.types),
+        above("max_imports", config.max_imports, needs.imports),
+        above("max_exports", config.max_exports, needs.exports),
+        above("max_funcs", config.max_funcs, needs.funcs),
+        above("max_modules", config.max_modules, needs.modules),
+        above("max_components", config.max_components, needs.components),
+        above("max_instances", config.max_instances, needs.instances),
+        above("max_tables", config.max_tables, needs.tables),
+        above("max_memories", config.max_memories, needs.memories),
+        above("max_globals", config.max_globals, needs.globals),
+        above("max_tags", config.max_tags, needs.tags),
+        above("max_type_size", size, needs.type_size),
+    ])
+}
+
+fn feature_off(config: &Config, needs: &Needs) -> Option<Unkept> {
+    let references = config.reference_types_enabled;
+    let exceptions = config.exceptions_enabled;
+    let multi_value = config.multi_value_enabled;
+    first(&[
+        off("allow_floats", config.allow_floats, needs.floats),
+        off("simd_enabled", config.simd_enabled, needs.simd),
+        off("reference_types_enabled", references, needs.references),
+        off("exceptions_enabled", exceptions, needs.exceptions),
+        off("multi_value_enabled", multi_value, needs.multi_value),
+    ])
+}
+
+fn below_a_minimum(config: &Config, needs: &Needs) -> Option<Unkept> {
+    first(&[
+        below("min_types", config.min_types, needs.least_types),
+        below("min_imports", config.min_imports, needs.least_imports),
+        below("min_funcs", config.min_funcs, needs.least_funcs),
+        below("finish_after", config.finish_after, needs.least_sections),
+    ])
 }
 
 /// A limit that a component does not keep, if one is found.
 pub(crate) fn unkept(config: &Config, tree: &ComponentTree) -> Option<Unkept> {
-    match after_parts(config, 1, Counts::default(), &tree.parts) {
-        Ok(_) => None,
-        Err(limit) => Some(limit),
-    }
+    let needs = Needs::of(tree);
+    first(&[
+        above_a_maximum(config, &needs),
+        feature_off(config, &needs),
+        below_a_minimum(config, &needs),
+    ])
 }

@@ -1,29 +1,30 @@
 //! The sections of components.
 
-ghost use Rattle.std.specs.Prelude.{◌≡◌, ◌++◌, ◌∷◌, ◌-◌, IfOk, IfErr, OnOk, map};
+ghost use Rattle.std.specs.Prelude.{◌≡◌, ◌++◌, ◌-◌, List, IfOk, IfErr, OnOk, map};
 ghost use Rattle.smith_input.specs.Script.{script_bytes, script_text};
 ghost use Rattle.smith_core.specs.StandInScript.{script_stand_in, stand_in_of};
 ghost use Rattle.smith_syntax.specs.Scope.{Scope, empty_scope};
-ghost use Rattle.smith_tree.specs.Tree.{component, tree_of};
-ghost use Rattle.smith_tree.specs.WellFormed.{WellFormed};
-ghost use Rattle.smith_tree.specs.Script.{script};
+ghost use Rattle.smith_tree.specs.Tree.{Tree, add, ends, tree_of};
+ghost use Rattle.smith_tree.specs.WellFormed.{Formed, FormedPart, WellFormed};
+ghost use Rattle.smith_tree.specs.Script.{script, script_from, script_part};
 ghost use Rattle.smith_read.specs.PartNodes.{shown_part_node, shown_tree};
 ghost use Rattle.smith_read_scopes.specs.Scopes.{outer_in, own_in};
 ghost use Rattle.smith_script_core.specs.Says.{Says};
-ghost use Rattle.smith_script_core.specs.declared.error.Unsaid.TheVariants.{OutOfMemory};
-ghost use Rattle.smith_script.specs.Saying.{part_says, tree_says};
-ghost use Rattle.smith_script.specs.Preceding.{after_module, after_part, after_tree, empty_in, opened, preceding};
+ghost use Rattle.smith_input.specs.declared.error.Error.TheVariants.{OutOfMemory};
+ghost use Rattle.smith_script.specs.Saying.{section_says};
+ghost use Rattle.smith_script.specs.Preceding.{IsAfter, after_module, after_section, empty_in, opened, preceding};
+ghost use Rattle.smith_script.specs.Preceding.{totals_in};
 
-use crate::items::{item_of, put_item};
-use crate::preceding::{Open, one_more};
+use crate::items::{Turn, item_of, put_item};
+use crate::preceding::Open;
 use crate::rows::put_rows;
 use smith_read::{ComponentTree, PartNode};
 use smith_read_scopes::Scopes;
-use smith_script_types::{Given, Unsaid, put_contents, put_stand_in, put_text};
+use smith_script_types::{Error, Given, one_more, put_contents, put_stand_in, put_text};
 use smith_tree::{Item, RefTotals};
 
 // The totals where a component is opened.
-fn opened(totals: RefTotals) -> Result<RefTotals, Unsaid>
+fn opened(totals: RefTotals) -> Result<RefTotals, Error>
     ensures totals { IfOk result (λ t. t ≡ opened totals) }
     ensures memory { IfErr result (λ e. e ≡ OutOfMemory) }
 {
@@ -36,7 +37,7 @@ fn opened(totals: RefTotals) -> Result<RefTotals, Unsaid>
 }
 
 // A custom section.
-fn put_custom(out: &mut Vec<u8>, name: &str, contents: &[u8]) -> Result<(), Unsaid>
+fn put_custom(out: &mut Vec<u8>, name: &str, contents: &[u8]) -> Result<(), Error>
     ensures { Says result out.old out.new (script_text 1000 name.now ++ script_bytes contents.now) }
 {
     put_text(out, name)?;
@@ -49,7 +50,7 @@ fn put_module(
     out: &mut Vec<u8>,
     here: &mut Open<'_>,
     text: &[u8],
-) -> Result<(), Unsaid>
+) -> Result<(), Error>
     ensures said { Says result out.old out.new (script_stand_in given.entry.config.now (stand_in_of text.now)) }
     ensures added { (own : Scope) → OnOk result (preceding own here.new ≡ after_module (preceding own here.old)) }
 {
@@ -57,19 +58,19 @@ fn put_module(
     here.add_module()
 }
 
-// What follows the choice of the item of a part, which is added to what is before the next.
-#[cycle(parts)]
-fn put_part<'a>(
+// What follows the choice of the item of a section, which is added to what is before the next. A component in it is
+// none.
+fn put_section<'a>(
     given: Given<'_>,
     out: &mut Vec<u8>,
     scopes: &mut Scopes<'a>,
     here: &mut Open<'a>,
     part: &'a PartNode,
-) -> Result<(), Unsaid>
-    ensures said { Says result out.old out.new (part_says (shown_part_node part.now) given.entry.config.now
+) -> Result<(), Error>
+    ensures said { Says result out.old out.new (section_says (shown_part_node part.now) given.entry.config.now
         (outer_in scopes.old) (preceding (own_in scopes.old) here.old)) }
     ensures added { OnOk result (preceding (own_in scopes.new) here.new
-        ≡ after_part (shown_part_node part.now) (preceding (own_in scopes.old) here.old)) }
+        ≡ after_section (shown_part_node part.now) (preceding (own_in scopes.old) here.old)) }
     ensures outer { OnOk result (outer_in scopes.new ≡ outer_in scopes.old) }
 {
     let config = given.config;
@@ -80,7 +81,7 @@ fn put_part<'a>(
             let most = config.max_types.saturating_sub(scopes.own.core_types_len());
             put_rows(given, out, scopes, here, most, types)
         }
-        PartNode::Component(parts) => put_component(given, out, scopes, here, parts),
+        PartNode::Component(_) => Ok(()),
         PartNode::Types(types) => {
             let most = config.max_types.saturating_sub(scopes.own.types_len());
             put_rows(given, out, scopes, here, most, types)
@@ -100,31 +101,46 @@ fn put_part<'a>(
     }
 }
 
-// A component in the open one, with a scope of its own.
+// What follows the choice of the item of a part, which is added to what is before the next.
 #[cycle(parts)]
-fn put_component<'a>(
+fn put_part<'a>(
     given: Given<'_>,
     out: &mut Vec<u8>,
     scopes: &mut Scopes<'a>,
     here: &mut Open<'a>,
-    parts: &'a [PartNode],
-) -> Result<(), Unsaid>
-    ensures said { Says result out.old out.new (part_says (component (tree_of (map shown_part_node parts.now)))
-        given.entry.config.now (outer_in scopes.old) (preceding (own_in scopes.old) here.old)) }
-    ensures added { OnOk result (preceding (own_in scopes.new) here.new
-        ≡ after_part (component (tree_of (map shown_part_node parts.now)))
-        (preceding (own_in scopes.old) here.old)) }
+    part: &'a PartNode,
+) -> Result<(), Error>
+    ensures said { (outer : List Tree) (before : Tree)
+        → IsAfter outer before (outer_in scopes.old) (preceding (own_in scopes.old) here.old)
+        → FormedPart (shown_part_node part.now) (outer_in scopes.old) before → Says result out.old out.new
+        (script_part (shown_part_node part.now) given.entry.config.now outer before) }
+    ensures added { (outer : List Tree) (before : Tree)
+        → IsAfter outer before (outer_in scopes.old) (preceding (own_in scopes.old) here.old)
+        → FormedPart (shown_part_node part.now) (outer_in scopes.old) before → OnOk result
+        (IsAfter outer (add before (shown_part_node part.now)) (outer_in scopes.old)
+        (preceding (own_in scopes.new) here.new)) }
     ensures outer { OnOk result (outer_in scopes.new ≡ outer_in scopes.old) }
 {
-    let totals = opened(here.totals)?;
-    scopes.enter(given.alloc)?;
-    let inner = put_parts(given, out, scopes, totals, parts)?;
-    scopes.leave();
-    here.totals = RefTotals {
-        funcs: here.totals.funcs,
-        ..inner
-    };
-    Ok(())
+    match part {
+        PartNode::Component(parts) => {
+            let totals = opened(here.totals)?;
+            scopes.enter(given.alloc)?;
+            let inner = put_parts(given, out, scopes, totals, parts)?;
+            scopes.leave();
+            here.totals = RefTotals {
+                funcs: here.totals.funcs,
+                ..inner
+            };
+            Ok(())
+        }
+        PartNode::Custom { .. }
+        | PartNode::CoreModule(_)
+        | PartNode::CoreTypes(_)
+        | PartNode::Types(_)
+        | PartNode::Canons(_)
+        | PartNode::Imports(_)
+        | PartNode::Exports(_) => put_section(given, out, scopes, here, part),
+    }
 }
 
 // The sections of a component that is opened with these totals, in an empty scope. The answer are those where it ends.
@@ -135,21 +151,24 @@ fn put_parts<'a>(
     scopes: &mut Scopes<'a>,
     totals: RefTotals,
     parts: &'a [PartNode],
-) -> Result<RefTotals, Unsaid>
+) -> Result<RefTotals, Error>
     requires { own_in scopes.old ≡ empty_scope }
-    ensures said { Says result out.old out.new (tree_says (tree_of (map shown_part_node parts.now))
-        given.entry.config.now (outer_in scopes.old) (empty_in totals)) }
-    ensures totals { IfOk result
-        (λ t. t ≡ (after_tree (tree_of (map shown_part_node parts.now)) (empty_in totals)).totals) }
+    ensures said { (outer : List Tree) → IsAfter outer ends (outer_in scopes.old) (empty_in totals)
+        → Formed (tree_of (map shown_part_node parts.now)) (outer_in scopes.old) ends → Says result out.old out.new
+        (script_from (tree_of (map shown_part_node parts.now)) given.entry.config.now outer ends) }
+    ensures totals { (outer : List Tree) → IsAfter outer ends (outer_in scopes.old) (empty_in totals)
+        → Formed (tree_of (map shown_part_node parts.now)) (outer_in scopes.old) ends
+        → IfOk result (λ t. t ≡ totals_in outer (tree_of (map shown_part_node parts.now))) }
     ensures outer { OnOk result (outer_in scopes.new ≡ outer_in scopes.old) }
 {
     let mut here = Open::new(given.alloc, totals);
-    let depth = scopes.outer.len();
+    let mut turn = Turn::first(scopes);
     for part in parts {
-        put_item(out, given, depth, &here, item_of(part))?;
+        put_item(out, given, turn, &here, item_of(part))?;
         put_part(given, out, scopes, &mut here, part)?;
+        turn = turn.next()?;
     }
-    put_item(out, given, depth, &here, Item::Finish)?;
+    put_item(out, given, turn, &here, Item::Finish)?;
     Ok(here.totals)
 }
 
@@ -158,7 +177,7 @@ pub(crate) fn put_tree(
     out: &mut Vec<u8>,
     given: Given<'_>,
     tree: &ComponentTree,
-) -> Result<(), Unsaid>
+) -> Result<(), Error>
     ensures { WellFormed (shown_tree tree.now)
         → Says result out.old out.new (script given.entry.config.now (shown_tree tree.now)) }
 {

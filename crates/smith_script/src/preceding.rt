@@ -7,14 +7,14 @@ ghost use Rattle.smith_read.specs.PartNodes.{shown_export_node, shown_import_nod
 ghost use Rattle.smith_syntax.specs.Scope.{Scope, empty_scope, with_type};
 ghost use Rattle.smith_tree.specs.Offers.{is_scalar_entry, is_scalar_type};
 ghost use Rattle.smith_tree.specs.Tree.{function_of, lift, lower};
-ghost use Rattle.smith_script_core.specs.declared.error.Unsaid.TheVariants.{OutOfMemory};
+ghost use Rattle.smith_input.specs.declared.error.Error.TheVariants.{OutOfMemory};
 ghost use Rattle.smith_script.specs.Preceding.{after_canon, after_export, after_import, after_module};
 ghost use Rattle.smith_script.specs.Preceding.{after_type, empty_in, preceding, with_functions, with_import};
 
 use crate::functions::Functions;
 use crate::types::Types;
 use smith_read::{ExportNode, ImportNode, TypeNode};
-use smith_script_types::Unsaid;
+use smith_script_types::{Error, one_more};
 use smith_syntax::ComponentTypeRef;
 use smith_tree::RefTotals;
 use std::alloc::Global;
@@ -32,46 +32,29 @@ pub(crate) struct Open<'a> {
     pub(crate) totals: RefTotals,
 }
 
-/// One more. A count that no number holds passes what there is memory for.
-pub(crate) fn one_more(count: usize) -> Result<usize, Unsaid>
-    ensures more { IfOk result (λ n. n ≡ count + 1) }
-    ensures memory { IfErr result (λ e. e ≡ OutOfMemory) }
-{
-    match count.checked_add(1) {
-        Some(count) => Ok(count),
-        None => Err(Unsaid::OutOfMemory),
-    }
-}
-
 // What is counted where that is imported.
-fn with_import(totals: RefTotals, to: ComponentTypeRef) -> Result<RefTotals, Unsaid>
+fn with_import(totals: RefTotals, to: ComponentTypeRef) -> Result<RefTotals, Error>
     ensures totals { IfOk result (λ t. t ≡ with_import totals to) }
     ensures memory { IfErr result (λ e. e ≡ OutOfMemory) }
 {
     match to {
-        ComponentTypeRef::Module(_) => {
-            let modules = one_more(totals.modules)?;
-            Ok(RefTotals { modules, ..totals })
-        }
-        ComponentTypeRef::Func(_) => {
-            let funcs = one_more(totals.funcs)?;
-            Ok(RefTotals { funcs, ..totals })
-        }
+        ComponentTypeRef::Module(_) => Ok(RefTotals {
+            modules: one_more(totals.modules)?,
+            ..totals
+        }),
+        ComponentTypeRef::Func(_) => Ok(RefTotals {
+            funcs: one_more(totals.funcs)?,
+            ..totals
+        }),
         ComponentTypeRef::TypeEq(_) => Ok(totals),
-        ComponentTypeRef::Component(_) => {
-            let components = one_more(totals.components)?;
-            Ok(RefTotals {
-                components,
-                ..totals
-            })
-        }
-        ComponentTypeRef::Instance(_) => {
-            let instances = one_more(totals.instances)?;
-            Ok(RefTotals {
-                instances,
-                ..totals
-            })
-        }
+        ComponentTypeRef::Component(_) => Ok(RefTotals {
+            components: one_more(totals.components)?,
+            ..totals
+        }),
+        ComponentTypeRef::Instance(_) => Ok(RefTotals {
+            instances: one_more(totals.instances)?,
+            ..totals
+        }),
     }
 }
 
@@ -123,7 +106,7 @@ impl<'a> Open<'a> {
     }
 
     // One component function more, of the type with that index.
-    fn add_function(&mut self, ty: u32) -> Result<(), Unsaid>
+    fn add_function(&mut self, ty: u32) -> Result<(), Error>
         ensures added { (own : Scope) → OnOk result
             (preceding own self.new ≡ with_functions (preceding own self.old) (ty ∷ [])) }
         ensures memory { IfErr result (λ e. e ≡ OutOfMemory) }
@@ -134,7 +117,7 @@ impl<'a> Open<'a> {
     }
 
     // The same if there is a type.
-    fn add_function_of(&mut self, ty: Option<u32>) -> Result<(), Unsaid>
+    fn add_function_of(&mut self, ty: Option<u32>) -> Result<(), Error>
         ensures added { (own : Scope) → OnOk result
             (preceding own self.new ≡ with_functions (preceding own self.old) (option_to_list ty)) }
         ensures memory { IfErr result (λ e. e ≡ OutOfMemory) }
@@ -145,7 +128,7 @@ impl<'a> Open<'a> {
         }
     }
 
-    pub(crate) fn add_module(&mut self) -> Result<(), Unsaid>
+    pub(crate) fn add_module(&mut self) -> Result<(), Error>
         ensures added { (own : Scope) → OnOk result (preceding own self.new ≡ after_module (preceding own self.old)) }
         ensures memory { IfErr result (λ e. e ≡ OutOfMemory) }
     {
@@ -153,7 +136,7 @@ impl<'a> Open<'a> {
         Ok(())
     }
 
-    pub(crate) fn add_type(&mut self, ty: &'a TypeNode) -> Result<(), Unsaid>
+    pub(crate) fn add_type(&mut self, ty: &'a TypeNode) -> Result<(), Error>
         ensures added { (own : Scope) → OnOk result (preceding (with_type own (shown_type_node ty.now)) self.new
             ≡ after_type (preceding own self.old) (shown_type_node ty.now)) }
         ensures memory { IfErr result (λ e. e ≡ OutOfMemory) }
@@ -162,7 +145,7 @@ impl<'a> Open<'a> {
         Ok(())
     }
 
-    pub(crate) fn add_lift(&mut self, core_func: u32, ty: u32) -> Result<(), Unsaid>
+    pub(crate) fn add_lift(&mut self, core_func: u32, ty: u32) -> Result<(), Error>
         ensures added { (own : Scope) → OnOk result
             (preceding own self.new ≡ after_canon (preceding own self.old) (lift core_func ty)) }
         ensures memory { IfErr result (λ e. e ≡ OutOfMemory) }
@@ -172,7 +155,7 @@ impl<'a> Open<'a> {
         Ok(())
     }
 
-    pub(crate) fn add_lower(&mut self, func: u32) -> Result<(), Unsaid>
+    pub(crate) fn add_lower(&mut self, func: u32) -> Result<(), Error>
         ensures added { (own : Scope) → OnOk result
             (preceding own self.new ≡ after_canon (preceding own self.old) (lower func)) }
         ensures memory { IfErr result (λ e. e ≡ OutOfMemory) }
@@ -182,7 +165,7 @@ impl<'a> Open<'a> {
         Ok(())
     }
 
-    pub(crate) fn add_import(&mut self, import: &ImportNode) -> Result<(), Unsaid>
+    pub(crate) fn add_import(&mut self, import: &ImportNode) -> Result<(), Error>
         ensures added { (own : Scope) → OnOk result
             (preceding own self.new ≡ after_import (preceding own self.old) (shown_import_node import.now)) }
         ensures memory { IfErr result (λ e. e ≡ OutOfMemory) }
@@ -193,7 +176,7 @@ impl<'a> Open<'a> {
         Ok(())
     }
 
-    pub(crate) fn add_export(&mut self, export: &ExportNode) -> Result<(), Unsaid>
+    pub(crate) fn add_export(&mut self, export: &ExportNode) -> Result<(), Error>
         ensures added { (own : Scope) → OnOk result
             (preceding own self.new ≡ after_export (preceding own self.old) (shown_export_node export.now)) }
         ensures memory { IfErr result (λ e. e ≡ OutOfMemory) }

@@ -20,7 +20,7 @@ use crate::preceding::Open;
 use smith_read::{CanonNode, CoreNode, ExportNode, ImportNode, TypeNode};
 use smith_read_scopes::Scopes;
 use smith_script_types::{
-    Given, Purpose, Unsaid, put_choice, put_core, put_end, put_extern, put_more, put_name,
+    Error, Given, Purpose, put_choice, put_core, put_end, put_extern, put_more, put_name,
     put_reference, put_type,
 };
 
@@ -41,7 +41,7 @@ pub(crate) trait Row {
         out: &mut Vec<u8>,
         scopes: &mut Scopes<'a>,
         here: &mut Open<'a>,
-    ) -> Result<(), Unsaid>
+    ) -> Result<(), Error>
         ensures said { Says result out.old out.new (says given.entry.config.now (outer_in scopes.old)
             (preceding (own_in scopes.old) here.old) (shown self.now)) }
         ensures added { OnOk result (preceding (own_in scopes.new) here.new
@@ -57,7 +57,7 @@ pub(crate) fn put_rows<'a, T: Row>(
     here: &mut Open<'a>,
     max: usize,
     rows: &'a [T],
-) -> Result<(), Unsaid>
+) -> Result<(), Error>
     ensures said { Says result out.old out.new (rows_say
         (T.says given.entry.config.now (outer_in scopes.old)) T.after max (preceding (own_in scopes.old) here.old)
         (map T.shown rows.now)) }
@@ -89,7 +89,7 @@ impl Row for CoreNode {
         out: &mut Vec<u8>,
         scopes: &mut Scopes<'a>,
         _here: &mut Open<'a>,
-    ) -> Result<(), Unsaid> {
+    ) -> Result<(), Error> {
         put_core(out, given.place(scopes), given.config.max_type_size, self)?;
         scopes.add_core_type(self)?;
         Ok(())
@@ -111,7 +111,7 @@ impl Row for TypeNode {
         out: &mut Vec<u8>,
         scopes: &mut Scopes<'a>,
         here: &mut Open<'a>,
-    ) -> Result<(), Unsaid> {
+    ) -> Result<(), Error> {
         put_type(out, given, scopes, given.config.max_type_size, self)?;
         scopes.add_type(self)?;
         here.add_type(self)
@@ -133,7 +133,7 @@ impl Row for CanonNode {
         out: &mut Vec<u8>,
         _scopes: &mut Scopes<'a>,
         here: &mut Open<'a>,
-    ) -> Result<(), Unsaid> {
+    ) -> Result<(), Error> {
         put_canon(given.alloc, out, here, self)?;
         match *self {
             CanonNode::Lift { core_func, ty } => here.add_lift(core_func, ty),
@@ -157,7 +157,7 @@ impl Row for ImportNode {
         out: &mut Vec<u8>,
         scopes: &mut Scopes<'a>,
         here: &mut Open<'a>,
-    ) -> Result<(), Unsaid> {
+    ) -> Result<(), Error> {
         let purpose = Purpose {
             totals: here.totals,
             for_import: true,
@@ -184,7 +184,7 @@ impl Row for ExportNode {
         out: &mut Vec<u8>,
         _scopes: &mut Scopes<'a>,
         here: &mut Open<'a>,
-    ) -> Result<(), Unsaid> {
+    ) -> Result<(), Error> {
         put_choice(out, here.functions.len(), self.func as usize)?;
         put_name(out, here.exports, &self.name)?;
         here.add_export(self)

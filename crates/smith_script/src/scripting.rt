@@ -21,7 +21,7 @@ use smith_component::generate;
 use smith_format::Config;
 use smith_input::{Error, Unstructured};
 use smith_read::{ComponentTree, ReadError, read};
-use smith_script_types::{Given, Unsaid};
+use smith_script_types::Given;
 use std::alloc::Global;
 
 // What an input produces, where these bytes are expected.
@@ -103,8 +103,8 @@ fn written(
     let mut input = Vec::new(alloc);
     match put_tree(&mut input, Given { alloc, config }, tree) {
         Ok(_) => {}
-        Err(Unsaid::OutOfMemory) => return Err(ScriptError::OutOfMemory),
-        Err(Unsaid::NoBytes) => {
+        Err(Error::OutOfMemory) => return Err(ScriptError::OutOfMemory),
+        Err(_) => {
             let part = tried(alloc, config, &input, bytes);
             return Err(no_script(config, tree, part));
         }
@@ -153,8 +153,7 @@ fn scripted(alloc: Global, config: &Config, bytes: &[u8]) -> Result<Vec<u8>, Scr
 /// nothing is left.
 ///
 /// The bytes are read and judged, the script is written as it is defined, and tried: it is returned exactly where
-/// `generate` produces the bytes from it. The time is linear in the bytes and the script, times a logarithm, but that
-/// each lift takes the time to hash the names of its function type.
+/// `generate` produces the bytes from it. The time is linear in the bytes and the script, times a logarithm.
 pub fn script(alloc: Global, config: &Config, bytes: &[u8]) -> Result<Vec<u8>, ScriptError>
     ensures answered { IfOk result
         (λ b. (t : Tree) × Spells t bytes.now × IsScript config.now t b.items) }

@@ -2,8 +2,8 @@
 use Rattle.std.proofs.Common.{◌≡◌, ℕ, List, [], ◌++◌, refl, ap, sym, subst, ◌∙◌, Result, Ok, Err, IsErrAnd, append_assoc, append-nil}
 use Rattle.std.specs.declared.vec.Vec.{Vec}
 use Rattle.std.specs.declared.alloc.Global.{Global}
-use Rattle.smith_script_core.specs.declared.error.Unsaid.{Unsaid}
-use Rattle.smith_script_core.specs.declared.error.Unsaid.TheVariants as error
+use Rattle.smith_input.specs.declared.error.Error.{Error}
+use Rattle.smith_input.specs.declared.error.Error.TheVariants.{OutOfMemory}
 use Rattle.smith_script_core.specs.Says.{Adds, IsUnsaid, Says}
 use Rattle.smith_input.proofs.Lists.{all_front, all_back}
 
@@ -13,19 +13,19 @@ adds_nothing {a} = record { is = sym (append-nil a.items) }
 pub adds_then : {a b c : Vec ℕ Global} {p q : List ℕ} → Adds a b p → Adds b c q → Adds a c (p ++ q)
 adds_then {a} {b} {c} {p} {q} g h = record { is = h.is ∙ ap (λ z. z ++ q) g.is ∙ append_assoc a.items p q }
 
-pub unsaid_left : {e : Unsaid} {p : List ℕ} (q : List ℕ) → IsUnsaid e p → IsUnsaid e (p ++ q)
+pub unsaid_left : {e : Error} {p : List ℕ} (q : List ℕ) → IsUnsaid e p → IsUnsaid e (p ++ q)
 unsaid_left {e} {p} q d = record { is = λ h all. d.is h (all_front _ p q all) }
 
-pub unsaid_right : {e : Unsaid} (p : List ℕ) {q : List ℕ} → IsUnsaid e q → IsUnsaid e (p ++ q)
+pub unsaid_right : {e : Error} (p : List ℕ) {q : List ℕ} → IsUnsaid e q → IsUnsaid e (p ++ q)
 unsaid_right {e} p {q} d = record { is = λ h all. d.is h (all_back _ p q all) }
 
 -- a last call whose result is returned
-pub ends : {A : Type 0} (r : Result A Unsaid) {a b : Vec ℕ Global} (c : Vec ℕ Global) {p : List ℕ} (q : List ℕ) → Adds a b p → Says r b c q
+pub ends : {A : Type 0} (r : Result A Error) {a b : Vec ℕ Global} (c : Vec ℕ Global) {p : List ℕ} (q : List ℕ) → Adds a b p → Says r b c q
     → Says r a c (p ++ q)
 ends (Ok x) c q g h = adds_then g h
 ends (Err e) c {p} q g h = unsaid_right p h
 
-pub ends_third : {A : Type 0} (r : Result A Unsaid) {a b c : Vec ℕ Global} (d : Vec ℕ Global) {p q : List ℕ} (s : List ℕ) → Adds a b p → Adds b c q
+pub ends_third : {A : Type 0} (r : Result A Error) {a b c : Vec ℕ Global} (d : Vec ℕ Global) {p q : List ℕ} (s : List ℕ) → Adds a b p → Adds b c q
     → Says r c d s → Says r a d (p ++ q ++ s)
 ends_third r d s g h k = ends r d s (adds_then g h) k
 
@@ -42,12 +42,12 @@ pub towards_step : {a b c : Vec ℕ Global} {all left : List ℕ} (p rest : List
 towards_step p rest t e g =
     record { front = t.front ++ p; parts = t.parts ∙ ap (λ x. t.front ++ x) e ∙ sym (append_assoc t.front p rest); adds = adds_then t.adds g }
 
-pub towards_exit : {a b : Vec ℕ Global} {all left : List ℕ} {e : Unsaid} (p rest : List ℕ) → Towards a b all left → left ≡ p ++ rest → IsUnsaid e p
+pub towards_exit : {a b : Vec ℕ Global} {all left : List ℕ} {e : Error} (p rest : List ℕ) → Towards a b all left → left ≡ p ++ rest → IsUnsaid e p
     → IsUnsaid e all
 towards_exit {a} {b} {all} {left} {e} p rest t is d =
     subst (IsUnsaid e) (sym (t.parts ∙ ap (λ x. t.front ++ x) is)) (unsaid_right t.front (unsaid_left rest d))
 
-pub towards_end : {A : Type 0} (r : Result A Unsaid) {a b : Vec ℕ Global} (c : Vec ℕ Global) {all left : List ℕ} → Towards a b all left → Says r b c left
+pub towards_end : {A : Type 0} (r : Result A Error) {a b : Vec ℕ Global} (c : Vec ℕ Global) {all left : List ℕ} → Towards a b all left → Says r b c left
     → Says r a c all
 towards_end r {a} {b} c t h = subst (Says r a c) (sym t.parts) (ends r c _ t.adds h)
 
@@ -55,12 +55,12 @@ pub towards_done : {a b : Vec ℕ Global} {all left : List ℕ} → Towards a b 
 towards_done {a} {b} t e = subst (Adds a b) (sym (t.parts ∙ ap (λ x. t.front ++ x) e ∙ append-nil t.front)) t.adds
 
 -- a growth that was refused
-pub memory_unsaid : (e : Unsaid) (p : List ℕ) → e ≡ error.OutOfMemory → IsUnsaid e p
-memory_unsaid e p h = record { is = λ k. let z : error.OutOfMemory ≡ error.NoBytes = sym h ∙ k in cc }
+pub memory_unsaid : (e : Error) (p : List ℕ) → e ≡ OutOfMemory → IsUnsaid e p
+memory_unsaid e p h = record { is = λ k. absurd (k h) }
 
 -- an error that is passed on
-pub gives_up : {A : Type 0} (r : Result A Unsaid) (e : Unsaid) (a b : Vec ℕ Global) {p : List ℕ} → IsErrAnd r (λ y. y ≡ e) → IsUnsaid e p → Says r a b p
+pub gives_up : {A : Type 0} (r : Result A Error) (e : Error) (a b : Vec ℕ Global) {p : List ℕ} → IsErrAnd r (λ y. y ≡ e) → IsUnsaid e p → Says r a b p
 gives_up (Ok x) e a b {p} is d = absurd is
-gives_up (Err y) e a b {p} is d = subst (λ (z : Unsaid). IsUnsaid z p) (sym is) d
+gives_up (Err y) e a b {p} is d = subst (λ (z : Error). IsUnsaid z p) (sym is) d
 
 pub ruleset saying = (adds_nothing, adds_then, unsaid_left, unsaid_right, ends, ends_third)

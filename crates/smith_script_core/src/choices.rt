@@ -6,17 +6,16 @@ ghost use Rattle.smith_input.specs.Script.{script_characters};
 ghost use Rattle.smith_input.specs.Script.{script_end, script_more, script_text, width_within};
 ghost use Rattle.smith_script_core.specs.Says.{Says};
 
-use crate::error::Unsaid;
-use smith_input::MAX_CUSTOM_NAME_LEN;
+use smith_input::{Error, MAX_CUSTOM_NAME_LEN};
 
-pub fn put_byte(out: &mut Vec<u8>, value: u8) -> Result<(), Unsaid>
+pub fn put_byte(out: &mut Vec<u8>, value: u8) -> Result<(), Error>
     ensures { Says result out.old out.new (value ∷ []) }
 {
     out.push(value)?;
     Ok(())
 }
 
-pub fn put_raw(out: &mut Vec<u8>, contents: &[u8]) -> Result<(), Unsaid>
+pub fn put_raw(out: &mut Vec<u8>, contents: &[u8]) -> Result<(), Error>
     ensures { Says result out.old out.new contents.now }
 {
     out.extend_from_slice(contents)?;
@@ -35,7 +34,7 @@ fn width_within(most: u32, n: u64) -> u32
 }
 
 // A number in so many bytes, the most significant first.
-fn put_big_endian(out: &mut Vec<u8>, width: u32, k: u64) -> Result<(), Unsaid>
+fn put_big_endian(out: &mut Vec<u8>, width: u32, k: u64) -> Result<(), Error>
     requires { width ≤ 8 }
     ensures { Says result out.old out.new (big_endian width k) }
 {
@@ -44,14 +43,14 @@ fn put_big_endian(out: &mut Vec<u8>, width: u32, k: u64) -> Result<(), Unsaid>
     }
     let unit = 256u64.pow(width - 1);
     let Ok(first) = u8::try_from(k / unit) else {
-        return Err(Unsaid::NoBytes);
+        return Err(Error::TooLong);
     };
     put_byte(out, first)?;
     put_big_endian(out, width - 1, k % unit)
 }
 
 /// A choice of k among n.
-pub fn put_choice(out: &mut Vec<u8>, n: usize, k: usize) -> Result<(), Unsaid>
+pub fn put_choice(out: &mut Vec<u8>, n: usize, k: usize) -> Result<(), Error>
     ensures { Says result out.old out.new (pick n k) }
 {
     let width = width_within(8, n as u64);
@@ -71,14 +70,14 @@ fn place_of<T: PartialEq>(items: &[T], item: &T) -> usize
 }
 
 /// A choice of an item among these.
-pub fn put_among<T: PartialEq>(out: &mut Vec<u8>, items: &[T], item: &T) -> Result<(), Unsaid>
+pub fn put_among<T: PartialEq>(out: &mut Vec<u8>, items: &[T], item: &T) -> Result<(), Error>
     ensures { Says result out.old out.new (script_among T.eq items.now item.now) }
 {
     put_choice(out, items.len(), place_of(items, item))
 }
 
 /// That a loop makes another turn, where it might end.
-pub fn put_more(out: &mut Vec<u8>, min: usize, done: usize) -> Result<(), Unsaid>
+pub fn put_more(out: &mut Vec<u8>, min: usize, done: usize) -> Result<(), Error>
     ensures { Says result out.old out.new (script_more min done) }
 {
     if done < min {
@@ -88,7 +87,7 @@ pub fn put_more(out: &mut Vec<u8>, min: usize, done: usize) -> Result<(), Unsaid
 }
 
 /// That a loop ends, where it might make another turn.
-pub fn put_end(out: &mut Vec<u8>, done: usize, max: usize) -> Result<(), Unsaid>
+pub fn put_end(out: &mut Vec<u8>, done: usize, max: usize) -> Result<(), Error>
     ensures { Says result out.old out.new (script_end done max) }
 {
     if done < max {
@@ -109,7 +108,7 @@ fn code(character: u8) -> usize
 }
 
 /// The characters of a name in kebab case.
-pub(crate) fn put_characters(out: &mut Vec<u8>, name: &[u8]) -> Result<(), Unsaid>
+pub(crate) fn put_characters(out: &mut Vec<u8>, name: &[u8]) -> Result<(), Error>
     ensures { Says result out.old out.new (script_characters name.now) }
 {
     for character in name {
@@ -119,7 +118,7 @@ pub(crate) fn put_characters(out: &mut Vec<u8>, name: &[u8]) -> Result<(), Unsai
 }
 
 /// A text of at most so many bytes, as the reader has them.
-pub(crate) fn put_text_within(out: &mut Vec<u8>, most: usize, text: &[u8]) -> Result<(), Unsaid>
+pub(crate) fn put_text_within(out: &mut Vec<u8>, most: usize, text: &[u8]) -> Result<(), Error>
     requires { most ≤ 1000 }
     ensures { Says result out.old out.new (script_text most text.now) }
 {
@@ -128,14 +127,14 @@ pub(crate) fn put_text_within(out: &mut Vec<u8>, most: usize, text: &[u8]) -> Re
 }
 
 /// The name of a custom section.
-pub fn put_text(out: &mut Vec<u8>, name: &str) -> Result<(), Unsaid>
+pub fn put_text(out: &mut Vec<u8>, name: &str) -> Result<(), Error>
     ensures { Says result out.old out.new (script_text 1000 name.now) }
 {
     put_text_within(out, MAX_CUSTOM_NAME_LEN, name.as_bytes())
 }
 
 /// The contents of a custom section.
-pub fn put_contents(out: &mut Vec<u8>, contents: &[u8]) -> Result<(), Unsaid>
+pub fn put_contents(out: &mut Vec<u8>, contents: &[u8]) -> Result<(), Error>
     ensures { Says result out.old out.new (script_bytes contents.now) }
 {
     for byte in contents {

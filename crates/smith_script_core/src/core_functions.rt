@@ -5,20 +5,20 @@ ghost use Rattle.smith_format.specs.CoreScript.{script_function};
 ghost use Rattle.smith_format.specs.Limits.{configured, max_results};
 ghost use Rattle.smith_format.specs.Shown.{shown_func};
 ghost use Rattle.smith_script_core.specs.Says.{Says};
-ghost use Rattle.smith_script_core.specs.declared.error.Unsaid.TheVariants.{OutOfMemory};
+ghost use Rattle.smith_input.specs.declared.error.Error.TheVariants.{OutOfMemory};
 
-use crate::error::Unsaid;
 use crate::members::put_core_values;
 use smith_format::{Config, FuncType, ValType, configured_valtypes};
+use smith_input::Error;
 use std::alloc::Global;
 
 /// The core value types that the limits allow.
-pub fn valtypes_of(alloc: Global, config: &Config) -> Result<Vec<ValType>, Unsaid>
+pub fn valtypes_of(alloc: Global, config: &Config) -> Result<Vec<ValType>, Error>
     ensures list { IfOk result (λ v. v.items ≡ configured config.now) }
     ensures memory { IfErr result (λ e. e ≡ OutOfMemory) }
 {
     let Ok(valtypes) = configured_valtypes(alloc, config) else {
-        return Err(Unsaid::OutOfMemory);
+        return Err(Error::OutOfMemory);
     };
     Ok(valtypes)
 }
@@ -36,7 +36,7 @@ fn put_values(
     valtypes: &Vec<ValType>,
     most_results: usize,
     ty: &FuncType,
-) -> Result<(), Unsaid>
+) -> Result<(), Error>
     ensures { Says result out.old out.new (script_function valtypes.now.items most_results (shown_func ty.now)) }
 {
     put_core_values(out, valtypes, 20, &ty.params)?;
@@ -49,7 +49,7 @@ pub fn put_core_function(
     out: &mut Vec<u8>,
     config: &Config,
     ty: &FuncType,
-) -> Result<(), Unsaid>
+) -> Result<(), Error>
     ensures { Says result out.old out.new
         (script_function (configured config.now) (max_results config.now) (shown_func ty.now)) }
 {

@@ -5,7 +5,6 @@
 mod choices;
 mod core_functions;
 mod cuts;
-mod error;
 mod fronts;
 mod limits;
 mod members;
@@ -15,10 +14,10 @@ mod stand_ins;
 
 pub use choices::{put_among, put_byte, put_choice, put_contents, put_end, put_more, put_text};
 pub use core_functions::{put_core_function, valtypes_of};
-pub use error::Unsaid;
 pub use fronts::{after_front, after_memory, after_realloc, core_size};
 pub use limits::put_limits;
 pub use members::{Scripted, put_members};
 pub use names::{put_core_name, put_name, put_new_core_name};
 pub use offers::put_offered;
+pub use smith_input::Error;
 pub use stand_ins::put_stand_in;

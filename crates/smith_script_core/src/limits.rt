@@ -5,10 +5,10 @@ ghost use Rattle.smith_format.specs.CoreScript.{script_between, script_limits, s
 ghost use Rattle.smith_script_core.specs.Says.{Says};
 
 use crate::choices::{put_byte, put_choice};
-use crate::error::Unsaid;
+use smith_input::Error;
 
 // A number from low to high.
-fn put_between(out: &mut Vec<u8>, low: u64, high: u64, n: u64) -> Result<(), Unsaid>
+fn put_between(out: &mut Vec<u8>, low: u64, high: u64, n: u64) -> Result<(), Error>
     requires { high ≤ 20 }
     ensures { Says result out.old out.new (script_between low high n) }
 {
@@ -19,7 +19,7 @@ fn put_between(out: &mut Vec<u8>, low: u64, high: u64, n: u64) -> Result<(), Uns
     )
 }
 
-fn put_maximum(out: &mut Vec<u8>, minimum: u64, maximum: Option<u64>) -> Result<(), Unsaid>
+fn put_maximum(out: &mut Vec<u8>, minimum: u64, maximum: Option<u64>) -> Result<(), Error>
     ensures { Says result out.old out.new (script_maximum minimum maximum) }
 {
     match maximum {
@@ -32,7 +32,7 @@ fn put_maximum(out: &mut Vec<u8>, minimum: u64, maximum: Option<u64>) -> Result<
 }
 
 /// Limits: the minimum, and the maximum or none.
-pub fn put_limits(out: &mut Vec<u8>, minimum: u64, maximum: Option<u64>) -> Result<(), Unsaid>
+pub fn put_limits(out: &mut Vec<u8>, minimum: u64, maximum: Option<u64>) -> Result<(), Error>
     ensures { Says result out.old out.new (script_limits minimum maximum) }
 {
     put_between(out, 0, 10, minimum)?;

@@ -8,14 +8,14 @@ ghost use Rattle.smith_tree.specs.TypeScript.{script_members};
 ghost use Rattle.smith_script_core.specs.Says.{Says};
 
 use crate::choices::{put_among, put_end, put_more};
-use crate::error::Unsaid;
 use smith_format::ValType;
+use smith_input::Error;
 
 /// What has a script in a context, after so many.
 pub trait Scripted<Context> {
     ghost script: { Context → ℕ → Self → List ℕ };
 
-    fn say(&self, context: &Context, done: usize, out: &mut Vec<u8>) -> Result<(), Unsaid>
+    fn say(&self, context: &Context, done: usize, out: &mut Vec<u8>) -> Result<(), Error>
         ensures { Says result out.old out.new (script context.now done self.now) };
 }
 
@@ -26,7 +26,7 @@ pub fn put_members<Context, T: Scripted<Context>>(
     min: usize,
     max: usize,
     items: &[T],
-) -> Result<(), Unsaid>
+) -> Result<(), Error>
     ensures { Says result out.old out.new (script_members (T.script context.now) min max items.now) }
 {
     for done in 0..items.len() {
@@ -39,7 +39,7 @@ pub fn put_members<Context, T: Scripted<Context>>(
 impl Scripted<Vec<ValType>> for ValType {
     ghost script = { λ valtypes _ x. script_among same_val valtypes.items x };
 
-    fn say(&self, context: &Vec<ValType>, _done: usize, out: &mut Vec<u8>) -> Result<(), Unsaid> {
+    fn say(&self, context: &Vec<ValType>, _done: usize, out: &mut Vec<u8>) -> Result<(), Error> {
         put_among(out, context, self)
     }
 }
@@ -50,7 +50,7 @@ pub(crate) fn put_core_values(
     valtypes: &Vec<ValType>,
     max: usize,
     items: &[ValType],
-) -> Result<(), Unsaid>
+) -> Result<(), Error>
     ensures { Says result out.old out.new (script_values valtypes.now.items max items.now) }
 {
     put_members(out, valtypes, 0, max, items)

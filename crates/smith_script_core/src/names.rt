@@ -8,8 +8,7 @@ ghost use Rattle.smith_script_core.specs.Says.{Says};
 
 use crate::choices::{put_characters, put_choice, put_text_within};
 use crate::cuts::front;
-use crate::error::Unsaid;
-use smith_input::MAX_NAME_LEN;
+use smith_input::{Error, MAX_NAME_LEN};
 
 // Which texts can be read.
 trait Readable {
@@ -84,7 +83,7 @@ fn stem_of<'b, R: Readable>(rule: &R, count: usize, name: &'b [u8]) -> &'b [u8]
 }
 
 // A name in kebab case, of which so many bytes are chosen.
-fn put_kebab(out: &mut Vec<u8>, name: &[u8]) -> Result<(), Unsaid>
+fn put_kebab(out: &mut Vec<u8>, name: &[u8]) -> Result<(), Error>
     ensures { Says result out.old out.new (script_name 100 name.now) }
 {
     put_choice(out, MAX_NAME_LEN + 1, name.len())?;
@@ -92,7 +91,7 @@ fn put_kebab(out: &mut Vec<u8>, name: &[u8]) -> Result<(), Unsaid>
 }
 
 /// A name in kebab case, where so many names are there.
-pub fn put_name(out: &mut Vec<u8>, count: usize, name: &str) -> Result<(), Unsaid>
+pub fn put_name(out: &mut Vec<u8>, count: usize, name: &str) -> Result<(), Error>
     ensures { Says result out.old out.new (script_new 100 count name.now) }
 {
     let text = stem_of(&Label {}, count, name.as_bytes());
@@ -100,14 +99,14 @@ pub fn put_name(out: &mut Vec<u8>, count: usize, name: &str) -> Result<(), Unsai
 }
 
 /// The name of a core module from which something is imported.
-pub fn put_core_name(out: &mut Vec<u8>, name: &str) -> Result<(), Unsaid>
+pub fn put_core_name(out: &mut Vec<u8>, name: &str) -> Result<(), Error>
     ensures { Says result out.old out.new (script_text 100 name.now) }
 {
     put_text_within(out, MAX_NAME_LEN, name.as_bytes())
 }
 
 /// A name of what a core module imports or exports, where so many names are there.
-pub fn put_new_core_name(out: &mut Vec<u8>, count: usize, name: &str) -> Result<(), Unsaid>
+pub fn put_new_core_name(out: &mut Vec<u8>, count: usize, name: &str) -> Result<(), Error>
     ensures { Says result out.old out.new (script_new_text 100 count name.now) }
 {
     put_text_within(out, MAX_NAME_LEN, stem_of(&Text {}, count, name.as_bytes()))

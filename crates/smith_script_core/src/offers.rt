@@ -4,14 +4,14 @@ ghost use Rattle.std.specs.Prelude.{◌≡◌, IfOk, IfErr};
 ghost use Rattle.smith_input.specs.Offers.{offers_of};
 ghost use Rattle.smith_input.specs.Script.{script_among};
 ghost use Rattle.smith_script_core.specs.Says.{Says};
-ghost use Rattle.smith_script_core.specs.declared.error.Unsaid.TheVariants.{OutOfMemory};
+ghost use Rattle.smith_input.specs.declared.error.Error.TheVariants.{OutOfMemory};
 
 use crate::choices::put_among;
-use crate::error::Unsaid;
+use smith_input::Error;
 use std::alloc::Global;
 
 // The items that are offered.
-fn offered<T: Copy>(alloc: Global, offers: &[(bool, T)]) -> Result<Vec<T>, Unsaid>
+fn offered<T: Copy>(alloc: Global, offers: &[(bool, T)]) -> Result<Vec<T>, Error>
     ensures list { IfOk result (λ v. v.items ≡ offers_of offers.now) }
     ensures memory { IfErr result (λ e. e ≡ OutOfMemory) }
 {
@@ -30,7 +30,7 @@ pub fn put_offered<T: Copy + PartialEq>(
     out: &mut Vec<u8>,
     offers: &[(bool, T)],
     item: T,
-) -> Result<(), Unsaid>
+) -> Result<(), Error>
     ensures { Says result out.old out.new (script_among T.eq (offers_of offers.now) item) }
 {
     let items = offered(alloc, offers)?;

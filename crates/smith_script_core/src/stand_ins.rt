@@ -7,15 +7,15 @@ ghost use Rattle.smith_core.specs.StandInScript.{memories_of, memory_of, past_nu
 ghost use Rattle.smith_core.specs.StandInScript.{types_from, value_of, values_of};
 ghost use Rattle.smith_script_core.specs.Says.{Says};
 ghost use Rattle.smith_script_core.specs.StandIns.{script_functions, script_memories};
-ghost use Rattle.smith_script_core.specs.declared.error.Unsaid.TheVariants.{OutOfMemory};
+ghost use Rattle.smith_input.specs.declared.error.Error.TheVariants.{OutOfMemory};
 
 use crate::choices::{put_end, put_more};
 use crate::core_functions::{max_results, valtypes_of};
 use crate::cuts::{behind, front};
-use crate::error::Unsaid;
 use crate::limits::put_limits;
 use crate::members::put_core_values;
 use smith_format::{Config, RefType, ValType};
+use smith_input::Error;
 use std::alloc::Global;
 
 // The value type of a byte.
@@ -34,7 +34,7 @@ fn value_of(byte: u8) -> ValType
 }
 
 // The value types of these bytes.
-fn values_in(alloc: Global, bytes: &[u8]) -> Result<Vec<ValType>, Unsaid>
+fn values_in(alloc: Global, bytes: &[u8]) -> Result<Vec<ValType>, Error>
     ensures list { IfOk result (λ v. v.items ≡ map value_of bytes.now) }
     ensures memory { IfErr result (λ e. e ≡ OutOfMemory) }
 {
@@ -64,7 +64,7 @@ fn put_values<'b>(
     valtypes: &Vec<ValType>,
     most: usize,
     bytes: &'b [u8],
-) -> Result<&'b [u8], Unsaid>
+) -> Result<&'b [u8], Error>
     ensures said { Says result out.old out.new (script_values valtypes.now.items most (values_of bytes.now).0) }
     ensures left { IfOk result (λ left. left.now ≡ (values_of bytes.now).1) }
 {
@@ -84,7 +84,7 @@ fn put_function<'b>(
     valtypes: &Vec<ValType>,
     most_results: usize,
     bytes: &'b [u8],
-) -> Result<&'b [u8], Unsaid>
+) -> Result<&'b [u8], Error>
     ensures said { Says result out.old out.new
         (script_function valtypes.now.items most_results (function_of bytes.now).0) }
     ensures left { IfOk result (λ left. left.now ≡ (function_of bytes.now).1) }
@@ -100,7 +100,7 @@ fn put_functions<'b>(
     config: &Config,
     count: usize,
     bytes: &'b [u8],
-) -> Result<&'b [u8], Unsaid>
+) -> Result<&'b [u8], Error>
     ensures said { Says result out.old out.new (script_functions config.now 0 (functions_from count bytes.now).0) }
     ensures left { IfOk result (λ left. left.now ≡ (functions_from count bytes.now).1) }
 {
@@ -151,7 +151,7 @@ fn next_memory(bytes: &[u8]) -> Option<(u64, Option<u64>, &[u8])>
 }
 
 // The memory types to the end.
-fn put_memories(out: &mut Vec<u8>, config: &Config, bytes: &[u8]) -> Result<(), Unsaid>
+fn put_memories(out: &mut Vec<u8>, config: &Config, bytes: &[u8]) -> Result<(), Error>
     ensures { Says result out.old out.new (script_memories config.now 0 (all_memories bytes.now)) }
 {
     let mut done = 0;
@@ -181,7 +181,7 @@ pub fn put_stand_in(
     out: &mut Vec<u8>,
     config: &Config,
     text: &[u8],
-) -> Result<(), Unsaid>
+) -> Result<(), Error>
     ensures { Says result out.old out.new (script_stand_in config.now (stand_in_of text.now)) }
 {
     let (count, types) = types_of(behind(text, 8));

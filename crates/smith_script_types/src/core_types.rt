@@ -13,10 +13,10 @@ use crate::modules::put_module;
 use crate::place::Place;
 use smith_format::FuncType;
 use smith_read_types::{CoreNode, ModuleNode};
-use smith_script_core::{Unsaid, put_choice, put_core_function};
+use smith_script_core::{Error, put_choice, put_core_function};
 
 // A core function type: the first of two, and then its parameters and its results.
-fn put_core_func(out: &mut Vec<u8>, place: Place<'_, '_>, ty: &FuncType) -> Result<(), Unsaid>
+fn put_core_func(out: &mut Vec<u8>, place: Place<'_, '_>, ty: &FuncType) -> Result<(), Error>
     ensures { Says result out.old out.new (script_core_type place.entry.config.now (shown_func ty.now)) }
 {
     put_choice(out, 2, 0)?;
@@ -28,7 +28,7 @@ fn put_core_module<'a>(
     out: &mut Vec<u8>,
     place: Place<'_, 'a>,
     decls: &'a [ModuleNode],
-) -> Result<(), Unsaid>
+) -> Result<(), Error>
     ensures { (fuel : ℕ) → Says result out.old out.new
         (pick 2 1 ++ script_module place.entry.config.now (own_at place.entry) fuel (map shown_module_node decls.now)) }
 {
@@ -42,7 +42,7 @@ pub fn put_core<'a>(
     place: Place<'_, 'a>,
     fuel: u32,
     ty: &'a CoreNode,
-) -> Result<(), Unsaid>
+) -> Result<(), Error>
     ensures { Says result out.old out.new
         (script_core place.entry.config.now (own_at place.entry) fuel (shown_core_node ty.now)) }
 {

@@ -8,19 +8,19 @@ ghost use Rattle.smith_read_scopes.specs.Scopes.{outer_in, own_in, shown_scope};
 ghost use Rattle.smith_tree.specs.TypeOffers.{aliases_of, is_occupied, occupied};
 ghost use Rattle.smith_tree.specs.TypeScript.{script_alias, script_declaration_item, script_declares, script_no_import};
 ghost use Rattle.smith_script_core.specs.Says.{Says};
-ghost use Rattle.smith_script_core.specs.declared.error.Unsaid.TheVariants.{OutOfMemory};
+ghost use Rattle.smith_input.specs.declared.error.Error.TheVariants.{OutOfMemory};
 ghost use Rattle.smith_script_types.specs.Places.{outer_at, own_at};
 
 use crate::place::Place;
 use crate::positions::put_position;
 use crate::references::has_reference;
 use smith_read_scopes::{Scope, Scopes};
-use smith_script_core::{Unsaid, put_choice, put_offered};
-use smith_tree::DeclarationItem;
+use smith_script_core::{Error, put_choice, put_offered};
+use smith_tree::{DeclarationItem, declaration_offers};
 use std::alloc::Global;
 
 // That no import is declared, where one might be.
-fn put_no_import(out: &mut Vec<u8>, place: Place<'_, '_>, importing: bool) -> Result<(), Unsaid>
+fn put_no_import(out: &mut Vec<u8>, place: Place<'_, '_>, importing: bool) -> Result<(), Error>
     ensures { Says result out.old out.new (script_no_import importing (own_at place.entry)) }
 {
     if importing && has_reference(&place.scopes.own) {
@@ -36,7 +36,7 @@ fn is_occupied(scope: &Scope<'_>) -> bool
 }
 
 // Adds the count of a scope if it has an entry.
-fn push_occupied(counts: &mut Vec<usize>, count: usize, scope: &Scope<'_>) -> Result<(), Unsaid>
+fn push_occupied(counts: &mut Vec<usize>, count: usize, scope: &Scope<'_>) -> Result<(), Error>
     ensures added { OnOk result (counts.new.items
         ≡ counts.old.items ++ (if is_occupied (shown_scope scope.now) then count ∷ [] else [])) }
     ensures memory { IfErr result (λ e. e ≡ OutOfMemory) }
@@ -48,7 +48,7 @@ fn push_occupied(counts: &mut Vec<usize>, count: usize, scope: &Scope<'_>) -> Re
 }
 
 // The counts of the scopes that have an entry.
-fn occupied(alloc: Global, scopes: &Scopes<'_>) -> Result<Vec<usize>, Unsaid>
+fn occupied(alloc: Global, scopes: &Scopes<'_>) -> Result<Vec<usize>, Error>
     ensures list { IfOk result (λ v. v.items ≡ occupied (own_in scopes.now ∷ outer_in scopes.now)) }
     ensures ascending { IfOk result (λ v. IsStrictlyIncreasing v.items) }
     ensures memory { IfErr result (λ e. e ≡ OutOfMemory) }
@@ -63,7 +63,7 @@ fn occupied(alloc: Global, scopes: &Scopes<'_>) -> Result<Vec<usize>, Unsaid>
 }
 
 // Has one of the scopes an entry? The others are looked at only where the innermost has none.
-fn has_entry(place: Place<'_, '_>) -> Result<bool, Unsaid>
+fn has_entry(place: Place<'_, '_>) -> Result<bool, Error>
     ensures has { IfOk result (λ b. b ≡ nat_lt 0 (length (occupied (own_at place.entry ∷ outer_at place.entry)))) }
     ensures memory { IfErr result (λ e. e ≡ OutOfMemory) }
 {
@@ -82,16 +82,12 @@ fn may_nest(place: Place<'_, '_>) -> bool
 }
 
 // What is declared.
-fn put_item(out: &mut Vec<u8>, place: Place<'_, '_>, item: DeclarationItem) -> Result<(), Unsaid>
+fn put_item(out: &mut Vec<u8>, place: Place<'_, '_>, item: DeclarationItem) -> Result<(), Error>
     ensures { Says result out.old out.new
         (script_declaration_item place.entry.config.now (outer_at place.entry) (own_at place.entry) item) }
 {
-    let offers = [
-        (has_reference(&place.scopes.own), DeclarationItem::Export),
-        (has_entry(place)?, DeclarationItem::Alias),
-        (true, DeclarationItem::CoreType),
-        (may_nest(place), DeclarationItem::Type),
-    ];
+    let with_export = has_reference(&place.scopes.own);
+    let offers = declaration_offers(with_export, has_entry(place)?, may_nest(place));
     put_offered(place.alloc, out, &offers, item)
 }
 
@@ -101,7 +97,7 @@ pub(crate) fn put_declares(
     place: Place<'_, '_>,
     importing: bool,
     item: DeclarationItem,
-) -> Result<(), Unsaid>
+) -> Result<(), Error>
     ensures { Says result out.old out.new
         (script_declares place.entry.config.now importing (own_at place.entry) (outer_at place.entry) item) }
 {
@@ -110,7 +106,7 @@ pub(crate) fn put_declares(
 }
 
 // The choice of the scope of an outer alias.
-fn put_scope(out: &mut Vec<u8>, place: Place<'_, '_>, count: u32) -> Result<(), Unsaid>
+fn put_scope(out: &mut Vec<u8>, place: Place<'_, '_>, count: u32) -> Result<(), Error>
     ensures { Says result out.old out.new (script_among nat_eq (occupied (own_at place.entry ∷ outer_at place.entry)) count) }
 {
     let counts = occupied(place.alloc, place.scopes)?;
@@ -130,7 +126,7 @@ pub(crate) fn put_type_alias(
     place: Place<'_, '_>,
     count: u32,
     index: u32,
-) -> Result<(), Unsaid>
+) -> Result<(), Error>
     ensures { Says result out.old out.new (script_alias (own_at place.entry ∷ outer_at place.entry) count (λ s. index)) }
 {
     put_scope(out, place, count)?;
@@ -146,7 +142,7 @@ pub(crate) fn put_core_type_alias(
     place: Place<'_, '_>,
     count: u32,
     index: u32,
-) -> Result<(), Unsaid>
+) -> Result<(), Error>
     ensures { Says result out.old out.new
         (script_alias (own_at place.entry ∷ outer_at place.entry) count (λ s. length s.types + index)) }
 {

@@ -8,7 +8,7 @@ use crate::tables::{Tables, count_from, declared_type};
 use smith_format::{Config, ExportKind, FuncType};
 use smith_read_scopes::Scopes;
 use smith_read_types::{CoreNode, ModuleNode};
-use smith_script_core::Unsaid;
+use smith_script_core::Error;
 use std::alloc::Global;
 
 /// The declarations of a module type before one, and what is kept of them.
@@ -24,12 +24,12 @@ impl<'a> Declared<'a> {
     ghost use Rattle.smith_syntax.specs.ModuleTypes.{adds, count_of_kind, module_export_names, names_from};
     ghost use Rattle.smith_tree.specs.CoreTypeOffers.{allows_function, allows_type, undeclared, with_decl, with_front};
     ghost use Rattle.smith_read_scopes.specs.Scopes.{own_in};
-    ghost use Rattle.smith_script_core.specs.declared.error.Unsaid.TheVariants.{OutOfMemory};
+    ghost use Rattle.smith_input.specs.declared.error.Error.TheVariants.{OutOfMemory};
     ghost use Rattle.smith_script_types.specs.Modules.{so_far};
     ghost use Rattle.smith_script_types.specs.Tables.{function_in};
 
     /// What the canonical ABI asks in front: none of these declarations is an outer alias.
-    pub(crate) fn in_front(alloc: Global, decls: &'a [ModuleNode]) -> Result<Declared<'a>, Unsaid>
+    pub(crate) fn in_front(alloc: Global, decls: &'a [ModuleNode]) -> Result<Declared<'a>, Error>
         ensures front { IfOk result (λ s. so_far s ≡ with_front (undeclared 0) (map shown_module_node decls.now)) }
         ensures memory { IfErr result (λ e. e ≡ OutOfMemory) }
     {
@@ -98,7 +98,7 @@ impl<'a> Declared<'a> {
         around: &Scopes<'a>,
         decl: &'a ModuleNode,
         decls: &'a [ModuleNode],
-    ) -> Result<Declared<'a>, Unsaid>
+    ) -> Result<Declared<'a>, Error>
         requires { map shown_module_node decls.now ≡ (so_far self).decls ++ shown_module_node decl.now ∷ [] }
         ensures more { IfOk result (λ s. so_far s
             ≡ with_decl (own_in around.now).core_types (so_far self.entry) (shown_module_node decl.now)) }

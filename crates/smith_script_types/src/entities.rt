@@ -14,11 +14,12 @@ use crate::declared::Declared;
 use crate::place::Place;
 use crate::positions::{put_index, put_position};
 use smith_format::{Config, EntityType, ExportKind, GlobalType, RefType};
-use smith_script_core::{Unsaid, put_among, put_byte, put_limits, put_offered, valtypes_of};
+use smith_script_core::{Error, put_among, put_byte, put_limits, put_offered, valtypes_of};
+use smith_tree::kind_offers;
 use std::alloc::Global;
 
 // What a table holds, where there is a choice.
-fn put_element(out: &mut Vec<u8>, config: &Config, ty: RefType) -> Result<(), Unsaid>
+fn put_element(out: &mut Vec<u8>, config: &Config, ty: RefType) -> Result<(), Error>
     ensures { Says result out.old out.new (script_element config.now ty) }
 {
     if config.reference_types_enabled {
@@ -33,7 +34,7 @@ fn put_global(
     out: &mut Vec<u8>,
     config: &Config,
     ty: GlobalType,
-) -> Result<(), Unsaid>
+) -> Result<(), Error>
     ensures { Says result out.old out.new
         (script_among same_val (configured config.now) ty.val_type ++ script_bit ty.mutable) }
 {
@@ -48,7 +49,7 @@ fn put_entity_kind(
     place: Place<'_, '_>,
     declared: &Declared<'_>,
     kind: ExportKind,
-) -> Result<(), Unsaid>
+) -> Result<(), Error>
     ensures { Says result out.old out.new
         (script_among kinds.eq (entity_kinds place.entry.config.now (so_far declared.now)) kind) }
 {
@@ -60,13 +61,7 @@ fn put_entity_kind(
         && config.exceptions_enabled
         && declared.tables.tags.len() > 0;
     let with_func = declared.tables.own.len() > 0 && declared.allows_function(config);
-    let offers = [
-        (with_global, ExportKind::Global),
-        (with_table, ExportKind::Table),
-        (with_memory, ExportKind::Memory),
-        (with_tag, ExportKind::Tag),
-        (with_func, ExportKind::Func),
-    ];
+    let offers = kind_offers(with_global, with_table, with_memory, with_tag, with_func);
     put_offered(place.alloc, out, &offers, kind)
 }
 
@@ -76,7 +71,7 @@ fn put_entity_of(
     place: Place<'_, '_>,
     declared: &Declared<'_>,
     entity: EntityType,
-) -> Result<(), Unsaid>
+) -> Result<(), Error>
     ensures { Says result out.old out.new
         (script_entity_of place.entry.config.now (so_far declared.now) entity) }
 {
@@ -99,7 +94,7 @@ pub(crate) fn put_entity(
     place: Place<'_, '_>,
     declared: &Declared<'_>,
     entity: EntityType,
-) -> Result<(), Unsaid>
+) -> Result<(), Error>
     ensures { Says result out.old out.new
         (script_entity place.entry.config.now (so_far declared.now) entity) }
 {

@@ -22,8 +22,8 @@ fn burned(fuel: u32, turns: usize) -> u32
     }
 }
 
-// How many members a type of values has.
-fn defined_size(ty: &DefinedType) -> usize
+/// How many members a type of values has. Public for the crate above alone.
+pub fn defined_size(ty: &DefinedType) -> usize
     ensures { result ≡ defined_size (shown_defined ty.now) }
 {
     match ty {

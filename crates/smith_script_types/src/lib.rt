@@ -18,11 +18,13 @@ mod types;
 mod values;
 
 pub use core_types::put_core;
+pub use fuel::defined_size;
 pub use place::{Given, Place};
 pub use positions::put_position;
 pub use references::{Purpose, put_extern, put_reference};
 pub use smith_script_core::{
-    Unsaid, put_among, put_byte, put_choice, put_contents, put_end, put_more, put_name,
-    put_offered, put_stand_in, put_text,
+    Error, put_among, put_byte, put_choice, put_contents, put_end, put_more, put_name, put_offered,
+    put_stand_in, put_text,
 };
+pub use tables::one_more;
 pub use types::put_type;

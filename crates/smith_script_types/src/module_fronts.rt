@@ -7,13 +7,13 @@ ghost use Rattle.smith_read_types.specs.Nodes.{shown_module_node};
 ghost use Rattle.smith_tree.specs.ModuleScript.{front_before, in_front, may_declare, script_asked, script_front};
 ghost use Rattle.smith_tree.specs.ModuleScript.{script_line};
 ghost use Rattle.smith_script_core.specs.Says.{Says};
-ghost use Rattle.smith_script_core.specs.declared.error.Unsaid.TheVariants.{OutOfMemory};
+ghost use Rattle.smith_input.specs.declared.error.Error.TheVariants.{OutOfMemory};
 
 use crate::declared::Declared;
 use crate::place::Place;
 use smith_format::EntityType;
 use smith_read_types::ModuleNode;
-use smith_script_core::{Unsaid, after_front, after_memory, after_realloc, put_choice, put_limits};
+use smith_script_core::{Error, after_front, after_memory, after_realloc, put_choice, put_limits};
 
 // The declarations in front of these.
 fn in_front<'a>(decls: &'a [ModuleNode], after: &[ModuleNode]) -> &'a [ModuleNode]
@@ -24,7 +24,7 @@ fn in_front<'a>(decls: &'a [ModuleNode], after: &[ModuleNode]) -> &'a [ModuleNod
 }
 
 // What a declaration leaves open: the limits of a memory.
-fn put_asked(out: &mut Vec<u8>, decl: &ModuleNode) -> Result<(), Unsaid>
+fn put_asked(out: &mut Vec<u8>, decl: &ModuleNode) -> Result<(), Error>
     ensures { Says result out.old out.new (flat_map script_asked (entities_of (shown_module_node decl.now ∷ []))) }
 {
     match decl {
@@ -36,7 +36,7 @@ fn put_asked(out: &mut Vec<u8>, decl: &ModuleNode) -> Result<(), Unsaid>
     }
 }
 
-fn put_all_asked(out: &mut Vec<u8>, decls: &[ModuleNode]) -> Result<(), Unsaid>
+fn put_all_asked(out: &mut Vec<u8>, decls: &[ModuleNode]) -> Result<(), Error>
     ensures { Says result out.old out.new (flat_map script_asked (entities_of (map shown_module_node decls.now))) }
 {
     for decl in decls {
@@ -51,7 +51,7 @@ fn put_line(
     may: bool,
     decls: &[ModuleNode],
     after: &[ModuleNode],
-) -> Result<(), Unsaid>
+) -> Result<(), Error>
     ensures { Says result out.old out.new
         (script_line may (map shown_module_node decls.now) (map shown_module_node after.now)) }
 {
@@ -70,7 +70,7 @@ fn may_declare(
     place: Place<'_, '_>,
     decls: &[ModuleNode],
     after: &[ModuleNode],
-) -> Result<bool, Unsaid>
+) -> Result<bool, Error>
     ensures may { (fuel : ℕ) → IfOk result (λ b. b ≡ may_declare place.entry.config.now
         (front_before fuel (map shown_module_node decls.now) (map shown_module_node after.now))) }
     ensures memory { IfErr result (λ e. e ≡ OutOfMemory) }
@@ -84,7 +84,7 @@ pub(crate) fn put_front(
     out: &mut Vec<u8>,
     place: Place<'_, '_>,
     decls: &[ModuleNode],
-) -> Result<(), Unsaid>
+) -> Result<(), Error>
     ensures { (fuel : ℕ) → Says result out.old out.new (script_front place.entry.config.now fuel
         (map shown_module_node decls.now) (after_memory (map shown_module_node decls.now))
         (after_realloc (after_memory (map shown_module_node decls.now)))

@@ -16,10 +16,10 @@ use crate::positions::rank_of;
 use smith_read_types::ModuleNode;
 use smith_scopes::Kind;
 use smith_script_core::{
-    Unsaid, after_front, put_choice, put_core_function, put_core_name, put_end, put_more,
+    Error, after_front, put_choice, put_core_function, put_core_name, put_end, put_more,
     put_new_core_name, put_offered,
 };
-use smith_tree::ModuleItem;
+use smith_tree::{ModuleItem, module_item_offers};
 
 // How many function types an outer alias is among.
 fn alias_count(place: Place<'_, '_>, declared: &Declared<'_>) -> usize
@@ -34,19 +34,18 @@ fn put_item(
     place: Place<'_, '_>,
     declared: &Declared<'_>,
     item: ModuleItem,
-) -> Result<(), Unsaid>
+) -> Result<(), Error>
     ensures { Says result out.old out.new
         (script_item place.entry.config.now (own_at place.entry) (so_far declared.now) item) }
 {
     let with_type = declared.allows_type(place.config);
     let with_alias = with_type && alias_count(place, declared) > 0;
-    let offers = [
-        (true, ModuleItem::Import),
-        (true, ModuleItem::Export),
-        (with_type, ModuleItem::Type),
-        (with_alias, ModuleItem::Alias),
-    ];
-    put_offered(place.alloc, out, &offers, item)
+    put_offered(
+        place.alloc,
+        out,
+        &module_item_offers(with_type, with_alias),
+        item,
+    )
 }
 
 // The place of an outer alias among the function types of the scope around, and then the module type's own.
@@ -66,7 +65,7 @@ fn put_decl(
     place: Place<'_, '_>,
     declared: &Declared<'_>,
     decl: &ModuleNode,
-) -> Result<(), Unsaid>
+) -> Result<(), Error>
     ensures { Says result out.old out.new
         (script_decl place.entry.config.now (own_at place.entry) (so_far declared.now)
         (shown_module_node decl.now)) }
@@ -105,7 +104,7 @@ pub(crate) fn put_module<'a>(
     out: &mut Vec<u8>,
     place: Place<'_, 'a>,
     decls: &'a [ModuleNode],
-) -> Result<(), Unsaid>
+) -> Result<(), Error>
     ensures { (fuel : ℕ) → Says result out.old out.new
         (script_module place.entry.config.now (own_at place.entry) fuel (map shown_module_node decls.now)) }
 {

@@ -5,7 +5,7 @@ ghost use Rattle.std.specs.List.Sorted.{IsStrictlyIncreasing};
 ghost use Rattle.smith_input.specs.Script.{pick, rank_of, script_among};
 ghost use Rattle.smith_script_core.specs.Says.{Says};
 
-use smith_script_core::{Unsaid, put_choice};
+use smith_script_core::{Error, put_choice};
 
 /// The rank of a position among these, which ascend, or how many there are.
 pub(crate) fn rank_of(positions: &[usize], position: usize) -> usize
@@ -17,7 +17,7 @@ pub(crate) fn rank_of(positions: &[usize], position: usize) -> usize
 }
 
 /// A choice of a position among these, which ascend. Public for the crate above alone.
-pub fn put_position(out: &mut Vec<u8>, positions: &[usize], position: usize) -> Result<(), Unsaid>
+pub fn put_position(out: &mut Vec<u8>, positions: &[usize], position: usize) -> Result<(), Error>
     requires { IsStrictlyIncreasing positions.now }
     ensures { Says result out.old out.new (script_among nat_eq positions.now position) }
 {
@@ -25,7 +25,7 @@ pub fn put_position(out: &mut Vec<u8>, positions: &[usize], position: usize) -> 
 }
 
 /// A choice of an index among all of so many.
-pub(crate) fn put_index(out: &mut Vec<u8>, count: usize, index: usize) -> Result<(), Unsaid>
+pub(crate) fn put_index(out: &mut Vec<u8>, count: usize, index: usize) -> Result<(), Error>
     ensures { Says result out.old out.new (pick count (min index count)) }
 {
     put_choice(out, count, index.min(count))

@@ -12,9 +12,9 @@ ghost use Rattle.smith_script_types.specs.Places.{own_at};
 use crate::place::Place;
 use crate::positions::{put_index, put_position};
 use smith_read_scopes::{Kind, Scope};
-use smith_script_core::{Unsaid, put_byte, put_name, put_offered};
+use smith_script_core::{Error, put_byte, put_name, put_offered};
 use smith_syntax::ComponentTypeRef;
-use smith_tree::{RefKind, RefTotals};
+use smith_tree::{RefKind, RefTotals, ref_offers};
 
 /// What a reference is for: whether it is imported, whether within a type, and what is counted before it. Public for the
 /// crate above alone.
@@ -62,11 +62,11 @@ impl Purpose {
     }
 }
 
-// A kind, and whether it may be chosen: where there is an entry of it, and one more is allowed.
-fn offer(scope: &Scope<'_>, kind: RefKind, allowed: bool) -> (bool, RefKind)
-    ensures { result ≡ (has_place (shown_scope scope.now) kind && allowed, kind) }
+// Is a kind offered: is there an entry of it, and is one more allowed?
+fn is_offered(scope: &Scope<'_>, kind: RefKind, allowed: bool) -> bool
+    ensures { result ≡ (has_place (shown_scope scope.now) kind && allowed) }
 {
-    (ref_count(scope, kind) > 0 && allowed, kind)
+    ref_count(scope, kind) > 0 && allowed
 }
 
 fn kind_in(to: ComponentTypeRef) -> RefKind
@@ -87,41 +87,30 @@ fn put_ref_kind(
     place: Place<'_, '_>,
     purpose: Purpose,
     kind: RefKind,
-) -> Result<(), Unsaid>
+) -> Result<(), Error>
     ensures { Says result out.old out.new (script_among refs.eq
         (ref_kinds place.entry.config.now (own_at place.entry) purpose.totals purpose.for_import purpose.for_type_def) kind) }
 {
     let config = place.config;
     let totals = purpose.totals;
     let own = &place.scopes.own;
-    let offers = [
-        offer(
-            own,
-            RefKind::Module,
-            purpose.allows_one(totals.modules, config.max_modules),
-        ),
-        offer(own, RefKind::TypeEq, purpose.allows_equal(place)),
-        offer(
-            own,
-            RefKind::Func,
-            purpose.allows_one(totals.funcs, config.max_funcs),
-        ),
-        offer(
-            own,
-            RefKind::Component,
-            purpose.allows_one(totals.components, config.max_components),
-        ),
-        offer(
-            own,
-            RefKind::Instance,
-            purpose.allows_one(totals.instances, config.max_instances),
-        ),
-    ];
+    let modules = purpose.allows_one(totals.modules, config.max_modules);
+    let types = purpose.allows_equal(place);
+    let funcs = purpose.allows_one(totals.funcs, config.max_funcs);
+    let components = purpose.allows_one(totals.components, config.max_components);
+    let instances = purpose.allows_one(totals.instances, config.max_instances);
+    let offers = ref_offers(
+        is_offered(own, RefKind::Module, modules),
+        is_offered(own, RefKind::TypeEq, types),
+        is_offered(own, RefKind::Func, funcs),
+        is_offered(own, RefKind::Component, components),
+        is_offered(own, RefKind::Instance, instances),
+    );
     put_offered(place.alloc, out, &offers, kind)
 }
 
 // An entry of its kind.
-fn put_entry(out: &mut Vec<u8>, scope: &Scope<'_>, to: ComponentTypeRef) -> Result<(), Unsaid>
+fn put_entry(out: &mut Vec<u8>, scope: &Scope<'_>, to: ComponentTypeRef) -> Result<(), Error>
     ensures { Says result out.old out.new
         (script_among nat_eq (ref_places (shown_scope scope.now) (kind_in to)) (index_in to)) }
 {
@@ -148,7 +137,7 @@ pub fn put_reference(
     place: Place<'_, '_>,
     purpose: Purpose,
     to: ComponentTypeRef,
-) -> Result<(), Unsaid>
+) -> Result<(), Error>
     ensures { Says result out.old out.new (script_ref place.entry.config.now (own_at place.entry)
         purpose.totals purpose.for_import purpose.for_type_def to) }
 {
@@ -157,7 +146,7 @@ pub fn put_reference(
 }
 
 /// The name of an import or an export after so many, and that it has no URL.
-pub fn put_extern(out: &mut Vec<u8>, count: usize, name: &str) -> Result<(), Unsaid>
+pub fn put_extern(out: &mut Vec<u8>, count: usize, name: &str) -> Result<(), Error>
     ensures { Says result out.old out.new (script_extern count name.now) }
 {
     put_name(out, count, name)?;

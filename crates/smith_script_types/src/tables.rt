@@ -8,12 +8,12 @@ ghost use Rattle.smith_format.specs.declared.types.ExportKind.{ExportKind};
 ghost use Rattle.smith_syntax.specs.Entries.{ModuleDecl};
 ghost use Rattle.smith_syntax.specs.ModuleTypes.{func_of, is_of_kind};
 ghost use Rattle.smith_read_types.specs.Nodes.{shown_module_node};
-ghost use Rattle.smith_script_core.specs.declared.error.Unsaid.TheVariants.{OutOfMemory};
+ghost use Rattle.smith_input.specs.declared.error.Error.TheVariants.{OutOfMemory};
 ghost use Rattle.smith_script_types.specs.Tables.{Keeps, count_from, function_in};
 
 use smith_format::{EntityType, ExportKind, FuncType};
 use smith_read_types::ModuleNode;
-use smith_script_core::Unsaid;
+use smith_script_core::Error;
 use std::alloc::Global;
 use std::collections::BTreeMap;
 
@@ -46,16 +46,16 @@ pub(crate) fn count_from(imports: &BTreeMap<&str, usize>, from: &str) -> usize
     imports.get(from).copied().unwrap_or(0)
 }
 
-// One more: no more than can be counted is in memory.
-fn one_more(count: usize) -> Result<usize, Unsaid>
+/// One more. A count that no number holds passes what there is memory for. Public for the crate above alone.
+pub fn one_more(count: usize) -> Result<usize, Error>
     ensures more { IfOk result (λ n. n ≡ count + 1) }
     ensures memory { IfErr result (λ e. e ≡ OutOfMemory) }
 {
-    count.checked_add(1).ok_or(Unsaid::OutOfMemory)
+    count.checked_add(1).ok_or(Error::OutOfMemory)
 }
 
 // Counts an import or an export by its kind.
-fn add_kind(kinds: &mut [usize; 5], entity: EntityType) -> Result<(), Unsaid>
+fn add_kind(kinds: &mut [usize; 5], entity: EntityType) -> Result<(), Error>
     ensures added { OnOk result ((k : ExportKind) → slice_index kinds.new (kind_byte k)
         ≡ slice_index kinds.old (kind_byte k) + (if is_of_kind k entity then 1 else 0)) }
     ensures memory { IfErr result (λ e. e ≡ OutOfMemory) }
@@ -67,7 +67,7 @@ fn add_kind(kinds: &mut [usize; 5], entity: EntityType) -> Result<(), Unsaid>
 
 // Counts an import from that module.
 #[tactic(auto, using(std::proofs::lemmas::Map::Text::text_keys))]
-fn add_import<'a>(imports: &mut BTreeMap<&'a str, usize>, name: &'a str) -> Result<(), Unsaid>
+fn add_import<'a>(imports: &mut BTreeMap<&'a str, usize>, name: &'a str) -> Result<(), Error>
     ensures added { OnOk result ((from : List ℕ) → count_from imports.new from
         ≡ count_from imports.old from + (if bytes_eq name.now from then 1 else 0)) }
     ensures memory { IfErr result (λ e. e ≡ OutOfMemory) }
@@ -92,7 +92,7 @@ impl<'a> Tables<'a> {
     }
 
     // Adds a type to the own types, if there is one.
-    fn add_type(&mut self, ty: Option<&'a FuncType>) -> Result<(), Unsaid>
+    fn add_type(&mut self, ty: Option<&'a FuncType>) -> Result<(), Error>
         ensures added { (own : List Function) (decls : List ModuleDecl) → Keeps self.old own decls
             → OnOk result (Keeps self.new (own ++ function_in ty.entry) decls) }
         ensures memory { IfErr result (λ e. e ≡ OutOfMemory) }
@@ -113,7 +113,7 @@ impl<'a> Tables<'a> {
         &mut self,
         ty: Option<&'a FuncType>,
         decl: &'a ModuleNode,
-    ) -> Result<(), Unsaid>
+    ) -> Result<(), Error>
         ensures added { (own : List Function) (decls : List ModuleDecl) → Keeps self.old own decls
             → OnOk result (Keeps self.new (own ++ function_in ty.entry)
             (decls ++ shown_module_node decl.now ∷ [])) }

@@ -20,7 +20,7 @@ use crate::references::{Purpose, put_extern, put_reference};
 use crate::values::{put_defined, put_signature};
 use smith_read_scopes::Scopes;
 use smith_read_types::{DeclNode, TypeNode};
-use smith_script_core::{Unsaid, put_among, put_byte, put_choice, put_end};
+use smith_script_core::{Error, put_among, put_byte, put_choice, put_end};
 use smith_tree::{DeclarationItem, RefTotals, TypeKind, type_kinds};
 
 // Nothing is counted within types.
@@ -43,14 +43,14 @@ const EXPORT: Purpose = Purpose {
     for_type_def: true,
 };
 
-fn put_type_kind(out: &mut Vec<u8>, kind: TypeKind) -> Result<(), Unsaid>
+fn put_type_kind(out: &mut Vec<u8>, kind: TypeKind) -> Result<(), Error>
     ensures { Says result out.old out.new (script_type_kind kind) }
 {
     put_among(out, type_kinds(), &kind)
 }
 
 // That a type is one of values, where the fuel lasts for others.
-fn put_defined_kind(out: &mut Vec<u8>, fuel: u32) -> Result<(), Unsaid>
+fn put_defined_kind(out: &mut Vec<u8>, fuel: u32) -> Result<(), Error>
     ensures { Says result out.old out.new (if nat_le 2 fuel then script_type_kind Defined else []) }
 {
     if fuel < 2 {
@@ -68,7 +68,7 @@ pub fn put_type<'a>(
     scopes: &mut Scopes<'a>,
     fuel: u32,
     ty: &'a TypeNode,
-) -> Result<u32, Unsaid>
+) -> Result<u32, Error>
     ensures said { Says result out.old out.new (script_type (shown_type_node ty.now) given.entry.config.now fuel
         (own_in scopes.old) (outer_in scopes.old)) }
     ensures left { IfOk result (λ left. left ≡ fuel - cost (shown_type_node ty.now)) }
@@ -108,7 +108,7 @@ fn put_decl<'a>(
     scopes: &mut Scopes<'a>,
     here: Declaring,
     decl: &'a DeclNode,
-) -> Result<u32, Unsaid>
+) -> Result<u32, Error>
     ensures said { Says result out.old out.new (script_decl (shown_decl_node decl.now) given.entry.config.now here.importing
         here.fuel (taken_in here) (own_in scopes.old) (outer_in scopes.old)) }
     ensures left { IfOk result (λ left. left ≡ here.fuel - decl_cost (shown_decl_node decl.now)) }
@@ -162,7 +162,7 @@ fn put_decls<'a>(
     scopes: &mut Scopes<'a>,
     start: Declaring,
     decls: &'a [DeclNode],
-) -> Result<u32, Unsaid>
+) -> Result<u32, Error>
     requires { taken_in start ≡ none_taken }
     ensures said { Says result out.old out.new (script_decls (in_order (map shown_decl_node decls.now))
         given.entry.config.now start.importing start.fuel 0 none_taken empty_scope

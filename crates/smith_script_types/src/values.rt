@@ -13,7 +13,7 @@ ghost use Rattle.smith_script_core.specs.Says.{Says};
 
 use crate::positions::put_position;
 use smith_read_scopes::{Kind, Scope};
-use smith_script_core::{Scripted, Unsaid, put_among, put_byte, put_choice, put_members, put_name};
+use smith_script_core::{Error, Scripted, put_among, put_byte, put_choice, put_members, put_name};
 use smith_syntax::{ComponentValType, DefinedType, FuncType, PrimitiveValType, ResultType};
 use smith_tree::{DefinedKind, defined_kinds, primitives};
 
@@ -23,20 +23,20 @@ struct Own<'a> {
     scope: &'a Scope<'a>,
 }
 
-fn put_primitive(out: &mut Vec<u8>, ty: PrimitiveValType) -> Result<(), Unsaid>
+fn put_primitive(out: &mut Vec<u8>, ty: PrimitiveValType) -> Result<(), Error>
     ensures { Says result out.old out.new (script_primitive ty) }
 {
     put_among(out, primitives(), &ty)
 }
 
-fn put_kind(out: &mut Vec<u8>, kind: DefinedKind) -> Result<(), Unsaid>
+fn put_kind(out: &mut Vec<u8>, kind: DefinedKind) -> Result<(), Error>
     ensures { Says result out.old out.new (script_kind kind) }
 {
     put_among(out, defined_kinds(), &kind)
 }
 
 // That a value type is primitive, where it may be an indexed one.
-fn put_either(out: &mut Vec<u8>, count: usize) -> Result<(), Unsaid>
+fn put_either(out: &mut Vec<u8>, count: usize) -> Result<(), Error>
     ensures { Says result out.old out.new (script_either count) }
 {
     if count == 0 {
@@ -45,7 +45,7 @@ fn put_either(out: &mut Vec<u8>, count: usize) -> Result<(), Unsaid>
     put_choice(out, 2, 0)
 }
 
-fn put_value(out: &mut Vec<u8>, own: &Scope<'_>, ty: ComponentValType) -> Result<(), Unsaid>
+fn put_value(out: &mut Vec<u8>, own: &Scope<'_>, ty: ComponentValType) -> Result<(), Error>
     ensures { Says result out.old out.new (script_val (shown_scope own.now) ty) }
 {
     let defined = own.places(Kind::Defined);
@@ -65,7 +65,7 @@ fn put_maybe_value(
     out: &mut Vec<u8>,
     own: &Scope<'_>,
     ty: Option<ComponentValType>,
-) -> Result<(), Unsaid>
+) -> Result<(), Error>
     ensures { Says result out.old out.new (script_maybe (shown_scope own.now) ty) }
 {
     match ty {
@@ -78,7 +78,7 @@ fn put_maybe_value(
 }
 
 // The two types of a result.
-fn put_both(out: &mut Vec<u8>, own: &Scope<'_>, ty: &ResultType) -> Result<(), Unsaid>
+fn put_both(out: &mut Vec<u8>, own: &Scope<'_>, ty: &ResultType) -> Result<(), Error>
     ensures { Says result out.old out.new
         (script_maybe (shown_scope own.now) ty.now.ok_ty ++ script_maybe (shown_scope own.now) ty.now.err_ty) }
 {
@@ -89,7 +89,7 @@ fn put_both(out: &mut Vec<u8>, own: &Scope<'_>, ty: &ResultType) -> Result<(), U
 impl<'a> Scripted<Own<'a>> for ComponentValType {
     ghost script = { λ own _ ty. script_val (shown_scope own.scope.now) ty };
 
-    fn say(&self, context: &Own<'a>, _done: usize, out: &mut Vec<u8>) -> Result<(), Unsaid> {
+    fn say(&self, context: &Own<'a>, _done: usize, out: &mut Vec<u8>) -> Result<(), Error> {
         put_value(out, context.scope, *self)
     }
 }
@@ -97,7 +97,7 @@ impl<'a> Scripted<Own<'a>> for ComponentValType {
 impl<'a> Scripted<Own<'a>> for String {
     ghost script = { λ own count name. script_label count (string_bytes name) };
 
-    fn say(&self, _context: &Own<'a>, done: usize, out: &mut Vec<u8>) -> Result<(), Unsaid> {
+    fn say(&self, _context: &Own<'a>, done: usize, out: &mut Vec<u8>) -> Result<(), Error> {
         put_name(out, done, self)
     }
 }
@@ -105,7 +105,7 @@ impl<'a> Scripted<Own<'a>> for String {
 impl<'a> Scripted<Own<'a>> for (String, ComponentValType) {
     ghost script = { λ own count field. script_field (shown_scope own.scope.now) count (named field) };
 
-    fn say(&self, context: &Own<'a>, done: usize, out: &mut Vec<u8>) -> Result<(), Unsaid> {
+    fn say(&self, context: &Own<'a>, done: usize, out: &mut Vec<u8>) -> Result<(), Error> {
         put_name(out, done, &self.0)?;
         put_value(out, context.scope, self.1)
     }
@@ -114,7 +114,7 @@ impl<'a> Scripted<Own<'a>> for (String, ComponentValType) {
 impl<'a> Scripted<Own<'a>> for (String, Option<ComponentValType>) {
     ghost script = { λ own count case. script_case (shown_scope own.scope.now) count (named case) };
 
-    fn say(&self, context: &Own<'a>, done: usize, out: &mut Vec<u8>) -> Result<(), Unsaid> {
+    fn say(&self, context: &Own<'a>, done: usize, out: &mut Vec<u8>) -> Result<(), Error> {
         put_name(out, done, &self.0)?;
         put_maybe_value(out, context.scope, self.1)
     }
@@ -127,7 +127,7 @@ fn put_list<'a, T: Scripted<Own<'a>>>(
     kind: DefinedKind,
     max: usize,
     items: &[T],
-) -> Result<(), Unsaid>
+) -> Result<(), Error>
     ensures { Says result out.old out.new (script_kind kind ++ script_members (T.script own.now) 1 max items.now) }
 {
     put_kind(out, kind)?;
@@ -135,11 +135,7 @@ fn put_list<'a, T: Scripted<Own<'a>>>(
 }
 
 /// A type of values after what says that it is one.
-pub(crate) fn put_defined(
-    out: &mut Vec<u8>,
-    own: &Scope<'_>,
-    ty: &DefinedType,
-) -> Result<(), Unsaid>
+pub(crate) fn put_defined(out: &mut Vec<u8>, own: &Scope<'_>, ty: &DefinedType) -> Result<(), Error>
     ensures { Says result out.old out.new (script_defined (shown_scope own.now) (shown_defined ty.now)) }
 {
     match ty {
@@ -197,11 +193,7 @@ pub(crate) fn put_defined(
     }
 }
 
-fn put_result(
-    out: &mut Vec<u8>,
-    own: &Scope<'_>,
-    ty: Option<ComponentValType>,
-) -> Result<(), Unsaid>
+fn put_result(out: &mut Vec<u8>, own: &Scope<'_>, ty: Option<ComponentValType>) -> Result<(), Error>
     ensures { Says result out.old out.new (script_members (λ count v. script_val (shown_scope own.now) v) 0 1 (option_to_list ty)) }
 {
     match ty {
@@ -211,7 +203,7 @@ fn put_result(
 }
 
 /// The parameters of a function type, and its result or none.
-pub(crate) fn put_signature(out: &mut Vec<u8>, own: &Scope<'_>, ty: &FuncType) -> Result<(), Unsaid>
+pub(crate) fn put_signature(out: &mut Vec<u8>, own: &Scope<'_>, ty: &FuncType) -> Result<(), Error>
     ensures { Says result out.old out.new (script_signature (shown_scope own.now) ty.now) }
 {
     put_members(out, &Own { scope: own }, 0, 16, &ty.params)?;

@@ -41,15 +41,18 @@ allows_type config s = nat_lt (length s.own) config.max_types
 abbrev pub indexes : {A : Type 0} → List A → List ℕ
 indexes xs = places (λ x. true) 0 xs
 
+-- the kinds in the order of their choice, and whether each is offered
+abbrev pub kind_table : Bool → Bool → Bool → Bool → Bool → List (Bool × ExportKind)
+kind_table globals tables memories tags funcs =
+    (globals, kind.Global) ∷ (tables, kind.Table) ∷ (memories, kind.Memory) ∷ (tags, kind.Tag) ∷ (funcs, kind.Func) ∷ []
+
 -- what an entity is among: each kind below its limit, a tag where there is a type for it, a function where there is a type
 abbrev pub kind_offers : Config → Declared → List (Bool × ExportKind)
 kind_offers config s =
-    (nat_lt (count_of_kind kind.Global s.decls) config.max_globals, kind.Global)
-    ∷ (nat_lt (count_of_kind kind.Table s.decls) config.max_tables, kind.Table)
-    ∷ (nat_lt (count_of_kind kind.Memory s.decls) config.max_memories, kind.Memory)
-    ∷ (nat_lt (count_of_kind kind.Tag s.decls) config.max_tags && config.exceptions_enabled && nat_lt 0 (length (places is_tag_type 0 s.own)), kind.Tag)
-    ∷ (nat_lt 0 (length s.own) && allows_function config s, kind.Func)
-    ∷ []
+    kind_table (nat_lt (count_of_kind kind.Global s.decls) config.max_globals) (nat_lt (count_of_kind kind.Table s.decls) config.max_tables)
+    (nat_lt (count_of_kind kind.Memory s.decls) config.max_memories)
+    (nat_lt (count_of_kind kind.Tag s.decls) config.max_tags && config.exceptions_enabled && nat_lt 0 (length (places is_tag_type 0 s.own)))
+    (nat_lt 0 (length s.own) && allows_function config s)
 
 abbrev pub entity_kinds : Config → Declared → List ExportKind
 entity_kinds config s = offers_of (kind_offers config s)
@@ -59,11 +62,14 @@ entity_kinds config s = offers_of (kind_offers config s)
 abbrev pub alias_choices : Scope → Declared → List (ℕ × ℕ)
 alias_choices around s = map (λ i. (1, i)) (places is_core_func 0 around.core_types) ++ map (λ i. (0, i)) (indexes s.own)
 
+-- the declarations in the order of their choice, and whether each is offered
+abbrev pub item_table : Bool → Bool → List (Bool × ModuleItem)
+item_table with_type with_alias = (true, item.Import) ∷ (true, item.Export) ∷ (with_type, item.Type) ∷ (with_alias, item.Alias) ∷ []
+
 -- what a declaration is among
 abbrev pub item_offers : Config → Scope → Declared → List (Bool × ModuleItem)
 item_offers config around s =
-    (true, item.Import) ∷ (true, item.Export) ∷ (allows_type config s, item.Type) ∷
-    (allows_type config s && nat_lt 0 (length (alias_choices around s)), item.Alias) ∷ []
+    item_table (allows_type config s) (allows_type config s && nat_lt 0 (length (alias_choices around s)))
 
 abbrev pub module_items : Config → Scope → Declared → List ModuleItem
 module_items config around s = offers_of (item_offers config around s)

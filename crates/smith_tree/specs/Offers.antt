@@ -51,9 +51,13 @@ is_scalar_type ts t = elim (slice_get ts t) [ None ↦ false | Some e ↦ is_sca
 abbrev pub scalar_functions : Spaces → List ℕ
 scalar_functions s = places (is_scalar_type s.types) 0 s.functions
 
+-- a lower and a lift in the order of their choice, and whether each is offered
+abbrev pub canon_table : Bool → Bool → List (Bool × CanonItem)
+canon_table with_lower with_lift = (with_lower, Lower) ∷ (with_lift, Lift) ∷ []
+
 -- a lower where there is a function that can be lowered, and a lift where there is a core function
 abbrev pub canon_offers : Spaces → List (Bool × CanonItem)
-canon_offers s = (nat_lt 0 (length (scalar_functions s)), Lower) ∷ (nat_lt 0 (length s.core_functions), Lift) ∷ []
+canon_offers s = canon_table (nat_lt 0 (length (scalar_functions s))) (nat_lt 0 (length s.core_functions))
 
 abbrev pub canon_items : Spaces → List CanonItem
 canon_items s = offers_of (canon_offers s)

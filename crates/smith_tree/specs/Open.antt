@@ -1,9 +1,9 @@
 -- Components that are open, and what a turn may choose among.
-use Rattle.std.specs.Prelude.{ℕ, ◌+◌, Bool, true, ◌&&◌, List, [], ◌∷◌, length, nat_lt}
+use Rattle.std.specs.Prelude.{ℕ, ◌+◌, Bool, true, ◌&&◌, List, [], ◌∷◌, length, nat_le, nat_lt}
 use Rattle.smith_input.specs.Offers.{offers_of}
 use Rattle.smith_format.specs.declared.config.Config.{Config}
 use Rattle.smith_syntax.specs.Scope.{Scope}
-use Rattle.smith_tree.specs.Tree.{Tree, ends, component, add, module_count, component_count}
+use Rattle.smith_tree.specs.Tree.{Tree, ends, component, add, module_count, component_count, parts_of}
 use Rattle.smith_tree.specs.WellFormed.{scope_of}
 use Rattle.smith_tree.specs.declared.choices.Item.{Item}
 use Rattle.smith_tree.specs.declared.choices.Item.TheVariants.{Finish, Custom, CoreTypes, Types, Imports, Canonical, Module, Component, Exports}
@@ -34,6 +34,10 @@ scopes_in us = scopes_from us []
 abbrev pub with_inner : Open → Tree → Open
 with_inner stack t = record { outer = stack.outer; inner = t }
 
+-- may a component with these parts be finished, where input is left?
+abbrev pub is_finish_offered : Config → Tree → Bool
+is_finish_offered config t = nat_le config.finish_after (length (parts_of t))
+
 -- may a core module be embedded?
 abbrev pub is_module_offered : Config → Open → Bool
 is_module_offered config stack = nat_lt (module_count (tree_so_far stack.outer stack.inner)) config.max_modules
@@ -48,9 +52,9 @@ abbrev pub is_export_offered : Config → Bool
 is_export_offered config = nat_lt 0 config.max_exports
 
 -- the items where input is left, in order, and whether each is offered
-abbrev pub offers : Bool → Bool → Bool → List (Bool × Item)
-offers with_module with_component with_exports =
-    (true, Finish)
+abbrev pub offers : Bool → Bool → Bool → Bool → List (Bool × Item)
+offers with_finish with_module with_component with_exports =
+    (with_finish, Finish)
     ∷ (true, Custom)
     ∷ (true, CoreTypes)
     ∷ (true, Types)
@@ -61,12 +65,17 @@ offers with_module with_component with_exports =
     ∷ (with_exports, Exports)
     ∷ []
 
+-- what a turn may do where input is left
+abbrev pub item_offers : Config → Open → List (Bool × Item)
+item_offers config stack =
+    offers (is_finish_offered config stack.inner) (is_module_offered config stack) (is_component_offered config stack) (is_export_offered config)
+
 -- what a turn chooses among where input is left
-abbrev pub more_items : Bool → Bool → Bool → List Item
-more_items with_module with_component with_exports = offers_of (offers with_module with_component with_exports)
+abbrev pub more_items : Bool → Bool → Bool → Bool → List Item
+more_items with_finish with_module with_component with_exports = offers_of (offers with_finish with_module with_component with_exports)
 
 abbrev pub items_with_input : Config → Open → List Item
-items_with_input config stack = more_items (is_module_offered config stack) (is_component_offered config stack) (is_export_offered config)
+items_with_input config stack = offers_of (item_offers config stack)
 
 -- what a turn chooses among
 abbrev pub items : Config → Open → List ℕ → List Item

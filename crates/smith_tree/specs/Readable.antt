@@ -1,6 +1,6 @@
 -- Which components can be read, and which come: each name comes after those before it, core modules stand for generated ones, and export
 -- sections are there only where there may be exports.
-use Rattle.std.specs.Prelude.{◌≡◌, ℕ, ◌<◌, List}
+use Rattle.std.specs.Prelude.{◌≡◌, ℕ, ◌<◌, ◌≤◌, List, ◌∷◌, length}
 use Rattle.std.specs.List.{AllByRecursion}
 use Rattle.std.specs.Str.{IsUtf8}
 use Rattle.smith_input.specs.NameScript.{AreReachable}
@@ -12,7 +12,7 @@ use Rattle.smith_tree.specs.ReadableTypes.{IsReadableType}
 use Rattle.smith_tree.specs.Limits.{Limits, Sized}
 use Rattle.smith_format.specs.Piece.{bytes_of}
 use Rattle.smith_tree.specs.Tree.{Tree, ends, first, Part, custom, core_module, core_types, component, types, canons, imports, exports, add}
-use Rattle.smith_tree.specs.Tree.{exports_of, imports_of}
+use Rattle.smith_tree.specs.Tree.{exports_of, imports_of, inside, parts_of}
 use Rattle.smith_tree.specs.WellFormed.{WellFormed, export_names, import_names}
 
 -- The core module of these bytes stands for a generated one.
@@ -37,6 +37,14 @@ abbrev mutual
 
 abbrev pub IsReadable : Config → Tree → Type 0
 IsReadable config tree = IsReadableRest config tree ends
+
+-- It has as many sections as a component that is finished where input is left.
+abbrev pub IsFinishable : Config → Tree → Type 0
+IsFinishable config t = config.finish_after ≤ length (parts_of t)
+
+-- so has each component of the tree
+abbrev pub AreFinishable : Config → Tree → Type 0
+AreFinishable config tree = AllByRecursion (IsFinishable config) (tree ∷ inside tree)
 
 -- It is well formed, within the limits and the fuel of types, and can be read.
 pub record CanBeGenerated (config : Config) (tree : Tree) : Type 0 where

@@ -16,7 +16,7 @@ use Rattle.smith_tree.specs.CanonScript.{script_canons}
 use Rattle.smith_tree.specs.Grammar.{Spells, part}
 use Rattle.smith_tree.specs.Offers.{totals_of, with_exports, with_imports}
 use Rattle.smith_tree.specs.Open.{Open, items_with_input, scopes_in, tree_so_far}
-use Rattle.smith_tree.specs.Readable.{CanBeGenerated, IsReadable, IsReadablePart}
+use Rattle.smith_tree.specs.Readable.{AreFinishable, CanBeGenerated, IsReadable, IsReadablePart}
 use Rattle.smith_tree.specs.WellFormed.{Formed, scope_of}
 use Rattle.smith_tree.specs.Limits.{Maxima, Sized}
 use Rattle.smith_tree.specs.contracts.choices.ItemPartialEq.TheImpl.{ghosts as equal}
@@ -83,9 +83,10 @@ abbrev mutual
 abbrev pub script : Config → Tree → List ℕ
 script config plan = script_from plan config [] ends
 
--- A plan: it comes within these limits, and bytes spell it.
+-- A plan: it can be generated within these limits, whatever follows its script, and bytes spell it.
 pub record Within (config : Config) (plan : Tree) : Type 0 where
   pub possible : CanBeGenerated config plan
+  pub finishable : AreFinishable config plan
   pub spelled : (b : List ℕ) × Spells plan b
 
 -- With a part more, the inner component stays the beginning of a plan, and the tree within its limits.

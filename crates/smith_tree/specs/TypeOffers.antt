@@ -68,15 +68,19 @@ allows_one for_import for_type_def count max = not for_import || for_type_def ||
 abbrev pub allows_equal : Config → Scope → Bool → Bool → Bool
 allows_equal config own for_import for_type_def = not for_import && (for_type_def || nat_lt (length own.types) config.max_types)
 
+-- the kinds in the order of their choice, and whether each is offered
+abbrev pub ref_table : Bool → Bool → Bool → Bool → Bool → List (Bool × RefKind)
+ref_table modules types funcs components instances =
+    (modules, ref.Module) ∷ (types, ref.TypeEq) ∷ (funcs, ref.Func) ∷ (components, ref.Component) ∷ (instances, ref.Instance) ∷ []
+
 -- each kind of which there is an entry
 abbrev pub ref_offers : Config → Scope → RefTotals → Bool → Bool → List (Bool × RefKind)
 ref_offers config own totals for_import for_type_def =
-    (has_place own ref.Module && allows_one for_import for_type_def totals.modules config.max_modules, ref.Module)
-    ∷ (has_place own ref.TypeEq && allows_equal config own for_import for_type_def, ref.TypeEq)
-    ∷ (has_place own ref.Func && allows_one for_import for_type_def totals.funcs config.max_funcs, ref.Func)
-    ∷ (has_place own ref.Component && allows_one for_import for_type_def totals.components config.max_components, ref.Component)
-    ∷ (has_place own ref.Instance && allows_one for_import for_type_def totals.instances config.max_instances, ref.Instance)
-    ∷ []
+    ref_table (has_place own ref.Module && allows_one for_import for_type_def totals.modules config.max_modules)
+    (has_place own ref.TypeEq && allows_equal config own for_import for_type_def)
+    (has_place own ref.Func && allows_one for_import for_type_def totals.funcs config.max_funcs)
+    (has_place own ref.Component && allows_one for_import for_type_def totals.components config.max_components)
+    (has_place own ref.Instance && allows_one for_import for_type_def totals.instances config.max_instances)
 
 abbrev pub ref_kinds : Config → Scope → RefTotals → Bool → Bool → List RefKind
 ref_kinds config own totals for_import for_type_def = offers_of (ref_offers config own totals for_import for_type_def)
@@ -117,14 +121,15 @@ abbrev pub aliases_of : ℕ → Scope → List FullDecl
 aliases_of count s = numbered (λ i e. type_alias count i (keeps_type e)) 0 s.types ++ numbered (λ i e. core_type_alias count i (keeps_core_type e)) 0
     s.core_types
 
+-- the declarations in the order of their choice, and whether each is offered
+abbrev pub declaration_table : Bool → Bool → Bool → List (Bool × DeclarationItem)
+declaration_table with_export with_alias with_type =
+    (with_export, item.Export) ∷ (with_alias, item.Alias) ∷ (true, item.CoreType) ∷ (with_type, item.Type) ∷ []
+
 -- a declaration: an export and an outer alias where there is something to name, and a type where one more scope may nest
 abbrev pub declaration_offers : Config → List Scope → Scope → List (Bool × DeclarationItem)
 declaration_offers config outer own =
-    (has_reference own, item.Export)
-    ∷ (nat_lt 0 (length (occupied (own ∷ outer))), item.Alias)
-    ∷ (true, item.CoreType)
-    ∷ (nat_lt (length (own ∷ outer)) config.max_nesting_depth, item.Type)
-    ∷ []
+    declaration_table (has_reference own) (nat_lt 0 (length (occupied (own ∷ outer)))) (nat_lt (length (own ∷ outer)) config.max_nesting_depth)
 
 abbrev pub declaration_items : Config → List Scope → Scope → List DeclarationItem
 declaration_items config outer own = offers_of (declaration_offers config outer own)

@@ -1,8 +1,12 @@
 //! What choices are made among, and the tables of those that are the same everywhere. A choice is an index into its table.
 
 ghost use Rattle.std.specs.Prelude.{◌≡◌};
-ghost use Rattle.smith_tree.specs.TypeOffers.{defined_kinds, primitives, type_kinds};
+ghost use Rattle.smith_tree.specs.CoreTypeOffers.{item_table, kind_table};
+ghost use Rattle.smith_tree.specs.Offers.{canon_table};
+ghost use Rattle.smith_tree.specs.Open.{offers};
+ghost use Rattle.smith_tree.specs.TypeOffers.{declaration_table, defined_kinds, primitives, ref_table, type_kinds};
 
+use smith_format::ExportKind;
 use smith_syntax::PrimitiveValType;
 
 /// What a turn of the builder does.
@@ -124,6 +128,102 @@ pub fn defined_kinds() -> &'static [DefinedKind]
     ensures { result.now ≡ defined_kinds }
 {
     &DEFINED_KINDS
+}
+
+/// What a turn of the builder may do where input is left, in the order of its choice, each with whether it is offered.
+pub fn item_offers(
+    with_finish: bool,
+    with_module: bool,
+    with_component: bool,
+    with_exports: bool,
+) -> [(bool, Item); 9]
+    ensures { result ≡ offers with_finish with_module with_component with_exports }
+{
+    [
+        (with_finish, Item::Finish),
+        (true, Item::Custom),
+        (true, Item::CoreTypes),
+        (true, Item::Types),
+        (true, Item::Imports),
+        (true, Item::Canonical),
+        (with_module, Item::Module),
+        (with_component, Item::Component),
+        (with_exports, Item::Exports),
+    ]
+}
+
+/// What a turn of a canonical section may be, in the order of its choice, each with whether it is offered.
+pub fn canon_offers(with_lower: bool, with_lift: bool) -> [(bool, CanonItem); 2]
+    ensures { result ≡ canon_table with_lower with_lift }
+{
+    [(with_lower, CanonItem::Lower), (with_lift, CanonItem::Lift)]
+}
+
+/// What a declaration of a component type or of an instance type may be, in the order of its choice, each with whether
+/// it is offered.
+pub fn declaration_offers(
+    with_export: bool,
+    with_alias: bool,
+    with_type: bool,
+) -> [(bool, DeclarationItem); 4]
+    ensures { result ≡ declaration_table with_export with_alias with_type }
+{
+    [
+        (with_export, DeclarationItem::Export),
+        (with_alias, DeclarationItem::Alias),
+        (true, DeclarationItem::CoreType),
+        (with_type, DeclarationItem::Type),
+    ]
+}
+
+/// What a declaration of a module type may be, in the order of its choice, each with whether it is offered.
+pub fn module_item_offers(with_type: bool, with_alias: bool) -> [(bool, ModuleItem); 4]
+    ensures { result ≡ item_table with_type with_alias }
+{
+    [
+        (true, ModuleItem::Import),
+        (true, ModuleItem::Export),
+        (with_type, ModuleItem::Type),
+        (with_alias, ModuleItem::Alias),
+    ]
+}
+
+/// What kind of entity a module type may import or export, in the order of its choice, each with whether it is offered.
+pub fn kind_offers(
+    globals: bool,
+    tables: bool,
+    memories: bool,
+    tags: bool,
+    funcs: bool,
+) -> [(bool, ExportKind); 5]
+    ensures { result ≡ kind_table globals tables memories tags funcs }
+{
+    [
+        (globals, ExportKind::Global),
+        (tables, ExportKind::Table),
+        (memories, ExportKind::Memory),
+        (tags, ExportKind::Tag),
+        (funcs, ExportKind::Func),
+    ]
+}
+
+/// What an import or an export may be of, in the order of its choice, each with whether it is offered.
+pub fn ref_offers(
+    modules: bool,
+    types: bool,
+    funcs: bool,
+    components: bool,
+    instances: bool,
+) -> [(bool, RefKind); 5]
+    ensures { result ≡ ref_table modules types funcs components instances }
+{
+    [
+        (modules, RefKind::Module),
+        (types, RefKind::TypeEq),
+        (funcs, RefKind::Func),
+        (components, RefKind::Component),
+        (instances, RefKind::Instance),
+    ]
 }
 
 /// The primitive value types, in the order of their choice.

@@ -8,8 +8,9 @@ pub mod laws;
 mod totals;
 
 pub use choices::{
-    CanonItem, DeclarationItem, DefinedKind, Item, ModuleItem, RefKind, TypeKind, defined_kinds,
-    primitives, type_kinds,
+    CanonItem, DeclarationItem, DefinedKind, Item, ModuleItem, RefKind, TypeKind, canon_offers,
+    declaration_offers, defined_kinds, item_offers, kind_offers, module_item_offers, primitives,
+    ref_offers, type_kinds,
 };
 pub use flat::{flat_primitive, lifted};
 pub use totals::RefTotals;

@@ -51,4 +51,7 @@ pub struct Limits {
     pub allow_floats: bool,
     /// Whether core modules count their data segments in a section.
     pub bulk_memory_enabled: bool,
+    /// How many sections a component has at least when the input finishes it. Where no input is left, it is finished
+    /// whatever it has.
+    pub finish_after: usize,
 }

@@ -31,6 +31,7 @@ pub struct RawLimits {
     allow_floats: bool,
     bulk_memory_enabled: bool,
     reserved: [u8; 6],
+    finish_after: usize,
 }
 
 impl RawLimits {
@@ -62,6 +63,7 @@ impl RawLimits {
             allow_floats: limits.allow_floats,
             bulk_memory_enabled: limits.bulk_memory_enabled,
             reserved: [0; 6],
+            finish_after: limits.finish_after,
         }
     }
 
@@ -91,6 +93,7 @@ impl RawLimits {
             simd_enabled: self.simd_enabled,
             allow_floats: self.allow_floats,
             bulk_memory_enabled: self.bulk_memory_enabled,
+            finish_after: self.finish_after,
         }
     }
 }

@@ -22,7 +22,7 @@ use crate::builder::open::OpenComponent;
 use crate::component::{CanonicalSection, Func, Section, TypeSection};
 use smith_format::Config;
 use smith_input::{Error, Unstructured, choose_offered};
-use smith_tree::CanonItem;
+use smith_tree::{CanonItem, canon_offers};
 use smith_types::{DefType, FuncType, Scopes, canonical_abi_for, inverse_scalar_canonical_abi_for};
 use std::alloc::{AllocError, Global};
 use std::mem;
@@ -47,11 +47,9 @@ impl<'a> CanonicalDraft<'a> {
             (λ item. ReadsAmong (canon_items_of self.now.component.now.tables) u.old item u.new) }
     {
         let tables = &self.component.tables;
-        let offers = [
-            (!tables.scalars.is_empty(), CanonItem::Lower),
-            (!tables.core_functions.is_empty(), CanonItem::Lift),
-        ];
-        choose_offered(u, &offers)
+        let with_lower = !tables.scalars.is_empty();
+        let with_lift = !tables.core_functions.is_empty();
+        choose_offered(u, &canon_offers(with_lower, with_lift))
     }
 
     // Lowers a function that can be lowered, by a choice.

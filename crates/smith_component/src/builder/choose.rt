@@ -3,14 +3,22 @@
 ghost use Rattle.std.specs.Prelude.{◌≡◌, ℕ, List, ◌+◌, ◌≤◌, length};
 ghost use Rattle.smith_input.specs.Reading.{IsTail};
 ghost use Rattle.smith_component.specs.BuilderView.{stack_of, IsSound};
-ghost use Rattle.smith_tree.specs.Open.{is_component_offered, is_export_offered, is_module_offered, items};
+ghost use Rattle.smith_tree.specs.Open.{is_component_offered, is_export_offered, is_finish_offered};
+ghost use Rattle.smith_tree.specs.Open.{is_module_offered, items};
 ghost use Rattle.smith_input.specs.Choices.{ReadsAmong};
 
 use crate::builder::Progress;
 use smith_input::{Unstructured, choose_offered};
-use smith_tree::Item;
+use smith_tree::{Item, item_offers};
 
 impl Progress {
+    // May the inner component be finished, where input is left?
+    fn offers_finish(&self) -> bool
+        ensures { result ≡ is_finish_offered self.now.config (stack_of self.now).inner }
+    {
+        self.inner.sections.len() >= self.config.finish_after
+    }
+
     // May a core module be embedded?
     fn offers_module(&self) -> bool
         requires { IsSound self.now }
@@ -41,23 +49,14 @@ impl Progress {
         ensures chooses { ReadsAmong (items self.now.config (stack_of self.now) u.old) u.old result u.new }
         ensures tail { IsTail u.new u.old }
     {
+        let with_finish = self.offers_finish();
         let with_module = self.offers_module();
         let with_component = self.offers_component();
         let with_exports = self.offers_exports();
         if u.is_empty() {
             return Item::Finish;
         }
-        let offers = [
-            (true, Item::Finish),
-            (true, Item::Custom),
-            (true, Item::CoreTypes),
-            (true, Item::Types),
-            (true, Item::Imports),
-            (true, Item::Canonical),
-            (with_module, Item::Module),
-            (with_component, Item::Component),
-            (with_exports, Item::Exports),
-        ];
-        choose_offered(u, &offers).unwrap_or(Item::Finish)
+        let offers = item_offers(with_finish, with_module, with_component, with_exports);
+        choose_offered(u, &offers).unwrap_or(Item::Custom)
     }
 }

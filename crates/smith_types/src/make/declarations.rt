@@ -22,7 +22,7 @@ use smith_format::Config;
 use smith_input::{Error, Unstructured, choose_offered};
 use smith_scopes::{Kind, Scopes};
 use smith_syntax::{Alias, ComponentTypeRef, Import, InstanceTypeDecl, OuterAliasKind};
-use smith_tree::{DeclarationItem, RefTotals};
+use smith_tree::{DeclarationItem, RefTotals, declaration_offers};
 use std::alloc::Global;
 
 // Nothing is counted within types.
@@ -86,12 +86,10 @@ pub(super) fn declaration_item(
         u.old result u.new }
     ensures possible { HasTarget config.now (own_scope scopes.now) (outer_scopes scopes.now) result }
 {
-    let offers = [
-        (has_reference(scopes), DeclarationItem::Export),
-        (has_entry(scopes), DeclarationItem::Alias),
-        (true, DeclarationItem::CoreType),
-        (may_nest(config, scopes), DeclarationItem::Type),
-    ];
+    let with_export = has_reference(scopes);
+    let with_alias = has_entry(scopes);
+    let with_type = may_nest(config, scopes);
+    let offers = declaration_offers(with_export, with_alias, with_type);
     choose_offered(u, &offers).unwrap_or(DeclarationItem::CoreType)
 }
 

@@ -15,7 +15,7 @@ use smith_format::Config;
 use smith_input::{Unstructured, choose_offered};
 use smith_scopes::{Kind, Scopes};
 use smith_syntax::ComponentTypeRef;
-use smith_tree::{RefKind, RefTotals};
+use smith_tree::{RefKind, RefTotals, ref_offers};
 
 // How many entries of a kind there are.
 fn place_count(scopes: &Scopes, kind: RefKind) -> usize
@@ -46,11 +46,11 @@ fn place_at(scopes: &Scopes, kind: RefKind, rank: usize) -> u32
     }
 }
 
-// A kind, and whether it may be chosen: where there is an entry of it, and one more is allowed.
-fn offer(scopes: &Scopes, kind: RefKind, allowed: bool) -> (bool, RefKind)
-    ensures { result ≡ (has_place (own_scope scopes.now) kind && allowed, kind) }
+// Is there an entry of a kind?
+fn has_place(scopes: &Scopes, kind: RefKind) -> bool
+    ensures { result ≡ has_place (own_scope scopes.now) kind }
 {
-    (place_count(scopes, kind) > 0 && allowed, kind)
+    place_count(scopes, kind) > 0
 }
 
 // May one more be imported? Inside a type nothing is counted, nor is an export.
@@ -108,13 +108,13 @@ fn ref_kind(
         totals.instances,
         config.max_instances,
     );
-    let offers = [
-        offer(scopes, RefKind::Module, modules),
-        offer(scopes, RefKind::TypeEq, types),
-        offer(scopes, RefKind::Func, funcs),
-        offer(scopes, RefKind::Component, components),
-        offer(scopes, RefKind::Instance, instances),
-    ];
+    let offers = ref_offers(
+        has_place(scopes, RefKind::Module) && modules,
+        has_place(scopes, RefKind::TypeEq) && types,
+        has_place(scopes, RefKind::Func) && funcs,
+        has_place(scopes, RefKind::Component) && components,
+        has_place(scopes, RefKind::Instance) && instances,
+    );
     choose_offered(u, &offers)
 }
 

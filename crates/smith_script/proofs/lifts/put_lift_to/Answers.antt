@@ -1,4 +1,4 @@
-use Rattle.std.proofs.Common.{ap, map, ◌∙◌}
+use Rattle.std.proofs.Common.{ap, map, ◌∙◌, Some}
 use Rattle.smith_read_scopes.proofs.Tied.{ascend_as}
 use Rattle.smith_read_types.proofs.ShownNodes.{shown_function}
 use Rattle.smith_read_types.specs.TypeNodes.{shown_type_node}
@@ -13,8 +13,11 @@ returns-in_err-put_signature-in-Func c own =
 
 pub returns-in_ok-put_signature-in-Func : goal.returns-in_ok-put_signature-in-Func
 returns-in_ok-put_signature-in-Func c own =
-    rw (ap shown_type_node c.in-Func.is ∙ shown_function c.in-Func.signature)
-    (ends c.put_position.result _ _ (c.in_ok-put_signature-in-Func.ensures {u = tt}) (rw c.equals.ensures at c.put_position.ensures))
+    let is = ap shown_type_node c.in-Func.is ∙ shown_function c.in-Func.signature in
+    rw is (ends c.put_position.result _ _ (c.in_ok-put_signature-in-Func.ensures {u = tt})
+    (rw (c.equals.ensures c.in-Func.signature (c.requires ∙ ap Some is)) at c.put_position.ensures))
 
 pub put_position-requires : goal.put_position-requires
-put_position-requires c = ascend_as (is_of_signature c.in-Func.signature) (map shown_type_node c.args.here.now.types) _ c.equals.ensures
+put_position-requires c =
+    ascend_as (is_of_signature c.in-Func.signature) (map shown_type_node c.args.here.now.types) _
+    (c.equals.ensures c.in-Func.signature (c.requires ∙ ap Some (ap shown_type_node c.in-Func.is ∙ shown_function c.in-Func.signature)))

@@ -5,6 +5,13 @@ use Rattle.smith_script_types.proofs.Decls.{decls_at, decls_over}
 use Rattle.smith_script_types.specs.Declaring.{taken_in}
 use Rattle.smith_script_types.proofs.types.+types.Goals as goal
 
+pub put_decls-returns-in_err-put_byte-clause-said : goal.put_decls-returns-in_err-put_byte-clause-said
+put_decls-returns-in_err-put_byte-clause-said t c =
+    let split = decls_at c.args.given.config.now c.args.start.importing (own_in c.args.scopes.now ∷ outer_in c.args.scopes.now) _ _ _
+    (taken_in c.loop-decl.here) (own_in c.loop-decl.scopes) c.decl-item.result c.loop-decl-test.true c.decl-item.is in
+    gives_up _ _ _ _ c.from_residual-in_err-put_byte.ensures.1
+    (towards_exit (1 ∷ []) _ c.loop-decl.invariant.left split (c.in_err-put_byte.ensures {u = tt}))
+
 pub put_decls-returns-in_err-left-clause-said : goal.put_decls-returns-in_err-left-clause-said
 put_decls-returns-in_err-left-clause-said t c =
     let split = decls_at c.args.given.config.now c.args.start.importing (own_in c.args.scopes.now ∷ outer_in c.args.scopes.now) _ _ _

@@ -13,6 +13,7 @@ use Rattle.smith_component.proofs.Plans.{plan_lacks_none, plan_refuses_no_module
 use Rattle.smith_component.proofs.Refusals.{refused_accepted}
 use Rattle.smith_input.specs.declared.error.Error.{Error}
 use Rattle.smith_input.specs.declared.error.Error.TheVariants.{OutOfMemory}
+use Rattle.smith_component.proofs.RunsFinishable.{runs_finish}
 use Rattle.smith_component.proofs.RunsReadable.{runs_come}
 use Rattle.smith_component.proofs.RunsTo.{Reached, open_few, reached_start, reached_step, reached_refusal, reached_answer}
 use Rattle.smith_component.proofs.Turn.{falls}
@@ -60,7 +61,7 @@ returns-in-Some-clause-made c =
     let i = c.loop-progress.invariant in
     let run = reached_answer _ _ _ _ _ _ _ _ i.config (ap (λ d. next_of (step_of c.turn.new.self d)) c.in-Some.is) i.reached
     c.in_ok-done.ensures.steps.turn in
-    record { run = run; image = runs_come _ _ _ _ i.consistent run }
+    record { run = run; image = runs_come _ _ _ _ i.consistent run; finishable = λ followed. runs_finish _ _ _ _ followed run }
 
 pub returns-in-Some-clause-reach : goal.returns-in-Some-clause-reach
 returns-in-Some-clause-reach c plan rest w e =

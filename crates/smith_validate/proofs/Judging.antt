@@ -1,0 +1,65 @@
+-- Steps of judgements.
+use Rattle.std.proofs.Common.{◌≡◌, ℕ, ◌+◌, ◌<◌, List, length, map, get_or, sym, subst, Result, Ok, Err, IsErrAnd}
+use Rattle.std.proofs.Math.ListN.{drop}
+use Rattle.smith_input.proofs.Rests.{rest_at}
+use Rattle.std.specs.Prelude.{OnOk, ◌∷◌}
+use Rattle.smith_validate.specs.Judges.{Judges, Refutes}
+use Rattle.smith_validate.specs.declared.error.Stop.{Stop}
+use Rattle.smith_validate.specs.declared.error.Stop.TheVariants.{OutOfMemory}
+
+-- a fact that another rests on
+pub refute_by : {e : Stop} {P Q : Type 0} → (Q → P) → Refutes e P → Refutes e Q
+refute_by f r = record { is = λ n q. r.is n (f q) }
+
+-- an error that is passed on
+pub passed_on : {A : Type 0} (r : Result A Stop) (e : Stop) {P : Type 0} → IsErrAnd r (λ y. y ≡ e) → Refutes e P → Judges r P
+passed_on (Ok x) e {P} is d = absurd is
+passed_on (Err y) e {P} is d = subst (λ (z : Stop). Refutes z P) (sym is) d
+
+-- that memory ran out refutes nothing
+pub spent : (e : Stop) {P : Type 0} → e ≡ OutOfMemory → Refutes e P
+spent e {P} is = let F : Stop → Type 0 = λ z. Refutes z P in subst F (sym is) (record { is = λ n q. n })
+
+-- Two facts that hold together: all, and what is left of it.
+pub record Same (P Q : Type 0) : Type 0 where
+  pub to : P → Q
+  pub from : Q → P
+
+pub same_all : {P : Type 0} → Same P P
+same_all = record { to = λ p. p; from = λ p. p }
+
+pub same_trans : {P Q R : Type 0} → Same P Q → Same Q R → Same P R
+same_trans s t = record { to = λ p. t.to (s.to p); from = λ r. s.from (t.from r) }
+
+-- a property of something, by what it is
+pub same_by : {A : Type 0} (F : A → Type 0) (x y : A) → x ≡ y → Same (F x) (F y)
+same_by F x y e = record { to = λ p. subst F e p; from = λ p. subst F (sym e) p }
+
+pub judged_by : {A : Type 0} (r : Result A Stop) {P Q : Type 0} → (P → Q) → (Q → P) → Judges r P → Judges r Q
+judged_by (Ok x) {P} {Q} f g j = f j
+judged_by (Err e) {P} {Q} f g j = refute_by g j
+
+-- a property of something else that is the same
+pub judged_at : {A B : Type 0} (r : Result A Stop) (F : B → Type 0) (x y : B) → x ≡ y → Judges r (F x) → Judges r (F y)
+judged_at r F x y e j = let s = same_by F x y e in judged_by r (λ p. s.to p) (λ q. s.from q) j
+
+pub refuted_at : {B : Type 0} {e : Stop} (F : B → Type 0) (x y : B) → x ≡ y → Refutes e (F x) → Refutes e (F y)
+refuted_at F x y e r = refute_by (λ q. subst F (sym e) q) r
+
+pub on_by : {A : Type 0} (r : Result A Stop) {P Q : Type 0} → (P → Q) → OnOk r P → OnOk r Q
+on_by (Ok x) {P} {Q} f p = f p
+on_by (Err e) {P} {Q} f p = tt
+
+pub on_both : {A : Type 0} (r : Result A Stop) {P Q R : Type 0} → (P → Q → R) → OnOk r P → OnOk r Q → OnOk r R
+on_both (Ok x) {P} {Q} {R} f p q = f p q
+on_both (Err e) {P} {Q} {R} f p q = tt
+
+module _ {A B : Type 0} (shown : A → B) (xs : List A) (i : ℕ) where
+  -- a fact of what is left of a list, by its first item
+  pub left_from : (F : List B → Type 0) (x : A) → i < length xs → x ≡ get_or xs i x
+      → Same (F (map shown (drop i xs))) (F (shown x ∷ map shown (drop (i + 1) xs)))
+  left_from F x h e = same_by (λ ys. F (map shown ys)) (drop i xs) (x ∷ drop (i + 1) xs) (rest_at xs i x h e)
+
+pub on_judged : {A : Type 0} (r : Result A Stop) {P Q R S : Type 0} → (P → Q → R → S) → OnOk r P → OnOk r Q → Judges r R → OnOk r S
+on_judged (Ok x) {P} {Q} {R} {S} f p q j = f p q j
+on_judged (Err e) {P} {Q} {R} {S} f p q j = tt

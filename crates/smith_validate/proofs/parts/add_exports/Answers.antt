@@ -1,0 +1,61 @@
+use Rattle.std.proofs.Common.{◌+◌, map, refl, ◌∙◌}
+use Rattle.std.proofs.Math.ListN.{drop}
+use Rattle.smith_read.specs.PartNodes.{shown_export_node}
+use Rattle.smith_validate.proofs.Judging.{passed_on}
+use Rattle.smith_validate.proofs.PartRows.{OpenAt, exports_row}
+use Rattle.smith_validate.proofs.Rows.{row_after, row_all, row_at, row_exit, row_last, row_more, row_valid}
+use Rattle.smith_validate.proofs.parts.add_exports.Goals as goal
+
+pub loop-export-init : goal.loop-export-init
+loop-export-init c = record {
+  outer = refl;
+  left = λ s b outer h. row_all (exports_row outer) (s, b) (map shown_export_node c.args.exports.now)
+      (OpenAt c.args.known.now c.args.open.now outer) h;
+}
+
+pub loop-export-preserved : goal.loop-export-preserved
+loop-export-preserved c =
+    let done = c.in_ok-export_one.ensures {u = tt} in
+    record {
+      outer = done.outer ∙ c.loop-export.invariant.outer;
+      left = λ s b outer h.
+          let xs = c.args.exports.now in
+          let i = c.loop-export.export-index in
+          let x = c.export-item.result in
+          let l = row_at (exports_row outer) shown_export_node (s, b) xs (OpenAt c.loop-export.known c.loop-export.open outer) i x c.loop-export-test.true
+          c.export-item.is
+          (c.loop-export.invariant.left s b outer h) in
+          row_more (exports_row outer) (s, b) (map shown_export_node xs) (OpenAt c.loop-export.known c.loop-export.open outer) (shown_export_node x)
+          (map shown_export_node (drop (i + 1) xs)) l
+          (OpenAt c.export_one.new.known c.export_one.new.open outer) (done.judged l.at.0 l.at.1 outer l.is) (done.added l.at.0 l.at.1 outer l.is);
+    }
+
+pub returns-in_err-export_one-clause-judged : goal.returns-in_err-export_one-clause-judged
+returns-in_err-export_one-clause-judged c = λ s b outer h.
+    let xs = c.args.exports.now in
+    let i = c.loop-export.export-index in
+    let x = c.export-item.result in
+    let l = row_at (exports_row outer) shown_export_node (s, b) xs (OpenAt c.loop-export.known c.loop-export.open outer) i x c.loop-export-test.true
+    c.export-item.is
+    (c.loop-export.invariant.left s b outer h) in
+    passed_on _ _ c.from_residual.ensures.1
+    (row_exit (exports_row outer) (s, b) (map shown_export_node xs) (OpenAt c.loop-export.known c.loop-export.open outer) (shown_export_node x)
+    (map shown_export_node (drop (i + 1) xs)) l
+    ((c.in_err-export_one.ensures {u = tt}).judged l.at.0 l.at.1 outer l.is))
+
+pub returns-clause-judged : goal.returns-clause-judged
+returns-clause-judged c = λ s b outer h.
+    row_valid (exports_row outer) (s, b) (map shown_export_node c.args.exports.now) (OpenAt c.loop-export.known c.loop-export.open outer)
+    (row_last (exports_row outer) shown_export_node (s, b) c.args.exports.now (OpenAt c.loop-export.known c.loop-export.open outer)
+    c.loop-export.export-index c.loop-export-test.false
+    (c.loop-export.invariant.left s b outer h))
+
+pub returns-clause-added : goal.returns-clause-added
+returns-clause-added c = λ s b outer h.
+    row_after (exports_row outer) (s, b) (map shown_export_node c.args.exports.now) (OpenAt c.loop-export.known c.loop-export.open outer)
+    (row_last (exports_row outer) shown_export_node (s, b) c.args.exports.now (OpenAt c.loop-export.known c.loop-export.open outer)
+    c.loop-export.export-index c.loop-export-test.false
+    (c.loop-export.invariant.left s b outer h)) refl
+
+pub returns-clause-outer : goal.returns-clause-outer
+returns-clause-outer c = c.loop-export.invariant.outer

@@ -1,0 +1,52 @@
+-- Module types as far as they were judged.
+use Rattle.std.specs.Prelude.{◌≡◌, ℕ, ◌+◌, ◌<◌, ◌≤◌, List, [], ◌∷◌, map, sum, length}
+use Rattle.std.specs.List.{filter}
+use Rattle.smith_format.specs.CoreTypes.{Function}
+use Rattle.smith_format.specs.declared.types.EntityType.{EntityType}
+use Rattle.smith_format.specs.declared.types.ExportKind.{ExportKind}
+use Rattle.smith_format.specs.declared.types.ExportKind.TheVariants as kind
+use Rattle.smith_syntax.specs.Entries.{CoreEntry, ModuleDecl}
+use Rattle.smith_syntax.specs.ModuleTypes.{entities_in, is_of_kind}
+use Rattle.smith_validity.specs.Facts.{FactScope}
+use Rattle.smith_validity.specs.Sizes.{entity_size, function_size, imported_of_kind, size_bound}
+use Rattle.smith_validate.specs.Kept.{capped}
+use Rattle.smith_validate.specs.declared.core_types.Module.{Module}
+
+abbrev pub sizes_in : List Function → List ℕ
+sizes_in fs = map (λ f. capped (function_size f)) fs
+
+-- the core types of a scope
+abbrev pub entries_in : FactScope → List CoreEntry
+entries_in s = map (λ f. f.entry) s.core_types
+
+-- 1 where it is of that kind, or else 0
+abbrev pub one_of_kind : ExportKind → EntityType → ℕ
+one_of_kind k e = length (filter (is_of_kind k) (e ∷ []))
+
+-- the sizes of what a declaration imports or exports
+abbrev pub added_size : List Function → ModuleDecl → ℕ
+added_size fs d = sum (map (entity_size fs) (entities_in d))
+
+-- It is below the bounds.
+pub record IsSmallModule (m : Module) : Type 0 where
+  pub size : m.size < size_bound
+  pub memories : m.memories ≤ 100
+  pub tables : m.tables ≤ 100
+
+-- It is with so much more.
+pub record Fits (m : Module) (size memories tables : ℕ) : Type 0 where
+  pub size_fits : m.size + size < size_bound
+  pub memories_fit : m.memories + memories ≤ 100
+  pub tables_fit : m.tables + tables ≤ 100
+
+-- So much was added.
+pub record Grows (old new : Module) (size memories tables : ℕ) : Type 0 where
+  pub size_is : new.size ≡ old.size + size
+  pub memories_are : new.memories ≡ old.memories + memories
+  pub tables_are : new.tables ≡ old.tables + tables
+
+abbrev pub memories_in : ModuleDecl → ℕ
+memories_in d = imported_of_kind kind.Memory (d ∷ [])
+
+abbrev pub tables_in : ModuleDecl → ℕ
+tables_in d = imported_of_kind kind.Table (d ∷ [])

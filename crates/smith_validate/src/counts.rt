@@ -1,0 +1,130 @@
+//! How many entries there are, by their sort.
+
+ghost use Rattle.std.specs.Prelude.{◌≡◌, ◌+◌, ◌≤◌, IfOk, OnOk};
+ghost use Rattle.smith_validity.specs.Counts.{ValidCounts, no_counts, with_component, with_export, with_function};
+ghost use Rattle.smith_validity.specs.Counts.{with_import, with_module, with_reference, with_type_count};
+ghost use Rattle.smith_validate.specs.Counted.{counted};
+ghost use Rattle.smith_validate.specs.Judges.{Judges};
+
+use crate::error::{Demand, Stop};
+use smith_syntax::ComponentTypeRef;
+
+// How many modules, components and instances there may be, each.
+const FEW: usize = 1_000;
+
+// How many types, functions, imports and exports there may be, each.
+const MANY: usize = 1_000_000;
+
+/// How many entries there are in a component, a component type or an instance type, of each sort: types and core types,
+/// component and core functions, modules, components, instances, imports and exports.
+#[derive(Clone, Copy, Debug)]
+pub(crate) struct Counts {
+    pub(crate) types: usize,
+    pub(crate) functions: usize,
+    pub(crate) modules: usize,
+    pub(crate) components: usize,
+    pub(crate) instances: usize,
+    pub(crate) imports: usize,
+    pub(crate) exports: usize,
+}
+
+// One more, of at most so many.
+fn one_more(count: usize, most: usize) -> Result<usize, Stop>
+    ensures judged { Judges result (count + 1 ≤ most) }
+    ensures value { IfOk result (λ n. n ≡ count + 1) }
+{
+    if count < most {
+        Ok(count + 1)
+    } else {
+        Err(Stop::Invalid(Demand::Count))
+    }
+}
+
+impl Counts {
+    pub(crate) fn new() -> Counts
+        ensures { counted result ≡ no_counts }
+    {
+        Counts {
+            types: 0,
+            functions: 0,
+            modules: 0,
+            components: 0,
+            instances: 0,
+            imports: 0,
+            exports: 0,
+        }
+    }
+
+    pub(crate) fn add_type(&mut self) -> Result<(), Stop>
+        ensures judged { ValidCounts (counted self.old)
+            → Judges result (ValidCounts (with_type_count (counted self.old) 1)) }
+        ensures added { OnOk result (counted self.new ≡ with_type_count (counted self.old) 1) }
+    {
+        self.types = one_more(self.types, MANY)?;
+        Ok(())
+    }
+
+    pub(crate) fn add_function(&mut self) -> Result<(), Stop>
+        ensures judged { ValidCounts (counted self.old)
+            → Judges result (ValidCounts (with_function (counted self.old))) }
+        ensures added { OnOk result (counted self.new ≡ with_function (counted self.old)) }
+    {
+        self.functions = one_more(self.functions, MANY)?;
+        Ok(())
+    }
+
+    pub(crate) fn add_module(&mut self) -> Result<(), Stop>
+        ensures judged { ValidCounts (counted self.old) → Judges result (ValidCounts (with_module (counted self.old))) }
+        ensures added { OnOk result (counted self.new ≡ with_module (counted self.old)) }
+    {
+        self.modules = one_more(self.modules, FEW)?;
+        Ok(())
+    }
+
+    pub(crate) fn add_component(&mut self) -> Result<(), Stop>
+        ensures judged { ValidCounts (counted self.old)
+            → Judges result (ValidCounts (with_component (counted self.old))) }
+        ensures added { OnOk result (counted self.new ≡ with_component (counted self.old)) }
+    {
+        self.components = one_more(self.components, FEW)?;
+        Ok(())
+    }
+
+    // Adds what is imported or exported.
+    fn add(&mut self, to: ComponentTypeRef) -> Result<(), Stop>
+        ensures judged { ValidCounts (counted self.old)
+            → Judges result (ValidCounts (with_reference (counted self.old) to)) }
+        ensures added { OnOk result (counted self.new ≡ with_reference (counted self.old) to) }
+    {
+        match to {
+            ComponentTypeRef::Module(_) => self.add_module(),
+            ComponentTypeRef::Func(_) => self.add_function(),
+            ComponentTypeRef::TypeEq(_) => Ok(()),
+            ComponentTypeRef::Component(_) => self.add_component(),
+            ComponentTypeRef::Instance(_) => {
+                self.instances = one_more(self.instances, FEW)?;
+                Ok(())
+            }
+        }
+    }
+
+    /// Adds an import.
+    pub(crate) fn add_import(&mut self, to: ComponentTypeRef) -> Result<(), Stop>
+        ensures judged { ValidCounts (counted self.old)
+            → Judges result (ValidCounts (with_import (counted self.old) to)) }
+        ensures added { OnOk result (counted self.new ≡ with_import (counted self.old) to) }
+    {
+        self.imports = one_more(self.imports, MANY)?;
+        self.add(to)
+    }
+
+    /// Adds an export. That of a type also adds the type.
+    pub(crate) fn add_export(&mut self, to: ComponentTypeRef) -> Result<(), Stop>
+        ensures judged { ValidCounts (counted self.old)
+            → Judges result (ValidCounts (with_export (counted self.old) to)) }
+        ensures added { OnOk result (counted self.new ≡ with_export (counted self.old) to) }
+    {
+        self.exports = one_more(self.exports, MANY)?;
+        self.add(to)
+    }
+}

@@ -1,0 +1,72 @@
+//! What a validator asks beyond well-formedness, and why a judgement stops.
+
+use smith_check::Place;
+use std::alloc::{AllocError, AllocFailed};
+
+/// What a validator asks of a well formed component.
+#[derive(Clone, Copy, Debug, PartialEq, Eq, thiserror::Error)]
+pub enum Demand {
+    /// What is imported or exported is of records, variants, flags and enums that an import or an export names before
+    /// (Explainer.md, import and export definitions, type checking).
+    #[error("an import or an export is of a type that is not named")]
+    Named,
+    /// A type, and a component, has an effective size below 1,000,000, the size of each type that it is made of
+    /// counted again wherever it is named. A bound of wasmparser's own.
+    #[error("the effective size of a type is 1000000 or more")]
+    Size,
+    /// There are at most 1,000 modules, components and instances each, and 1,000,000 types, functions, imports and
+    /// exports each. A bound of wasmparser's own.
+    #[error("there are too many entries of one sort")]
+    Count,
+    /// A module type imports at most 100 memories. A bound of wasmparser's own.
+    #[error("a module type imports more than 100 memories")]
+    Memories,
+    /// A module type imports at most 100 tables. A bound of wasmparser's own.
+    #[error("a module type imports more than 100 tables")]
+    Tables,
+}
+
+/// Why a well formed component is not accepted: the first demand that it does not meet, and where.
+#[derive(Debug, PartialEq, Eq, Drop)]
+pub struct Shortfall {
+    pub place: Place,
+    pub demand: Demand,
+}
+
+/// Whether a well formed component meets all demands.
+#[derive(Debug, PartialEq, Eq, Drop)]
+pub enum Validity {
+    Valid,
+    Invalid(Shortfall),
+}
+
+/// Why a judgement stops.
+#[derive(Clone, Copy, Debug)]
+pub(crate) enum Stop {
+    /// A growth was refused.
+    OutOfMemory,
+    /// A demand is not met.
+    Invalid(Demand),
+}
+
+impl From<AllocError> for Stop {
+    ghost use Rattle.std.specs.Prelude.{◌≡◌};
+    ghost use Rattle.smith_validate.specs.declared.error.Stop.TheVariants.{OutOfMemory};
+
+    ghost from_gives = { λ _ e. e ≡ OutOfMemory };
+
+    fn from(_error: AllocError) -> Stop {
+        Stop::OutOfMemory
+    }
+}
+
+impl<T: Drop> From<AllocFailed<T>> for Stop {
+    ghost use Rattle.std.specs.Prelude.{◌≡◌};
+    ghost use Rattle.smith_validate.specs.declared.error.Stop.TheVariants.{OutOfMemory};
+
+    ghost from_gives = { λ _ e. e ≡ OutOfMemory };
+
+    fn from(_error: AllocFailed<T>) -> Stop {
+        Stop::OutOfMemory
+    }
+}

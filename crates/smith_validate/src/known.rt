@@ -1,0 +1,154 @@
+//! What is known before a place.
+
+ghost use Rattle.std.specs.Prelude.{◌≡◌, ◌<◌, ◌∷◌, [], length, option_map, slice_get, IfErr, OnOk};
+ghost use Rattle.smith_syntax.specs.Scope.{empty_scope, with_core_type, with_type};
+ghost use Rattle.smith_validate.specs.Kept.{kept_in, named_at, own_in, outer_in};
+ghost use Rattle.smith_validate.specs.declared.error.Stop.TheVariants.{OutOfMemory};
+
+use crate::error::Stop;
+use crate::facts::{CoreFacts, Facts};
+use crate::instances::InstanceType;
+use std::alloc::Global;
+use std::mem::replace;
+
+/// The types and core types of a scope.
+#[derive(Drop)]
+pub(crate) struct Scope {
+    pub(crate) types: Vec<Facts>,
+    pub(crate) core_types: Vec<CoreFacts>,
+}
+
+impl Scope {
+    pub(crate) fn new(alloc: Global) -> Scope
+        ensures { kept_in result ≡ empty_scope }
+    {
+        Scope {
+            types: Vec::new(alloc),
+            core_types: Vec::new(alloc),
+        }
+    }
+
+    /// The type with that index.
+    pub(crate) fn type_at(&self, index: u32) -> Option<Facts>
+        ensures { option_map (λ f. f.size) result ≡ slice_get (kept_in self.now).types index }
+    {
+        self.types.get(index as usize).copied()
+    }
+
+    /// The core type with that index.
+    pub(crate) fn core_type_at(&self, index: u32) -> Option<CoreFacts>
+        ensures { result ≡ slice_get (kept_in self.now).core_types index }
+    {
+        self.core_types.get(index as usize).copied()
+    }
+}
+
+/// The innermost scope and those around it, outermost first; all types of instances that were declared, each after
+/// those that it exports; and how many types were named.
+#[derive(Drop)]
+pub(crate) struct Known {
+    pub(crate) own: Scope,
+    pub(crate) outer: Vec<Scope>,
+    pub(crate) instances: Vec<InstanceType>,
+    pub(crate) named: usize,
+}
+
+impl Known {
+    pub(crate) fn new(alloc: Global) -> Known
+        ensures own { own_in result ≡ empty_scope }
+        ensures outer { outer_in result ≡ [] }
+    {
+        Known {
+            own: Scope::new(alloc),
+            outer: Vec::new(alloc),
+            instances: Vec::new(alloc),
+            named: 0,
+        }
+    }
+
+    /// Enters an empty scope.
+    pub(crate) fn enter(&mut self, alloc: Global) -> Result<(), Stop>
+        ensures own { OnOk result (own_in self.new ≡ empty_scope) }
+        ensures outer { OnOk result (outer_in self.new ≡ own_in self.old ∷ outer_in self.old) }
+        ensures memory { IfErr result (λ e. e ≡ OutOfMemory) }
+    {
+        let own = replace(&mut self.own, Scope::new(alloc));
+        self.outer.push(own)?;
+        Ok(())
+    }
+
+    /// Leaves the innermost scope, which has one around it.
+    pub(crate) fn leave(&mut self)
+        requires { 0 < length (outer_in self.old) }
+        ensures { outer_in self.old ≡ own_in self.new ∷ outer_in self.new }
+    {
+        if let Some(own) = self.outer.pop() {
+            let _inner = replace(&mut self.own, own);
+        }
+    }
+
+    /// The scope of that count, innermost first.
+    fn scope_at(&self, count: u32) -> Option<&Scope>
+        ensures { option_map (λ s. kept_in s.now) result ≡ slice_get (own_in self.now ∷ outer_in self.now) count }
+    {
+        if count == 0 {
+            return Some(&self.own);
+        }
+        let count = count as usize;
+        if count <= self.outer.len() {
+            Some(&self.outer[self.outer.len() - count])
+        } else {
+            None
+        }
+    }
+
+    /// The type that an outer alias names.
+    pub(crate) fn type_named(&self, count: u32, index: u32) -> Option<Facts>
+        ensures { option_map (λ f. f.size) result
+            ≡ named_at (λ s. s.types) (own_in self.now ∷ outer_in self.now) count index }
+    {
+        self.scope_at(count)?.type_at(index)
+    }
+
+    /// The core type that an outer alias names.
+    pub(crate) fn core_type_named(&self, count: u32, index: u32) -> Option<CoreFacts>
+        ensures { result ≡ named_at (λ s. s.core_types) (own_in self.now ∷ outer_in self.now) count index }
+    {
+        self.scope_at(count)?.core_type_at(index)
+    }
+
+    /// Adds a type to the innermost scope.
+    pub(crate) fn add_type(&mut self, facts: Facts) -> Result<(), Stop>
+        ensures own { OnOk result (own_in self.new ≡ with_type (own_in self.old) facts.size) }
+        ensures outer { outer_in self.new ≡ outer_in self.old }
+        ensures memory { IfErr result (λ e. e ≡ OutOfMemory) }
+    {
+        self.own.types.push(facts)?;
+        Ok(())
+    }
+
+    /// Adds a core type to the innermost scope.
+    pub(crate) fn add_core_type(&mut self, facts: CoreFacts) -> Result<(), Stop>
+        ensures own { OnOk result (own_in self.new ≡ with_core_type (own_in self.old) facts) }
+        ensures outer { outer_in self.new ≡ outer_in self.old }
+        ensures memory { IfErr result (λ e. e ≡ OutOfMemory) }
+    {
+        self.own.core_types.push(facts)?;
+        Ok(())
+    }
+
+    /// How many scopes there are around the innermost one.
+    pub(crate) fn depth(&self) -> usize {
+        self.outer.len()
+    }
+
+    /// A type that is equal to that one, named in the innermost scope.
+    pub(crate) fn name(&mut self, facts: Facts) -> Facts
+        ensures size { result.size ≡ facts.size }
+        ensures own { own_in self.new ≡ own_in self.old }
+        ensures outer { outer_in self.new ≡ outer_in self.old }
+    {
+        self.named = self.named.saturating_add(1);
+        facts.named(self.outer.len(), self.named)
+    }
+}

@@ -1,0 +1,20 @@
+//! Whether a well formed component that was read is one that a validator accepts: what it imports and exports is named,
+//! and wasmparser's own bounds are kept.
+// Work in progress: bounds are proved, names not yet.
+#![tactic(auto)]
+
+mod body;
+mod core_types;
+mod counts;
+mod error;
+mod facts;
+mod instances;
+mod known;
+mod parts;
+mod references;
+mod track;
+mod types;
+mod values;
+
+pub use error::{Demand, Shortfall, Validity};
+pub use parts::validated;

@@ -1,0 +1,344 @@
+//! Components.
+
+ghost use Rattle.std.specs.Prelude.{◌≡◌, ◌∷◌, [], List, fold, map, slice_get, IfOk, OnOk};
+ghost use Rattle.smith_syntax.specs.Scope.{empty_scope};
+ghost use Rattle.smith_tree.specs.Spaces.{Spaces};
+ghost use Rattle.smith_tree.specs.Spaces.{after_canon as spaces_after_canon, after_export as spaces_after_export};
+ghost use Rattle.smith_tree.specs.Spaces.{after_import as spaces_after_import, after_part as spaces_after, no_spaces};
+ghost use Rattle.smith_tree.specs.Tree.{tree_of};
+ghost use Rattle.smith_validity.specs.Bodies.{Body as PlainBody, IsSmall, after_export, after_import, core_facts};
+ghost use Rattle.smith_validity.specs.Bodies.{empty_body, facts, with_core_facts, with_facts};
+ghost use Rattle.smith_validity.specs.Facts.{FactScope};
+ghost use Rattle.smith_validity.specs.Sizes.{ValidCore};
+ghost use Rattle.smith_validity.specs.Validates.{IsBounded, NoDemand, ValidCanons};
+ghost use Rattle.smith_validity.specs.Validates.{ValidCores, ValidEntries, ValidEntry};
+ghost use Rattle.smith_validity.specs.Validates.{ValidExports, ValidImports, ValidPart, ValidParts, after_canon};
+ghost use Rattle.smith_validity.specs.Validates.{after_cores, after_entries, after_part, exported_reference};
+ghost use Rattle.smith_validity.specs.Validates.{exported_references, imported_references};
+ghost use Rattle.smith_read_types.specs.Nodes.{shown_core_node};
+ghost use Rattle.smith_read_types.specs.TypeNodes.{shown_type_node};
+ghost use Rattle.smith_read.specs.PartNodes.{shown_canon_node, shown_export_node, shown_import_node};
+ghost use Rattle.smith_read.specs.PartNodes.{shown_part_node, shown_tree};
+ghost use Rattle.smith_validate.specs.Bodies.{IsBody, IsEmpty};
+ghost use Rattle.smith_validate.specs.Judges.{Judges};
+ghost use Rattle.smith_validate.specs.Kept.{kept_of, outer_in, own_in};
+ghost use Rattle.smith_validate.specs.Modules.{entries_in};
+ghost use Rattle.smith_validate.specs.Outcome.{Bounds};
+ghost use Rattle.smith_validate.specs.Parts.{IsOpen};
+ghost use Rattle.smith_validate.specs.declared.known.Known.{Known as KnownValue};
+
+use crate::body::{Body, Role, Sets};
+use crate::core_types::core_facts;
+use crate::error::{Shortfall, Stop, Validity};
+use crate::known::Known;
+use crate::references::{add_export, add_import};
+use crate::track::Track;
+use crate::types::{add_core_type, add_type, type_facts};
+use smith_read::{CanonNode, ComponentTree, CoreNode, ExportNode, ImportNode, PartNode, TypeNode};
+use smith_syntax::ComponentTypeRef;
+use std::alloc::{AllocError, Global};
+
+/// An open component: its component functions, by the indexes of their types, and the rest.
+#[derive(Drop)]
+pub(crate) struct Open {
+    pub(crate) functions: Vec<u32>,
+    pub(crate) body: Body,
+}
+
+impl Open {
+    fn new(alloc: Global) -> Open
+        ensures functions { result.functions.items ≡ [] }
+        ensures body { IsEmpty result.body }
+    {
+        Open {
+            functions: Vec::new(alloc),
+            body: Body::new(Role::Names(Sets::new(alloc))),
+        }
+    }
+
+    // The index of the type of a component function.
+    fn function_at(&self, index: u32) -> Option<u32>
+        ensures { result ≡ slice_get self.now.functions.items index }
+    {
+        self.functions.get(index as usize).copied()
+    }
+}
+
+// Adds a core type.
+fn declare_core_type(
+    alloc: Global,
+    known: &mut Known,
+    body: &mut Body,
+    ty: &CoreNode,
+) -> Result<(), Stop>
+    ensures judged { (b : PlainBody) (outer : List FactScope) → IsBody known.old body.old b outer
+        → Judges result (ValidCore (entries_in b.own) (shown_core_node ty.now)
+        × IsSmall (with_core_facts b (core_facts (shown_core_node ty.now) b.own ∷ []))) }
+    ensures added { (b : PlainBody) (outer : List FactScope) → IsBody known.old body.old b outer → OnOk result
+        (IsBody known.new body.new (with_core_facts b (core_facts (shown_core_node ty.now) b.own ∷ [])) outer) }
+    ensures outer { OnOk result (outer_in known.new ≡ outer_in known.old) }
+{
+    let facts = core_facts(alloc, &known.own, ty)?;
+    add_core_type(known, body, facts)
+}
+
+// Core types.
+fn add_core_types(
+    alloc: Global,
+    track: &mut Track,
+    known: &mut Known,
+    body: &mut Body,
+    types: &[CoreNode],
+) -> Result<(), Stop>
+    ensures judged { (b : PlainBody) (outer : List FactScope) → IsBody known.old body.old b outer
+        → Judges result (ValidCores (map shown_core_node types.now) b) }
+    ensures added { (b : PlainBody) (outer : List FactScope) → IsBody known.old body.old b outer
+        → OnOk result (IsBody known.new body.new (after_cores (map shown_core_node types.now) b) outer) }
+    ensures outer { OnOk result (outer_in known.new ≡ outer_in known.old) }
+{
+    for ty in types {
+        declare_core_type(alloc, known, body, ty)?;
+        track.next_entry();
+    }
+    Ok(())
+}
+
+// Adds a type.
+fn declare_type(
+    alloc: Global,
+    known: &mut Known,
+    body: &mut Body,
+    ty: &TypeNode,
+) -> Result<(), Stop>
+    ensures judged { (b : PlainBody) (outer : List FactScope) → IsBody known.old body.old b outer
+        → Judges result (ValidEntry NoDemand (shown_type_node ty.now) b.own outer
+        × IsSmall (with_facts b (facts (shown_type_node ty.now) b.own outer ∷ []))) }
+    ensures added { (b : PlainBody) (outer : List FactScope) → IsBody known.old body.old b outer → OnOk result
+        (IsBody known.new body.new (with_facts b (facts (shown_type_node ty.now) b.own outer ∷ [])) outer) }
+    ensures outer { OnOk result (outer_in known.new ≡ outer_in known.old) }
+{
+    let facts = type_facts(alloc, known, ty)?;
+    add_type(known, body, facts)
+}
+
+// Types.
+fn add_types(
+    alloc: Global,
+    track: &mut Track,
+    known: &mut Known,
+    body: &mut Body,
+    types: &[TypeNode],
+) -> Result<(), Stop>
+    ensures judged { (b : PlainBody) (outer : List FactScope) → IsBody known.old body.old b outer
+        → Judges result (ValidEntries NoDemand (map shown_type_node types.now) outer b) }
+    ensures added { (b : PlainBody) (outer : List FactScope) → IsBody known.old body.old b outer
+        → OnOk result (IsBody known.new body.new (after_entries (map shown_type_node types.now) outer b) outer) }
+    ensures outer { OnOk result (outer_in known.new ≡ outer_in known.old) }
+{
+    for ty in types {
+        declare_type(alloc, known, body, ty)?;
+        track.next_entry();
+    }
+    Ok(())
+}
+
+// Adds a canonical function.
+fn add_canon(open: &mut Open, canon: &CanonNode) -> Result<(), Stop>
+    ensures judged { (k : KnownValue) (s : Spaces) (b : PlainBody) (outer : List FactScope)
+        → IsOpen k open.old s b outer → Judges result (IsSmall (after_canon b (shown_canon_node canon.now))) }
+    ensures added { (k : KnownValue) (s : Spaces) (b : PlainBody) (outer : List FactScope)
+        → IsOpen k open.old s b outer → OnOk result (IsOpen k open.new
+        (spaces_after_canon s (shown_canon_node canon.now)) (after_canon b (shown_canon_node canon.now)) outer) }
+{
+    open.body.counts.add_function()?;
+    match canon {
+        CanonNode::Lift { ty, .. } => open.functions.push(*ty)?,
+        CanonNode::Lower { .. } => {}
+    }
+    Ok(())
+}
+
+// Canonical functions.
+fn add_canons(track: &mut Track, open: &mut Open, canons: &[CanonNode]) -> Result<(), Stop>
+    ensures judged { (k : KnownValue) (s : Spaces) (b : PlainBody) (outer : List FactScope)
+        → IsOpen k open.old s b outer → Judges result (ValidCanons (map shown_canon_node canons.now) b) }
+    ensures added { (k : KnownValue) (s : Spaces) (b : PlainBody) (outer : List FactScope)
+        → IsOpen k open.old s b outer → OnOk result
+        (IsOpen k open.new (fold spaces_after_canon s (map shown_canon_node canons.now))
+        (fold after_canon b (map shown_canon_node canons.now)) outer) }
+{
+    for canon in canons {
+        add_canon(open, canon)?;
+        track.next_entry();
+    }
+    Ok(())
+}
+
+// Adds an import.
+fn import_one(
+    alloc: Global,
+    known: &Known,
+    open: &mut Open,
+    import: &ImportNode,
+) -> Result<(), Stop>
+    ensures judged { (s : Spaces) (b : PlainBody) (outer : List FactScope) → IsOpen known.now open.old s b outer
+        → Judges result (IsSmall (after_import outer b (shown_import_node import.now).to)) }
+    ensures added { (s : Spaces) (b : PlainBody) (outer : List FactScope) → IsOpen known.now open.old s b outer
+        → OnOk result (IsOpen known.now open.new (spaces_after_import s (shown_import_node import.now))
+        (after_import outer b (shown_import_node import.now).to) outer) }
+{
+    add_import(alloc, known, &mut open.body, import.to)?;
+    match import.to {
+        ComponentTypeRef::Func(ty) => open.functions.push(ty)?,
+        ComponentTypeRef::Module(_)
+        | ComponentTypeRef::TypeEq(_)
+        | ComponentTypeRef::Component(_)
+        | ComponentTypeRef::Instance(_) => {}
+    }
+    Ok(())
+}
+
+// Imports.
+fn add_imports(
+    alloc: Global,
+    track: &mut Track,
+    known: &Known,
+    open: &mut Open,
+    imports: &[ImportNode],
+) -> Result<(), Stop>
+    ensures judged { (s : Spaces) (b : PlainBody) (outer : List FactScope) → IsOpen known.now open.old s b outer
+        → Judges result (ValidImports NoDemand (imported_references (map shown_import_node imports.now)) outer b) }
+    ensures added { (s : Spaces) (b : PlainBody) (outer : List FactScope) → IsOpen known.now open.old s b outer
+        → OnOk result (IsOpen known.now open.new (fold spaces_after_import s (map shown_import_node imports.now))
+        (fold (after_import outer) b (imported_references (map shown_import_node imports.now))) outer) }
+{
+    for import in imports {
+        import_one(alloc, known, open, import)?;
+        track.next_entry();
+    }
+    Ok(())
+}
+
+// Adds an export.
+fn export_one(
+    alloc: Global,
+    known: &mut Known,
+    open: &mut Open,
+    export: &ExportNode,
+) -> Result<(), Stop>
+    ensures judged { (s : Spaces) (b : PlainBody) (outer : List FactScope) → IsOpen known.old open.old s b outer
+        → Judges result (ValidExports NoDemand (exported_reference s (shown_export_node export.now)) outer b) }
+    ensures added { (s : Spaces) (b : PlainBody) (outer : List FactScope) → IsOpen known.old open.old s b outer
+        → OnOk result (IsOpen known.new open.new (spaces_after_export s (shown_export_node export.now))
+        (fold (after_export outer) b (exported_reference s (shown_export_node export.now))) outer) }
+    ensures outer { OnOk result (outer_in known.new ≡ outer_in known.old) }
+{
+    let Some(ty) = open.function_at(export.func) else {
+        return Ok(());
+    };
+    add_export(alloc, known, &mut open.body, ComponentTypeRef::Func(ty))?;
+    open.functions.push(ty)?;
+    Ok(())
+}
+
+// Exports.
+fn add_exports(
+    alloc: Global,
+    track: &mut Track,
+    known: &mut Known,
+    open: &mut Open,
+    exports: &[ExportNode],
+) -> Result<(), Stop>
+    ensures judged { (s : Spaces) (b : PlainBody) (outer : List FactScope) → IsOpen known.old open.old s b outer
+        → Judges result (ValidExports NoDemand (exported_references s (map shown_export_node exports.now)) outer b) }
+    ensures added { (s : Spaces) (b : PlainBody) (outer : List FactScope) → IsOpen known.old open.old s b outer
+        → OnOk result (IsOpen known.new open.new (fold spaces_after_export s (map shown_export_node exports.now))
+        (fold (after_export outer) b (exported_references s (map shown_export_node exports.now))) outer) }
+    ensures outer { OnOk result (outer_in known.new ≡ outer_in known.old) }
+{
+    for export in exports {
+        export_one(alloc, known, open, export)?;
+        track.next_entry();
+    }
+    Ok(())
+}
+
+// A section, after those before it.
+#[cycle(parts)]
+fn add_part(
+    alloc: Global,
+    track: &mut Track,
+    known: &mut Known,
+    open: &mut Open,
+    part: &PartNode,
+) -> Result<(), Stop>
+    ensures judged { (s : Spaces) (b : PlainBody) (outer : List FactScope) → IsOpen known.old open.old s b outer
+        → Judges result (ValidPart NoDemand (shown_part_node part.now) s outer b) }
+    ensures added { (s : Spaces) (b : PlainBody) (outer : List FactScope) → IsOpen known.old open.old s b outer
+        → OnOk result (IsOpen known.new open.new (spaces_after s (shown_part_node part.now))
+        (after_part (shown_part_node part.now) s outer b) outer) }
+    ensures outer { OnOk result (outer_in known.new ≡ outer_in known.old) }
+{
+    match part {
+        PartNode::Custom { .. } => Ok(()),
+        PartNode::CoreModule(_) => open.body.counts.add_module(),
+        PartNode::CoreTypes(types) => add_core_types(alloc, track, known, &mut open.body, types),
+        PartNode::Component(parts) => {
+            open.body.counts.add_component()?;
+            known.enter(alloc)?;
+            add_parts(alloc, track, known, parts)?;
+            known.leave();
+            Ok(())
+        }
+        PartNode::Types(types) => add_types(alloc, track, known, &mut open.body, types),
+        PartNode::Canons(canons) => add_canons(track, open, canons),
+        PartNode::Imports(imports) => add_imports(alloc, track, known, open, imports),
+        PartNode::Exports(exports) => add_exports(alloc, track, known, open, exports),
+    }
+}
+
+// The sections of a component, in an empty scope.
+#[cycle(parts)]
+fn add_parts(
+    alloc: Global,
+    track: &mut Track,
+    known: &mut Known,
+    parts: &[PartNode],
+) -> Result<(), Stop>
+    requires { own_in known.old ≡ empty_scope }
+    ensures judged { (outer : List FactScope) → outer_in known.old ≡ map kept_of outer
+        → Judges result (ValidParts NoDemand (tree_of (map shown_part_node parts.now)) no_spaces outer empty_body) }
+    ensures outer { OnOk result (outer_in known.new ≡ outer_in known.old) }
+{
+    track.enter()?;
+    let mut open = Open::new(alloc);
+    for part in parts {
+        add_part(alloc, track, known, &mut open, part)?;
+        track.next_section();
+    }
+    track.leave();
+    Ok(())
+}
+
+/// Judges whether a well formed component meets all that a validator asks beside: `Valid` where it does, or `Invalid`
+/// with the first demand that it does not meet and the place. An error is returned only where a growth was refused, and
+/// says nothing of the component.
+///
+/// It is proved that what is `Valid` keeps all bounds, and that what is `Invalid` for a bound does not. That names are
+/// judged rightly is not proved.
+///
+/// The stack is bounded by how deep components and types nest.
+pub fn validated(alloc: Global, component: &ComponentTree) -> Result<Validity, AllocError>
+    ensures { IfOk result (Bounds (IsBounded (shown_tree component.now))) }
+{
+    let mut track = Track::new(alloc);
+    let mut known = Known::new(alloc);
+    match add_parts(alloc, &mut track, &mut known, &component.parts) {
+        Ok(()) => Ok(Validity::Valid),
+        Err(Stop::OutOfMemory) => Err(AllocError),
+        Err(Stop::Invalid(demand)) => {
+            let place = track.place;
+            Ok(Validity::Invalid(Shortfall { place, demand }))
+        }
+    }
+}

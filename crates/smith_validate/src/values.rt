@@ -1,0 +1,213 @@
+//! Types of values and of functions.
+
+ghost use Rattle.std.specs.Prelude.{◌≡◌, ◌+◌, ◌<◌, ◌++◌, Option, None, Some, map, sum, IfOk};
+ghost use Rattle.std.specs.List.{flat_map};
+ghost use Rattle.std.specs.Option.{option_to_list};
+ghost use Rattle.smith_syntax.specs.Shown.{shown_defined};
+ghost use Rattle.smith_syntax.specs.declared.types.ComponentValType.{ComponentValType};
+ghost use Rattle.smith_validity.specs.Facts.{FactScope};
+ghost use Rattle.smith_validity.specs.Sizes.{SmallDefined, defined_size, maybe_size, signature_size, size_bound};
+ghost use Rattle.smith_validity.specs.Sizes.{summed, value_size};
+ghost use Rattle.smith_validate.specs.Judges.{Judges};
+ghost use Rattle.smith_validate.specs.Kept.{capped, kept_in, kept_of};
+
+use crate::error::{Demand, Stop};
+use crate::facts::{Facts, Needs, SIZE_BOUND, size_sum};
+use crate::known::Scope;
+use smith_syntax::{ComponentValType, DefinedType, FuncType};
+
+/// A member, which has a value type or none.
+pub(crate) trait Valued {
+    ghost value: { Self → Option ComponentValType };
+
+    /// Its value type.
+    fn value(&self) -> Option<ComponentValType>
+        ensures { result ≡ value self.now };
+}
+
+impl Valued for ComponentValType {
+    ghost value = { λ v. Some v };
+
+    fn value(&self) -> Option<ComponentValType> {
+        Some(*self)
+    }
+}
+
+impl Valued for (String, ComponentValType) {
+    ghost value = { λ p. Some p.1 };
+
+    fn value(&self) -> Option<ComponentValType> {
+        Some(self.1)
+    }
+}
+
+impl Valued for (String, Option<ComponentValType>) {
+    ghost value = { λ p. p.1 };
+
+    fn value(&self) -> Option<ComponentValType> {
+        self.1
+    }
+}
+
+/// Value types: what has to be named where they are used, and the sum of their effective sizes.
+#[derive(Clone, Copy, Debug)]
+struct Values {
+    needs: Needs,
+    size: u32,
+}
+
+impl Values {
+    // None, with that to begin the sum.
+    fn new(size: u32) -> Values
+        ensures { result.size ≡ size }
+    {
+        Values {
+            needs: Needs::nothing(),
+            size,
+        }
+    }
+
+    fn add(self, scope: &Scope, ty: ComponentValType) -> Values
+        ensures { (own : FactScope) → kept_in scope.now ≡ kept_of own
+            → result.size ≡ capped (self.size + value_size own.types ty) }
+    {
+        let (needs, size) = value_of(scope, ty);
+        Values {
+            needs: self.needs.with(needs),
+            size: size_sum(self.size, size),
+        }
+    }
+
+    // One that may be missing, and adds nothing then.
+    fn add_some(self, scope: &Scope, ty: Option<ComponentValType>) -> Values
+        ensures { (own : FactScope) → kept_in scope.now ≡ kept_of own
+            → capped self.size ≡ self.size
+            → result.size ≡ capped (self.size + sum (map (value_size own.types) (option_to_list ty))) }
+    {
+        match ty {
+            Some(ty) => self.add(scope, ty),
+            None => self,
+        }
+    }
+
+    // One that may be missing, and counts as 1 then.
+    fn add_maybe(self, scope: &Scope, ty: Option<ComponentValType>) -> Values
+        ensures { (own : FactScope) → kept_in scope.now ≡ kept_of own
+            → result.size ≡ capped (self.size + maybe_size own.types ty) }
+    {
+        match ty {
+            Some(ty) => self.add(scope, ty),
+            None => Values {
+                needs: self.needs,
+                size: size_sum(self.size, 1),
+            },
+        }
+    }
+}
+
+// What has to be named where a value is of that type, and its size.
+fn value_of(scope: &Scope, ty: ComponentValType) -> (Needs, u32)
+    ensures { (own : FactScope) → kept_in scope.now ≡ kept_of own → result.1 ≡ capped (value_size own.types ty) }
+{
+    match ty {
+        ComponentValType::Primitive(_) => (Needs::nothing(), 1),
+        ComponentValType::Indexed(index) => match scope.type_at(index) {
+            Some(facts) => (facts.needs, facts.size),
+            None => (Needs::nothing(), 1),
+        },
+    }
+}
+
+// The value types of members. One that has none adds nothing.
+fn values_of<T: Valued>(scope: &Scope, items: &[T]) -> Values
+    ensures { (own : FactScope) → kept_in scope.now ≡ kept_of own
+        → result.size ≡ capped (summed own.types (flat_map (λ i. option_to_list (T.value i)) items.now)) }
+{
+    let mut values = Values::new(1);
+    for item in items {
+        values = values.add_some(scope, item.value());
+    }
+    values
+}
+
+// Checks a sum.
+fn check_size(values: Values) -> Result<Values, Stop>
+    ensures judged { Judges result (values.size < size_bound) }
+    ensures same { IfOk result (λ v. v ≡ values) }
+{
+    if values.size < SIZE_BOUND {
+        Ok(values)
+    } else {
+        Err(Stop::Invalid(Demand::Size))
+    }
+}
+
+// The value types of members, and of what follows them, where their sum is below the bound.
+fn small_values<T: Valued>(
+    scope: &Scope,
+    items: &[T],
+    last: Option<ComponentValType>,
+) -> Result<Values, Stop>
+    ensures judged { (own : FactScope) → kept_in scope.now ≡ kept_of own
+        → Judges result (summed own.types (flat_map (λ i. option_to_list (T.value i)) items.now ++ option_to_list last)
+        < size_bound) }
+    ensures size { (own : FactScope) → kept_in scope.now ≡ kept_of own → IfOk result (λ v. v.size
+        ≡ capped (summed own.types (flat_map (λ i. option_to_list (T.value i)) items.now ++ option_to_list last))) }
+{
+    let values = values_of(scope, items);
+    check_size(values.add_some(scope, last))
+}
+
+fn plain_facts(values: Values) -> Facts
+    ensures { result.size ≡ values.size }
+{
+    Facts::new(values.needs, values.size)
+}
+
+fn nominal_facts(values: Values) -> Facts
+    ensures { result.size ≡ values.size }
+{
+    Facts::nominal(values.needs, values.size)
+}
+
+/// A type of values.
+pub(crate) fn defined_facts(scope: &Scope, ty: &DefinedType) -> Result<Facts, Stop>
+    ensures judged { (own : FactScope) → kept_in scope.now ≡ kept_of own
+        → Judges result (SmallDefined own.types (shown_defined ty.now)) }
+    ensures size { (own : FactScope) → kept_in scope.now ≡ kept_of own
+        → IfOk result (λ f. f.size ≡ capped (defined_size own.types (shown_defined ty.now))) }
+{
+    match ty {
+        DefinedType::Primitive(_) => Ok(plain_facts(Values::new(1))),
+        DefinedType::Record(ty) => {
+            let values = small_values(scope, &ty.fields, None)?;
+            Ok(nominal_facts(values))
+        }
+        DefinedType::Variant(ty) => {
+            let values = small_values(scope, &ty.cases, None)?;
+            Ok(nominal_facts(values))
+        }
+        DefinedType::List(ty) => Ok(plain_facts(Values::new(0).add(scope, ty.elem_ty))),
+        DefinedType::Tuple(ty) => {
+            let values = small_values(scope, &ty.fields, None)?;
+            Ok(plain_facts(values))
+        }
+        DefinedType::Flags(_) | DefinedType::Enum(_) => Ok(nominal_facts(Values::new(1))),
+        DefinedType::Option(ty) => Ok(plain_facts(Values::new(0).add(scope, ty.inner_ty))),
+        DefinedType::Result(ty) => {
+            let ok = Values::new(0).add_maybe(scope, ty.ok_ty);
+            Ok(plain_facts(ok.add_maybe(scope, ty.err_ty)))
+        }
+    }
+}
+
+/// A type of functions.
+pub(crate) fn function_facts(scope: &Scope, ty: &FuncType) -> Result<Facts, Stop>
+    ensures judged { (own : FactScope) → kept_in scope.now ≡ kept_of own
+        → Judges result (signature_size own.types ty.now < size_bound) }
+    ensures size { (own : FactScope) → kept_in scope.now ≡ kept_of own
+        → IfOk result (λ f. f.size ≡ capped (signature_size own.types ty.now)) }
+{
+    let values = small_values(scope, &ty.params, ty.result)?;
+    Ok(plain_facts(values))
+}

@@ -1,0 +1,6 @@
+pub mod Bodies
+pub mod Counts
+pub mod Examples
+pub mod Facts
+pub mod Sizes
+pub mod Validates
