@@ -143,32 +143,32 @@ fn add_types(
 }
 
 // Adds a canonical function.
-fn add_canon(open: &mut Open, canon: &CanonNode) -> Result<(), Stop>
+fn add_canon(here: &mut Open, canon: &CanonNode) -> Result<(), Stop>
     ensures judged { (k : KnownValue) (s : Spaces) (b : PlainBody) (outer : List FactScope)
-        → IsOpen k open.old s b outer → Judges result (IsSmall (after_canon b (shown_canon_node canon.now))) }
+        → IsOpen k here.old s b outer → Judges result (IsSmall (after_canon b (shown_canon_node canon.now))) }
     ensures added { (k : KnownValue) (s : Spaces) (b : PlainBody) (outer : List FactScope)
-        → IsOpen k open.old s b outer → OnOk result (IsOpen k open.new
+        → IsOpen k here.old s b outer → OnOk result (IsOpen k here.new
         (spaces_after_canon s (shown_canon_node canon.now)) (after_canon b (shown_canon_node canon.now)) outer) }
 {
-    open.body.counts.add_function()?;
+    here.body.counts.add_function()?;
     match canon {
-        CanonNode::Lift { ty, .. } => open.functions.push(*ty)?,
+        CanonNode::Lift { ty, .. } => here.functions.push(*ty)?,
         CanonNode::Lower { .. } => {}
     }
     Ok(())
 }
 
 // Canonical functions.
-fn add_canons(track: &mut Track, open: &mut Open, canons: &[CanonNode]) -> Result<(), Stop>
+fn add_canons(track: &mut Track, here: &mut Open, canons: &[CanonNode]) -> Result<(), Stop>
     ensures judged { (k : KnownValue) (s : Spaces) (b : PlainBody) (outer : List FactScope)
-        → IsOpen k open.old s b outer → Judges result (ValidCanons (map shown_canon_node canons.now) b) }
+        → IsOpen k here.old s b outer → Judges result (ValidCanons (map shown_canon_node canons.now) b) }
     ensures added { (k : KnownValue) (s : Spaces) (b : PlainBody) (outer : List FactScope)
-        → IsOpen k open.old s b outer → OnOk result
-        (IsOpen k open.new (fold spaces_after_canon s (map shown_canon_node canons.now))
+        → IsOpen k here.old s b outer → OnOk result
+        (IsOpen k here.new (fold spaces_after_canon s (map shown_canon_node canons.now))
         (fold after_canon b (map shown_canon_node canons.now)) outer) }
 {
     for canon in canons {
-        add_canon(open, canon)?;
+        add_canon(here, canon)?;
         track.next_entry();
     }
     Ok(())
@@ -178,18 +178,18 @@ fn add_canons(track: &mut Track, open: &mut Open, canons: &[CanonNode]) -> Resul
 fn import_one(
     alloc: Global,
     known: &Known,
-    open: &mut Open,
+    here: &mut Open,
     import: &ImportNode,
 ) -> Result<(), Stop>
-    ensures judged { (s : Spaces) (b : PlainBody) (outer : List FactScope) → IsOpen known.now open.old s b outer
+    ensures judged { (s : Spaces) (b : PlainBody) (outer : List FactScope) → IsOpen known.now here.old s b outer
         → Judges result (IsSmall (after_import outer b (shown_import_node import.now).to)) }
-    ensures added { (s : Spaces) (b : PlainBody) (outer : List FactScope) → IsOpen known.now open.old s b outer
-        → OnOk result (IsOpen known.now open.new (spaces_after_import s (shown_import_node import.now))
+    ensures added { (s : Spaces) (b : PlainBody) (outer : List FactScope) → IsOpen known.now here.old s b outer
+        → OnOk result (IsOpen known.now here.new (spaces_after_import s (shown_import_node import.now))
         (after_import outer b (shown_import_node import.now).to) outer) }
 {
-    add_import(alloc, known, &mut open.body, import.to)?;
+    add_import(alloc, known, &mut here.body, import.to)?;
     match import.to {
-        ComponentTypeRef::Func(ty) => open.functions.push(ty)?,
+        ComponentTypeRef::Func(ty) => here.functions.push(ty)?,
         ComponentTypeRef::Module(_)
         | ComponentTypeRef::TypeEq(_)
         | ComponentTypeRef::Component(_)
@@ -203,17 +203,17 @@ fn add_imports(
     alloc: Global,
     track: &mut Track,
     known: &Known,
-    open: &mut Open,
+    here: &mut Open,
     imports: &[ImportNode],
 ) -> Result<(), Stop>
-    ensures judged { (s : Spaces) (b : PlainBody) (outer : List FactScope) → IsOpen known.now open.old s b outer
+    ensures judged { (s : Spaces) (b : PlainBody) (outer : List FactScope) → IsOpen known.now here.old s b outer
         → Judges result (ValidImports NoDemand (imported_references (map shown_import_node imports.now)) outer b) }
-    ensures added { (s : Spaces) (b : PlainBody) (outer : List FactScope) → IsOpen known.now open.old s b outer
-        → OnOk result (IsOpen known.now open.new (fold spaces_after_import s (map shown_import_node imports.now))
+    ensures added { (s : Spaces) (b : PlainBody) (outer : List FactScope) → IsOpen known.now here.old s b outer
+        → OnOk result (IsOpen known.now here.new (fold spaces_after_import s (map shown_import_node imports.now))
         (fold (after_import outer) b (imported_references (map shown_import_node imports.now))) outer) }
 {
     for import in imports {
-        import_one(alloc, known, open, import)?;
+        import_one(alloc, known, here, import)?;
         track.next_entry();
     }
     Ok(())
@@ -223,21 +223,21 @@ fn add_imports(
 fn export_one(
     alloc: Global,
     known: &mut Known,
-    open: &mut Open,
+    here: &mut Open,
     export: &ExportNode,
 ) -> Result<(), Stop>
-    ensures judged { (s : Spaces) (b : PlainBody) (outer : List FactScope) → IsOpen known.old open.old s b outer
+    ensures judged { (s : Spaces) (b : PlainBody) (outer : List FactScope) → IsOpen known.old here.old s b outer
         → Judges result (ValidExports NoDemand (exported_reference s (shown_export_node export.now)) outer b) }
-    ensures added { (s : Spaces) (b : PlainBody) (outer : List FactScope) → IsOpen known.old open.old s b outer
-        → OnOk result (IsOpen known.new open.new (spaces_after_export s (shown_export_node export.now))
+    ensures added { (s : Spaces) (b : PlainBody) (outer : List FactScope) → IsOpen known.old here.old s b outer
+        → OnOk result (IsOpen known.new here.new (spaces_after_export s (shown_export_node export.now))
         (fold (after_export outer) b (exported_reference s (shown_export_node export.now))) outer) }
     ensures outer { OnOk result (outer_in known.new ≡ outer_in known.old) }
 {
-    let Some(ty) = open.function_at(export.func) else {
+    let Some(ty) = here.function_at(export.func) else {
         return Ok(());
     };
-    add_export(alloc, known, &mut open.body, ComponentTypeRef::Func(ty))?;
-    open.functions.push(ty)?;
+    add_export(alloc, known, &mut here.body, ComponentTypeRef::Func(ty))?;
+    here.functions.push(ty)?;
     Ok(())
 }
 
@@ -246,18 +246,18 @@ fn add_exports(
     alloc: Global,
     track: &mut Track,
     known: &mut Known,
-    open: &mut Open,
+    here: &mut Open,
     exports: &[ExportNode],
 ) -> Result<(), Stop>
-    ensures judged { (s : Spaces) (b : PlainBody) (outer : List FactScope) → IsOpen known.old open.old s b outer
+    ensures judged { (s : Spaces) (b : PlainBody) (outer : List FactScope) → IsOpen known.old here.old s b outer
         → Judges result (ValidExports NoDemand (exported_references s (map shown_export_node exports.now)) outer b) }
-    ensures added { (s : Spaces) (b : PlainBody) (outer : List FactScope) → IsOpen known.old open.old s b outer
-        → OnOk result (IsOpen known.new open.new (fold spaces_after_export s (map shown_export_node exports.now))
+    ensures added { (s : Spaces) (b : PlainBody) (outer : List FactScope) → IsOpen known.old here.old s b outer
+        → OnOk result (IsOpen known.new here.new (fold spaces_after_export s (map shown_export_node exports.now))
         (fold (after_export outer) b (exported_references s (map shown_export_node exports.now))) outer) }
     ensures outer { OnOk result (outer_in known.new ≡ outer_in known.old) }
 {
     for export in exports {
-        export_one(alloc, known, open, export)?;
+        export_one(alloc, known, here, export)?;
         track.next_entry();
     }
     Ok(())
@@ -269,31 +269,31 @@ fn add_part(
     alloc: Global,
     track: &mut Track,
     known: &mut Known,
-    open: &mut Open,
+    here: &mut Open,
     part: &PartNode,
 ) -> Result<(), Stop>
-    ensures judged { (s : Spaces) (b : PlainBody) (outer : List FactScope) → IsOpen known.old open.old s b outer
+    ensures judged { (s : Spaces) (b : PlainBody) (outer : List FactScope) → IsOpen known.old here.old s b outer
         → Judges result (ValidPart NoDemand (shown_part_node part.now) s outer b) }
-    ensures added { (s : Spaces) (b : PlainBody) (outer : List FactScope) → IsOpen known.old open.old s b outer
-        → OnOk result (IsOpen known.new open.new (spaces_after s (shown_part_node part.now))
+    ensures added { (s : Spaces) (b : PlainBody) (outer : List FactScope) → IsOpen known.old here.old s b outer
+        → OnOk result (IsOpen known.new here.new (spaces_after s (shown_part_node part.now))
         (after_part (shown_part_node part.now) s outer b) outer) }
     ensures outer { OnOk result (outer_in known.new ≡ outer_in known.old) }
 {
     match part {
         PartNode::Custom { .. } => Ok(()),
-        PartNode::CoreModule(_) => open.body.counts.add_module(),
-        PartNode::CoreTypes(types) => add_core_types(alloc, track, known, &mut open.body, types),
+        PartNode::CoreModule(_) => here.body.counts.add_module(),
+        PartNode::CoreTypes(types) => add_core_types(alloc, track, known, &mut here.body, types),
         PartNode::Component(parts) => {
-            open.body.counts.add_component()?;
+            here.body.counts.add_component()?;
             known.enter(alloc)?;
             add_parts(alloc, track, known, parts)?;
             known.leave();
             Ok(())
         }
-        PartNode::Types(types) => add_types(alloc, track, known, &mut open.body, types),
-        PartNode::Canons(canons) => add_canons(track, open, canons),
-        PartNode::Imports(imports) => add_imports(alloc, track, known, open, imports),
-        PartNode::Exports(exports) => add_exports(alloc, track, known, open, exports),
+        PartNode::Types(types) => add_types(alloc, track, known, &mut here.body, types),
+        PartNode::Canons(canons) => add_canons(track, here, canons),
+        PartNode::Imports(imports) => add_imports(alloc, track, known, here, imports),
+        PartNode::Exports(exports) => add_exports(alloc, track, known, here, exports),
     }
 }
 
@@ -311,9 +311,9 @@ fn add_parts(
     ensures outer { OnOk result (outer_in known.new ≡ outer_in known.old) }
 {
     track.enter()?;
-    let mut open = Open::new(alloc);
+    let mut here = Open::new(alloc);
     for part in parts {
-        add_part(alloc, track, known, &mut open, part)?;
+        add_part(alloc, track, known, &mut here, part)?;
         track.next_section();
     }
     track.leave();

@@ -45,8 +45,8 @@ pub add_parts-loop-part-init : goal.add_parts-loop-part-init
 add_parts-loop-part-init t c = record {
   outer = refl;
   left = λ outer h.
-      row_all (parts_row outer) (no_spaces, empty_body) (map shown_part_node c.args.parts.now) (OpenAt c.args.known.now c.new-open.result outer)
-      (open_begin _ _ outer c.requires h c.new-open.ensures.functions c.new-open.ensures.body);
+      row_all (parts_row outer) (no_spaces, empty_body) (map shown_part_node c.args.parts.now) (OpenAt c.args.known.now c.new-here.result outer)
+      (open_begin _ _ outer c.requires h c.new-here.ensures.functions c.new-here.ensures.body);
 }
 
 pub add_parts-loop-part-preserved : goal.add_parts-loop-part-preserved
@@ -58,11 +58,11 @@ add_parts-loop-part-preserved t c =
     record {
       outer = done.outer ∙ c.loop-part.invariant.outer;
       left = λ outer h.
-          let T = OpenAt c.loop-part.known c.loop-part.open outer in
+          let T = OpenAt c.loop-part.known c.loop-part.here outer in
           let l = row_at (parts_row outer) shown_part_node (no_spaces, empty_body) ps T i p c.loop-part-test.true c.part-item.is
           (c.loop-part.invariant.left outer h) in
           row_more (parts_row outer) (no_spaces, empty_body) (map shown_part_node ps) T (shown_part_node p) (map shown_part_node (drop (i + 1) ps)) l
-          (OpenAt c.add_part.new.known c.add_part.new.open outer) (done.judged l.at.0 l.at.1 outer l.is) (done.added l.at.0 l.at.1 outer l.is);
+          (OpenAt c.add_part.new.known c.add_part.new.here outer) (done.judged l.at.0 l.at.1 outer l.is) (done.added l.at.0 l.at.1 outer l.is);
     }
 
 pub add_parts-returns-in_err-add_part-clause-judged : goal.add_parts-returns-in_err-add_part-clause-judged
@@ -70,7 +70,7 @@ add_parts-returns-in_err-add_part-clause-judged t c = λ outer h.
     let ps = c.args.parts.now in
     let i = c.loop-part.part-index in
     let p = c.part-item.result in
-    let T = OpenAt c.loop-part.known c.loop-part.open outer in
+    let T = OpenAt c.loop-part.known c.loop-part.here outer in
     let l = row_at (parts_row outer) shown_part_node (no_spaces, empty_body) ps T i p c.loop-part-test.true c.part-item.is
     (c.loop-part.invariant.left outer h) in
     passed_on _ _ c.from_residual-in_err-add_part.ensures.1
@@ -80,7 +80,7 @@ add_parts-returns-in_err-add_part-clause-judged t c = λ outer h.
 pub add_parts-returns-clause-judged : goal.add_parts-returns-clause-judged
 add_parts-returns-clause-judged t c = λ outer h.
     let ps = c.args.parts.now in
-    let T = OpenAt c.loop-part.known c.loop-part.open outer in
+    let T = OpenAt c.loop-part.known c.loop-part.here outer in
     row_valid (parts_row outer) (no_spaces, empty_body) (map shown_part_node ps) T
     (row_last (parts_row outer) shown_part_node (no_spaces, empty_body) ps T c.loop-part.part-index c.loop-part-test.false
     (c.loop-part.invariant.left outer h))

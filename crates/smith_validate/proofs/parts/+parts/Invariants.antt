@@ -12,5 +12,5 @@ abbrev pub invariant-add_parts-loop-part : goal.invariant-add_parts-loop-part
 invariant-add_parts-loop-part l = record {
   outer : outer_in l.known ≡ outer_in l.fn.known;
   left : (outer : List FactScope) → outer_in l.fn.known ≡ map kept_of outer
-      → RowFrom (parts_row outer) shown_part_node (no_spaces, empty_body) l.parts (OpenAt l.known l.open outer) l.part-index;
+      → RowFrom (parts_row outer) shown_part_node (no_spaces, empty_body) l.parts (OpenAt l.known l.here outer) l.part-index;
 }

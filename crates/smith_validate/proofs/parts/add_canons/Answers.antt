@@ -9,7 +9,7 @@ use Rattle.smith_validate.proofs.Rows.{row_after, row_all, row_at, row_exit, row
 use Rattle.smith_validate.proofs.parts.add_canons.Goals as goal
 
 pub loop-canon-init : goal.loop-canon-init
-loop-canon-init c = λ k s b outer h. row_all canons_row (s, b) (map shown_canon_node c.args.canons.now) (OpenAt k c.args.open.now outer) h
+loop-canon-init c = λ k s b outer h. row_all canons_row (s, b) (map shown_canon_node c.args.canons.now) (OpenAt k c.args.here.now outer) h
 
 pub loop-canon-preserved : goal.loop-canon-preserved
 loop-canon-preserved c =
@@ -19,10 +19,10 @@ loop-canon-preserved c =
     let i = c.loop-canon.canon-index in
     let x = get_or xs i (canon.Lift 0 0) in
     let is : x ≡ get_or xs i x = some_item xs i (canon.Lift 0 0) x c.loop-canon-test.true in
-    let l = row_at canons_row shown_canon_node (s, b) xs (OpenAt k c.loop-canon.open outer) i x c.loop-canon-test.true is
+    let l = row_at canons_row shown_canon_node (s, b) xs (OpenAt k c.loop-canon.here outer) i x c.loop-canon-test.true is
     (c.loop-canon.invariant k s b outer h) in
-    row_more canons_row (s, b) (map shown_canon_node xs) (OpenAt k c.loop-canon.open outer) (shown_canon_node x) (map shown_canon_node (drop (i + 1) xs)) l
-    (OpenAt k c.add_canon.new.open outer) (done.judged k l.at.0 l.at.1 outer l.is) (done.added k l.at.0 l.at.1 outer l.is))
+    row_more canons_row (s, b) (map shown_canon_node xs) (OpenAt k c.loop-canon.here outer) (shown_canon_node x) (map shown_canon_node (drop (i + 1) xs)) l
+    (OpenAt k c.add_canon.new.here outer) (done.judged k l.at.0 l.at.1 outer l.is) (done.added k l.at.0 l.at.1 outer l.is))
 
 pub returns-in_err-add_canon-clause-judged : goal.returns-in_err-add_canon-clause-judged
 returns-in_err-add_canon-clause-judged c = λ k s b outer h.
@@ -30,20 +30,20 @@ returns-in_err-add_canon-clause-judged c = λ k s b outer h.
     let i = c.loop-canon.canon-index in
     let x = get_or xs i (canon.Lift 0 0) in
     let is : x ≡ get_or xs i x = some_item xs i (canon.Lift 0 0) x c.loop-canon-test.true in
-    let l = row_at canons_row shown_canon_node (s, b) xs (OpenAt k c.loop-canon.open outer) i x c.loop-canon-test.true is
+    let l = row_at canons_row shown_canon_node (s, b) xs (OpenAt k c.loop-canon.here outer) i x c.loop-canon-test.true is
     (c.loop-canon.invariant k s b outer h) in
     passed_on _ _ c.from_residual.ensures.1
-    (row_exit canons_row (s, b) (map shown_canon_node xs) (OpenAt k c.loop-canon.open outer) (shown_canon_node x) (map shown_canon_node (drop (i + 1) xs)) l
+    (row_exit canons_row (s, b) (map shown_canon_node xs) (OpenAt k c.loop-canon.here outer) (shown_canon_node x) (map shown_canon_node (drop (i + 1) xs)) l
     ((c.in_err-add_canon.ensures {u = tt}).judged k l.at.0 l.at.1 outer l.is))
 
 pub returns-clause-judged : goal.returns-clause-judged
 returns-clause-judged c = λ k s b outer h.
-    row_valid canons_row (s, b) (map shown_canon_node c.args.canons.now) (OpenAt k c.loop-canon.open outer)
-    (row_last canons_row shown_canon_node (s, b) c.args.canons.now (OpenAt k c.loop-canon.open outer) c.loop-canon.canon-index c.loop-canon-test.false
+    row_valid canons_row (s, b) (map shown_canon_node c.args.canons.now) (OpenAt k c.loop-canon.here outer)
+    (row_last canons_row shown_canon_node (s, b) c.args.canons.now (OpenAt k c.loop-canon.here outer) c.loop-canon.canon-index c.loop-canon-test.false
     (c.loop-canon.invariant k s b outer h))
 
 pub returns-clause-added : goal.returns-clause-added
 returns-clause-added c = λ k s b outer h.
-    row_after canons_row (s, b) (map shown_canon_node c.args.canons.now) (OpenAt k c.loop-canon.open outer)
-    (row_last canons_row shown_canon_node (s, b) c.args.canons.now (OpenAt k c.loop-canon.open outer) c.loop-canon.canon-index c.loop-canon-test.false
+    row_after canons_row (s, b) (map shown_canon_node c.args.canons.now) (OpenAt k c.loop-canon.here outer)
+    (row_last canons_row shown_canon_node (s, b) c.args.canons.now (OpenAt k c.loop-canon.here outer) c.loop-canon.canon-index c.loop-canon-test.false
     (c.loop-canon.invariant k s b outer h)) refl

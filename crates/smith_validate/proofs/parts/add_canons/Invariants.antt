@@ -11,5 +11,5 @@ use Rattle.smith_validate.proofs.parts.add_canons.Given as goal
 
 abbrev pub invariant-loop-canon : goal.invariant-loop-canon
 invariant-loop-canon l =
-    (k : Known) (s : Spaces) (b : Body) (outer : List FactScope) → IsOpen k l.initial.open s b outer
-    → RowFrom canons_row shown_canon_node (s, b) l.canons (OpenAt k l.open outer) l.canon-index
+    (k : Known) (s : Spaces) (b : Body) (outer : List FactScope) → IsOpen k l.initial.here s b outer
+    → RowFrom canons_row shown_canon_node (s, b) l.canons (OpenAt k l.here outer) l.canon-index

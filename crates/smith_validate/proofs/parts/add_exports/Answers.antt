@@ -10,7 +10,7 @@ pub loop-export-init : goal.loop-export-init
 loop-export-init c = record {
   outer = refl;
   left = λ s b outer h. row_all (exports_row outer) (s, b) (map shown_export_node c.args.exports.now)
-      (OpenAt c.args.known.now c.args.open.now outer) h;
+      (OpenAt c.args.known.now c.args.here.now outer) h;
 }
 
 pub loop-export-preserved : goal.loop-export-preserved
@@ -22,12 +22,12 @@ loop-export-preserved c =
           let xs = c.args.exports.now in
           let i = c.loop-export.export-index in
           let x = c.export-item.result in
-          let l = row_at (exports_row outer) shown_export_node (s, b) xs (OpenAt c.loop-export.known c.loop-export.open outer) i x c.loop-export-test.true
+          let l = row_at (exports_row outer) shown_export_node (s, b) xs (OpenAt c.loop-export.known c.loop-export.here outer) i x c.loop-export-test.true
           c.export-item.is
           (c.loop-export.invariant.left s b outer h) in
-          row_more (exports_row outer) (s, b) (map shown_export_node xs) (OpenAt c.loop-export.known c.loop-export.open outer) (shown_export_node x)
+          row_more (exports_row outer) (s, b) (map shown_export_node xs) (OpenAt c.loop-export.known c.loop-export.here outer) (shown_export_node x)
           (map shown_export_node (drop (i + 1) xs)) l
-          (OpenAt c.export_one.new.known c.export_one.new.open outer) (done.judged l.at.0 l.at.1 outer l.is) (done.added l.at.0 l.at.1 outer l.is);
+          (OpenAt c.export_one.new.known c.export_one.new.here outer) (done.judged l.at.0 l.at.1 outer l.is) (done.added l.at.0 l.at.1 outer l.is);
     }
 
 pub returns-in_err-export_one-clause-judged : goal.returns-in_err-export_one-clause-judged
@@ -35,25 +35,25 @@ returns-in_err-export_one-clause-judged c = λ s b outer h.
     let xs = c.args.exports.now in
     let i = c.loop-export.export-index in
     let x = c.export-item.result in
-    let l = row_at (exports_row outer) shown_export_node (s, b) xs (OpenAt c.loop-export.known c.loop-export.open outer) i x c.loop-export-test.true
+    let l = row_at (exports_row outer) shown_export_node (s, b) xs (OpenAt c.loop-export.known c.loop-export.here outer) i x c.loop-export-test.true
     c.export-item.is
     (c.loop-export.invariant.left s b outer h) in
     passed_on _ _ c.from_residual.ensures.1
-    (row_exit (exports_row outer) (s, b) (map shown_export_node xs) (OpenAt c.loop-export.known c.loop-export.open outer) (shown_export_node x)
+    (row_exit (exports_row outer) (s, b) (map shown_export_node xs) (OpenAt c.loop-export.known c.loop-export.here outer) (shown_export_node x)
     (map shown_export_node (drop (i + 1) xs)) l
     ((c.in_err-export_one.ensures {u = tt}).judged l.at.0 l.at.1 outer l.is))
 
 pub returns-clause-judged : goal.returns-clause-judged
 returns-clause-judged c = λ s b outer h.
-    row_valid (exports_row outer) (s, b) (map shown_export_node c.args.exports.now) (OpenAt c.loop-export.known c.loop-export.open outer)
-    (row_last (exports_row outer) shown_export_node (s, b) c.args.exports.now (OpenAt c.loop-export.known c.loop-export.open outer)
+    row_valid (exports_row outer) (s, b) (map shown_export_node c.args.exports.now) (OpenAt c.loop-export.known c.loop-export.here outer)
+    (row_last (exports_row outer) shown_export_node (s, b) c.args.exports.now (OpenAt c.loop-export.known c.loop-export.here outer)
     c.loop-export.export-index c.loop-export-test.false
     (c.loop-export.invariant.left s b outer h))
 
 pub returns-clause-added : goal.returns-clause-added
 returns-clause-added c = λ s b outer h.
-    row_after (exports_row outer) (s, b) (map shown_export_node c.args.exports.now) (OpenAt c.loop-export.known c.loop-export.open outer)
-    (row_last (exports_row outer) shown_export_node (s, b) c.args.exports.now (OpenAt c.loop-export.known c.loop-export.open outer)
+    row_after (exports_row outer) (s, b) (map shown_export_node c.args.exports.now) (OpenAt c.loop-export.known c.loop-export.here outer)
+    (row_last (exports_row outer) shown_export_node (s, b) c.args.exports.now (OpenAt c.loop-export.known c.loop-export.here outer)
     c.loop-export.export-index c.loop-export-test.false
     (c.loop-export.invariant.left s b outer h)) refl
 

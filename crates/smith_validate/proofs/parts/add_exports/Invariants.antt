@@ -12,6 +12,6 @@ use Rattle.smith_validate.proofs.parts.add_exports.Given as goal
 abbrev pub invariant-loop-export : goal.invariant-loop-export
 invariant-loop-export l = record {
   outer : outer_in l.known ≡ outer_in l.initial.known;
-  left : (s : Spaces) (b : Body) (outer : List FactScope) → IsOpen l.initial.known l.initial.open s b outer
-      → RowFrom (exports_row outer) shown_export_node (s, b) l.exports (OpenAt l.known l.open outer) l.export-index;
+  left : (s : Spaces) (b : Body) (outer : List FactScope) → IsOpen l.initial.known l.initial.here s b outer
+      → RowFrom (exports_row outer) shown_export_node (s, b) l.exports (OpenAt l.known l.here outer) l.export-index;
 }

@@ -8,7 +8,7 @@ use Rattle.smith_validate.proofs.parts.add_imports.Goals as goal
 
 pub loop-import-init : goal.loop-import-init
 loop-import-init c = λ s b outer h. row_all (imports_row outer) (s, b) (map shown_import_node c.args.imports.now)
-    (OpenAt c.args.known.now c.args.open.now outer) h
+    (OpenAt c.args.known.now c.args.here.now outer) h
 
 pub loop-import-preserved : goal.loop-import-preserved
 loop-import-preserved c =
@@ -17,36 +17,36 @@ loop-import-preserved c =
     let xs = c.args.imports.now in
     let i = c.loop-import.import-index in
     let x = c.import-item.result in
-    let l = row_at (imports_row outer) shown_import_node (s, b) xs (OpenAt c.args.known.now c.loop-import.open outer) i x c.loop-import-test.true
+    let l = row_at (imports_row outer) shown_import_node (s, b) xs (OpenAt c.args.known.now c.loop-import.here outer) i x c.loop-import-test.true
     c.import-item.is
     (c.loop-import.invariant s b outer h) in
-    row_more (imports_row outer) (s, b) (map shown_import_node xs) (OpenAt c.args.known.now c.loop-import.open outer) (shown_import_node x)
+    row_more (imports_row outer) (s, b) (map shown_import_node xs) (OpenAt c.args.known.now c.loop-import.here outer) (shown_import_node x)
     (map shown_import_node (drop (i + 1) xs)) l
-    (OpenAt c.args.known.now c.import_one.new.open outer) (done.judged l.at.0 l.at.1 outer l.is) (done.added l.at.0 l.at.1 outer l.is))
+    (OpenAt c.args.known.now c.import_one.new.here outer) (done.judged l.at.0 l.at.1 outer l.is) (done.added l.at.0 l.at.1 outer l.is))
 
 pub returns-in_err-import_one-clause-judged : goal.returns-in_err-import_one-clause-judged
 returns-in_err-import_one-clause-judged c = λ s b outer h.
     let xs = c.args.imports.now in
     let i = c.loop-import.import-index in
     let x = c.import-item.result in
-    let l = row_at (imports_row outer) shown_import_node (s, b) xs (OpenAt c.args.known.now c.loop-import.open outer) i x c.loop-import-test.true
+    let l = row_at (imports_row outer) shown_import_node (s, b) xs (OpenAt c.args.known.now c.loop-import.here outer) i x c.loop-import-test.true
     c.import-item.is
     (c.loop-import.invariant s b outer h) in
     passed_on _ _ c.from_residual.ensures.1
-    (row_exit (imports_row outer) (s, b) (map shown_import_node xs) (OpenAt c.args.known.now c.loop-import.open outer) (shown_import_node x)
+    (row_exit (imports_row outer) (s, b) (map shown_import_node xs) (OpenAt c.args.known.now c.loop-import.here outer) (shown_import_node x)
     (map shown_import_node (drop (i + 1) xs)) l
     ((c.in_err-import_one.ensures {u = tt}).judged l.at.0 l.at.1 outer l.is))
 
 pub returns-clause-judged : goal.returns-clause-judged
 returns-clause-judged c = λ s b outer h.
-    row_valid (imports_row outer) (s, b) (map shown_import_node c.args.imports.now) (OpenAt c.args.known.now c.loop-import.open outer)
-    (row_last (imports_row outer) shown_import_node (s, b) c.args.imports.now (OpenAt c.args.known.now c.loop-import.open outer) c.loop-import.import-index
+    row_valid (imports_row outer) (s, b) (map shown_import_node c.args.imports.now) (OpenAt c.args.known.now c.loop-import.here outer)
+    (row_last (imports_row outer) shown_import_node (s, b) c.args.imports.now (OpenAt c.args.known.now c.loop-import.here outer) c.loop-import.import-index
     c.loop-import-test.false
     (c.loop-import.invariant s b outer h))
 
 pub returns-clause-added : goal.returns-clause-added
 returns-clause-added c = λ s b outer h.
-    row_after (imports_row outer) (s, b) (map shown_import_node c.args.imports.now) (OpenAt c.args.known.now c.loop-import.open outer)
-    (row_last (imports_row outer) shown_import_node (s, b) c.args.imports.now (OpenAt c.args.known.now c.loop-import.open outer) c.loop-import.import-index
+    row_after (imports_row outer) (s, b) (map shown_import_node c.args.imports.now) (OpenAt c.args.known.now c.loop-import.here outer)
+    (row_last (imports_row outer) shown_import_node (s, b) c.args.imports.now (OpenAt c.args.known.now c.loop-import.here outer) c.loop-import.import-index
     c.loop-import-test.false
     (c.loop-import.invariant s b outer h)) refl

@@ -10,5 +10,5 @@ use Rattle.smith_validate.proofs.parts.add_imports.Given as goal
 
 abbrev pub invariant-loop-import : goal.invariant-loop-import
 invariant-loop-import l =
-    (s : Spaces) (b : Body) (outer : List FactScope) → IsOpen l.known l.initial.open s b outer
-    → RowFrom (imports_row outer) shown_import_node (s, b) l.imports (OpenAt l.known l.open outer) l.import-index
+    (s : Spaces) (b : Body) (outer : List FactScope) → IsOpen l.known l.initial.here s b outer
+    → RowFrom (imports_row outer) shown_import_node (s, b) l.imports (OpenAt l.known l.here outer) l.import-index
