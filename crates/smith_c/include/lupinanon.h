@@ -173,8 +173,8 @@ int32_t lupinanon_check(const uint8_t *bytes, size_t bytes_len, size_t *offset);
  *
  * LUPINANON_ANSWERED: *script_len bytes are written.
  * LUPINANON_NO_ROOM: *script_len is how long the script is, and otherwise it is 0. Nothing is written to the output.
- * LUPINANON_NO_SCRIPT: no input produces the component within the limits. *offset is where what its script produces
- * first differs, so far as there is one, or LUPINANON_NO_OFFSET.
+ * LUPINANON_NO_SCRIPT: no input produces the component within the limits, unless finish_after is above 0 and the input
+ * ends in it. *offset is where what its script produces first differs, so far as there is one, or LUPINANON_NO_OFFSET.
  * LUPINANON_UNREAD: as of lupinanon_check, with its *offset.
  * LUPINANON_ILL_FORMED: as of lupinanon_check, which also knows the entry.
  * *offset is LUPINANON_NO_OFFSET where the status is another.
