@@ -1,26 +1,33 @@
 -- The declarations of a component type or an instance type one by one.
-use Rattle.std.proofs.Common.{◌≡◌, ℕ, ◌+◌, ◌<◌, ◌≤◌, Bool, true, false, List, ◌∷◌, map, length, get_or, ap, ◌∙◌, subst, refl, arith, Option, Some, None}
+use Rattle.std.proofs.Common.{◌≡◌, ℕ, ◌+◌, ◌<◌, ◌≤◌, Bool, List, [], ◌∷◌, ◌++◌, map, length, reverse, get_or, ap}
+use Rattle.std.proofs.Common.{sym, ◌∙◌, subst, refl, arith, Option, Some, None}
+use Rattle.std.proofs.Common.{append-nil, append_assoc, length-append}
+use Rattle.std.proofs.lemmas.List.{map-append, reverse-append}
 use Rattle.std.proofs.Math.ListN.{drop}
 use Rattle.std.proofs.lemmas.Option.{slice_get-map}
 use Rattle.std.specs.Option.{option_map}
 use Rattle.std.specs.Prelude.{slice_get}
 use Rattle.smith_input.proofs.Rests.{drop_past, rest_at}
-use Rattle.smith_syntax.specs.Entries.{Decl, Decls, export_decl, in_order, no_decls, then_decls}
+use Rattle.smith_syntax.specs.Entries.{Decl, Decls, in_order, no_decls, then_decls}
 use Rattle.smith_syntax.specs.Scope.{empty_scope}
-use Rattle.smith_syntax.specs.declared.deftype.ComponentTypeRef.{ComponentTypeRef}
 use Rattle.smith_validity.specs.Bodies.{Body, IsSmall, after_decl, after_decls, empty_body, named_in}
-use Rattle.smith_validity.specs.Facts.{FactScope}
-use Rattle.smith_validity.specs.Validates.{NoDemand, ValidDecl, ValidDecls}
+use Rattle.smith_validity.specs.Facts.{FactScope, Id}
+use Rattle.smith_validity.specs.Validates.{ValidDecl, ValidDecls}
 use Rattle.smith_read_types.specs.TypeNodes.{shown_decl_node}
 use Rattle.smith_read_types.specs.declared.nodes.DeclNode.{DeclNode}
-use Rattle.smith_validate.specs.Bodies.{IsBody, IsEmpty, IsIn}
+use Rattle.smith_validate.specs.Bodies.{IsBody, IsBodyNow, IsEmpty, IsFresh, IsIn, IsRole, demanded}
+use Rattle.smith_validate.specs.Instances.{AreKept, Exports, IsTable, ScopesKept}
 use Rattle.smith_validate.specs.Judges.{Refutes}
-use Rattle.smith_validate.specs.Kept.{Kept, capped, kept_core, kept_of, named_at, outer_in, own_in}
+use Rattle.smith_validate.specs.Kept.{Kept, capped, kept_core, kept_in, kept_of, named_at, outer_in, outer_types, own_in, types_in}
+use Rattle.smith_validate.specs.Nested.{IsJudged}
 use Rattle.smith_validate.specs.declared.body.Body.{Body as KeptBody}
 use Rattle.smith_validate.specs.declared.error.Stop.{Stop}
 use Rattle.smith_validate.specs.declared.facts.CoreFacts.{CoreFacts as KeptCore}
 use Rattle.smith_validate.specs.declared.known.Known.{Known}
+use Rattle.smith_validate.specs.declared.known.Scope.{Scope}
 use Rattle.smith_validate.proofs.Judging.{Same, refute_by}
+use Rattle.smith_validate.proofs.Roles.{role_fresh}
+use Rattle.smith_validate.proofs.Tables.{are_kept_more, scopes_more}
 
 pub empty_small : IsSmall empty_body
 empty_small = (
@@ -36,112 +43,200 @@ empty_small = (
   },
 )
 
--- nothing is asked of names
-pub nothing_asked : (asks : Bool) (name : List ℕ) (r : ComponentTypeRef) (outer : List FactScope) (b : Body)
-    → ValidDecl NoDemand asks (export_decl name tt r) outer b
-nothing_asked true name r outer b = tt
-nothing_asked false name r outer b = tt
-
 -- what an outer alias names
 
-pub scopes_kept : (k : Known) (own : FactScope) (outer : List FactScope) → IsIn k own outer → own_in k ∷ outer_in k ≡ map kept_of (own ∷ outer)
-scopes_kept k own outer s = ap (λ o. o ∷ outer_in k) s.own_is ∙ ap (λ os. kept_of own ∷ os) s.outer_is
+pub scopes_kept : (k : Known) (own : FactScope) (outer : List FactScope) (here : List Id) (names : List (List Id)) (table : List Exports)
+    → IsIn k own outer here names table → own_in k ∷ outer_in k ≡ map kept_of (own ∷ outer)
+scopes_kept k own outer here names table s = ap (λ o. o ∷ outer_in k) s.own_is ∙ ap (λ os. kept_of own ∷ os) s.outer_is
 
 module _ (count i : ℕ) where
-  types_in : (o : Option FactScope)
+  types_of_scope : (o : Option FactScope)
       → (elim (option_map kept_of o) as (λ x. Option ℕ) [ None ↦ None | Some s ↦ slice_get s.types i ])
       ≡ option_map (λ f. capped f.size) (elim o [ None ↦ None | Some s ↦ slice_get s.types i ])
-  types_in None = refl
-  types_in (Some s) = slice_get-map (λ f. capped f.size) s.types i
+  types_of_scope None = refl
+  types_of_scope (Some s) = slice_get-map (λ f. capped f.size) s.types i
 
   pub type_kept : (scopes : List FactScope) → named_at (λ s. s.types) (map kept_of scopes) count i
       ≡ option_map (λ f. capped f.size) (named_in (λ s. s.types) scopes count i)
   type_kept scopes =
       let F : Option Kept → Option ℕ = λ o. elim o [ None ↦ None | Some s ↦ slice_get s.types i ] in
-      ap F (slice_get-map kept_of scopes count) ∙ types_in (slice_get scopes count)
+      ap F (slice_get-map kept_of scopes count) ∙ types_of_scope (slice_get scopes count)
 
-  cores_in : (o : Option FactScope)
+  cores_of_scope : (o : Option FactScope)
       → (elim (option_map kept_of o) as (λ x. Option KeptCore) [ None ↦ None | Some s ↦ slice_get s.core_types i ])
       ≡ option_map kept_core (elim o [ None ↦ None | Some s ↦ slice_get s.core_types i ])
-  cores_in None = refl
-  cores_in (Some s) = slice_get-map kept_core s.core_types i
+  cores_of_scope None = refl
+  cores_of_scope (Some s) = slice_get-map kept_core s.core_types i
 
   pub core_kept : (scopes : List FactScope) → named_at (λ s. s.core_types) (map kept_of scopes) count i
       ≡ option_map kept_core (named_in (λ s. s.core_types) scopes count i)
   core_kept scopes =
       let F : Option Kept → Option KeptCore = λ o. elim o [ None ↦ None | Some s ↦ slice_get s.core_types i ] in
-      ap F (slice_get-map kept_of scopes count) ∙ cores_in (slice_get scopes count)
+      ap F (slice_get-map kept_of scopes count) ∙ cores_of_scope (slice_get scopes count)
 
--- What was judged and what is left are the whole, where b stands before what is left.
-pub record DeclsLeft (own : FactScope) (outer : List FactScope) (all : Decls) (k : Known) (o : KeptBody) (rest : Decls) : Type 0 where
-  pub b : Body
-  pub is : IsBody k o b (own ∷ outer)
-  pub left : (asks : Bool) → Same (ValidDecls NoDemand asks all (own ∷ outer) empty_body) (ValidDecls NoDemand asks rest (own ∷ outer) b)
-  pub after : after_decls all (own ∷ outer) empty_body ≡ after_decls rest (own ∷ outer) b
+-- the scopes after one was entered, and after one was left
 
-module _ (own : FactScope) (outer : List FactScope) (all : Decls) where
-  pub decls_begin : (k new : Known) (o : KeptBody) → IsIn k own outer → IsEmpty o → own_in new ≡ empty_scope → outer_in new ≡ own_in k ∷ outer_in k
-      → DeclsLeft own outer all new o all
-  decls_begin k new o s e n r = record {
-    b = empty_body;
-    is = record {
-      scopes = record { own_is = n; outer_is = r ∙ scopes_kept k own outer s };
-      size_is = e.size_is;
-      counts_are = e.counts_are;
-      small = (
-        omega arith,
-        record {
-          types = omega arith;
-          functions = omega arith;
-          modules = omega arith;
-          components = omega arith;
-          instances = omega arith;
-          imports = omega arith;
-          exports = omega arith;
-        },
-      );
-    };
-    left = λ asks. record { to = λ p. p; from = λ p. p };
-    after = refl;
+outer_sizes : (old : Known) (os : List Scope) → os ≡ old.outer.items ++ old.own ∷ [] → reverse (map kept_in os) ≡ own_in old ∷ outer_in old
+outer_sizes old os e =
+    ap (λ xs. reverse (map kept_in xs)) e
+    ∙ (ap reverse (map-append kept_in old.outer.items (old.own ∷ [])) ∙ reverse-append (map kept_in old.outer.items) (kept_in old.own ∷ []))
+
+outer_kept : (old : Known) (os : List Scope) → os ≡ old.outer.items ++ old.own ∷ [] → reverse (map (λ o. o.types.items) os) ≡ types_in old
+outer_kept old os e =
+    ap (λ xs. reverse (map (λ o. o.types.items) xs)) e
+    ∙ (ap reverse (map-append (λ o. o.types.items) old.outer.items (old.own ∷ []))
+    ∙ reverse-append (map (λ o. o.types.items) old.outer.items) (old.own.types.items ∷ []))
+
+module _ (k new : Known) (own : FactScope) (outer : List FactScope) (here : List Id) (names : List (List Id)) (table : List Exports)
+    (s : IsIn k own outer here names table) where
+  pub in_entered : own_in new ≡ empty_scope → new.own.types.items ≡ [] → new.outer.items ≡ k.outer.items ++ k.own ∷ []
+      → new.instances.items ≡ k.instances.items → IsIn new empty_scope (own ∷ outer) [] (here ∷ names) table
+  in_entered sizes types outers instances = record {
+    own_is = sizes;
+    outer_is = outer_sizes k new.outer.items outers ∙ scopes_kept k own outer here names table s;
+    types_are = (
+      subst (λ ks. AreKept table ([] ∷ here ∷ names) ks []) (sym types) tt,
+      subst (λ kss. ScopesKept table (here ∷ names) kss (own ∷ outer)) (sym (outer_kept k new.outer.items outers)) s.types_are,
+    );
+    instances_are = subst (λ ts. IsTable ts table) (sym instances) s.instances_are;
+    depth_is = omega (arith, s.depth_is, ap (λ (os : List Scope). length os) outers, length-append k.outer.items (k.own ∷ []));
   }
 
-  module _ (k : Known) (o : KeptBody) (d : Decl) (rest : Decls) (l : DeclsLeft own outer all k o (then_decls d rest)) where
+  pub in_again : (more : List Exports) → new.own ≡ k.own → new.outer.items ≡ k.outer.items → IsTable new.instances.items (table ++ more)
+      → IsIn new own outer here names (table ++ more)
+  in_again more same outers instances = record {
+    own_is = ap kept_in same ∙ s.own_is;
+    outer_is = ap (λ os. reverse (map kept_in os)) outers ∙ s.outer_is;
+    types_are = (
+      subst (λ (o : Scope). AreKept (table ++ more) (here ∷ names) o.types.items own.types) (sym same)
+          (are_kept_more table more (here ∷ names) k.own.types.items own.types s.types_are.0),
+      subst (λ (os : List Scope). ScopesKept (table ++ more) names (reverse (map (λ o. o.types.items) os)) outer) (sym outers)
+          (scopes_more table more names (outer_types k) outer s.types_are.1),
+    );
+    instances_are = instances;
+    depth_is = s.depth_is ∙ ap (λ (os : List Scope). length os) (sym outers);
+  }
+
+no_more : {A : Type 0} (ys : List A) (y : A) → [] ≡ ys ++ y ∷ [] → ⊥
+no_more [] y e = let t : [] ≡ y ∷ [] = e in cc
+no_more (z ∷ ys) y e = let t : [] ≡ z ∷ (ys ++ y ∷ []) = e in cc
+
+pub last_same : {A : Type 0} (xs ys : List A) (x y : A) → xs ++ x ∷ [] ≡ ys ++ y ∷ [] → (x ≡ y) × (xs ≡ ys)
+last_same [] [] x y e = let t : x ∷ [] ≡ y ∷ [] = e in (cc, refl)
+last_same [] (z ∷ ys) x y e = let t : x ∷ [] ≡ z ∷ (ys ++ y ∷ []) = e in absurd (no_more ys y (let u : [] ≡ ys ++ y ∷ [] = cc in u))
+last_same (z ∷ xs) [] x y e =
+    let t : z ∷ (xs ++ x ∷ []) ≡ y ∷ [] = e in absurd (no_more xs x (let u : [] ≡ xs ++ x ∷ [] = let v : xs ++ x ∷ [] ≡ [] = cc in sym v in u))
+last_same (z ∷ xs) (w ∷ ys) x y e =
+    let t : z ∷ (xs ++ x ∷ []) ≡ w ∷ (ys ++ y ∷ []) = e in
+    let h : z ≡ w = cc in
+    let r = last_same xs ys x y (let u : xs ++ x ∷ [] ≡ ys ++ y ∷ [] = cc in u) in
+    (r.0, ap (λ v. v ∷ xs) h ∙ ap (λ vs. w ∷ vs) r.1)
+
+-- with types of instances more, or none
+
+pub body_now : (asks : Bool) (k : Known) (o : KeptBody) (b : Body) (outer : List FactScope) (names : List (List Id)) (table : List Exports)
+    → IsBody asks k o b outer names table → IsBodyNow asks k o b outer names table
+body_now asks k o b outer names table h = ([], subst (λ t. IsBody asks k o b outer names t) (sym (append-nil table)) h)
+
+pub body_more : (asks : Bool) (k : Known) (o : KeptBody) (b : Body) (outer : List FactScope) (names : List (List Id)) (table more : List Exports)
+    → IsBodyNow asks k o b outer names (table ++ more) → IsBodyNow asks k o b outer names table
+body_more asks k o b outer names table more h = (more ++ h.0, subst (λ t. IsBody asks k o b outer names t) (append_assoc table more h.0) h.1)
+
+-- What was judged and what is left are the whole, where b stands before what is left.
+pub record DeclsLeft (asks : Bool) (own : FactScope) (outer : List FactScope) (names : List (List Id)) (table : List Exports) (all : Decls)
+    (k : Known) (o : KeptBody)
+    (rest : Decls) : Type 0 where
+  pub b : Body
+  pub more : List Exports
+  pub is : IsBody asks k o b (own ∷ outer) names (table ++ more)
+  pub left : (d : Bool) → Same (ValidDecls (demanded d) asks all (own ∷ outer) empty_body) (ValidDecls (demanded d) asks rest (own ∷ outer) b)
+  pub after : after_decls all (own ∷ outer) empty_body ≡ after_decls rest (own ∷ outer) b
+
+module _ (asks : Bool) (own : FactScope) (outer : List FactScope) (all : Decls) where
+  pub decls_begin : (here : List Id) (names : List (List Id)) (table : List Exports) (k new : Known) (o : KeptBody) → IsIn k own outer here names table
+      → IsEmpty o → IsFresh asks o.role → own_in new ≡ empty_scope → new.own.types.items ≡ [] → new.outer.items ≡ k.outer.items ++ k.own ∷ []
+      → new.instances.items ≡ k.instances.items → DeclsLeft asks own outer (here ∷ names) table all new o all
+  decls_begin here names table k new o s e f n t r i =
+      let begin = body_now asks new o empty_body (own ∷ outer) (here ∷ names) table
+      (record {
+        scopes = in_entered k new own outer here names table s n t r i;
+        size_is = e.size_is;
+        counts_are = e.counts_are;
+        small = empty_small;
+        role_is = role_fresh table (here ∷ names) asks o.role f;
+      }) in
+      record {
+        b = empty_body;
+        more = begin.0;
+        is = begin.1;
+        left = λ d. record { to = λ p. p; from = λ p. p };
+        after = refl;
+      }
+
+  module _ (names : List (List Id)) (table : List Exports) (k : Known) (o : KeptBody) (d : Decl) (rest : Decls)
+      (l : DeclsLeft asks own outer names table all k o (then_decls d rest)) where
     pub decls_more : (new : Known) (p : KeptBody)
-        → ((asks : Bool) → ValidDecl NoDemand asks d (own ∷ outer) l.b × IsSmall (after_decl d (own ∷ outer) l.b))
-        → IsBody new p (after_decl d (own ∷ outer) l.b) (own ∷ outer) → DeclsLeft own outer all new p rest
-    decls_more new p j n = record {
-      b = after_decl d (own ∷ outer) l.b;
-      is = n;
-      left = λ asks. record {
-        to = λ q. ((l.left asks).to q).2;
-        from = λ q. (l.left asks).from ((j asks).0, (j asks).1, q);
-      };
-      after = l.after;
-    }
+        → ((demand : Bool) → ValidDecl (demanded demand) asks d (own ∷ outer) l.b × IsSmall (after_decl d (own ∷ outer) l.b))
+        → IsBodyNow asks new p (after_decl d (own ∷ outer) l.b) (own ∷ outer) names (table ++ l.more) → DeclsLeft asks own outer names table all new p rest
+    decls_more new p j n =
+        let now = body_more asks new p (after_decl d (own ∷ outer) l.b) (own ∷ outer) names table l.more n in
+        record {
+          b = after_decl d (own ∷ outer) l.b;
+          more = now.0;
+          is = now.1;
+          left = λ demand. record {
+            to = λ q. ((l.left demand).to q).2;
+            from = λ q. (l.left demand).from ((j demand).0, (j demand).1, q);
+          };
+          after = l.after;
+        }
 
-    pub decls_exit : {e : Stop} (asks : Bool)
-        → Refutes e (ValidDecl NoDemand asks d (own ∷ outer) l.b × IsSmall (after_decl d (own ∷ outer) l.b))
-        → Refutes e (ValidDecls NoDemand asks all (own ∷ outer) empty_body)
-    decls_exit asks r = refute_by (λ q. let h = (l.left asks).to q in (h.0, h.1)) r
+    pub decls_exit : {e : Stop} (demand : Bool)
+        → Refutes e (ValidDecl (demanded demand) asks d (own ∷ outer) l.b × IsSmall (after_decl d (own ∷ outer) l.b))
+        → Refutes e (ValidDecls (demanded demand) asks all (own ∷ outer) empty_body)
+    decls_exit demand r = refute_by (λ q. let h = (l.left demand).to q in (h.0, h.1)) r
 
-  module _ (k : Known) (o : KeptBody) (l : DeclsLeft own outer all k o no_decls) where
-    pub decls_end : (asks : Bool) → ValidDecls NoDemand asks all (own ∷ outer) empty_body
-    decls_end asks = (l.left asks).from tt
+  module _ (names : List (List Id)) (table : List Exports) (k : Known) (o : KeptBody) (l : DeclsLeft asks own outer names table all k o no_decls) where
+    pub decls_end : (demand : Bool) → ValidDecls (demanded demand) asks all (own ∷ outer) empty_body
+    decls_end demand = (l.left demand).from tt
 
-    pub decls_size : o.size ≡ capped (after_decls all (own ∷ outer) empty_body).size
-    decls_size =
+    pub decls_judged : (new : Known) → new.instances.items ≡ k.instances.items
+        → IsJudged asks new o (after_decls all (own ∷ outer) empty_body) names table
+    decls_judged new i =
         let s : (after_decls all (own ∷ outer) empty_body).size ≡ l.b.size = ap (λ x. x.size) l.after in
-        omega (arith, l.is.size_is, l.is.small.0, s)
+        record {
+          more = l.more;
+          instances_are = subst (λ ts. IsTable ts (table ++ l.more)) (sym i) l.is.scopes.instances_are;
+          size_is = omega (arith, l.is.size_is, l.is.small.0, s);
+          role_is = subst (λ b. IsRole (table ++ l.more) names asks o.role b) (sym l.after) l.is.role_is;
+        }
 
 -- what is left of the declarations of a node
-module _ (own : FactScope) (outer : List FactScope) (ds : List DeclNode) (k : Known) (o : KeptBody) (i : ℕ) where
+module _ (asks : Bool) (own : FactScope) (outer : List FactScope) (names : List (List Id)) (table : List Exports) (ds : List DeclNode) (k : Known)
+    (o : KeptBody) (i : ℕ) where
   abbrev pub DeclsFrom : Type 0
-  DeclsFrom = DeclsLeft own outer (in_order (map shown_decl_node ds)) k o (in_order (map shown_decl_node (drop i ds)))
+  DeclsFrom = DeclsLeft asks own outer names table (in_order (map shown_decl_node ds)) k o (in_order (map shown_decl_node (drop i ds)))
 
   pub decls_at : (d : DeclNode) → i < length ds → d ≡ get_or ds i d → DeclsFrom
-      → DeclsLeft own outer (in_order (map shown_decl_node ds)) k o (then_decls (shown_decl_node d) (in_order (map shown_decl_node (drop (i + 1) ds))))
+      → DeclsLeft asks own outer names table (in_order (map shown_decl_node ds)) k o
+      (then_decls (shown_decl_node d) (in_order (map shown_decl_node (drop (i + 1) ds))))
   decls_at d h e l =
-      subst (λ ys. DeclsLeft own outer (in_order (map shown_decl_node ds)) k o (in_order (map shown_decl_node ys))) (rest_at ds i d h e) l
+      subst (λ ys. DeclsLeft asks own outer names table (in_order (map shown_decl_node ds)) k o (in_order (map shown_decl_node ys))) (rest_at ds i d h e) l
 
-  pub decls_last : length ds ≤ i → DeclsFrom → DeclsLeft own outer (in_order (map shown_decl_node ds)) k o no_decls
-  decls_last h l = subst (λ ys. DeclsLeft own outer (in_order (map shown_decl_node ds)) k o (in_order (map shown_decl_node ys))) (drop_past ds i h) l
+  pub decls_last : length ds ≤ i → DeclsFrom → DeclsLeft asks own outer names table (in_order (map shown_decl_node ds)) k o no_decls
+  decls_last h l =
+      subst (λ ys. DeclsLeft asks own outer names table (in_order (map shown_decl_node ds)) k o (in_order (map shown_decl_node ys))) (drop_past ds i h) l
+
+-- nothing is known before a component
+pub in_start : (k : Known) → own_in k ≡ empty_scope → k.own.types.items ≡ [] → k.outer.items ≡ [] → k.instances.items ≡ []
+    → IsIn k empty_scope [] [] [] []
+in_start k sizes types outers instances = record {
+  own_is = sizes;
+  outer_is = ap (λ os. reverse (map kept_in os)) outers;
+  types_are = (
+    subst (λ ks. AreKept [] ([] ∷ []) ks []) (sym types) tt,
+    subst (λ (os : List Scope). ScopesKept [] [] (reverse (map (λ o. o.types.items) os)) []) (sym outers) tt,
+  );
+  instances_are = subst (λ ts. IsTable ts []) (sym instances) tt;
+  depth_is = ap (λ (os : List Scope). length os) (sym outers);
+}

@@ -1,8 +1,15 @@
 -- Steps of judgements.
-use Rattle.std.proofs.Common.{◌≡◌, ℕ, ◌+◌, ◌<◌, List, length, map, get_or, sym, subst, Result, Ok, Err, IsErrAnd}
+use Rattle.std.proofs.Common.{◌≡◌, ℕ, ◌+◌, ◌<◌, Bool, true, false, List, length, map, get_or, sym, subst, Result, Ok, Err, IsErrAnd}
 use Rattle.std.proofs.Math.ListN.{drop}
 use Rattle.smith_input.proofs.Rests.{rest_at}
-use Rattle.std.specs.Prelude.{OnOk, ◌∷◌}
+use Rattle.std.specs.Prelude.{IfOk, OnOk, ◌∷◌}
+use Rattle.smith_syntax.specs.Entries.{export_decl}
+use Rattle.smith_syntax.specs.declared.deftype.ComponentTypeRef.{ComponentTypeRef}
+use Rattle.smith_validity.specs.Bodies.{Body, IsSmall, after_export, externs_at}
+use Rattle.smith_validity.specs.Facts.{Extern, FactScope, Id}
+use Rattle.smith_validity.specs.Validates.{RefersTo, ValidDecl, exported}
+use Rattle.smith_validate.specs.Bodies.{demanded}
+use Rattle.smith_validate.specs.Externs.{IsAsked, IsAskedFor}
 use Rattle.smith_validate.specs.Judges.{Judges, Refutes}
 use Rattle.smith_validate.specs.declared.error.Stop.{Stop}
 use Rattle.smith_validate.specs.declared.error.Stop.TheVariants.{OutOfMemory}
@@ -63,3 +70,23 @@ module _ {A B : Type 0} (shown : A → B) (xs : List A) (i : ℕ) where
 pub on_judged : {A : Type 0} (r : Result A Stop) {P Q R S : Type 0} → (P → Q → R → S) → OnOk r P → OnOk r Q → Judges r R → OnOk r S
 on_judged (Ok x) {P} {Q} {R} {S} f p q j = f p q j
 on_judged (Err e) {P} {Q} {R} {S} f p q j = tt
+
+-- what is demanded of names
+
+pub demand_met : (d : Bool) (named : List Id) (xs : List Extern) → RefersTo named xs → demanded d named xs
+demand_met true named xs r = r
+demand_met false named xs r = tt
+
+pub asked_met : (d asks : Bool) (named : List Id) (xs : List Extern) → IsAsked asks named xs → IsAskedFor d asks named xs
+asked_met d true named xs r = demand_met d named xs r
+asked_met d false named xs r = tt
+
+pub export_judged : {A : Type 0} (r : Result A Stop) (d asks : Bool) (name : List ℕ) (to : ComponentTypeRef) (outer : List FactScope) (b : Body)
+    → Judges r (IsAskedFor d asks (exported b) (externs_at b.own outer to) × IsSmall (after_export outer b to))
+    → Judges r (ValidDecl (demanded d) asks (export_decl name tt to) outer b × IsSmall (after_export outer b to))
+export_judged r d true name to outer b j = j
+export_judged r d false name to outer b j = j
+
+pub ok_by : {A : Type 0} (r : Result A Stop) {P Q : A → Type 0} → ((x : A) → P x → Q x) → IfOk r P → IfOk r Q
+ok_by (Ok x) {P} {Q} f p = f x p
+ok_by (Err e) {P} {Q} f p = tt

@@ -1,8 +1,17 @@
+pub mod Covering
 pub mod DeclSteps
 pub mod Judging
 pub mod ModuleSteps
+pub mod Names
 pub mod PartRows
 pub mod Rows
 pub mod ScopeSteps
 pub mod Sizes
 pub mod Sums
+pub mod Tables
+pub mod Exposed
+pub mod Valued
+pub mod Roles
+pub mod Externs
+pub mod Sets
+pub mod TypeSteps

@@ -1,5 +1,5 @@
 -- The entries of each section, one by one.
-use Rattle.std.proofs.Common.{◌≡◌, ℕ, List, [], ◌∷◌, ◌++◌, map, fold, refl, ap, Some}
+use Rattle.std.proofs.Common.{◌≡◌, ℕ, Bool, true, List, [], ◌∷◌, ◌++◌, map, fold, refl, ap, sym, subst, append-nil, append_assoc, Some}
 use Rattle.std.specs.Option.{option_to_list}
 use Rattle.std.specs.Prelude.{slice_get}
 use Rattle.std.proofs.lemmas.List.Sums.{fold-append}
@@ -10,17 +10,19 @@ use Rattle.smith_syntax.specs.declared.deftype.ComponentTypeRef.TheVariants as t
 use Rattle.smith_tree.specs.Spaces.{Spaces, after_canon as spaces_after_canon, after_export as spaces_after_export, after_import as spaces_after_import}
 use Rattle.smith_tree.specs.Spaces.{after_part as spaces_after, no_spaces}
 use Rattle.smith_tree.specs.Tree.{Canon, ExportEntry, Part, tree_of}
-use Rattle.smith_validity.specs.Bodies.{Body, IsSmall, after_export, after_import, core_facts, empty_body, facts, with_core_facts, with_facts}
-use Rattle.smith_validity.specs.Facts.{FactScope}
+use Rattle.smith_validity.specs.Bodies.{Body, IsSmall, after_export, after_import, core_facts, empty_body, externs_at, facts, with_core_facts}
+use Rattle.smith_validity.specs.Bodies.{with_facts}
+use Rattle.smith_validity.specs.Facts.{FactScope, Id}
 use Rattle.smith_validity.specs.Sizes.{ValidCore}
-use Rattle.smith_validity.specs.Validates.{NoDemand, ValidCanons, ValidCores, ValidEntries, ValidEntry, ValidExports, ValidImports, after_canon, after_cores}
-use Rattle.smith_validity.specs.Validates.{ValidPart, ValidParts, after_entries, after_part, exported_reference, exported_references, imported_references}
-use Rattle.smith_validate.specs.Bodies.{IsBody, IsEmpty}
+use Rattle.smith_validity.specs.Validates.{ValidCanons, ValidCores, ValidEntries, ValidEntry, ValidExports, ValidImports, after_canon, after_cores}
+use Rattle.smith_validity.specs.Validates.{ValidPart, ValidParts, after_entries, after_part, exported_reference}
+use Rattle.smith_validity.specs.Validates.{exported_references, imported, imported_references}
+use Rattle.smith_validate.specs.Bodies.{IsBody, IsBodyNow, IsEmpty, IsFresh, IsIn, demanded}
+use Rattle.smith_validate.specs.Instances.{Exports}
 use Rattle.smith_validate.specs.Judges.{Refutes}
-use Rattle.smith_validate.specs.Kept.{kept_of, outer_in, own_in}
 use Rattle.smith_validate.specs.Modules.{entries_in}
 use Rattle.smith_validate.specs.Outcome.{Lacks}
-use Rattle.smith_validate.specs.Parts.{IsOpen}
+use Rattle.smith_validate.specs.Parts.{IsOpen, IsOpenNow}
 use Rattle.smith_validate.specs.declared.body.Body.{Body as KeptBody}
 use Rattle.smith_validate.specs.declared.error.Demand.{Demand}
 use Rattle.smith_validate.specs.declared.error.Demand.TheVariants as demand
@@ -29,73 +31,82 @@ use Rattle.smith_validate.specs.declared.known.Known.{Known}
 use Rattle.smith_validate.specs.declared.parts.Open.{Open}
 use Rattle.smith_validate.proofs.DeclSteps.{empty_small}
 use Rattle.smith_validate.proofs.Judging.{Same}
+use Rattle.smith_validate.proofs.Roles.{role_fresh}
 use Rattle.smith_validate.proofs.Rows.{Row}
 
 -- the index spaces, and what is kept beside them
 abbrev pub At : Type 0
 At = Spaces × Body
 
-abbrev pub BodyAt : Known → KeptBody → List FactScope → Body → Type 0
-BodyAt k o outer b = IsBody k o b outer
+module _ (outer : List FactScope) (names : List (List Id)) (table : List Exports) where
+  abbrev pub BodyAt : Known → KeptBody → Body → Type 0
+  BodyAt k o b = IsBody true k o b outer names table
 
-abbrev pub OpenAt : Known → Open → List FactScope → At → Type 0
-OpenAt k o outer at = IsOpen k o at.0 at.1 outer
+  abbrev pub BodyNow : Known → KeptBody → Body → Type 0
+  BodyNow k o b = IsBodyNow true k o b outer names table
+
+  abbrev pub OpenAt : Known → Open → At → Type 0
+  OpenAt k o at = IsOpen k o at.0 at.1 outer names table
+
+  abbrev pub OpenNow : Known → Open → At → Type 0
+  OpenNow k o at = IsOpenNow k o at.0 at.1 outer names table
 
 -- types
 abbrev pub types_row : List FactScope → Row Entry Body
 types_row outer = record {
-  valid = λ es b. ValidEntries NoDemand es outer b;
+  valid = λ d es b. ValidEntries (demanded d) es outer b;
   after = λ es b. after_entries es outer b;
-  one = λ e b. ValidEntry NoDemand e b.own outer × IsSmall (with_facts b (facts e b.own outer ∷ []));
+  one = λ d e b. ValidEntry (demanded d) e b.own outer × IsSmall (with_facts b (facts e b.own outer ∷ []));
   next = λ e b. with_facts b (facts e b.own outer ∷ []);
-  same = λ e rest b. record { to = λ q. ((q.0, q.1), q.2); from = λ q. (q.0.0, q.0.1, q.1) };
+  same = λ d e rest b. record { to = λ q. ((q.0, q.1), q.2); from = λ q. (q.0.0, q.0.1, q.1) };
   step = λ e rest b. refl;
-  none = λ b. tt;
+  none = λ d b. tt;
 }
 
 -- core types
 abbrev pub cores_row : Row CoreEntry Body
 cores_row = record {
-  valid = ValidCores;
+  valid = λ d es b. ValidCores es b;
   after = after_cores;
-  one = λ e b. ValidCore (entries_in b.own) e × IsSmall (with_core_facts b (core_facts e b.own ∷ []));
+  one = λ d e b. ValidCore (entries_in b.own) e × IsSmall (with_core_facts b (core_facts e b.own ∷ []));
   next = λ e b. with_core_facts b (core_facts e b.own ∷ []);
-  same = λ e rest b. record { to = λ q. ((q.0, q.1), q.2); from = λ q. (q.0.0, q.0.1, q.1) };
+  same = λ d e rest b. record { to = λ q. ((q.0, q.1), q.2); from = λ q. (q.0.0, q.0.1, q.1) };
   step = λ e rest b. refl;
-  none = λ b. tt;
+  none = λ d b. tt;
 }
 
 -- canonical functions
 abbrev pub canons_row : Row Canon At
 canons_row = record {
-  valid = λ fs at. ValidCanons fs at.1;
+  valid = λ d fs at. ValidCanons fs at.1;
   after = λ fs at. (fold spaces_after_canon at.0 fs, fold after_canon at.1 fs);
-  one = λ f at. IsSmall (after_canon at.1 f);
+  one = λ d f at. IsSmall (after_canon at.1 f);
   next = λ f at. (spaces_after_canon at.0 f, after_canon at.1 f);
-  same = λ f rest at. record { to = λ q. q; from = λ q. q };
+  same = λ d f rest at. record { to = λ q. q; from = λ q. q };
   step = λ f rest at. refl;
-  none = λ at. tt;
+  none = λ d at. tt;
 }
 
 -- imports
 abbrev pub imports_row : List FactScope → Row ImportEntry At
 imports_row outer = record {
-  valid = λ is at. ValidImports NoDemand (imported_references is) outer at.1;
+  valid = λ d is at. ValidImports (demanded d) (imported_references is) outer at.1;
   after = λ is at. (fold spaces_after_import at.0 is, fold (after_import outer) at.1 (imported_references is));
-  one = λ i at. IsSmall (after_import outer at.1 i.to);
+  one = λ d i at. demanded d (imported at.1) (externs_at at.1.own outer i.to) × IsSmall (after_import outer at.1 i.to);
   next = λ i at. (spaces_after_import at.0 i, after_import outer at.1 i.to);
-  same = λ i rest at. record { to = λ q. (q.1, q.2); from = λ q. (tt, q.0, q.1) };
+  same = λ d i rest at. record { to = λ q. ((q.0, q.1), q.2); from = λ q. (q.0.0, q.0.1, q.1) };
   step = λ i rest at. refl;
-  none = λ at. tt;
+  none = λ d at. tt;
 }
 
 -- exports
 
-pub exports_split : (outer : List FactScope) (xs ys : List ComponentTypeRef) (b : Body)
-    → Same (ValidExports NoDemand (xs ++ ys) outer b) (ValidExports NoDemand xs outer b × ValidExports NoDemand ys outer (fold (after_export outer) b xs))
-exports_split outer [] ys b = record { to = λ q. (tt, q); from = λ q. q.1 }
-exports_split outer (x ∷ xs) ys b =
-    let s = exports_split outer xs ys (after_export outer b x) in
+pub exports_split : (d : Bool) (outer : List FactScope) (xs ys : List ComponentTypeRef) (b : Body)
+    → Same (ValidExports (demanded d) (xs ++ ys) outer b) (ValidExports (demanded d) xs outer b × ValidExports (demanded d) ys outer
+    (fold (after_export outer) b xs))
+exports_split d outer [] ys b = record { to = λ q. (tt, q); from = λ q. q.1 }
+exports_split d outer (x ∷ xs) ys b =
+    let s = exports_split d outer xs ys (after_export outer b x) in
     record { to = λ q. let h = s.to q.2 in ((q.0, q.1, h.0), h.1); from = λ q. (q.0.0, q.0.1, s.from (q.0.2, q.1)) }
 
 pub exports_step : (outer : List FactScope) (e : ExportEntry) (rest : List ExportEntry) (s : Spaces) (b : Body)
@@ -105,38 +116,47 @@ exports_step outer e rest s b = fold-append (after_export outer) b (exported_ref
 
 abbrev pub exports_row : List FactScope → Row ExportEntry At
 exports_row outer = record {
-  valid = λ es at. ValidExports NoDemand (exported_references at.0 es) outer at.1;
+  valid = λ d es at. ValidExports (demanded d) (exported_references at.0 es) outer at.1;
   after = λ es at. (fold spaces_after_export at.0 es, fold (after_export outer) at.1 (exported_references at.0 es));
-  one = λ e at. ValidExports NoDemand (exported_reference at.0 e) outer at.1;
+  one = λ d e at. ValidExports (demanded d) (exported_reference at.0 e) outer at.1;
   next = λ e at. (spaces_after_export at.0 e, fold (after_export outer) at.1 (exported_reference at.0 e));
-  same = λ e rest at. exports_split outer (exported_reference at.0 e) (exported_references (spaces_after_export at.0 e) rest) at.1;
+  same = λ d e rest at. exports_split d outer (exported_reference at.0 e) (exported_references (spaces_after_export at.0 e) rest) at.1;
   step = λ e rest at. ap (λ (y : Body). (fold spaces_after_export (spaces_after_export at.0 e) rest, y)) (exports_step outer e rest at.0 at.1);
-  none = λ at. tt;
+  none = λ d at. tt;
 }
 
 -- Parts. What stands behind all of them is not asked.
 abbrev pub parts_row : List FactScope → Row Part At
 parts_row outer = record {
-  valid = λ ps at. ValidParts NoDemand (tree_of ps) at.0 outer at.1;
+  valid = λ d ps at. ValidParts (demanded d) (tree_of ps) at.0 outer at.1;
   after = λ ps at. (no_spaces, empty_body);
-  one = λ p at. ValidPart NoDemand p at.0 outer at.1;
+  one = λ d p at. ValidPart (demanded d) p at.0 outer at.1;
   next = λ p at. (spaces_after at.0 p, after_part p at.0 outer at.1);
-  same = λ p rest at. record { to = λ q. q; from = λ q. q };
+  same = λ d p rest at. record { to = λ q. q; from = λ q. q };
   step = λ p rest at. refl;
-  none = λ at. tt;
+  none = λ d at. tt;
 }
 
-pub open_begin : (k : Known) (o : Open) (outer : List FactScope) → own_in k ≡ empty_scope → outer_in k ≡ map kept_of outer → o.functions.items ≡ []
-    → IsEmpty o.body → OpenAt k o outer (no_spaces, empty_body)
-open_begin k o outer w r f e = record {
+pub open_now : (k : Known) (o : Open) (s : Spaces) (b : Body) (outer : List FactScope) (names : List (List Id)) (table : List Exports)
+    → IsOpen k o s b outer names table → IsOpenNow k o s b outer names table
+open_now k o s b outer names table h = ([], subst (λ es. IsOpen k o s b outer names es) (sym (append-nil table)) h)
+
+pub open_more : (k : Known) (o : Open) (s : Spaces) (b : Body) (outer : List FactScope) (names : List (List Id)) (table more : List Exports)
+    → IsOpenNow k o s b outer names (table ++ more) → IsOpenNow k o s b outer names table
+open_more k o s b outer names table more h = (more ++ h.0, subst (λ es. IsOpen k o s b outer names es) (append_assoc table more h.0) h.1)
+
+pub open_begin : (k : Known) (o : Open) (outer : List FactScope) (names : List (List Id)) (table : List Exports) → IsIn k empty_scope outer [] names table
+    → o.functions.items ≡ [] → IsEmpty o.body → IsFresh true o.body.role → OpenNow outer names table k o (no_spaces, empty_body)
+open_begin k o outer names table s f e fresh = open_now k o no_spaces empty_body outer names table (record {
   body = record {
-    scopes = record { own_is = w; outer_is = r };
+    scopes = s;
     size_is = e.size_is;
     counts_are = e.counts_are;
     small = empty_small;
+    role_is = role_fresh table names true o.body.role fresh;
   };
   functions_are = f;
-}
+})
 
 -- the export of a function
 

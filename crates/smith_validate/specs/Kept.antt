@@ -1,11 +1,12 @@
 -- What is kept of types and core types for their sizes.
-use Rattle.std.specs.Prelude.{ℕ, List, map, min, reverse, Option, None, Some, slice_get}
+use Rattle.std.specs.Prelude.{ℕ, List, ◌∷◌, map, min, reverse, Option, None, Some, slice_get}
 use Rattle.smith_syntax.specs.Entries.{core_func, core_module}
 use Rattle.smith_syntax.specs.Scope.{ScopeOf}
 use Rattle.smith_validity.specs.Facts.{CoreFacts, FactScope}
 use Rattle.smith_validity.specs.Sizes.{function_size, size_bound}
 use Rattle.smith_validate.specs.declared.facts.CoreFacts.{CoreFacts as KeptCore}
 use Rattle.smith_validate.specs.declared.facts.CoreFacts.TheVariants as core
+use Rattle.smith_validate.specs.declared.facts.Facts.{Facts}
 use Rattle.smith_validate.specs.declared.known.Known.{Known}
 use Rattle.smith_validate.specs.declared.known.Scope.{Scope}
 
@@ -32,6 +33,18 @@ own_in k = kept_in k.own
 
 abbrev pub outer_in : Known → List Kept
 outer_in k = reverse (map kept_in k.outer.items)
+
+-- the types in each of the scopes, and around the innermost, innermost first
+
+abbrev pub outer_types : Known → List (List Facts)
+outer_types k = reverse (map (λ s. s.types.items) k.outer.items)
+
+abbrev pub types_in : Known → List (List Facts)
+types_in k = k.own.types.items ∷ outer_types k
+
+-- the type with that index in the scope of that count
+abbrev pub type_in : List (List Facts) → ℕ → ℕ → Option Facts
+type_in scopes count i = elim (slice_get scopes count) [ None ↦ None | Some ts ↦ slice_get ts i ]
 
 -- what there is in the scope of that count, innermost first
 abbrev pub named_at : {A : Type 0} → (Kept → List A) → List Kept → ℕ → ℕ → Option A

@@ -1,7 +1,13 @@
 pub mod Bodies
 pub mod Counted
+pub mod Nested
+pub mod Exposing
+pub mod Externs
+pub mod Instances
 pub mod Judges
 pub mod Kept
+pub mod Marks
 pub mod Modules
-pub mod Parts
 pub mod Outcome
+pub mod Parts
+pub mod Values

@@ -1,4 +1,4 @@
--- What a judgement of bounds says.
+-- What a judgement says.
 use Rattle.smith_validate.specs.declared.error.Demand.TheVariants.{Named, Size, Count, Memories, Tables}
 use Rattle.smith_validate.specs.declared.error.Demand.{Demand}
 use Rattle.smith_validate.specs.declared.error.Validity.{Validity}
@@ -12,7 +12,7 @@ Lacks Count P = ¬ P
 Lacks Memories P = ¬ P
 Lacks Tables P = ¬ P
 
--- It is `Valid` only where the fact holds, and `Invalid` for a bound only where it does not.
-abbrev pub Bounds : Type 0 → Validity → Type 0
-Bounds P validity.Valid = P
-Bounds P (validity.Invalid shortfall) = Lacks shortfall.demand P
+-- It is `Valid` only where all demands are met, and `Invalid` for a bound only where not all bounds are kept.
+abbrev pub IsOutcome : Type 0 → Type 0 → Validity → Type 0
+IsOutcome all bounds validity.Valid = all
+IsOutcome all bounds (validity.Invalid shortfall) = Lacks shortfall.demand bounds

@@ -1,14 +1,19 @@
 //! A component, a component type or an instance type as far as it was judged.
 
-ghost use Rattle.std.specs.Prelude.{◌≡◌, ◌+◌, ◌<◌, ℕ, OnOk};
+ghost use Rattle.std.specs.Prelude.{◌≡◌, ◌+◌, ◌++◌, ◌<◌, ℕ, [], List, IfErr, OnOk};
+ghost use Rattle.std.specs.Option.{option_to_list};
+ghost use Rattle.smith_validity.specs.Facts.{Id};
 ghost use Rattle.smith_validity.specs.Sizes.{size_bound};
-ghost use Rattle.smith_validate.specs.Bodies.{IsEmpty};
+ghost use Rattle.smith_validate.specs.Bodies.{IsEmpty, IsOther};
+ghost use Rattle.smith_validate.specs.Exposing.{IsSettled};
+ghost use Rattle.smith_validate.specs.Instances.{Exports};
 ghost use Rattle.smith_validate.specs.Judges.{Judges};
 ghost use Rattle.smith_validate.specs.Kept.{capped};
+ghost use Rattle.smith_validate.specs.Marks.{both, closed_needs, is_below, no_needs, not_below};
 
 use crate::counts::Counts;
 use crate::error::{Demand, Stop};
-use crate::facts::{Facts, Needs, Outermost, SIZE_BOUND, size_sum};
+use crate::facts::{Needs, SIZE_BOUND, size_sum};
 use crate::instances::{Exposed, InstanceType, Use};
 use std::alloc::Global;
 
@@ -20,12 +25,24 @@ pub(crate) struct Sets {
 }
 
 impl Sets {
-    pub(crate) fn new(alloc: Global) -> Sets {
+    pub(crate) fn new(alloc: Global) -> Sets
+        ensures imported { (table : List Exports) (named : List Id) → IsSettled table result.imported named }
+        ensures exported { (table : List Exports) (named : List Id) → IsSettled table result.exported named }
+    {
         Sets {
             imported: Exposed::new(alloc),
             exported: Exposed::new(alloc),
         }
     }
+}
+
+/// What an import or an export is of, as far as it has to be named.
+#[derive(Clone, Copy, Debug)]
+pub(crate) struct Extern {
+    /// What it refers to, beside what types of instances name.
+    pub(crate) refers: Needs,
+    /// What it is of a type of instances.
+    pub(crate) used: Option<Use>,
 }
 
 /// What an instance type exports so far.
@@ -36,7 +53,10 @@ pub(crate) struct Exported {
 }
 
 impl Exported {
-    pub(crate) fn new(alloc: Global) -> Exported {
+    pub(crate) fn new(alloc: Global) -> Exported
+        ensures refers { result.refers ≡ no_needs }
+        ensures uses { result.uses.items ≡ [] }
+    {
         Exported {
             refers: Needs::nothing(),
             uses: Vec::new(alloc),
@@ -44,28 +64,58 @@ impl Exported {
     }
 
     /// Adds an export of a function, of a type that is equal to one, or of an instance.
-    pub(crate) fn add(&mut self, facts: Facts) {
-        self.refers = self.refers.with(facts.refers);
+    pub(crate) fn export(&mut self, what: Extern) -> Result<(), Stop>
+        ensures other { IfErr result IsOther }
+        ensures refers { OnOk result (self.new.refers ≡ both self.old.refers what.refers) }
+        ensures uses { OnOk result (self.new.uses.items ≡ self.old.uses.items ++ option_to_list what.used) }
+    {
+        self.refers = self.refers.with(what.refers);
+        if let Some(used) = what.used {
+            self.uses.push(used)?;
+        }
+        Ok(())
     }
 
-    /// The type of instances that is closed in a scope with so many around it, and was opened when so many types had
-    /// been named: what its exports refer to beside what it names itself, and the rest of it.
-    pub(crate) fn close(self, depth: usize, named: usize) -> (Needs, InstanceType) {
-        let Needs { outermost, latest } = self.refers;
-        let outside = if outermost == Outermost::Scope(depth) {
-            Outermost::Nothing
-        } else {
-            outermost
-        };
+    /// The type of instances, in a scope with so many around it: what its exports refer to beside what it names, and
+    /// the rest of it.
+    pub(crate) fn close(self, depth: usize) -> (Needs, InstanceType)
+        ensures refers { result.0 ≡ closed_needs self.refers depth }
+        ensures uses { result.1.uses.items ≡ self.uses.items }
+        ensures own { result.1.refers_to_own ≡ is_below self.refers.innermost depth }
+    {
+        let Needs {
+            outermost,
+            innermost,
+        } = self.refers;
         let ty = InstanceType {
             uses: self.uses,
-            refers_to_own: latest > named,
+            refers_to_own: is_below(innermost, depth),
         };
         let refers = Needs {
-            outermost: outside,
-            latest,
+            outermost: outermost.outside(depth),
+            innermost: not_below(innermost, depth),
         };
         (refers, ty)
+    }
+}
+
+// Whether there is a level, deeper than that one.
+fn is_below(level: Option<usize>, depth: usize) -> bool
+    ensures { result ≡ is_below level depth }
+{
+    match level {
+        Some(level) => depth < level,
+        None => false,
+    }
+}
+
+// The level, or that one where it is deeper.
+fn not_below(level: Option<usize>, depth: usize) -> Option<usize>
+    ensures { result ≡ not_below level depth }
+{
+    match level {
+        Some(level) => Some(level.min(depth)),
+        None => None,
     }
 }
 
@@ -87,7 +137,8 @@ pub(crate) struct Body {
 
 impl Body {
     pub(crate) fn new(role: Role) -> Body
-        ensures { IsEmpty result }
+        ensures empty { IsEmpty result }
+        ensures role { result.role ≡ role }
     {
         Body {
             size: 1,
@@ -101,6 +152,7 @@ impl Body {
         ensures judged { (n : ℕ) → size ≡ capped n → Judges result (self.old.size + n < size_bound) }
         ensures size { (n : ℕ) → size ≡ capped n → OnOk result (self.new.size ≡ self.old.size + n) }
         ensures counts { self.new.counts ≡ self.old.counts }
+        ensures role { self.new.role ≡ self.old.role }
     {
         let size = size_sum(self.size, size);
         if size >= SIZE_BOUND {

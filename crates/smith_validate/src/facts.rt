@@ -2,6 +2,9 @@
 
 ghost use Rattle.std.specs.Prelude.{◌≡◌, ◌+◌};
 ghost use Rattle.smith_validate.specs.Kept.{capped};
+ghost use Rattle.smith_validate.specs.Marks.{both, greater_of, instance_facts, is_nothing, is_within, named_facts};
+ghost use Rattle.smith_validate.specs.Marks.{named_needs, no_needs, nominal_facts, outer_of, outer_outside};
+ghost use Rattle.smith_validate.specs.Marks.{plain_facts, unnamed_needs};
 
 /// Sizes are below it. A greater one is kept as it.
 pub(crate) const SIZE_BOUND: u32 = 1_000_000;
@@ -15,43 +18,119 @@ pub(crate) fn size_sum(one: u32, other: u32) -> u32
 
 /// Where types are named, the outermost of some: nowhere that is known, where one of them is declared alone; in the
 /// scope with so many around it; or, where there are none, nothing.
-#[derive(Clone, Copy, Debug, PartialEq, Eq, PartialOrd, Ord)]
+#[derive(Clone, Copy, Debug)]
 pub(crate) enum Outermost {
     Unnamed,
     Scope(usize),
     Nothing,
 }
 
+impl Outermost {
+    /// That of these and those.
+    fn with(self, other: Outermost) -> Outermost
+        ensures { result ≡ outer_of self other }
+    {
+        match self {
+            Outermost::Unnamed => self,
+            Outermost::Nothing => other,
+            Outermost::Scope(one) => match other {
+                Outermost::Unnamed => other,
+                Outermost::Nothing => self,
+                Outermost::Scope(two) => Outermost::Scope(one.min(two)),
+            },
+        }
+    }
+
+    /// Whether there are no types.
+    pub(crate) fn is_nothing(self) -> bool
+        ensures { result ≡ is_nothing self }
+    {
+        match self {
+            Outermost::Nothing => true,
+            Outermost::Unnamed | Outermost::Scope(_) => false,
+        }
+    }
+
+    /// Whether no scope that names one of them has fewer around it.
+    pub(crate) fn is_within(self, depth: usize) -> bool
+        ensures { result ≡ is_within self depth }
+    {
+        match self {
+            Outermost::Unnamed => false,
+            Outermost::Scope(level) => depth <= level,
+            Outermost::Nothing => true,
+        }
+    }
+
+    /// Without those that are named in scopes with more around them than so many, where all are named there or none.
+    pub(crate) fn outside(self, depth: usize) -> Outermost
+        ensures { result ≡ outer_outside self depth }
+    {
+        match self {
+            Outermost::Scope(level) if depth < level => Outermost::Nothing,
+            Outermost::Unnamed | Outermost::Scope(_) | Outermost::Nothing => self,
+        }
+    }
+}
+
+// The greater of two numbers, each of which may be missing.
+fn greater(one: Option<usize>, two: Option<usize>) -> Option<usize>
+    ensures { result ≡ greater_of one two }
+{
+    match (one, two) {
+        (Some(one), Some(two)) => Some(one.max(two)),
+        (Some(_), None) => one,
+        (None, _) => two,
+    }
+}
+
 /// Types that have to be named, as records, variants, flags and enums have.
 #[derive(Clone, Copy, Debug)]
 pub(crate) struct Needs {
     pub(crate) outermost: Outermost,
-    /// How many had been named when the last of them was, itself among them; 0 where there is none.
-    pub(crate) latest: usize,
+    /// How many scopes there are around the innermost of the open ones that names one of them, itself or in an
+    /// instance type within it.
+    pub(crate) innermost: Option<usize>,
 }
 
 impl Needs {
     /// No types.
-    pub(crate) fn nothing() -> Needs {
+    pub(crate) fn nothing() -> Needs
+        ensures { result ≡ no_needs }
+    {
         Needs {
             outermost: Outermost::Nothing,
-            latest: 0,
+            innermost: None,
         }
     }
 
     /// A type that is declared and not named.
-    pub(crate) fn unnamed() -> Needs {
+    pub(crate) fn unnamed() -> Needs
+        ensures { result ≡ unnamed_needs }
+    {
         Needs {
             outermost: Outermost::Unnamed,
-            latest: 0,
+            innermost: None,
+        }
+    }
+
+    /// A type that is named in the scope with so many around it.
+    fn named(depth: usize) -> Needs
+        ensures { result ≡ named_needs depth }
+    {
+        Needs {
+            outermost: Outermost::Scope(depth),
+            innermost: Some(depth),
         }
     }
 
     /// These and those.
-    pub(crate) fn with(self, other: Needs) -> Needs {
+    pub(crate) fn with(self, other: Needs) -> Needs
+        ensures { result ≡ both self other }
+    {
         Needs {
-            outermost: self.outermost.min(other.outermost),
-            latest: self.latest.max(other.latest),
+            outermost: self.outermost.with(other.outermost),
+            innermost: greater(self.innermost, other.innermost),
         }
     }
 }
@@ -59,7 +138,7 @@ impl Needs {
 /// A type.
 #[derive(Clone, Copy, Debug)]
 pub(crate) struct Facts {
-    /// What it refers to.
+    /// What it refers to. For a type of instances, beside what it names itself.
     pub(crate) refers: Needs,
     /// What has to be named where a value is of it.
     pub(crate) needs: Needs,
@@ -73,7 +152,7 @@ pub(crate) struct Facts {
 impl Facts {
     /// A type of values or of functions.
     pub(crate) fn new(refers: Needs, size: u32) -> Facts
-        ensures { result.size ≡ size }
+        ensures { result ≡ plain_facts refers size }
     {
         Facts {
             refers,
@@ -86,7 +165,7 @@ impl Facts {
 
     /// A record, a variant, flags or an enum, where it is declared.
     pub(crate) fn nominal(refers: Needs, size: u32) -> Facts
-        ensures { result.size ≡ size }
+        ensures { result ≡ nominal_facts refers size }
     {
         Facts {
             refers,
@@ -97,15 +176,25 @@ impl Facts {
         }
     }
 
-    /// A type that is equal to it, named in that scope, when so many types had been named, itself among them.
-    pub(crate) fn named(self, scope: usize, latest: usize) -> Facts
-        ensures { result.size ≡ self.size }
+    /// A type of instances. No value is of it.
+    pub(crate) fn instance(refers: Needs, size: u32, number: usize) -> Facts
+        ensures { result ≡ instance_facts refers size number }
+    {
+        Facts {
+            refers,
+            needs: Needs::unnamed(),
+            nominal: false,
+            size,
+            instance: Some(number),
+        }
+    }
+
+    /// A type that is equal to it, named in the scope with so many around it.
+    pub(crate) fn named(self, depth: usize) -> Facts
+        ensures { result ≡ named_facts self depth }
     {
         let needs = if self.nominal {
-            Needs {
-                outermost: Outermost::Scope(scope),
-                latest,
-            }
+            Needs::named(depth)
         } else {
             self.needs
         };

@@ -1,9 +1,16 @@
 //! What instances export that refers to types which other instances name.
 
+ghost use Rattle.std.specs.Prelude.{◌≡◌, ◌∷◌, ◌+◌, ◌<◌, List, length, option_map, reverse, slice_get, true, IfOk};
+ghost use Rattle.smith_validity.specs.Facts.{Id};
+ghost use Rattle.smith_validate.specs.Exposing.{IsGoal, IsMet, IsOnTheWay, IsPending, IsSettled, Meets, is_settled};
+ghost use Rattle.smith_validate.specs.Exposing.{named_after, number_of, refers_own, use_in, uses_of};
+ghost use Rattle.smith_validate.specs.Instances.{Exports, IsTable, outside_of};
+ghost use Rattle.smith_validate.specs.Marks.{Within};
+
 use std::alloc::{AllocError, Global};
 use std::collections::BTreeSet;
 
-/// What a type of instances exports of another: an instance of it, or a type that is equal to it.
+/// What an instance type exports of another type of instances: an instance of it, or a type that is equal to it.
 #[derive(Clone, Copy, Debug)]
 pub(crate) enum Use {
     Instance(usize),
@@ -11,10 +18,22 @@ pub(crate) enum Use {
 }
 
 impl Use {
-    // The number of the other type.
-    fn of(self) -> usize {
+    // The number of the type.
+    fn of(self) -> usize
+        ensures { result ≡ number_of self }
+    {
         match self {
             Use::Instance(number) | Use::Equal(number) => number,
+        }
+    }
+
+    // What has to hold of another use where this one does.
+    fn within(self, other: Use) -> Use
+        ensures { result ≡ use_in self other }
+    {
+        match self {
+            Use::Instance(_) => other,
+            Use::Equal(_) => Use::Equal(other.of()),
         }
     }
 }
@@ -36,104 +55,129 @@ pub(crate) struct Exposed {
 }
 
 impl Exposed {
-    pub(crate) fn new(alloc: Global) -> Exposed {
+    pub(crate) fn new(alloc: Global) -> Exposed
+        ensures { (table : List Exports) (named : List Id) → IsSettled table result named }
+    {
         Exposed {
             named: BTreeSet::new(alloc),
             settled: BTreeSet::new(alloc),
         }
     }
 
-    /// Whether all types are named that a type of instances refers to, where those are that its scopes name.
-    pub(crate) fn settle(
+    fn is_settled(&self, number: usize) -> bool
+        ensures { result ≡ is_settled self.now number }
+    {
+        if self.named.contains(&number) {
+            true
+        } else {
+            self.settled.contains(&number)
+        }
+    }
+
+    /// Whether what a use is of refers to named types alone, where all is named that its scopes name. What an instance
+    /// exports is named from then on.
+    pub(crate) fn meets(
         &mut self,
         alloc: Global,
         all: &[InstanceType],
-        number: usize,
-    ) -> Result<bool, AllocError> {
+        used: Use,
+    ) -> Result<bool, AllocError>
+        ensures { (table : List Exports) (named : List Id) → IsTable all.now table → IsSettled table self.old named
+            → number_of used < length table → Within named (outside_of table (number_of used))
+            → IfOk result (λ is. is ≡ true → Meets table used self.new named) }
+    {
         let mut rest = Vec::new(alloc);
-        rest.push(number)?;
-        for _ in 0..u64::MAX {
-            let Some(number) = rest.pop() else {
-                return Ok(true);
-            };
-            if !self.settle_one(all, &mut rest, number)? {
-                return Ok(false);
-            }
-        }
-        Err(AllocError)
-    }
-
-    // Settles one of them, and leaves those for later that it refers to.
-    fn settle_one(
-        &mut self,
-        all: &[InstanceType],
-        rest: &mut Vec<usize>,
-        number: usize,
-    ) -> Result<bool, AllocError> {
-        if self.named.contains(&number) || self.settled.contains(&number) {
-            return Ok(true);
-        }
-        let Some(ty) = all.get(number) else {
-            return Ok(true);
-        };
-        if ty.refers_to_own {
+        if !self.opens(all, &mut rest, used)? {
             return Ok(false);
         }
-        self.settled.insert(number)?;
-        for used in &ty.uses {
-            rest.push(used.of())?;
-        }
-        Ok(true)
-    }
-
-    /// Whether an instance may be imported or exported, where all is named that its scopes name. What it exports is
-    /// named from then on.
-    pub(crate) fn expose(
-        &mut self,
-        alloc: Global,
-        all: &[InstanceType],
-        number: usize,
-    ) -> Result<bool, AllocError> {
-        let mut open = Vec::new(alloc);
-        open.push((number, 0))?;
         for _ in 0..u64::MAX {
-            let Some((number, done)) = open.pop() else {
+            let Some((used, done)) = rest.pop() else {
                 return Ok(true);
             };
-            if !self.expose_next(alloc, all, &mut open, (number, done))? {
+            if !self.goes_on(all, &mut rest, used, done)? {
                 return Ok(false);
             }
         }
         Err(AllocError)
     }
 
-    // Goes on with one of them, of whose uses so many are done, or ends it.
-    fn expose_next(
-        &mut self,
-        alloc: Global,
+    // Opens a use, unless it is settled or cannot be.
+    fn opens(
+        &self,
         all: &[InstanceType],
-        open: &mut Vec<(usize, usize)>,
-        at: (usize, usize),
-    ) -> Result<bool, AllocError> {
-        let (number, done) = at;
-        let Some(used) = use_at(all, number, done) else {
-            self.named.insert(number)?;
-            return Ok(true);
-        };
-        open.push((number, done.saturating_add(1)))?;
+        rest: &mut Vec<(Use, usize)>,
+        used: Use,
+    ) -> Result<bool, AllocError>
+        ensures { (table : List Exports) (named : List Id) (last : Use) (before : List Id) → IsTable all.now table
+            → IsSettled table self.now named → number_of used < length table
+            → Within named (outside_of table (number_of used))
+            → (IsMet table used named → IsPending table all.now (IsGoal table last before) (reverse rest.old.items)
+            (named_after table used named)) → IfOk result (λ is. is ≡ true
+            → IsOnTheWay table all.now last before self.now (reverse rest.new.items)) }
+    {
         match used {
-            Use::Equal(other) => self.settle(alloc, all, other),
-            Use::Instance(other) => {
-                if !self.named.contains(&other) {
-                    open.push((other, 0))?;
+            Use::Instance(number) => {
+                if !self.named.contains(&number) {
+                    rest.push((used, 0))?;
                 }
+                Ok(true)
+            }
+            Use::Equal(number) => {
+                if self.is_settled(number) {
+                    return Ok(true);
+                }
+                if refers_to_own(all, number) {
+                    return Ok(false);
+                }
+                rest.push((used, 0))?;
                 Ok(true)
             }
         }
     }
+
+    // Goes on with a use, of whose own uses so many are done, or ends it.
+    fn goes_on(
+        &mut self,
+        all: &[InstanceType],
+        rest: &mut Vec<(Use, usize)>,
+        used: Use,
+        done: usize,
+    ) -> Result<bool, AllocError>
+        ensures { (table : List Exports) (last : Use) (before : List Id) → IsTable all.now table
+            → IsOnTheWay table all.now last before self.old ((used, done) ∷ reverse rest.old.items)
+            → IfOk result (λ is. is ≡ true
+            → IsOnTheWay table all.now last before self.new (reverse rest.new.items)) }
+    {
+        if let Some((next, more)) = use_at(all, used.of(), done) {
+            rest.push((used, more))?;
+            return self.opens(all, rest, used.within(next));
+        }
+        match used {
+            Use::Instance(number) => self.named.insert(number)?,
+            Use::Equal(number) => self.settled.insert(number)?,
+        };
+        Ok(true)
+    }
 }
 
-// A use of a type of instances, if there is one.
-fn use_at(all: &[InstanceType], number: usize, index: usize) -> Option<Use> {
-    all.get(number)?.uses.get(index).copied()
+// Whether the exports of a type of instances refer to types that it names.
+fn refers_to_own(all: &[InstanceType], number: usize) -> bool
+    ensures { result ≡ refers_own all.now number }
+{
+    match all.get(number) {
+        Some(ty) => ty.refers_to_own,
+        None => false,
+    }
+}
+
+// A use of a type of instances with that index, if there is one, and the index after it.
+fn use_at(all: &[InstanceType], number: usize, index: usize) -> Option<(Use, usize)>
+    ensures { result ≡ option_map (λ u. (u, index + 1)) (slice_get (uses_of all.now number) index) }
+{
+    let uses = &all.get(number)?.uses;
+    if index < uses.len() {
+        Some((uses[index], index + 1))
+    } else {
+        None
+    }
 }

@@ -1,8 +1,8 @@
 //! What is known before a place.
 
-ghost use Rattle.std.specs.Prelude.{◌≡◌, ◌<◌, ◌∷◌, [], length, option_map, slice_get, IfErr, OnOk};
+ghost use Rattle.std.specs.Prelude.{◌≡◌, ◌<◌, ◌∷◌, ◌++◌, [], length, option_map, slice_get, IfErr, OnOk};
 ghost use Rattle.smith_syntax.specs.Scope.{empty_scope, with_core_type, with_type};
-ghost use Rattle.smith_validate.specs.Kept.{kept_in, named_at, own_in, outer_in};
+ghost use Rattle.smith_validate.specs.Kept.{kept_in, named_at, outer_in, own_in, type_in, types_in};
 ghost use Rattle.smith_validate.specs.declared.error.Stop.TheVariants.{OutOfMemory};
 
 use crate::error::Stop;
@@ -20,7 +20,8 @@ pub(crate) struct Scope {
 
 impl Scope {
     pub(crate) fn new(alloc: Global) -> Scope
-        ensures { kept_in result ≡ empty_scope }
+        ensures sizes { kept_in result ≡ empty_scope }
+        ensures types { result.types.items ≡ [] }
     {
         Scope {
             types: Vec::new(alloc),
@@ -30,7 +31,8 @@ impl Scope {
 
     /// The type with that index.
     pub(crate) fn type_at(&self, index: u32) -> Option<Facts>
-        ensures { option_map (λ f. f.size) result ≡ slice_get (kept_in self.now).types index }
+        ensures size { option_map (λ f. f.size) result ≡ slice_get (kept_in self.now).types index }
+        ensures facts { result ≡ slice_get self.now.types.items index }
     {
         self.types.get(index as usize).copied()
     }
@@ -43,33 +45,35 @@ impl Scope {
     }
 }
 
-/// The innermost scope and those around it, outermost first; all types of instances that were declared, each after
-/// those that it exports; and how many types were named.
+/// The innermost scope and those around it, outermost first; and all types of instances that were declared, each after
+/// those that it exports.
 #[derive(Drop)]
 pub(crate) struct Known {
     pub(crate) own: Scope,
     pub(crate) outer: Vec<Scope>,
     pub(crate) instances: Vec<InstanceType>,
-    pub(crate) named: usize,
 }
 
 impl Known {
     pub(crate) fn new(alloc: Global) -> Known
         ensures own { own_in result ≡ empty_scope }
-        ensures outer { outer_in result ≡ [] }
+        ensures types { result.own.types.items ≡ [] }
+        ensures outer { result.outer.items ≡ [] }
+        ensures instances { result.instances.items ≡ [] }
     {
         Known {
             own: Scope::new(alloc),
             outer: Vec::new(alloc),
             instances: Vec::new(alloc),
-            named: 0,
         }
     }
 
     /// Enters an empty scope.
     pub(crate) fn enter(&mut self, alloc: Global) -> Result<(), Stop>
         ensures own { OnOk result (own_in self.new ≡ empty_scope) }
-        ensures outer { OnOk result (outer_in self.new ≡ own_in self.old ∷ outer_in self.old) }
+        ensures types { OnOk result (self.new.own.types.items ≡ []) }
+        ensures outer { OnOk result (self.new.outer.items ≡ self.old.outer.items ++ self.old.own ∷ []) }
+        ensures instances { self.new.instances.items ≡ self.old.instances.items }
         ensures memory { IfErr result (λ e. e ≡ OutOfMemory) }
     {
         let own = replace(&mut self.own, Scope::new(alloc));
@@ -79,8 +83,9 @@ impl Known {
 
     /// Leaves the innermost scope, which has one around it.
     pub(crate) fn leave(&mut self)
-        requires { 0 < length (outer_in self.old) }
-        ensures { outer_in self.old ≡ own_in self.new ∷ outer_in self.new }
+        requires { 0 < length self.old.outer.items }
+        ensures outer { self.old.outer.items ≡ self.new.outer.items ++ self.new.own ∷ [] }
+        ensures instances { self.new.instances.items ≡ self.old.instances.items }
     {
         if let Some(own) = self.outer.pop() {
             let _inner = replace(&mut self.own, own);
@@ -89,7 +94,8 @@ impl Known {
 
     /// The scope of that count, innermost first.
     fn scope_at(&self, count: u32) -> Option<&Scope>
-        ensures { option_map (λ s. kept_in s.now) result ≡ slice_get (own_in self.now ∷ outer_in self.now) count }
+        ensures sizes { option_map (λ s. kept_in s.now) result ≡ slice_get (own_in self.now ∷ outer_in self.now) count }
+        ensures types { option_map (λ s. s.now.types.items) result ≡ slice_get (types_in self.now) count }
     {
         if count == 0 {
             return Some(&self.own);
@@ -104,8 +110,9 @@ impl Known {
 
     /// The type that an outer alias names.
     pub(crate) fn type_named(&self, count: u32, index: u32) -> Option<Facts>
-        ensures { option_map (λ f. f.size) result
+        ensures size { option_map (λ f. f.size) result
             ≡ named_at (λ s. s.types) (own_in self.now ∷ outer_in self.now) count index }
+        ensures facts { result ≡ type_in (types_in self.now) count index }
     {
         self.scope_at(count)?.type_at(index)
     }
@@ -120,7 +127,9 @@ impl Known {
     /// Adds a type to the innermost scope.
     pub(crate) fn add_type(&mut self, facts: Facts) -> Result<(), Stop>
         ensures own { OnOk result (own_in self.new ≡ with_type (own_in self.old) facts.size) }
-        ensures outer { outer_in self.new ≡ outer_in self.old }
+        ensures types { OnOk result (self.new.own.types.items ≡ self.old.own.types.items ++ facts ∷ []) }
+        ensures outer { self.new.outer.items ≡ self.old.outer.items }
+        ensures instances { self.new.instances.items ≡ self.old.instances.items }
         ensures memory { IfErr result (λ e. e ≡ OutOfMemory) }
     {
         self.own.types.push(facts)?;
@@ -130,7 +139,9 @@ impl Known {
     /// Adds a core type to the innermost scope.
     pub(crate) fn add_core_type(&mut self, facts: CoreFacts) -> Result<(), Stop>
         ensures own { OnOk result (own_in self.new ≡ with_core_type (own_in self.old) facts) }
-        ensures outer { outer_in self.new ≡ outer_in self.old }
+        ensures types { self.new.own.types.items ≡ self.old.own.types.items }
+        ensures outer { self.new.outer.items ≡ self.old.outer.items }
+        ensures instances { self.new.instances.items ≡ self.old.instances.items }
         ensures memory { IfErr result (λ e. e ≡ OutOfMemory) }
     {
         self.own.core_types.push(facts)?;
@@ -138,17 +149,9 @@ impl Known {
     }
 
     /// How many scopes there are around the innermost one.
-    pub(crate) fn depth(&self) -> usize {
-        self.outer.len()
-    }
-
-    /// A type that is equal to that one, named in the innermost scope.
-    pub(crate) fn name(&mut self, facts: Facts) -> Facts
-        ensures size { result.size ≡ facts.size }
-        ensures own { own_in self.new ≡ own_in self.old }
-        ensures outer { outer_in self.new ≡ outer_in self.old }
+    pub(crate) fn depth(&self) -> usize
+        ensures { result ≡ length self.now.outer.items }
     {
-        self.named = self.named.saturating_add(1);
-        facts.named(self.outer.len(), self.named)
+        self.outer.len()
     }
 }

@@ -1,6 +1,5 @@
 //! Whether a well formed component that was read is one that a validator accepts: what it imports and exports is named,
 //! and wasmparser's own bounds are kept.
-// Work in progress: bounds are proved, names not yet.
 #![tactic(auto)]
 
 mod body;

@@ -1,16 +1,16 @@
 //! Components.
 
-ghost use Rattle.std.specs.Prelude.{◌≡◌, ◌∷◌, [], List, fold, map, slice_get, IfOk, OnOk};
+ghost use Rattle.std.specs.Prelude.{◌≡◌, ◌∷◌, [], Bool, true, List, fold, map, slice_get, IfOk, OnOk};
 ghost use Rattle.smith_syntax.specs.Scope.{empty_scope};
 ghost use Rattle.smith_tree.specs.Spaces.{Spaces};
 ghost use Rattle.smith_tree.specs.Spaces.{after_canon as spaces_after_canon, after_export as spaces_after_export};
 ghost use Rattle.smith_tree.specs.Spaces.{after_import as spaces_after_import, after_part as spaces_after, no_spaces};
 ghost use Rattle.smith_tree.specs.Tree.{tree_of};
 ghost use Rattle.smith_validity.specs.Bodies.{Body as PlainBody, IsSmall, after_export, after_import, core_facts};
-ghost use Rattle.smith_validity.specs.Bodies.{empty_body, facts, with_core_facts, with_facts};
-ghost use Rattle.smith_validity.specs.Facts.{FactScope};
+ghost use Rattle.smith_validity.specs.Bodies.{empty_body, externs_at, facts, with_core_facts, with_facts};
+ghost use Rattle.smith_validity.specs.Facts.{FactScope, Id};
 ghost use Rattle.smith_validity.specs.Sizes.{ValidCore};
-ghost use Rattle.smith_validity.specs.Validates.{IsBounded, NoDemand, ValidCanons};
+ghost use Rattle.smith_validity.specs.Validates.{IsBounded, Validates, ValidCanons, imported};
 ghost use Rattle.smith_validity.specs.Validates.{ValidCores, ValidEntries, ValidEntry};
 ghost use Rattle.smith_validity.specs.Validates.{ValidExports, ValidImports, ValidPart, ValidParts, after_canon};
 ghost use Rattle.smith_validity.specs.Validates.{after_cores, after_entries, after_part, exported_reference};
@@ -19,12 +19,12 @@ ghost use Rattle.smith_read_types.specs.Nodes.{shown_core_node};
 ghost use Rattle.smith_read_types.specs.TypeNodes.{shown_type_node};
 ghost use Rattle.smith_read.specs.PartNodes.{shown_canon_node, shown_export_node, shown_import_node};
 ghost use Rattle.smith_read.specs.PartNodes.{shown_part_node, shown_tree};
-ghost use Rattle.smith_validate.specs.Bodies.{IsBody, IsEmpty};
+ghost use Rattle.smith_validate.specs.Bodies.{IsBody, IsBodyNow, IsEmpty, IsFresh, IsIn, demanded};
+ghost use Rattle.smith_validate.specs.Instances.{Exports, IsTableNow};
 ghost use Rattle.smith_validate.specs.Judges.{Judges};
-ghost use Rattle.smith_validate.specs.Kept.{kept_of, outer_in, own_in};
 ghost use Rattle.smith_validate.specs.Modules.{entries_in};
-ghost use Rattle.smith_validate.specs.Outcome.{Bounds};
-ghost use Rattle.smith_validate.specs.Parts.{IsOpen};
+ghost use Rattle.smith_validate.specs.Outcome.{IsOutcome};
+ghost use Rattle.smith_validate.specs.Parts.{IsOpen, IsOpenNow};
 ghost use Rattle.smith_validate.specs.declared.known.Known.{Known as KnownValue};
 
 use crate::body::{Body, Role, Sets};
@@ -49,6 +49,7 @@ impl Open {
     fn new(alloc: Global) -> Open
         ensures functions { result.functions.items ≡ [] }
         ensures body { IsEmpty result.body }
+        ensures role { IsFresh true result.body.role }
     {
         Open {
             functions: Vec::new(alloc),
@@ -71,12 +72,14 @@ fn declare_core_type(
     body: &mut Body,
     ty: &CoreNode,
 ) -> Result<(), Stop>
-    ensures judged { (b : PlainBody) (outer : List FactScope) → IsBody known.old body.old b outer
+    ensures judged { (b : PlainBody) (outer : List FactScope) (names : List (List Id)) (table : List Exports)
+        → IsBody true known.old body.old b outer names table
         → Judges result (ValidCore (entries_in b.own) (shown_core_node ty.now)
         × IsSmall (with_core_facts b (core_facts (shown_core_node ty.now) b.own ∷ []))) }
-    ensures added { (b : PlainBody) (outer : List FactScope) → IsBody known.old body.old b outer → OnOk result
-        (IsBody known.new body.new (with_core_facts b (core_facts (shown_core_node ty.now) b.own ∷ [])) outer) }
-    ensures outer { OnOk result (outer_in known.new ≡ outer_in known.old) }
+    ensures added { (b : PlainBody) (outer : List FactScope) (names : List (List Id)) (table : List Exports)
+        → IsBody true known.old body.old b outer names table → OnOk result (IsBody true known.new body.new
+        (with_core_facts b (core_facts (shown_core_node ty.now) b.own ∷ [])) outer names table) }
+    ensures outer { known.new.outer.items ≡ known.old.outer.items }
 {
     let facts = core_facts(alloc, &known.own, ty)?;
     add_core_type(known, body, facts)
@@ -90,11 +93,13 @@ fn add_core_types(
     body: &mut Body,
     types: &[CoreNode],
 ) -> Result<(), Stop>
-    ensures judged { (b : PlainBody) (outer : List FactScope) → IsBody known.old body.old b outer
+    ensures judged { (b : PlainBody) (outer : List FactScope) (names : List (List Id)) (table : List Exports)
+        → IsBody true known.old body.old b outer names table
         → Judges result (ValidCores (map shown_core_node types.now) b) }
-    ensures added { (b : PlainBody) (outer : List FactScope) → IsBody known.old body.old b outer
-        → OnOk result (IsBody known.new body.new (after_cores (map shown_core_node types.now) b) outer) }
-    ensures outer { OnOk result (outer_in known.new ≡ outer_in known.old) }
+    ensures added { (b : PlainBody) (outer : List FactScope) (names : List (List Id)) (table : List Exports)
+        → IsBody true known.old body.old b outer names table → OnOk result
+        (IsBody true known.new body.new (after_cores (map shown_core_node types.now) b) outer names table) }
+    ensures outer { OnOk result (known.new.outer.items ≡ known.old.outer.items) }
 {
     for ty in types {
         declare_core_type(alloc, known, body, ty)?;
@@ -110,12 +115,14 @@ fn declare_type(
     body: &mut Body,
     ty: &TypeNode,
 ) -> Result<(), Stop>
-    ensures judged { (b : PlainBody) (outer : List FactScope) → IsBody known.old body.old b outer
-        → Judges result (ValidEntry NoDemand (shown_type_node ty.now) b.own outer
+    ensures judged { (d : Bool) (b : PlainBody) (outer : List FactScope) (names : List (List Id))
+        (table : List Exports) → IsBody true known.old body.old b outer names table
+        → Judges result (ValidEntry (demanded d) (shown_type_node ty.now) b.own outer
         × IsSmall (with_facts b (facts (shown_type_node ty.now) b.own outer ∷ []))) }
-    ensures added { (b : PlainBody) (outer : List FactScope) → IsBody known.old body.old b outer → OnOk result
-        (IsBody known.new body.new (with_facts b (facts (shown_type_node ty.now) b.own outer ∷ [])) outer) }
-    ensures outer { OnOk result (outer_in known.new ≡ outer_in known.old) }
+    ensures added { (b : PlainBody) (outer : List FactScope) (names : List (List Id)) (table : List Exports)
+        → IsBody true known.old body.old b outer names table → OnOk result (IsBodyNow true known.new body.new
+        (with_facts b (facts (shown_type_node ty.now) b.own outer ∷ [])) outer names table) }
+    ensures outer { OnOk result (known.new.outer.items ≡ known.old.outer.items) }
 {
     let facts = type_facts(alloc, known, ty)?;
     add_type(known, body, facts)
@@ -129,11 +136,13 @@ fn add_types(
     body: &mut Body,
     types: &[TypeNode],
 ) -> Result<(), Stop>
-    ensures judged { (b : PlainBody) (outer : List FactScope) → IsBody known.old body.old b outer
-        → Judges result (ValidEntries NoDemand (map shown_type_node types.now) outer b) }
-    ensures added { (b : PlainBody) (outer : List FactScope) → IsBody known.old body.old b outer
-        → OnOk result (IsBody known.new body.new (after_entries (map shown_type_node types.now) outer b) outer) }
-    ensures outer { OnOk result (outer_in known.new ≡ outer_in known.old) }
+    ensures judged { (d : Bool) (b : PlainBody) (outer : List FactScope) (names : List (List Id))
+        (table : List Exports) → IsBody true known.old body.old b outer names table
+        → Judges result (ValidEntries (demanded d) (map shown_type_node types.now) outer b) }
+    ensures added { (b : PlainBody) (outer : List FactScope) (names : List (List Id)) (table : List Exports)
+        → IsBody true known.old body.old b outer names table → OnOk result (IsBodyNow true known.new body.new
+        (after_entries (map shown_type_node types.now) outer b) outer names table) }
+    ensures outer { OnOk result (known.new.outer.items ≡ known.old.outer.items) }
 {
     for ty in types {
         declare_type(alloc, known, body, ty)?;
@@ -145,10 +154,12 @@ fn add_types(
 // Adds a canonical function.
 fn add_canon(here: &mut Open, canon: &CanonNode) -> Result<(), Stop>
     ensures judged { (k : KnownValue) (s : Spaces) (b : PlainBody) (outer : List FactScope)
-        → IsOpen k here.old s b outer → Judges result (IsSmall (after_canon b (shown_canon_node canon.now))) }
+        (names : List (List Id)) (table : List Exports) → IsOpen k here.old s b outer names table
+        → Judges result (IsSmall (after_canon b (shown_canon_node canon.now))) }
     ensures added { (k : KnownValue) (s : Spaces) (b : PlainBody) (outer : List FactScope)
-        → IsOpen k here.old s b outer → OnOk result (IsOpen k here.new
-        (spaces_after_canon s (shown_canon_node canon.now)) (after_canon b (shown_canon_node canon.now)) outer) }
+        (names : List (List Id)) (table : List Exports) → IsOpen k here.old s b outer names table
+        → OnOk result (IsOpen k here.new (spaces_after_canon s (shown_canon_node canon.now))
+        (after_canon b (shown_canon_node canon.now)) outer names table) }
 {
     here.body.counts.add_function()?;
     match canon {
@@ -161,11 +172,12 @@ fn add_canon(here: &mut Open, canon: &CanonNode) -> Result<(), Stop>
 // Canonical functions.
 fn add_canons(track: &mut Track, here: &mut Open, canons: &[CanonNode]) -> Result<(), Stop>
     ensures judged { (k : KnownValue) (s : Spaces) (b : PlainBody) (outer : List FactScope)
-        → IsOpen k here.old s b outer → Judges result (ValidCanons (map shown_canon_node canons.now) b) }
+        (names : List (List Id)) (table : List Exports) → IsOpen k here.old s b outer names table
+        → Judges result (ValidCanons (map shown_canon_node canons.now) b) }
     ensures added { (k : KnownValue) (s : Spaces) (b : PlainBody) (outer : List FactScope)
-        → IsOpen k here.old s b outer → OnOk result
+        (names : List (List Id)) (table : List Exports) → IsOpen k here.old s b outer names table → OnOk result
         (IsOpen k here.new (fold spaces_after_canon s (map shown_canon_node canons.now))
-        (fold after_canon b (map shown_canon_node canons.now)) outer) }
+        (fold after_canon b (map shown_canon_node canons.now)) outer names table) }
 {
     for canon in canons {
         add_canon(here, canon)?;
@@ -181,11 +193,14 @@ fn import_one(
     here: &mut Open,
     import: &ImportNode,
 ) -> Result<(), Stop>
-    ensures judged { (s : Spaces) (b : PlainBody) (outer : List FactScope) → IsOpen known.now here.old s b outer
-        → Judges result (IsSmall (after_import outer b (shown_import_node import.now).to)) }
-    ensures added { (s : Spaces) (b : PlainBody) (outer : List FactScope) → IsOpen known.now here.old s b outer
+    ensures judged { (d : Bool) (s : Spaces) (b : PlainBody) (outer : List FactScope) (names : List (List Id))
+        (table : List Exports) → IsOpen known.now here.old s b outer names table
+        → Judges result (demanded d (imported b) (externs_at b.own outer (shown_import_node import.now).to)
+        × IsSmall (after_import outer b (shown_import_node import.now).to)) }
+    ensures added { (s : Spaces) (b : PlainBody) (outer : List FactScope) (names : List (List Id))
+        (table : List Exports) → IsOpen known.now here.old s b outer names table
         → OnOk result (IsOpen known.now here.new (spaces_after_import s (shown_import_node import.now))
-        (after_import outer b (shown_import_node import.now).to) outer) }
+        (after_import outer b (shown_import_node import.now).to) outer names table) }
 {
     add_import(alloc, known, &mut here.body, import.to)?;
     match import.to {
@@ -206,11 +221,13 @@ fn add_imports(
     here: &mut Open,
     imports: &[ImportNode],
 ) -> Result<(), Stop>
-    ensures judged { (s : Spaces) (b : PlainBody) (outer : List FactScope) → IsOpen known.now here.old s b outer
-        → Judges result (ValidImports NoDemand (imported_references (map shown_import_node imports.now)) outer b) }
-    ensures added { (s : Spaces) (b : PlainBody) (outer : List FactScope) → IsOpen known.now here.old s b outer
-        → OnOk result (IsOpen known.now here.new (fold spaces_after_import s (map shown_import_node imports.now))
-        (fold (after_import outer) b (imported_references (map shown_import_node imports.now))) outer) }
+    ensures judged { (d : Bool) (s : Spaces) (b : PlainBody) (outer : List FactScope) (names : List (List Id))
+        (table : List Exports) → IsOpen known.now here.old s b outer names table → Judges result
+        (ValidImports (demanded d) (imported_references (map shown_import_node imports.now)) outer b) }
+    ensures added { (s : Spaces) (b : PlainBody) (outer : List FactScope) (names : List (List Id))
+        (table : List Exports) → IsOpen known.now here.old s b outer names table → OnOk result
+        (IsOpen known.now here.new (fold spaces_after_import s (map shown_import_node imports.now))
+        (fold (after_import outer) b (imported_references (map shown_import_node imports.now))) outer names table) }
 {
     for import in imports {
         import_one(alloc, known, here, import)?;
@@ -226,12 +243,14 @@ fn export_one(
     here: &mut Open,
     export: &ExportNode,
 ) -> Result<(), Stop>
-    ensures judged { (s : Spaces) (b : PlainBody) (outer : List FactScope) → IsOpen known.old here.old s b outer
-        → Judges result (ValidExports NoDemand (exported_reference s (shown_export_node export.now)) outer b) }
-    ensures added { (s : Spaces) (b : PlainBody) (outer : List FactScope) → IsOpen known.old here.old s b outer
+    ensures judged { (d : Bool) (s : Spaces) (b : PlainBody) (outer : List FactScope) (names : List (List Id))
+        (table : List Exports) → IsOpen known.old here.old s b outer names table → Judges result
+        (ValidExports (demanded d) (exported_reference s (shown_export_node export.now)) outer b) }
+    ensures added { (s : Spaces) (b : PlainBody) (outer : List FactScope) (names : List (List Id))
+        (table : List Exports) → IsOpen known.old here.old s b outer names table
         → OnOk result (IsOpen known.new here.new (spaces_after_export s (shown_export_node export.now))
-        (fold (after_export outer) b (exported_reference s (shown_export_node export.now))) outer) }
-    ensures outer { OnOk result (outer_in known.new ≡ outer_in known.old) }
+        (fold (after_export outer) b (exported_reference s (shown_export_node export.now))) outer names table) }
+    ensures outer { OnOk result (known.new.outer.items ≡ known.old.outer.items) }
 {
     let Some(ty) = here.function_at(export.func) else {
         return Ok(());
@@ -249,12 +268,14 @@ fn add_exports(
     here: &mut Open,
     exports: &[ExportNode],
 ) -> Result<(), Stop>
-    ensures judged { (s : Spaces) (b : PlainBody) (outer : List FactScope) → IsOpen known.old here.old s b outer
-        → Judges result (ValidExports NoDemand (exported_references s (map shown_export_node exports.now)) outer b) }
-    ensures added { (s : Spaces) (b : PlainBody) (outer : List FactScope) → IsOpen known.old here.old s b outer
-        → OnOk result (IsOpen known.new here.new (fold spaces_after_export s (map shown_export_node exports.now))
-        (fold (after_export outer) b (exported_references s (map shown_export_node exports.now))) outer) }
-    ensures outer { OnOk result (outer_in known.new ≡ outer_in known.old) }
+    ensures judged { (d : Bool) (s : Spaces) (b : PlainBody) (outer : List FactScope) (names : List (List Id))
+        (table : List Exports) → IsOpen known.old here.old s b outer names table → Judges result
+        (ValidExports (demanded d) (exported_references s (map shown_export_node exports.now)) outer b) }
+    ensures added { (s : Spaces) (b : PlainBody) (outer : List FactScope) (names : List (List Id))
+        (table : List Exports) → IsOpen known.old here.old s b outer names table → OnOk result
+        (IsOpen known.new here.new (fold spaces_after_export s (map shown_export_node exports.now))
+        (fold (after_export outer) b (exported_references s (map shown_export_node exports.now))) outer names table) }
+    ensures outer { OnOk result (known.new.outer.items ≡ known.old.outer.items) }
 {
     for export in exports {
         export_one(alloc, known, here, export)?;
@@ -272,12 +293,14 @@ fn add_part(
     here: &mut Open,
     part: &PartNode,
 ) -> Result<(), Stop>
-    ensures judged { (s : Spaces) (b : PlainBody) (outer : List FactScope) → IsOpen known.old here.old s b outer
-        → Judges result (ValidPart NoDemand (shown_part_node part.now) s outer b) }
-    ensures added { (s : Spaces) (b : PlainBody) (outer : List FactScope) → IsOpen known.old here.old s b outer
-        → OnOk result (IsOpen known.new here.new (spaces_after s (shown_part_node part.now))
-        (after_part (shown_part_node part.now) s outer b) outer) }
-    ensures outer { OnOk result (outer_in known.new ≡ outer_in known.old) }
+    ensures judged { (d : Bool) (s : Spaces) (b : PlainBody) (outer : List FactScope) (names : List (List Id))
+        (table : List Exports) → IsOpen known.old here.old s b outer names table
+        → Judges result (ValidPart (demanded d) (shown_part_node part.now) s outer b) }
+    ensures added { (s : Spaces) (b : PlainBody) (outer : List FactScope) (names : List (List Id))
+        (table : List Exports) → IsOpen known.old here.old s b outer names table → OnOk result
+        (IsOpenNow known.new here.new (spaces_after s (shown_part_node part.now))
+        (after_part (shown_part_node part.now) s outer b) outer names table) }
+    ensures outer { OnOk result (known.new.outer.items ≡ known.old.outer.items) }
 {
     match part {
         PartNode::Custom { .. } => Ok(()),
@@ -305,10 +328,13 @@ fn add_parts(
     known: &mut Known,
     parts: &[PartNode],
 ) -> Result<(), Stop>
-    requires { own_in known.old ≡ empty_scope }
-    ensures judged { (outer : List FactScope) → outer_in known.old ≡ map kept_of outer
-        → Judges result (ValidParts NoDemand (tree_of (map shown_part_node parts.now)) no_spaces outer empty_body) }
-    ensures outer { OnOk result (outer_in known.new ≡ outer_in known.old) }
+    ensures judged { (d : Bool) (outer : List FactScope) (names : List (List Id)) (table : List Exports)
+        → IsIn known.old empty_scope outer [] names table → Judges result
+        (ValidParts (demanded d) (tree_of (map shown_part_node parts.now)) no_spaces outer empty_body) }
+    ensures instances { (outer : List FactScope) (names : List (List Id)) (table : List Exports)
+        → IsIn known.old empty_scope outer [] names table → OnOk result
+        (IsTableNow known.new.instances.items table) }
+    ensures outer { OnOk result (known.new.outer.items ≡ known.old.outer.items) }
 {
     track.enter()?;
     let mut here = Open::new(alloc);
@@ -324,12 +350,12 @@ fn add_parts(
 /// with the first demand that it does not meet and the place. An error is returned only where a growth was refused, and
 /// says nothing of the component.
 ///
-/// It is proved that what is `Valid` keeps all bounds, and that what is `Invalid` for a bound does not. That names are
-/// judged rightly is not proved.
+/// It is proved that what is `Valid` meets all demands, and that what is `Invalid` for a bound does not keep all
+/// bounds. That what is `Invalid` for a name lacks one is not proved.
 ///
 /// The stack is bounded by how deep components and types nest.
 pub fn validated(alloc: Global, component: &ComponentTree) -> Result<Validity, AllocError>
-    ensures { IfOk result (Bounds (IsBounded (shown_tree component.now))) }
+    ensures { IfOk result (IsOutcome (Validates (shown_tree component.now)) (IsBounded (shown_tree component.now))) }
 {
     let mut track = Track::new(alloc);
     let mut known = Known::new(alloc);

@@ -1,20 +1,27 @@
 //! Imports and exports.
 
-ghost use Rattle.std.specs.Prelude.{◌≡◌, ◌<◌, List, length, map, IfErr, OnOk};
+ghost use Rattle.std.specs.Prelude.{◌≡◌, ◌∷◌, ◌++◌, Bool, true, List, Some, get_or, length, map, slice_get, IfErr};
+ghost use Rattle.std.specs.Prelude.{OnOk};
+ghost use Rattle.std.specs.List.{flat_map};
+ghost use Rattle.std.specs.Option.{option_to_list};
 ghost use Rattle.smith_syntax.specs.Scope.{with_types};
 ghost use Rattle.smith_validity.specs.Bodies.{Body as PlainBody, IsSmall, after_export, after_import, exported_facts};
-ghost use Rattle.smith_validity.specs.Bodies.{module_size_at, reference_size, size_at};
+ghost use Rattle.smith_validity.specs.Bodies.{externs_at, module_size_at, reference_size};
 ghost use Rattle.smith_validity.specs.Counts.{ValidCounts, with_type_count};
-ghost use Rattle.smith_validity.specs.Facts.{FactScope};
-ghost use Rattle.smith_validate.specs.Bodies.{IsBody, IsIn, IsOther};
+ghost use Rattle.smith_validity.specs.Facts.{Extern as PlainExtern, FactScope, Facts as PlainFacts, Id, sizes};
+ghost use Rattle.smith_validity.specs.Validates.{RefersTo, exported, imported, names_of};
+ghost use Rattle.smith_validate.specs.Bodies.{AreSets, IsBody, IsIn, IsOther, IsRole, demanded};
 ghost use Rattle.smith_validate.specs.Counted.{counted};
+ghost use Rattle.smith_validate.specs.Externs.{IsAsked, IsAskedFor, IsExtern, kept_extern, kept_instance};
+ghost use Rattle.smith_validate.specs.Externs.{with_exports, with_imports};
+ghost use Rattle.smith_validate.specs.Instances.{AreKept, Exports, IsTable};
 ghost use Rattle.smith_validate.specs.Judges.{Judges};
-ghost use Rattle.smith_validate.specs.Kept.{capped, kept_of, outer_in, own_in};
+ghost use Rattle.smith_validate.specs.Kept.{capped, kept_of, own_in};
 
-use crate::body::{Body, Exported, Role, Sets};
+use crate::body::{Body, Extern, Role, Sets};
 use crate::counts::Counts;
 use crate::error::{Demand, Stop};
-use crate::facts::{CoreFacts, Facts, Outermost};
+use crate::facts::{CoreFacts, Facts};
 use crate::instances::{InstanceType, Use};
 use crate::known::Known;
 use smith_syntax::ComponentTypeRef;
@@ -22,7 +29,8 @@ use std::alloc::Global;
 
 // The size of a type with that index.
 fn size_at(known: &Known, index: u32) -> u32
-    ensures { (own : FactScope) → own_in known.now ≡ kept_of own → result ≡ capped (size_at own index) }
+    ensures { (own : FactScope) → own_in known.now ≡ kept_of own
+        → result ≡ capped (get_or (sizes own.types) index 0) }
 {
     match known.own.type_at(index) {
         Some(facts) => facts.size,
@@ -32,7 +40,8 @@ fn size_at(known: &Known, index: u32) -> u32
 
 // The size of the module type with that index.
 fn module_size_at(known: &Known, index: u32) -> u32
-    ensures { (own : FactScope) → own_in known.now ≡ kept_of own → result ≡ capped (module_size_at own index) }
+    ensures { (own : FactScope) → own_in known.now ≡ kept_of own
+        → result ≡ capped (module_size_at own.core_types index) }
 {
     match known.own.core_type_at(index) {
         Some(CoreFacts::Module(size)) => size,
@@ -42,7 +51,8 @@ fn module_size_at(known: &Known, index: u32) -> u32
 
 // The size of what an import or an export is of.
 fn size_of_reference(known: &Known, to: ComponentTypeRef) -> u32
-    ensures { (own : FactScope) → own_in known.now ≡ kept_of own → result ≡ capped (reference_size own to) }
+    ensures { (own : FactScope) → own_in known.now ≡ kept_of own
+        → result ≡ capped (reference_size own.core_types (sizes own.types) to) }
 {
     match to {
         ComponentTypeRef::Module(index) => module_size_at(known, index),
@@ -53,18 +63,74 @@ fn size_of_reference(known: &Known, to: ComponentTypeRef) -> u32
     }
 }
 
-// The type of a function, an instance or a type that is imported or exported.
-fn facts_at(known: &Known, to: ComponentTypeRef) -> Option<Facts> {
+// What has to be named of what is imported or exported, if anything.
+fn extern_at(known: &Known, to: ComponentTypeRef) -> Option<Extern>
+    ensures { (own : FactScope) (outer : List FactScope) (names : List (List Id)) (table : List Exports)
+        → AreKept table names known.now.own.types.items own.types
+        → IsExtern table names result (externs_at own outer to) }
+{
     match to {
-        ComponentTypeRef::Func(index)
-        | ComponentTypeRef::TypeEq(index)
-        | ComponentTypeRef::Instance(index) => known.own.type_at(index),
+        ComponentTypeRef::Func(index) => equal_at(known, index),
+        ComponentTypeRef::TypeEq(index) => equal_at(known, index),
+        ComponentTypeRef::Instance(index) => instance_at(known, index),
         ComponentTypeRef::Module(_) | ComponentTypeRef::Component(_) => None,
     }
 }
 
+// A function of the type with that index, or a type that is equal to it.
+fn equal_at(known: &Known, index: u32) -> Option<Extern>
+    ensures { (types : List PlainFacts) (names : List (List Id)) (table : List Exports) (ids : List Id)
+        → AreKept table names known.now.own.types.items types → IsExtern table names result
+        (map (λ f. record { refers = f.refers; names = ids }) (option_to_list (slice_get types index))) }
+{
+    match known.own.type_at(index) {
+        Some(facts) => Some(equal_extern(facts)),
+        None => None,
+    }
+}
+
+// An instance of the type with that index.
+fn instance_at(known: &Known, index: u32) -> Option<Extern>
+    ensures { (types : List PlainFacts) (names : List (List Id)) (table : List Exports)
+        → AreKept table names known.now.own.types.items types → IsExtern table names result
+        (flat_map (λ f. f.exports) (option_to_list (slice_get types index))) }
+{
+    match known.own.type_at(index) {
+        Some(facts) => instance_extern(facts),
+        None => None,
+    }
+}
+
+// An instance of that type.
+fn instance_extern(facts: Facts) -> Option<Extern>
+    ensures { result ≡ kept_instance facts }
+{
+    match facts.instance {
+        Some(number) => Some(Extern {
+            refers: facts.refers,
+            used: Some(Use::Instance(number)),
+        }),
+        None => None,
+    }
+}
+
+// A function, or a type that is equal to that one.
+fn equal_extern(facts: Facts) -> Extern
+    ensures { result ≡ kept_extern facts }
+{
+    let used = match facts.instance {
+        Some(number) => Some(Use::Equal(number)),
+        None => None,
+    };
+    Extern {
+        refers: facts.refers,
+        used,
+    }
+}
+
 fn check(holds: bool) -> Result<(), Stop>
-    ensures { IfErr result IsOther }
+    ensures other { IfErr result IsOther }
+    ensures holds { OnOk result (holds ≡ true) }
 {
     if holds {
         Ok(())
@@ -75,55 +141,39 @@ fn check(holds: bool) -> Result<(), Stop>
 
 impl Sets {
     // Names what an import of a component or a component type names, if it may be imported.
-    fn import(&mut self, alloc: Global, all: &[InstanceType], facts: Facts) -> Result<(), Stop>
-        ensures { IfErr result IsOther }
+    fn import(&mut self, alloc: Global, all: &[InstanceType], what: Extern) -> Result<(), Stop>
+        ensures other { IfErr result IsOther }
+        ensures named { (table : List Exports) (names : List (List Id)) (b : PlainBody) (xs : List PlainExtern)
+            → IsTable all.now table → IsExtern table names (Some what) xs → AreSets table self.old b
+            → OnOk result (RefersTo (imported b) xs × AreSets table self.new (with_imports b xs)) }
     {
-        check(facts.refers.outermost == Outermost::Nothing)?;
-        if let Some(number) = facts.instance {
-            check(self.imported.expose(alloc, all, number)?)?;
-            check(self.exported.expose(alloc, all, number)?)?;
-        }
-        Ok(())
+        check(what.refers.outermost.is_nothing())?;
+        let Some(used) = what.used else {
+            return Ok(());
+        };
+        check(self.imported.meets(alloc, all, used)?)?;
+        check(self.exported.meets(alloc, all, used)?)
     }
 
     // Names what an export of a component type names, if it may be exported. It is in a scope with so many around it.
     fn export(
         &mut self,
         alloc: Global,
-        known: &Known,
-        to: ComponentTypeRef,
-        facts: Facts,
+        all: &[InstanceType],
+        depth: usize,
+        what: Extern,
     ) -> Result<(), Stop>
-        ensures { IfErr result IsOther }
+        ensures other { IfErr result IsOther }
+        ensures named { (table : List Exports) (names : List (List Id)) (b : PlainBody) (xs : List PlainExtern)
+            → IsTable all.now table → IsExtern table (names_of b.exports ∷ names) (Some what) xs
+            → length names ≡ depth → AreSets table self.old b
+            → OnOk result (RefersTo (exported b) xs × AreSets table self.new (with_exports b xs)) }
     {
-        check(facts.refers.outermost >= Outermost::Scope(known.depth()))?;
-        let Some(number) = facts.instance else {
+        check(what.refers.outermost.is_within(depth))?;
+        let Some(used) = what.used else {
             return Ok(());
         };
-        let holds = match to {
-            ComponentTypeRef::TypeEq(_) => {
-                self.exported.settle(alloc, &known.instances, number)?
-            }
-            _ => self.exported.expose(alloc, &known.instances, number)?,
-        };
-        check(holds)
-    }
-}
-
-impl Exported {
-    // Adds an export of an instance type.
-    fn export(&mut self, to: ComponentTypeRef, facts: Facts) -> Result<(), Stop>
-        ensures { IfErr result IsOther }
-    {
-        self.add(facts);
-        if let Some(number) = facts.instance {
-            let used = match to {
-                ComponentTypeRef::TypeEq(_) => Use::Equal(number),
-                _ => Use::Instance(number),
-            };
-            self.uses.push(used)?;
-        }
-        Ok(())
+        check(self.exported.meets(alloc, all, used)?)
     }
 }
 
@@ -134,14 +184,18 @@ fn name_import(
     role: &mut Role,
     to: ComponentTypeRef,
 ) -> Result<(), Stop>
-    ensures { IfErr result IsOther }
+    ensures other { IfErr result IsOther }
+    ensures named { (asks : Bool) (b : PlainBody) (outer : List FactScope) (names : List (List Id))
+        (table : List Exports) → IsIn known.now b.own outer (names_of b.exports) names table
+        → IsRole table names asks role.old b → OnOk result (RefersTo (imported b) (externs_at b.own outer to)
+        × IsRole table names asks role.new (after_import outer b to)) }
 {
-    let Some(facts) = facts_at(known, to) else {
+    let Some(what) = extern_at(known, to) else {
         return Ok(());
     };
     match role {
-        Role::Names(sets) => sets.import(alloc, &known.instances, facts),
-        Role::Exports(_) => Ok(()),
+        Role::Names(sets) => sets.import(alloc, &known.instances, what),
+        Role::Exports(_) => check(false),
     }
 }
 
@@ -152,14 +206,18 @@ fn name_export(
     role: &mut Role,
     to: ComponentTypeRef,
 ) -> Result<(), Stop>
-    ensures { IfErr result IsOther }
+    ensures other { IfErr result IsOther }
+    ensures named { (asks : Bool) (b : PlainBody) (outer : List FactScope) (names : List (List Id))
+        (table : List Exports) → IsIn known.now b.own outer (names_of b.exports) names table
+        → IsRole table names asks role.old b → OnOk result (IsAsked asks (exported b) (externs_at b.own outer to)
+        × IsRole table names asks role.new (after_export outer b to)) }
 {
-    let Some(facts) = facts_at(known, to) else {
+    let Some(what) = extern_at(known, to) else {
         return Ok(());
     };
     match role {
-        Role::Names(sets) => sets.export(alloc, known, to, facts),
-        Role::Exports(exported) => exported.export(to, facts),
+        Role::Names(sets) => sets.export(alloc, &known.instances, known.depth(), what),
+        Role::Exports(exported) => exported.export(what),
     }
 }
 
@@ -170,10 +228,12 @@ pub(crate) fn add_import(
     body: &mut Body,
     to: ComponentTypeRef,
 ) -> Result<(), Stop>
-    ensures judged { (b : PlainBody) (outer : List FactScope) → IsBody known.now body.old b outer
-        → Judges result (IsSmall (after_import outer b to)) }
-    ensures added { (b : PlainBody) (outer : List FactScope) → IsBody known.now body.old b outer
-        → OnOk result (IsBody known.now body.new (after_import outer b to) outer) }
+    ensures judged { (d : Bool) (asks : Bool) (b : PlainBody) (outer : List FactScope) (names : List (List Id))
+        (table : List Exports) → IsBody asks known.now body.old b outer names table
+        → Judges result (demanded d (imported b) (externs_at b.own outer to) × IsSmall (after_import outer b to)) }
+    ensures added { (asks : Bool) (b : PlainBody) (outer : List FactScope) (names : List (List Id))
+        (table : List Exports) → IsBody asks known.now body.old b outer names table
+        → OnOk result (IsBody asks known.now body.new (after_import outer b to) outer names table) }
 {
     name_import(alloc, known, &mut body.role, to)?;
     body.counts.add_import(to)?;
@@ -182,14 +242,17 @@ pub(crate) fn add_import(
 
 // The type that an export adds.
 fn add_exported(known: &mut Known, counts: &mut Counts, to: ComponentTypeRef) -> Result<(), Stop>
-    ensures judged { (own : FactScope) (outer : List FactScope) → IsIn known.old own outer
-        → ValidCounts (counted counts.old)
+    ensures judged { (own : FactScope) (outer : List FactScope) (here : List Id) (names : List (List Id))
+        (table : List Exports) → IsIn known.old own outer here names table → ValidCounts (counted counts.old)
         → Judges result (ValidCounts (with_type_count (counted counts.old) (length (exported_facts own outer to)))) }
-    ensures added { (own : FactScope) (outer : List FactScope) → IsIn known.old own outer
-        → OnOk result (IsIn known.new (with_types own (exported_facts own outer to)) outer) }
-    ensures counts { (own : FactScope) (outer : List FactScope) → IsIn known.old own outer → OnOk result
+    ensures added { (own : FactScope) (outer : List FactScope) (here : List Id) (names : List (List Id))
+        (table : List Exports) → IsIn known.old own outer here names table → OnOk result
+        (IsIn known.new (with_types own (exported_facts own outer to)) outer
+        (here ++ names_of (externs_at own outer to)) names table) }
+    ensures counts { (own : FactScope) (outer : List FactScope) (here : List Id) (names : List (List Id))
+        (table : List Exports) → IsIn known.old own outer here names table → OnOk result
         (counted counts.new ≡ with_type_count (counted counts.old) (length (exported_facts own outer to))) }
-    ensures outer { OnOk result (outer_in known.new ≡ outer_in known.old) }
+    ensures outer { known.new.outer.items ≡ known.old.outer.items }
 {
     let ComponentTypeRef::TypeEq(index) = to else {
         return Ok(());
@@ -198,8 +261,8 @@ fn add_exported(known: &mut Known, counts: &mut Counts, to: ComponentTypeRef) ->
         return Ok(());
     };
     counts.add_type()?;
-    let facts = known.name(facts);
-    known.add_type(facts)
+    let depth = known.depth();
+    known.add_type(facts.named(depth))
 }
 
 /// An export of a component, a component type or an instance type.
@@ -209,11 +272,14 @@ pub(crate) fn add_export(
     body: &mut Body,
     to: ComponentTypeRef,
 ) -> Result<(), Stop>
-    ensures judged { (b : PlainBody) (outer : List FactScope) → IsBody known.old body.old b outer
-        → Judges result (IsSmall (after_export outer b to)) }
-    ensures added { (b : PlainBody) (outer : List FactScope) → IsBody known.old body.old b outer
-        → OnOk result (IsBody known.new body.new (after_export outer b to) outer) }
-    ensures outer { OnOk result (outer_in known.new ≡ outer_in known.old) }
+    ensures judged { (d : Bool) (asks : Bool) (b : PlainBody) (outer : List FactScope) (names : List (List Id))
+        (table : List Exports) → IsBody asks known.old body.old b outer names table
+        → Judges result (IsAskedFor d asks (exported b) (externs_at b.own outer to)
+        × IsSmall (after_export outer b to)) }
+    ensures added { (asks : Bool) (b : PlainBody) (outer : List FactScope) (names : List (List Id))
+        (table : List Exports) → IsBody asks known.old body.old b outer names table
+        → OnOk result (IsBody asks known.new body.new (after_export outer b to) outer names table) }
+    ensures outer { known.new.outer.items ≡ known.old.outer.items }
 {
     name_export(alloc, known, &mut body.role, to)?;
     body.counts.add_export(to)?;

@@ -1,16 +1,19 @@
 //! Types of all sorts, those of components and of instances among them.
 
-ghost use Rattle.std.specs.Prelude.{◌≡◌, ◌<◌, ◌∷◌, [], Bool, List, Option, length, map, option_map, IfErr, IfOk, OnOk};
+ghost use Rattle.std.specs.Prelude.{◌≡◌, ◌<◌, ◌∷◌, [], Bool, false, List, Option, length, map, option_map, IfErr, IfOk};
+ghost use Rattle.std.specs.Prelude.{OnOk};
 ghost use Rattle.std.specs.Option.{option_to_list};
 ghost use Rattle.smith_syntax.specs.Entries.{in_order};
 ghost use Rattle.smith_validity.specs.Bodies.{Body as PlainBody, IsSmall, after_decl, after_decls, empty_body, facts};
 ghost use Rattle.smith_validity.specs.Bodies.{with_core_facts, with_facts};
-ghost use Rattle.smith_validity.specs.Facts.{CoreFacts as PlainCoreFacts, FactScope, Facts as PlainFacts};
-ghost use Rattle.smith_validity.specs.Validates.{NoDemand, ValidDecl, ValidDecls, ValidEntry};
+ghost use Rattle.smith_validity.specs.Facts.{CoreFacts as PlainCoreFacts, FactScope, Facts as PlainFacts, Id};
+ghost use Rattle.smith_validity.specs.Validates.{ValidDecl, ValidDecls, ValidEntry, names_of};
 ghost use Rattle.smith_read_types.specs.TypeNodes.{shown_decl_node, shown_type_node};
-ghost use Rattle.smith_validate.specs.Bodies.{IsBody, IsEmpty, IsIn, IsOther};
+ghost use Rattle.smith_validate.specs.Bodies.{IsBody, IsBodyNow, IsEmpty, IsFresh, IsIn, IsOther, IsRole, demanded};
+ghost use Rattle.smith_validate.specs.Nested.{IsDeclared, IsJudged, instance_plain};
+ghost use Rattle.smith_validate.specs.Instances.{AreKept, Exports, IsKept, IsTable};
 ghost use Rattle.smith_validate.specs.Judges.{Judges};
-ghost use Rattle.smith_validate.specs.Kept.{capped, kept_core, outer_in, own_in};
+ghost use Rattle.smith_validate.specs.Kept.{capped, kept_core};
 
 use crate::body::{Body, Exported, Role, Sets};
 use crate::core_types::core_facts;
@@ -24,11 +27,14 @@ use std::alloc::Global;
 
 /// Adds a type.
 pub(crate) fn add_type(known: &mut Known, body: &mut Body, ty: Facts) -> Result<(), Stop>
-    ensures judged { (b : PlainBody) (outer : List FactScope) (f : PlainFacts) → IsBody known.old body.old b outer
-        → ty.size ≡ capped f.size → Judges result (IsSmall (with_facts b (f ∷ []))) }
-    ensures added { (b : PlainBody) (outer : List FactScope) (f : PlainFacts) → IsBody known.old body.old b outer
-        → ty.size ≡ capped f.size → OnOk result (IsBody known.new body.new (with_facts b (f ∷ [])) outer) }
-    ensures outer { OnOk result (outer_in known.new ≡ outer_in known.old) }
+    ensures judged { (asks : Bool) (b : PlainBody) (outer : List FactScope) (names : List (List Id))
+        (table : List Exports) (f : PlainFacts) → IsBody asks known.old body.old b outer names table
+        → Judges result (IsSmall (with_facts b (f ∷ []))) }
+    ensures added { (asks : Bool) (b : PlainBody) (outer : List FactScope) (names : List (List Id))
+        (table : List Exports) (f : PlainFacts) → IsBody asks known.old body.old b outer names table
+        → ty.size ≡ capped f.size → IsKept table (names_of b.exports ∷ names) ty f
+        → OnOk result (IsBody asks known.new body.new (with_facts b (f ∷ [])) outer names table) }
+    ensures outer { known.new.outer.items ≡ known.old.outer.items }
 {
     body.counts.add_type()?;
     known.add_type(ty)
@@ -36,11 +42,14 @@ pub(crate) fn add_type(known: &mut Known, body: &mut Body, ty: Facts) -> Result<
 
 /// Adds a core type.
 pub(crate) fn add_core_type(known: &mut Known, body: &mut Body, ty: CoreFacts) -> Result<(), Stop>
-    ensures judged { (b : PlainBody) (outer : List FactScope) (f : PlainCoreFacts) → IsBody known.old body.old b outer
-        → ty ≡ kept_core f → Judges result (IsSmall (with_core_facts b (f ∷ []))) }
-    ensures added { (b : PlainBody) (outer : List FactScope) (f : PlainCoreFacts) → IsBody known.old body.old b outer
-        → ty ≡ kept_core f → OnOk result (IsBody known.new body.new (with_core_facts b (f ∷ [])) outer) }
-    ensures outer { OnOk result (outer_in known.new ≡ outer_in known.old) }
+    ensures judged { (asks : Bool) (b : PlainBody) (outer : List FactScope) (names : List (List Id))
+        (table : List Exports) (f : PlainCoreFacts) → IsBody asks known.old body.old b outer names table
+        → Judges result (IsSmall (with_core_facts b (f ∷ []))) }
+    ensures added { (asks : Bool) (b : PlainBody) (outer : List FactScope) (names : List (List Id))
+        (table : List Exports) (f : PlainCoreFacts) → IsBody asks known.old body.old b outer names table
+        → ty ≡ kept_core f
+        → OnOk result (IsBody asks known.new body.new (with_core_facts b (f ∷ [])) outer names table) }
+    ensures outer { known.new.outer.items ≡ known.old.outer.items }
 {
     body.counts.add_type()?;
     known.add_core_type(ty)
@@ -48,13 +57,16 @@ pub(crate) fn add_core_type(known: &mut Known, body: &mut Body, ty: CoreFacts) -
 
 // Adds a type, if there is one.
 fn add_named(known: &mut Known, body: &mut Body, ty: Option<Facts>) -> Result<(), Stop>
-    ensures judged { (b : PlainBody) (outer : List FactScope) (f : Option PlainFacts)
-        → IsBody known.old body.old b outer → option_map (λ t. t.size) ty ≡ option_map (λ t. capped t.size) f
+    ensures judged { (asks : Bool) (b : PlainBody) (outer : List FactScope) (names : List (List Id))
+        (table : List Exports) (f : Option PlainFacts) → IsBody asks known.old body.old b outer names table
+        → option_map (λ t. t.size) ty ≡ option_map (λ t. capped t.size) f
         → Judges result (IsSmall (with_facts b (option_to_list f))) }
-    ensures added { (b : PlainBody) (outer : List FactScope) (f : Option PlainFacts)
-        → IsBody known.old body.old b outer → option_map (λ t. t.size) ty ≡ option_map (λ t. capped t.size) f
-        → OnOk result (IsBody known.new body.new (with_facts b (option_to_list f)) outer) }
-    ensures outer { OnOk result (outer_in known.new ≡ outer_in known.old) }
+    ensures added { (asks : Bool) (b : PlainBody) (outer : List FactScope) (names : List (List Id))
+        (table : List Exports) (f : Option PlainFacts) → IsBody asks known.old body.old b outer names table
+        → option_map (λ t. t.size) ty ≡ option_map (λ t. capped t.size) f
+        → AreKept table (names_of b.exports ∷ names) (option_to_list ty) (option_to_list f)
+        → OnOk result (IsBody asks known.new body.new (with_facts b (option_to_list f)) outer names table) }
+    ensures outer { known.new.outer.items ≡ known.old.outer.items }
 {
     match ty {
         Some(ty) => add_type(known, body, ty),
@@ -64,13 +76,14 @@ fn add_named(known: &mut Known, body: &mut Body, ty: Option<Facts>) -> Result<()
 
 // Adds a core type, if there is one.
 fn add_core_named(known: &mut Known, body: &mut Body, ty: Option<CoreFacts>) -> Result<(), Stop>
-    ensures judged { (b : PlainBody) (outer : List FactScope) (f : Option PlainCoreFacts)
-        → IsBody known.old body.old b outer → ty ≡ option_map kept_core f
-        → Judges result (IsSmall (with_core_facts b (option_to_list f))) }
-    ensures added { (b : PlainBody) (outer : List FactScope) (f : Option PlainCoreFacts)
-        → IsBody known.old body.old b outer → ty ≡ option_map kept_core f
-        → OnOk result (IsBody known.new body.new (with_core_facts b (option_to_list f)) outer) }
-    ensures outer { OnOk result (outer_in known.new ≡ outer_in known.old) }
+    ensures judged { (asks : Bool) (b : PlainBody) (outer : List FactScope) (names : List (List Id))
+        (table : List Exports) (f : Option PlainCoreFacts) → IsBody asks known.old body.old b outer names table
+        → ty ≡ option_map kept_core f → Judges result (IsSmall (with_core_facts b (option_to_list f))) }
+    ensures added { (asks : Bool) (b : PlainBody) (outer : List FactScope) (names : List (List Id))
+        (table : List Exports) (f : Option PlainCoreFacts) → IsBody asks known.old body.old b outer names table
+        → ty ≡ option_map kept_core f
+        → OnOk result (IsBody asks known.new body.new (with_core_facts b (option_to_list f)) outer names table) }
+    ensures outer { known.new.outer.items ≡ known.old.outer.items }
 {
     match ty {
         Some(ty) => add_core_type(known, body, ty),
@@ -78,36 +91,42 @@ fn add_core_named(known: &mut Known, body: &mut Body, ty: Option<CoreFacts>) -> 
     }
 }
 
-// A type of instances that was declared.
-fn instance_facts(known: &mut Known, body: Body, named: usize) -> Result<Facts, Stop>
+// A type of instances that was declared, where nothing asks for names.
+fn instance_type(known: &mut Known, body: Body) -> Result<Facts, Stop>
     ensures size { IfOk result (λ f. f.size ≡ body.size) }
     ensures other { IfErr result IsOther }
-    ensures own { own_in known.new ≡ own_in known.old }
-    ensures outer { outer_in known.new ≡ outer_in known.old }
+    ensures own { known.new.own ≡ known.old.own }
+    ensures outer { known.new.outer.items ≡ known.old.outer.items }
+    ensures kept { (id : Id) (b : PlainBody) (here : List Id) (names : List (List Id)) (table : List Exports)
+        → IsTable known.old.instances.items table → length names ≡ length known.old.outer.items
+        → IsRole table (here ∷ names) false body.role b → IfOk result (λ f.
+        IsDeclared table (here ∷ names) known.new f (instance_plain id b)) }
 {
     let Body { size, role, .. } = body;
     let Role::Exports(exported) = role else {
         return Ok(Facts::new(Needs::nothing(), size));
     };
-    let depth = known.depth().saturating_add(1);
-    let (refers, ty) = exported.close(depth, named);
+    let (refers, ty) = exported.close(known.depth());
     let number = known.instances.len();
     known.instances.push(ty)?;
-    let mut facts = Facts::new(refers, size);
-    facts.instance = Some(number);
-    Ok(facts)
+    Ok(Facts::instance(refers, size, number))
 }
 
 /// A type, where it is declared.
 #[cycle(types)]
 #[tactic(auto, using(smith_read_types::proofs::ShownNodes::shown_nodes))]
 pub(crate) fn type_facts(alloc: Global, known: &mut Known, ty: &TypeNode) -> Result<Facts, Stop>
-    ensures judged { (own : FactScope) (outer : List FactScope) → IsIn known.old own outer
-        → Judges result (ValidEntry NoDemand (shown_type_node ty.now) own outer) }
-    ensures size { (own : FactScope) (outer : List FactScope) → IsIn known.old own outer
+    ensures judged { (d : Bool) (own : FactScope) (outer : List FactScope) (here : List Id)
+        (names : List (List Id)) (table : List Exports) → IsIn known.old own outer here names table
+        → Judges result (ValidEntry (demanded d) (shown_type_node ty.now) own outer) }
+    ensures size { (own : FactScope) (outer : List FactScope) (here : List Id)
+        (names : List (List Id)) (table : List Exports) → IsIn known.old own outer here names table
         → IfOk result (λ f. f.size ≡ capped (facts (shown_type_node ty.now) own outer).size) }
-    ensures own { OnOk result (own_in known.new ≡ own_in known.old) }
-    ensures outer { OnOk result (outer_in known.new ≡ outer_in known.old) }
+    ensures kept { (own : FactScope) (outer : List FactScope) (here : List Id)
+        (names : List (List Id)) (table : List Exports) → IsIn known.old own outer here names table
+        → IfOk result (λ f. IsDeclared table (here ∷ names) known.new f (facts (shown_type_node ty.now) own outer)) }
+    ensures own { OnOk result (known.new.own ≡ known.old.own) }
+    ensures outer { OnOk result (known.new.outer.items ≡ known.old.outer.items) }
 {
     match ty {
         TypeNode::Defined(ty) => defined_facts(&known.own, ty),
@@ -118,10 +137,9 @@ pub(crate) fn type_facts(alloc: Global, known: &mut Known, ty: &TypeNode) -> Res
             Ok(Facts::new(Needs::nothing(), body.size))
         }
         TypeNode::Instance(decls) => {
-            let named = known.named;
             let mut body = Body::new(Role::Exports(Exported::new(alloc)));
             add_decls(alloc, known, &mut body, decls)?;
-            instance_facts(known, body, named)
+            instance_type(known, body)
         }
     }
 }
@@ -130,12 +148,14 @@ pub(crate) fn type_facts(alloc: Global, known: &mut Known, ty: &TypeNode) -> Res
 #[cycle(types)]
 #[tactic(auto, using(smith_read_types::proofs::ShownNodes::shown_nodes))]
 fn add_decl(alloc: Global, known: &mut Known, body: &mut Body, decl: &DeclNode) -> Result<(), Stop>
-    ensures judged { (asks : Bool) (b : PlainBody) (outer : List FactScope) → IsBody known.old body.old b outer
-        → Judges result (ValidDecl NoDemand asks (shown_decl_node decl.now) outer b
+    ensures judged { (d : Bool) (asks : Bool) (b : PlainBody) (outer : List FactScope) (names : List (List Id))
+        (table : List Exports) → IsBody asks known.old body.old b outer names table
+        → Judges result (ValidDecl (demanded d) asks (shown_decl_node decl.now) outer b
         × IsSmall (after_decl (shown_decl_node decl.now) outer b)) }
-    ensures added { (b : PlainBody) (outer : List FactScope) → IsBody known.old body.old b outer
-        → OnOk result (IsBody known.new body.new (after_decl (shown_decl_node decl.now) outer b) outer) }
-    ensures outer { OnOk result (outer_in known.new ≡ outer_in known.old) }
+    ensures added { (asks : Bool) (b : PlainBody) (outer : List FactScope) (names : List (List Id))
+        (table : List Exports) → IsBody asks known.old body.old b outer names table → OnOk result
+        (IsBodyNow asks known.new body.new (after_decl (shown_decl_node decl.now) outer b) outer names table) }
+    ensures outer { OnOk result (known.new.outer.items ≡ known.old.outer.items) }
 {
     match decl {
         DeclNode::Core(ty) => {
@@ -168,14 +188,17 @@ fn add_decls(
     body: &mut Body,
     decls: &[DeclNode],
 ) -> Result<(), Stop>
-    ensures judged { (asks : Bool) (own : FactScope) (outer : List FactScope) → IsIn known.old own outer
-        → IsEmpty body.old → Judges result
-        (ValidDecls NoDemand asks (in_order (map shown_decl_node decls.now)) (own ∷ outer) empty_body) }
-    ensures size { (own : FactScope) (outer : List FactScope) → IsIn known.old own outer → IsEmpty body.old
-        → OnOk result (body.new.size
-        ≡ capped (after_decls (in_order (map shown_decl_node decls.now)) (own ∷ outer) empty_body).size) }
-    ensures own { OnOk result (own_in known.new ≡ own_in known.old) }
-    ensures outer { OnOk result (outer_in known.new ≡ outer_in known.old) }
+    ensures judged { (d : Bool) (asks : Bool) (own : FactScope) (outer : List FactScope) (here : List Id)
+        (names : List (List Id)) (table : List Exports) → IsIn known.old own outer here names table
+        → IsEmpty body.old → IsFresh asks body.old.role → Judges result
+        (ValidDecls (demanded d) asks (in_order (map shown_decl_node decls.now)) (own ∷ outer) empty_body) }
+    ensures added { (asks : Bool) (own : FactScope) (outer : List FactScope) (here : List Id)
+        (names : List (List Id)) (table : List Exports) → IsIn known.old own outer here names table
+        → IsEmpty body.old → IsFresh asks body.old.role → OnOk result
+        (IsJudged asks known.new body.new (after_decls (in_order (map shown_decl_node decls.now)) (own ∷ outer)
+        empty_body) (here ∷ names) table) }
+    ensures own { OnOk result (known.new.own ≡ known.old.own) }
+    ensures outer { OnOk result (known.new.outer.items ≡ known.old.outer.items) }
 {
     known.enter(alloc)?;
     for decl in decls {

@@ -1,15 +1,18 @@
 //! Types of values and of functions.
 
-ghost use Rattle.std.specs.Prelude.{◌≡◌, ◌+◌, ◌<◌, ◌++◌, Option, None, Some, map, sum, IfOk};
+ghost use Rattle.std.specs.Prelude.{◌≡◌, ◌+◌, ◌<◌, ◌++◌, ◌∷◌, [], List, Option, None, Some, map, sum, IfOk};
 ghost use Rattle.std.specs.List.{flat_map};
 ghost use Rattle.std.specs.Option.{option_to_list};
 ghost use Rattle.smith_syntax.specs.Shown.{shown_defined};
 ghost use Rattle.smith_syntax.specs.declared.types.ComponentValType.{ComponentValType};
-ghost use Rattle.smith_validity.specs.Facts.{FactScope};
+ghost use Rattle.smith_validity.specs.Facts.{FactScope, Facts as PlainFacts, Id, sizes, value_needs};
 ghost use Rattle.smith_validity.specs.Sizes.{SmallDefined, defined_size, maybe_size, signature_size, size_bound};
 ghost use Rattle.smith_validity.specs.Sizes.{summed, value_size};
+ghost use Rattle.smith_validate.specs.Instances.{AreKept, Exports, IsKept};
 ghost use Rattle.smith_validate.specs.Judges.{Judges};
 ghost use Rattle.smith_validate.specs.Kept.{capped, kept_in, kept_of};
+ghost use Rattle.smith_validate.specs.Marks.{Covers, no_needs, nominal_facts, plain_facts};
+ghost use Rattle.smith_validate.specs.Values.{CoversValues, defined_plain, function_plain};
 
 use crate::error::{Demand, Stop};
 use crate::facts::{Facts, Needs, SIZE_BOUND, size_sum};
@@ -59,7 +62,8 @@ struct Values {
 impl Values {
     // None, with that to begin the sum.
     fn new(size: u32) -> Values
-        ensures { result.size ≡ size }
+        ensures size { result.size ≡ size }
+        ensures needs { result.needs ≡ no_needs }
     {
         Values {
             needs: Needs::nothing(),
@@ -68,8 +72,12 @@ impl Values {
     }
 
     fn add(self, scope: &Scope, ty: ComponentValType) -> Values
-        ensures { (own : FactScope) → kept_in scope.now ≡ kept_of own
-            → result.size ≡ capped (self.size + value_size own.types ty) }
+        ensures size { (own : FactScope) → kept_in scope.now ≡ kept_of own
+            → result.size ≡ capped (self.size + value_size (sizes own.types) ty) }
+        ensures needs { (types : List PlainFacts) (names : List (List Id)) (table : List Exports)
+            (before : List ComponentValType) → AreKept table names scope.now.types.items types
+            → CoversValues types names self.needs before
+            → CoversValues types names result.needs (before ++ ty ∷ []) }
     {
         let (needs, size) = value_of(scope, ty);
         Values {
@@ -80,9 +88,13 @@ impl Values {
 
     // One that may be missing, and adds nothing then.
     fn add_some(self, scope: &Scope, ty: Option<ComponentValType>) -> Values
-        ensures { (own : FactScope) → kept_in scope.now ≡ kept_of own
+        ensures size { (own : FactScope) → kept_in scope.now ≡ kept_of own
             → capped self.size ≡ self.size
-            → result.size ≡ capped (self.size + sum (map (value_size own.types) (option_to_list ty))) }
+            → result.size ≡ capped (self.size + sum (map (value_size (sizes own.types)) (option_to_list ty))) }
+        ensures needs { (types : List PlainFacts) (names : List (List Id)) (table : List Exports)
+            (before : List ComponentValType) → AreKept table names scope.now.types.items types
+            → CoversValues types names self.needs before
+            → CoversValues types names result.needs (before ++ option_to_list ty) }
     {
         match ty {
             Some(ty) => self.add(scope, ty),
@@ -92,8 +104,12 @@ impl Values {
 
     // One that may be missing, and counts as 1 then.
     fn add_maybe(self, scope: &Scope, ty: Option<ComponentValType>) -> Values
-        ensures { (own : FactScope) → kept_in scope.now ≡ kept_of own
-            → result.size ≡ capped (self.size + maybe_size own.types ty) }
+        ensures size { (own : FactScope) → kept_in scope.now ≡ kept_of own
+            → result.size ≡ capped (self.size + maybe_size (sizes own.types) ty) }
+        ensures needs { (types : List PlainFacts) (names : List (List Id)) (table : List Exports)
+            (before : List ComponentValType) → AreKept table names scope.now.types.items types
+            → CoversValues types names self.needs before
+            → CoversValues types names result.needs (before ++ option_to_list ty) }
     {
         match ty {
             Some(ty) => self.add(scope, ty),
@@ -107,7 +123,10 @@ impl Values {
 
 // What has to be named where a value is of that type, and its size.
 fn value_of(scope: &Scope, ty: ComponentValType) -> (Needs, u32)
-    ensures { (own : FactScope) → kept_in scope.now ≡ kept_of own → result.1 ≡ capped (value_size own.types ty) }
+    ensures size { (own : FactScope) → kept_in scope.now ≡ kept_of own
+        → result.1 ≡ capped (value_size (sizes own.types) ty) }
+    ensures needs { (types : List PlainFacts) (names : List (List Id)) (table : List Exports)
+        → AreKept table names scope.now.types.items types → Covers names result.0 (value_needs types ty) }
 {
     match ty {
         ComponentValType::Primitive(_) => (Needs::nothing(), 1),
@@ -120,8 +139,11 @@ fn value_of(scope: &Scope, ty: ComponentValType) -> (Needs, u32)
 
 // The value types of members. One that has none adds nothing.
 fn values_of<T: Valued>(scope: &Scope, items: &[T]) -> Values
-    ensures { (own : FactScope) → kept_in scope.now ≡ kept_of own
-        → result.size ≡ capped (summed own.types (flat_map (λ i. option_to_list (T.value i)) items.now)) }
+    ensures size { (own : FactScope) → kept_in scope.now ≡ kept_of own
+        → result.size ≡ capped (summed (sizes own.types) (flat_map (λ i. option_to_list (T.value i)) items.now)) }
+    ensures needs { (types : List PlainFacts) (names : List (List Id)) (table : List Exports)
+        → AreKept table names scope.now.types.items types
+        → CoversValues types names result.needs (flat_map (λ i. option_to_list (T.value i)) items.now) }
 {
     let mut values = Values::new(1);
     for item in items {
@@ -149,23 +171,26 @@ fn small_values<T: Valued>(
     last: Option<ComponentValType>,
 ) -> Result<Values, Stop>
     ensures judged { (own : FactScope) → kept_in scope.now ≡ kept_of own
-        → Judges result (summed own.types (flat_map (λ i. option_to_list (T.value i)) items.now ++ option_to_list last)
-        < size_bound) }
-    ensures size { (own : FactScope) → kept_in scope.now ≡ kept_of own → IfOk result (λ v. v.size
-        ≡ capped (summed own.types (flat_map (λ i. option_to_list (T.value i)) items.now ++ option_to_list last))) }
+        → Judges result (summed (sizes own.types)
+        (flat_map (λ i. option_to_list (T.value i)) items.now ++ option_to_list last) < size_bound) }
+    ensures size { (own : FactScope) → kept_in scope.now ≡ kept_of own → IfOk result (λ v. v.size ≡ capped
+        (summed (sizes own.types) (flat_map (λ i. option_to_list (T.value i)) items.now ++ option_to_list last))) }
+    ensures needs { (types : List PlainFacts) (names : List (List Id)) (table : List Exports)
+        → AreKept table names scope.now.types.items types → IfOk result (λ v. CoversValues types names v.needs
+        (flat_map (λ i. option_to_list (T.value i)) items.now ++ option_to_list last)) }
 {
     let values = values_of(scope, items);
     check_size(values.add_some(scope, last))
 }
 
-fn plain_facts(values: Values) -> Facts
-    ensures { result.size ≡ values.size }
+fn plain_type(values: Values) -> Facts
+    ensures { result ≡ plain_facts values.needs values.size }
 {
     Facts::new(values.needs, values.size)
 }
 
-fn nominal_facts(values: Values) -> Facts
-    ensures { result.size ≡ values.size }
+fn nominal_type(values: Values) -> Facts
+    ensures { result ≡ nominal_facts values.needs values.size }
 {
     Facts::nominal(values.needs, values.size)
 }
@@ -173,30 +198,33 @@ fn nominal_facts(values: Values) -> Facts
 /// A type of values.
 pub(crate) fn defined_facts(scope: &Scope, ty: &DefinedType) -> Result<Facts, Stop>
     ensures judged { (own : FactScope) → kept_in scope.now ≡ kept_of own
-        → Judges result (SmallDefined own.types (shown_defined ty.now)) }
+        → Judges result (SmallDefined (sizes own.types) (shown_defined ty.now)) }
     ensures size { (own : FactScope) → kept_in scope.now ≡ kept_of own
-        → IfOk result (λ f. f.size ≡ capped (defined_size own.types (shown_defined ty.now))) }
+        → IfOk result (λ f. f.size ≡ capped (defined_size (sizes own.types) (shown_defined ty.now))) }
+    ensures kept { (id : Id) (types : List PlainFacts) (names : List (List Id)) (table : List Exports)
+        → AreKept table names scope.now.types.items types
+        → IfOk result (λ f. IsKept table names f (defined_plain id types (shown_defined ty.now))) }
 {
     match ty {
-        DefinedType::Primitive(_) => Ok(plain_facts(Values::new(1))),
+        DefinedType::Primitive(_) => Ok(plain_type(Values::new(1))),
         DefinedType::Record(ty) => {
             let values = small_values(scope, &ty.fields, None)?;
-            Ok(nominal_facts(values))
+            Ok(nominal_type(values))
         }
         DefinedType::Variant(ty) => {
             let values = small_values(scope, &ty.cases, None)?;
-            Ok(nominal_facts(values))
+            Ok(nominal_type(values))
         }
-        DefinedType::List(ty) => Ok(plain_facts(Values::new(0).add(scope, ty.elem_ty))),
+        DefinedType::List(ty) => Ok(plain_type(Values::new(0).add(scope, ty.elem_ty))),
         DefinedType::Tuple(ty) => {
             let values = small_values(scope, &ty.fields, None)?;
-            Ok(plain_facts(values))
+            Ok(plain_type(values))
         }
-        DefinedType::Flags(_) | DefinedType::Enum(_) => Ok(nominal_facts(Values::new(1))),
-        DefinedType::Option(ty) => Ok(plain_facts(Values::new(0).add(scope, ty.inner_ty))),
+        DefinedType::Flags(_) | DefinedType::Enum(_) => Ok(nominal_type(Values::new(1))),
+        DefinedType::Option(ty) => Ok(plain_type(Values::new(0).add(scope, ty.inner_ty))),
         DefinedType::Result(ty) => {
             let ok = Values::new(0).add_maybe(scope, ty.ok_ty);
-            Ok(plain_facts(ok.add_maybe(scope, ty.err_ty)))
+            Ok(plain_type(ok.add_maybe(scope, ty.err_ty)))
         }
     }
 }
@@ -204,10 +232,13 @@ pub(crate) fn defined_facts(scope: &Scope, ty: &DefinedType) -> Result<Facts, St
 /// A type of functions.
 pub(crate) fn function_facts(scope: &Scope, ty: &FuncType) -> Result<Facts, Stop>
     ensures judged { (own : FactScope) → kept_in scope.now ≡ kept_of own
-        → Judges result (signature_size own.types ty.now < size_bound) }
+        → Judges result (signature_size (sizes own.types) ty.now < size_bound) }
     ensures size { (own : FactScope) → kept_in scope.now ≡ kept_of own
-        → IfOk result (λ f. f.size ≡ capped (signature_size own.types ty.now)) }
+        → IfOk result (λ f. f.size ≡ capped (signature_size (sizes own.types) ty.now)) }
+    ensures kept { (id : Id) (types : List PlainFacts) (names : List (List Id)) (table : List Exports)
+        → AreKept table names scope.now.types.items types
+        → IfOk result (λ f. IsKept table names f (function_plain id types ty.now)) }
 {
     let values = small_values(scope, &ty.params, ty.result)?;
-    Ok(plain_facts(values))
+    Ok(plain_type(values))
 }

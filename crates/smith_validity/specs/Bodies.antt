@@ -1,5 +1,5 @@
 -- What stands before a place in a component, a component type or an instance type, and what each entry there is.
-use Rattle.std.specs.Prelude.{ℕ, ◌+◌, ◌<◌, length, false, List, [], ◌∷◌, ◌++◌, map, None, Option, Some, slice_get}
+use Rattle.std.specs.Prelude.{ℕ, ◌+◌, ◌<◌, length, false, List, [], ◌∷◌, ◌++◌, map, None, Option, Some, slice_get, get_or}
 use Rattle.std.specs.List.{flat_map}
 use Rattle.std.specs.Option.{option_to_list}
 use Rattle.smith_syntax.specs.Entries.{Entry, defined, function, component_type, instance_type, CoreEntry, core_func, core_module}
@@ -8,7 +8,7 @@ use Rattle.smith_syntax.specs.Scope.{empty_scope, with_core_types, with_types}
 use Rattle.smith_syntax.specs.declared.deftype.ComponentTypeRef.{ComponentTypeRef}
 use Rattle.smith_syntax.specs.declared.deftype.ComponentTypeRef.TheVariants as to
 use Rattle.smith_validity.specs.Counts.{Counts, ValidCounts, no_counts, with_export, with_import, with_type_count}
-use Rattle.smith_validity.specs.Facts.{CoreFacts, Extern, FactScope, Facts, Id, id_at, is_nominal, members, value_needs}
+use Rattle.smith_validity.specs.Facts.{CoreFacts, Extern, FactScope, Facts, Id, id_at, is_nominal, members, sizes, value_needs}
 use Rattle.smith_validity.specs.Sizes.{core_size, defined_size, signature_members, signature_size, size_bound}
 
 -- The types, what is imported and what is exported, each in order, the effective size, and how many entries there are.
@@ -44,19 +44,16 @@ core_facts e own = record { entry = e; size = core_size (map (λ f. f.entry) own
 abbrev pub module_size_of : CoreFacts → ℕ
 module_size_of f = elim f.entry [ core_func g ↦ 0 | core_module ds ↦ f.size ]
 
-abbrev pub module_size_at : FactScope → ℕ → ℕ
-module_size_at own i = elim (slice_get own.core_types i) [ None ↦ 0 | Some f ↦ module_size_of f ]
+abbrev pub module_size_at : List CoreFacts → ℕ → ℕ
+module_size_at core_types i = elim (slice_get core_types i) [ None ↦ 0 | Some f ↦ module_size_of f ]
 
-abbrev pub size_at : FactScope → ℕ → ℕ
-size_at own i = elim (slice_get own.types i) [ None ↦ 0 | Some f ↦ f.size ]
-
--- the size of what is imported or exported
-abbrev pub reference_size : FactScope → ComponentTypeRef → ℕ
-reference_size own (to.Module i) = module_size_at own i
-reference_size own (to.Func i) = size_at own i
-reference_size own (to.TypeEq i) = size_at own i
-reference_size own (to.Component i) = size_at own i
-reference_size own (to.Instance i) = size_at own i
+-- the size of what is imported or exported, among core types and types of these sizes
+abbrev pub reference_size : List CoreFacts → List ℕ → ComponentTypeRef → ℕ
+reference_size core_types types (to.Module i) = module_size_at core_types i
+reference_size core_types types (to.Func i) = get_or types i 0
+reference_size core_types types (to.TypeEq i) = get_or types i 0
+reference_size core_types types (to.Component i) = get_or types i 0
+reference_size core_types types (to.Instance i) = get_or types i 0
 
 -- A type that is equal to another is a type of its own, and is what the other is.
 abbrev pub equal_facts : Id → Facts → Facts
@@ -89,7 +86,7 @@ exported_facts own outer (to.Instance i) = []
 abbrev pub after_import : List FactScope → Body → ComponentTypeRef → Body
 after_import outer b r = record b {
   imports = b.imports ++ externs_at b.own outer r;
-  size = b.size + reference_size b.own r;
+  size = b.size + reference_size b.own.core_types (sizes b.own.types) r;
   counts = with_import b.counts r;
 }
 
@@ -97,7 +94,7 @@ abbrev pub after_export : List FactScope → Body → ComponentTypeRef → Body
 after_export outer b r = with_facts
     (record b {
       exports = b.exports ++ externs_at b.own outer r;
-      size = b.size + reference_size b.own r;
+      size = b.size + reference_size b.own.core_types (sizes b.own.types) r;
       counts = with_export b.counts r;
     })
     (exported_facts b.own outer r)
@@ -109,14 +106,14 @@ abbrev mutual
     id = id_at (own ∷ outer);
     nominal = is_nominal t;
     refers = flat_map (value_needs own.types) (members t);
-    size = defined_size own.types t;
+    size = defined_size (sizes own.types) t;
     exports = [];
   }
   facts (function s) own outer = record {
     id = id_at (own ∷ outer);
     nominal = false;
     refers = flat_map (value_needs own.types) (signature_members s);
-    size = signature_size own.types s;
+    size = signature_size (sizes own.types) s;
     exports = [];
   }
   facts (component_type ds) own outer = record {

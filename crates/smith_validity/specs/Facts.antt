@@ -36,6 +36,9 @@ pub record CoreFacts : Type 0 where
 abbrev pub FactScope : Type 0
 FactScope = ScopeOf Facts CoreFacts
 
+abbrev pub sizes : List Facts → List ℕ
+sizes types = map (λ f. f.size) types
+
 -- a place, by how many types there are before it in the scopes around it, innermost first
 abbrev pub id_at : List FactScope → Id
 id_at scopes = map (λ s. length s.types) scopes

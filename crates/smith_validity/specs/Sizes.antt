@@ -1,5 +1,5 @@
 -- Effective sizes, a bound of wasmparser's own: how many types a type is made of, each counted again wherever it is named.
-use Rattle.std.specs.Prelude.{ℕ, ◌+◌, ◌<◌, ◌≤◌, List, [], ◌∷◌, ◌++◌, map, length, sum, Option, None, Some, slice_get}
+use Rattle.std.specs.Prelude.{ℕ, ◌+◌, ◌<◌, ◌≤◌, List, [], ◌∷◌, ◌++◌, map, length, sum, Option, None, Some, slice_get, get_or}
 use Rattle.std.specs.List.{filter, flat_map}
 use Rattle.smith_format.specs.CoreTypes.{Function}
 use Rattle.smith_format.specs.declared.types.EntityType.{EntityType}
@@ -13,26 +13,28 @@ use Rattle.smith_syntax.specs.ModuleTypes.{adds, entities_in, is_of_kind, module
 use Rattle.smith_syntax.specs.declared.types.ComponentValType.{ComponentValType}
 use Rattle.smith_syntax.specs.declared.types.ComponentValType.TheVariants.{Primitive, Indexed}
 use Rattle.std.specs.Option.{option_to_list}
-use Rattle.smith_validity.specs.Facts.{Facts, members}
+use Rattle.smith_validity.specs.Facts.{members}
 
 -- sizes are below it
 abbrev pub size_bound : ℕ
 size_bound = 1000000
 
-abbrev pub value_size : List Facts → ComponentValType → ℕ
+-- What follows is said of types among others, each of which has an effective size of its own.
+
+abbrev pub value_size : List ℕ → ComponentValType → ℕ
 value_size types (Primitive p) = 1
-value_size types (Indexed i) = elim (slice_get types i) [ None ↦ 1 | Some f ↦ f.size ]
+value_size types (Indexed i) = get_or types i 1
 
 -- that of a result's success or failure, 1 where it has no value
-abbrev pub maybe_size : List Facts → Option ComponentValType → ℕ
+abbrev pub maybe_size : List ℕ → Option ComponentValType → ℕ
 maybe_size types None = 1
 maybe_size types (Some v) = value_size types v
 
 -- 1, and the sizes of these
-abbrev pub summed : List Facts → List ComponentValType → ℕ
+abbrev pub summed : List ℕ → List ComponentValType → ℕ
 summed types vs = sum (map (value_size types) vs) + 1
 
-abbrev pub defined_size : List Facts → DefValType → ℕ
+abbrev pub defined_size : List ℕ → DefValType → ℕ
 defined_size types (primitive_type p) = 1
 defined_size types (record_type fs) = summed types (members (record_type fs))
 defined_size types (variant_type cs) = summed types (members (variant_type cs))
@@ -44,7 +46,7 @@ defined_size types (option_type v) = value_size types v
 defined_size types (result_type ok err) = maybe_size types ok + maybe_size types err
 
 -- The bound is asked where there are any number of members.
-abbrev pub SmallDefined : List Facts → DefValType → Type 0
+abbrev pub SmallDefined : List ℕ → DefValType → Type 0
 SmallDefined types (primitive_type p) = Unit {0}
 SmallDefined types (record_type fs) = defined_size types (record_type fs) < size_bound
 SmallDefined types (variant_type cs) = defined_size types (variant_type cs) < size_bound
@@ -59,7 +61,7 @@ SmallDefined types (result_type ok err) = Unit {0}
 abbrev pub signature_members : Signature → List ComponentValType
 signature_members s = map (λ p. p.1) s.params ++ option_to_list s.result
 
-abbrev pub signature_size : List Facts → Signature → ℕ
+abbrev pub signature_size : List ℕ → Signature → ℕ
 signature_size types s = summed types (signature_members s)
 
 -- Core types: a function type, and a module type, where each import and export has the size of its own type, which is 1 for all but a

@@ -12,7 +12,7 @@ use Rattle.smith_tree.specs.Tree.{Canon, ExportEntry, Tree, Part, ends, first, c
 use Rattle.smith_validity.specs.Bodies.{Body, IsSmall, after_decl, after_export, after_import, core_facts, empty_body, externs_at, facts}
 use Rattle.smith_validity.specs.Bodies.{with_core_facts, with_facts}
 use Rattle.smith_validity.specs.Counts.{ValidCounts, with_component, with_function, with_module}
-use Rattle.smith_validity.specs.Facts.{Extern, FactScope, Id}
+use Rattle.smith_validity.specs.Facts.{Extern, FactScope, Id, sizes}
 use Rattle.smith_validity.specs.Sizes.{SmallDefined, ValidCore, signature_size, size_bound}
 
 -- what these name
@@ -85,8 +85,8 @@ module _ (Asked : List Id → List Extern → Type 0) where
   -- instance type says what is exported wherever there is an instance of it, so that nothing has to be named within it.
   abbrev mutual
     pub ValidEntry : Entry → FactScope → List FactScope → Type 0
-    ValidEntry (defined t) own outer = SmallDefined own.types t
-    ValidEntry (function s) own outer = signature_size own.types s < size_bound
+    ValidEntry (defined t) own outer = SmallDefined (sizes own.types) t
+    ValidEntry (function s) own outer = signature_size (sizes own.types) s < size_bound
     ValidEntry (component_type ds) own outer = ValidDecls true ds (own ∷ outer) empty_body
     ValidEntry (instance_type ds) own outer = ValidDecls false ds (own ∷ outer) empty_body
 

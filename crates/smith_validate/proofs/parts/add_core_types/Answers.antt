@@ -1,4 +1,4 @@
-use Rattle.std.proofs.Common.{◌+◌, map, refl, ◌∙◌}
+use Rattle.std.proofs.Common.{true, ◌+◌, map, refl, ◌∙◌}
 use Rattle.std.proofs.Math.ListN.{drop}
 use Rattle.smith_read_types.specs.Nodes.{shown_core_node}
 use Rattle.smith_validate.proofs.Judging.{passed_on}
@@ -9,8 +9,8 @@ use Rattle.smith_validate.proofs.parts.add_core_types.Goals as goal
 pub loop-ty-init : goal.loop-ty-init
 loop-ty-init c = record {
   outer = refl;
-  left = λ b outer h. row_all cores_row b (map shown_core_node c.args.types.now)
-      (BodyAt c.args.known.now c.args.body.now outer) h;
+  left = λ b outer names table h. row_all cores_row b (map shown_core_node c.args.types.now)
+      (BodyAt outer names table c.args.known.now c.args.body.now) h;
 }
 
 pub loop-ty-preserved : goal.loop-ty-preserved
@@ -18,39 +18,41 @@ loop-ty-preserved c =
     let done = c.in_ok-declare_core_type.ensures {u = tt} in
     record {
       outer = done.outer ∙ c.loop-ty.invariant.outer;
-      left = λ b outer h.
+      left = λ b outer names table h.
           let xs = c.args.types.now in
           let i = c.loop-ty.ty-index in
           let x = c.ty-item.result in
-          let l = row_at cores_row shown_core_node b xs (BodyAt c.loop-ty.known c.loop-ty.body outer) i x c.loop-ty-test.true c.ty-item.is
-          (c.loop-ty.invariant.left b outer h) in
-          row_more cores_row b (map shown_core_node xs) (BodyAt c.loop-ty.known c.loop-ty.body outer) (shown_core_node x)
+          let l = row_at cores_row shown_core_node b xs (BodyAt outer names table c.loop-ty.known c.loop-ty.body) i x c.loop-ty-test.true c.ty-item.is
+          (c.loop-ty.invariant.left b outer names table h) in
+          row_more cores_row b (map shown_core_node xs) (BodyAt outer names table c.loop-ty.known c.loop-ty.body) (shown_core_node x)
           (map shown_core_node (drop (i + 1) xs)) l
-          (BodyAt c.declare_core_type.new.known c.declare_core_type.new.body outer) (done.judged l.at outer l.is) (done.added l.at outer l.is);
+          (BodyAt outer names table c.declare_core_type.new.known c.declare_core_type.new.body) (λ d. done.judged l.at outer names table l.is)
+          (done.added l.at outer names table l.is);
     }
 
 pub returns-in_err-declare_core_type-clause-judged : goal.returns-in_err-declare_core_type-clause-judged
-returns-in_err-declare_core_type-clause-judged c = λ b outer h.
+returns-in_err-declare_core_type-clause-judged c = λ b outer names table h.
     let xs = c.args.types.now in
     let i = c.loop-ty.ty-index in
     let x = c.ty-item.result in
-    let l = row_at cores_row shown_core_node b xs (BodyAt c.loop-ty.known c.loop-ty.body outer) i x c.loop-ty-test.true c.ty-item.is
-    (c.loop-ty.invariant.left b outer h) in
+    let l = row_at cores_row shown_core_node b xs (BodyAt outer names table c.loop-ty.known c.loop-ty.body) i x c.loop-ty-test.true c.ty-item.is
+    (c.loop-ty.invariant.left b outer names table h) in
     passed_on _ _ c.from_residual.ensures.1
-    (row_exit cores_row b (map shown_core_node xs) (BodyAt c.loop-ty.known c.loop-ty.body outer) (shown_core_node x) (map shown_core_node (drop (i + 1) xs)) l
-    ((c.in_err-declare_core_type.ensures {u = tt}).judged l.at outer l.is))
+    (row_exit cores_row b (map shown_core_node xs) (BodyAt outer names table c.loop-ty.known c.loop-ty.body) (shown_core_node x)
+    (map shown_core_node (drop (i + 1) xs)) l true
+    ((c.in_err-declare_core_type.ensures {u = tt}).judged l.at outer names table l.is))
 
 pub returns-clause-judged : goal.returns-clause-judged
-returns-clause-judged c = λ b outer h.
-    row_valid cores_row b (map shown_core_node c.args.types.now) (BodyAt c.loop-ty.known c.loop-ty.body outer)
-    (row_last cores_row shown_core_node b c.args.types.now (BodyAt c.loop-ty.known c.loop-ty.body outer) c.loop-ty.ty-index c.loop-ty-test.false
-    (c.loop-ty.invariant.left b outer h))
+returns-clause-judged c = λ b outer names table h.
+    row_valid cores_row b (map shown_core_node c.args.types.now) (BodyAt outer names table c.loop-ty.known c.loop-ty.body)
+    (row_last cores_row shown_core_node b c.args.types.now (BodyAt outer names table c.loop-ty.known c.loop-ty.body) c.loop-ty.ty-index c.loop-ty-test.false
+    (c.loop-ty.invariant.left b outer names table h)) true
 
 pub returns-clause-added : goal.returns-clause-added
-returns-clause-added c = λ b outer h.
-    row_after cores_row b (map shown_core_node c.args.types.now) (BodyAt c.loop-ty.known c.loop-ty.body outer)
-    (row_last cores_row shown_core_node b c.args.types.now (BodyAt c.loop-ty.known c.loop-ty.body outer) c.loop-ty.ty-index c.loop-ty-test.false
-    (c.loop-ty.invariant.left b outer h)) refl
+returns-clause-added c = λ b outer names table h.
+    row_after cores_row b (map shown_core_node c.args.types.now) (BodyAt outer names table c.loop-ty.known c.loop-ty.body)
+    (row_last cores_row shown_core_node b c.args.types.now (BodyAt outer names table c.loop-ty.known c.loop-ty.body) c.loop-ty.ty-index c.loop-ty-test.false
+    (c.loop-ty.invariant.left b outer names table h)) refl
 
 pub returns-clause-outer : goal.returns-clause-outer
 returns-clause-outer c = c.loop-ty.invariant.outer

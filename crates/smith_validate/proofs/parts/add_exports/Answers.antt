@@ -9,8 +9,8 @@ use Rattle.smith_validate.proofs.parts.add_exports.Goals as goal
 pub loop-export-init : goal.loop-export-init
 loop-export-init c = record {
   outer = refl;
-  left = λ s b outer h. row_all (exports_row outer) (s, b) (map shown_export_node c.args.exports.now)
-      (OpenAt c.args.known.now c.args.here.now outer) h;
+  left = λ s b outer names table h. row_all (exports_row outer) (s, b) (map shown_export_node c.args.exports.now)
+      (OpenAt outer names table c.args.known.now c.args.here.now) h;
 }
 
 pub loop-export-preserved : goal.loop-export-preserved
@@ -18,44 +18,46 @@ loop-export-preserved c =
     let done = c.in_ok-export_one.ensures {u = tt} in
     record {
       outer = done.outer ∙ c.loop-export.invariant.outer;
-      left = λ s b outer h.
+      left = λ s b outer names table h.
           let xs = c.args.exports.now in
           let i = c.loop-export.export-index in
           let x = c.export-item.result in
-          let l = row_at (exports_row outer) shown_export_node (s, b) xs (OpenAt c.loop-export.known c.loop-export.here outer) i x c.loop-export-test.true
+          let l = row_at (exports_row outer) shown_export_node (s, b) xs
+          (OpenAt outer names table c.loop-export.known c.loop-export.here) i x c.loop-export-test.true
           c.export-item.is
-          (c.loop-export.invariant.left s b outer h) in
-          row_more (exports_row outer) (s, b) (map shown_export_node xs) (OpenAt c.loop-export.known c.loop-export.here outer) (shown_export_node x)
+          (c.loop-export.invariant.left s b outer names table h) in
+          row_more (exports_row outer) (s, b) (map shown_export_node xs) (OpenAt outer names table c.loop-export.known c.loop-export.here) (shown_export_node x)
           (map shown_export_node (drop (i + 1) xs)) l
-          (OpenAt c.export_one.new.known c.export_one.new.here outer) (done.judged l.at.0 l.at.1 outer l.is) (done.added l.at.0 l.at.1 outer l.is);
+          (OpenAt outer names table c.export_one.new.known c.export_one.new.here) (λ d. done.judged d l.at.0 l.at.1 outer names table l.is)
+          (done.added l.at.0 l.at.1 outer names table l.is);
     }
 
 pub returns-in_err-export_one-clause-judged : goal.returns-in_err-export_one-clause-judged
-returns-in_err-export_one-clause-judged c = λ s b outer h.
+returns-in_err-export_one-clause-judged c = λ d s b outer names table h.
     let xs = c.args.exports.now in
     let i = c.loop-export.export-index in
     let x = c.export-item.result in
-    let l = row_at (exports_row outer) shown_export_node (s, b) xs (OpenAt c.loop-export.known c.loop-export.here outer) i x c.loop-export-test.true
+    let l = row_at (exports_row outer) shown_export_node (s, b) xs (OpenAt outer names table c.loop-export.known c.loop-export.here) i x c.loop-export-test.true
     c.export-item.is
-    (c.loop-export.invariant.left s b outer h) in
+    (c.loop-export.invariant.left s b outer names table h) in
     passed_on _ _ c.from_residual.ensures.1
-    (row_exit (exports_row outer) (s, b) (map shown_export_node xs) (OpenAt c.loop-export.known c.loop-export.here outer) (shown_export_node x)
-    (map shown_export_node (drop (i + 1) xs)) l
-    ((c.in_err-export_one.ensures {u = tt}).judged l.at.0 l.at.1 outer l.is))
+    (row_exit (exports_row outer) (s, b) (map shown_export_node xs) (OpenAt outer names table c.loop-export.known c.loop-export.here) (shown_export_node x)
+    (map shown_export_node (drop (i + 1) xs)) l d
+    ((c.in_err-export_one.ensures {u = tt}).judged d l.at.0 l.at.1 outer names table l.is))
 
 pub returns-clause-judged : goal.returns-clause-judged
-returns-clause-judged c = λ s b outer h.
-    row_valid (exports_row outer) (s, b) (map shown_export_node c.args.exports.now) (OpenAt c.loop-export.known c.loop-export.here outer)
-    (row_last (exports_row outer) shown_export_node (s, b) c.args.exports.now (OpenAt c.loop-export.known c.loop-export.here outer)
+returns-clause-judged c = λ d s b outer names table h.
+    row_valid (exports_row outer) (s, b) (map shown_export_node c.args.exports.now) (OpenAt outer names table c.loop-export.known c.loop-export.here)
+    (row_last (exports_row outer) shown_export_node (s, b) c.args.exports.now (OpenAt outer names table c.loop-export.known c.loop-export.here)
     c.loop-export.export-index c.loop-export-test.false
-    (c.loop-export.invariant.left s b outer h))
+    (c.loop-export.invariant.left s b outer names table h)) d
 
 pub returns-clause-added : goal.returns-clause-added
-returns-clause-added c = λ s b outer h.
-    row_after (exports_row outer) (s, b) (map shown_export_node c.args.exports.now) (OpenAt c.loop-export.known c.loop-export.here outer)
-    (row_last (exports_row outer) shown_export_node (s, b) c.args.exports.now (OpenAt c.loop-export.known c.loop-export.here outer)
+returns-clause-added c = λ s b outer names table h.
+    row_after (exports_row outer) (s, b) (map shown_export_node c.args.exports.now) (OpenAt outer names table c.loop-export.known c.loop-export.here)
+    (row_last (exports_row outer) shown_export_node (s, b) c.args.exports.now (OpenAt outer names table c.loop-export.known c.loop-export.here)
     c.loop-export.export-index c.loop-export-test.false
-    (c.loop-export.invariant.left s b outer h)) refl
+    (c.loop-export.invariant.left s b outer names table h)) refl
 
 pub returns-clause-outer : goal.returns-clause-outer
 returns-clause-outer c = c.loop-export.invariant.outer

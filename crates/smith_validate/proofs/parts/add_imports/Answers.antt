@@ -7,46 +7,49 @@ use Rattle.smith_validate.proofs.Rows.{row_after, row_all, row_at, row_exit, row
 use Rattle.smith_validate.proofs.parts.add_imports.Goals as goal
 
 pub loop-import-init : goal.loop-import-init
-loop-import-init c = λ s b outer h. row_all (imports_row outer) (s, b) (map shown_import_node c.args.imports.now)
-    (OpenAt c.args.known.now c.args.here.now outer) h
+loop-import-init c = λ s b outer names table h. row_all (imports_row outer) (s, b) (map shown_import_node c.args.imports.now)
+    (OpenAt outer names table c.args.known.now c.args.here.now) h
 
 pub loop-import-preserved : goal.loop-import-preserved
 loop-import-preserved c =
     let done = c.in_ok-import_one.ensures {u = tt} in
-    (λ s b outer h.
+    (λ s b outer names table h.
     let xs = c.args.imports.now in
     let i = c.loop-import.import-index in
     let x = c.import-item.result in
-    let l = row_at (imports_row outer) shown_import_node (s, b) xs (OpenAt c.args.known.now c.loop-import.here outer) i x c.loop-import-test.true
+    let l = row_at (imports_row outer) shown_import_node (s, b) xs (OpenAt outer names table c.args.known.now c.loop-import.here) i x c.loop-import-test.true
     c.import-item.is
-    (c.loop-import.invariant s b outer h) in
-    row_more (imports_row outer) (s, b) (map shown_import_node xs) (OpenAt c.args.known.now c.loop-import.here outer) (shown_import_node x)
+    (c.loop-import.invariant s b outer names table h) in
+    row_more (imports_row outer) (s, b) (map shown_import_node xs) (OpenAt outer names table c.args.known.now c.loop-import.here) (shown_import_node x)
     (map shown_import_node (drop (i + 1) xs)) l
-    (OpenAt c.args.known.now c.import_one.new.here outer) (done.judged l.at.0 l.at.1 outer l.is) (done.added l.at.0 l.at.1 outer l.is))
+    (OpenAt outer names table c.args.known.now c.import_one.new.here) (λ d. done.judged d l.at.0 l.at.1 outer names table l.is)
+    (done.added l.at.0 l.at.1 outer names table l.is))
 
 pub returns-in_err-import_one-clause-judged : goal.returns-in_err-import_one-clause-judged
-returns-in_err-import_one-clause-judged c = λ s b outer h.
+returns-in_err-import_one-clause-judged c = λ d s b outer names table h.
     let xs = c.args.imports.now in
     let i = c.loop-import.import-index in
     let x = c.import-item.result in
-    let l = row_at (imports_row outer) shown_import_node (s, b) xs (OpenAt c.args.known.now c.loop-import.here outer) i x c.loop-import-test.true
+    let l = row_at (imports_row outer) shown_import_node (s, b) xs (OpenAt outer names table c.args.known.now c.loop-import.here) i x c.loop-import-test.true
     c.import-item.is
-    (c.loop-import.invariant s b outer h) in
+    (c.loop-import.invariant s b outer names table h) in
     passed_on _ _ c.from_residual.ensures.1
-    (row_exit (imports_row outer) (s, b) (map shown_import_node xs) (OpenAt c.args.known.now c.loop-import.here outer) (shown_import_node x)
-    (map shown_import_node (drop (i + 1) xs)) l
-    ((c.in_err-import_one.ensures {u = tt}).judged l.at.0 l.at.1 outer l.is))
+    (row_exit (imports_row outer) (s, b) (map shown_import_node xs) (OpenAt outer names table c.args.known.now c.loop-import.here) (shown_import_node x)
+    (map shown_import_node (drop (i + 1) xs)) l d
+    ((c.in_err-import_one.ensures {u = tt}).judged d l.at.0 l.at.1 outer names table l.is))
 
 pub returns-clause-judged : goal.returns-clause-judged
-returns-clause-judged c = λ s b outer h.
-    row_valid (imports_row outer) (s, b) (map shown_import_node c.args.imports.now) (OpenAt c.args.known.now c.loop-import.here outer)
-    (row_last (imports_row outer) shown_import_node (s, b) c.args.imports.now (OpenAt c.args.known.now c.loop-import.here outer) c.loop-import.import-index
+returns-clause-judged c = λ d s b outer names table h.
+    row_valid (imports_row outer) (s, b) (map shown_import_node c.args.imports.now) (OpenAt outer names table c.args.known.now c.loop-import.here)
+    (row_last (imports_row outer) shown_import_node (s, b) c.args.imports.now
+    (OpenAt outer names table c.args.known.now c.loop-import.here) c.loop-import.import-index
     c.loop-import-test.false
-    (c.loop-import.invariant s b outer h))
+    (c.loop-import.invariant s b outer names table h)) d
 
 pub returns-clause-added : goal.returns-clause-added
-returns-clause-added c = λ s b outer h.
-    row_after (imports_row outer) (s, b) (map shown_import_node c.args.imports.now) (OpenAt c.args.known.now c.loop-import.here outer)
-    (row_last (imports_row outer) shown_import_node (s, b) c.args.imports.now (OpenAt c.args.known.now c.loop-import.here outer) c.loop-import.import-index
+returns-clause-added c = λ s b outer names table h.
+    row_after (imports_row outer) (s, b) (map shown_import_node c.args.imports.now) (OpenAt outer names table c.args.known.now c.loop-import.here)
+    (row_last (imports_row outer) shown_import_node (s, b) c.args.imports.now
+    (OpenAt outer names table c.args.known.now c.loop-import.here) c.loop-import.import-index
     c.loop-import-test.false
-    (c.loop-import.invariant s b outer h)) refl
+    (c.loop-import.invariant s b outer names table h)) refl

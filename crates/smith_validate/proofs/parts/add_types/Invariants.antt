@@ -1,16 +1,17 @@
-use Rattle.std.proofs.Common.{◌≡◌, List}
+use Rattle.std.proofs.Common.{◌≡◌, List, true}
 use Rattle.smith_validity.specs.Bodies.{Body}
-use Rattle.smith_validity.specs.Facts.{FactScope}
+use Rattle.smith_validity.specs.Facts.{FactScope, Id}
 use Rattle.smith_read_types.specs.TypeNodes.{shown_type_node}
 use Rattle.smith_validate.specs.Bodies.{IsBody}
-use Rattle.smith_validate.specs.Kept.{outer_in}
-use Rattle.smith_validate.proofs.PartRows.{BodyAt, types_row}
+use Rattle.smith_validate.specs.Instances.{Exports}
+use Rattle.smith_validate.proofs.PartRows.{BodyNow, types_row}
 use Rattle.smith_validate.proofs.Rows.{RowFrom}
 use Rattle.smith_validate.proofs.parts.add_types.Given as goal
 
 abbrev pub invariant-loop-ty : goal.invariant-loop-ty
 invariant-loop-ty l = record {
-  outer : outer_in l.known ≡ outer_in l.initial.known;
-  left : (b : Body) (outer : List FactScope) → IsBody l.initial.known l.initial.body b outer
-      → RowFrom (types_row outer) shown_type_node b l.types (BodyAt l.known l.body outer) l.ty-index;
+  outer : l.known.outer.items ≡ l.initial.known.outer.items;
+  left : (b : Body) (outer : List FactScope) (names : List (List Id)) (table : List Exports)
+      → IsBody true l.initial.known l.initial.body b outer names table
+      → RowFrom (types_row outer) shown_type_node b l.types (BodyNow outer names table l.known l.body) l.ty-index;
 }

@@ -1,18 +1,32 @@
-use Rattle.std.proofs.Common.{◌∙◌}
+use Rattle.std.proofs.Common.{◌++◌, true}
 use Rattle.smith_read_types.specs.TypeNodes.{shown_type_node}
 use Rattle.smith_validity.specs.Bodies.{facts}
-use Rattle.smith_validate.proofs.Judging.{judged_by}
+use Rattle.smith_validity.specs.Validates.{names_of}
+use Rattle.smith_validate.proofs.Judging.{judged_by, on_by, passed_on, refute_by}
+use Rattle.smith_validate.proofs.TypeSteps.{body_declared}
 use Rattle.smith_validate.proofs.parts.declare_type.Goals as goal
 
+pub returns-in_err-facts-clause-judged : goal.returns-in_err-facts-clause-judged
+returns-in_err-facts-clause-judged c = λ d b outer names table s.
+    passed_on _ _ c.from_residual.ensures.1
+    (refute_by (λ q. q.0) ((c.in_err-facts.ensures {u = tt}).judged d b.own outer (names_of b.exports) names table s.scopes))
+
 pub returns-clause-judged : goal.returns-clause-judged
-returns-clause-judged c = λ b outer s.
+returns-clause-judged c = λ d b outer names table s.
     let done = c.in_ok-facts.ensures {u = tt} in
-    judged_by c.add_type.result (λ p. (done.judged b.own outer s.scopes, p)) (λ q. q.1)
-    (c.add_type.ensures.judged b outer (facts (shown_type_node c.args.ty.now) b.own outer)
-    (record {
-      scopes = record { own_is = done.own ∙ s.scopes.own_is; outer_is = done.outer ∙ s.scopes.outer_is };
-      size_is = s.size_is;
-      counts_are = s.counts_are;
-      small = s.small;
-    })
-    (done.size b.own outer s.scopes))
+    let here = names_of b.exports in
+    let kept = done.kept b.own outer here names table s.scopes in
+    judged_by c.add_type.result (λ p. (done.judged d b.own outer here names table s.scopes, p)) (λ q. q.1)
+    (c.add_type.ensures.judged true b outer names (table ++ kept.more) (facts (shown_type_node c.args.ty.now) b.own outer)
+    (body_declared true c.args.known.now _ c.args.body.now b outer names table kept.more s done.own done.outer kept.instances_are))
+
+pub returns-clause-added : goal.returns-clause-added
+returns-clause-added c = λ b outer names table s.
+    let done = c.in_ok-facts.ensures {u = tt} in
+    let here = names_of b.exports in
+    let kept = done.kept b.own outer here names table s.scopes in
+    on_by c.add_type.result
+    (λ k. (kept.more, k))
+    (c.add_type.ensures.added true b outer names (table ++ kept.more) (facts (shown_type_node c.args.ty.now) b.own outer)
+    (body_declared true c.args.known.now _ c.args.body.now b outer names table kept.more s done.own done.outer kept.instances_are)
+    (done.size b.own outer here names table s.scopes) kept.is)

@@ -1,29 +1,60 @@
 use Rattle.std.proofs.Common.{◌+◌, ap, sym, ◌∙◌, length, subst, arith}
-use Rattle.smith_validity.specs.Bodies.{exported_facts, reference_size}
+use Rattle.smith_validity.specs.Bodies.{after_export, exported_facts, externs_at, reference_size}
 use Rattle.smith_validity.specs.Counts.{ValidCounts, with_export, with_type_count}
+use Rattle.smith_validity.specs.Facts.{sizes}
+use Rattle.smith_validity.specs.Validates.{exported, names_of}
+use Rattle.smith_syntax.specs.Scope.{with_types}
+use Rattle.smith_validate.specs.Bodies.{IsIn, IsRole}
 use Rattle.smith_validate.specs.Counted.{counted}
-use Rattle.smith_validate.proofs.Judging.{on_judged}
+use Rattle.smith_validate.proofs.Judging.{asked_met, judged_by, on_judged}
+use Rattle.smith_validate.proofs.Names.{names_append}
 use Rattle.smith_validate.proofs.references.add_export.Goals as goal
 
-pub returns-clause-added : goal.returns-clause-added
-returns-clause-added c = λ b outer s.
+pub returns-clause-judged : goal.returns-clause-judged
+returns-clause-judged c = λ d asks b outer names table s.
     let to = c.args.to in
     let fs = exported_facts b.own outer to in
+    let named = (c.in_ok-name_export.ensures {u = tt}).named asks b outer names table s.scopes s.role_is in
+    let n = reference_size b.own.core_types (sizes b.own.types) to in
     let size = c.size_of_reference.ensures b.own s.scopes.own_is in
-    let grown = (c.in_ok-add_size.ensures {u = tt}).size (reference_size b.own to) size in
-    let bound = (c.in_ok-add_size.ensures {u = tt}).judged (reference_size b.own to) size in
-    let counts =
-    ap counted (c.in_ok-add_size.ensures {u = tt}).counts
-    ∙ ((c.in_ok-add_export.ensures {u = tt}).added ∙ ap (λ n. with_export n to) s.counts_are) in
+    let bound = (c.in_ok-add_size.ensures {u = tt}).judged n size in
+    let counts = ap counted (c.in_ok-add_size.ensures {u = tt}).counts
+    ∙ ((c.in_ok-add_export.ensures {u = tt}).added ∙ ap (λ m. with_export m to) s.counts_are) in
     let valid = subst ValidCounts (sym counts)
-    (subst ValidCounts (ap (λ n. with_export n to) s.counts_are)
+    (subst ValidCounts (ap (λ m. with_export m to) s.counts_are)
     ((c.in_ok-add_export.ensures {u = tt}).judged (subst ValidCounts (sym s.counts_are) s.small.1))) in
+    judged_by c.add_exported.result
+    (λ p. (
+      asked_met d asks (exported b) (externs_at b.own outer to) named.0,
+      (omega (arith, bound, s.size_is), subst ValidCounts (ap (λ m. with_type_count m (length fs)) counts) p),
+    ))
+    (λ q. subst ValidCounts (sym (ap (λ m. with_type_count m (length fs)) counts)) q.1.1)
+    (c.add_exported.ensures.judged b.own outer (names_of b.exports) names table
+    s.scopes valid)
+
+pub returns-clause-added : goal.returns-clause-added
+returns-clause-added c = λ asks b outer names table s.
+    let to = c.args.to in
+    let xs = externs_at b.own outer to in
+    let fs = exported_facts b.own outer to in
+    let named = (c.in_ok-name_export.ensures {u = tt}).named asks b outer names table s.scopes s.role_is in
+    let n = reference_size b.own.core_types (sizes b.own.types) to in
+    let size = c.size_of_reference.ensures b.own s.scopes.own_is in
+    let grown = (c.in_ok-add_size.ensures {u = tt}).size n size in
+    let bound = (c.in_ok-add_size.ensures {u = tt}).judged n size in
+    let counts = ap counted (c.in_ok-add_size.ensures {u = tt}).counts
+    ∙ ((c.in_ok-add_export.ensures {u = tt}).added ∙ ap (λ m. with_export m to) s.counts_are) in
+    let valid = subst ValidCounts (sym counts)
+    (subst ValidCounts (ap (λ m. with_export m to) s.counts_are)
+    ((c.in_ok-add_export.ensures {u = tt}).judged (subst ValidCounts (sym s.counts_are) s.small.1))) in
+    let here = names_of b.exports in
     on_judged c.add_exported.result
-    (λ k n j. record {
-      scopes = k;
-      size_is = grown ∙ ap (λ m. m + reference_size b.own to) s.size_is;
-      counts_are = n ∙ ap (λ m. with_type_count m (length fs)) counts;
-      small = (omega (arith, bound, s.size_is), subst ValidCounts (ap (λ m. with_type_count m (length fs)) counts) j);
+    (λ k m j. record {
+      scopes = subst (λ ids. IsIn c.add_exported.new.known (with_types b.own fs) outer ids names table) (sym (names_append b.exports xs)) k;
+      size_is = grown ∙ ap (λ z. z + n) s.size_is;
+      counts_are = m ∙ ap (λ z. with_type_count z (length fs)) counts;
+      small = (omega (arith, bound, s.size_is), subst ValidCounts (ap (λ z. with_type_count z (length fs)) counts) j);
+      role_is = subst (λ r. IsRole table names asks r (after_export outer b to)) (sym (c.in_ok-add_size.ensures {u = tt}).role) named.1;
     })
-    (c.add_exported.ensures.added b.own outer s.scopes) (c.add_exported.ensures.counts b.own outer s.scopes)
-    (c.add_exported.ensures.judged b.own outer s.scopes valid)
+    (c.add_exported.ensures.added b.own outer here names table s.scopes) (c.add_exported.ensures.counts b.own outer here names table s.scopes)
+    (c.add_exported.ensures.judged b.own outer here names table s.scopes valid)

@@ -1,47 +1,99 @@
-use Rattle.std.proofs.Common.{ap, sym, ◌∙◌, length}
-use Rattle.smith_syntax.specs.Scope.{with_type}
+use Rattle.std.proofs.Common.{◌∷◌, ◌++◌, [], ap, sym, ◌∙◌, length, subst, true, ◌≡◌}
+use Rattle.smith_input.specs.NewNames.{is_among}
+use Rattle.smith_validity.specs.Bodies.{equal_facts, exported_facts, externs_at}
 use Rattle.smith_validity.specs.Counts.{ValidCounts, with_type_count}
+use Rattle.smith_validity.specs.Facts.{id_at}
+use Rattle.smith_validity.specs.Validates.{names_of}
 use Rattle.smith_validate.specs.Counted.{counted}
-use Rattle.smith_validate.specs.Kept.{own_in}
-use Rattle.smith_validate.proofs.Judging.{on_by, passed_on, refuted_at}
-use Rattle.smith_validate.proofs.ScopeSteps.{count_none, exported_none, exported_one, none_added, one_added, type_found, type_missing}
+use Rattle.smith_validate.specs.Instances.{IsKept}
+use Rattle.smith_validate.specs.Marks.{named_facts}
+use Rattle.smith_syntax.specs.declared.deftype.ComponentTypeRef.TheVariants as to
+use Rattle.smith_validate.proofs.Judging.{on_by, on_both, passed_on, refuted_at}
+use Rattle.smith_validate.proofs.Names.{among_itself, sub_left, sub_right}
+use Rattle.smith_validate.proofs.ScopeSteps.{count_none, exported_none, exported_one, in_none, in_one, kept_named, named_one, none_exported, size_at}
+use Rattle.smith_validate.proofs.Valued.{beside, none_beside}
 use Rattle.smith_validate.proofs.references.add_exported.Goals as goal
 
+pub returns-in_default-clause-judged : goal.returns-in_default-clause-judged
+returns-in_default-clause-judged c = λ own outer here names table s v.
+    let none = none_exported own outer c.args.to c.in_default.not-TypeEq in
+    subst (λ fs. ValidCounts (with_type_count (counted c.args.counts.now) (length fs))) (sym none)
+    (subst ValidCounts (count_none (counted c.args.counts.now)) v)
+
+pub returns-in_default-clause-added : goal.returns-in_default-clause-added
+returns-in_default-clause-added c = λ own outer here names table s.
+    let ids = names_of (externs_at own outer c.args.to) in
+    in_none c.args.known.now own outer here (here ++ ids) names table s (sub_left here ids) _ (none_exported own outer c.args.to c.in_default.not-TypeEq)
+
+pub returns-in_default-clause-counts : goal.returns-in_default-clause-counts
+returns-in_default-clause-counts c = λ own outer here names table s.
+    count_none (counted c.args.counts.now)
+    ∙ ap (λ fs. with_type_count (counted c.args.counts.now) (length fs)) (sym (none_exported own outer c.args.to c.in_default.not-TypeEq))
+
+pub returns-in_default-type_at-clause-judged : goal.returns-in_default-type_at-clause-judged
+returns-in_default-type_at-clause-judged c = λ own outer here names table s v.
+    let i = c.in-TypeEq.index in
+    let none = none_beside (IsKept table (here ∷ names)) c.args.known.now.own.types.items own.types i s.types_are.0 c.in_default-type_at.ensures.facts in
+    rw (c.in-TypeEq.is)
+    (subst (λ fs. ValidCounts (with_type_count (counted c.args.counts.now) (length fs))) (sym (exported_none own outer i none))
+    (subst ValidCounts (count_none (counted c.args.counts.now)) v))
+
 pub returns-in_default-type_at-clause-added : goal.returns-in_default-type_at-clause-added
-returns-in_default-type_at-clause-added c = λ own outer s.
-    rw (c.in-TypeEq.is) (none_added own outer c.in-TypeEq.index _ s (type_missing own outer c.in-TypeEq.index _ s c.in_default-type_at.ensures))
+returns-in_default-type_at-clause-added c = λ own outer here names table s.
+    let i = c.in-TypeEq.index in
+    let none = none_beside (IsKept table (here ∷ names)) c.args.known.now.own.types.items own.types i s.types_are.0 c.in_default-type_at.ensures.facts in
+    rw (c.in-TypeEq.is)
+    (let ids = names_of (externs_at own outer (to.TypeEq i)) in
+    in_none c.args.known.now own outer here (here ++ ids) names table s (sub_left here ids) _ (exported_none own outer i none))
 
 pub returns-in_default-type_at-clause-counts : goal.returns-in_default-type_at-clause-counts
-returns-in_default-type_at-clause-counts c = λ own outer s.
+returns-in_default-type_at-clause-counts c = λ own outer here names table s.
+    let i = c.in-TypeEq.index in
+    let none = none_beside (IsKept table (here ∷ names)) c.args.known.now.own.types.items own.types i s.types_are.0 c.in_default-type_at.ensures.facts in
     rw (c.in-TypeEq.is)
     (count_none (counted c.args.counts.now)
-    ∙ ap (λ fs. with_type_count (counted c.args.counts.now) (length fs))
-    (sym (exported_none own outer c.in-TypeEq.index (type_missing own outer c.in-TypeEq.index _ s c.in_default-type_at.ensures))))
+    ∙ ap (λ fs. with_type_count (counted c.args.counts.now) (length fs)) (sym (exported_none own outer i none)))
 
 pub returns-in_err-add_type-clause-judged : goal.returns-in_err-add_type-clause-judged
-returns-in_err-add_type-clause-judged c = λ own outer s v.
-    let f = type_found own outer c.in-TypeEq.index _ s c.in-Some.facts.size c.in-Some.ensures in
+returns-in_err-add_type-clause-judged c = λ own outer here names table s v.
+    let i = c.in-TypeEq.index in
+    let f = beside (IsKept table (here ∷ names)) c.args.known.now.own.types.items own.types i c.in-Some.facts s.types_are.0 c.in-Some.ensures.facts in
     rw (c.in-TypeEq.is)
     (passed_on _ _ c.from_residual.ensures.1
     (refuted_at (λ fs. ValidCounts (with_type_count (counted c.args.counts.now) (length fs))) _ _
-    (sym (exported_one own outer c.in-TypeEq.index f.item f.is)) ((c.in_err-add_type.ensures {u = tt}).judged v)))
+    (sym (exported_one own outer i f.item f.at)) ((c.in_err-add_type.ensures {u = tt}).judged v)))
 
 pub returns-clause-added : goal.returns-clause-added
-returns-clause-added c = λ own outer s.
-    let f = type_found own outer c.in-TypeEq.index _ s c.in-Some.facts.size c.in-Some.ensures in
+returns-clause-added c = λ own outer here names table s.
+    let i = c.in-TypeEq.index in
+    let k = c.in-Some.facts in
+    let f = beside (IsKept table (here ∷ names)) c.args.known.now.own.types.items own.types i k s.types_are.0 c.in-Some.ensures.facts in
+    let id = id_at (own ∷ outer) in
     rw (c.in-TypeEq.is)
-    (on_by c.add_type-2.result
-    (λ e. one_added own outer c.in-TypeEq.index _ s c.add_type-2.new.self c.in-Some.facts.size f
-    (e ∙ (ap (λ x. with_type x c.name-facts.result.size) c.name-facts.ensures.own
-    ∙ ap (λ n. with_type (own_in c.args.known.now) n) c.name-facts.ensures.size))
-    (c.add_type-2.ensures.outer ∙ c.name-facts.ensures.outer))
-    c.add_type-2.ensures.own)
+    (let ids = names_of (externs_at own outer (to.TypeEq i)) in
+    let there = here ++ ids in
+    let new = c.add_type-2.new.self in
+    let kf = c.named.result in
+    let size : kf.size ≡ k.size = ap (λ g. g.size) c.named.ensures in
+    let has : is_among there id ≡ true =
+    sub_right here ids id (subst (λ xs. is_among xs id ≡ true) (sym (named_one own outer i f.item f.at)) (among_itself id [])) in
+    let kept : IsKept table (there ∷ names) kf (equal_facts id f.item) =
+    subst (λ g. IsKept table (there ∷ names) g (equal_facts id f.item))
+    (ap (λ d. named_facts k d) (s.depth_is ∙ sym c.depth-depth.ensures) ∙ sym c.named.ensures)
+    (kept_named table here there names (sub_left here ids) k f.item id f.is has) in
+    on_both c.add_type-2.result
+    (λ sizes types.
+    in_one c.args.known.now own outer here there names table s (sub_left here ids) new c.add_type-2.ensures.outer c.add_type-2.ensures.instances
+    (exported_facts own outer (to.TypeEq i)) (equal_facts id f.item) kf (exported_one own outer i f.item f.at) sizes
+    (size ∙ size_at c.args.known.now own i k.size f.item s.own_is c.in-Some.ensures.size f.at) types kept)
+    c.add_type-2.ensures.own c.add_type-2.ensures.types)
 
 pub returns-clause-counts : goal.returns-clause-counts
-returns-clause-counts c = λ own outer s.
-    let f = type_found own outer c.in-TypeEq.index _ s c.in-Some.facts.size c.in-Some.ensures in
+returns-clause-counts c = λ own outer here names table s.
+    let i = c.in-TypeEq.index in
+    let f = beside (IsKept table (here ∷ names)) c.args.known.now.own.types.items own.types i c.in-Some.facts s.types_are.0 c.in-Some.ensures.facts in
     rw (c.in-TypeEq.is)
     (on_by c.add_type-2.result
     (λ e. (c.in_ok-add_type.ensures {u = tt}).added
-    ∙ ap (λ fs. with_type_count (counted c.args.counts.now) (length fs)) (sym (exported_one own outer c.in-TypeEq.index f.item f.is)))
+    ∙ ap (λ fs. with_type_count (counted c.args.counts.now) (length fs)) (sym (exported_one own outer i f.item f.at)))
     c.add_type-2.ensures.own)

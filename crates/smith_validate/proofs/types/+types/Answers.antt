@@ -1,89 +1,147 @@
-use Rattle.std.proofs.Common.{◌∷◌, ap, ◌∙◌}
+use Rattle.std.proofs.Common.{◌∷◌, ◌++◌, [], ap, refl, sym, subst, ◌∙◌, true, false, map, length}
+use Rattle.std.specs.Option.{option_to_list}
 use Rattle.std.specs.Prelude.{string_bytes}
+use Rattle.smith_syntax.specs.Entries.{in_order}
 use Rattle.smith_read_types.specs.Nodes.{shown_core_node}
-use Rattle.smith_read_types.specs.TypeNodes.{shown_type_node}
-use Rattle.smith_read_types.proofs.ShownNodes.{shown_alias, shown_core, shown_core_alias, shown_declared, shown_export, shown_import}
-use Rattle.smith_validity.specs.Bodies.{core_facts, facts}
-use Rattle.smith_validate.specs.Kept.{named_at}
-use Rattle.smith_validate.proofs.DeclSteps.{core_kept, decls_at, decls_begin, decls_end, decls_exit, decls_last, decls_more, decls_size}
-use Rattle.smith_validate.proofs.DeclSteps.{nothing_asked, scopes_kept, type_kept}
-use Rattle.smith_validate.proofs.Judging.{judged_by, passed_on}
+use Rattle.smith_read_types.specs.TypeNodes.{shown_decl_node, shown_type_node}
+use Rattle.smith_read_types.proofs.ShownNodes.{shown_alias, shown_component, shown_core, shown_core_alias, shown_declared, shown_export, shown_function}
+use Rattle.smith_read_types.proofs.ShownNodes.{shown_import, shown_instance, shown_values}
+use Rattle.smith_validity.specs.Bodies.{after_decls, core_facts, empty_body, facts, named_in, with_core_facts, with_facts}
+use Rattle.smith_validity.specs.Facts.{id_at}
+use Rattle.smith_validity.specs.Validates.{names_of}
+use Rattle.smith_syntax.specs.Entries.{component_type, instance_type}
+use Rattle.smith_validate.specs.Bodies.{IsFresh}
+use Rattle.smith_validate.specs.Instances.{AreKept}
+use Rattle.smith_validate.specs.Kept.{named_at, types_in}
+use Rattle.smith_validate.proofs.DeclSteps.{body_now, core_kept, decls_at, decls_begin, decls_end, decls_exit, decls_judged, decls_last, decls_more}
+use Rattle.smith_validate.proofs.DeclSteps.{last_same, scopes_kept, type_kept}
+use Rattle.smith_validate.proofs.Judging.{export_judged, judged_by, ok_by, on_by, passed_on, refute_by}
+use Rattle.smith_validate.proofs.TypeSteps.{alias_kept, body_declared, declared_more, declared_now}
+use Rattle.smith_validate.proofs.Valued.{plain_kept}
 use Rattle.smith_validate.proofs.types.+types.Goals as goal
 
+pub add_decl-returns-in_err-facts-in-Type-clause-judged : goal.add_decl-returns-in_err-facts-in-Type-clause-judged
+add_decl-returns-in_err-facts-in-Type-clause-judged t c = λ d asks b outer names table s.
+    rw (c.in-Type.is, shown_declared c.in-Type.ty)
+    (passed_on _ _ c.from_residual-in_err-facts-in-Type.ensures.1
+    (refute_by (λ q. q.0) ((c.in_err-facts-in-Type.ensures {u = tt}).judged d b.own outer (names_of b.exports) names table s.scopes)))
+
 pub add_decl-returns-in_ok-facts-in-Core-clause-judged : goal.add_decl-returns-in_ok-facts-in-Core-clause-judged
-add_decl-returns-in_ok-facts-in-Core-clause-judged t c = λ asks b outer s.
+add_decl-returns-in_ok-facts-in-Core-clause-judged t c = λ d asks b outer names table s.
     let done = c.in_ok-facts-in-Core.ensures {u = tt} in
     rw (c.in-Core.is, shown_core c.in-Core.ty)
     (judged_by c.add_core_type.result (λ p. (done.judged b.own s.scopes.own_is, p)) (λ q. q.1)
-    (c.add_core_type.ensures.judged b outer (core_facts (shown_core_node c.in-Core.ty) b.own) s (done.kept b.own s.scopes.own_is)))
+    (c.add_core_type.ensures.judged asks b outer names table (core_facts (shown_core_node c.in-Core.ty) b.own) s))
+
+pub add_decl-returns-in_ok-facts-in-Core-clause-added : goal.add_decl-returns-in_ok-facts-in-Core-clause-added
+add_decl-returns-in_ok-facts-in-Core-clause-added t c = λ asks b outer names table s.
+    let done = c.in_ok-facts-in-Core.ensures {u = tt} in
+    let f = core_facts (shown_core_node c.in-Core.ty) b.own in
+    rw (c.in-Core.is, shown_core c.in-Core.ty)
+    (on_by c.add_core_type.result
+    (λ k. body_now asks c.add_core_type.new.known c.add_core_type.new.body (with_core_facts b (f ∷ [])) outer names table k)
+    (c.add_core_type.ensures.added asks b outer names table f s (done.kept b.own s.scopes.own_is)))
 
 pub add_decl-returns-in_ok-facts-in-Type-clause-judged : goal.add_decl-returns-in_ok-facts-in-Type-clause-judged
-add_decl-returns-in_ok-facts-in-Type-clause-judged t c = λ asks b outer s.
+add_decl-returns-in_ok-facts-in-Type-clause-judged t c = λ d asks b outer names table s.
     let done = c.in_ok-facts-in-Type.ensures {u = tt} in
+    let here = names_of b.exports in
+    let kept = done.kept b.own outer here names table s.scopes in
     rw (c.in-Type.is, shown_declared c.in-Type.ty)
-    (judged_by c.add_type.result (λ p. (done.judged b.own outer s.scopes, p)) (λ q. q.1)
-    (c.add_type.ensures.judged b outer (facts (shown_type_node c.in-Type.ty) b.own outer)
-    (record {
-      scopes = record { own_is = done.own ∙ s.scopes.own_is; outer_is = done.outer ∙ s.scopes.outer_is };
-      size_is = s.size_is;
-      counts_are = s.counts_are;
-      small = s.small;
-    })
-    (done.size b.own outer s.scopes)))
+    (judged_by c.add_type.result (λ p. (done.judged d b.own outer here names table s.scopes, p)) (λ q. q.1)
+    (c.add_type.ensures.judged asks b outer names (table ++ kept.more) (facts (shown_type_node c.in-Type.ty) b.own outer)
+    (body_declared asks c.args.known.now _ c.args.body.now b outer names table kept.more s done.own done.outer kept.instances_are)))
+
+pub add_decl-returns-in_ok-facts-in-Type-clause-added : goal.add_decl-returns-in_ok-facts-in-Type-clause-added
+add_decl-returns-in_ok-facts-in-Type-clause-added t c = λ asks b outer names table s.
+    let done = c.in_ok-facts-in-Type.ensures {u = tt} in
+    let here = names_of b.exports in
+    let kept = done.kept b.own outer here names table s.scopes in
+    let f = facts (shown_type_node c.in-Type.ty) b.own outer in
+    rw (c.in-Type.is, shown_declared c.in-Type.ty)
+    (on_by c.add_type.result
+    (λ k. (kept.more, k))
+    (c.add_type.ensures.added asks b outer names (table ++ kept.more) f
+    (body_declared asks c.args.known.now _ c.args.body.now b outer names table kept.more s done.own done.outer kept.instances_are)
+    (done.size b.own outer here names table s.scopes) kept.is))
 
 pub add_decl-returns-in-TypeAlias-clause-judged : goal.add_decl-returns-in-TypeAlias-clause-judged
-add_decl-returns-in-TypeAlias-clause-judged t c = λ asks b outer s.
+add_decl-returns-in-TypeAlias-clause-judged t c = λ d asks b outer names table s.
     let count = c.in-TypeAlias.count in
     let i = c.in-TypeAlias.index in
-    let found = c.type_named-facts.ensures ∙ (ap (λ os. named_at (λ o. o.types) os count i) (scopes_kept _ b.own outer s.scopes)
-    ∙ type_kept count i (b.own ∷ outer)) in
+    let found = c.type_named-facts.ensures.size
+    ∙ (ap (λ os. named_at (λ o. o.types) os count i) (scopes_kept _ b.own outer (names_of b.exports) names table s.scopes) ∙ type_kept count i
+    (b.own ∷ outer)) in
     rw (c.in-TypeAlias.is, shown_alias count i)
-    (judged_by c.add_named.result (λ p. (tt, p)) (λ q. q.1) (c.add_named.ensures.judged b outer _ s found))
+    (judged_by c.add_named.result (λ p. (tt, p)) (λ q. q.1) (c.add_named.ensures.judged asks b outer names table _ s found))
 
 pub add_decl-returns-in-TypeAlias-clause-added : goal.add_decl-returns-in-TypeAlias-clause-added
-add_decl-returns-in-TypeAlias-clause-added t c = λ b outer s.
+add_decl-returns-in-TypeAlias-clause-added t c = λ asks b outer names table s.
     let count = c.in-TypeAlias.count in
     let i = c.in-TypeAlias.index in
-    let found = c.type_named-facts.ensures ∙ (ap (λ os. named_at (λ o. o.types) os count i) (scopes_kept _ b.own outer s.scopes)
-    ∙ type_kept count i (b.own ∷ outer)) in
-    rw (c.in-TypeAlias.is, shown_alias count i) (c.add_named.ensures.added b outer _ s found)
+    let here = names_of b.exports in
+    let f = named_in (λ o. o.types) (b.own ∷ outer) count i in
+    let found = c.type_named-facts.ensures.size
+    ∙ (ap (λ os. named_at (λ o. o.types) os count i) (scopes_kept _ b.own outer here names table s.scopes) ∙ type_kept count i (b.own ∷ outer)) in
+    let kept : AreKept table (here ∷ names) (option_to_list c.type_named-facts.result) (option_to_list f) =
+    subst (λ o. AreKept table (here ∷ names) (option_to_list o) (option_to_list f)) (sym c.type_named-facts.ensures.facts)
+    (alias_kept table (here ∷ names) (types_in c.args.known.now) (b.own ∷ outer) count i s.scopes.types_are) in
+    rw (c.in-TypeAlias.is, shown_alias count i)
+    (on_by c.add_named.result
+    (λ k. body_now asks c.add_named.new.known c.add_named.new.body (with_facts b (option_to_list f)) outer names table k)
+    (c.add_named.ensures.added asks b outer names table f s found kept))
 
 pub add_decl-returns-in-CoreTypeAlias-clause-judged : goal.add_decl-returns-in-CoreTypeAlias-clause-judged
-add_decl-returns-in-CoreTypeAlias-clause-judged t c = λ asks b outer s.
+add_decl-returns-in-CoreTypeAlias-clause-judged t c = λ d asks b outer names table s.
     let count = c.in-CoreTypeAlias.count in
     let i = c.in-CoreTypeAlias.index in
-    let found =
-    c.core_type_named-facts.ensures ∙ (ap (λ os. named_at (λ o. o.core_types) os count i) (scopes_kept _ b.own outer s.scopes)
+    let found = c.core_type_named-facts.ensures
+    ∙ (ap (λ os. named_at (λ o. o.core_types) os count i) (scopes_kept _ b.own outer (names_of b.exports) names table s.scopes)
     ∙ core_kept count i (b.own ∷ outer)) in
     rw (c.in-CoreTypeAlias.is, shown_core_alias count i)
-    (judged_by c.add_core_named.result (λ p. (tt, p)) (λ q. q.1) (c.add_core_named.ensures.judged b outer _ s found))
+    (judged_by c.add_core_named.result (λ p. (tt, p)) (λ q. q.1) (c.add_core_named.ensures.judged asks b outer names table _ s found))
 
 pub add_decl-returns-in-CoreTypeAlias-clause-added : goal.add_decl-returns-in-CoreTypeAlias-clause-added
-add_decl-returns-in-CoreTypeAlias-clause-added t c = λ b outer s.
+add_decl-returns-in-CoreTypeAlias-clause-added t c = λ asks b outer names table s.
     let count = c.in-CoreTypeAlias.count in
     let i = c.in-CoreTypeAlias.index in
-    let found =
-    c.core_type_named-facts.ensures ∙ (ap (λ os. named_at (λ o. o.core_types) os count i) (scopes_kept _ b.own outer s.scopes)
+    let f = named_in (λ o. o.core_types) (b.own ∷ outer) count i in
+    let found = c.core_type_named-facts.ensures
+    ∙ (ap (λ os. named_at (λ o. o.core_types) os count i) (scopes_kept _ b.own outer (names_of b.exports) names table s.scopes)
     ∙ core_kept count i (b.own ∷ outer)) in
-    rw (c.in-CoreTypeAlias.is, shown_core_alias count i) (c.add_core_named.ensures.added b outer _ s found)
+    rw (c.in-CoreTypeAlias.is, shown_core_alias count i)
+    (on_by c.add_core_named.result
+    (λ k. body_now asks c.add_core_named.new.known c.add_core_named.new.body (with_core_facts b (option_to_list f)) outer names table k)
+    (c.add_core_named.ensures.added asks b outer names table f s found))
 
 pub add_decl-returns-in-Import-clause-judged : goal.add_decl-returns-in-Import-clause-judged
-add_decl-returns-in-Import-clause-judged t c = λ asks b outer s.
+add_decl-returns-in-Import-clause-judged t c = λ d asks b outer names table s.
+    rw (c.in-Import.is, shown_import c.in-Import.name c.in-Import.to) (c.add_import.ensures.judged d asks b outer names table s)
+
+pub add_decl-returns-in-Import-clause-added : goal.add_decl-returns-in-Import-clause-added
+add_decl-returns-in-Import-clause-added t c = λ asks b outer names table s.
     rw (c.in-Import.is, shown_import c.in-Import.name c.in-Import.to)
-    (judged_by c.add_import.result (λ p. (tt, p)) (λ q. q.1) (c.add_import.ensures.judged b outer s))
+    (on_by c.add_import.result (λ k. body_now asks c.args.known.now c.add_import.new.body _ outer names table k)
+    (c.add_import.ensures.added asks b outer names table s))
 
 pub add_decl-returns-in-Export-clause-judged : goal.add_decl-returns-in-Export-clause-judged
-add_decl-returns-in-Export-clause-judged t c = λ asks b outer s.
+add_decl-returns-in-Export-clause-judged t c = λ d asks b outer names table s.
     rw (c.in-Export.is, shown_export c.in-Export.name c.in-Export.to)
-    (judged_by c.add_export.result (λ p. (nothing_asked asks (string_bytes c.in-Export.name) c.in-Export.to outer b, p)) (λ q. q.1)
-    (c.add_export.ensures.judged b outer s))
+    (export_judged c.add_export.result d asks (string_bytes c.in-Export.name) c.in-Export.to outer b (c.add_export.ensures.judged d asks b outer names table s))
+
+pub add_decl-returns-in-Export-clause-added : goal.add_decl-returns-in-Export-clause-added
+add_decl-returns-in-Export-clause-added t c = λ asks b outer names table s.
+    rw (c.in-Export.is, shown_export c.in-Export.name c.in-Export.to)
+    (on_by c.add_export.result (λ k. body_now asks c.add_export.new.known c.add_export.new.body _ outer names table k)
+    (c.add_export.ensures.added asks b outer names table s))
 
 pub add_decls-loop-decl-init : goal.add_decls-loop-decl-init
 add_decls-loop-decl-init t c =
     let entered = c.in_ok-enter.ensures {u = tt} in
     record {
       outer = entered.outer;
-      left = λ own outer s e. decls_begin own outer _ c.args.known.now _ c.args.body.now s e entered.own entered.outer;
+      left = λ asks own outer here names table s e f.
+          decls_begin asks own outer _ here names table c.args.known.now _ c.args.body.now s e f entered.own entered.types entered.outer entered.instances;
     }
 
 pub add_decls-loop-decl-preserved : goal.add_decls-loop-decl-preserved
@@ -91,29 +149,116 @@ add_decls-loop-decl-preserved t c =
     let done = c.in_ok-add_decl.ensures {u = tt} in
     record {
       outer = done.outer ∙ c.loop-decl.invariant.outer;
-      left = λ own outer s e.
-          let l = decls_at own outer c.args.decls.now c.loop-decl.known c.loop-decl.body c.loop-decl.decl-index c.decl-item.result c.loop-decl-test.true
-          c.decl-item.is (c.loop-decl.invariant.left own outer s e) in
-          decls_more own outer _ _ _ _ _ l c.add_decl.new.known c.add_decl.new.body (λ asks. done.judged asks l.b (own ∷ outer) l.is)
-          (done.added l.b (own ∷ outer) l.is);
+      left = λ asks own outer here names table s e f.
+          let ns = here ∷ names in
+          let l = decls_at asks own outer ns table c.args.decls.now c.loop-decl.known c.loop-decl.body c.loop-decl.decl-index c.decl-item.result
+          c.loop-decl-test.true c.decl-item.is (c.loop-decl.invariant.left asks own outer here names table s e f) in
+          decls_more asks own outer _ ns table _ _ _ _ l c.add_decl.new.known c.add_decl.new.body
+          (λ d. done.judged d asks l.b (own ∷ outer) ns (table ++ l.more) l.is)
+          (done.added asks l.b (own ∷ outer) ns (table ++ l.more) l.is);
     }
 
 pub add_decls-returns-in_err-add_decl-clause-judged : goal.add_decls-returns-in_err-add_decl-clause-judged
-add_decls-returns-in_err-add_decl-clause-judged t c = λ asks own outer s e.
-    let l = decls_at own outer c.args.decls.now c.loop-decl.known c.loop-decl.body c.loop-decl.decl-index c.decl-item.result c.loop-decl-test.true
-    c.decl-item.is (c.loop-decl.invariant.left own outer s e) in
+add_decls-returns-in_err-add_decl-clause-judged t c = λ d asks own outer here names table s e f.
+    let ns = here ∷ names in
+    let l = decls_at asks own outer ns table c.args.decls.now c.loop-decl.known c.loop-decl.body c.loop-decl.decl-index c.decl-item.result
+    c.loop-decl-test.true c.decl-item.is (c.loop-decl.invariant.left asks own outer here names table s e f) in
     passed_on _ _ c.from_residual-in_err-add_decl.ensures.1
-    (decls_exit own outer _ _ _ _ _ l asks ((c.in_err-add_decl.ensures {u = tt}).judged asks l.b (own ∷ outer) l.is))
+    (decls_exit asks own outer _ ns table _ _ _ _ l d ((c.in_err-add_decl.ensures {u = tt}).judged d asks l.b (own ∷ outer) ns (table ++ l.more) l.is))
 
 pub add_decls-returns-clause-judged : goal.add_decls-returns-clause-judged
-add_decls-returns-clause-judged t c = λ asks own outer s e.
-    decls_end own outer _ _ _
-    (decls_last own outer c.args.decls.now c.loop-decl.known c.loop-decl.body c.loop-decl.decl-index c.loop-decl-test.false
-    (c.loop-decl.invariant.left own outer s e))
-    asks
+add_decls-returns-clause-judged t c = λ d asks own outer here names table s e f.
+    decls_end asks own outer _ (here ∷ names) table _ _
+    (decls_last asks own outer (here ∷ names) table c.args.decls.now c.loop-decl.known c.loop-decl.body c.loop-decl.decl-index c.loop-decl-test.false
+    (c.loop-decl.invariant.left asks own outer here names table s e f))
+    d
 
-pub add_decls-returns-clause-size : goal.add_decls-returns-clause-size
-add_decls-returns-clause-size t c = λ own outer s e.
-    decls_size own outer _ _ _
-    (decls_last own outer c.args.decls.now c.loop-decl.known c.loop-decl.body c.loop-decl.decl-index c.loop-decl-test.false
-    (c.loop-decl.invariant.left own outer s e))
+pub add_decls-returns-clause-added : goal.add_decls-returns-clause-added
+add_decls-returns-clause-added t c = λ asks own outer here names table s e f.
+    decls_judged asks own outer _ (here ∷ names) table _ _
+    (decls_last asks own outer (here ∷ names) table c.args.decls.now c.loop-decl.known c.loop-decl.body c.loop-decl.decl-index c.loop-decl-test.false
+    (c.loop-decl.invariant.left asks own outer here names table s e f))
+    c.leave.new.self c.leave.ensures.instances
+
+pub add_decls-returns-clause-own : goal.add_decls-returns-clause-own
+add_decls-returns-clause-own t c =
+    (last_same c.leave.new.self.outer.items c.args.known.now.outer.items c.leave.new.self.own c.args.known.now.own
+    (sym c.leave.ensures.outer ∙ c.loop-decl.invariant.outer)).0
+
+pub add_decls-returns-clause-outer : goal.add_decls-returns-clause-outer
+add_decls-returns-clause-outer t c =
+    (last_same c.leave.new.self.outer.items c.args.known.now.outer.items c.leave.new.self.own c.args.known.now.own
+    (sym c.leave.ensures.outer ∙ c.loop-decl.invariant.outer)).1
+
+pub type_facts-returns-in_err-add_decls-in-Component-clause-judged : goal.type_facts-returns-in_err-add_decls-in-Component-clause-judged
+type_facts-returns-in_err-add_decls-in-Component-clause-judged t c = λ d own outer here names table s.
+    let fresh = subst (λ r. IsFresh true r) (sym c.new-body.ensures.role)
+    (refl, λ es ids. (c.new.ensures.imported es ids, c.new.ensures.exported es ids)) in
+    rw (c.in-Component.is, shown_component c.in-Component.decls)
+    (passed_on _ _ c.from_residual.ensures.1
+    (rw c.deref.ensures.value at
+    ((c.in_err-add_decls-in-Component.ensures {u = tt}).judged d true own outer here names table s c.new-body.ensures.empty fresh)))
+
+pub type_facts-returns-in-Defined-clause-kept : goal.type_facts-returns-in-Defined-clause-kept
+type_facts-returns-in-Defined-clause-kept t c = λ own outer here names table s.
+    rw (c.in-Defined.is, shown_values c.in-Defined.ty)
+    (ok_by c.defined_facts.result (λ g k. declared_now table (here ∷ names) _ g _ s.instances_are k)
+    (c.defined_facts.ensures.kept (id_at (own ∷ outer)) own.types (here ∷ names) table s.types_are.0))
+
+pub type_facts-returns-in-Func-clause-kept : goal.type_facts-returns-in-Func-clause-kept
+type_facts-returns-in-Func-clause-kept t c = λ own outer here names table s.
+    rw (c.in-Func.is, shown_function c.in-Func.ty)
+    (ok_by c.function_facts.result (λ g k. declared_now table (here ∷ names) _ g _ s.instances_are k)
+    (c.function_facts.ensures.kept (id_at (own ∷ outer)) own.types (here ∷ names) table s.types_are.0))
+
+pub type_facts-returns-in_ok-add_decls-in-Component-clause-judged : goal.type_facts-returns-in_ok-add_decls-in-Component-clause-judged
+type_facts-returns-in_ok-add_decls-in-Component-clause-judged t c = λ d own outer here names table s.
+    let fresh = subst (λ r. IsFresh true r) (sym c.new-body.ensures.role)
+    (refl, λ es ids. (c.new.ensures.imported es ids, c.new.ensures.exported es ids)) in
+    rw (c.in-Component.is, shown_component c.in-Component.decls)
+    (rw c.deref.ensures.value at
+    ((c.in_ok-add_decls-in-Component.ensures {u = tt}).judged d true own outer here names table s c.new-body.ensures.empty fresh))
+
+pub type_facts-returns-in_ok-add_decls-in-Component-clause-size : goal.type_facts-returns-in_ok-add_decls-in-Component-clause-size
+type_facts-returns-in_ok-add_decls-in-Component-clause-size t c = λ own outer here names table s.
+    let fresh = subst (λ r. IsFresh true r) (sym c.new-body.ensures.role)
+    (refl, λ es ids. (c.new.ensures.imported es ids, c.new.ensures.exported es ids)) in
+    rw (c.in-Component.is, shown_component c.in-Component.decls)
+    (ap (λ g. g.size) c.new-in-Component.ensures
+    ∙ (rw c.deref.ensures.value at
+    ((c.in_ok-add_decls-in-Component.ensures {u = tt}).added true own outer here names table s c.new-body.ensures.empty fresh)).size_is)
+
+pub type_facts-returns-in_ok-add_decls-in-Component-clause-kept : goal.type_facts-returns-in_ok-add_decls-in-Component-clause-kept
+type_facts-returns-in_ok-add_decls-in-Component-clause-kept t c = λ own outer here names table s.
+    let fresh = subst (λ r. IsFresh true r) (sym c.new-body.ensures.role)
+    (refl, λ es ids. (c.new.ensures.imported es ids, c.new.ensures.exported es ids)) in
+    let j = rw c.deref.ensures.value at
+    ((c.in_ok-add_decls-in-Component.ensures {u = tt}).added true own outer here names table s c.new-body.ensures.empty fresh) in
+    let ds = in_order (map shown_decl_node c.in-Component.decls.items) in
+    rw (c.in-Component.is, shown_component c.in-Component.decls, c.new-in-Component.ensures)
+    (record {
+      more = j.more;
+      instances_are = j.instances_are;
+      is = plain_kept (table ++ j.more) (here ∷ names) c.nothing.result _ (facts (component_type ds) own outer) refl tt refl;
+    })
+
+pub type_facts-returns-in_ok-add_decls-in-Instance-clause-size : goal.type_facts-returns-in_ok-add_decls-in-Instance-clause-size
+type_facts-returns-in_ok-add_decls-in-Instance-clause-size t c = λ own outer here names table s.
+    let fresh = subst (λ r. IsFresh false r) (sym c.new-body-in-Instance.ensures.role)
+    (refl, c.new-in-Instance.ensures.refers, c.new-in-Instance.ensures.uses) in
+    let j = rw c.deref-in-Instance.ensures.value at
+    ((c.in_ok-add_decls-in-Instance.ensures {u = tt}).added false own outer here names table s c.new-body-in-Instance.ensures.empty fresh) in
+    rw (c.in-Instance.is, shown_instance c.in-Instance.decls)
+    (ok_by c.instance_type.result (λ g e. e ∙ j.size_is) c.instance_type.ensures.size)
+
+pub type_facts-returns-in_ok-add_decls-in-Instance-clause-kept : goal.type_facts-returns-in_ok-add_decls-in-Instance-clause-kept
+type_facts-returns-in_ok-add_decls-in-Instance-clause-kept t c = λ own outer here names table s.
+    let fresh = subst (λ r. IsFresh false r) (sym c.new-body-in-Instance.ensures.role)
+    (refl, c.new-in-Instance.ensures.refers, c.new-in-Instance.ensures.uses) in
+    let done = c.in_ok-add_decls-in-Instance.ensures {u = tt} in
+    let j = rw c.deref-in-Instance.ensures.value at (done.added false own outer here names table s c.new-body-in-Instance.ensures.empty fresh) in
+    let ds = in_order (map shown_decl_node c.in-Instance.decls.items) in
+    rw (c.in-Instance.is, shown_instance c.in-Instance.decls)
+    (ok_by c.instance_type.result (λ g k. declared_more table (here ∷ names) c.instance_type.new.known g (facts (instance_type ds) own outer) j.more k)
+    (c.instance_type.ensures.kept (id_at (own ∷ outer)) (after_decls ds (own ∷ outer) empty_body) here names (table ++ j.more) j.instances_are
+    (s.depth_is ∙ ap length (sym done.outer)) j.role_is))

@@ -1,11 +1,16 @@
-use Rattle.std.proofs.Common.{◌≡◌, ◌∙◌, append-nil, Some, subst}
+use Rattle.std.proofs.Common.{◌≡◌, ◌∙◌, [], ap, append-nil, refl, Some, subst}
 use Rattle.std.specs.List.{flat_map}
 use Rattle.std.specs.Option.{option_to_list}
 use Rattle.std.specs.Prelude.{◌<◌}
+use Rattle.smith_validity.specs.Facts.{sizes}
 use Rattle.smith_validity.specs.Sizes.{size_bound, summed}
+use Rattle.smith_syntax.specs.Shown.{shown_defined}
+use Rattle.smith_syntax.specs.declared.types.DefinedType.TheVariants as defined
 use Rattle.smith_validate.specs.Kept.{capped}
+use Rattle.smith_validate.specs.Values.{CoversValues, defined_plain}
 use Rattle.smith_validate.proofs.Judging.{passed_on, refuted_at}
 use Rattle.smith_validate.proofs.Sums.{case_types, field_types, tuple_types}
+use Rattle.smith_validate.proofs.Valued.{nominal_kept, plain_kept}
 use Rattle.smith_validate.proofs.values.defined_facts.Goals as goal
 
 pub returns-in_err-values-in-Record-clause-judged : goal.returns-in_err-values-in-Record-clause-judged
@@ -13,22 +18,22 @@ returns-in_err-values-in-Record-clause-judged c = λ own k.
     let xs = c.in-Record.ty.fields.items in
     rw (c.in-Record.is)
     (passed_on _ _ c.from_residual.ensures.1
-    (refuted_at (λ ts. summed own.types ts < size_bound) _ _ (append-nil (flat_map (λ p. option_to_list (Some p.1)) xs) ∙ field_types xs)
+    (refuted_at (λ ts. summed (sizes own.types) ts < size_bound) _ _ (append-nil (flat_map (λ p. option_to_list (Some p.1)) xs) ∙ field_types xs)
     (rw c.deref.ensures.value at ((c.in_err-values-in-Record.ensures {u = tt}).judged own k))))
 
 pub returns-in_ok-values-in-Record-clause-judged : goal.returns-in_ok-values-in-Record-clause-judged
 returns-in_ok-values-in-Record-clause-judged c = λ own k.
     let xs = c.in-Record.ty.fields.items in
     rw (c.in-Record.is)
-    (subst (λ ts. summed own.types ts < size_bound) (append-nil (flat_map (λ p. option_to_list (Some p.1)) xs) ∙ field_types xs)
+    (subst (λ ts. summed (sizes own.types) ts < size_bound) (append-nil (flat_map (λ p. option_to_list (Some p.1)) xs) ∙ field_types xs)
     (rw c.deref.ensures.value at ((c.in_ok-values-in-Record.ensures {u = tt}).judged own k)))
 
 pub returns-in_ok-values-in-Record-clause-size : goal.returns-in_ok-values-in-Record-clause-size
 returns-in_ok-values-in-Record-clause-size c = λ own k.
     let xs = c.in-Record.ty.fields.items in
     rw (c.in-Record.is)
-    (c.nominal_facts.ensures
-    ∙ subst (λ ts. c.in_ok-values-in-Record.values.size ≡ capped (summed own.types ts))
+    (ap (λ f. f.size) c.nominal_type.ensures
+    ∙ subst (λ ts. c.in_ok-values-in-Record.values.size ≡ capped (summed (sizes own.types) ts))
     (append-nil (flat_map (λ p. option_to_list (Some p.1)) xs) ∙ field_types xs)
     (rw c.deref.ensures.value at ((c.in_ok-values-in-Record.ensures {u = tt}).size own k)))
 
@@ -37,22 +42,23 @@ returns-in_err-values-in-Variant-clause-judged c = λ own k.
     let xs = c.in-Variant.ty.cases.items in
     rw (c.in-Variant.is)
     (passed_on _ _ c.from_residual-in_err-values-in-Variant.ensures.1
-    (refuted_at (λ ts. summed own.types ts < size_bound) _ _ (append-nil (flat_map (λ p. option_to_list p.1) xs) ∙ case_types xs)
+    (refuted_at (λ ts. summed (sizes own.types) ts < size_bound) _ _ (append-nil (flat_map (λ p. option_to_list p.1) xs) ∙ case_types xs)
     (rw c.deref-in-Variant.ensures.value at ((c.in_err-values-in-Variant.ensures {u = tt}).judged own k))))
 
 pub returns-in_ok-values-in-Variant-clause-judged : goal.returns-in_ok-values-in-Variant-clause-judged
 returns-in_ok-values-in-Variant-clause-judged c = λ own k.
     let xs = c.in-Variant.ty.cases.items in
     rw (c.in-Variant.is)
-    (subst (λ ts. summed own.types ts < size_bound) (append-nil (flat_map (λ p. option_to_list p.1) xs) ∙ case_types xs)
+    (subst (λ ts. summed (sizes own.types) ts < size_bound) (append-nil (flat_map (λ p. option_to_list p.1) xs) ∙ case_types xs)
     (rw c.deref-in-Variant.ensures.value at ((c.in_ok-values-in-Variant.ensures {u = tt}).judged own k)))
 
 pub returns-in_ok-values-in-Variant-clause-size : goal.returns-in_ok-values-in-Variant-clause-size
 returns-in_ok-values-in-Variant-clause-size c = λ own k.
     let xs = c.in-Variant.ty.cases.items in
     rw (c.in-Variant.is)
-    (c.nominal_facts-in-Variant.ensures
-    ∙ subst (λ ts. c.in_ok-values-in-Variant.values.size ≡ capped (summed own.types ts)) (append-nil (flat_map (λ p. option_to_list p.1) xs) ∙ case_types xs)
+    (ap (λ f. f.size) c.nominal_type-in-Variant.ensures
+    ∙ subst (λ ts. c.in_ok-values-in-Variant.values.size ≡ capped (summed (sizes own.types) ts))
+    (append-nil (flat_map (λ p. option_to_list p.1) xs) ∙ case_types xs)
     (rw c.deref-in-Variant.ensures.value at ((c.in_ok-values-in-Variant.ensures {u = tt}).size own k)))
 
 pub returns-in_err-values-in-Tuple-clause-judged : goal.returns-in_err-values-in-Tuple-clause-judged
@@ -60,21 +66,70 @@ returns-in_err-values-in-Tuple-clause-judged c = λ own k.
     let xs = c.in-Tuple.ty.fields.items in
     rw (c.in-Tuple.is)
     (passed_on _ _ c.from_residual-in_err-values-in-Tuple.ensures.1
-    (refuted_at (λ ts. summed own.types ts < size_bound) _ _ (append-nil (flat_map (λ v. option_to_list (Some v)) xs) ∙ tuple_types xs)
+    (refuted_at (λ ts. summed (sizes own.types) ts < size_bound) _ _ (append-nil (flat_map (λ v. option_to_list (Some v)) xs) ∙ tuple_types xs)
     (rw c.deref-in-Tuple.ensures.value at ((c.in_err-values-in-Tuple.ensures {u = tt}).judged own k))))
 
 pub returns-in_ok-values-in-Tuple-clause-judged : goal.returns-in_ok-values-in-Tuple-clause-judged
 returns-in_ok-values-in-Tuple-clause-judged c = λ own k.
     let xs = c.in-Tuple.ty.fields.items in
     rw (c.in-Tuple.is)
-    (subst (λ ts. summed own.types ts < size_bound) (append-nil (flat_map (λ v. option_to_list (Some v)) xs) ∙ tuple_types xs)
+    (subst (λ ts. summed (sizes own.types) ts < size_bound) (append-nil (flat_map (λ v. option_to_list (Some v)) xs) ∙ tuple_types xs)
     (rw c.deref-in-Tuple.ensures.value at ((c.in_ok-values-in-Tuple.ensures {u = tt}).judged own k)))
 
 pub returns-in_ok-values-in-Tuple-clause-size : goal.returns-in_ok-values-in-Tuple-clause-size
 returns-in_ok-values-in-Tuple-clause-size c = λ own k.
     let xs = c.in-Tuple.ty.fields.items in
     rw (c.in-Tuple.is)
-    (c.plain_facts-in-Tuple.ensures
-    ∙ subst (λ ts. c.in_ok-values-in-Tuple.values.size ≡ capped (summed own.types ts))
+    (ap (λ f. f.size) c.plain_type-in-Tuple.ensures
+    ∙ subst (λ ts. c.in_ok-values-in-Tuple.values.size ≡ capped (summed (sizes own.types) ts))
     (append-nil (flat_map (λ v. option_to_list (Some v)) xs) ∙ tuple_types xs)
     (rw c.deref-in-Tuple.ensures.value at ((c.in_ok-values-in-Tuple.ensures {u = tt}).size own k)))
+
+pub returns-in_ok-values-in-Record-clause-kept : goal.returns-in_ok-values-in-Record-clause-kept
+returns-in_ok-values-in-Record-clause-kept c = λ id types names table are.
+    let xs = c.in-Record.ty.fields.items in
+    let v = c.in_ok-values-in-Record.values in
+    rw (c.in-Record.is, c.nominal_type.ensures)
+    (nominal_kept table names v.needs v.size (defined_plain id types (shown_defined (defined.Record c.in-Record.ty))) refl
+    (subst (λ ts. CoversValues types names v.needs ts) (append-nil (flat_map (λ p. option_to_list (Some p.1)) xs) ∙ field_types xs)
+    (rw c.deref.ensures.value at ((c.in_ok-values-in-Record.ensures {u = tt}).needs types names table are))) refl)
+
+pub returns-in_ok-values-in-Variant-clause-kept : goal.returns-in_ok-values-in-Variant-clause-kept
+returns-in_ok-values-in-Variant-clause-kept c = λ id types names table are.
+    let xs = c.in-Variant.ty.cases.items in
+    let v = c.in_ok-values-in-Variant.values in
+    rw (c.in-Variant.is, c.nominal_type-in-Variant.ensures)
+    (nominal_kept table names v.needs v.size (defined_plain id types (shown_defined (defined.Variant c.in-Variant.ty))) refl
+    (subst (λ ts. CoversValues types names v.needs ts) (append-nil (flat_map (λ p. option_to_list p.1) xs) ∙ case_types xs)
+    (rw c.deref-in-Variant.ensures.value at ((c.in_ok-values-in-Variant.ensures {u = tt}).needs types names table are))) refl)
+
+pub returns-in_ok-values-in-Tuple-clause-kept : goal.returns-in_ok-values-in-Tuple-clause-kept
+returns-in_ok-values-in-Tuple-clause-kept c = λ id types names table are.
+    let xs = c.in-Tuple.ty.fields.items in
+    let v = c.in_ok-values-in-Tuple.values in
+    rw (c.in-Tuple.is, c.plain_type-in-Tuple.ensures)
+    (plain_kept table names v.needs v.size (defined_plain id types (shown_defined (defined.Tuple c.in-Tuple.ty))) refl
+    (subst (λ ts. CoversValues types names v.needs ts) (append-nil (flat_map (λ v. option_to_list (Some v)) xs) ∙ tuple_types xs)
+    (rw c.deref-in-Tuple.ensures.value at ((c.in_ok-values-in-Tuple.ensures {u = tt}).needs types names table are))) refl)
+
+pub returns-in-List-clause-kept : goal.returns-in-List-clause-kept
+returns-in-List-clause-kept c = λ id types names table are.
+    let v = c.add.result in
+    rw (c.in-List.is, c.plain_type-in-List.ensures)
+    (plain_kept table names v.needs v.size (defined_plain id types (shown_defined (defined.List c.in-List.ty))) refl
+    (c.add.ensures.needs types names table [] are tt) refl)
+
+pub returns-in-Option-clause-kept : goal.returns-in-Option-clause-kept
+returns-in-Option-clause-kept c = λ id types names table are.
+    let v = c.add-in-Option.result in
+    rw (c.in-Option.is, c.plain_type-in-Option.ensures)
+    (plain_kept table names v.needs v.size (defined_plain id types (shown_defined (defined.Option c.in-Option.ty))) refl
+    (c.add-in-Option.ensures.needs types names table [] are tt) refl)
+
+pub returns-in-Result-clause-kept : goal.returns-in-Result-clause-kept
+returns-in-Result-clause-kept c = λ id types names table are.
+    let v = c.add_maybe.result in
+    let ok = c.add_maybe-ok.ensures.needs types names table [] are tt in
+    rw (c.in-Result.is, c.plain_type-in-Result.ensures)
+    (plain_kept table names v.needs v.size (defined_plain id types (shown_defined (defined.Result c.in-Result.ty))) refl
+    (c.add_maybe.ensures.needs types names table (option_to_list c.in-Result.ty.ok_ty) are ok) refl)

@@ -1,11 +1,17 @@
-use Rattle.std.proofs.Common.{◌≡◌, take}
+use Rattle.std.proofs.Common.{◌≡◌, take, List}
 use Rattle.std.specs.List.{flat_map}
 use Rattle.std.specs.Option.{option_to_list}
-use Rattle.smith_validity.specs.Facts.{FactScope}
+use Rattle.smith_validity.specs.Facts.{FactScope, Facts, Id, sizes}
 use Rattle.smith_validity.specs.Sizes.{summed}
+use Rattle.smith_validate.specs.Instances.{AreKept, Exports}
 use Rattle.smith_validate.specs.Kept.{capped, kept_in, kept_of}
+use Rattle.smith_validate.specs.Values.{CoversValues}
 use Rattle.smith_validate.proofs.values.values_of.Given as goal
 
 abbrev pub invariant-loop-item : goal.invariant-loop-item
-invariant-loop-item g l = (own : FactScope) → kept_in l.scope ≡ kept_of own
-    → l.values.size ≡ capped (summed own.types (flat_map (λ i. option_to_list (g.T.Valued.value i)) (take l.item-index l.items)))
+invariant-loop-item g l = record {
+  size : (own : FactScope) → kept_in l.scope ≡ kept_of own
+      → l.values.size ≡ capped (summed (sizes own.types) (flat_map (λ i. option_to_list (g.T.Valued.value i)) (take l.item-index l.items)));
+  needs : (types : List Facts) (names : List (List Id)) (table : List Exports) → AreKept table names l.scope.types.items types
+      → CoversValues types names l.values.needs (flat_map (λ i. option_to_list (g.T.Valued.value i)) (take l.item-index l.items));
+}

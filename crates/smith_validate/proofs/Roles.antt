@@ -1,0 +1,220 @@
+-- What is kept of imports and exports.
+use Rattle.std.proofs.Common.{◌≡◌, ℕ, ◌+◌, ◌<◌, Bool, true, false, List, [], ◌∷◌, ◌++◌, length, get_or, refl, sym, ap, ◌∙◌, subst, arith, append_assoc}
+use Rattle.std.proofs.Common.{Option, None, Some, append-nil, length-append}
+use Rattle.std.proofs.Math.Seq.{get_or-append_seam}
+use Rattle.std.proofs.lemmas.Bool.{ltb-false}
+use Rattle.std.proofs.lemmas.Slice.Zip.{AllZip-long}
+use Rattle.std.specs.Option.{option_to_list}
+use Rattle.smith_validity.specs.Bodies.{Body, empty_body}
+use Rattle.smith_validity.specs.Facts.{Extern, Id}
+use Rattle.smith_validity.specs.Validates.{RefersTo, exported, imported, names_of}
+use Rattle.smith_validate.specs.Bodies.{AreExports, AreSets, IsFresh, IsRole}
+use Rattle.smith_validate.specs.Exposing.{IsMet, IsSettled, named_after, number_of}
+use Rattle.smith_validate.specs.Externs.{IsPiece}
+use Rattle.smith_validate.specs.Instances.{Exports, Follow, IsInstanceType, IsKnown, IsTable, Piece, Rest, equal, externs_in, externs_of, named_by, no_exports}
+use Rattle.smith_validate.specs.Instances.{outside_of, reach, refers_of, single, uses_in, whole}
+use Rattle.smith_validate.specs.Marks.{Covers, IsAbove, Within, both, closed_needs, greater_of, instance_facts, is_below}
+use Rattle.smith_validate.specs.Nested.{IsDeclared, instance_plain}
+use Rattle.smith_validate.specs.declared.body.Exported.{Exported}
+use Rattle.smith_validate.specs.declared.body.Extern.{Extern as KeptExtern}
+use Rattle.smith_validate.specs.declared.body.Role.{Role}
+use Rattle.smith_validate.specs.declared.body.Role.TheVariants.{Names, Exports as Exporting}
+use Rattle.smith_validate.specs.declared.body.Sets.{Sets}
+use Rattle.smith_validate.specs.declared.facts.Needs.{Needs}
+use Rattle.smith_validate.specs.declared.instances.InstanceType.{InstanceType}
+use Rattle.smith_validate.specs.declared.instances.Use.{Use}
+use Rattle.smith_validate.specs.declared.instances.Use.TheVariants.{Instance, Equal}
+use Rattle.smith_validate.specs.declared.known.Known.{Known}
+use Rattle.smith_validate.proofs.Covering.{above_left, above_right, covers_both, covers_closed, covers_unnamed, split}
+use Rattle.smith_validate.proofs.Names.{Sub, names_append, sub_both, sub_left, sub_right, sub_same, sub_then, within_sub}
+use Rattle.smith_validate.proofs.Tables.{externs_in_more, follow_more, follow_sub, rest_more, rest_sub, settled_more, table_push}
+
+-- what is kept is of what is imported and exported alone
+pub role_of : (table : List Exports) (names : List (List Id)) (asks : Bool) (r : Role) (b c : Body) → b.imports ≡ c.imports → b.exports ≡ c.exports
+    → IsRole table names asks r b → IsRole table names asks r c
+role_of table names asks (Names s) b c i e h = (
+  h.0,
+  record {
+    imported_are = subst (λ xs. IsSettled table s.imported (names_of xs)) i h.1.imported_are;
+    exported_are = subst (λ xs. IsSettled table s.exported (names_of xs ++ names_of c.exports)) i
+        (subst (λ xs. IsSettled table s.exported (names_of b.imports ++ names_of xs)) e h.1.exported_are);
+  },
+)
+role_of table names asks (Exporting x) b c i e h = (h.0, subst (λ xs. AreExports table names x xs) e h.1)
+
+pub role_more : (table more : List Exports) (names : List (List Id)) (asks : Bool) (r : Role) (b : Body) → IsRole table names asks r b
+    → IsRole (table ++ more) names asks r b
+role_more table more names asks (Names s) b h = (
+  h.0,
+  record {
+    imported_are = settled_more table more s.imported (imported b) h.1.imported_are;
+    exported_are = settled_more table more s.exported (exported b) h.1.exported_are;
+  },
+)
+role_more table more names asks (Exporting x) b h = (
+  h.0,
+  record {
+    outside = h.1.outside;
+    pieces = h.1.pieces;
+    externs_are = h.1.externs_are ∙ sym (externs_in_more table more h.1.outside h.1.pieces h.1.follow);
+    uses_are = h.1.uses_are;
+    follow = follow_more table more h.1.outside h.1.pieces h.1.follow;
+    covered = h.1.covered;
+    rest = λ a. rest_more table more h.1.outside h.1.pieces (h.1.rest a);
+  },
+)
+
+pub role_fresh : (table : List Exports) (names : List (List Id)) (asks : Bool) (r : Role) → IsFresh asks r → IsRole table names asks r empty_body
+role_fresh table names asks (Names s) h = (h.0, record { imported_are = (h.1 table []).0; exported_are = (h.1 table []).1 })
+role_fresh table names asks (Exporting x) h = (
+  h.0,
+  record { outside = []; pieces = []; externs_are = refl; uses_are = h.2; follow = tt; covered = tt; rest = λ a. tt },
+)
+
+-- Pieces behind others.
+module _ (table : List Exports) where
+  pub externs_append : (ps qs : List Piece) → externs_in table (ps ++ qs) ≡ externs_in table ps ++ externs_in table qs
+  externs_append [] qs = refl
+  externs_append (single x ∷ ps) qs = ap (λ xs. x ∷ xs) (externs_append ps qs)
+  externs_append (whole n ∷ ps) qs =
+      ap (λ xs. externs_of table n ++ xs) (externs_append ps qs) ∙ sym (append_assoc (externs_of table n) (externs_in table ps) (externs_in table qs))
+  externs_append (equal n ns ∷ ps) qs = ap (λ xs. record { refers = refers_of (externs_of table n); names = ns } ∷ xs) (externs_append ps qs)
+
+  names_first : (p : Piece) (ps : List Piece) → names_of (externs_in table (p ∷ ps)) ≡ named_by table p ++ names_of (externs_in table ps)
+  names_first (single x) ps = refl
+  names_first (whole n) ps = names_append (externs_of table n) (externs_in table ps)
+  names_first (equal n ns) ps = refl
+
+  pub follow_append : (named : List Id) (ps qs : List Piece) → Follow table named ps → Follow table (named ++ names_of (externs_in table ps)) qs
+      → Follow table named (ps ++ qs)
+  follow_append named [] qs f g = subst (λ ids. Follow table ids qs) (append-nil named) g
+  follow_append named (p ∷ ps) qs f g = (
+    f.0,
+    f.1,
+    follow_append (named ++ named_by table p) ps qs f.2
+        (subst (λ ids. Follow table ids qs)
+        (ap (λ ids. named ++ ids) (names_first p ps) ∙ sym (append_assoc named (named_by table p) (names_of (externs_in table ps)))) g),
+  )
+
+  pub rest_append : (named : List Id) (ps qs : List Piece) → Rest table named ps → Rest table named qs → Rest table named (ps ++ qs)
+  rest_append named [] qs f g = g
+  rest_append named (p ∷ ps) qs f g = (f.0, f.1, rest_append named ps qs f.2 g)
+
+uses_append : (ps qs : List Piece) → uses_in (ps ++ qs) ≡ uses_in ps ++ uses_in qs
+uses_append [] qs = refl
+uses_append (single x ∷ ps) qs = uses_append ps qs
+uses_append (whole n ∷ ps) qs = ap (λ us. Instance n ∷ us) (uses_append ps qs)
+uses_append (equal n ns ∷ ps) qs = ap (λ us. Equal n ∷ us) (uses_append ps qs)
+
+-- one more export of an instance type
+module _ (table : List Exports) (names : List (List Id)) (e f : Exported) (xs ys : List Extern) (k : KeptExtern) where
+  pub exports_push : AreExports table names e xs → IsPiece table (names_of xs ∷ names) k ys → f.refers ≡ both e.refers k.refers
+      → f.uses.items ≡ e.uses.items ++ option_to_list k.used → AreExports table names f (xs ++ ys)
+  exports_push a i refers uses =
+      let s = split (names_of xs) names k.refers (reach table i.piece) i.covered in
+      let out = a.outside ++ s.outside in
+      let one = i.piece ∷ [] in
+      let here = names_of (externs_in table a.pieces) in
+      let same : names_of xs ≡ here = ap names_of a.externs_are in
+      let wide : Sub (s.outside ++ names_of xs) (out ++ here) =
+      sub_both s.outside (names_of xs) (out ++ here) (sub_then s.outside out (out ++ here) (sub_right a.outside s.outside) (sub_left out here))
+      (subst (λ ids. Sub ids (out ++ here)) (sym same) (sub_right out here)) in
+      record {
+        outside = out;
+        pieces = a.pieces ++ one;
+        externs_are = ap (λ zs. zs ++ ys) a.externs_are ∙ (ap (λ zs. externs_in table a.pieces ++ zs) i.externs_are ∙ sym (externs_append table a.pieces one));
+        uses_are = uses ∙ (ap (λ us. us ++ option_to_list k.used) a.uses_are
+            ∙ (ap (λ us. uses_in a.pieces ++ us) (sym i.used_is) ∙ sym (uses_append a.pieces one)));
+        follow = follow_append table out a.pieces one (follow_sub table a.outside out a.pieces (sub_left a.outside s.outside) a.follow)
+            (i.known, within_sub (s.outside ++ names_of xs) (out ++ here) (reach table i.piece) wide s.within, tt);
+        covered = subst (λ n. Covers names n out) (sym refers) (covers_both names e.refers k.refers a.outside s.outside a.covered s.covered);
+        rest = λ h.
+            let up : IsAbove (greater_of e.refers.innermost k.refers.innermost) (length names) = subst (λ n. IsAbove n.innermost (length names)) refers h in
+            rest_append table out a.pieces one
+            (rest_sub table a.outside out a.pieces (sub_left a.outside s.outside)
+            (a.rest (above_left e.refers.innermost k.refers.innermost (length names) up))) (
+              i.known,
+              within_sub s.outside out (reach table i.piece) (sub_right a.outside s.outside)
+                  (s.all (above_right e.refers.innermost k.refers.innermost (length names) up)),
+              tt,
+            );
+      }
+
+-- An instance type is closed.
+
+above_by : (i : Option ℕ) (depth level : ℕ) → is_below i depth ≡ false → level ≡ depth + 1 → IsAbove i level
+above_by None depth level h e = tt
+above_by (Some k) depth level h e = let b = ltb-false depth k h in omega (arith, b, e)
+
+module _ (table : List Exports) (here : List Id) (names : List (List Id)) (e : Exported) (b : Body) (depth : ℕ) (t : InstanceType) (refers : Needs) where
+  pub instance_closed : (old new : Known) (id : Id) (size number : ℕ) → AreExports table (here ∷ names) e b.exports → length names ≡ depth
+      → refers ≡ closed_needs e.refers depth
+      → t.uses.items ≡ e.uses.items → t.refers_to_own ≡ is_below e.refers.innermost depth → IsTable old.instances.items table
+      → number ≡ length old.instances.items → new.instances.items ≡ old.instances.items ++ t ∷ []
+      → IsDeclared table (here ∷ names) new (instance_facts refers size number) (instance_plain id b)
+  instance_closed old new id size number a d refs uses own ts n pushed =
+      let x : Exports = record { externs = b.exports; outside = a.outside } in
+      let long : length table ≡ number = AllZip-long (IsInstanceType table) old.instances.items table ts ∙ sym n in
+      let at : get_or (table ++ x ∷ []) number no_exports ≡ x =
+      ap (λ k. get_or (table ++ x ∷ []) k no_exports) (sym long) ∙ get_or-append_seam table x [] no_exports in
+      let type : IsInstanceType table t x = record {
+        pieces = a.pieces;
+        externs_are = a.externs_are;
+        uses_are = uses ∙ a.uses_are;
+        follow = a.follow;
+        rest = λ o. a.rest (above_by e.refers.innermost depth (length (here ∷ names)) (sym own ∙ o) (omega (arith, d)));
+      } in
+      record {
+        more = x ∷ [];
+        instances_are = subst (λ us. IsTable us (table ++ x ∷ [])) (sym pushed) (table_push old.instances.items table t x ts type);
+        is = record {
+          nominal_is = refl;
+          needs_are = covers_unnamed (here ∷ names) None (refers_of b.exports);
+          refers_are = subst (λ r. Covers (here ∷ names) r (outside_of (table ++ x ∷ []) number)) (sym refs)
+              (subst (λ y. Covers (here ∷ names) (closed_needs e.refers depth) y.outside) (sym at)
+              (covers_closed (here ∷ names) depth (omega (arith, d)) e.refers a.outside a.covered));
+          instance_is = (omega (arith, long, length-append table (x ∷ [])), sym (ap (λ y. y.externs) at), ap (λ y. refers_of y.externs) (sym at));
+        };
+      }
+
+-- What is met where names are asked.
+
+-- a piece that is of no type of instances
+pub single_met : (table : List Exports) (p : Piece) (named : List Id) → uses_in (p ∷ []) ≡ [] → Within named (reach table p)
+    → RefersTo named (externs_in table (p ∷ []))
+single_met table (single x) named u w = (w, tt)
+single_met table (whole n) named u w = absurd (let z : Instance n ∷ [] ≡ [] = u in cc)
+single_met table (equal n ns) named u w = absurd (let z : Equal n ∷ [] ≡ [] = u in cc)
+
+-- a piece of one
+pub record UseOf (table : List Exports) (u : Use) (p : Piece) : Type 0 where
+  pub known : number_of u < length table
+  pub reach_is : reach table p ≡ outside_of table (number_of u)
+  pub met : (named : List Id) → IsMet table u named → RefersTo named (externs_in table (p ∷ []))
+  pub after : (named : List Id) → Sub (named_after table u named) (named ++ names_of (externs_in table (p ∷ [])))
+
+pub use_of : (table : List Exports) (u : Use) (p : Piece) → uses_in (p ∷ []) ≡ u ∷ [] → IsKnown table p → UseOf table u p
+use_of table u (single x) e k = absurd (let z : [] ≡ u ∷ [] = e in cc)
+use_of table u (whole n) e k =
+    let same : Instance n ≡ u = cc in
+    let xs : List Extern = externs_of table n in
+    let none : xs ≡ xs ++ [] = sym (append-nil xs) in
+    let it : UseOf table (Instance n) (whole n) = record {
+      known = k;
+      reach_is = refl;
+      met = λ named m. subst (λ ys. RefersTo named ys) none m;
+      after = λ named. subst (λ ys. Sub (named ++ names_of xs) (named ++ names_of ys)) none (sub_same (named ++ names_of xs));
+    } in
+    subst (λ v. UseOf table v (whole n)) same it
+use_of table u (equal n ns) e k =
+    let same : Equal n ≡ u = cc in
+    let it : UseOf table (Equal n) (equal n ns) = record {
+      known = k;
+      reach_is = refl;
+      met = λ named m. (m, tt);
+      after = λ named. sub_left named (ns ++ []);
+    } in
+    subst (λ v. UseOf table v (equal n ns)) same it
+
+pub sets_of : (table : List Exports) (s : Sets) (b c : Body) → b.imports ≡ c.imports → b.exports ≡ c.exports → AreSets table s b → AreSets table s c
+sets_of table s b c i e h = (role_of table [] true (Names s) b c i e (refl, h)).1

@@ -1,0 +1,149 @@
+-- Types of instances, and more of them.
+use Rattle.std.proofs.Common.{◌≡◌, ℕ, ◌<◌, List, [], ◌∷◌, ◌++◌, length, get_or, refl, sym, ap, ◌∙◌, subst, arith, length-append}
+use Rattle.std.proofs.Common.{Option, None, Some}
+use Rattle.std.proofs.lemmas.List.{get_or_append_left}
+use Rattle.std.specs.List.{AllZip}
+use Rattle.smith_validity.specs.Facts.{FactScope, Facts, Id}
+use Rattle.smith_validity.specs.Validates.{names_of}
+use Rattle.smith_validate.specs.Exposing.{IsSettled}
+use Rattle.smith_validate.specs.Instances.{AreKept, Exports, Follow, IsInstanceType, IsKept, IsKnown, IsNumbered, IsTable}
+use Rattle.smith_validate.specs.Instances.{Piece, Rest, ScopesKept, equal, externs_in}
+use Rattle.smith_validate.specs.Instances.{externs_of, named_by, no_exports, outside_of, reach, reach_of, refers_of, single, whole}
+use Rattle.smith_validate.specs.Marks.{Covers, Within}
+use Rattle.smith_validate.specs.declared.facts.Facts.{Facts as KeptFacts}
+use Rattle.smith_validate.specs.declared.instances.Exposed.{Exposed}
+use Rattle.smith_validate.specs.declared.instances.InstanceType.{InstanceType}
+use Rattle.smith_validate.proofs.Names.{Sub, sub_more, within_sub}
+
+module _ (table more : List Exports) where
+  at_more : (n : ℕ) → n < length table → get_or (table ++ more) n no_exports ≡ get_or table n no_exports
+  at_more n h = get_or_append_left table more no_exports n h
+
+  pub externs_more : (n : ℕ) → n < length table → externs_of (table ++ more) n ≡ externs_of table n
+  externs_more n h = ap (λ e. e.externs) (at_more n h)
+
+  pub outside_more : (n : ℕ) → n < length table → outside_of (table ++ more) n ≡ outside_of table n
+  outside_more n h = ap (λ e. e.outside) (at_more n h)
+
+  pub longer : (n : ℕ) → n < length table → n < length (table ++ more)
+  longer n h = omega (arith, h, length-append table more)
+
+  pub known_more : (p : Piece) → IsKnown table p → IsKnown (table ++ more) p
+  known_more (single x) k = tt
+  known_more (whole n) k = longer n k
+  known_more (equal n names) k = longer n k
+
+  pub reach_more : (p : Piece) → IsKnown table p → reach (table ++ more) p ≡ reach table p
+  reach_more (single x) k = refl
+  reach_more (whole n) k = outside_more n k
+  reach_more (equal n names) k = outside_more n k
+
+  named_more : (p : Piece) → IsKnown table p → named_by (table ++ more) p ≡ named_by table p
+  named_more (single x) k = refl
+  named_more (whole n) k = ap names_of (externs_more n k)
+  named_more (equal n names) k = refl
+
+  pub externs_one_more : (p : Piece) (ps : List Piece) → IsKnown table p → externs_in (table ++ more) ps ≡ externs_in table ps
+      → externs_in (table ++ more) (p ∷ ps) ≡ externs_in table (p ∷ ps)
+  externs_one_more (single x) ps k e = ap (λ xs. x ∷ xs) e
+  externs_one_more (whole n) ps k e = ap (λ xs. xs ++ externs_in (table ++ more) ps) (externs_more n k) ∙ ap (λ xs. externs_of table n ++ xs) e
+  externs_one_more (equal n names) ps k e =
+      ap (λ ys. record { refers = refers_of ys; names = names } ∷ externs_in (table ++ more) ps) (externs_more n k)
+      ∙ ap (λ xs. record { refers = refers_of (externs_of table n); names = names } ∷ xs) e
+
+  pub externs_in_more : (named : List Id) (ps : List Piece) → Follow table named ps → externs_in (table ++ more) ps ≡ externs_in table ps
+  externs_in_more named [] f = refl
+  externs_in_more named (p ∷ ps) f = externs_one_more p ps f.0 (externs_in_more (named ++ named_by table p) ps f.2)
+
+  pub follow_more : (named : List Id) (ps : List Piece) → Follow table named ps → Follow (table ++ more) named ps
+  follow_more named [] f = tt
+  follow_more named (p ∷ ps) f = (
+    known_more p f.0,
+    subst (λ ids. Within named ids) (sym (reach_more p f.0)) f.1,
+    subst (λ ids. Follow (table ++ more) (named ++ ids) ps) (sym (named_more p f.0)) (follow_more (named ++ named_by table p) ps f.2),
+  )
+
+  pub rest_more : (named : List Id) (ps : List Piece) → Rest table named ps → Rest (table ++ more) named ps
+  rest_more named [] f = tt
+  rest_more named (p ∷ ps) f = (known_more p f.0, subst (λ ids. Within named ids) (sym (reach_more p f.0)) f.1, rest_more named ps f.2)
+
+  pub type_more : (t : InstanceType) (e : Exports) → IsInstanceType table t e → IsInstanceType (table ++ more) t e
+  type_more t e i = record {
+    pieces = i.pieces;
+    externs_are = i.externs_are ∙ sym (externs_in_more e.outside i.pieces i.follow);
+    uses_are = i.uses_are;
+    follow = follow_more e.outside i.pieces i.follow;
+    rest = λ o. rest_more e.outside i.pieces (i.rest o);
+  }
+
+  reach_of_more : (i : Option ℕ) (f : Facts) → IsNumbered table i f → reach_of (table ++ more) i f ≡ reach_of table i f
+  reach_of_more None f n = refl
+  reach_of_more (Some k) f n = outside_more k n.0
+
+  numbered_more : (i : Option ℕ) (f : Facts) → IsNumbered table i f → IsNumbered (table ++ more) i f
+  numbered_more None f n = n
+  numbered_more (Some k) f n = (
+    longer k n.0,
+    n.1 ∙ sym (externs_more k n.0),
+    n.2 ∙ ap refers_of (sym (externs_more k n.0)),
+  )
+
+  pub kept_more : (names : List (List Id)) (k : KeptFacts) (f : Facts) → IsKept table names k f → IsKept (table ++ more) names k f
+  kept_more names k f i = record {
+    nominal_is = i.nominal_is;
+    needs_are = i.needs_are;
+    refers_are = subst (λ ids. Covers names k.refers ids) (sym (reach_of_more k.instance f i.instance_is)) i.refers_are;
+    instance_is = numbered_more k.instance f i.instance_is;
+  }
+
+  pub are_kept_more : (names : List (List Id)) (ks : List KeptFacts) (fs : List Facts) → AreKept table names ks fs → AreKept (table ++ more) names ks fs
+  are_kept_more names [] [] a = tt
+  are_kept_more names [] (f ∷ fs) a = a
+  are_kept_more names (k ∷ ks) [] a = a
+  are_kept_more names (k ∷ ks) (f ∷ fs) a = (kept_more names k f a.0, are_kept_more names ks fs a.1)
+
+  pub scopes_more : (names : List (List Id)) (ks : List (List KeptFacts)) (ss : List FactScope) → ScopesKept table names ks ss
+      → ScopesKept (table ++ more) names ks ss
+  scopes_more [] [] [] a = tt
+  scopes_more [] [] (s ∷ ss) a = a
+  scopes_more [] (k ∷ ks) ss a = a
+  scopes_more (here ∷ names) [] ss a = a
+  scopes_more (here ∷ names) (k ∷ ks) [] a = a
+  scopes_more (here ∷ names) (k ∷ ks) (s ∷ ss) a = (are_kept_more (here ∷ names) k s.types a.0, scopes_more names ks ss a.1)
+
+  pub settled_more : (s : Exposed) (named : List Id) → IsSettled table s named → IsSettled (table ++ more) s named
+  settled_more s named i = λ n h. (longer n (i n h).0, subst (λ xs. Within named (refers_of xs)) (sym (externs_more n (i n h).0)) (i n h).1)
+
+-- what is named grows
+
+pub follow_sub : (table : List Exports) (a b : List Id) (ps : List Piece) → Sub a b → Follow table a ps → Follow table b ps
+follow_sub table a b [] s f = tt
+follow_sub table a b (p ∷ ps) s f =
+    (f.0, within_sub a b (reach table p) s f.1, follow_sub table (a ++ named_by table p) (b ++ named_by table p) ps (sub_more a b (named_by table p) s) f.2)
+
+pub rest_sub : (table : List Exports) (a b : List Id) (ps : List Piece) → Sub a b → Rest table a ps → Rest table b ps
+rest_sub table a b [] s f = tt
+rest_sub table a b (p ∷ ps) s f = (f.0, within_sub a b (reach table p) s f.1, rest_sub table a b ps s f.2)
+
+pub settled_sub : (table : List Exports) (s : Exposed) (a b : List Id) → Sub a b → IsSettled table s a → IsSettled table s b
+settled_sub table s a b f i = λ n h. ((i n h).0, within_sub a b (refers_of (externs_of table n)) f (i n h).1)
+
+-- one more type of instances
+
+types_more : (table more : List Exports) (ts : List InstanceType) (es : List Exports) → AllZip (IsInstanceType table) ts es
+    → AllZip (IsInstanceType (table ++ more)) ts es
+types_more table more [] [] a = tt
+types_more table more [] (e ∷ es) a = a
+types_more table more (t ∷ ts) [] a = a
+types_more table more (t ∷ ts) (e ∷ es) a = (type_more table more t e a.0, types_more table more ts es a.1)
+
+pub zip_push : {A B : Type 0} (R : A → B → Type 0) (xs : List A) (ys : List B) (x : A) (y : B) → AllZip R xs ys → R x y → AllZip R (xs ++ x ∷ []) (ys ++ y ∷ [])
+zip_push R [] [] x y a r = (r, tt)
+zip_push R [] (z ∷ ys) x y a r = absurd a
+zip_push R (z ∷ xs) [] x y a r = absurd a
+zip_push R (z ∷ xs) (w ∷ ys) x y a r = (a.0, zip_push R xs ys x y a.1 r)
+
+pub table_push : (ts : List InstanceType) (table : List Exports) (t : InstanceType) (e : Exports) → IsTable ts table → IsInstanceType table t e
+    → IsTable (ts ++ t ∷ []) (table ++ e ∷ [])
+table_push ts table t e a i =
+    zip_push (IsInstanceType (table ++ e ∷ [])) ts table t e (types_more table (e ∷ []) ts table a) (type_more table (e ∷ []) t e i)
