@@ -4,16 +4,16 @@ use crate::FAULT;
 use crate::places::{STANDARD_INPUT, Source, print_fault, status_of_print};
 use crate::show::Shown;
 use smith_read::{ComponentTree, read};
-use smith_verdict::{Verdict, check as check_bytes};
+use smith_verdict::{Validity, Verdict, check as check_bytes, validate};
 use std::fmt;
 use std::io::{self, Read};
 use std::process::ExitCode;
 
 /// What bytes that are no component end with, and a run that is out of memory; of `check`, a component that is not well
-/// formed.
+/// formed, or does not validate where that is asked.
 pub const REFUSED: u8 = 1;
 
-// What `check` ends with where the bytes are not in the grammar.
+// What `check` ends with if the bytes are not in the grammar.
 const UNREAD: u8 = 3;
 
 fn read_whole(rt: &HostRuntime, source: &mut Source) -> io::Result<Vec<u8>> {
@@ -89,6 +89,29 @@ pub fn check(rt: &HostRuntime, path: Option<&str>) -> ExitCode {
     };
     match check_bytes(rt.alloc(), &bytes) {
         Ok(verdict) => report(rt, path, &verdict),
+        Err(_) => refuse(rt, path, &"out of memory", FAULT),
+    }
+}
+
+fn report_validity(rt: &HostRuntime, path: Option<&str>, validity: &Validity) -> ExitCode {
+    match validity {
+        Validity::Valid => {
+            let path = path.unwrap_or(STANDARD_INPUT);
+            status_of_print(rt, println!(rt; "{path}: {validity}"))
+        }
+        Validity::Invalid { .. } => refuse(rt, path, validity, REFUSED),
+        Validity::Other(verdict) => report(rt, path, verdict),
+    }
+}
+
+/// Says whether the file is a well-formed component that a validator accepts, and else what is wrong with it, and where.
+pub fn check_validity(rt: &HostRuntime, path: Option<&str>) -> ExitCode {
+    let bytes = match bytes_in(rt, path) {
+        Ok(bytes) => bytes,
+        Err(status) => return status,
+    };
+    match validate(rt.alloc(), &bytes) {
+        Ok(validity) => report_validity(rt, path, &validity),
         Err(_) => refuse(rt, path, &"out of memory", FAULT),
     }
 }

@@ -41,6 +41,7 @@ fn main(rt: HostRuntime) -> ExitCode {
         Ok(Task::PrintLimits) => places::status_of_print(&rt, print!(rt; "{}", DEFAULT_LIMITS)),
         Ok(Task::Generate(options)) => generating::generate(&rt, &options),
         Ok(Task::Check(path)) => inspecting::check(&rt, path),
+        Ok(Task::Validate(path)) => inspecting::check_validity(&rt, path),
         Ok(Task::Show(path)) => inspecting::show(&rt, path),
         Ok(Task::Script(options)) => scripting::script(&rt, &options),
         Err(error) => {

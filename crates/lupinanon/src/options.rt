@@ -14,6 +14,8 @@ pub enum Task<'a> {
     Generate(Options<'a>),
     /// Say whether a file is a well-formed component; standard input where it is absent.
     Check(Option<&'a str>),
+    /// The same, and whether a validator accepts it.
+    Validate(Option<&'a str>),
     /// Print the component in a file.
     Show(Option<&'a str>),
     /// Write the script of the component in a file.
@@ -73,8 +75,8 @@ const AFTER_LIMITS: &str = "Status:
   2  bad arguments, or a failed write";
 
 const AFTER_CHECK: &str = "Status:
-  0  the component is well formed
-  1  it is not: the rule that it breaks, and the offset, are on standard error
+  0  the component is well formed and, with --validate, valid
+  1  it is not: the rule that it breaks, or what a validator asks, and the offset, are on standard error
   2  bad arguments, memory runs out, or a failed read or write
   3  the bytes are not in the grammar: what is wrong, and the offset, are on standard error";
 
@@ -150,7 +152,10 @@ fn file_command<'a>(
 
 fn check_command<'a>(alloc: Global) -> Result<Command<'a>, AllocError> {
     let about = "Say whether a file is a well-formed component, and where it is not";
-    Ok(file_command(alloc, "check", about)?.after_help(AFTER_CHECK))
+    let validate = "Ask too that a validator accepts it: named types, sizes and counts";
+    file_command(alloc, "check", about)?
+        .after_help(AFTER_CHECK)
+        .arg(switch(alloc, "validate", validate))
 }
 
 fn show_command<'a>(alloc: Global) -> Result<Command<'a>, AllocError> {
@@ -235,6 +240,14 @@ fn script_options_of<'a>(
     })
 }
 
+fn check_of<'a>(matches: &ArgMatches<'a>) -> Task<'a> {
+    let component = file(matches, "FILE");
+    if matches.get_flag("validate") {
+        return Task::Validate(component);
+    }
+    Task::Check(component)
+}
+
 /// What the words ask for. The first is the program's name.
 pub fn task_of<'a, S: AsStr>(alloc: Global, words: &'a [S]) -> Result<Task<'a>, Error> {
     let matches = command(alloc)?.try_get_matches_from(words)?;
@@ -242,7 +255,7 @@ pub fn task_of<'a, S: AsStr>(alloc: Global, words: &'a [S]) -> Result<Task<'a>, 
         return Ok(Task::Generate(options_of(alloc, options)?));
     }
     if let Some(options) = matches.subcommand_matches("check") {
-        return Ok(Task::Check(file(options, "FILE")));
+        return Ok(check_of(options));
     }
     if let Some(options) = matches.subcommand_matches("show") {
         return Ok(Task::Show(file(options, "FILE")));

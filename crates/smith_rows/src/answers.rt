@@ -5,7 +5,7 @@ use crate::texts::{defaults, misfit, texts, unwritten};
 use smith_component::{Config, Error, Unstructured, generate};
 use smith_read::{ReadError, read};
 use smith_script::{ScriptError, script};
-use smith_verdict::{Verdict, check};
+use smith_verdict::{Verdict, check, validate};
 use std::alloc::{AllocError, Global};
 use std::fmt;
 
@@ -26,6 +26,8 @@ pub enum Task {
     Fronts,
     /// Whether they are a well-formed component.
     Check,
+    /// Whether they are a component that a validator accepts.
+    Validate,
     /// The texts of the errors.
     Texts,
     /// Whether the text of the default limits is the default.
@@ -228,6 +230,7 @@ pub fn answer(
         Task::Read => format!(in alloc; "= {}\n", what_is_read(alloc, bytes)?.as_str()),
         Task::Fronts => fronts(alloc, bytes),
         Task::Check => format!(in alloc; "= {}\n", check(alloc, bytes)?),
+        Task::Validate => format!(in alloc; "= {}\n", validate(alloc, bytes)?),
         Task::Texts => texts(alloc),
         Task::Defaults => defaults(alloc),
         Task::Misfit => misfit(alloc, limits),

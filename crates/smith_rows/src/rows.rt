@@ -30,6 +30,7 @@ fn task_of(word: &str) -> Option<Task> {
         "read" => Some(Task::Read),
         "fronts" => Some(Task::Fronts),
         "check" => Some(Task::Check),
+        "validate" => Some(Task::Validate),
         "texts" => Some(Task::Texts),
         "defaults" => Some(Task::Defaults),
         "misfit" => Some(Task::Misfit),

@@ -1,1 +1,2 @@
+pub mod Validities
 pub mod Verdicts

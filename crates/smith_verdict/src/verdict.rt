@@ -1,7 +1,8 @@
 //! What bytes are: a component that is well formed, one that is not, or none that is read.
 
-ghost use Rattle.std.specs.Prelude.{IfOk};
+ghost use Rattle.std.specs.Prelude.{◌≡◌, IfOk};
 ghost use Rattle.smith_tree.specs.Grammar.{Spells};
+ghost use Rattle.smith_tree.specs.WellFormed.{WellFormed};
 ghost use Rattle.smith_read.specs.PartNodes.{shown_tree};
 ghost use Rattle.smith_verdict.specs.Verdicts.{IsVerdict};
 
@@ -39,9 +40,15 @@ impl fmt::Display for Verdict {
     }
 }
 
-fn verdict_of(alloc: Global, bytes: &[u8], component: &ComponentTree) -> Result<Verdict, AllocError>
+// What the bytes of a component that was read are.
+pub(crate) fn check_component(
+    alloc: Global,
+    bytes: &[u8],
+    component: &ComponentTree,
+) -> Result<Verdict, AllocError>
     requires { Spells (shown_tree component.now) bytes.now }
-    ensures { IfOk result (IsVerdict bytes.now) }
+    ensures verdict { IfOk result (IsVerdict bytes.now) }
+    ensures formed { IfOk result (λ v. v ≡ Verdict.WellFormed → WellFormed (shown_tree component.now)) }
 {
     match judged(alloc, component)? {
         Judgement::WellFormed => Ok(Verdict::WellFormed),
@@ -61,7 +68,7 @@ pub fn check(alloc: Global, bytes: &[u8]) -> Result<Verdict, AllocError>
     ensures { IfOk result (IsVerdict bytes.now) }
 {
     match read(alloc, bytes) {
-        Ok(component) => verdict_of(alloc, bytes, &component),
+        Ok(component) => check_component(alloc, bytes, &component),
         Err(ReadError::OutOfMemory) => Err(AllocError),
         Err(ReadError::Malformed { offset, reason }) => Ok(Verdict::Unread { reason, offset }),
     }
