@@ -63,7 +63,6 @@ static int defaults_are_written(void) {
     WANT(limits.simd_enabled == 1);
     WANT(limits.allow_floats == 1);
     WANT(limits.bulk_memory_enabled == 1);
-    WANT(limits.must_validate == 0);
     WANT(limits.finish_after == 0);
     return 1;
 }

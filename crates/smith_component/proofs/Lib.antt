@@ -1,10 +1,8 @@
 pub mod CanonsEnough
 pub mod CanonsRead
 pub mod CanonsSame
-pub mod CoreSizes
 pub mod Decided
 pub mod Exact
-pub mod EntriesState
 pub mod ExportsRead
 pub mod ExportsSame
 pub mod ExportsState
@@ -16,12 +14,9 @@ pub mod Grammar
 pub mod Growth
 pub mod ImportsState
 pub mod ImportsRead
-pub mod ImportsRoom
 pub mod ImportsSame
 pub mod Items
 pub mod MadeWith
-pub mod Marks
-pub mod MarkedKept
 pub mod Named
 pub mod PartsRead
 pub mod Plans
@@ -51,6 +46,5 @@ pub mod WellFormed
 pub mod Encoded
 pub mod Plan
 pub mod Planned
-pub mod RunsOffered
 pub mod RunsReadable
 pub mod RunsFinishable

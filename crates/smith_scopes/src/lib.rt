@@ -3,7 +3,4 @@
 
 mod scopes;
 
-pub use scopes::{
-    Kind, ModuleSize, Offer, Offers, Scopes, Uses, defined_mark, function_mark, function_size,
-    size_sum,
-};
+pub use scopes::{Kind, Scopes};

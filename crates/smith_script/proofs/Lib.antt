@@ -1,7 +1,6 @@
 pub mod Differing
 pub mod Given
 pub mod Grown
-pub mod Keeps
 pub mod Known
 pub mod Noted
 pub mod Plans

@@ -5,4 +5,3 @@ pub mod Occupied
 pub mod Ranks
 pub mod TableSteps
 pub mod Turns
-pub mod UsableTypes
