@@ -71,6 +71,7 @@ static const size_t ends[] = {
     END_OF(simd_enabled),
     END_OF(allow_floats),
     END_OF(bulk_memory_enabled),
+    END_OF(must_validate),
     END_OF(reserved),
     END_OF(finish_after),
 };

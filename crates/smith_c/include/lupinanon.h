@@ -87,8 +87,11 @@ typedef struct LupinanonLimits {
     uint8_t allow_floats;
     /* Whether core modules count their data segments in a section. [1] */
     uint8_t bulk_memory_enabled;
+    /* Whether a validator accepts each component: what it imports and exports is of types that it names, and effective
+     * sizes and counts are below the bounds of wasmparser. [0] */
+    uint8_t must_validate;
     /* Reserved, and 0. */
-    uint8_t reserved[6];
+    uint8_t reserved[5];
     /* How many sections a component has at least when the input finishes it. Where no input is left, it is finished
      * whatever it has. [0] */
     size_t finish_after;

@@ -34,5 +34,6 @@ limits_once c d e = λ i. record {
   simd_enabled = byte_once c.simd_enabled d.simd_enabled (ap (λ l. l.simd_enabled) e) i;
   allow_floats = byte_once c.allow_floats d.allow_floats (ap (λ l. l.allow_floats) e) i;
   bulk_memory_enabled = byte_once c.bulk_memory_enabled d.bulk_memory_enabled (ap (λ l. l.bulk_memory_enabled) e) i;
+  must_validate = byte_once c.must_validate d.must_validate (ap (λ l. l.must_validate) e) i;
   finish_after = (e i).finish_after;
 }

@@ -35,5 +35,6 @@ limits_of c =
       simd_enabled = byte_of c.simd_enabled;
       allow_floats = byte_of c.allow_floats;
       bulk_memory_enabled = byte_of c.bulk_memory_enabled;
+      must_validate = byte_of c.must_validate;
       finish_after = c.finish_after;
     }

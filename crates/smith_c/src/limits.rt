@@ -34,6 +34,7 @@ pub struct Limits {
     pub simd_enabled: u8,
     pub allow_floats: u8,
     pub bulk_memory_enabled: u8,
+    pub must_validate: u8,
     pub finish_after: usize,
 }
 
@@ -78,6 +79,7 @@ impl Limits {
             simd_enabled: u8::from(config.simd_enabled),
             allow_floats: u8::from(config.allow_floats),
             bulk_memory_enabled: u8::from(config.bulk_memory_enabled),
+            must_validate: u8::from(config.must_validate),
             finish_after: config.finish_after,
         }
     }
@@ -112,6 +114,7 @@ impl Limits {
             max_nesting_depth: self.max_nesting_depth,
             max_type_size: self.max_type_size,
             finish_after: self.finish_after,
+            must_validate: flag(self.must_validate)?,
         })
     }
 }

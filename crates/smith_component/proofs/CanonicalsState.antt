@@ -4,8 +4,8 @@ use Rattle.std.proofs.Common.{arith, append-nil, append_assoc, length-append, So
 use Rattle.std.proofs.lemmas.Bool.{false≢true}
 use Rattle.std.proofs.lemmas.List.{map-append, nil_from_length}
 use Rattle.std.proofs.lemmas.List.Concat.{flat_map-append}
-use Rattle.std.proofs.lemmas.Option.{get_or_from_slice_get, slice_get-get_or, slice_get_within}
-use Rattle.std.specs.Prelude.{slice_get}
+use Rattle.std.proofs.lemmas.Option.{get_or_from_slice_get, slice_get-get_or, slice_get-map, slice_get_within}
+use Rattle.std.specs.Prelude.{option_map, slice_get}
 use Rattle.std.specs.declared.alloc.Global.{Global}
 use Rattle.std.specs.declared.rc.Rc.{Rc}
 use Rattle.smith_input.specs.Choices.{ReadsAmong}
@@ -17,7 +17,8 @@ use Rattle.smith_format.specs.Consistency.{IsConsistent}
 use Rattle.smith_format.specs.declared.config.Config.{Config}
 use Rattle.smith_syntax.specs.Entries.{Entry, Signature, function, plain}
 use Rattle.smith_syntax.specs.Flat.{Flattens, is_scalar}
-use Rattle.smith_syntax.specs.Scope.{Scope, is_func, with_type}
+use Rattle.smith_syntax.specs.Marked.{Marked, mark, scope_in, with_marked}
+use Rattle.smith_syntax.specs.Scope.{Scope, is_func}
 use Rattle.smith_syntax.specs.Places.{places}
 use Rattle.smith_syntax.specs.Shown.{shown_shared, shown_type}
 use Rattle.smith_syntax.specs.HasSignature.{has_signature, is_of_signature}
@@ -26,20 +27,22 @@ use Rattle.smith_syntax.specs.declared.deftype.DefType.TheVariants as def
 use Rattle.smith_syntax.specs.declared.deftype.ComponentType.{ComponentType}
 use Rattle.smith_syntax.specs.declared.deftype.InstanceType.{InstanceType}
 use Rattle.smith_syntax.specs.declared.func.FuncType.{FuncType}
+use Rattle.smith_syntax.specs.declared.marks.Mark.{Mark}
 use Rattle.smith_syntax.specs.declared.types.DefinedType.{DefinedType}
 use Rattle.smith_syntax.proofs.Shown.{full_defined, full_func, full_component, full_instance}
 use Rattle.smith_types.specs.Lifting.{ReadsLiftedType}
 use Rattle.smith_types.specs.MakingTypes.{HoldsExterns}
-use Rattle.smith_scopes.specs.Scopes.{AddsType, Changes, Contents, last_of, own_scope}
-use Rattle.smith_types.proofs.Declaring.{equal_shown}
-use Rattle.smith_scopes.proofs.Stack.{grown as scopes_grown, length-last}
+use Rattle.smith_scopes.specs.Scopes.{AddsMarked, Contents, last_of, outer_marked, own_marked, own_scope}
+use Rattle.smith_scopes.proofs.Marking.{marked_alike}
+use Rattle.smith_scopes.proofs.Stack.{grown_marked, keeps_last, length-last, own_last, own_scope_is}
 use Rattle.smith_component.specs.Canonicals.{CanonTurn, Growing, NoCanon, ReadsCanons, empty_section, equal_types, grown, spaces_at, with_canon, with_defined}
 use Rattle.smith_component.specs.Canonicals.{LiftsTo, to_equal, to_defined, given_up, ReadsLift, ReadsLower}
-use Rattle.smith_component.specs.CanonicalsState.{CanonicalsState, DraftsOn, IsDraft, IsDrafted, IsLowered, KeepsFront, ReadsLiftedTypeOf, SameLoans}
+use Rattle.smith_component.specs.CanonicalsState.{CanonicalsState, DraftsOn, IsDraftIn, IsDrafted, IsLowered, KeepsFront, ReadsLiftedTypeOf, SameLoans}
 use Rattle.smith_component.specs.CanonicalsState.{draft_of, growing}
 use Rattle.smith_component.specs.SectionValues.{externs_in, externs_of}
 use Rattle.smith_component.specs.Shown.{shown_canon, shown_sections}
 use Rattle.smith_component.specs.Tables.{AddsCoreFunction, AddsFunction, IsLowerable, Tabled, functions_at}
+use Rattle.smith_tree.specs.Marking.{marked_in, marked_inner, with_type_entry}
 use Rattle.smith_tree.specs.Spaces.{spaces_of}
 use Rattle.smith_tree.specs.Functions.{core_functions_of}
 use Rattle.smith_tree.specs.Tree.{Tree, Canon, add, canons, exports_of, types, lift, lower, function_count}
@@ -52,8 +55,9 @@ use Rattle.smith_component.specs.declared.component.Func.TheVariants.{CanonLift,
 use Rattle.smith_component.specs.declared.component.Section.{Section}
 use Rattle.smith_tree.specs.declared.choices.CanonItem.{CanonItem}
 use Rattle.smith_component.proofs.ReadsCanons.{canon_count, empty_count, signature_count, spaces_signature, with_signature}
-use Rattle.smith_component.proofs.Growth.{scope_at, spaces-add, spaces_canon}
-use Rattle.smith_component.proofs.Spaces.{IsScalarFunction, all_at, equal_at, equal_own, exports_canons, exports_types, scope_canons}
+use Rattle.smith_tree.proofs.Marking.{marked_add, scope_marked}
+use Rattle.smith_component.proofs.Growth.{spaces-add, spaces_canon}
+use Rattle.smith_component.proofs.Spaces.{IsScalarFunction, all_at, equal_at, equal_own, exports_canons, exports_types}
 use Rattle.smith_component.proofs.Tables.{scalar_at, tabled_core_function, tabled_function, tabled_quiet, tabled_types}
 
 -- one function more in the section
@@ -94,11 +98,24 @@ tabled_signature s signature tabled =
     tabled_types (grown s) (grown (with_signature s signature)) es tabled (ap (λ z. z.types) e) (ap (λ z. z.functions) e) (ap (λ z. z.core_functions) e)
     (signature_count s signature) (exports_canons (add (grown s) (types es)) [] ∙ exports_types (grown s) es)
 
-scope_canon : (s : Growing) (c : Canon) → scope_of (grown (with_canon s c)) ≡ scope_of (grown s)
-scope_canon s c = scope_canons s.before (s.funcs ++ c ∷ []) ∙ sym (scope_canons s.before s.funcs)
+-- What is kept of the component, where the section has one function more, and where a type and another section follow it.
+module _ (config : Config) (around : List Tree) where
+  marked_section : (s : Growing) → marked_inner config around (grown s) ≡ marked_inner config around s.before
+  marked_section s = marked_add config (marked_in config around) s.before (canons s.funcs)
 
-scope_signature : (s : Growing) (signature : Signature) → scope_of (grown (with_signature s signature)) ≡ with_type (scope_of (grown s)) (function signature)
-scope_signature s signature = ap scope_at (spaces_signature s signature)
+  pub marked_canon : (s : Growing) (c : Canon) → marked_inner config around (grown (with_canon s c)) ≡ marked_inner config around (grown s)
+  marked_canon s c = marked_section (with_canon s c) ∙ sym (marked_section s)
+
+  pub marked_signature : (s : Growing) (signature : Signature)
+      → marked_inner config around (grown (with_signature s signature)) ≡ with_type_entry (marked_in config around) (marked_inner config around (grown s))
+      (function signature)
+  marked_signature s signature =
+      marked_section (with_signature s signature)
+      ∙ marked_add config (marked_in config around) (grown s) (types (function signature ∷ []))
+
+  -- the scope by itself
+  own_is : (scopes : List Contents) (t : Tree) → own_marked scopes ≡ marked_inner config around t → own_scope scopes ≡ scope_of t
+  own_is scopes t e = own_scope_is scopes ∙ (ap scope_in e ∙ scope_marked config (marked_in config around) t)
 
 -- A function is lowered.
 module _ (old new : OpenComponent) (fs gs : List Func) (items b rest : List ℕ) (f : ℕ) (tabled : Tabled old.tables (grown (growing old fs)))
@@ -113,13 +130,13 @@ module _ (old new : OpenComponent) (fs gs : List Func) (items b rest : List ℕ)
       let scalar = scalar_at (grown s) chosen.0 f (ap (λ xs. slice_get xs chosen.0) (sym (are ∙ tabled.scalars)) ∙ chosen.2) in
       subst (λ z. Tabled new.tables (grown z)) (sym (growing_more old new fs gs (CanonLower f) same more)) (tabled_lower s f scalar tabled adds)
 
-  pub lower_draft : {config : Config} (scopes : List Contents) → CanonicalsState config scopes old fs → AddsCoreFunction old.tables f new.tables
-      → CanonicalsState config scopes new gs
-  lower_draft scopes d adds =
+  pub lower_draft : {config : Config} {around : List Tree} (scopes : List Contents) → CanonicalsState config around scopes old fs
+      → AddsCoreFunction old.tables f new.tables → CanonicalsState config around scopes new gs
+  lower_draft {config} {around} scopes d adds =
       let e = growing_more old new fs gs (CanonLower f) same more in
       record {
         consistent = d.consistent;
-        scope_is = d.scope_is ∙ sym (ap (λ z. scope_of (grown z)) e ∙ scope_canon (growing old fs) (lower f));
+        scope_is = d.scope_is ∙ sym (ap (λ z. marked_inner config around (grown z)) e ∙ marked_canon config around (growing old fs) (lower f));
         tabled = lower_tabled adds;
       }
 
@@ -147,6 +164,12 @@ no_other t s e (inl d) = no_function (shown_type t) s (ap (λ x. is_func (shown_
 no_other t s e (inr (inl d)) = no_function (shown_type t) s (ap (λ x. is_func (shown_type x)) d.1 ∙ ap (λ x. is_func (plain x)) (full_component d.0)) e
 no_other t s e (inr (inr d)) = no_function (shown_type t) s (ap (λ x. is_func (shown_type x)) d.1 ∙ ap (λ x. is_func (plain x)) (full_instance d.0)) e
 
+-- A type of the last scope, as a plain tree.
+type_shown : (scopes : List Contents) (i : ℕ) (ty : DefType) → slice_get (last_of scopes).types i ≡ Some ty
+    → slice_get (own_scope scopes).types i ≡ Some (shown_type ty)
+type_shown scopes i ty at = ap (λ s. slice_get s.types i) (own_last scopes)
+    ∙ (slice_get-map shown_type (last_of scopes).types i ∙ ap (option_map shown_type) at)
+
 module _ (scopes : List Contents) (tables : Tables) (c i t : ℕ) (known : IsLowered (own_scope scopes) tables c)
     (at : i ≡ get_or tables.core_functions.items c i) (of : t ≡ get_or tables.functions.items i t) where
   index_is : i ≡ known.1.f
@@ -166,7 +189,7 @@ module _ (scopes : List Contents) (tables : Tables) (c i t : ℕ) (known : IsLow
 
   module _ (ty : DefType) (here : slice_get (last_of scopes).types t ≡ Some ty) where
     pub lowered_shown : shown_type ty ≡ function known.0
-    lowered_shown = some_same (shown_type ty) (function known.0) (sym (equal_shown scopes t ty here) ∙ lowered_at)
+    lowered_shown = some_same (shown_type ty) (function known.0) (sym (type_shown scopes t ty here) ∙ lowered_at)
 
     -- It is of no other type.
     pub lowered_other : (other : DefType) → other ≡ ty → IsOther other → ⊥
@@ -197,7 +220,7 @@ module _ (scopes : List Contents) (tables : Tables) (c i t : ℕ) (known : IsLow
       }
 
 -- What is known of a draft.
-module _ (draft : CanonicalDraft) (d : IsDraft draft) where
+module _ (draft : CanonicalDraft) (around : List Tree) (d : IsDraftIn around draft) where
   abbrev s : Growing
   s = draft_of draft
 
@@ -206,6 +229,10 @@ module _ (draft : CanonicalDraft) (d : IsDraft draft) where
 
   abbrev tables : Tables
   tables = draft.component.now.tables
+
+  -- the last scope by itself
+  own : own_scope held ≡ scope_of (grown s)
+  own = own_is draft.config.now around held (grown s) d.scope_is
 
   -- A core function lowers one that can be lowered.
   pub draft_lowered : (c : ℕ) → c < length tables.core_functions.items → IsLowered (own_scope held) tables c
@@ -221,13 +248,13 @@ module _ (draft : CanonicalDraft) (d : IsDraft draft) where
           ty = l.1.ty;
           lowers = at;
           stands = ap (λ xs. slice_get xs f) d.tabled.functions ∙ l.1.stands;
-          is = ap (λ z. slice_get z.types l.1.ty) d.scope_is ∙ l.1.is;
+          is = ap (λ z. slice_get z.types l.1.ty) own ∙ l.1.is;
         },
         l.2,
       )
 
   equal_are : (signature : Signature) → places (has_signature signature) 0 (last_of held).types ≡ equal_types s signature
-  equal_are signature = equal_own held signature ∙ ap (λ z. places (is_of_signature signature) 0 z.types) d.scope_is
+  equal_are signature = equal_own held signature ∙ ap (λ z. places (is_of_signature signature) 0 z.types) own
 
   -- One of the types that are equal is there.
   pub equal_within : (signature : Signature) (k t : ℕ) → slice_get (places (has_signature signature) 0 (last_of held).types) k ≡ Some t
@@ -237,7 +264,7 @@ module _ (draft : CanonicalDraft) (d : IsDraft draft) where
       omega (
         arith,
         slice_get_within (spaces_at s).types t (function signature) (equal_at (spaces_at s).types signature k t e),
-        ap (λ z. length z.types) d.scope_is,
+        ap (λ z. length z.types) own,
       )
 
   -- A lift is read by where it leads.
@@ -258,7 +285,7 @@ module _ (draft : CanonicalDraft) (d : IsDraft draft) where
       of = record {
         ty = lifts.of.ty;
         stands = ap (λ xs. slice_get xs lifts.of.f) (sym d.tabled.functions) ∙ lifts.of.stands;
-        is = ap (λ z. slice_get z.types lifts.of.ty) (sym d.scope_is) ∙ lifts.of.is;
+        is = ap (λ z. slice_get z.types lifts.of.ty) (sym own) ∙ lifts.of.is;
       };
       flattens = lifts.flattens;
       reads = lifts.reads;
@@ -279,33 +306,45 @@ module _ (draft : CanonicalDraft) (d : IsDraft draft) where
     -- to one that it defines
     pub lift_defined : (m : ℕ) → m ≡ length (places (has_signature signature) 0 (last_of held).types) → m ≤ 0
         → length (own_scope held).types < config.max_types → rest ≡ low → next ≡ with_defined s c signature → ReadsLift config s b rest next
-    lift_defined m many none room left e = lift_reads (to_defined (none_equal m many none) (omega (arith, room, ap (λ z. length z.types) d.scope_is)) left e)
+    lift_defined m many none room left e = lift_reads (to_defined (none_equal m many none) (omega (arith, room, ap (λ z. length z.types) own)) left e)
 
     -- or not at all
     pub lift_given_up : (m : ℕ) → m ≡ length (places (has_signature signature) 0 (last_of held).types) → m ≤ 0
         → config.max_types ≤ length (own_scope held).types → rest ≡ low → next ≡ s → ReadsLift config s b rest next
-    lift_given_up m many none full left e = lift_reads (given_up (none_equal m many none) (omega (arith, full, ap (λ z. length z.types) d.scope_is)) left e)
+    lift_given_up m many none full left e = lift_reads (given_up (none_equal m many none) (omega (arith, full, ap (λ z. length z.types) own)) left e)
 
   -- It stays a draft where a core function is lifted to a type that is there.
   pub lift_draft : (new : OpenComponent) (more : List Func) (c t : ℕ) → t < length (own_scope held).types
-      → AddsFunction (own_scope held) 1 tables t new.tables → growing new more ≡ with_canon s (lift c t) → CanonicalsState draft.config.now held new more
+      → AddsFunction (own_scope held) 1 tables t new.tables → growing new more ≡ with_canon s (lift c t)
+      → CanonicalsState draft.config.now around held new more
   lift_draft new more c t known adds e = record {
     consistent = d.consistent;
-    scope_is = d.scope_is ∙ sym (ap (λ z. scope_of (grown z)) e ∙ scope_canon s (lift c t));
-    tabled = subst (λ z. Tabled new.tables (grown z)) (sym e) (tabled_lift s c t d.scope_is known d.tabled adds);
+    scope_is = d.scope_is
+        ∙ sym (ap (λ z. marked_inner draft.config.now around (grown z)) e ∙ marked_canon draft.config.now around s (lift c t));
+    tabled = subst (λ z. Tabled new.tables (grown z)) (sym e) (tabled_lift s c t own known d.tabled adds);
   }
 
   -- It stays one where the type is defined.
-  module _ (after : List Contents) (new : OpenComponent) (more : List Func) (c t : ℕ) (signature : Signature) (ty : DefType)
-      (shows : shown_type ty ≡ function signature) (grows : AddsType held ty after) (e : growing new more ≡ with_defined s c signature) where
-    scope_after : own_scope after ≡ scope_of (grown (with_signature s signature))
-    scope_after = (scopes_grown held after ty grows).own ∙ (ap (with_type (own_scope held)) shows
-        ∙ (ap (λ z. with_type z (function signature)) d.scope_is ∙ sym (scope_signature s signature)))
+  module _ (after : List Contents) (new : OpenComponent) (more : List Func) (c t : ℕ) (signature : Signature) (ty : DefType) (m : Mark)
+      (shows : shown_type ty ≡ function signature) (grows : AddsMarked held ty m after)
+      (is_mark : (last_of held).keeps ≡ true → m ≡ mark {N = Unit {0}} {K = Unit {0}} (function signature) (own_marked held) (outer_marked held))
+      (e : growing new more ≡ with_defined s c signature) where
+    marked_after : own_marked after ≡ marked_inner draft.config.now around (grown (with_signature s signature))
+    marked_after =
+        let M : Marked → Mark = λ z. mark {N = Unit {0}} {K = Unit {0}} (function signature) z (marked_in draft.config.now around) in
+        (grown_marked held after ty grows).own
+        ∙ (ap (λ x. with_marked (own_marked held) x m) shows
+        ∙ (marked_alike (own_marked held) (function signature) m (M (own_marked held)) (λ k. is_mark (keeps_last held ∙ k))
+        ∙ (ap (λ z. with_marked z (function signature) (M z)) d.scope_is ∙ sym (marked_signature draft.config.now around s signature))))
 
-    pub define_draft : t ≡ length (last_of held).types → AddsFunction (own_scope after) 1 tables t new.tables → CanonicalsState draft.config.now after new more
+    scope_after : own_scope after ≡ scope_of (grown (with_signature s signature))
+    scope_after = own_is draft.config.now around after (grown (with_signature s signature)) marked_after
+
+    pub define_draft : t ≡ length (last_of held).types → AddsFunction (own_scope after) 1 tables t new.tables
+        → CanonicalsState draft.config.now around after new more
     define_draft index adds =
         let u : Growing = with_signature s signature in
-        let at : t ≡ length (spaces_at s).types = omega (arith, index, length-last held, ap (λ z. length z.types) d.scope_is) in
+        let at : t ≡ length (spaces_at s).types = omega (arith, index, length-last held, ap (λ z. length z.types) own) in
         let known : t < length (own_scope after).types = omega (
           arith,
           at,
@@ -317,12 +356,13 @@ module _ (draft : CanonicalDraft) (d : IsDraft draft) where
         let same : growing new more ≡ with_canon u (lift c t) = e ∙ ap (λ n. with_canon u (lift c n)) (sym at) in
         record {
           consistent = d.consistent;
-          scope_is = scope_after ∙ sym (ap (λ z. scope_of (grown z)) same ∙ scope_canon u (lift c t));
+          scope_is = marked_after
+              ∙ sym (ap (λ z. marked_inner draft.config.now around (grown z)) same ∙ marked_canon draft.config.now around u (lift c t));
           tabled = subst (λ z. Tabled new.tables (grown z)) (sym same) tabled;
         }
 
   pub type_index : (t : ℕ) → t ≡ length (last_of held).types → t ≡ length (spaces_at s).types
-  type_index t index = omega (arith, index, length-last held, ap (λ z. length z.types) d.scope_is)
+  type_index t index = omega (arith, index, length-last held, ap (λ z. length z.types) own)
 
 -- The section ends, the type is defined, and another section begins.
 pub defines : (s : Growing) (c t : ℕ) (signature : Signature) (middle last : Tree) (ended made : List Func) (entries : List (Rc DefType Global))
@@ -343,16 +383,16 @@ pub first_growing : (component : OpenComponent) (funcs : List Func) → funcs �
     → growing component funcs ≡ empty_section (shown_sections component.sections.items)
 first_growing component funcs none = let e = ap (map shown_canon) none in λ i. record { before = shown_sections component.sections.items; funcs = e i }
 
-pub first_draft : (config : Config) (scopes : List Contents) (component : OpenComponent) (funcs : List Func) → IsConsistent config → funcs ≡ []
-    → own_scope scopes ≡ scope_of (shown_sections component.sections.items) → Tabled component.tables (shown_sections component.sections.items)
-    → CanonicalsState config scopes component funcs
-first_draft config scopes component funcs consistent none is tabled =
+pub first_draft : (config : Config) (around : List Tree) (scopes : List Contents) (component : OpenComponent) (funcs : List Func) → IsConsistent config
+    → funcs ≡ [] → own_marked scopes ≡ marked_inner config around (shown_sections component.sections.items)
+    → Tabled component.tables (shown_sections component.sections.items) → CanonicalsState config around scopes component funcs
+first_draft config around scopes component funcs consistent none is tabled =
     let t : Tree = shown_sections component.sections.items in
     let e = spaces-add t (canons []) in
     let same = first_growing component funcs none in
     record {
       consistent = consistent;
-      scope_is = is ∙ sym (ap (λ z. scope_of (grown z)) same ∙ scope_canons t []);
+      scope_is = is ∙ sym (ap (λ z. marked_inner config around (grown z)) same ∙ marked_section config around (empty_section t));
       tabled = subst (λ z. Tabled component.tables (grown z)) (sym same)
           (tabled_quiet t (add t (canons [])) tabled (ap (λ z. z.types) e) (ap (λ z. z.functions) e) (ap (λ z. z.core_functions) e) (empty_count t)
           (exports_canons t []));
@@ -394,9 +434,9 @@ front_push old mid new section f e none names =
 
 -- A draft that goes on, and on again.
 
-pub drafts_none : (d : CanonicalDraft) → IsDraft d → DraftsOn d d
-drafts_none d draft = record {
-  draft = draft;
+pub drafts_none : (d : CanonicalDraft) → DraftsOn d d
+drafts_none d = record {
+  draft = λ around draft. draft;
   front = front_same d.component.now d.component.now refl refl;
   outer = refl;
   depth = refl;
@@ -412,16 +452,11 @@ loans_then f g = record {
 
 pub drafts_then : {a b c : CanonicalDraft} → DraftsOn a b → DraftsOn b c → DraftsOn a c
 drafts_then {a} {b} {c} f g = record {
-  draft = g.draft;
+  draft = λ around d. g.draft around (f.draft around d);
   front = front_then a.component.now b.component.now c.component.now f.front g.front;
   outer = g.outer ∙ f.outer;
   depth = g.depth ∙ f.depth;
 }
-
--- There are as many scopes where the last one is changed.
-pub length-changed : (f : Contents → Contents) (old new : List Contents) → Changes f old new → length new ≡ length old
-length-changed f old new a =
-    omega (arith, ap length a.before, ap length a.after, length-append a.outer (a.own ∷ []), length-append a.outer (f a.own ∷ []))
 
 -- A draft's names are those of its imports then.
 pub front_externs : (old new : OpenComponent) → KeepsFront old new → HoldsExterns old.tables.imports (externs_of old.sections.items)

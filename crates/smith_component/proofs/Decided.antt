@@ -6,7 +6,8 @@ use Rattle.smith_input.proofs.ReadsTexts.{bytes_unique, text_unique}
 use Rattle.smith_format.specs.declared.config.Config.{Config}
 use Rattle.smith_core.proofs.StandInSame.{stand_in_same}
 use Rattle.smith_component.specs.Canonicals.{grown}
-use Rattle.smith_tree.specs.Open.{Open, items, root, scopes_in, with_inner}
+use Rattle.smith_tree.specs.Marking.{marked_in}
+use Rattle.smith_tree.specs.Open.{Open, items, root, with_inner}
 use Rattle.smith_component.specs.Refusals.{RunReaches, LacksOn, RefusesModuleOn}
 use Rattle.smith_format.specs.Piece.{bytes_of}
 use Rattle.smith_tree.specs.Tree.{Tree, custom, core_module, core_types, types, imports, exports, add, imports_of, function_count}
@@ -30,7 +31,7 @@ use Rattle.smith_component.proofs.Turn.{closes_same}
 adds_same : (what : Counted) (config : Config) (min : ℕ) (stack : Open) (b : List ℕ) (t u : Tree) (r q : List ℕ) → Adds what config min stack b t r
     → Adds what config min stack b u q → (t ≡ u) × (r ≡ q)
 adds_same counted.Types config min stack b t u r q (xs, scope, reads, e) (ys, other, read, f) =
-    let d = types_same config (scopes_in stack.outer) reads read in
+    let d = types_same config (marked_in config stack.outer) reads read in
     (e ∙ (ap (λ z. add stack.inner (types z)) d.0 ∙ sym f), d.1)
 adds_same counted.Imports config min stack b t u r q (is, reads, e) (js, read, f) =
     let d = imports_same config stack reads read in
@@ -118,7 +119,7 @@ does_same config Module stack b n m r q (x, reads, e) (y, read, f) =
     (e ∙ (ap (λ z. with_part stack (core_module (bytes_of z))) d.0 ∙ sym f), d.1)
 does_same config Component stack b n m r q (l, e) (k, f) = (e ∙ sym f, l ∙ sym k)
 does_same config Exports stack b n m r q (es, reads, e) (fs, read, f) =
-    let d = exports_same stack.inner config reads read in
+    let d = exports_same config stack.outer stack.inner reads read in
     (e ∙ (ap (λ z. with_part stack (exports z)) d.0 ∙ sym f), d.1)
 
 -- what was chosen does the same for both

@@ -1,12 +1,14 @@
 -- The script of exports is read as them.
-use Rattle.std.proofs.Common.{◌≡◌, ℕ, ◌+◌, ◌-◌, ◌<◌, ◌≤◌, ◌^◌, List, [], ◌∷◌, ◌++◌, length, arith, refl, sym, subst, append_assoc}
+use Rattle.std.proofs.Common.{◌≡◌, ℕ, ◌+◌, ◌-◌, ◌<◌, ◌≤◌, ◌^◌, List, [], ◌∷◌, ◌++◌, length, arith, refl, sym, ap, subst, append_assoc}
 use Rattle.std.proofs.Common.{append-nil, length-append, ◌∙◌}
 use Rattle.std.proofs.lemmas.List.{length-map}
 use Rattle.std.specs.List.{AllByRecursion}
+use Rattle.std.specs.Prelude.{true, false, if◌then◌else◌}
 use Rattle.smith_input.specs.Kebab.{Kebab}
 use Rattle.smith_input.specs.Loops.{Along, Loop}
 use Rattle.smith_input.specs.Names.{ReadsNew}
 use Rattle.smith_input.specs.NameScript.{AreReachable, IsReachable, script_new}
+use Rattle.smith_input.specs.Reading.{Reads}
 use Rattle.smith_input.specs.Script.{pick}
 use Rattle.smith_input.proofs.Loops.{loop_read}
 use Rattle.smith_input.proofs.NameScript.{new_script_read}
@@ -14,18 +16,22 @@ use Rattle.smith_input.proofs.Picks.{reads-pick}
 use Rattle.smith_format.specs.declared.config.Config.{Config}
 use Rattle.smith_syntax.specs.WellFormed.{Named}
 use Rattle.smith_component.specs.Exports.{NoExport, ReadsExport, ReadsExports}
-use Rattle.smith_tree.specs.Offers.{with_exports}
+use Rattle.smith_tree.specs.Marking.{marked_inner}
+use Rattle.smith_tree.specs.Offered.{OfferedExports}
+use Rattle.smith_tree.specs.Offers.{export_functions, with_exports}
 use Rattle.smith_tree.specs.Script.{script_export, script_exports}
-use Rattle.smith_tree.specs.Spaces.{spaces_of}
+use Rattle.smith_tree.specs.Spaces.{after_export, spaces_of}
 use Rattle.smith_tree.specs.Functions.{functions_of}
+use Rattle.smith_tree.specs.TypeOffers.{has_room}
 use Rattle.smith_tree.specs.Tree.{ExportEntry, Tree, exports, exports_in, exports_of, function_count}
 use Rattle.smith_tree.specs.WellFormed.{FormedExports, export_names}
 use Rattle.smith_component.proofs.Growth.{functions_counted, spaces-add, spaces_export}
 use Rattle.smith_component.proofs.ImportsRead.{all_of_them}
+use Rattle.smith_component.proofs.Marks.{exports_marked, exports_marked_more}
 use Rattle.smith_component.proofs.Named.{named_behind, names_with_more}
 use Rattle.smith_component.proofs.Tree.{function_count-add, length-own-add}
 
-module _ (t : Tree) where
+module _ (config : Config) (outer : List Tree) (t : Tree) where
   -- the names of the component's exports and of these
   abbrev names_at : List ExportEntry → List (List ℕ)
   names_at s = export_names (exports_of t ++ s)
@@ -33,21 +39,28 @@ module _ (t : Tree) where
   names_count : (s : List ExportEntry) → length (names_at s) ≡ length (exports_of t) + length s
   names_count s = length-map (exports_of t ++ s) (λ (e : ExportEntry). e.name) ∙ length-append (exports_of t) s
 
+  -- What may be exported, where there is room.
+  open_functions : (s : List ExportEntry) → has_room (marked_inner config outer (with_exports t s)) false ≡ true
+      → export_functions config outer t s ≡ functions_of (with_exports t s)
+  open_functions s room = ap (λ b. if b then functions_of (with_exports t s) else []) room
+
   -- an export that can be said after others
   record Sayable (s : List ExportEntry) (x : ExportEntry) : Type 0 where
     reachable : IsReachable 100 (names_at s) x.name
+    lasts : has_room (marked_inner config outer (with_exports t s)) false ≡ true
     stands : x.func < length (functions_of (with_exports t s))
     few : length (functions_of (with_exports t s)) ≤ 2 ^ 64
     kebab : Kebab x.name
 
   export_read : (s : List ExportEntry) (x : ExportEntry) (rest : List ℕ) → Sayable s x
-      → ReadsExport t s (script_export t s x ++ rest) x rest (s ++ x ∷ [])
+      → ReadsExport config outer t s (script_export t s x ++ rest) x rest (s ++ x ∷ [])
   export_read s x rest h =
       let p : List ℕ = pick (length (functions_of (with_exports t s))) x.func in
       let n : List ℕ = script_new 100 (length (exports_of t) + length s) x.name in
-      subst (λ z. ReadsExport t s z x rest (s ++ x ∷ [])) (sym (append_assoc p n rest)) (record {
+      subst (λ z. ReadsExport config outer t s z x rest (s ++ x ∷ [])) (sym (append_assoc p n rest)) (record {
         mid = n ++ rest;
-        of = reads-pick (length (functions_of (with_exports t s))) x.func (n ++ rest) h.few h.stands;
+        of = subst (λ fs. Reads (length fs) (p ++ (n ++ rest)) x.func (n ++ rest)) (sym (open_functions s h.lasts))
+            (reads-pick (length (functions_of (with_exports t s))) x.func (n ++ rest) h.few h.stands);
         named = subst (λ c. ReadsNew 100 (names_at s) (script_new 100 c x.name ++ rest) x.name rest) (names_count s)
             (new_script_read 100 (names_at s) x.name rest (omega arith) h.kebab h.reachable);
         next_is = refl;
@@ -61,26 +74,36 @@ module _ (t : Tree) where
 
   all_sayable : (s xs : List ExportEntry) → AreReachable 100 (names_at s) (export_names xs) → FormedExports xs (spaces_of (with_exports t s))
       → AllByRecursion Kebab (export_names xs)
+      → OfferedExports xs (spaces_of (with_exports t s)) (marked_inner config outer (with_exports t s))
       → function_count t + (length (exports_of t) + (length s + length xs)) ≤ 2 ^ 64 → Along Sayable (λ u x. u ++ x ∷ []) s xs
-  all_sayable s [] p f k h = tt
-  all_sayable s (x ∷ xs) p f k h = (
-    record { reachable = p.0; stands = f.0; few = few_functions s (omega (arith, h)); kebab = k.0 },
+  all_sayable s [] p f k o h = tt
+  all_sayable s (x ∷ xs) p f k o h = (
+    record { reachable = p.0; lasts = o.0; stands = f.0; few = few_functions s (omega (arith, h)); kebab = k.0 },
     all_sayable (s ++ x ∷ []) xs
         (subst (λ z. AreReachable 100 z (export_names xs)) (sym (names_with_more (λ (e : ExportEntry). e.name) (exports_of t) s x)) p.1)
-        (subst (FormedExports xs) (sym (spaces_export t s x)) f.1) k.1 (omega (arith, h, length-append s (x ∷ []))),
+        (subst (FormedExports xs) (sym (spaces_export t s x)) f.1) k.1
+        (subst (λ z. OfferedExports xs z (marked_inner config outer (with_exports t (s ++ x ∷ [])))) (sym (spaces_export t s x))
+        (subst (OfferedExports xs (after_export (spaces_of (with_exports t s)) x)) (sym (exports_marked_more config outer t s x)) o.1))
+        (omega (arith, h, length-append s (x ∷ []))),
   )
 
   -- The script of the exports of a plan is read as them.
-  pub exports_read : (config : Config) (es : List ExportEntry) (rest : List ℕ)
+  pub exports_read : (es : List ExportEntry) (rest : List ℕ)
       → AreReachable 100 (export_names (exports_of t)) (export_names es) → FormedExports es (spaces_of t)
-      → Named (export_names (exports_of t ++ es)) → length es ≤ config.max_exports - length (exports_of t)
-      → function_count t + (length (exports_of t) + length es) ≤ 2 ^ 64 → ReadsExports config t (script_exports config t es ++ rest) es rest
-  exports_read config es rest reachable formed named fits few =
+      → Named (export_names (exports_of t ++ es)) → OfferedExports es (spaces_of t) (marked_inner config outer t)
+      → length es ≤ config.max_exports - length (exports_of t)
+      → function_count t + (length (exports_of t) + length es) ≤ 2 ^ 64
+      → ReadsExports config outer t (script_exports config t es ++ rest) es rest
+  exports_read es rest reachable formed named offered fits few =
       let behind = named_behind (λ (e : ExportEntry). e.name) (exports_of t) es named in
       let start : FormedExports es (spaces_of (with_exports t [])) = subst (FormedExports es) (sym (spaces-add t (exports []))) formed in
       let from : AreReachable 100 (names_at []) (export_names es) =
       subst (λ z. AreReachable 100 (export_names z) (export_names es)) (sym (append-nil (exports_of t))) reachable in
-      let all = all_sayable [] es from start behind.0 (omega (arith, few)) in
+      let open_first : OfferedExports es (spaces_of (with_exports t [])) (marked_inner config outer (with_exports t [])) =
+      subst (λ z. OfferedExports es z (marked_inner config outer (with_exports t []))) (sym (spaces-add t (exports [])))
+      (subst (OfferedExports es (spaces_of t)) (sym (exports_marked config outer t [])) offered) in
+      let all = all_sayable [] es from start behind.0 open_first (omega (arith, few)) in
       let B : List ℕ = script_exports config t es ++ rest in
-      let L : List ExportEntry → Type 0 = λ u. Loop (NoExport t) (ReadsExport t) 0 (config.max_exports - length (exports_of t)) 0 [] B es rest u in
+      let L : List ExportEntry → Type 0 =
+      λ u. Loop (NoExport config outer t) (ReadsExport config outer t) 0 (config.max_exports - length (exports_of t)) 0 [] B es rest u in
       subst L (all_of_them [] es) (loop_read (script_export t) (λ u x. u ++ x ∷ []) Sayable export_read es 0 [] rest all (omega arith) (omega (arith, fits)))

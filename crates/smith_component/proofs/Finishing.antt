@@ -8,7 +8,8 @@ use Rattle.smith_format.specs.Consistency.{IsConsistent}
 use Rattle.smith_format.specs.declared.config.Config.{Config}
 use Rattle.smith_component.specs.Building.{Building, open_of}
 use Rattle.smith_tree.specs.Limits.{Minima}
-use Rattle.smith_tree.specs.Open.{Open, scopes_in, with_inner}
+use Rattle.smith_tree.specs.Marking.{marked_in}
+use Rattle.smith_tree.specs.Open.{Open, with_inner}
 use Rattle.smith_component.specs.Shown.{shown_sections}
 use Rattle.smith_component.specs.Steps.{AddsSections, ClosesSections, KeepsSections}
 use Rattle.smith_tree.specs.Spaces.{spaces_of, types_of}
@@ -52,7 +53,7 @@ filled_types config stack b rest t consistent (inl (enough, same, left)) = omega
 filled_types config stack b rest t consistent (inr (lacks, (xs, scope, reads, e))) =
     let room : config.min_types - length (types_of stack.inner) ≤ config.max_types - length (types_of stack.inner) = omega (arith, consistent.types_cross) in
     let grown = ap (λ u. length (types_of u)) e ∙ ap (λ s. length s.types) (spaces-add stack.inner (types xs)) in
-    omega (arith, lacks, types_enough config (scopes_in stack.outer) room reads, grown, length-append (types_of stack.inner) xs)
+    omega (arith, lacks, types_enough config (marked_in config stack.outer) room reads, grown, length-append (types_of stack.inner) xs)
 
 imports_types : (config : Config) (stack : Open) (b rest : List ℕ) (t : Tree) → Fills counted.Imports config stack b t rest → types_of t ≡ types_of stack.inner
 imports_types config stack b rest t (inl (enough, same, left)) = ap types_of same

@@ -13,22 +13,27 @@ use Rattle.smith_input.proofs.NameScript.{new_script_read}
 use Rattle.smith_input.proofs.Reading.{flips_zero}
 use Rattle.smith_format.specs.declared.config.Config.{Config}
 use Rattle.smith_syntax.specs.Entries.{ImportEntry}
-use Rattle.smith_syntax.specs.WellFormed.{Named, names, is_type_eq}
+use Rattle.smith_syntax.specs.Marked.{Marked}
+use Rattle.smith_syntax.specs.Scope.{Scope}
+use Rattle.smith_syntax.specs.Usable.{OfferedRef}
+use Rattle.smith_syntax.specs.WellFormed.{FormedRef, Named, names, is_type_eq}
 use Rattle.smith_syntax.specs.declared.deftype.ComponentTypeRef.{ComponentTypeRef}
 use Rattle.smith_syntax.specs.declared.deftype.ComponentTypeRef.TheVariants as to
 use Rattle.smith_types.specs.Declarations.{NamedExtern, no_url}
 use Rattle.smith_tree.specs.TypeScript.{script_ref}
 use Rattle.smith_tree.specs.declared.totals.RefTotals.{RefTotals}
 use Rattle.smith_types.proofs.ReferencesRead.{ref_read}
-use Rattle.smith_tree.specs.TypeOffers.{IsAllowed}
+use Rattle.smith_tree.specs.TypeOffers.{IsAllowed, has_room}
 use Rattle.smith_component.specs.Imports.{NoImport, ReadsImport, ReadsImports}
-use Rattle.smith_tree.specs.Offers.{totals_of, with_imports}
+use Rattle.smith_tree.specs.Marking.{marked_inner}
+use Rattle.smith_tree.specs.Offered.{OfferedImports}
+use Rattle.smith_tree.specs.Offers.{marked_with_imports, totals_of, with_imports}
 use Rattle.smith_tree.specs.Open.{Open}
 use Rattle.smith_tree.specs.Script.{script_import, script_imports}
 use Rattle.smith_tree.specs.Spaces.{core_types_of, types_of}
 use Rattle.smith_tree.specs.Tree.{module_of, function_of, component_of, instance_of, imports_of}
 use Rattle.smith_tree.specs.WellFormed.{FormedImport, import_names, scope_of}
-use Rattle.smith_component.proofs.ImportsState.{modules_more, funcs_more, components_more, instances_more}
+use Rattle.smith_component.proofs.ImportsState.{modules_more, funcs_more, components_more, imports_marked, imports_marked_more, imports_scope, instances_more}
 use Rattle.smith_component.proofs.Named.{named_behind, names_with_more}
 
 -- names with no URLs
@@ -62,17 +67,30 @@ module _ (config : Config) (stack : Open) (few : length (types_of stack.inner) +
   abbrev totals_at : List ImportEntry → RefTotals
   totals_at s = totals_of (with_imports stack s)
 
+  -- the scope of the component with these
+  abbrev marked_at : List ImportEntry → Marked
+  marked_at s = marked_with_imports config stack s
+
+  few_at : (s : List ImportEntry) → length (marked_at s).types + length (marked_at s).core_types ≤ 2 ^ 64
+  few_at s =
+      let e = imports_scope config stack s in
+      let ts : length (marked_at s).types ≡ length (types_of stack.inner) = ap (λ (d : Scope). length d.types) e in
+      let cs : length (marked_at s).core_types ≡ length (core_types_of stack.inner) = ap (λ (d : Scope). length d.core_types) e in
+      omega (arith, ts, cs, few)
+
   -- an import that can be said after others
   record Sayable (s : List ImportEntry) (x : ImportEntry) : Type 0 where
     formed : FormedImport (scope_of stack.inner) x
+    offered : OfferedRef (marked_at s) true x.to
+    lasts : has_room (marked_at s) false ≡ true
     kebab : Kebab x.name
     reachable : IsReachable 100 (names_at s) x.name
-    room : IsAllowed config (scope_of stack.inner) (totals_at s) true false x.to
+    room : IsAllowed config (marked_at s) (totals_at s) true false x.to
 
   import_read : (s : List ImportEntry) (x : ImportEntry) (rest : List ℕ) → Sayable s x
       → ReadsImport config stack s (script_import config stack s x ++ rest) x rest (s ++ x ∷ [])
   import_read s x rest h =
-      let a : List ℕ = script_ref config (scope_of stack.inner) (totals_at s) true false x.to in
+      let a : List ℕ = script_ref config (marked_at s) (totals_at s) true false x.to in
       let n : List ℕ = script_new 100 (length (imports_of stack.inner) + length s) x.name in
       let whole : (a ++ (n ++ 0 ∷ [])) ++ rest ≡ a ++ (n ++ (0 ∷ rest)) = append_assoc a (n ++ 0 ∷ []) rest ∙ ap (λ z. a ++ z) (append_assoc n (0 ∷ []) rest) in
       let so_far : List NamedExtern = plain_names (names_at s) in
@@ -81,7 +99,8 @@ module _ (config : Config) (stack : Open) (few : length (types_of stack.inner) +
         mid = n ++ (0 ∷ rest);
         so_far = so_far;
         url = None;
-        of = ref_read config (scope_of stack.inner) (totals_at s) true false few x.to (n ++ (0 ∷ rest)) h.formed.0 h.room;
+        of = ref_read config (marked_at s) (totals_at s) true false (few_at s) x.to (n ++ (0 ∷ rest))
+            (subst (λ (own : Scope). FormedRef own x.to) (sym (imports_scope config stack s)) h.formed.0) h.offered h.lasts h.room;
         names_are = same;
         named = record {
           mid = 0 ∷ rest;
@@ -110,7 +129,7 @@ module _ (config : Config) (stack : Open) (few : length (types_of stack.inner) +
   below n m h = grind (arith, nat_tests)
 
   one_allowed : (s : List ImportEntry) (x : ImportEntry) (r : ComponentTypeRef) → x.to ≡ r → is_type_eq r ≡ false → Room config (totals_at (s ++ x ∷ []))
-      → IsAllowed config (scope_of stack.inner) (totals_at s) true false r
+      → IsAllowed config (marked_at s) (totals_at s) true false r
   one_allowed s x (to.Module i) e f r = below _ _ (omega (arith, r.modules, modules_more stack s x, ap (λ z. length (module_of z)) e))
   one_allowed s x (to.TypeEq i) e f r = absurd (cc)
   one_allowed s x (to.Func i) e f r = below _ _ (omega (arith, r.funcs, funcs_more stack s x, ap (λ z. length (function_of z)) e))
@@ -118,27 +137,35 @@ module _ (config : Config) (stack : Open) (few : length (types_of stack.inner) +
   one_allowed s x (to.Instance i) e f r = below _ _ (omega (arith, r.instances, instances_more stack s x, ap (λ z. length (instance_of z)) e))
 
   all_sayable : (s xs : List ImportEntry) → AreReachable 100 (names_at s) (import_names xs) → AllByRecursion (FormedImport (scope_of stack.inner)) xs
-      → AllByRecursion Kebab (import_names xs)
+      → AllByRecursion Kebab (import_names xs) → OfferedImports xs (marked_at s)
       → Room config (totals_at (s ++ xs)) → Along Sayable (λ t x. t ++ x ∷ []) s xs
-  all_sayable s [] p f k h = tt
-  all_sayable s (x ∷ xs) p f k h =
+  all_sayable s [] p f k o h = tt
+  all_sayable s (x ∷ xs) p f k o h =
       let next : List ImportEntry = s ++ x ∷ [] in
       let all : Room config (totals_at (next ++ xs)) = subst (λ z. Room config (totals_at z)) (sym (append_assoc s (x ∷ []) xs)) h in (
-        record { formed = f.0; kebab = k.0; reachable = p.0; room = one_allowed s x x.to refl f.0.1 (room_before next xs all) },
+        record {
+          formed = f.0;
+          offered = o.0;
+          lasts = o.1;
+          kebab = k.0;
+          reachable = p.0;
+          room = one_allowed s x x.to refl f.0.1 (room_before next xs all);
+        },
         all_sayable next xs
             (subst (λ z. AreReachable 100 z (import_names xs)) (sym (names_with_more (λ (i : ImportEntry). i.name) (imports_of stack.inner) s x)) p.1)
-            f.1 k.1 all,
+            f.1 k.1 (subst (OfferedImports xs) (sym (imports_marked_more config stack s x)) o.2) all,
       )
 
   -- The script of the imports of a plan is read as them.
-  pub imports_read : (is : List ImportEntry) (rest : List ℕ) → AreReachable 100 (import_names (imports_of stack.inner)) (import_names is) → AllByRecursion (FormedImport (scope_of stack.inner)) is
-      → Named (import_names (imports_of stack.inner ++ is)) → Room config (totals_at is)
+  pub imports_read : (is : List ImportEntry) (rest : List ℕ) → AreReachable 100 (import_names (imports_of stack.inner)) (import_names is)
+      → AllByRecursion (FormedImport (scope_of stack.inner)) is
+      → Named (import_names (imports_of stack.inner ++ is)) → OfferedImports is (marked_inner config stack.outer stack.inner) → Room config (totals_at is)
       → length is ≤ config.max_imports - length (imports_of stack.inner) → ReadsImports config 0 stack (script_imports config stack is ++ rest) is rest
-  imports_read is rest reachable formed named room fits =
+  imports_read is rest reachable formed named offered room fits =
       let behind = named_behind (λ (i : ImportEntry). i.name) (imports_of stack.inner) is named in
       let start : AreReachable 100 (names_at []) (import_names is) =
       subst (λ z. AreReachable 100 (import_names z) (import_names is)) (sym (append-nil (imports_of stack.inner))) reachable in
-      let all = all_sayable [] is start formed behind.0 room in
+      let all = all_sayable [] is start formed behind.0 (subst (OfferedImports is) (sym (imports_marked config stack [])) offered) room in
       let B : List ℕ = script_imports config stack is ++ rest in
       let L : List ImportEntry → Type 0 = λ t. Loop (NoImport config stack) (ReadsImport config stack) 0 (config.max_imports - length (imports_of stack.inner))
       0 [] B is rest t in

@@ -11,10 +11,10 @@ use Rattle.smith_syntax.specs.Entries.{ImportEntry}
 use Rattle.smith_types.specs.Declarations.{ReadsMaybeUrl, no_url, a_url, url_names}
 use Rattle.smith_types.proofs.ReadsDeclarations.{ref_same}
 use Rattle.smith_component.specs.Imports.{NoImport, ReadsImport, ReadsImports}
-use Rattle.smith_tree.specs.Offers.{totals_of, with_imports}
+use Rattle.smith_tree.specs.Offers.{marked_with_imports, totals_of, with_imports}
 use Rattle.smith_tree.specs.Open.{Open}
 use Rattle.smith_tree.specs.Tree.{imports_of}
-use Rattle.smith_tree.specs.WellFormed.{scope_of, import_names}
+use Rattle.smith_tree.specs.WellFormed.{import_names}
 
 -- What a URL leaves does not depend on those that were used.
 url_left : {used others : List (List ℕ)} {b r s : List ℕ} {u v : Option (List ℕ)} → ReadsMaybeUrl used b u r → ReadsMaybeUrl others b v s → r ≡ s
@@ -31,7 +31,7 @@ module _ (config : Config) (stack : Open) where
       → ReadsImport config stack s b y q u → (x ≡ y) × (r ≡ q) × (t ≡ u)
   import_same s b x y r q t u i j =
       let ns : List (List ℕ) = import_names (imports_of stack.inner ++ s) in
-      let o = ref_same config (scope_of stack.inner) (totals_of (with_imports stack s)) true false b x.to y.to i.mid j.mid i.of j.of in
+      let o = ref_same config (marked_with_imports config stack s) (totals_of (with_imports stack s)) true false b x.to y.to i.mid j.mid i.of j.of in
       let A : List ℕ → Type 0 = λ z. ReadsNew 100 ns z x.name i.named.mid in
       let read : ReadsNew 100 ns i.mid x.name i.named.mid = subst (λ z. ReadsNew 100 z i.mid x.name i.named.mid) i.names_are i.named.name in
       let other : ReadsNew 100 ns j.mid y.name j.named.mid = subst (λ z. ReadsNew 100 z j.mid y.name j.named.mid) j.names_are j.named.name in

@@ -1,10 +1,10 @@
 -- What the items do, where the inner component grows.
 use Rattle.std.proofs.Common.{◌≡◌, ℕ, ◌<◌, List, [], ◌∷◌, ◌++◌, length, arith, ap, sym, subst, ◌∙◌, refl, append-nil, inl}
-use Rattle.std.specs.Prelude.{Option, None}
+use Rattle.std.specs.Prelude.{Option, None, drop}
 use Rattle.smith_format.specs.declared.config.Config.{Config}
-use Rattle.smith_scopes.specs.Scopes.{Contents, inward, outer_scopes, own_scope}
-use Rattle.smith_scopes.proofs.Stack.{length-inward, split_scopes}
-use Rattle.smith_syntax.specs.Places.{outer_of}
+use Rattle.smith_scopes.specs.Scopes.{Contents, outer_marked, own_marked}
+use Rattle.smith_scopes.proofs.Stack.{length-inward_marked, split_marked}
+use Rattle.smith_tree.specs.Marking.{marked_inner}
 use Rattle.smith_component.specs.AddedSections.{Adds, AddsCanons}
 use Rattle.smith_component.specs.BuilderView.{building_of, stack_of, IsSound}
 use Rattle.smith_component.specs.Fills.{FillsAll}
@@ -16,7 +16,6 @@ use Rattle.smith_component.specs.Steps.{next_of, step_of, AddsValues, ClosesInne
 use Rattle.smith_component.specs.Tables.{IsTabled}
 use Rattle.smith_tree.specs.Tree.{Tree}
 use Rattle.smith_component.specs.Turn.{building, with_part, AddsAny, Does}
-use Rattle.smith_tree.specs.WellFormed.{scope_of}
 use Rattle.smith_component.specs.declared.builder.Progress.{Progress}
 use Rattle.smith_component.specs.declared.builder.open.OpenComponent.{OpenComponent}
 use Rattle.smith_component.specs.declared.builder.totals.TreeTotals.{TreeTotals}
@@ -41,19 +40,20 @@ grows_none b sound = record {
 -- The inner component has more sections, and what is kept beside it is theirs.
 pub grows : (b : Progress) (scopes : List Contents) (totals : TreeTotals) (inner : OpenComponent) (more : List Section) → IsSound b
     → inner.sections.items ≡ b.inner.sections.items ++ more → Sound b.config (with_inner (stack_of b) (shown_sections inner.sections.items))
-    → own_scope scopes ≡ scope_of (shown_sections inner.sections.items) → outer_scopes scopes ≡ outer_scopes b.scopes → length scopes ≡ length b.scopes
+    → own_marked scopes ≡ marked_inner b.config (stack_of b).outer (shown_sections inner.sections.items) → outer_marked scopes ≡ outer_marked b.scopes
+    → length scopes ≡ length b.scopes
     → Totalled totals (with_inner (stack_of b) (shown_sections inner.sections.items)) → IsTabled inner
     → Grows b (record b { scopes = scopes; totals = totals; inner = inner })
 grows b scopes totals inner more i items sound own outer depth totalled tabled =
-    let some : 0 < length (inward scopes) = omega (arith, depth, length-inward b.scopes, length-inward scopes, ap length i.0.scopes_are) in
-    let around = outer ∙ ap outer_of i.0.scopes_are in
+    let some : 0 < length scopes = omega (arith, depth, length-inward_marked b.scopes, ap length i.0.scopes_are) in
+    let around = outer ∙ ap (drop 1) i.0.scopes_are in
     record {
       sound = (
         record {
           sound = sound;
           valtypes_are = i.0.valtypes_are;
-          scopes_are = split_scopes (inward scopes) some ∙ (ap (λ s. s ∷ outer_scopes scopes) own
-              ∙ ap (λ ss. scope_of (shown_sections inner.sections.items) ∷ ss) around);
+          scopes_are = split_marked scopes some ∙ (ap (λ s. s ∷ outer_marked scopes) own
+              ∙ ap (λ ss. marked_inner b.config (stack_of b).outer (shown_sections inner.sections.items) ∷ ss) around);
           totalled = totalled;
         },
         (tabled, i.1.1),

@@ -1,8 +1,10 @@
 pub mod CanonsEnough
 pub mod CanonsRead
 pub mod CanonsSame
+pub mod CoreSizes
 pub mod Decided
 pub mod Exact
+pub mod EntriesState
 pub mod ExportsRead
 pub mod ExportsSame
 pub mod ExportsState
@@ -14,9 +16,12 @@ pub mod Grammar
 pub mod Growth
 pub mod ImportsState
 pub mod ImportsRead
+pub mod ImportsRoom
 pub mod ImportsSame
 pub mod Items
 pub mod MadeWith
+pub mod Marks
+pub mod MarkedKept
 pub mod Named
 pub mod PartsRead
 pub mod Plans
@@ -46,5 +51,6 @@ pub mod WellFormed
 pub mod Encoded
 pub mod Plan
 pub mod Planned
+pub mod RunsOffered
 pub mod RunsReadable
 pub mod RunsFinishable

@@ -3,25 +3,29 @@ use Rattle.std.proofs.Common.{◌≡◌, ℕ, ◌+◌, ◌≤◌, ◌∷◌, max
 use Rattle.smith_input.specs.Reading.{IsTail}
 use Rattle.smith_format.specs.declared.config.Config.{Config}
 use Rattle.smith_syntax.specs.Entries.{Entry, plain}
-use Rattle.smith_syntax.specs.Scope.{Scope}
+use Rattle.smith_syntax.specs.Marked.{Marked, scope_in, scopes_in_marked}
+use Rattle.smith_syntax.specs.Usable.{OfferedEntry}
 use Rattle.smith_syntax.specs.TypeLimits.{EntryLimits}
 use Rattle.smith_syntax.specs.WellFormed.{FormedEntry}
 use Rattle.smith_types.specs.Made.{MadeWith}
 use Rattle.smith_tree.specs.TypeNeeds.{declaring, need}
 use Rattle.smith_types.proofs.MadeTypes.{made_tail, made_limits}
-use Rattle.smith_types.proofs.MadeFormed.{made_formed}
+use Rattle.smith_types.proofs.MadeFormed.{made_formed, made_offered}
 use Rattle.smith_types.proofs.MadeSame.{made_same}
 use Rattle.smith_tree.specs.ReadableTypes.{IsReadableType}
 use Rattle.smith_types.proofs.Needs.{made_needs}
 use Rattle.smith_tree.proofs.TypeNeeds.{declared_within}
 use Rattle.smith_types.proofs.MadeReadable.{made_readable}
 
-module _ {config : Config} {own : Scope} {outer : List Scope} {fuel : ℕ} {b rest : List ℕ} {e : Entry} (m : MadeWith config own outer fuel b e rest) where
+module _ {config : Config} {own : Marked} {outer : List Marked} {fuel : ℕ} {b rest : List ℕ} {e : Entry} (m : MadeWith config own outer fuel b e rest) where
   pub made_with_tail : IsTail rest b
   made_with_tail = made_tail _ _ _ _ _ _ _ _ m.made
 
-  pub made_with_formed : FormedEntry e own outer
-  made_with_formed = subst (λ x. FormedEntry x own outer) (sym m.shown) (made_formed _ _ _ _ _ _ _ _ m.made)
+  pub made_with_formed : FormedEntry e (scope_in own) (scopes_in_marked outer)
+  made_with_formed = subst (λ x. FormedEntry x (scope_in own) (scopes_in_marked outer)) (sym m.shown) (made_formed _ _ _ _ _ _ _ _ m.made)
+
+  pub made_with_offered : OfferedEntry e own outer
+  made_with_offered = subst (λ x. OfferedEntry x own outer) (sym m.shown) (made_offered _ _ _ _ _ _ _ _ m.made)
 
   pub made_with_limits : EntryLimits config e
   made_with_limits = subst (EntryLimits config) (sym m.shown) (made_limits _ _ _ _ _ _ _ _ m.made)

@@ -7,6 +7,7 @@ use Rattle.smith_input.specs.Script.{script_text, script_bytes}
 use Rattle.smith_input.proofs.ReadsTexts.{text_read, bytes_read}
 use Rattle.smith_format.specs.Consistency.{IsConsistent, max_u32}
 use Rattle.smith_format.specs.declared.config.Config.{Config}
+use Rattle.smith_syntax.specs.Marked.{Marked}
 use Rattle.smith_syntax.specs.Scope.{Scope}
 use Rattle.smith_tree.specs.CanonScript.{canon_item_of}
 use Rattle.smith_syntax.specs.CoreLimits.{CoreLimits}
@@ -15,8 +16,12 @@ use Rattle.smith_component.specs.Canonicals.{empty_section}
 use Rattle.smith_tree.specs.Offers.{totals_of, with_imports}
 use Rattle.smith_tree.specs.Limits.{Maxima, Minima, OwnLimits}
 use Rattle.smith_syntax.specs.TypeLimits.{EntryLimits}
+use Rattle.smith_tree.proofs.Marking.{scope_marked}
+use Rattle.smith_types.proofs.ReferencesRead.{IsFew}
 use Rattle.smith_types.specs.Sayable.{Lasts}
-use Rattle.smith_tree.specs.Open.{Open, scopes_from, scopes_in, tree_so_far}
+use Rattle.smith_tree.specs.Marking.{marked_from, marked_in, marked_inner, marked_of}
+use Rattle.smith_tree.specs.Offered.{OfferedPart}
+use Rattle.smith_tree.specs.Open.{Open, scopes_in, tree_so_far}
 use Rattle.smith_tree.specs.Readable.{IsReadablePart}
 use Rattle.smith_tree.specs.Script.{item_of, script_part}
 use Rattle.smith_component.specs.Shown.{shown_module}
@@ -32,12 +37,13 @@ use Rattle.smith_tree.specs.WellFormed.{FormedPart, scope_of}
 use Rattle.smith_component.proofs.CanonsRead.{Spoken, canons_from, types_spoken}
 use Rattle.smith_component.proofs.ExportsRead.{exports_read}
 use Rattle.smith_component.proofs.ImportsRead.{imports_read, Room}
+use Rattle.smith_component.proofs.Marks.{formed_core_marked, formed_marked, marked_core_types, marked_types}
 use Rattle.smith_component.proofs.Plan.{PartStands}
 use Rattle.smith_component.proofs.ReadsCoreTypes.{core_types_read}
 use Rattle.smith_component.proofs.ReadsTypes.{types_read}
 use Rattle.smith_component.proofs.Fits.{Fits, Short, fits_behind, own_limits-front}
 use Rattle.smith_component.proofs.Growth.{functions_counted, spaces-add, types_past}
-use Rattle.smith_component.proofs.Sound.{length-scopes_from}
+use Rattle.smith_component.proofs.Sound.{length-marked_from}
 use Rattle.smith_core.specs.StandIn.{ReadsStandIn}
 use Rattle.smith_core.specs.StandInScript.{script_stand_in, stand_in_of}
 use Rattle.smith_core.proofs.StandInExact.{text_read as module_text_read}
@@ -66,22 +72,24 @@ custom_read name contents rest utf8 short =
     (script_bytes contents ++ rest, text_read 1000 name (script_bytes contents ++ rest) (omega arith) utf8 short, bytes_read contents rest)
 
 -- No more stand in the scope of each component around a place than a choice can be spelled of, and they are few.
-pub record Around (outer : List Tree) : Type 0 where
-  pub few : AllByRecursion (λ (s : Scope). length s.types + length s.core_types ≤ 2 ^ 64) (scopes_in outer)
+pub record Around (config : Config) (outer : List Tree) : Type 0 where
+  pub few : AllByRecursion IsFew (marked_in config outer)
   pub shallow : suc (length outer) ≤ 1000
 
-few_around : (config : Config) → IsConsistent config → (outer : List Tree) (t : Tree) (scopes : List Scope)
-    → AllByRecursion (λ (s : Scope). length s.types + length s.core_types ≤ 2 ^ 64) scopes → AllByRecursion (OwnLimits config) (all_of (tree_so_far outer t))
-    → AllByRecursion (λ (s : Scope). length s.types + length s.core_types ≤ 2 ^ 64) (scopes_from outer scopes)
+few_around : (config : Config) → IsConsistent config → (outer : List Tree) (t : Tree) (scopes : List Marked)
+    → AllByRecursion IsFew scopes → AllByRecursion (OwnLimits config) (all_of (tree_so_far outer t))
+    → AllByRecursion IsFew (marked_from config outer scopes)
 few_around config consistent [] t scopes few each = few
 few_around config consistent (u ∷ us) t scopes few each =
     let x : Tree = tree_so_far us t in
     let own : OwnLimits config u = own_limits-front config u (component x) each.0 in
-    let small : length (types_of u) + length (core_types_of u) ≤ 2 ^ 64 = omega (arith, own.types, own.core_types, consistent.types) in
-    few_around config consistent us t (scope_of u ∷ scopes) (small, few)
+    let same = scope_marked config scopes u in
+    let small : IsFew (marked_of config scopes u) =
+    omega (arith, own.types, own.core_types, consistent.types, ap (λ s. length s.types) same, ap (λ s. length s.core_types) same) in
+    few_around config consistent us t (marked_of config scopes u ∷ scopes) (small, few)
     (all_back (OwnLimits config) (inside u) (x ∷ inside x) (subst (AllByRecursion (OwnLimits config)) (anywhere-add components_in u (component x)) each.1))
 
-around : (config : Config) → IsConsistent config → (outer : List Tree) (t : Tree) → Maxima config (tree_so_far outer t) → Around outer
+around : (config : Config) → IsConsistent config → (outer : List Tree) (t : Tree) → Maxima config (tree_so_far outer t) → Around config outer
 around config consistent outer t m =
     record { few = few_around config consistent outer t [] tt m.each; shallow = omega (arith, m.depth, depth-outer no_depth outer t, consistent.nesting) }
 
@@ -90,46 +98,57 @@ module _ (config : Config) (stack : Open) (rest : List ℕ) where
   abbrev pub IsRead : Part → Type 0
   IsRead p =
       IsReadablePart config p stack.inner → PartStands config (suc (length stack.outer)) p → FormedPart p (scopes_in stack.outer) stack.inner
+      → OfferedPart p config (spaces_of stack.inner) (marked_in config stack.outer) (marked_inner config stack.outer stack.inner)
       → OwnLimits config (add stack.inner p)
       → Does config (item_of p) stack (script_part p config stack.outer stack.inner ++ rest) (with_part stack p) rest
 
   pub custom_part : (name contents : List ℕ) → IsRead (custom name contents)
-  custom_part name contents readable stands formed limits =
+  custom_part name contents readable stands formed offered limits =
       let short : Short (name ∷ []) = all_back _ (own names_in stack.inner) (name ∷ [])
       (subst Short (own-add names_in stack.inner (custom name contents)) limits.names) in
       (name, contents, custom_read name contents rest readable short.0, refl)
 
   pub core_types_part : IsConsistent config → (ts : List CoreEntry) → IsRead (core_types ts)
-  core_types_part consistent ts readable stands formed limits =
+  core_types_part consistent ts readable stands formed offered limits =
       let fits : Fits config (after_part (spaces_of stack.inner) (core_types ts)) = fits_behind config stack.inner (core_types ts) limits in
       let few : length (core_types_of stack.inner) + length ts ≤ config.max_types =
       omega (arith, fits.core_types, length-append (core_types_of stack.inner) ts) in
       let limited : AllByRecursion (CoreLimits config) ts = all_back _ (core_types_of stack.inner) ts fits.within_core_types in (
         ts,
         _,
-        core_types_read config ts (config.max_types - length (core_types_of stack.inner)) (scope_of stack.inner) rest formed limited stands readable
-            (omega (arith, few)) (omega (arith, few, consistent.types)),
+        core_types_read config ts (config.max_types - length (core_types_of stack.inner)) (marked_inner config stack.outer stack.inner) rest
+            (formed_core_marked config stack.outer stack.inner ts formed) limited stands readable (omega (arith, few))
+            (omega (arith, few, consistent.types, ap length (marked_core_types config stack.outer stack.inner))),
         refl,
       )
 
   pub types_part : IsConsistent config → (ts : List Entry) → Maxima config (tree_so_far stack.outer (add stack.inner (types ts))) → IsRead (types ts)
-  types_part consistent ts maxima readable stands formed limits =
+  types_part consistent ts maxima readable stands formed offered limits =
       let here = around config consistent stack.outer (add stack.inner (types ts)) maxima in
       let fits : Fits config (after_part (spaces_of stack.inner) (types ts)) = fits_behind config stack.inner (types ts) limits in
       let few : length (types_of stack.inner) + length ts ≤ config.max_types = omega (arith, fits.types, length-append (types_of stack.inner) ts) in
       let cores : length (core_types_of stack.inner) ≤ config.max_types = fits.core_types in
       let limited : AllByRecursion (EntryLimits config) ts = all_back _ (types_of stack.inner) ts fits.within_types in
-      let count : length (scopes_in stack.outer) ≡ length stack.outer = omega (arith, length-scopes_from stack.outer []) in
-      let lasts : AllByRecursion (λ e. Lasts e config (suc (length (scopes_in stack.outer))) config.max_type_size) ts =
+      let outer : List Marked = marked_in config stack.outer in
+      let count : length outer ≡ length stack.outer = omega (arith, length-marked_from config stack.outer []) in
+      let lasts : AllByRecursion (λ e. Lasts e config (suc (length outer)) config.max_type_size) ts =
       subst (λ n. AllByRecursion (λ e. Lasts e config (suc n) config.max_type_size) ts) (sym count) stands in
-      let read = types_read config (scopes_in stack.outer) here.few (omega (arith, here.shallow, count)) consistent.nesting ts
-      (config.max_types - length (types_of stack.inner)) (scope_of stack.inner) rest formed limited lasts readable (omega (arith, few))
-      (omega (arith, few, cores, consistent.types)) in
+      let read = types_read config outer here.few (omega (arith, here.shallow, count)) consistent.nesting ts
+      (config.max_types - length (types_of stack.inner)) (marked_inner config stack.outer stack.inner) rest
+      (formed_marked config stack.outer stack.inner ts formed) offered limited lasts readable (omega (arith, few))
+      (omega (
+        arith,
+        few,
+        cores,
+        consistent.types,
+        ap length (marked_types config stack.outer stack.inner),
+        ap length (marked_core_types config stack.outer stack.inner),
+      )) in
       (add stack.inner (types ts), (ts, _, read, refl), refl)
 
   -- The text tells the module that it is of.
   pub module_part : (text : List ℕ) → IsRead (core_module text)
-  module_part text readable (s, is, e) formed limits =
+  module_part text readable (s, is, e) formed offered limits =
       let told : stand_in_of text ≡ s = stand_in_told config s text is e in
       let r = module_text_read config s text is e rest in
       let shown : shown_module r.0 ≡ text = ap bytes_of r.2 in
@@ -139,7 +158,7 @@ module _ (config : Config) (stack : Open) (rest : List ℕ) where
 
   pub imports_part : IsConsistent config → (is : List ImportEntry) → Maxima config (tree_so_far stack.outer (add stack.inner (imports is)))
       → IsRead (imports is)
-  imports_part consistent is maxima readable stands formed limits =
+  imports_part consistent is maxima readable stands formed offered limits =
       let before : OwnLimits config stack.inner = own_limits-front config stack.inner (imports is) limits in
       let few : length (types_of stack.inner) + length (core_types_of stack.inner) ≤ 2 ^ 64 =
       omega (arith, consistent.types, before.types, before.core_types) in
@@ -147,10 +166,10 @@ module _ (config : Config) (stack : Open) (rest : List ℕ) where
       record { modules = maxima.modules; funcs = limits.functions; components = maxima.components; instances = maxima.instances } in
       let fits : length (imports_of stack.inner) + length is ≤ config.max_imports =
       omega (arith, limits.imports, length-own-add imports_in stack.inner (imports is)) in
-      (add stack.inner (imports is), (is, imports_read config stack few is rest readable formed.0 formed.1 room (omega (arith, fits)), refl), refl)
+      (add stack.inner (imports is), (is, imports_read config stack few is rest readable formed.0 formed.1 offered room (omega (arith, fits)), refl), refl)
 
   pub canons_part : IsConsistent config → AllByRecursion Spoken (types_of stack.inner) → (fs : List Canon) → IsRead (canons fs)
-  canons_part consistent spoken fs readable stands formed limits =
+  canons_part consistent spoken fs readable stands formed offered limits =
       let inner : Tree = stack.inner in
       let count : function_count inner + length fs ≤ config.max_funcs =
       omega (arith, limits.functions, function_count-add inner (canons fs)) in
@@ -163,12 +182,14 @@ module _ (config : Config) (stack : Open) (rest : List ℕ) where
       (add inner (canons fs), (map canon_item_of fs, record { before = inner; funcs = fs }, read, refl), refl)
 
   pub exports_part : IsConsistent config → (es : List ExportEntry) → IsRead (exports es)
-  exports_part consistent es readable stands formed limits =
+  exports_part consistent es readable stands formed offered limits =
       let inner : Tree = stack.inner in
       let most : length (exports_of inner) + length es ≤ config.max_exports =
       omega (arith, limits.exports, length-own-add exports_in inner (exports es)) in
       let before : OwnLimits config inner = own_limits-front config inner (exports es) limits in
-      (es, exports_read inner config es rest readable.1 formed.0 formed.1 (omega (arith, most)) (omega (arith, most, before.functions, consistent.funcs)), refl)
+      let read = exports_read config stack.outer inner es rest readable.1 formed.0 formed.1 offered (omega (arith, most))
+      (omega (arith, most, before.functions, consistent.funcs)) in
+      (es, read, refl)
 
 -- The types of a plan can be said after one part more.
 pub spoken_past : (config : Config) (p : Part) (outer : List Scope) (before : Tree) → IsReadablePart config p before → FormedPart p outer before

@@ -14,13 +14,15 @@ use Rattle.smith_format.specs.declared.config.Config.{Config}
 use Rattle.smith_format.specs.declared.types.ValType.{ValType}
 use Rattle.smith_syntax.specs.Entries.{Entry, Signature, defined, function, component_type, instance_type}
 use Rattle.smith_syntax.specs.Flat.{Flat, Flattens, flat_value}
+use Rattle.smith_syntax.specs.Marked.{Marked}
 use Rattle.smith_syntax.specs.Scope.{Scope}
+use Rattle.smith_syntax.specs.Usable.{OfferedEntry}
 use Rattle.smith_syntax.specs.WellFormed.{FormedEntry, FormedTypes, size}
 use Rattle.smith_tree.specs.TypeNeeds.{need}
 use Rattle.smith_syntax.specs.declared.types.ComponentValType.{ComponentValType}
 use Rattle.smith_syntax.proofs.Flat.{flattens_params}
 use Rattle.smith_tree.specs.ReadableTypes.{IsReadableType}
-use Rattle.smith_types.proofs.Lifting.{lifted_readable, lifted_tail, lifted_flattens, lifted_formed}
+use Rattle.smith_types.proofs.Lifting.{lifted_readable, lifted_tail, lifted_flattens, lifted_formed, lifted_offered}
 use Rattle.smith_component.specs.Canonicals.{Growing, grown, spaces_at, with_canon, with_defined, LiftsTo, to_equal, to_defined, given_up, ReadsLift, CanonTurn}
 use Rattle.smith_component.specs.Canonicals.{empty_section, ReadsCanons}
 use Rattle.smith_tree.specs.Open.{Open, scopes_in, tree_so_far, with_inner}
@@ -95,6 +97,7 @@ pub record Defines (config : Config) (s : Growing) (c : ℕ) (signature : Signat
   pub flat : Flat signature lowered
   pub formed : length lowered.params ≤ 16 → (own : Scope) (outer : List Scope) → FormedEntry (function signature) own outer
   pub readable : IsReadableType (function signature)
+  pub offered : (own : Marked) (outer : List Marked) → OfferedEntry {N = Unit {0}} {K = Unit {0}} (function signature) own outer
   pub small : size (function signature) ≤ size (function lowered)
   pub room : length (spaces_at s).types < config.max_types
 
@@ -133,6 +136,7 @@ lift_turned r (to_defined none room left e) =
       flat = (r.core, lifted_flattens r.reads, r.flattens);
       formed = λ h. lifted_formed r.reads (omega (arith, h, flattens_params r.flattens));
       readable = lifted_readable r.reads;
+      offered = lifted_offered r.reads;
       small = omega (arith, same_size (lifted_flattens r.reads) r.flattens);
       room = room;
     }) e

@@ -1,6 +1,6 @@
 -- What a core type section reads: well formed core types, within the limits and their fuel, a tail of the bytes; and what its script
 -- says.
-use Rattle.std.proofs.Common.{◌≡◌, ℕ, ◌+◌, ◌≤◌, ◌^◌, List, [], ◌∷◌, ◌++◌, length, length-append, arith, refl, sym, ap, ◌∙◌, subst, append_assoc}
+use Rattle.std.proofs.Common.{◌≡◌, ℕ, ◌+◌, ◌≤◌, ◌^◌, List, [], ◌∷◌, ◌++◌, length, length-append, fold, arith, refl, sym, ap, ◌∙◌, subst}
 use Rattle.std.specs.List.{AllByRecursion}
 use Rattle.smith_input.specs.Loops.{Along, after_all}
 use Rattle.smith_input.specs.Reading.{IsTail}
@@ -8,12 +8,12 @@ use Rattle.smith_input.proofs.Loops.{loop_tail, loop_gives, loop_all, loop_same,
 use Rattle.smith_format.specs.declared.config.Config.{Config}
 use Rattle.smith_syntax.specs.CoreLimits.{CoreLimits}
 use Rattle.smith_syntax.specs.Entries.{CoreEntry}
-use Rattle.smith_syntax.specs.Scope.{Scope, with_core_type, with_core_types}
+use Rattle.smith_syntax.specs.Marked.{Marked, scope_in}
 use Rattle.smith_syntax.specs.WellFormed.{FormedCore, FormedCores}
 use Rattle.smith_core_types.proofs.MadeCore.{made_core_tail, made_core_formed, made_core_limits, made_core_same}
-use Rattle.smith_scopes.proofs.Stack.{with_core_none}
 use Rattle.smith_tree.specs.CoreTypeNeeds.{core_need}
 use Rattle.smith_tree.specs.Limits.{SmallCoreTypes}
+use Rattle.smith_tree.specs.Marking.{with_core_entry}
 use Rattle.smith_tree.specs.Script.{script_core_types}
 use Rattle.smith_tree.specs.CoreTypeScript.{script_core}
 use Rattle.smith_core_types.proofs.CoreScript.{core_read}
@@ -22,72 +22,73 @@ use Rattle.smith_core_types.proofs.Needs.{core_needed}
 use Rattle.smith_component.specs.AddedSections.{ReadsCoreType, ReadsCoreTypes}
 
 module _ (config : Config) where
-  pub core_types_read_formed : {max : ℕ} {own next : Scope} {b rest : List ℕ} {xs : List CoreEntry} → ReadsCoreTypes config max own b xs rest next
-      → FormedCores xs own
+  pub core_types_read_formed : {max : ℕ} {own next : Marked} {b rest : List ℕ} {xs : List CoreEntry} → ReadsCoreTypes config max own b xs rest next
+      → FormedCores xs (scope_in own)
   core_types_read_formed {own = own} {next = next} {b = b} {rest = rest} {xs = xs} r =
-      loop_gives (λ s ys t. FormedCores ys s) (λ s. tt) (λ s c q t e. absurd e) one 0 own b xs rest next r
+      loop_gives (λ s ys t. FormedCores ys (scope_in s)) (λ s. tt) (λ s c q t e. absurd e) one 0 own b xs rest next r
     where
-      one : (s t u : Scope) (c : List ℕ) (x : CoreEntry) (q : List ℕ) (ys : List CoreEntry) → ReadsCoreType config s c x q t → FormedCores ys t
-          → FormedCores (x ∷ ys) s
-      one s t u c x q ys (left, made, e) f = (made_core_formed made, subst (λ z. FormedCores ys z) e f)
+      one : (s t u : Marked) (c : List ℕ) (x : CoreEntry) (q : List ℕ) (ys : List CoreEntry) → ReadsCoreType config s c x q t → FormedCores ys (scope_in t)
+          → FormedCores (x ∷ ys) (scope_in s)
+      one s t u c x q ys (left, made, e) f = (made_core_formed made, subst (λ z. FormedCores ys (scope_in z)) e f)
 
-  pub core_types_read_limited : {max : ℕ} {own next : Scope} {b rest : List ℕ} {xs : List CoreEntry} → ReadsCoreTypes config max own b xs rest next
+  pub core_types_read_limited : {max : ℕ} {own next : Marked} {b rest : List ℕ} {xs : List CoreEntry} → ReadsCoreTypes config max own b xs rest next
       → AllByRecursion (CoreLimits config) xs
   core_types_read_limited {own = own} {next = next} {b = b} {rest = rest} {xs = xs} r =
       loop_all _ (λ s c x q t (left, made, e). made_core_limits made) 0 own b xs rest next r
 
-  pub core_types_read_small : {max : ℕ} {own next : Scope} {b rest : List ℕ} {xs : List CoreEntry} → ReadsCoreTypes config max own b xs rest next
+  pub core_types_read_small : {max : ℕ} {own next : Marked} {b rest : List ℕ} {xs : List CoreEntry} → ReadsCoreTypes config max own b xs rest next
       → SmallCoreTypes config xs
   core_types_read_small {own = own} {next = next} {b = b} {rest = rest} {xs = xs} r =
       loop_all _ (λ s c x q t (left, made, e). core_needed made) 0 own b xs rest next r
 
-  pub core_types_read_tail : {max : ℕ} {own next : Scope} {b rest : List ℕ} {xs : List CoreEntry} → ReadsCoreTypes config max own b xs rest next → IsTail rest b
+  pub core_types_read_tail : {max : ℕ} {own next : Marked} {b rest : List ℕ} {xs : List CoreEntry} → ReadsCoreTypes config max own b xs rest next
+      → IsTail rest b
   core_types_read_tail {own = own} {next = next} {b = b} {rest = rest} {xs = xs} r =
       loop_tail (λ s c q t e. absurd e) (λ s c x q t (left, made, e). made_core_tail made) 0 own b xs rest next r
 
   -- The scope has what was read.
-  pub core_types_read_scope : {max : ℕ} {own next : Scope} {b rest : List ℕ} {xs : List CoreEntry} → ReadsCoreTypes config max own b xs rest next
-      → next ≡ with_core_types own xs
+  pub core_types_read_scope : {max : ℕ} {own next : Marked} {b rest : List ℕ} {xs : List CoreEntry} → ReadsCoreTypes config max own b xs rest next
+      → next ≡ fold with_core_entry own xs
   core_types_read_scope {own = own} {next = next} {b = b} {rest = rest} {xs = xs} r =
-      loop_gives (λ s ys t. t ≡ with_core_types s ys) (λ s. sym (with_core_none s)) (λ s c q t e. absurd e) one 0 own b xs rest next r
+      loop_gives (λ s ys t. t ≡ fold with_core_entry s ys) (λ s. refl) (λ s c q t e. absurd e) one 0 own b xs rest next r
     where
-      one : (s t u : Scope) (c : List ℕ) (x : CoreEntry) (q : List ℕ) (ys : List CoreEntry) → ReadsCoreType config s c x q t → u ≡ with_core_types t ys
-          → u ≡ with_core_types s (x ∷ ys)
-      one s t u c x q ys (left, made, e) f = f ∙ (ap (λ z. with_core_types z ys) e
-          ∙ ap (λ ts. record { types = s.types; core_types = ts }) (append_assoc s.core_types (x ∷ []) ys))
+      one : (s t u : Marked) (c : List ℕ) (x : CoreEntry) (q : List ℕ) (ys : List CoreEntry) → ReadsCoreType config s c x q t
+          → u ≡ fold with_core_entry t ys → u ≡ fold with_core_entry s (x ∷ ys)
+      one s t u c x q ys (left, made, e) f = f ∙ ap (λ z. fold with_core_entry z ys) e
 
   -- They are determined.
-  pub core_types_same : {max : ℕ} {own next other : Scope} {b r s : List ℕ} {xs ys : List CoreEntry} → ReadsCoreTypes config max own b xs r next
+  pub core_types_same : {max : ℕ} {own next other : Marked} {b r s : List ℕ} {xs ys : List CoreEntry} → ReadsCoreTypes config max own b xs r next
       → ReadsCoreTypes config max own b ys s other → (xs ≡ ys) × (r ≡ s)
   core_types_same {own = own} {next = next} {other = other} {b = b} {r = r} {s = s} {xs = xs} {ys = ys} x y =
       let d = loop_same (λ s c q p t u e f. absurd e) (λ s c x q p t u e i. e) one 0 own b xs ys r s next other x y in (d.0, d.1)
     where
-      one : (s : Scope) (c : List ℕ) (x y : CoreEntry) (q p : List ℕ) (t u : Scope) → ReadsCoreType config s c x q t → ReadsCoreType config s c y p u
+      one : (s : Marked) (c : List ℕ) (x y : CoreEntry) (q p : List ℕ) (t u : Marked) → ReadsCoreType config s c x q t → ReadsCoreType config s c y p u
           → (x ≡ y) × (q ≡ p) × (t ≡ u)
       one s c x y q p t u (left, made, e) (held, other, f) =
           let m = made_core_same made other in
-          (m.value, m.rest, e ∙ (ap (with_core_type s) m.value ∙ sym f))
+          (m.value, m.rest, e ∙ (ap (with_core_entry s) m.value ∙ sym f))
 
   -- A core type may stand in a scope, and its script can say it.
-  abbrev pub Said : Scope → CoreEntry → Type 0
+  abbrev pub Said : Marked → CoreEntry → Type 0
   Said s x = FormedCore x s.core_types × CoreLimits config x × (core_need x ≤ config.max_type_size) × IsReadableCore x × (length s.core_types ≤ 2 ^ 63)
 
-  pub all_said : (xs : List CoreEntry) (own : Scope) → FormedCores xs own → AllByRecursion (CoreLimits config) xs
-      → SmallCoreTypes config xs → AllByRecursion IsReadableCore xs → length own.core_types + length xs ≤ 2 ^ 63 → Along Said with_core_type own xs
+  pub all_said : (xs : List CoreEntry) (own : Marked) → FormedCores xs (scope_in own) → AllByRecursion (CoreLimits config) xs
+      → SmallCoreTypes config xs → AllByRecursion IsReadableCore xs → length own.core_types + length xs ≤ 2 ^ 63 → Along Said with_core_entry own xs
   all_said [] own f m l r small = tt
   all_said (x ∷ xs) own f m l r small = (
     (f.0, m.0, l.0, r.0, omega arith),
-    all_said xs (with_core_type own x) f.1 m.1 l.1 r.1 (omega (arith, length-append own.core_types (x ∷ []))),
+    all_said xs (with_core_entry own x) f.1 m.1 l.1 r.1 (omega (arith, length-append own.core_types (x ∷ []))),
   )
 
-  one_read : (s : Scope) (x : CoreEntry) (rest : List ℕ) → Said s x
-      → ReadsCoreType config s (script_core config s config.max_type_size x ++ rest) x rest (with_core_type s x)
-  one_read s x rest (formed, limits, lasts, readable, small) = (_, core_read config s config.max_type_size x rest formed limits readable lasts small, refl)
+  one_read : (s : Marked) (x : CoreEntry) (rest : List ℕ) → Said s x
+      → ReadsCoreType config s (script_core config (scope_in s) config.max_type_size x ++ rest) x rest (with_core_entry s x)
+  one_read s x rest (formed, limits, lasts, readable, small) =
+      (_, core_read config (scope_in s) config.max_type_size x rest formed limits readable lasts small, refl)
 
   -- Their script is read as them.
-  pub core_types_read : (xs : List CoreEntry) (max : ℕ) (own : Scope) (rest : List ℕ) → FormedCores xs own → AllByRecursion (CoreLimits config) xs
+  pub core_types_read : (xs : List CoreEntry) (max : ℕ) (own : Marked) (rest : List ℕ) → FormedCores xs (scope_in own) → AllByRecursion (CoreLimits config) xs
       → SmallCoreTypes config xs → AllByRecursion IsReadableCore xs → length xs ≤ max → length own.core_types + length xs ≤ 2 ^ 63
-      → ReadsCoreTypes config max own (script_core_types config max own xs ++ rest) xs rest (after_all with_core_type own xs)
+      → ReadsCoreTypes config max own (script_core_types config max own xs ++ rest) xs rest (after_all with_core_entry own xs)
   core_types_read xs max own rest f m l r few small =
-      loop_read (λ s x. script_core config s config.max_type_size x) with_core_type Said one_read xs 0 own rest (all_said xs own f m l r small)
+      loop_read (λ s x. script_core config (scope_in s) config.max_type_size x) with_core_entry Said one_read xs 0 own rest (all_said xs own f m l r small)
       (omega arith) (omega arith)

@@ -1,8 +1,8 @@
 -- What an import section reads: well formed imports under names that are new, within the limits, and a tail of the bytes.
-use Rattle.std.proofs.Common.{◌≡◌, ℕ, ◌+◌, ◌-◌, ◌<◌, ◌≤◌, Bool, true, false, List, [], ◌∷◌, ◌++◌, length, arith, refl, sym, ap, ◌∙◌, subst}
+use Rattle.std.proofs.Common.{◌≡◌, ℕ, ◌+◌, ◌-◌, ◌*◌, ◌<◌, ◌≤◌, Bool, true, false, List, [], ◌∷◌, ◌++◌, length, arith, refl, sym, ap, ◌∙◌, subst}
 use Rattle.std.proofs.Common.{nat_lt}
 use Rattle.std.specs.List.{AllByRecursion}
-use Rattle.std.specs.Prelude.{if◌then◌else◌}
+use Rattle.std.specs.Prelude.{Some, if◌then◌else◌, slice_get}
 use Rattle.std.proofs.lemmas.Bool.{false≢true, and_from}
 use Rattle.std.proofs.lemmas.Bool.Decides.{nat_tests}
 use Rattle.smith_input.specs.Loops.{Loop, no_more, by_itself, an_item}
@@ -13,26 +13,34 @@ use Rattle.smith_input.proofs.Loops.{loop_all, loop_few, loop_gives, loop_tail}
 use Rattle.smith_input.proofs.Reading.{more_past, tail_is, tail_trans}
 use Rattle.smith_format.specs.declared.config.Config.{Config}
 use Rattle.smith_syntax.specs.Entries.{ImportEntry}
-use Rattle.smith_syntax.specs.Scope.{is_func}
-use Rattle.smith_syntax.specs.Places.{places}
-use Rattle.smith_syntax.specs.WellFormed.{Named}
+use Rattle.smith_syntax.specs.Marked.{Marked}
+use Rattle.smith_syntax.specs.Marks.{room_size, small_size}
+use Rattle.smith_syntax.specs.Scope.{Scope}
+use Rattle.smith_syntax.specs.WellFormed.{FormedRef, Named}
 use Rattle.smith_syntax.specs.declared.deftype.ComponentTypeRef.{ComponentTypeRef}
 use Rattle.smith_syntax.specs.declared.deftype.ComponentTypeRef.TheVariants as to
-use Rattle.smith_tree.specs.TypeOffers.{ref_offers}
+use Rattle.smith_tree.specs.TypeOffers.{has_room, kinds_offered, ref_offers, ref_places}
+use Rattle.smith_tree.specs.declared.choices.RefKind.TheVariants.{Func}
+use Rattle.smith_tree.specs.Marking.{marked_in, marked_inner}
+use Rattle.smith_tree.specs.Offered.{OfferedImports}
 use Rattle.smith_types.proofs.ReadsDeclarations.{extern_tail, ref_tail}
-use Rattle.smith_types.proofs.References.{import_not_equal, ref_formed}
+use Rattle.smith_types.proofs.References.{import_not_equal, ref_formed, ref_offered}
+use Rattle.smith_tree.proofs.Marking.{marked_keeps}
 use Rattle.smith_component.specs.Imports.{NoImport, ReadsImport, ReadsImports}
-use Rattle.smith_tree.specs.Offers.{import_kinds, totals_of, with_imports}
+use Rattle.smith_tree.specs.Offers.{import_kinds, marked_with_imports, totals_of, with_imports}
 use Rattle.smith_tree.specs.Limits.{OwnLimits}
 use Rattle.smith_tree.specs.Open.{Open, tree_so_far}
 use Rattle.smith_component.specs.Sound.{IsAddable, Sound}
-use Rattle.smith_tree.specs.Spaces.{Spaces, after_part, spaces_of, types_of}
+use Rattle.smith_tree.specs.Spaces.{Spaces, after_part, spaces_of}
 use Rattle.smith_tree.specs.Tree.{Tree, imports, add, function_count}
 use Rattle.smith_tree.specs.Tree.{imports_of, module_count, component_count, instance_count, function_of}
 use Rattle.smith_tree.specs.WellFormed.{FormedImport, import_names, scope_of}
 use Rattle.smith_component.proofs.Fits.{fits_kept, fits_of, own_limits-add, own_sizes-add, sizes_keep}
 use Rattle.smith_component.proofs.Growth.{KeepsTypes, imports_keep}
-use Rattle.smith_component.proofs.ImportsState.{RefRoom, components_more, funcs_more, import_room, instances_more, modules_more}
+use Rattle.smith_component.proofs.ImportsRoom.{import_grows, importable, imports_cores, imports_places}
+use Rattle.smith_component.proofs.ImportsState.{RefRoom, components_more, funcs_more, import_room, imports_marked, imports_marked_more, imports_scope}
+use Rattle.smith_component.proofs.ImportsState.{instances_more, modules_more}
+use Rattle.smith_component.proofs.MarkedKept.{Kept, SmallCores, marked_kept}
 use Rattle.smith_component.proofs.Named.{NewEntry, imports_are_named, loop_named}
 use Rattle.smith_component.proofs.Sound.{component_count-so_far, instance_count-so_far, module_count-so_far, own_limits_of}
 use Rattle.smith_component.proofs.Tree.{function_count-add, functions_in}
@@ -65,7 +73,7 @@ module _ (config : Config) (stack : Open) where
 
   import_tail : (s : List ImportEntry) (b : List ℕ) (x : ImportEntry) (r : List ℕ) (t : List ImportEntry) → ReadsImport config stack s b x r t → IsTail r b
   import_tail s b x r t i = tail_trans (extern_tail i.so_far i.mid (x.name, i.url) r i.named)
-      (ref_tail config (scope_of stack.inner) (totals_of (with_imports stack s)) true false b x.to i.mid i.of)
+      (ref_tail config (marked_with_imports config stack s) (totals_of (with_imports stack s)) true false b x.to i.mid i.of)
 
   -- An import section leaves a tail of the bytes.
   pub imports_tail : {min : ℕ} {b rest : List ℕ} {is : List ImportEntry} → ReadsImports config min stack b is rest → IsTail rest b
@@ -79,8 +87,9 @@ module _ (config : Config) (stack : Open) where
   formed_import : (s : List ImportEntry) (b : List ℕ) (x : ImportEntry) (r : List ℕ) (t : List ImportEntry) → ReadsImport config stack s b x r t
       → FormedImport (scope_of stack.inner) x
   formed_import s b x r t i = (
-    ref_formed config (scope_of stack.inner) _ true false b x.to i.mid i.of,
-    import_not_equal config (scope_of stack.inner) _ false b x.to i.mid i.of,
+    subst (λ (own : Scope). FormedRef own x.to) (imports_scope config stack s)
+        (ref_formed config (marked_with_imports config stack s) _ true false b x.to i.mid i.of),
+    import_not_equal config (marked_with_imports config stack s) _ false b x.to i.mid i.of,
   )
 
   -- What is read is of what stands in the component.
@@ -127,7 +136,7 @@ module _ (config : Config) (stack : Open) where
   keeps_one : (s : List ImportEntry) (b : List ℕ) (x : ImportEntry) (r : List ℕ) (t : List ImportEntry) → ReadsImport config stack s b x r t → KeepsTotals s t
   keeps_one s b x r t i =
       let room : RefRoom config (totals_of (with_imports stack s)) x.to =
-      import_room config (scope_of stack.inner) (totals_of (with_imports stack s)) b x.to i.mid i.of in
+      import_room config (marked_with_imports config stack s) (totals_of (with_imports stack s)) b x.to i.mid i.of in
       subst (KeepsTotals s) (sym i.next_is) (record {
         modules = λ h. omega (arith, h, room.modules, modules_more stack s x);
         funcs = λ h. omega (arith, h, room.funcs, funcs_more stack s x);
@@ -178,17 +187,49 @@ module _ (config : Config) (stack : Open) where
         declared = λ h. omega (arith, h);
       }
 
-  -- Where functions can be imported, there is something to import.
-  func_offered : (s : List ImportEntry) → 0 < length (places is_func 0 (types_of stack.inner)) → (totals_of (with_imports stack s)).funcs < config.max_funcs
+  -- What is read was offered, and found room.
+
+  room_there : {A : Type 0} (room : Bool) (xs : List A) (k : ℕ) (x : A) → slice_get (if room then xs else []) k ≡ Some x → room ≡ true
+  room_there true xs k x h = refl
+  room_there false xs k x h = absurd (cc)
+
+  offered_on : (s u v : List ImportEntry) (b : List ℕ) (x : ImportEntry) (r : List ℕ) (xs : List ImportEntry) → ReadsImport config stack s b x r u
+      → OfferedImports xs (marked_with_imports config stack u) → OfferedImports (x ∷ xs) (marked_with_imports config stack s)
+  offered_on s u v b x r xs i rest =
+      let own : Marked = marked_with_imports config stack s in
+      let totals = totals_of (with_imports stack s) in (
+        ref_offered config own totals true false b x.to i.mid i.of,
+        room_there (has_room own false) (kinds_offered config own totals true false) i.of.choice.place i.of.kind i.of.choice.named,
+        subst (OfferedImports xs) (ap (λ z. marked_with_imports config stack z) i.next_is ∙ imports_marked_more config stack s x) rest,
+      )
+
+  pub imports_offered : {min : ℕ} {b rest : List ℕ} {is : List ImportEntry} → ReadsImports config min stack b is rest
+      → OfferedImports is (marked_inner config stack.outer stack.inner)
+  imports_offered {b = b} {rest = rest} {is = is} r =
+      let R : List ImportEntry → List ImportEntry → List ImportEntry → Type 0 = λ s xs t. OfferedImports xs (marked_with_imports config stack s) in
+      subst (OfferedImports is) (imports_marked config stack [])
+      (loop_gives R (λ s. tt) (λ s c q t e. tt) offered_on 0 [] b is rest is r)
+
+  -- Where functions can be imported, and there is room, there is something to import.
+  func_offered : (s : List ImportEntry) → 0 < importable (marked_inner config stack.outer stack.inner)
+      → (totals_of (with_imports stack s)).funcs < config.max_funcs → has_room (marked_with_imports config stack s) false ≡ true
       → import_kinds config stack s ≡ [] → ⊥
-  func_offered s has below none =
-      let all = none_offered (ref_offers config (scope_of stack.inner) (totals_of (with_imports stack s)) true false) none in
-      let there : nat_lt 0 (length (places is_func 0 (types_of stack.inner))) ≡ true = grind (arith, nat_tests, has) in
-      let allowed : nat_lt (totals_of (with_imports stack s)).funcs config.max_funcs ≡ true = grind (arith, nat_tests, below) in
+  func_offered s has below room none =
+      let own : Marked = marked_with_imports config stack s in
+      let totals = totals_of (with_imports stack s) in
+      let open_kinds : kinds_offered config own totals true false ≡ [] =
+      sym (ap (λ b. if b then kinds_offered config own totals true false else []) room) ∙ none in
+      let all = none_offered (ref_offers config own totals true false) open_kinds in
+      let same : ref_places own true Func ≡ ref_places (marked_inner config stack.outer stack.inner) true Func =
+      ap (λ m. ref_places m true Func) (imports_marked config stack s) ∙ imports_places s (marked_inner config stack.outer stack.inner) in
+      let some : 0 < length (ref_places own true Func) = omega (arith, has, ap length same) in
+      let there : nat_lt 0 (length (ref_places own true Func)) ≡ true = grind (arith, nat_tests, some) in
+      let allowed : nat_lt totals.funcs config.max_funcs ≡ true = grind (arith, nat_tests, below) in
       false≢true (sym all.1.1.0 ∙ and_from _ _ there allowed)
 
-  module _ (min most : ℕ) (ordered : min ≤ most) (has : 0 < length (places is_func 0 (types_of stack.inner)))
-      (room : function_count stack.inner + min ≤ config.max_funcs) where
+  module _ (min most : ℕ) (ordered : min ≤ most) (has : 0 < importable (marked_inner config stack.outer stack.inner))
+      (room : function_count stack.inner + min ≤ config.max_funcs) (cores : SmallCores (marked_inner config stack.outer stack.inner))
+      (lasting : config.must_validate ≡ true → (marked_inner config stack.outer stack.inner).size + min * small_size ≤ room_size + small_size) where
     all_made : (done : ℕ) (b rest : List ℕ) → More done min most b false rest → min ≤ done
     all_made done b rest m = by_room (nat_lt done most) refl
       where
@@ -196,33 +237,72 @@ module _ (config : Config) (stack : Open) where
         by_room true f = let lt : done < most = grind (arith, nat_tests) in more_past lt m
         by_room false f = let le : most ≤ done = grind (arith, nat_tests) in omega (arith, le, ordered)
 
-    enough_at_end : (done : ℕ) (s : List ImportEntry) → (totals_of (with_imports stack s)).funcs ≤ function_count stack.inner + done
-        → import_kinds config stack s ≡ [] → min ≤ done
-    enough_at_end done s few none = by_min (nat_lt done min) refl
+    -- where so many are made
+    record Made (done : ℕ) (s : List ImportEntry) : Type 0 where
+      funcs : (totals_of (with_imports stack s)).funcs ≤ function_count stack.inner + done
+      size : (marked_with_imports config stack s).size ≤ (marked_inner config stack.outer stack.inner).size + done * small_size
+
+    room_left : (done : ℕ) (s : List ImportEntry) → Made done s → done < min → has_room (marked_with_imports config stack s) false ≡ true
+    room_left done s made lt = by_option config.must_validate refl
+      where
+        own : Marked
+        own = marked_with_imports config stack s
+
+        within : own.size ≤ 990000 → has_room own false ≡ true
+        within h = grind (arith, nat_tests, h)
+
+        by_option : (z : Bool) → config.must_validate ≡ z → has_room own false ≡ true
+        by_option true e = within (omega (arith, lasting e, made.size, lt))
+        by_option false e =
+            let kept : Kept own = marked_kept config (marked_in config stack.outer) (with_imports stack s).inner in
+            let keeps : own.keeps ≡ config.must_validate = marked_keeps config (marked_in config stack.outer) (with_imports stack s).inner in
+            within (omega (arith, kept.plain (keeps ∙ e)))
+
+    enough_at_end : (done : ℕ) (s : List ImportEntry) → Made done s → import_kinds config stack s ≡ [] → min ≤ done
+    enough_at_end done s made none = by_min (nat_lt done min) refl
       where
         by_min : (z : Bool) → nat_lt done min ≡ z → min ≤ done
-        by_min true f = let lt : done < min = grind (arith, nat_tests) in absurd (func_offered s has (omega (arith, lt, few, room)) none)
+        by_min true f =
+            let lt : done < min = grind (arith, nat_tests) in
+            absurd (func_offered s has (omega (arith, lt, made.funcs, room)) (room_left done s made lt) none)
         by_min false f = let le : min ≤ done = grind (arith, nat_tests) in le
 
-    counted_on : (done : ℕ) (s t : List ImportEntry) (b : List ℕ) (x : ImportEntry) (r : List ℕ)
-        → (totals_of (with_imports stack s)).funcs ≤ function_count stack.inner + done → ReadsImport config stack s b x r t
-        → (totals_of (with_imports stack t)).funcs ≤ function_count stack.inner + (done + 1)
-    counted_on done s t b x r few i = omega (arith, few, ap (λ z. (totals_of (with_imports stack z)).funcs) i.next_is ∙ funcs_more stack s x, function_one x.to)
+    made_one : (done : ℕ) (s t : List ImportEntry) (b : List ℕ) (x : ImportEntry) (r : List ℕ) → Made done s → ReadsImport config stack s b x r t
+        → Made (done + 1) t
+    made_one done s t b x r made i =
+        let own : Marked = marked_with_imports config stack s in
+        let small : SmallCores own =
+        subst (AllByRecursion (λ n. n ≤ small_size))
+        (sym (ap (λ m. m.core_sizes) (imports_marked config stack s) ∙ imports_cores s (marked_inner config stack.outer stack.inner))) cores in
+        let grows = import_grows own x.to (ref_offered config own (totals_of (with_imports stack s)) true false b x.to i.mid i.of) small in
+        record {
+          funcs =
+              omega (arith, made.funcs, ap (λ z. (totals_of (with_imports stack z)).funcs) i.next_is ∙ funcs_more stack s x, function_one x.to);
+          size = omega (
+            arith,
+            made.size,
+            grows,
+            ap (λ z. (marked_with_imports config stack z).size) i.next_is ∙ ap (λ (m : Marked). m.size) (imports_marked_more config stack s x),
+          );
+        }
 
-    enough_from : (done : ℕ) (s : List ImportEntry) (b : List ℕ) (xs : List ImportEntry) (rest : List ℕ) (t : List ImportEntry)
-        → (totals_of (with_imports stack s)).funcs ≤ function_count stack.inner + done
+    enough_from : (done : ℕ) (s : List ImportEntry) (b : List ℕ) (xs : List ImportEntry) (rest : List ℕ) (t : List ImportEntry) → Made done s
         → Loop (NoImport config stack) (ReadsImport config stack) min most done s b xs rest t → min ≤ done + length xs
-    enough_from done s b xs rest t few (no_more m e) = omega (arith, all_made done b rest m)
-    enough_from done s b xs rest t few (by_itself m e) = omega (arith, enough_at_end done s few e.0)
-    enough_from done s b xs rest u few (an_item {t = t} {mid = mid} {after = after} {x = x} {xs = ys} m i l) =
-        omega (arith, enough_from (done + 1) t after ys rest u (counted_on done s t mid x after few i) l)
+    enough_from done s b xs rest t made (no_more m e) = omega (arith, all_made done b rest m)
+    enough_from done s b xs rest t made (by_itself m e) = omega (arith, enough_at_end done s made e.0)
+    enough_from done s b xs rest u made (an_item {t = t} {mid = mid} {after = after} {x = x} {xs = ys} m i l) =
+        omega (arith, enough_from (done + 1) t after ys rest u (made_one done s t mid x after made i) l)
 
   -- A section has as many imports as it must, where functions may be imported for all of them.
-  pub imports_enough : {min : ℕ} {b rest : List ℕ} {is : List ImportEntry} → 0 < length (places is_func 0 (types_of stack.inner))
-      → function_count stack.inner + min ≤ config.max_funcs → min ≤ config.max_imports - length (imports_of stack.inner)
+  pub imports_enough : {min : ℕ} {b rest : List ℕ} {is : List ImportEntry} → 0 < importable (marked_inner config stack.outer stack.inner)
+      → function_count stack.inner + min ≤ config.max_funcs → SmallCores (marked_inner config stack.outer stack.inner)
+      → (config.must_validate ≡ true → (marked_inner config stack.outer stack.inner).size + min * small_size ≤ room_size + small_size)
+      → min ≤ config.max_imports - length (imports_of stack.inner)
       → ReadsImports config min stack b is rest → min ≤ length is
-  imports_enough {min = min} {b = b} {rest = rest} {is = is} has fits ordered r =
-      let start : (totals_of (with_imports stack [])).funcs ≤ function_count stack.inner + 0 =
-      omega (arith, function_count-add stack.inner (imports [])) in
-      let enough : min ≤ 0 + length is = enough_from min room ordered has fits 0 [] b is rest is start r in
+  imports_enough {min = min} {b = b} {rest = rest} {is = is} has fits cores lasting ordered r =
+      let start : Made min room ordered has fits cores lasting 0 [] = record {
+        funcs = omega (arith, function_count-add stack.inner (imports []));
+        size = omega (arith, ap (λ (m : Marked). m.size) (imports_marked config stack []));
+      } in
+      let enough : min ≤ 0 + length is = enough_from min room ordered has fits cores lasting 0 [] b is rest is start r in
       omega (arith, enough)

@@ -1,20 +1,22 @@
 -- What a type section reads: well formed types, as many as there must be, within the limits and their fuel, a tail of the bytes; and
 -- what its script says.
-use Rattle.std.proofs.Common.{◌≡◌, ℕ, suc, ◌+◌, ◌-◌, ◌≤◌, ◌^◌, max, List, [], ◌∷◌, ◌++◌, length, arith, refl, sym, ap, ◌∙◌, subst, length-append, append_assoc}
+use Rattle.std.proofs.Common.{◌≡◌, ℕ, suc, ◌+◌, ◌-◌, ◌≤◌, ◌^◌, max, List, [], ◌∷◌, ◌++◌, length, fold, arith, refl, sym, ap, ◌∙◌, subst, length-append}
 use Rattle.std.specs.List.{AllByRecursion}
 use Rattle.smith_input.specs.Loops.{Along, after_all}
 use Rattle.smith_input.specs.Reading.{IsTail}
 use Rattle.smith_input.proofs.Loops.{loop_tail, loop_gives, loop_all, loop_enough, loop_same, loop_read}
 use Rattle.smith_format.specs.declared.config.Config.{Config}
 use Rattle.smith_syntax.specs.Entries.{Entry}
-use Rattle.smith_syntax.specs.Scope.{Scope, with_type, with_types}
+use Rattle.smith_syntax.specs.Marked.{Marked, scope_in, scopes_in_marked}
+use Rattle.smith_syntax.specs.Usable.{OfferedEntry}
 use Rattle.smith_tree.specs.ReadableTypes.{IsReadableType}
 use Rattle.smith_types.specs.Sayable.{Fit, IsSayable, Lasts}
 use Rattle.smith_tree.specs.TypeScript.{script_type}
 use Rattle.smith_syntax.specs.TypeLimits.{EntryLimits}
 use Rattle.smith_syntax.specs.WellFormed.{FormedEntry, FormedTypes}
-use Rattle.smith_scopes.proofs.Stack.{with_none}
 use Rattle.smith_tree.specs.Limits.{SmallTypes}
+use Rattle.smith_tree.specs.Marking.{with_type_entry}
+use Rattle.smith_tree.specs.Offered.{OfferedTypes}
 use Rattle.smith_tree.specs.Tree.{most}
 use Rattle.smith_tree.specs.TypeNeeds.{declaring}
 use Rattle.smith_tree.specs.Script.{script_types}
@@ -22,24 +24,33 @@ use Rattle.smith_component.specs.AddedSections.{ReadsType, ReadsTypes}
 use Rattle.smith_types.proofs.ReferencesRead.{IsFew}
 use Rattle.smith_types.proofs.ScopedScript.{type_read}
 use Rattle.smith_component.proofs.MadeWith.{made_with_tail, made_with_formed, made_with_limits, made_with_need, made_with_declared}
-use Rattle.smith_component.proofs.MadeWith.{made_with_same}
+use Rattle.smith_component.proofs.MadeWith.{made_with_offered, made_with_same}
 
-module _ (config : Config) (outer : List Scope) where
-  pub types_read_formed : {min max : ℕ} {own next : Scope} {b rest : List ℕ} {xs : List Entry} → ReadsTypes config outer min max own b xs rest next
-      → FormedTypes xs own outer
+module _ (config : Config) (outer : List Marked) where
+  pub types_read_formed : {min max : ℕ} {own next : Marked} {b rest : List ℕ} {xs : List Entry} → ReadsTypes config outer min max own b xs rest next
+      → FormedTypes xs (scope_in own) (scopes_in_marked outer)
   types_read_formed {max = max} {own = own} {next = next} {b = b} {rest = rest} {xs = xs} r =
-      loop_gives (λ s ys t. FormedTypes ys s outer) (λ s. tt) (λ s c q t e. absurd e) one 0 own b xs rest next r
+      loop_gives (λ s ys t. FormedTypes ys (scope_in s) (scopes_in_marked outer)) (λ s. tt) (λ s c q t e. absurd e) one 0 own b xs rest next r
     where
-      one : (s t u : Scope) (c : List ℕ) (x : Entry) (q : List ℕ) (ys : List Entry) → ReadsType config outer s c x q t → FormedTypes ys t outer
-          → FormedTypes (x ∷ ys) s outer
-      one s t u c x q ys (made, e) f = (made_with_formed made, subst (λ z. FormedTypes ys z outer) e f)
+      one : (s t u : Marked) (c : List ℕ) (x : Entry) (q : List ℕ) (ys : List Entry) → ReadsType config outer s c x q t
+          → FormedTypes ys (scope_in t) (scopes_in_marked outer) → FormedTypes (x ∷ ys) (scope_in s) (scopes_in_marked outer)
+      one s t u c x q ys (made, e) f = (made_with_formed made, subst (λ z. FormedTypes ys (scope_in z) (scopes_in_marked outer)) e f)
 
-  pub types_read_small : {min max : ℕ} {own next : Scope} {b rest : List ℕ} {xs : List Entry} → ReadsTypes config outer min max own b xs rest next
+  pub types_read_offered : {min max : ℕ} {own next : Marked} {b rest : List ℕ} {xs : List Entry} → ReadsTypes config outer min max own b xs rest next
+      → OfferedTypes xs outer own
+  types_read_offered {own = own} {next = next} {b = b} {rest = rest} {xs = xs} r =
+      loop_gives (λ s ys t. OfferedTypes ys outer s) (λ s. tt) (λ s c q t e. absurd e) one 0 own b xs rest next r
+    where
+      one : (s t u : Marked) (c : List ℕ) (x : Entry) (q : List ℕ) (ys : List Entry) → ReadsType config outer s c x q t → OfferedTypes ys outer t
+          → OfferedTypes (x ∷ ys) outer s
+      one s t u c x q ys (made, e) f = (made_with_offered made, subst (OfferedTypes ys outer) e f)
+
+  pub types_read_small : {min max : ℕ} {own next : Marked} {b rest : List ℕ} {xs : List Entry} → ReadsTypes config outer min max own b xs rest next
       → SmallTypes config xs
   types_read_small {own = own} {next = next} {b = b} {rest = rest} {xs = xs} r =
       loop_all _ (λ s c x q t (made, e). made_with_need made) 0 own b xs rest next r
 
-  pub types_read_limited : {min max : ℕ} {own next : Scope} {b rest : List ℕ} {xs : List Entry} → ReadsTypes config outer min max own b xs rest next
+  pub types_read_limited : {min max : ℕ} {own next : Marked} {b rest : List ℕ} {xs : List Entry} → ReadsTypes config outer min max own b xs rest next
       → AllByRecursion (EntryLimits config) xs
   types_read_limited {own = own} {next = next} {b = b} {rest = rest} {xs = xs} r =
       loop_all _ (λ s c x q t (made, e). made_with_limits made) 0 own b xs rest next r
@@ -50,7 +61,7 @@ module _ (config : Config) (outer : List Scope) where
   most_below number n (x ∷ xs) h = omega (arith, h.0, most_below number n xs h.1)
 
   -- how deep the types stand that these declare
-  pub types_read_declared : {min room : ℕ} {own next : Scope} {b rest : List ℕ} {xs : List Entry} → ReadsTypes config outer min room own b xs rest next
+  pub types_read_declared : {min room : ℕ} {own next : Marked} {b rest : List ℕ} {xs : List Entry} → ReadsTypes config outer min room own b xs rest next
       → length outer + 1 + most declaring xs ≤ max (length outer + 1) config.max_nesting_depth
   types_read_declared {own = own} {next = next} {b = b} {rest = rest} {xs = xs} r =
       let deepest : ℕ = max (length outer + 1) config.max_nesting_depth - (length outer + 1) in
@@ -58,71 +69,70 @@ module _ (config : Config) (outer : List Scope) where
       loop_all _ (λ s c x q t (made, e). omega (arith, made_with_declared made)) 0 own b xs rest next r in
       omega (arith, most_below declaring deepest xs each)
 
-  pub types_read_tail : {min max : ℕ} {own next : Scope} {b rest : List ℕ} {xs : List Entry} → ReadsTypes config outer min max own b xs rest next
+  pub types_read_tail : {min max : ℕ} {own next : Marked} {b rest : List ℕ} {xs : List Entry} → ReadsTypes config outer min max own b xs rest next
       → IsTail rest b
   types_read_tail {own = own} {next = next} {b = b} {rest = rest} {xs = xs} r =
       loop_tail (λ s c q t e. absurd e) (λ s c x q t (made, e). made_with_tail made) 0 own b xs rest next r
 
   -- The scope has what was read.
-  pub types_read_scope : {min max : ℕ} {own next : Scope} {b rest : List ℕ} {xs : List Entry} → ReadsTypes config outer min max own b xs rest next
-      → next ≡ with_types own xs
+  pub types_read_scope : {min max : ℕ} {own next : Marked} {b rest : List ℕ} {xs : List Entry} → ReadsTypes config outer min max own b xs rest next
+      → next ≡ fold (with_type_entry outer) own xs
   types_read_scope {own = own} {next = next} {b = b} {rest = rest} {xs = xs} r =
-      loop_gives (λ s ys t. t ≡ with_types s ys) (λ s. sym (with_none s)) (λ s c q t e. absurd e) one 0 own b xs rest next r
+      loop_gives (λ s ys t. t ≡ fold (with_type_entry outer) s ys) (λ s. refl) (λ s c q t e. absurd e) one 0 own b xs rest next r
     where
-      one : (s t u : Scope) (c : List ℕ) (x : Entry) (q : List ℕ) (ys : List Entry) → ReadsType config outer s c x q t → u ≡ with_types t ys
-          → u ≡ with_types s (x ∷ ys)
-      one s t u c x q ys (made, e) f = f ∙ (ap (λ z. with_types z ys) e ∙ with_behind s x ys)
-        where
-          with_behind : (s : Scope) (x : Entry) (ys : List Entry) → with_types (with_type s x) ys ≡ with_types s (x ∷ ys)
-          with_behind s x ys = ap (λ ts. record { types = ts; core_types = s.core_types }) (append_assoc s.types (x ∷ []) ys)
+      one : (s t u : Marked) (c : List ℕ) (x : Entry) (q : List ℕ) (ys : List Entry) → ReadsType config outer s c x q t
+          → u ≡ fold (with_type_entry outer) t ys → u ≡ fold (with_type_entry outer) s (x ∷ ys)
+      one s t u c x q ys (made, e) f = f ∙ ap (λ z. fold (with_type_entry outer) z ys) e
 
   -- There are no fewer than there must be.
-  pub types_enough : {min max : ℕ} {own next : Scope} {b rest : List ℕ} {xs : List Entry} → min ≤ max → ReadsTypes config outer min max own b xs rest next
+  pub types_enough : {min max : ℕ} {own next : Marked} {b rest : List ℕ} {xs : List Entry} → min ≤ max → ReadsTypes config outer min max own b xs rest next
       → min ≤ length xs
   types_enough {own = own} {next = next} {b = b} {rest = rest} {xs = xs} few r =
       let n = loop_enough (λ s c q t e. absurd e) few 0 own b xs rest next r in omega (arith, n)
 
   -- They are determined.
-  pub types_same : {min max : ℕ} {own next other : Scope} {b r s : List ℕ} {xs ys : List Entry} → ReadsTypes config outer min max own b xs r next
+  pub types_same : {min max : ℕ} {own next other : Marked} {b r s : List ℕ} {xs ys : List Entry} → ReadsTypes config outer min max own b xs r next
       → ReadsTypes config outer min max own b ys s other → (xs ≡ ys) × (r ≡ s)
   types_same {own = own} {next = next} {other = other} {b = b} {r = r} {s = s} {xs = xs} {ys = ys} x y =
       let d = loop_same (λ s c q p t u e f. absurd e) (λ s c x q p t u e i. e) one 0 own b xs ys r s next other x y in (d.0, d.1)
     where
-      one : (s : Scope) (c : List ℕ) (x y : Entry) (q p : List ℕ) (t u : Scope) → ReadsType config outer s c x q t → ReadsType config outer s c y p u
+      one : (s : Marked) (c : List ℕ) (x y : Entry) (q p : List ℕ) (t u : Marked) → ReadsType config outer s c x q t → ReadsType config outer s c y p u
           → (x ≡ y) × (q ≡ p) × (t ≡ u)
       one s c x y q p t u (made, e) (other, f) =
           let m = made_with_same made other in
-          (m.0, m.1, e ∙ (ap (with_type s) m.0 ∙ sym f))
+          (m.0, m.1, e ∙ (ap (λ z. with_type_entry outer s z) m.0 ∙ sym f))
 
   -- A type may stand in a scope, and its script can say it.
-  abbrev pub Said : Scope → Entry → Type 0
-  Said s x = FormedEntry x s outer × EntryLimits config x × Lasts x config (suc (length outer)) config.max_type_size × IsReadableType x × IsFew s
+  abbrev pub Said : Marked → Entry → Type 0
+  Said s x =
+      FormedEntry x (scope_in s) (scopes_in_marked outer) × OfferedEntry x s outer × EntryLimits config x
+      × Lasts x config (suc (length outer)) config.max_type_size × IsReadableType x × IsFew s
 
-  pub all_said : (xs : List Entry) (own : Scope) → FormedTypes xs own outer → AllByRecursion (EntryLimits config) xs
-      → AllByRecursion (λ e. Lasts e config (suc (length outer)) config.max_type_size) xs → AllByRecursion IsReadableType xs
-      → length own.types + length own.core_types + length xs ≤ 2 ^ 64 → Along Said with_type own xs
-  all_said [] own f m l r small = tt
-  all_said (x ∷ xs) own f m l r small = (
-    (f.0, m.0, l.0, r.0, omega arith),
-    all_said xs (with_type own x) f.1 m.1 l.1 r.1 (omega (arith, length-append own.types (x ∷ []))),
+  pub all_said : (xs : List Entry) (own : Marked) → FormedTypes xs (scope_in own) (scopes_in_marked outer) → OfferedTypes xs outer own
+      → AllByRecursion (EntryLimits config) xs → AllByRecursion (λ e. Lasts e config (suc (length outer)) config.max_type_size) xs
+      → AllByRecursion IsReadableType xs → length own.types + length own.core_types + length xs ≤ 2 ^ 64 → Along Said (with_type_entry outer) own xs
+  all_said [] own f o m l r small = tt
+  all_said (x ∷ xs) own f o m l r small = (
+    (f.0, o.0, m.0, l.0, r.0, omega arith),
+    all_said xs (with_type_entry outer own x) f.1 o.1 m.1 l.1 r.1 (omega (arith, length-append own.types (x ∷ []))),
   )
 
-  pub sayable : AllByRecursion IsFew outer → suc (length outer) ≤ 1000 → (s : Scope) (x : Entry) → Said s x
+  pub sayable : AllByRecursion IsFew outer → suc (length outer) ≤ 1000 → (s : Marked) (x : Entry) → Said s x
       → IsSayable config s outer config.max_type_size x
-  sayable around shallow s x (formed, limits, lasts, readable, small) =
+  sayable around shallow s x (formed, offered, limits, lasts, readable, small) =
       let fit : Fit (s ∷ outer) = record { many = omega (arith, shallow); each = (small, around) } in
-      record { formed = formed; limits = limits; readable = readable; lasts = lasts; fit = fit; shallow = shallow }
+      record { formed = formed; offered = offered; limits = limits; readable = readable; lasts = lasts; fit = fit; shallow = shallow }
 
   -- Their script is read as them.
   pub types_read : AllByRecursion IsFew outer → suc (length outer) ≤ 1000 → config.max_nesting_depth ≤ 1000
-      → (xs : List Entry) (max : ℕ) (own : Scope) (rest : List ℕ) → FormedTypes xs own outer → AllByRecursion (EntryLimits config) xs
-      → AllByRecursion (λ e. Lasts e config (suc (length outer)) config.max_type_size) xs → AllByRecursion IsReadableType xs → length xs ≤ max
-      → length own.types + length own.core_types + length xs ≤ 2 ^ 64
-      → ReadsTypes config outer 0 max own (script_types config max own outer xs ++ rest) xs rest (after_all with_type own xs)
-  types_read around shallow deep xs max own rest f m l r few small =
-      loop_read (λ s e. script_type e config config.max_type_size s outer) with_type Said one xs 0 own rest (all_said xs own f m l r small) (omega arith)
-      (omega arith)
+      → (xs : List Entry) (max : ℕ) (own : Marked) (rest : List ℕ) → FormedTypes xs (scope_in own) (scopes_in_marked outer) → OfferedTypes xs outer own
+      → AllByRecursion (EntryLimits config) xs → AllByRecursion (λ e. Lasts e config (suc (length outer)) config.max_type_size) xs
+      → AllByRecursion IsReadableType xs → length xs ≤ max → length own.types + length own.core_types + length xs ≤ 2 ^ 64
+      → ReadsTypes config outer 0 max own (script_types config max own outer xs ++ rest) xs rest (after_all (with_type_entry outer) own xs)
+  types_read around shallow deep xs max own rest f o m l r few small =
+      loop_read (λ s e. script_type e config config.max_type_size s outer) (with_type_entry outer) Said one xs 0 own rest (all_said xs own f o m l r small)
+      (omega arith) (omega arith)
     where
-      one : (s : Scope) (x : Entry) (rest : List ℕ) → Said s x
-          → ReadsType config outer s (script_type x config config.max_type_size s outer ++ rest) x rest (with_type s x)
+      one : (s : Marked) (x : Entry) (rest : List ℕ) → Said s x
+          → ReadsType config outer s (script_type x config config.max_type_size s outer ++ rest) x rest (with_type_entry outer s x)
       one s x rest said = (type_read config deep s outer config.max_type_size x rest (sayable around shallow s x said), refl)

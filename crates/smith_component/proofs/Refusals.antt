@@ -12,6 +12,7 @@ use Rattle.smith_component.specs.Refusals.{IsFillRefusal, IsStepRefusal, LacksOn
 use Rattle.smith_component.specs.Turn.{LacksAt, RefusesModuleAt}
 use Rattle.smith_tree.specs.declared.choices.Item.TheVariants.{Finish, Module}
 use Rattle.smith_component.specs.Tables.{IsGrounded}
+use Rattle.smith_component.specs.Sound.{Sound}
 use Rattle.smith_component.proofs.Filling.{filled_surely}
 
 module _ (config : Config) (stack : Open) (left rest : List ℕ) where
@@ -47,11 +48,12 @@ module _ (config : Config) (stack : Open) (left rest : List ℕ) where
   step_refused input consistent lacks refuses PartsDisagree h = absurd h
 
 -- Where what lacks can be filled, it is no minimum that refuses a step.
-pub never_minimum : (config : Config) (stack : Open) (left rest : List ℕ) → IsConsistent config → IsGrounded stack.inner → CanFill config stack.inner
+pub never_minimum : (config : Config) (stack : Open) (left rest : List ℕ) → Sound config stack → IsGrounded stack.inner
+    → CanFill config stack.outer stack.inner
     → (e : Error) → IsStepRefusal config stack left e rest → ¬ (e ≡ MinimumNotMet)
-never_minimum config stack left rest consistent grounded can e h m =
+never_minimum config stack left rest sound grounded can e h m =
     let lacks : LacksAt config rest stack left = subst (λ x. IsStepRefusal config stack left x rest) m h in
-    filled_surely config stack lacks.0 rest consistent grounded can lacks.2
+    filled_surely config stack lacks.0 rest sound grounded can lacks.2
 
 module _ (config : Config) (rest : List ℕ) where
   pub refused_accepted : (input : List ℕ) → IsConsistent config → (LacksOn config input rest → ⊥) → (RefusesModuleOn config input rest → ⊥) → (e : Error)

@@ -52,7 +52,8 @@ module _ (config : Config) (input : List ℕ) where
       → ((stack : Open) (left : List ℕ) → Other stack left → IsStuck config stack left) → RunReaches config At input → (m : RunReaches config Other input)
       → At m.stack m.left
   at_other At Other p q l m =
-      let same = stuck_same l.turns m.turns config (building root) input l.stack m.stack l.left m.left l.run m.run (p l.stack l.left l.there) (q m.stack m.left m.there) in
+      let same = stuck_same l.turns m.turns config (building root) input l.stack m.stack l.left m.left l.run m.run (p l.stack l.left l.there)
+      (q m.stack m.left m.there) in
       subst (At m.stack) same.1 (subst (λ z. At z l.left) same.0 l.there)
 
   -- No input both lacks something and has a core module refused.

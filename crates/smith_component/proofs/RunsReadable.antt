@@ -32,6 +32,7 @@ use Rattle.smith_component.proofs.Named.{loop_reachable}
 use Rattle.smith_component.proofs.ReadsCanons.{turn_keeps, turned}
 use Rattle.smith_component.proofs.ReadsExports.{export_new}
 use Rattle.smith_component.proofs.ReadsImports.{import_new}
+use Rattle.smith_component.proofs.RunsOffered.{runs_offered}
 use Rattle.smith_component.proofs.RunsSound.{runs_sound}
 use Rattle.smith_scopes.proofs.Plain.{all_back, all_both, all_front}
 use Rattle.smith_component.proofs.Tree.{join-add, join-ends, join}
@@ -131,7 +132,7 @@ module _ (config : Config) where
   does_readable Exports stack b next rest offered (es, read, e) r =
       let some : 0 < config.max_exports = export_some config (offered.2 refl) in
       part_readable stack (exports es) next e
-      (some, loop_reachable (λ (x : ExportEntry). x.name) (exports_of stack.inner) (export_new config stack.inner) read) r
+      (some, loop_reachable (λ (x : ExportEntry). x.name) (exports_of stack.inner) (export_new config stack.outer stack.inner) read) r
 
   turn_readable : (stack : Open) (left : List ℕ) (next : Next) (left2 : List ℕ) → Turn config stack left next left2 → AreReadable config stack
       → ReadableNext config next
@@ -146,7 +147,8 @@ module _ (config : Config) where
       turns_readable k mid left1 next left2 later (turn_readable stack left mid left1 t r)
 
 -- A run leads to a component that comes.
-pub runs_come : (config : Config) (input : List ℕ) (tree : Tree) (left : List ℕ) → IsConsistent config → RunsTo config input tree left → CanBeGenerated config tree
+pub runs_come : (config : Config) (input : List ℕ) (tree : Tree) (left : List ℕ) → IsConsistent config → RunsTo config input tree left
+    → CanBeGenerated config tree
 runs_come config input tree left consistent r =
     let s = runs_sound config input tree left consistent r in
     record {
@@ -154,4 +156,5 @@ runs_come config input tree left consistent r =
       limits = s.1;
       sized = s.2;
       readable = turns_readable config r.turns (building root) input (answered tree) left r.run (tt, tt);
+      offered = runs_offered config input tree left r;
     }

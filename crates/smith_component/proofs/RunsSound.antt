@@ -4,30 +4,32 @@ use Rattle.smith_input.proofs.Loops.{loop_few}
 use Rattle.smith_format.specs.Consistency.{IsConsistent}
 use Rattle.smith_format.specs.declared.config.Config.{Config}
 use Rattle.smith_syntax.specs.Entries.{CoreEntry, Entry}
-use Rattle.smith_syntax.specs.Scope.{Scope}
+use Rattle.smith_syntax.specs.Marked.{Marked}
 use Rattle.smith_component.specs.AddedSections.{Adds, ReadsCoreTypes, ReadsTypes}
 use Rattle.smith_component.specs.Fills.{Fills, FillsAll}
 use Rattle.smith_tree.specs.Limits.{Limits, Minima, Sized}
-use Rattle.smith_tree.specs.Open.{Open, root, scopes_in, with_inner}
+use Rattle.smith_tree.specs.Marking.{marked_in, marked_inner}
+use Rattle.smith_tree.specs.Open.{Open, root, with_inner}
 use Rattle.smith_component.specs.Runs.{RunsTo, Turns}
 use Rattle.smith_component.specs.Shown.{shown_module}
 use Rattle.smith_component.specs.Sound.{IsAddable, Sound}
 use Rattle.smith_tree.specs.Spaces.{core_types_of, types_of}
 use Rattle.smith_tree.specs.Tree.{Tree, core_module, core_types, custom, exports, imports, types}
 use Rattle.smith_component.specs.Turn.{Closes, Does, Next, Turn, answered, building}
-use Rattle.smith_tree.specs.WellFormed.{WellFormed, scope_of}
+use Rattle.smith_tree.specs.WellFormed.{WellFormed}
 use Rattle.smith_component.specs.declared.item.Counted.{Counted}
 use Rattle.smith_component.specs.declared.item.Counted.TheVariants as counted
 use Rattle.smith_tree.specs.declared.choices.Item.{Item}
 use Rattle.smith_tree.specs.declared.choices.Item.TheVariants.{Finish, Custom, CoreTypes, Types, Imports, Canonical, Module, Component, Exports}
 use Rattle.smith_component.proofs.Finishing.{filled_minima}
+use Rattle.smith_component.proofs.Marks.{formed_core_plain, formed_plain}
 use Rattle.smith_component.proofs.ReadsCanons.{canons_sound}
 use Rattle.smith_component.proofs.ReadsCoreTypes.{core_types_read_formed, core_types_read_limited, core_types_read_small}
 use Rattle.smith_component.proofs.ReadsCustom.{custom_short}
 use Rattle.smith_component.proofs.ReadsExports.{exports_addable}
 use Rattle.smith_component.proofs.ReadsImports.{imports_addable}
 use Rattle.smith_component.proofs.ReadsTypes.{types_read_declared, types_read_formed, types_read_limited, types_read_small}
-use Rattle.smith_component.proofs.Sound.{addable_core_types, addable_custom, addable_module, addable_types, component_offered_is, length-scopes_from}
+use Rattle.smith_component.proofs.Sound.{addable_core_types, addable_custom, addable_module, addable_types, component_offered_is, length-marked_from}
 use Rattle.smith_component.proofs.Sound.{module_offered_is, own_limits-ends, own_limits_of, part_sound, root_kept, sound_close, sound_open}
 use Rattle.smith_component.proofs.Turn.{WasOffered, chosen}
 
@@ -37,27 +39,29 @@ SoundNext config (building stack) = Sound config stack
 SoundNext config (answered t) = Limits config t × WellFormed t × Sized config t
 
 -- Types that are read may be added.
-pub types_addable : (config : Config) (least : ℕ) (stack : Open) {b rest : List ℕ} {xs : List Entry} {scope : Scope} → Sound config stack
-    → ReadsTypes config (scopes_in stack.outer) least (config.max_types - length (types_of stack.inner)) (scope_of stack.inner) b xs rest scope
+pub types_addable : (config : Config) (least : ℕ) (stack : Open) {b rest : List ℕ} {xs : List Entry} {scope : Marked} → Sound config stack
+    → ReadsTypes config (marked_in config stack.outer) least (config.max_types - length (types_of stack.inner))
+    (marked_inner config stack.outer stack.inner) b xs rest scope
     → IsAddable config stack (types xs)
 types_addable config least stack {b} {rest} {xs} {scope} sound r =
+    let outer : List Marked = marked_in config stack.outer in
+    let own : Marked = marked_inner config stack.outer stack.inner in
     let limits = own_limits_of config stack sound in
-    let few : 0 + length xs ≤ config.max_types - length (types_of stack.inner) = loop_few 0 (scope_of stack.inner) b xs rest scope (omega arith) r in
-    let below = types_read_declared config (scopes_in stack.outer) r in
-    let around = length-scopes_from stack.outer [] in
-    addable_types config stack xs (types_read_formed config (scopes_in stack.outer) r) (omega (arith, few, limits.types))
-    (types_read_limited config (scopes_in stack.outer) r) (omega (arith, below, around))
-    (types_read_small config (scopes_in stack.outer) r)
+    let few : 0 + length xs ≤ config.max_types - length (types_of stack.inner) = loop_few 0 own b xs rest scope (omega arith) r in
+    let below = types_read_declared config outer r in
+    let around = length-marked_from config stack.outer [] in
+    addable_types config stack xs (formed_plain config stack.outer stack.inner xs (types_read_formed config outer r)) (omega (arith, few, limits.types))
+    (types_read_limited config outer r) (omega (arith, below, around)) (types_read_small config outer r)
 
-pub core_types_addable : (config : Config) (stack : Open) {b rest : List ℕ} {xs : List CoreEntry} {scope : Scope} → Sound config stack
-    → ReadsCoreTypes config (config.max_types - length (core_types_of stack.inner)) (scope_of stack.inner) b xs rest scope
+pub core_types_addable : (config : Config) (stack : Open) {b rest : List ℕ} {xs : List CoreEntry} {scope : Marked} → Sound config stack
+    → ReadsCoreTypes config (config.max_types - length (core_types_of stack.inner)) (marked_inner config stack.outer stack.inner) b xs rest scope
     → IsAddable config stack (core_types xs)
 core_types_addable config stack {b} {rest} {xs} {scope} sound r =
     let limits = own_limits_of config stack sound in
     let few : 0 + length xs ≤ config.max_types - length (core_types_of stack.inner) =
-    loop_few 0 (scope_of stack.inner) b xs rest scope (omega arith) r in
-    addable_core_types config stack xs (core_types_read_formed config r) (omega (arith, few, limits.core_types)) (core_types_read_limited config r)
-    (core_types_read_small config r)
+    loop_few 0 (marked_inner config stack.outer stack.inner) b xs rest scope (omega arith) r in
+    addable_core_types config stack xs (formed_core_plain config stack.outer stack.inner xs (core_types_read_formed config r))
+    (omega (arith, few, limits.core_types)) (core_types_read_limited config r) (core_types_read_small config r)
 
 -- what the sections with a minimum add
 pub adds_sound : (what : Counted) (config : Config) (least : ℕ) (stack : Open) (b : List ℕ) (t : Tree) (rest : List ℕ) → Adds what config least stack b t rest

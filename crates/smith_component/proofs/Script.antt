@@ -16,13 +16,15 @@ use Rattle.smith_format.specs.Consistency.{IsConsistent}
 use Rattle.smith_format.specs.declared.config.Config.{Config}
 use Rattle.smith_syntax.specs.Scope.{Scope}
 use Rattle.smith_tree.specs.TypeNeeds.{declaring}
-use Rattle.smith_tree.specs.Spaces.{types_of}
+use Rattle.smith_tree.specs.Marking.{marked_in, marked_inner}
+use Rattle.smith_tree.specs.Offered.{OfferedPart}
+use Rattle.smith_tree.specs.Spaces.{spaces_of, types_of}
 use Rattle.smith_tree.specs.Tree.{Tree, ends, first, Part, custom, core_module, core_types, component, types, canons, imports, exports, add, inside}
 use Rattle.smith_tree.specs.Tree.{component_count, module_count, no_depth, most}
 use Rattle.smith_tree.specs.WellFormed.{Formed, FormedPart}
 use Rattle.smith_tree.specs.Limits.{OwnLimits, Maxima, Minima}
-use Rattle.smith_tree.specs.Open.{Open, root, item_offers, items, items_with_input, is_finish_offered, is_module_offered, is_component_offered, is_export_offered}
-use Rattle.smith_tree.specs.Open.{scopes_in, tree_so_far}
+use Rattle.smith_tree.specs.Open.{Open, root, item_offers, items, items_with_input, is_finish_offered, is_module_offered, is_component_offered}
+use Rattle.smith_tree.specs.Open.{is_export_offered, scopes_in, tree_so_far}
 use Rattle.smith_component.specs.Turn.{Next, building, answered, Closes, Does, Turn, with_open, with_part}
 use Rattle.smith_component.specs.Runs.{Turns}
 use Rattle.smith_tree.specs.Script.{Continues, item_of, script_item, script_part, script_from, script}
@@ -34,8 +36,9 @@ use Rattle.smith_tree.specs.declared.choices.Item.TheVariants.{Finish, Custom, C
 use Rattle.smith_component.proofs.Tree.{all_before, all_inner, depth-outer, depth-so_far, join-add, join-ends, tree_so_far-close, join}
 use Rattle.smith_scopes.proofs.Plain.{all_front, all_back}
 use Rattle.smith_component.proofs.CanonsRead.{Spoken}
-use Rattle.smith_component.proofs.PartsRead.{fills_nothing, spoken_past, custom_part, core_types_part, types_part, imports_part, canons_part}
-use Rattle.smith_component.proofs.PartsRead.{exports_part, module_part}
+use Rattle.smith_component.proofs.Marks.{OfferedRest, offered_inside, offered_past}
+use Rattle.smith_component.proofs.PartsRead.{fills_nothing, spoken_past, custom_part, core_types_part, types_part, imports_part}
+use Rattle.smith_component.proofs.PartsRead.{canons_part, exports_part, module_part}
 use Rattle.smith_component.proofs.Plan.{PartStands, Stands}
 use Rattle.smith_component.proofs.Fits.{own_limits-front, own_limits_swap}
 use Rattle.smith_component.proofs.Sound.{module_count-so_far, component_count-so_far, instance_count-so_far, scopes_from-snoc}
@@ -204,14 +207,14 @@ part_limits p t config outer before l = all_inner (OwnLimits config) outer (add 
 reach_from : (t : Tree) (config : Config) (consistent : IsConsistent config) (outer : List Tree) (before : Tree)
     (spoken : AllByRecursion Spoken (types_of before)) (rest : List ℕ) (next : Next) (left : List ℕ) (k : ℕ) → IsReadableRest config t before
     → Stands config (suc (length outer)) t
-    → Formed t (scopes_in outer) before → Maxima config (tree_so_far outer (join before t))
+    → Formed t (scopes_in outer) before → OfferedRest config outer before t → Maxima config (tree_so_far outer (join before t))
     → AllByRecursion (Ends config) (inside t) → Ends config (join before t)
     → ((n : Next) → Closes (record { outer = outer; inner = join before t }) n → Turns config n rest next left k)
     → Leads config outer before next left before (script_from t config outer before ++ rest)
-reach_from ends config consistent outer before spoken rest next left k readable stands formed l each enough after =
+reach_from ends config consistent outer before spoken rest next left k readable stands formed offered l each enough after =
     let c = closes_some outer before in
     let here : Ends config before = subst (Ends config) (join-ends before) enough in
-    let offered = finish_item config (record { outer = outer; inner = before }) here.finishable in
+    let last = finish_item config (record { outer = outer; inner = before }) here.finishable in
     let P : Tree → Type 0 = λ x. Closes (record { outer = outer; inner = x }) c.0 in (
       suc k,
       (
@@ -220,77 +223,79 @@ reach_from ends config consistent outer before spoken rest next left k readable 
         record {
           item = Finish;
           after = rest;
-          chooses = item_read config outer before Finish offered.0 rest offered.1;
+          chooses = item_read config outer before Finish last.0 rest last.1;
           does = (before, fills_nothing config (record { outer = outer; inner = before }) rest here.minima, c.1);
         },
         after c.0 (subst P (sym (join-ends before)) c.1),
       ),
     )
-reach_from (first (custom name contents) t) config consistent outer before spoken rest next left k readable stands formed l each enough after =
+reach_from (first (custom name contents) t) config consistent outer before spoken rest next left k readable stands formed offered l each enough after =
     let p : Part = custom name contents in
-    let offered = custom_item config (record { outer = outer; inner = before }) in
-    adds config outer before next left p offered.0 (script_from t config outer (add before p)) rest offered.1
-    (custom_part config (record { outer = outer; inner = before }) (script_from t config outer (add before p) ++ rest) name contents readable.0 stands.0 formed.0
-    (part_limits p t config outer before l))
+    let last = custom_item config (record { outer = outer; inner = before }) in
+    adds config outer before next left p last.0 (script_from t config outer (add before p)) rest last.1
+    (custom_part config (record { outer = outer; inner = before }) (script_from t config outer (add before p) ++ rest) name contents
+    readable.0 stands.0 formed.0 offered.0 (part_limits p t config outer before l))
     (reach_from t config consistent outer (add before p) (spoken_past config p (scopes_in outer) before readable.0 formed.0 spoken) rest next
-    left k readable.1 stands.1 formed.1 (limits_past p t config outer before l) each (enough_past p t config before enough)
-    (after_past p t config outer before next left k rest after))
-reach_from (first (core_types ts) t) config consistent outer before spoken rest next left k readable stands formed l each enough after =
+    left k readable.1 stands.1 formed.1 (offered_past p t config outer before offered) (limits_past p t config outer before l)
+    each (enough_past p t config before enough) (after_past p t config outer before next left k rest after))
+reach_from (first (core_types ts) t) config consistent outer before spoken rest next left k readable stands formed offered l each enough after =
     let p : Part = core_types ts in
-    let offered = core_types_item config (record { outer = outer; inner = before }) in
-    adds config outer before next left p offered.0 (script_from t config outer (add before p)) rest offered.1
-    (core_types_part config (record { outer = outer; inner = before }) (script_from t config outer (add before p) ++ rest) consistent ts readable.0 stands.0 formed.0
-    (part_limits p t config outer before l))
+    let last = core_types_item config (record { outer = outer; inner = before }) in
+    adds config outer before next left p last.0 (script_from t config outer (add before p)) rest last.1
+    (core_types_part config (record { outer = outer; inner = before }) (script_from t config outer (add before p) ++ rest) consistent ts
+    readable.0 stands.0 formed.0 offered.0 (part_limits p t config outer before l))
     (reach_from t config consistent outer (add before p) (spoken_past config p (scopes_in outer) before readable.0 formed.0 spoken) rest next
-    left k readable.1 stands.1 formed.1 (limits_past p t config outer before l) each (enough_past p t config before enough)
-    (after_past p t config outer before next left k rest after))
-reach_from (first (types es) t) config consistent outer before spoken rest next left k readable stands formed l each enough after =
+    left k readable.1 stands.1 formed.1 (offered_past p t config outer before offered) (limits_past p t config outer before l)
+    each (enough_past p t config before enough) (after_past p t config outer before next left k rest after))
+reach_from (first (types es) t) config consistent outer before spoken rest next left k readable stands formed offered l each enough after =
     let p : Part = types es in
-    let offered = types_item config (record { outer = outer; inner = before }) in
-    adds config outer before next left p offered.0 (script_from t config outer (add before p)) rest offered.1
+    let last = types_item config (record { outer = outer; inner = before }) in
+    adds config outer before next left p last.0 (script_from t config outer (add before p)) rest last.1
     (types_part config (record { outer = outer; inner = before }) (script_from t config outer (add before p) ++ rest) consistent es
-    (limits_front t config outer (add before p) (limits_past p t config outer before l)) readable.0 stands.0 formed.0 (part_limits p t config outer before l))
+    (limits_front t config outer (add before p) (limits_past p t config outer before l))
+    readable.0 stands.0 formed.0 offered.0 (part_limits p t config outer before l))
     (reach_from t config consistent outer (add before p) (spoken_past config p (scopes_in outer) before readable.0 formed.0 spoken) rest next
-    left k readable.1 stands.1 formed.1 (limits_past p t config outer before l) each (enough_past p t config before enough)
-    (after_past p t config outer before next left k rest after))
-reach_from (first (imports is) t) config consistent outer before spoken rest next left k readable stands formed l each enough after =
+    left k readable.1 stands.1 formed.1 (offered_past p t config outer before offered) (limits_past p t config outer before l)
+    each (enough_past p t config before enough) (after_past p t config outer before next left k rest after))
+reach_from (first (imports is) t) config consistent outer before spoken rest next left k readable stands formed offered l each enough after =
     let p : Part = imports is in
-    let offered = imports_item config (record { outer = outer; inner = before }) in
-    adds config outer before next left p offered.0 (script_from t config outer (add before p)) rest offered.1
+    let last = imports_item config (record { outer = outer; inner = before }) in
+    adds config outer before next left p last.0 (script_from t config outer (add before p)) rest last.1
     (imports_part config (record { outer = outer; inner = before }) (script_from t config outer (add before p) ++ rest) consistent is
-    (limits_front t config outer (add before p) (limits_past p t config outer before l)) readable.0 stands.0 formed.0 (part_limits p t config outer before l))
+    (limits_front t config outer (add before p) (limits_past p t config outer before l))
+    readable.0 stands.0 formed.0 offered.0 (part_limits p t config outer before l))
     (reach_from t config consistent outer (add before p) (spoken_past config p (scopes_in outer) before readable.0 formed.0 spoken) rest next
-    left k readable.1 stands.1 formed.1 (limits_past p t config outer before l) each (enough_past p t config before enough)
-    (after_past p t config outer before next left k rest after))
-reach_from (first (canons fs) t) config consistent outer before spoken rest next left k readable stands formed l each enough after =
+    left k readable.1 stands.1 formed.1 (offered_past p t config outer before offered) (limits_past p t config outer before l)
+    each (enough_past p t config before enough) (after_past p t config outer before next left k rest after))
+reach_from (first (canons fs) t) config consistent outer before spoken rest next left k readable stands formed offered l each enough after =
     let p : Part = canons fs in
-    let offered = canons_item config (record { outer = outer; inner = before }) in
-    adds config outer before next left p offered.0 (script_from t config outer (add before p)) rest offered.1
-    (canons_part config (record { outer = outer; inner = before }) (script_from t config outer (add before p) ++ rest) consistent spoken fs readable.0 stands.0 formed.0
-    (part_limits p t config outer before l))
+    let last = canons_item config (record { outer = outer; inner = before }) in
+    adds config outer before next left p last.0 (script_from t config outer (add before p)) rest last.1
+    (canons_part config (record { outer = outer; inner = before }) (script_from t config outer (add before p) ++ rest) consistent spoken fs
+    readable.0 stands.0 formed.0 offered.0 (part_limits p t config outer before l))
     (reach_from t config consistent outer (add before p) (spoken_past config p (scopes_in outer) before readable.0 formed.0 spoken) rest next
-    left k readable.1 stands.1 formed.1 (limits_past p t config outer before l) each (enough_past p t config before enough)
-    (after_past p t config outer before next left k rest after))
-reach_from (first (exports es) t) config consistent outer before spoken rest next left k readable stands formed l each enough after =
+    left k readable.1 stands.1 formed.1 (offered_past p t config outer before offered) (limits_past p t config outer before l)
+    each (enough_past p t config before enough) (after_past p t config outer before next left k rest after))
+reach_from (first (exports es) t) config consistent outer before spoken rest next left k readable stands formed offered l each enough after =
     let p : Part = exports es in
     let last = exports_item config (record { outer = outer; inner = before }) readable.0.0 in
     adds config outer before next left p last.0 (script_from t config outer (add before p)) rest last.1
-    (exports_part config (record { outer = outer; inner = before }) (script_from t config outer (add before p) ++ rest) consistent es readable.0 stands.0 formed.0
-    (part_limits p t config outer before l))
+    (exports_part config (record { outer = outer; inner = before }) (script_from t config outer (add before p) ++ rest) consistent es
+    readable.0 stands.0 formed.0 offered.0 (part_limits p t config outer before l))
     (reach_from t config consistent outer (add before p) (spoken_past config p (scopes_in outer) before readable.0 formed.0 spoken) rest next
-    left k readable.1 stands.1 formed.1 (limits_past p t config outer before l) each (enough_past p t config before enough)
-    (after_past p t config outer before next left k rest after))
-reach_from (first (core_module text) t) config consistent outer before spoken rest next left k readable stands formed l each enough after =
+    left k readable.1 stands.1 formed.1 (offered_past p t config outer before offered) (limits_past p t config outer before l)
+    each (enough_past p t config before enough) (after_past p t config outer before next left k rest after))
+reach_from (first (core_module text) t) config consistent outer before spoken rest next left k readable stands formed offered l each enough after =
     let p : Part = core_module text in
     let last = module_item config (record { outer = outer; inner = before }) (module_offered config outer before text
     (limits_front t config outer (add before p) (limits_past p t config outer before l))) in
     adds config outer before next left p last.0 (script_from t config outer (add before p)) rest last.1
-    (module_part config (record { outer = outer; inner = before }) (script_from t config outer (add before p) ++ rest) text readable.0 stands.0 formed.0
-    (part_limits p t config outer before l))
+    (module_part config (record { outer = outer; inner = before }) (script_from t config outer (add before p) ++ rest) text
+    readable.0 stands.0 formed.0 offered.0 (part_limits p t config outer before l))
     (reach_from t config consistent outer (add before p) (spoken_past config p (scopes_in outer) before readable.0 formed.0 spoken) rest next
-    left k readable.1 stands.1 formed.1 (limits_past p t config outer before l) each (enough_past p t config before enough)
-    (after_past p t config outer before next left k rest after))
-reach_from (first (component u) t) config consistent outer before spoken rest next left k readable stands formed l each enough after =
+    left k readable.1 stands.1 formed.1 (offered_past p t config outer before offered) (limits_past p t config outer before l)
+    each (enough_past p t config before enough) (after_past p t config outer before next left k rest after))
+reach_from (first (component u) t) config consistent outer before spoken rest next left k readable stands formed offered l each enough after =
     let p : Part = component u in
     let minima : AllByRecursion (Ends config) ((u ∷ inside u) ++ inside t) = each in
     let in_it : AllByRecursion (Ends config) (u ∷ inside u) = all_front (Ends config) (u ∷ inside u) (inside t) minima in
@@ -298,7 +303,8 @@ reach_from (first (component u) t) config consistent outer before spoken rest ne
     let su : List ℕ = script_from u config (outer ++ before ∷ []) ends in
     let choice : List ℕ = script_item config outer before Component in
     let m = reach_from t config consistent outer (add before p) (spoken_past config p (scopes_in outer) before readable.0 formed.0 spoken) rest
-    next left k readable.1 stands.1 formed.1 (limits_past p t config outer before l) (all_back (Ends config) (u ∷ inside u) (inside t) minima)
+    next left k readable.1 stands.1 formed.1 (offered_past p t config outer before offered) (limits_past p t config outer before l)
+    (all_back (Ends config) (u ∷ inside u) (inside t) minima)
     (enough_past p t config before enough) (after_past p t config outer before next left k rest after) in
     let here : Maxima config (tree_so_far outer (add before p)) = limits_front t config outer (add before p) (limits_past p t config outer before l) in
     let there : Maxima config (tree_so_far (outer ++ before ∷ []) u) = subst (Maxima config) (sym (tree_so_far-close outer before u)) here in
@@ -315,7 +321,8 @@ reach_from (first (component u) t) config consistent outer before spoken rest ne
           subst T (ap (λ z. building (record { outer = z; inner = add before p })) s.0 ∙ ap (λ z. building (record { outer = o; inner = add z p })) s.1 ∙ sym b)
           m.1
     ] in
-    let i = reach_from u config consistent (outer ++ before ∷ []) ends tt (st ++ rest) next left m.0 readable.0 deeper inner there in_it.1 in_it.0 back in
+    let i = reach_from u config consistent (outer ++ before ∷ []) ends tt (st ++ rest) next left m.0 readable.0 deeper inner
+    (offered_inside u config outer before offered.0) there in_it.1 in_it.0 back in
     let last = component_item config (record { outer = outer; inner = before }) (offered_from config outer before u here) in
     let now : Next = building (record { outer = outer; inner = before }) in
     let R : List ℕ → Type 0 = λ z. Turns config now z next left (suc i.0) in
@@ -339,7 +346,7 @@ pub reach : (config : Config) (plan : Tree) (rest : List ℕ) → IsConsistent c
     → (k : ℕ) × Turns config (building root) (script config plan ++ rest) (answered plan) rest k
 reach config plan rest consistent c finishable stands =
     let all : AllByRecursion (Ends config) (plan ∷ inside plan) = all_end config (plan ∷ inside plan) c.limits.minima finishable in
-    reach_from plan config consistent [] ends tt rest (answered plan) rest zero c.readable stands c.formed c.limits.maxima all.1 all.0
+    reach_from plan config consistent [] ends tt rest (answered plan) rest zero c.readable stands c.formed c.offered c.limits.maxima all.1 all.0
     (λ n d. elim d [ inl (x, y) ↦ (sym y, refl) | inr (o, p, x, y) ↦ absurd (not_empty o p (sym x)) ])
 
 -- Turns of a script by themselves.
@@ -370,38 +377,40 @@ module _ (config : Config) (consistent : IsConsistent config) (stack : Open) whe
       let formed = formed_front stack.inner p (scopes_in stack.outer) ends c.formed in
       let own : OwnLimits config (add stack.inner p) = all_inner (OwnLimits config) stack.outer (add stack.inner p) c.maxima.each in
       let spoken = spoken_in stack.inner config (scopes_in stack.outer) ends c.before formed.0 tt in
-      does p flat c.maxima c.readable stands formed.1 own spoken
+      does p flat c.maxima c.readable stands formed.1 c.offered own spoken
     where
       does : (p : Part) → ¬ (item_of p ≡ Component) → Maxima config (tree_so_far stack.outer (add stack.inner p))
-          → IsReadablePart config p stack.inner → PartStands config (suc (length stack.outer)) p → FormedPart p (scopes_in stack.outer) stack.inner → OwnLimits config (add stack.inner p)
+          → IsReadablePart config p stack.inner → PartStands config (suc (length stack.outer)) p → FormedPart p (scopes_in stack.outer) stack.inner
+          → OfferedPart p config (spaces_of stack.inner) (marked_in config stack.outer) (marked_inner config stack.outer stack.inner)
+          → OwnLimits config (add stack.inner p)
           → AllByRecursion Spoken (types_of stack.inner) → Turn config stack
           ((script_item config stack.outer stack.inner (item_of p) ++ script_part p config stack.outer stack.inner) ++ rest) (with_part stack p) rest
-      does (custom name contents) flat m readable stands formed own spoken =
-          let offered = custom_item config stack in
-          turn_of config stack Custom offered.0 _ rest _ offered.1 (custom_part config stack rest name contents readable stands formed own)
-      does (core_module text) flat m readable stands formed own spoken =
+      does (custom name contents) flat m readable stands formed offered own spoken =
+          let last = custom_item config stack in
+          turn_of config stack Custom last.0 _ rest _ last.1 (custom_part config stack rest name contents readable stands formed offered own)
+      does (core_module text) flat m readable stands formed offered own spoken =
           let last = module_item config stack (module_offered config stack.outer stack.inner text m) in
-          turn_of config stack Module last.0 _ rest _ last.1 (module_part config stack rest text readable stands formed own)
-      does (core_types ts) flat m readable stands formed own spoken =
-          let offered = core_types_item config stack in
-          turn_of config stack CoreTypes offered.0 _ rest _ offered.1
-          (core_types_part config stack rest consistent ts readable stands formed own)
-      does (component t) flat m readable stands formed own spoken = absurd (flat refl)
-      does (types ts) flat m readable stands formed own spoken =
-          let offered = types_item config stack in
-          turn_of config stack Types offered.0 _ rest _ offered.1
-          (types_part config stack rest consistent ts m readable stands formed own)
-      does (canons fs) flat m readable stands formed own spoken =
-          let offered = canons_item config stack in
-          turn_of config stack Canonical offered.0 _ rest _ offered.1
-          (canons_part config stack rest consistent spoken fs readable stands formed own)
-      does (imports is) flat m readable stands formed own spoken =
-          let offered = imports_item config stack in
-          turn_of config stack Imports offered.0 _ rest _ offered.1
-          (imports_part config stack rest consistent is m readable stands formed own)
-      does (exports es) flat m readable stands formed own spoken =
+          turn_of config stack Module last.0 _ rest _ last.1 (module_part config stack rest text readable stands formed offered own)
+      does (core_types ts) flat m readable stands formed offered own spoken =
+          let last = core_types_item config stack in
+          turn_of config stack CoreTypes last.0 _ rest _ last.1
+          (core_types_part config stack rest consistent ts readable stands formed offered own)
+      does (component t) flat m readable stands formed offered own spoken = absurd (flat refl)
+      does (types ts) flat m readable stands formed offered own spoken =
+          let last = types_item config stack in
+          turn_of config stack Types last.0 _ rest _ last.1
+          (types_part config stack rest consistent ts m readable stands formed offered own)
+      does (canons fs) flat m readable stands formed offered own spoken =
+          let last = canons_item config stack in
+          turn_of config stack Canonical last.0 _ rest _ last.1
+          (canons_part config stack rest consistent spoken fs readable stands formed offered own)
+      does (imports is) flat m readable stands formed offered own spoken =
+          let last = imports_item config stack in
+          turn_of config stack Imports last.0 _ rest _ last.1
+          (imports_part config stack rest consistent is m readable stands formed offered own)
+      does (exports es) flat m readable stands formed offered own spoken =
           let last = exports_item config stack readable.0 in
-          turn_of config stack Exports last.0 _ rest _ last.1 (exports_part config stack rest consistent es readable stands formed own)
+          turn_of config stack Exports last.0 _ rest _ last.1 (exports_part config stack rest consistent es readable stands formed offered own)
 
 pub opening_turn : (config : Config) (stack : Open) (rest : List ℕ) → is_component_offered config stack ≡ true
     → Turn config stack (script_item config stack.outer stack.inner Component ++ rest) (with_open stack) rest

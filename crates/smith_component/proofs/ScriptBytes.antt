@@ -7,14 +7,15 @@ use Rattle.smith_input.specs.Kebab.{Kebab}
 use Rattle.smith_input.specs.Loops.{Along}
 use Rattle.smith_input.specs.Script.{AreBytes, script_among}
 use Rattle.smith_input.proofs.Offered.{offers_few}
-use Rattle.smith_input.proofs.ScriptBytes.{Small, small_bytes, small_few, small_join, small_loop, small_new, small_pick, small_text, small_turns}
+use Rattle.smith_input.proofs.ScriptBytes.{Small, small_bytes, small_few, small_join, small_loop, small_new, small_pick, small_text}
 use Rattle.smith_format.specs.Consistency.{IsConsistent}
 use Rattle.smith_format.specs.Piece.{bytes}
 use Rattle.smith_format.specs.declared.config.Config.{Config}
 use Rattle.smith_format.proofs.Piece.{parts_are}
 use Rattle.smith_syntax.specs.Entries.{CoreEntry, Entry, function, ImportEntry}
 use Rattle.smith_syntax.specs.SameSignature.{same_signature_Decides}
-use Rattle.smith_syntax.specs.Scope.{Scope, with_core_type, with_type}
+use Rattle.smith_syntax.specs.Marked.{Marked, scope_in}
+use Rattle.smith_syntax.specs.Scope.{Scope}
 use Rattle.smith_syntax.specs.HasSignature.{is_of_signature}
 use Rattle.smith_syntax.specs.CoreLimits.{CoreLimits}
 use Rattle.smith_syntax.specs.TypeLimits.{EntryLimits}
@@ -32,7 +33,10 @@ use Rattle.smith_types.proofs.ScriptBytes.{small_extern, small_lifted, small_ref
 use Rattle.smith_tree.specs.CanonScript.{canon_item_of, script_canon, script_lift}
 use Rattle.smith_tree.specs.Grammar.{part, parts, preamble}
 use Rattle.smith_tree.specs.Limits.{OwnLimits}
-use Rattle.smith_tree.specs.Offers.{canon_items, canon_offers, is_scalar_entry, is_scalar_type, totals_of, with_exports, with_imports}
+use Rattle.smith_syntax.specs.WellFormed.{FormedRef}
+use Rattle.smith_tree.specs.Marking.{marked_in, marked_inner, with_core_entry, with_type_entry}
+use Rattle.smith_tree.specs.Offered.{OfferedImports}
+use Rattle.smith_tree.specs.Offers.{canon_items, canon_offers, is_scalar_entry, is_scalar_type, marked_with_imports, totals_of, with_exports, with_imports}
 use Rattle.smith_tree.specs.Open.{item_offers, items_with_input, Open, scopes_in}
 use Rattle.smith_tree.specs.Readable.{IsReadableRest}
 use Rattle.smith_tree.specs.Script.{item_of, script, script_export, script_from, script_import, script_item}
@@ -56,22 +60,31 @@ use Rattle.smith_component.proofs.Encoded.{Encoded, component_encoded, contents_
 use Rattle.smith_component.proofs.Named.{named_behind}
 use Rattle.smith_component.proofs.Plan.{Stands}
 use Rattle.smith_component.proofs.Planned.{plan_stands}
+use Rattle.smith_component.proofs.Marks.{OfferedRest, formed_core_marked, formed_marked, marked_core_types, marked_few, marked_types}
+use Rattle.smith_component.proofs.Marks.{offered_inside, offered_past}
 use Rattle.smith_component.proofs.PartsRead.{spoken_past}
-use Rattle.smith_component.proofs.Sound.{length-scopes_from, scopes_from-snoc}
+use Rattle.smith_component.proofs.ImportsState.{imports_marked, imports_marked_more, imports_scope}
+use Rattle.smith_component.proofs.Sound.{length-marked_from, marked_in-snoc, scopes_from-snoc}
 use Rattle.smith_component.proofs.Spaces.{all_at}
 use Rattle.smith_component.proofs.Tree.{function_count-add, join-add, join-ends, length-own-add, own-add, join}
 use Rattle.smith_component.proofs.ReadsCoreTypes as core_sections
 use Rattle.smith_component.proofs.ReadsTypes as type_sections
 
 -- Imports.
-small_imports : (config : Config) (stack : Open) → IsFew (scope_of stack.inner) → (is : List ImportEntry)
-    → AllByRecursion (FormedImport (scope_of stack.inner)) is → AllByRecursion Kebab (import_names is)
-    → AllByRecursion (λ x. (s : List ImportEntry) → Small (script_import config stack s x)) is
-small_imports config stack few [] f k = tt
-small_imports config stack few (x ∷ is) f k = (
-  λ s. small_join (small_ref config (scope_of stack.inner) (totals_of (with_imports stack s)) true false few x.to f.0.0) (small_extern (length (imports_of stack.inner) + length s) x.name k.0),
-  small_imports config stack few is f.1 k.1,
-)
+small_imports : (config : Config) (stack : Open) → length (types_of stack.inner) + length (core_types_of stack.inner) ≤ 2 ^ 64 → (s is : List ImportEntry)
+    → AllByRecursion (FormedImport (scope_of stack.inner)) is → AllByRecursion Kebab (import_names is) → OfferedImports is (marked_with_imports config stack s)
+    → Along (λ u x. Small (script_import config stack u x)) (λ u x. u ++ x ∷ []) s is
+small_imports config stack few s [] f k o = tt
+small_imports config stack few s (x ∷ is) f k o =
+    let own : Marked = marked_with_imports config stack s in
+    let same = imports_scope config stack s in
+    let ts : length own.types ≡ length (types_of stack.inner) = ap (λ (d : Scope). length d.types) same in
+    let cs : length own.core_types ≡ length (core_types_of stack.inner) = ap (λ (d : Scope). length d.core_types) same in
+    let formed : FormedRef (scope_in own) x.to = subst (λ d. FormedRef d x.to) (sym same) f.0.0 in (
+      small_join (small_ref config own (totals_of (with_imports stack s)) true false (omega (arith, few, ts, cs)) x.to formed o.0)
+          (small_extern (length (imports_of stack.inner) + length s) x.name k.0),
+      small_imports config stack few (s ++ x ∷ []) is f.1 k.1 (subst (OfferedImports is) (sym (imports_marked_more config stack s x)) o.2),
+    )
 
 -- Exports.
 
@@ -137,9 +150,10 @@ record Said (config : Config) (outer : List Tree) (before t : Tree) : Type 0 whe
   readable : IsReadableRest config t before
   stands : Stands config (suc (length outer)) t
   formed : Formed t (scopes_in outer) before
+  offered : OfferedRest config outer before t
   whole : OwnLimits config (join before t)
   each : AllByRecursion (OwnLimits config) (inside t)
-  around : AllByRecursion IsFew (scopes_in outer)
+  around : AllByRecursion IsFew (marked_in config outer)
   shallow : length outer + depth t ≤ 1000
   spelled : Encoded (parts t)
 
@@ -153,7 +167,7 @@ module _ (config : Config) (consistent : IsConsistent config) (outer : List Tree
   with_next : (p : Part) (t : Tree) → Said config outer before (first p t) → OwnLimits config (add before p)
   with_next p t said = own_front t config (add before p) (subst (OwnLimits config) (sym (join-add before p t)) said.whole)
 
-  few_here : (t : Tree) → Said config outer before t → IsFew (scope_of before)
+  few_here : (t : Tree) → Said config outer before t → length (types_of before) + length (core_types_of before) ≤ 2 ^ 64
   few_here t said = let o = own_front t config before said.whole in omega (arith, o.types, o.core_types, consistent.types)
 
   -- after one part more
@@ -165,6 +179,7 @@ module _ (config : Config) (consistent : IsConsistent config) (outer : List Tree
         readable = said.readable.1;
         stands = said.stands.1;
         formed = said.formed.1;
+        offered = offered_past p t config outer before said.offered;
         whole = subst (OwnLimits config) (sym (join-add before p t)) said.whole;
         each = all_back (OwnLimits config) (anywhere_in components_in p) (inside t) said.each;
         around = said.around;
@@ -184,9 +199,11 @@ module _ (config : Config) (consistent : IsConsistent config) (outer : List Tree
         readable = said.readable.0;
         stands = subst (λ n. Stands config (suc n) u) (sym longer) said.stands.0;
         formed = subst (λ ss. Formed u ss ends) (sym scopes) said.formed.0;
+        offered = offered_inside u config outer before said.offered.0;
         whole = in_it.0;
         each = in_it.1;
-        around = subst (AllByRecursion IsFew) (sym scopes) (few_here (first (component u) t) said, said.around);
+        around = subst (AllByRecursion IsFew) (sym (marked_in-snoc config outer before))
+            (marked_few config outer before (few_here (first (component u) t) said), said.around);
         shallow = omega (arith, said.shallow, longer);
         spelled = component_encoded u (z.left, z.p_is);
       }
@@ -207,34 +224,46 @@ module _ (config : Config) (consistent : IsConsistent config) (outer : List Tree
       let fits : Fits config (after_part (spaces_of before) (core_types ts)) = fits_behind config before (core_types ts) (with_next (core_types ts) t said) in
       let few : length (core_types_of before) + length ts ≤ config.max_types = omega (arith, fits.core_types, length-append (core_types_of before) ts) in
       let limited : AllByRecursion (CoreLimits config) ts = all_back _ (core_types_of before) ts fits.within_core_types in
-      small_said (λ s x. script_core config s config.max_type_size x) with_core_type (core_sections.Said config) one 0
-      (config.max_types - length (core_types_of before)) 0 (scope_of before) ts
-      (core_sections.all_said config ts (scope_of before) said.formed.0 limited said.stands.0 said.readable.0 (omega (arith, few, consistent.types)))
+      small_said (λ s x. script_core config (scope_in s) config.max_type_size x) with_core_entry (core_sections.Said config) one 0
+      (config.max_types - length (core_types_of before)) 0 (marked_inner config outer before) ts
+      (core_sections.all_said config ts (marked_inner config outer before) (formed_core_marked config outer before ts said.formed.0) limited said.stands.0
+      said.readable.0 (omega (arith, few, consistent.types, ap length (marked_core_types config outer before))))
     where
-      one : (s : Scope) (x : CoreEntry) → core_sections.Said config s x → Small (script_core config s config.max_type_size x)
-      one s x (formed, limits, lasts, readable, small) = small_core config s config.max_type_size x formed limits readable lasts small
+      one : (s : Marked) (x : CoreEntry) → core_sections.Said config s x → Small (script_core config (scope_in s) config.max_type_size x)
+      one s x (formed, limits, lasts, readable, small) = small_core config (scope_in s) config.max_type_size x formed limits readable lasts small
 
   small_type_part : (ts : List Entry) (t : Tree) → Said config outer before (first (types ts) t) → Small (script_part (types ts) config outer before)
   small_type_part ts t said =
       let fits : Fits config (after_part (spaces_of before) (types ts)) = fits_behind config before (types ts) (with_next (types ts) t said) in
       let few : length (types_of before) + length ts ≤ config.max_types = omega (arith, fits.types, length-append (types_of before) ts) in
       let limited : AllByRecursion (EntryLimits config) ts = all_back _ (types_of before) ts fits.within_types in
-      let count : length (scopes_in outer) ≡ length outer = omega (arith, length-scopes_from outer []) in
-      let lasts : AllByRecursion (λ e. Lasts e config (suc (length (scopes_in outer))) config.max_type_size) ts =
+      let around : List Marked = marked_in config outer in
+      let own : Marked = marked_inner config outer before in
+      let count : length around ≡ length outer = omega (arith, length-marked_from config outer []) in
+      let lasts : AllByRecursion (λ e. Lasts e config (suc (length around)) config.max_type_size) ts =
       subst (λ n. AllByRecursion (λ e. Lasts e config (suc n) config.max_type_size) ts) (sym count) said.stands.0 in
-      let can = type_sections.sayable config (scopes_in outer) said.around (omega (arith, said.shallow, count)) in
-      small_said (λ s e. script_type e config config.max_type_size s (scopes_in outer)) with_type (type_sections.Said config (scopes_in outer))
-      (λ s e h. record { are = type_bytes config s (scopes_in outer) config.max_type_size e consistent.nesting (can s e h) }) 0
-      (config.max_types - length (types_of before)) 0 (scope_of before) ts
-      (type_sections.all_said config (scopes_in outer) ts (scope_of before) said.formed.0 limited lasts said.readable.0 (omega (arith, few, fits.core_types, consistent.types)))
+      let can = type_sections.sayable config around said.around (omega (arith, said.shallow, count)) in
+      small_said (λ s e. script_type e config config.max_type_size s around) (with_type_entry around) (type_sections.Said config around)
+      (λ s e h. record { are = type_bytes config s around config.max_type_size e consistent.nesting (can s e h) }) 0
+      (config.max_types - length (types_of before)) 0 own ts
+      (type_sections.all_said config around ts own (formed_marked config outer before ts said.formed.0) said.offered.0 limited lasts said.readable.0
+      (omega (
+        arith,
+        few,
+        fits.core_types,
+        consistent.types,
+        ap length (marked_types config outer before),
+        ap length (marked_core_types config outer before),
+      )))
 
   small_import_part : (is : List ImportEntry) (t : Tree) → Said config outer before (first (imports is) t)
       → Small (script_part (imports is) config outer before)
   small_import_part is t said =
       let behind = named_behind (λ (i : ImportEntry). i.name) (imports_of before) is said.formed.0.1 in
       let stack : Open = record { outer = outer; inner = before } in
-      small_turns (script_import config stack) (λ s x. s ++ x ∷ []) 0 (config.max_imports - length (imports_of before)) 0 [] is
-      (small_imports config stack (few_here (first (imports is) t) said) is said.formed.0.0 behind.0)
+      small_loop (script_import config stack) (λ s x. s ++ x ∷ []) 0 (config.max_imports - length (imports_of before)) 0 [] is
+      (small_imports config stack (few_here (first (imports is) t) said) [] is said.formed.0.0 behind.0
+      (subst (OfferedImports is) (sym (imports_marked config stack [])) said.offered.0))
 
   small_canon_part : (fs : List Canon) (t : Tree) → Said config outer before (first (canons fs) t) → Small (script_part (canons fs) config outer before)
   small_canon_part fs t said =
@@ -293,6 +322,7 @@ plan_bytes config plan consistent w =
       readable = w.possible.readable;
       stands = plan_stands config plan w;
       formed = w.possible.formed;
+      offered = w.possible.offered;
       whole = m.each.0;
       each = m.each.1;
       around = tt;

@@ -1,5 +1,5 @@
 -- What the sections that a turn adds hold, and what they show.
-use Rattle.std.proofs.Common.{◌≡◌, ℕ, ◌+◌, List, [], ◌∷◌, ◌++◌, map, length, refl, sym, ap, ◌∙◌, subst, append-nil}
+use Rattle.std.proofs.Common.{◌≡◌, ℕ, ◌+◌, List, [], ◌∷◌, ◌++◌, map, length, drop, refl, sym, ap, ◌∙◌, subst, append-nil}
 use Rattle.std.proofs.lemmas.List.{length-map, map-append}
 use Rattle.std.specs.declared.alloc.Global.{Global}
 use Rattle.std.specs.declared.rc.Rc.{Rc}
@@ -7,8 +7,7 @@ use Rattle.smith_input.specs.Loops.{Loop, Never, no_more, by_itself, an_item}
 use Rattle.smith_input.proofs.Loops.{loop_map}
 use Rattle.smith_format.specs.declared.config.Config.{Config}
 use Rattle.smith_syntax.specs.Entries.{ImportEntry}
-use Rattle.smith_syntax.specs.Scope.{Scope}
-use Rattle.smith_syntax.specs.Places.{own_of, outer_of}
+use Rattle.smith_syntax.specs.Marked.{Marked, first_marked}
 use Rattle.smith_syntax.specs.Shown.{full_type, import_shown, shown_shared, shown_shared_core}
 use Rattle.smith_syntax.specs.WellFormed.{names}
 use Rattle.smith_syntax.specs.declared.core_types.CoreType.{CoreType}
@@ -39,24 +38,24 @@ use Rattle.smith_component.proofs.Tree.{no_functions_in}
 
 -- What is read of types and core types is read of what they show.
 
-pub types_shown : (config : Config) (outer : List Scope) {min max : ℕ} {own next : Scope} {b rest : List ℕ} {ts : List (Rc DefType Global)}
+pub types_shown : (config : Config) (outer : List Marked) {min max : ℕ} {own next : Marked} {b rest : List ℕ} {ts : List (Rc DefType Global)}
     → Loop Never (ReadsTypeValue config outer) min max 0 own b ts rest next → ReadsTypes config outer min max own b (map shown_shared ts) rest next
 types_shown config outer {own = own} {next = next} {b = b} {rest = rest} {ts = ts} r =
     loop_map shown_shared (λ s c t q u (left, made, e). (record { full = full_type t.value; left = left; made = made; shown = refl }, e)) 0 own b ts rest next r
 
-pub core_types_shown : (config : Config) {max : ℕ} {own next : Scope} {b rest : List ℕ} {ts : List (Rc CoreType Global)}
+pub core_types_shown : (config : Config) {max : ℕ} {own next : Marked} {b rest : List ℕ} {ts : List (Rc CoreType Global)}
     → Loop Never (ReadsCoreTypeValue config) 0 max 0 own b ts rest next → ReadsCoreTypes config max own b (map shown_shared_core ts) rest next
 core_types_shown config {own = own} {next = next} {b = b} {rest = rest} {ts = ts} r =
     loop_map shown_shared_core (λ s c t q u (reads, kept). reads) 0 own b ts rest next r
 
 -- the same entries where the scopes and the room are known by equations
-pub entries_where : {A : Type 0} (R : List Scope → Scope → List ℕ → A → List ℕ → Scope → Type 0) (scopes outer : List Scope) (own : Scope) (max room : ℕ)
-    {min : ℕ} {next : Scope} {b rest : List ℕ} {xs : List A}
-    → scopes ≡ own ∷ outer → max ≡ room → Loop Never (R (outer_of scopes)) min max 0 (own_of scopes) b xs rest next
+pub entries_where : {A : Type 0} (R : List Marked → Marked → List ℕ → A → List ℕ → Marked → Type 0) (scopes outer : List Marked) (own : Marked) (max room : ℕ)
+    {min : ℕ} {next : Marked} {b rest : List ℕ} {xs : List A}
+    → scopes ≡ own ∷ outer → max ≡ room → Loop Never (R (drop 1 scopes)) min max 0 (first_marked scopes) b xs rest next
     → Loop Never (R outer) min room 0 own b xs rest next
 entries_where R scopes outer own max room {min} {next} {b} {rest} {xs} e m r =
     let P : ℕ → Type 0 = λ n. Loop Never (R outer) min n 0 own b xs rest next in
-    let Q : List Scope → Type 0 = λ ss. Loop Never (R (outer_of ss)) min max 0 (own_of ss) b xs rest next in
+    let Q : List Marked → Type 0 = λ ss. Loop Never (R (drop 1 ss)) min max 0 (first_marked ss) b xs rest next in
     subst P m (subst Q e r)
 
 -- The names of a component's imports.

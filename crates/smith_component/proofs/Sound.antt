@@ -6,6 +6,7 @@ use Rattle.std.proofs.lemmas.List.Concat.{flat_map-append}
 use Rattle.smith_format.specs.declared.config.Config.{Config}
 use Rattle.smith_syntax.specs.CoreLimits.{CoreLimits}
 use Rattle.smith_syntax.specs.Entries.{Entry, CoreEntry}
+use Rattle.smith_syntax.specs.Marked.{Marked}
 use Rattle.smith_syntax.specs.Scope.{Scope}
 use Rattle.smith_syntax.specs.TypeLimits.{EntryLimits}
 use Rattle.smith_tree.specs.TypeNeeds.{declaring}
@@ -15,7 +16,8 @@ use Rattle.smith_tree.specs.Tree.{components_in}
 use Rattle.smith_tree.specs.Tree.{modules_in, imported_modules_in, imported_components_in, imported_instances_in, anywhere_in, no_depth}
 use Rattle.smith_tree.specs.Depths.{depth_in, declared_depth_in}
 use Rattle.smith_tree.specs.Tree.{module_count, component_count, instance_count, most}
-use Rattle.smith_tree.specs.Open.{Open, tree_so_far, is_module_offered, is_component_offered, scopes_in, scopes_from, with_inner}
+use Rattle.smith_tree.specs.Marking.{marked_from, marked_in, marked_inner, marked_of}
+use Rattle.smith_tree.specs.Open.{Open, tree_so_far, is_module_offered, is_component_offered, scopes_from, scopes_in, with_inner}
 use Rattle.smith_component.specs.Turn.{building, Closes}
 use Rattle.smith_tree.specs.WellFormed.{FormedPart, WellFormed, scope_of}
 use Rattle.smith_tree.specs.Limits.{max_depth, SmallTypes, SmallCoreTypes, OwnSizes, Sized, OwnLimits, Maxima, Minima, Limits}
@@ -205,14 +207,15 @@ addable_bare config stack p f q ns ms cs is none flat level = record {
 pub addable_custom : (config : Config) (stack : Open) (name contents : List ℕ) → length name ≤ 1000 → IsAddable config stack (custom name contents)
 addable_custom config stack name contents short =
     addable_bare config stack (custom name contents) tt
-    (record { spaces = λ s. refl; imports = refl; canons = refl; exports = refl }) (short, tt) (λ h. omega (arith, h))
+    (record { spaces = λ s. refl; marked = λ s outer own. refl; imports = refl; canons = refl; exports = refl }) (short, tt) (λ h. omega (arith, h))
     refl refl refl refl refl
 
 pub addable_module : (config : Config) (stack : Open) (text : List ℕ) → module_count (tree_so_far stack.outer stack.inner) < config.max_modules
     → IsAddable config stack (core_module text)
 addable_module config stack text few =
     addable_bare config stack (core_module text) tt
-    (record { spaces = λ s. refl; imports = refl; canons = refl; exports = refl }) tt (λ h. omega (arith, few)) refl refl refl refl refl
+    (record { spaces = λ s. refl; marked = λ s outer own. refl; imports = refl; canons = refl; exports = refl }) tt (λ h. omega (arith, few))
+    refl refl refl refl refl
 
 -- A part without modules, components and instances, which counts in its component alone.
 pub addable_level : (config : Config) (stack : Open) (p : Part) → FormedPart p (scopes_in stack.outer) stack.inner
@@ -302,13 +305,28 @@ pub length-scopes_from : (us : List Tree) (outer : List Scope) → length (scope
 length-scopes_from [] outer = omega arith
 length-scopes_from (u ∷ us) outer = omega (arith, length-scopes_from us (scope_of u ∷ outer))
 
--- As many scopes stand as components are open, at most 1000.
-pub scopes_few : (config : Config) (stack : Open) (scopes : List Scope) → Sound config stack → scopes ≡ scope_of stack.inner ∷ scopes_in stack.outer
-    → length scopes ≤ 1000
-scopes_few config stack scopes s e =
-    omega (arith, ap length e, length-scopes_from stack.outer [], depth-outer no_depth stack.outer stack.inner, s.maxima.depth, s.consistent.nesting)
+-- the same with what is kept
 
-pub same_tail : (s t : Scope) (ss ts : List Scope) → s ∷ ss ≡ t ∷ ts → ss ≡ ts
+pub marked_from-snoc : (config : Config) (us : List Tree) (u : Tree) (outer : List Marked)
+    → marked_from config (us ++ u ∷ []) outer ≡ marked_of config (marked_from config us outer) u ∷ marked_from config us outer
+marked_from-snoc config [] u outer = refl
+marked_from-snoc config (v ∷ us) u outer = marked_from-snoc config us u (marked_of config outer v ∷ outer)
+
+-- those of the components around, where the inner one is opened, and a component in it
+pub marked_in-snoc : (config : Config) (us : List Tree) (u : Tree) → marked_in config (us ++ u ∷ []) ≡ marked_inner config us u ∷ marked_in config us
+marked_in-snoc config us u = marked_from-snoc config us u []
+
+pub length-marked_from : (config : Config) (us : List Tree) (outer : List Marked) → length (marked_from config us outer) ≡ length us + length outer
+length-marked_from config [] outer = omega arith
+length-marked_from config (u ∷ us) outer = omega (arith, length-marked_from config us (marked_of config outer u ∷ outer))
+
+-- As many scopes stand as components are open, at most 1000.
+pub scopes_few : (config : Config) (stack : Open) (scopes : List Marked) → Sound config stack
+    → scopes ≡ marked_inner config stack.outer stack.inner ∷ marked_in config stack.outer → length scopes ≤ 1000
+scopes_few config stack scopes s e =
+    omega (arith, ap length e, length-marked_from config stack.outer [], depth-outer no_depth stack.outer stack.inner, s.maxima.depth, s.consistent.nesting)
+
+pub same_tail : (s t : Marked) (ss ts : List Marked) → s ∷ ss ≡ t ∷ ts → ss ≡ ts
 same_tail s t ss ts e = cc
 
 -- What is true of a root that stands alone, when it has enough.

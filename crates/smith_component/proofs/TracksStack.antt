@@ -3,9 +3,17 @@ use Rattle.std.proofs.Common.{◌≡◌, ℕ, List, [], ◌∷◌, arith, ap, sy
 use Rattle.std.specs.List.{flat_map}
 use Rattle.smith_input.proofs.Loops.{loop_gives}
 use Rattle.smith_format.specs.declared.config.Config.{Config}
+use Rattle.smith_format.specs.declared.types.ValType.{ValType}
+use Rattle.smith_scopes.specs.Scopes.{Contents, inward_marked, own_scope}
+use Rattle.smith_scopes.proofs.Stack.{own_scope_is}
+use Rattle.smith_syntax.specs.Marked.{first_marked, scope_in}
 use Rattle.smith_syntax.specs.Entries.{Signature, function}
 use Rattle.smith_component.specs.Canonicals.{CanonTurn, Growing, LiftsTo, ReadsCanons, empty_section, given_up, grown, to_defined, to_equal}
-use Rattle.smith_component.specs.Sound.{Totalled}
+use Rattle.smith_component.specs.Sound.{Totalled, TracksStack}
+use Rattle.smith_tree.specs.Marking.{marked_in}
+use Rattle.smith_tree.specs.Open.{Open}
+use Rattle.smith_tree.specs.WellFormed.{scope_of}
+use Rattle.smith_tree.proofs.Marking.{scope_marked}
 use Rattle.smith_tree.specs.Spaces.{after_part, spaces_of, types_of}
 use Rattle.smith_tree.specs.Functions.{core_functions_of, functions_of}
 use Rattle.smith_tree.specs.Tree.{Tree, Part, types, canons, add, module_of, component_of, instance_of}
@@ -20,6 +28,12 @@ use Rattle.smith_component.proofs.Growth.{extends-add, spaces-add}
 use Rattle.smith_component.proofs.Sound.{totalled_part}
 use Rattle.smith_component.proofs.Tables.{own_bare, tabled_types}
 use Rattle.smith_component.proofs.Tree.{function_count-add, functions_in}
+
+-- The last scope by itself is that of the inner component.
+pub tracked_own : {config : Config} {valtypes : List ValType} {totals : TreeTotals} {stack : Open} (scopes : List Contents)
+    → TracksStack config valtypes (inward_marked scopes) totals stack → own_scope scopes ≡ scope_of stack.inner
+tracked_own {config} {stack = stack} scopes t =
+    own_scope_is scopes ∙ (ap (λ ss. scope_in (first_marked ss)) t.scopes_are ∙ scope_marked config (marked_in config stack.outer) stack.inner)
 
 -- A part without functions leaves the tables as they are.
 pub tabled_added : {tables : Tables} (t new : Tree) (p : Part) → new ≡ add t p → (after_part (spaces_of t) p).functions ≡ functions_of t

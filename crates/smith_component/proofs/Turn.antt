@@ -113,7 +113,7 @@ does_tail config Imports stack next b r (t, a, c) = adds_tail counted.Imports co
 does_tail config Canonical stack next b r (t, a, c) = adds_tail counted.Functions config 0 stack b t r a
 does_tail config Module stack next b r (parts, read, c) = stand_in_tail config b parts r read
 does_tail config Component stack next b r (d, c) = tail_is d
-does_tail config Exports stack next b r (es, read, c) = exports_tail config stack.inner read
+does_tail config Exports stack next b r (es, read, c) = exports_tail config stack.outer stack.inner read
 
 -- How many components are open after an item.
 does_depth : (config : Config) (item : Item) (stack next : Open) (b r : List ℕ) → (item ≡ Component → is_component_offered config stack ≡ true)
@@ -178,7 +178,25 @@ finish_offered config stack x xs after r =
       λ h e. h,
       (
         λ h e. absurd (cc),
-        (λ h e. absurd (cc), (λ h e. absurd (cc), (λ h e. absurd (cc), (λ h e. absurd (cc), (λ h e. absurd (cc), (λ h e. absurd (cc), (λ h e. absurd (cc), tt))))))),
+        (
+          λ h e. absurd (cc),
+          (
+            λ h e. absurd (cc),
+            (
+              λ h e. absurd (cc),
+              (
+                λ h e. absurd (cc),
+                (
+                  λ h e. absurd (cc),
+                  (
+                    λ h e. absurd (cc),
+                    (λ h e. absurd (cc), tt),
+                  ),
+                ),
+              ),
+            ),
+          ),
+        ),
       ),
     ) in
     offer_holds P (item_offers config stack) all r.place Finish r.named refl

@@ -6,13 +6,13 @@ use Rattle.smith_format.specs.declared.config.Config.{Config}
 use Rattle.smith_syntax.specs.Entries.{Entry, CoreEntry, ImportEntry}
 use Rattle.smith_types.specs.Made.{MadeWith}
 use Rattle.smith_core_types.specs.MadeCore.{MadeCore}
-use Rattle.smith_syntax.specs.Scope.{Scope, with_type, with_core_type}
+use Rattle.smith_syntax.specs.Marked.{Marked, scope_in}
 use Rattle.smith_tree.specs.Spaces.{types_of}
 use Rattle.smith_tree.specs.Tree.{Tree, types, imports, add}
 use Rattle.smith_component.specs.Canonicals.{Growing, ReadsCanons, grown}
 use Rattle.smith_component.specs.Imports.{ReadsImports}
-use Rattle.smith_tree.specs.Open.{Open, scopes_in}
-use Rattle.smith_tree.specs.WellFormed.{scope_of}
+use Rattle.smith_tree.specs.Marking.{marked_in, marked_inner, with_core_entry, with_type_entry}
+use Rattle.smith_tree.specs.Open.{Open}
 use Rattle.smith_tree.specs.declared.choices.CanonItem.{CanonItem}
 use Rattle.smith_component.specs.declared.item.Counted.{Counted}
 use Rattle.smith_component.specs.declared.item.Counted.TheVariants as counted
@@ -22,19 +22,20 @@ abbrev pub ReadsCustom : List ℕ → List ℕ → List ℕ → List ℕ → Typ
 ReadsCustom b name contents rest = (mid : List ℕ) × ReadsText 1000 b name mid × ReadsBytes mid contents rest
 
 -- A type of a type section, with fresh fuel. It stands in the scopes that the types before it leave.
-abbrev pub ReadsType : Config → List Scope → Scope → List ℕ → Entry → List ℕ → Scope → Type 0
-ReadsType config outer own b x rest next = MadeWith config own outer config.max_type_size b x rest × (next ≡ with_type own x)
+abbrev pub ReadsType : Config → List Marked → Marked → List ℕ → Entry → List ℕ → Marked → Type 0
+ReadsType config outer own b x rest next = MadeWith config own outer config.max_type_size b x rest × (next ≡ with_type_entry outer own x)
 
 -- at least and at most so many types, which lead from one scope to another
-abbrev pub ReadsTypes : Config → List Scope → ℕ → ℕ → Scope → List ℕ → List Entry → List ℕ → Scope → Type 0
+abbrev pub ReadsTypes : Config → List Marked → ℕ → ℕ → Marked → List ℕ → List Entry → List ℕ → Marked → Type 0
 ReadsTypes config outer min max own b xs rest next = Loop Never (ReadsType config outer) min max 0 own b xs rest next
 
 -- A core type of a core type section, with fresh fuel. It stands in the scope that the core types before it leave.
-abbrev pub ReadsCoreType : Config → Scope → List ℕ → CoreEntry → List ℕ → Scope → Type 0
-ReadsCoreType config own b x rest next = (left : ℕ) × MadeCore config own b config.max_type_size x rest left × (next ≡ with_core_type own x)
+abbrev pub ReadsCoreType : Config → Marked → List ℕ → CoreEntry → List ℕ → Marked → Type 0
+ReadsCoreType config own b x rest next =
+    (left : ℕ) × MadeCore config (scope_in own) b config.max_type_size x rest left × (next ≡ with_core_entry own x)
 
 -- at most so many core types, which lead from one scope to another
-abbrev pub ReadsCoreTypes : Config → ℕ → Scope → List ℕ → List CoreEntry → List ℕ → Scope → Type 0
+abbrev pub ReadsCoreTypes : Config → ℕ → Marked → List ℕ → List CoreEntry → List ℕ → Marked → Type 0
 ReadsCoreTypes config max own b xs rest next = Loop Never (ReadsCoreType config) 0 max 0 own b xs rest next
 
 -- What the sections with a minimum do on the bytes b, where at least so many are to be added: they lead to the inner component t.
@@ -42,8 +43,8 @@ ReadsCoreTypes config max own b xs rest next = Loop Never (ReadsCoreType config)
 -- a type section, with at most as many types as the component may still have
 abbrev pub AddsTypes : Config → ℕ → Open → List ℕ → Tree → List ℕ → Type 0
 AddsTypes config min stack b t rest =
-    (xs : List Entry) × (scope : Scope) × ReadsTypes config (scopes_in stack.outer) min (config.max_types - length (types_of stack.inner))
-    (scope_of stack.inner) b xs rest scope
+    (xs : List Entry) × (scope : Marked) × ReadsTypes config (marked_in config stack.outer) min (config.max_types - length (types_of stack.inner))
+    (marked_inner config stack.outer stack.inner) b xs rest scope
     × (t ≡ add stack.inner (types xs))
 
 -- an import section

@@ -1,7 +1,7 @@
 -- A builder's fields, and what is true of them.
 use Rattle.std.specs.Prelude.{◌∷◌, map}
 use Rattle.std.specs.List.{AllByRecursion}
-use Rattle.smith_scopes.specs.Scopes.{inward}
+use Rattle.smith_scopes.specs.Scopes.{inward_marked}
 use Rattle.smith_component.specs.Building.{Building, open_of}
 use Rattle.smith_component.specs.Sound.{TracksStack}
 use Rattle.smith_component.specs.Tables.{IsTabled}
@@ -16,4 +16,5 @@ abbrev pub stack_of : Progress → Open
 stack_of b = open_of (building_of b)
 
 abbrev pub IsSound : Progress → Type 0
-IsSound b = TracksStack b.config b.valtypes.items (inward b.scopes) b.totals (open_of (building_of b)) × AllByRecursion IsTabled (b.inner ∷ b.outer.items)
+IsSound b =
+    TracksStack b.config b.valtypes.items (inward_marked b.scopes) b.totals (open_of (building_of b)) × AllByRecursion IsTabled (b.inner ∷ b.outer.items)

@@ -8,12 +8,13 @@ use Rattle.smith_syntax.specs.Entries.{Signature, function}
 use Rattle.smith_syntax.specs.Flat.{Flattens, is_scalar}
 use Rattle.smith_syntax.specs.Scope.{Scope}
 use Rattle.smith_types.specs.Lifting.{ReadsLiftedType}
-use Rattle.smith_scopes.specs.Scopes.{Contents, outer_scopes, own_scope}
+use Rattle.smith_scopes.specs.Scopes.{Contents, outer_marked, own_marked}
 use Rattle.smith_component.specs.Canonicals.{CanonTurn, Growing, NoCanon, grown}
 use Rattle.smith_component.specs.SectionValues.{externs_of}
 use Rattle.smith_component.specs.Shown.{shown_canon, shown_sections}
 use Rattle.smith_component.specs.Tables.{Tabled}
-use Rattle.smith_tree.specs.WellFormed.{scope_of}
+use Rattle.smith_tree.specs.Marking.{marked_inner}
+use Rattle.smith_tree.specs.Tree.{Tree}
 use Rattle.smith_component.specs.declared.builder.canonicals.CanonicalDraft.{CanonicalDraft}
 use Rattle.smith_component.specs.declared.builder.open.OpenComponent.{OpenComponent}
 use Rattle.smith_component.specs.declared.builder.tables.Tables.{Tables}
@@ -27,9 +28,9 @@ abbrev pub growing : OpenComponent → List Func → Growing
 growing component funcs = record { before = shown_sections component.sections.items; funcs = map shown_canon funcs }
 
 -- The limits fit together, and the last scope and the tables are those of the component with that section.
-pub record CanonicalsState (config : Config) (scopes : List Contents) (component : OpenComponent) (funcs : List Func) : Type 0 where
+pub record CanonicalsState (config : Config) (around : List Tree) (scopes : List Contents) (component : OpenComponent) (funcs : List Func) : Type 0 where
   pub consistent : IsConsistent config
-  pub scope_is : own_scope scopes ≡ scope_of (grown (growing component funcs))
+  pub scope_is : own_marked scopes ≡ marked_inner config around (grown (growing component funcs))
   pub tabled : Tabled component.tables (grown (growing component funcs))
 
 -- The sections that stood before stay in front, and nothing is imported.
@@ -43,8 +44,11 @@ pub record KeepsFront (old new : OpenComponent) : Type 0 where
 abbrev pub draft_of : CanonicalDraft → Growing
 draft_of d = growing d.component.now d.funcs.now.items
 
+abbrev pub IsDraftIn : List Tree → CanonicalDraft → Type 0
+IsDraftIn around d = CanonicalsState d.config.now around d.scopes.now d.component.now d.funcs.now.items
+
 abbrev pub IsDraft : CanonicalDraft → Type 0
-IsDraft d = CanonicalsState d.config.now d.scopes.now d.component.now d.funcs.now.items
+IsDraft d = (around : List Tree) × IsDraftIn around d
 
 -- It still borrows what it borrowed.
 pub record SameLoans (old new : CanonicalDraft) : Type 0 where
@@ -55,9 +59,9 @@ pub record SameLoans (old new : CanonicalDraft) : Type 0 where
 
 -- It goes on after what stood before, in the same scopes.
 pub record DraftsOn (old new : CanonicalDraft) : Type 0 where
-  pub draft : IsDraft new
+  pub draft : (around : List Tree) → IsDraftIn around old → IsDraftIn around new
   pub front : KeepsFront old.component.now new.component.now
-  pub outer : outer_scopes new.scopes.now ≡ outer_scopes old.scopes.now
+  pub outer : outer_marked new.scopes.now ≡ outer_marked old.scopes.now
   pub depth : length new.scopes.now ≡ length old.scopes.now
 
 -- what a turn is among, by the tables

@@ -4,7 +4,7 @@ use Rattle.smith_format.specs.Limits.{configured}
 use Rattle.smith_format.specs.Consistency.{IsConsistent}
 use Rattle.smith_format.specs.declared.config.Config.{Config}
 use Rattle.smith_format.specs.declared.types.ValType.{ValType}
-use Rattle.smith_scopes.specs.Scopes.{Contents, outer_scopes}
+use Rattle.smith_scopes.specs.Scopes.{Contents, outer_marked}
 use Rattle.smith_component.specs.declared.builder.Progress.{Progress}
 
 -- Types can be read: the limits fit together, the value types are those that they allow, and there are few scopes.
@@ -16,5 +16,5 @@ pub record CanReadTypes (config : Config) (valtypes : List ValType) (scopes : Li
 -- The scopes alone have changed, and those around the innermost one are as they were.
 pub record GrowsScope (old new : Progress) : Type 0 where
   pub only : new ≡ record old { scopes = new.scopes }
-  pub outer : outer_scopes new.scopes ≡ outer_scopes old.scopes
+  pub outer : outer_marked new.scopes ≡ outer_marked old.scopes
   pub depth : length new.scopes ≡ length old.scopes

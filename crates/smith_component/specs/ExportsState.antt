@@ -1,22 +1,23 @@
 -- An export section as the program makes it.
 use Rattle.std.specs.Prelude.{◌≡◌, ℕ, List, ◌∷◌, [], ◌++◌, Option, Some, None}
-use Rattle.smith_syntax.specs.Scope.{Scope}
+use Rattle.smith_format.specs.declared.config.Config.{Config}
+use Rattle.smith_syntax.specs.Marked.{Marked}
 use Rattle.smith_component.specs.Exports.{NoExport, ReadsExport}
 use Rattle.smith_tree.specs.Offers.{with_exports}
 use Rattle.smith_component.specs.Shown.{shown_export}
 use Rattle.smith_component.specs.Tables.{Tabled}
 use Rattle.smith_tree.specs.Tree.{ExportEntry, Tree}
-use Rattle.smith_tree.specs.WellFormed.{scope_of}
+use Rattle.smith_tree.specs.Marking.{marked_inner}
 use Rattle.smith_component.specs.declared.builder.tables.Tables.{Tables}
 use Rattle.smith_component.specs.declared.component.Export.{Export}
 
 -- The scope and the tables are those of the component, where a section has these exports.
-pub record ExportsState (t : Tree) (es : List ExportEntry) (own : Scope) (tables : Tables) : Type 0 where
-  pub scope_is : own ≡ scope_of t
+pub record ExportsState (config : Config) (outer : List Tree) (t : Tree) (es : List ExportEntry) (own : Marked) (tables : Tables) : Type 0 where
+  pub scope_is : own ≡ marked_inner config outer (with_exports t es)
   pub tabled : Tabled tables (with_exports t es)
 
 -- an export that is read and added, or none
-abbrev pub ExportsOne : Tree → List ExportEntry → Scope → Tables → List ℕ → Option Export → List ℕ → Type 0
-ExportsOne t es own tables b None rest = NoExport t es b rest es × ExportsState t es own tables
-ExportsOne t es own tables b (Some e) rest =
-    ReadsExport t es b (shown_export e) rest (es ++ shown_export e ∷ []) × ExportsState t (es ++ shown_export e ∷ []) own tables
+abbrev pub ExportsOne : Config → List Tree → Tree → List ExportEntry → Marked → Tables → List ℕ → Option Export → List ℕ → Type 0
+ExportsOne config outer t es own tables b None rest = NoExport config outer t es b rest es × ExportsState config outer t es own tables
+ExportsOne config outer t es own tables b (Some e) rest =
+    ReadsExport config outer t es b (shown_export e) rest (es ++ shown_export e ∷ []) × ExportsState config outer t (es ++ shown_export e ∷ []) own tables

@@ -1,9 +1,11 @@
 -- Where what lacks of the minima can be filled, whatever the input.
-use Rattle.std.specs.Prelude.{ℕ, ◌+◌, ◌-◌, ◌<◌, ◌≤◌, ◌⊎◌, length}
+use Rattle.std.specs.Prelude.{◌≡◌, ℕ, ◌+◌, ◌-◌, ◌*◌, ◌<◌, ◌≤◌, ◌⊎◌, true, List, length}
 use Rattle.smith_format.specs.declared.config.Config.{Config}
-use Rattle.smith_syntax.specs.Scope.{is_func}
-use Rattle.smith_syntax.specs.Places.{places}
+use Rattle.smith_syntax.specs.Marks.{room_size, small_size}
+use Rattle.smith_tree.specs.Marking.{marked_inner}
 use Rattle.smith_tree.specs.Offers.{scalar_functions}
+use Rattle.smith_tree.specs.TypeOffers.{ref_places}
+use Rattle.smith_tree.specs.declared.choices.RefKind.TheVariants.{Func}
 use Rattle.smith_tree.specs.Spaces.{spaces_of, types_of}
 use Rattle.smith_tree.specs.Tree.{Tree, imports_of, function_count}
 
@@ -20,11 +22,12 @@ pub record HasEnough (config : Config) (t : Tree) : Type 0 where
   pub imports : config.min_imports ≤ length (imports_of t)
   pub functions : config.min_funcs ≤ function_count t
 
--- Imports alone lack, and functions may be imported for all of them.
-pub record CanImport (config : Config) (t : Tree) : Type 0 where
+-- Imports alone lack, and functions may be imported for all of them: the component has room for them too, if its size is kept.
+pub record CanImport (config : Config) (outer : List Tree) (t : Tree) : Type 0 where
   pub functions : config.min_funcs ≤ function_count t
-  pub has_type : 0 < length (places is_func 0 (types_of t))
+  pub has_type : 0 < length (ref_places (marked_inner config outer t) true Func)
   pub room : function_count t + missing_imports config t ≤ config.max_funcs
+  pub lasting : config.must_validate ≡ true → (marked_inner config outer t).size + missing_imports config t * small_size ≤ room_size + small_size
 
 -- Functions alone lack, one can be lowered, and there is room for the types that lifts define.
 pub record CanLower (config : Config) (t : Tree) : Type 0 where
@@ -34,5 +37,5 @@ pub record CanLower (config : Config) (t : Tree) : Type 0 where
   pub room : length (types_of t) + missing_functions config t ≤ config.max_types
 
 -- A component with these parts can be finished.
-abbrev pub CanFill : Config → Tree → Type 0
-CanFill config t = HasEnough config t ⊎ CanImport config t ⊎ CanLower config t
+abbrev pub CanFill : Config → List Tree → Tree → Type 0
+CanFill config outer t = HasEnough config t ⊎ CanImport config outer t ⊎ CanLower config t

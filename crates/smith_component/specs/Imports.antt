@@ -8,8 +8,8 @@ use Rattle.smith_types.specs.Declarations.{NamedExtern, ReadsNamedExtern}
 use Rattle.smith_types.specs.References.{ReadsRef}
 use Rattle.smith_tree.specs.Open.{Open}
 use Rattle.smith_tree.specs.Tree.{imports_of}
-use Rattle.smith_tree.specs.WellFormed.{scope_of, import_names}
-use Rattle.smith_tree.specs.Offers.{with_imports, totals_of, import_kinds}
+use Rattle.smith_tree.specs.WellFormed.{import_names}
+use Rattle.smith_tree.specs.Offers.{marked_with_imports, with_imports, totals_of, import_kinds}
 
 -- An import after these of its section: what it is of, a name that is new among the component's imports, and a URL or none, which is
 -- new among some of which a plain tree knows nothing.
@@ -18,7 +18,7 @@ pub record ReadsImport (config : Config) (stack : Open) (is : List ImportEntry) 
   pub mid : List ℕ
   pub so_far : List NamedExtern
   pub url : Option (List ℕ)
-  pub of : ReadsRef config (scope_of stack.inner) (totals_of (with_imports stack is)) true false bytes x.to mid
+  pub of : ReadsRef config (marked_with_imports config stack is) (totals_of (with_imports stack is)) true false bytes x.to mid
   pub names_are : names so_far ≡ import_names (imports_of stack.inner ++ is)
   pub named : ReadsNamedExtern so_far mid (x.name, url) rest
   pub next_is : next ≡ is ++ x ∷ []

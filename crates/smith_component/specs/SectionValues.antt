@@ -8,7 +8,7 @@ use Rattle.smith_input.specs.Loops.{Loop, Never}
 use Rattle.smith_format.specs.declared.config.Config.{Config}
 use Rattle.smith_core.specs.StandIn.{ReadsStandIn}
 use Rattle.smith_core.specs.declared.module.parts.ModuleParts.{ModuleParts}
-use Rattle.smith_syntax.specs.Scope.{Scope, with_type}
+use Rattle.smith_syntax.specs.Marked.{Marked}
 use Rattle.smith_syntax.specs.Shown.{full_type, import_shown, shown_shared, shown_shared_core, shown_url}
 use Rattle.smith_syntax.specs.declared.core_types.CoreType.{CoreType}
 use Rattle.smith_syntax.specs.declared.deftype.DefType.{DefType}
@@ -18,12 +18,12 @@ use Rattle.smith_types.specs.Declarations.{NamedExtern, ReadsNamedExtern}
 use Rattle.smith_types.specs.Made.{Made}
 use Rattle.smith_types.specs.References.{ReadsRef}
 use Rattle.smith_component.specs.Building.{Building, open_of}
-use Rattle.smith_tree.specs.Offers.{import_kinds, totals_of, with_imports}
-use Rattle.smith_tree.specs.Open.{Open, scopes_in}
+use Rattle.smith_tree.specs.Offers.{import_kinds, marked_with_imports, totals_of, with_imports}
+use Rattle.smith_tree.specs.Marking.{marked_in, marked_inner, with_type_entry}
+use Rattle.smith_tree.specs.Open.{Open}
 use Rattle.smith_tree.specs.Spaces.{core_types_of, types_of}
 use Rattle.smith_tree.specs.Tree.{imports_of}
 use Rattle.smith_component.specs.AddedSections.{ReadsCoreType}
-use Rattle.smith_tree.specs.WellFormed.{scope_of}
 use Rattle.smith_component.specs.declared.component.CoreTypeSection.{CoreTypeSection}
 use Rattle.smith_component.specs.declared.component.ImportSection.{ImportSection}
 use Rattle.smith_component.specs.declared.component.Section.{Section}
@@ -31,12 +31,12 @@ use Rattle.smith_component.specs.declared.component.Section.TheVariants.{Custom,
 use Rattle.smith_component.specs.declared.component.TypeSection.{TypeSection}
 
 -- A type of a type section as `ReadsType` says, URLs and what outer aliases keep included.
-abbrev pub ReadsTypeValue : Config → List Scope → Scope → List ℕ → Rc DefType Global → List ℕ → Scope → Type 0
+abbrev pub ReadsTypeValue : Config → List Marked → Marked → List ℕ → Rc DefType Global → List ℕ → Marked → Type 0
 ReadsTypeValue config outer own b t rest next =
-    (left : ℕ) × Made config own outer b config.max_type_size (full_type t.value) rest left × (next ≡ with_type own (shown_shared t))
+    (left : ℕ) × Made config own outer b config.max_type_size (full_type t.value) rest left × (next ≡ with_type_entry outer own (shown_shared t))
 
 -- A core type of a core type section. Each of its outer aliases keeps the function type that it names.
-abbrev pub ReadsCoreTypeValue : Config → Scope → List ℕ → Rc CoreType Global → List ℕ → Scope → Type 0
+abbrev pub ReadsCoreTypeValue : Config → Marked → List ℕ → Rc CoreType Global → List ℕ → Marked → Type 0
 ReadsCoreTypeValue config own b t rest next = ReadsCoreType config own b (shown_shared_core t) rest next × KeepsAliased own.core_types t.value
 
 -- the name of an import, and its URL or none
@@ -63,7 +63,8 @@ externs_of sections = flat_map externs_in sections
 pub record ReadsImportValue (config : Config) (stack : Open) (before : List NamedExtern) (is : List Import) (bytes : List ℕ) (x : Import) (rest : List ℕ)
     (next : List Import) : Type 0 where
   pub mid : List ℕ
-  pub of : ReadsRef config (scope_of stack.inner) (totals_of (with_imports stack (map import_shown is))) true false bytes x.ty mid
+  pub of : ReadsRef config (marked_with_imports config stack (map import_shown is)) (totals_of (with_imports stack (map import_shown is))) true false
+      bytes x.ty mid
   pub named : ReadsNamedExtern (before ++ map extern_of is) mid (extern_of x) rest
   pub next_is : next ≡ is ++ x ∷ []
 
@@ -76,18 +77,18 @@ NoImportValue config stack is bytes rest next = (import_kinds config stack (map 
 -- a type section of at least so many types
 pub record AddsTypeSection (config : Config) (min : ℕ) (old : Building) (b : List ℕ) (new : Building) (rest : List ℕ) : Type 0 where
   pub section : TypeSection
-  pub scope : Scope
+  pub scope : Marked
   pub added : new.inner ≡ old.inner ++ Types section ∷ []
-  pub reads : Loop Never (ReadsTypeValue config (scopes_in (open_of old).outer)) min (config.max_types - length (types_of (open_of old).inner)) 0
-      (scope_of (open_of old).inner) b section.types.items rest scope
+  pub reads : Loop Never (ReadsTypeValue config (marked_in config (open_of old).outer)) min (config.max_types - length (types_of (open_of old).inner)) 0
+      (marked_inner config (open_of old).outer (open_of old).inner) b section.types.items rest scope
 
 -- a core type section
 pub record AddsCoreTypeSection (config : Config) (old : Building) (b : List ℕ) (new : Building) (rest : List ℕ) : Type 0 where
   pub section : CoreTypeSection
-  pub scope : Scope
+  pub scope : Marked
   pub added : new.inner ≡ old.inner ++ CoreTypes section ∷ []
-  pub reads : Loop Never (ReadsCoreTypeValue config) 0 (config.max_types - length (core_types_of (open_of old).inner)) 0 (scope_of (open_of old).inner) b
-      section.types.items rest scope
+  pub reads : Loop Never (ReadsCoreTypeValue config) 0 (config.max_types - length (core_types_of (open_of old).inner)) 0
+      (marked_inner config (open_of old).outer (open_of old).inner) b section.types.items rest scope
 
 -- an import section of at least so many imports, unless nothing can be imported
 pub record AddsImportSection (config : Config) (min : ℕ) (old : Building) (b : List ℕ) (new : Building) (rest : List ℕ) : Type 0 where

@@ -5,14 +5,15 @@ use Rattle.smith_format.specs.Limits.{configured}
 use Rattle.smith_format.specs.Consistency.{IsConsistent}
 use Rattle.smith_format.specs.declared.config.Config.{Config}
 use Rattle.smith_format.specs.declared.types.ValType.{ValType}
-use Rattle.smith_syntax.specs.Scope.{Scope}
+use Rattle.smith_syntax.specs.Marked.{Marked}
+use Rattle.smith_tree.specs.Marking.{marked_after_part, marked_in, marked_inner}
 use Rattle.smith_tree.specs.Limits.{max_depth, OwnLimits, OwnSizes, Maxima, Minima, Sized}
 use Rattle.smith_tree.specs.Open.{Open, tree_so_far, scopes_in}
 use Rattle.smith_tree.specs.Spaces.{Spaces, after_part}
 use Rattle.smith_tree.specs.Tree.{Tree, Part, add, inside, module_count, component_count, instance_count, imports_in, modules_in, imported_modules_in}
 use Rattle.smith_tree.specs.Tree.{imported_components_in, imported_instances_in, anywhere_in, canons_in, components_in, exports_in}
 use Rattle.smith_tree.specs.Depths.{depth_in, declared_depth_in}
-use Rattle.smith_tree.specs.WellFormed.{WellFormed, FormedPart, scope_of}
+use Rattle.smith_tree.specs.WellFormed.{WellFormed, FormedPart}
 use Rattle.smith_component.specs.declared.builder.totals.TreeTotals.{TreeTotals}
 
 -- the components that are finished
@@ -36,10 +37,10 @@ pub record Totalled (totals : TreeTotals) (stack : Open) : Type 0 where
 
 -- The running totals are those of the tree so far, the scopes are those of the open components too, and the core value types those
 -- that the config allows.
-pub record TracksStack (config : Config) (valtypes : List ValType) (scopes : List Scope) (totals : TreeTotals) (stack : Open) : Type 0 where
+pub record TracksStack (config : Config) (valtypes : List ValType) (scopes : List Marked) (totals : TreeTotals) (stack : Open) : Type 0 where
   pub sound : Sound config stack
   pub valtypes_are : valtypes ≡ configured config
-  pub scopes_are : scopes ≡ scope_of stack.inner ∷ scopes_in stack.outer
+  pub scopes_are : scopes ≡ marked_inner config stack.outer stack.inner ∷ marked_in config stack.outer
   pub totalled : Totalled totals stack
 
 -- A part that may be added to the inner component: it is well formed there, no component, and within the limits where what stands
@@ -61,9 +62,10 @@ pub record IsAddable (config : Config) (stack : Open) (p : Part) : Type 0 where
   pub flat : depth_in p ≡ 1
   pub declared : length stack.outer + 1 ≤ max_depth config → length stack.outer + declared_depth_in p ≤ max_depth config
 
--- A part that leaves the index spaces as they are, and adds nothing that is counted in its component.
+-- A part that leaves the index spaces as they are and what is kept of them, and adds nothing that is counted in its component.
 pub record IsQuiet (p : Part) : Type 0 where
   pub spaces : (s : Spaces) → after_part s p ≡ s
+  pub marked : (s : Spaces) (outer : List Marked) (own : Marked) → marked_after_part p s outer own ≡ own
   pub imports : imports_in p ≡ []
   pub canons : canons_in p ≡ []
   pub exports : exports_in p ≡ []

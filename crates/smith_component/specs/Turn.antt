@@ -5,13 +5,13 @@ use Rattle.smith_core.specs.StandIn.{ReadsStandIn}
 use Rattle.smith_core.specs.declared.module.parts.ModuleParts.{ModuleParts}
 use Rattle.smith_format.specs.declared.config.Config.{Config}
 use Rattle.smith_syntax.specs.Entries.{CoreEntry}
-use Rattle.smith_syntax.specs.Scope.{Scope}
+use Rattle.smith_syntax.specs.Marked.{Marked}
 use Rattle.smith_tree.specs.Spaces.{core_types_of}
 use Rattle.smith_tree.specs.Tree.{Tree, Part, ends, custom, core_module, core_types, component, exports, add}
 use Rattle.smith_tree.specs.Tree.{ExportEntry}
 use Rattle.smith_tree.specs.Open.{Open, items, with_inner}
 use Rattle.smith_component.specs.Shown.{shown_module}
-use Rattle.smith_tree.specs.WellFormed.{scope_of}
+use Rattle.smith_tree.specs.Marking.{marked_inner}
 use Rattle.smith_component.specs.declared.item.Counted.{Counted}
 use Rattle.smith_component.specs.declared.item.Counted.TheVariants as counted
 use Rattle.smith_tree.specs.declared.choices.Item.{Item}
@@ -49,14 +49,15 @@ abbrev pub Does : Config → Item → Open → List ℕ → Next → List ℕ �
 Does config Finish stack b next rest = (full : Tree) × FillsAll config stack b full rest × Closes (with_inner stack full) next
 Does config Custom stack b next rest = (name contents : List ℕ) × ReadsCustom b name contents rest × (next ≡ with_part stack (custom name contents))
 Does config CoreTypes stack b next rest =
-    (xs : List CoreEntry) × (scope : Scope) × ReadsCoreTypes config (config.max_types - length (core_types_of stack.inner)) (scope_of stack.inner) b xs rest
-    scope × (next ≡ with_part stack (core_types xs))
+    (xs : List CoreEntry) × (scope : Marked)
+    × ReadsCoreTypes config (config.max_types - length (core_types_of stack.inner)) (marked_inner config stack.outer stack.inner) b xs rest scope
+    × (next ≡ with_part stack (core_types xs))
 Does config Types stack b next rest = AddsAny counted.Types config stack b next rest
 Does config Imports stack b next rest = AddsAny counted.Imports config stack b next rest
 Does config Canonical stack b next rest = AddsAny counted.Functions config stack b next rest
 Does config Module stack b next rest = (m : ModuleParts) × ReadsStandIn config b m rest × (next ≡ with_part stack (core_module (shown_module m)))
 Does config Component stack b next rest = (rest ≡ b) × (next ≡ with_open stack)
-Does config Exports stack b next rest = (es : List ExportEntry) × ReadsExports config stack.inner b es rest × (next ≡ with_part stack (exports es))
+Does config Exports stack b next rest = (es : List ExportEntry) × ReadsExports config stack.outer stack.inner b es rest × (next ≡ with_part stack (exports es))
 
 -- One turn leads from the open components and the bytes left to what comes next and the bytes left then: a choice names an item, and
 -- that is done.

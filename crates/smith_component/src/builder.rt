@@ -91,7 +91,7 @@ impl Progress {
             alloc,
             config,
             valtypes,
-            scopes: Scopes::new(alloc),
+            scopes: Scopes::with_marks(alloc, config.must_validate),
             outer: Vec::new(alloc),
             inner: OpenComponent::new(alloc),
             totals: TreeTotals {
@@ -165,7 +165,7 @@ impl Builder {
         ensures refuses { IfErr result (λ e. IsStepRefusal self.config (open_of self) u.old e u.new) }
         // The root is finished without memory where no input is left and it lacks nothing.
         ensures alone { IsReady self.config (open_of self) u.old → IsAnswered result }
-        ensures fills { CanFill self.config (open_of self).inner
+        ensures fills { CanFill self.config (open_of self).outer (open_of self).inner
             → IfErr result (λ e. ¬ (e ≡ Error.MinimumNotMet)) }
         ensures tail { IsTail u.new u.old }
     {

@@ -1,6 +1,6 @@
 //! Components and their bytes from input.
 
-ghost use Rattle.std.specs.Prelude.{◌≡◌, ℕ, List, ◌++◌, IfOk, IfErr, OnOk};
+ghost use Rattle.std.specs.Prelude.{◌≡◌, ℕ, List, ◌++◌, true, IfOk, IfErr, OnOk};
 ghost use Rattle.smith_input.specs.Reading.{IsTail};
 ghost use Rattle.smith_format.specs.Consistency.{IsConsistent};
 ghost use Rattle.smith_tree.specs.Generates.{Generates};
@@ -9,6 +9,7 @@ ghost use Rattle.smith_component.specs.Refusals.{IsGenerateRefusal};
 ghost use Rattle.smith_tree.specs.Grammar.{Spells};
 ghost use Rattle.smith_tree.specs.Script.{Within, script};
 ghost use Rattle.smith_tree.specs.Tree.{Tree};
+ghost use Rattle.smith_validity.specs.Validates.{Validates};
 
 use crate::component::Component;
 use smith_format::Config;
@@ -44,6 +45,9 @@ pub fn generate(alloc: Global, config: Config, u: &mut Unstructured) -> Result<G
     // It is answered, want of memory aside.
     ensures answers { (plan : Tree) (rest : List ℕ) → IsConsistent config → Within config plan
         → u.old ≡ script config plan ++ rest → IfErr result (λ e. e ≡ Error.OutOfMemory) }
+
+    // Where components must validate, it does.
+    ensures validates { config.must_validate ≡ true → IfOk result (λ g. Validates g.component) }
 
     ensures accepts { OnOk result (IsConsistent config) }
     ensures refuses { IfErr result (λ e. IsGenerateRefusal config u.old e u.new) }

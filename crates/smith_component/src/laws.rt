@@ -38,7 +38,7 @@ pub fn runs_are_decided()
 {}
 
 /// A run over any input leads to a component that is well formed, within the limits and within what its types may need,
-/// and that can be read.
+/// that can be read, and all of whose types, imports and exports were offered.
 pub fn runs_are_sound()
     ensures { (config : Config) (input : List ℕ) (tree : Tree) (left : List ℕ) → IsConsistent config
         → RunsTo config input tree left → CanBeGenerated config tree }
@@ -64,8 +64,8 @@ pub fn scripts_are_bytes()
 {}
 
 /// Exactly those components that have bytes are produced by some input that is followed by more, or by any where no
-/// number of sections is asked of components that are finished, that are well formed, within the limits, readable and of
-/// that number of sections.
+/// number of sections is asked of components that are finished, that are well formed, within the limits, readable and
+/// of that number of sections, and all of whose types, imports and exports are offered.
 pub fn components_are_exact()
     ensures { (config : Config) (tree : Tree) (b : List ℕ) → IsConsistent config → Spells tree b
         → ((input left : List ℕ) × AreBytes input × IsFollowed config left × RunsTo config input tree left)

@@ -1,10 +1,19 @@
 -- Which limits fit together, and which hold where none are given.
-use Rattle.std.specs.Prelude.{◌≡◌, ℕ, ◌+◌, ◌≤◌, true}
+use Rattle.std.specs.Prelude.{◌≡◌, ℕ, ◌+◌, ◌≤◌, true, false}
 use Rattle.smith_format.specs.declared.config.Config.{Config}
 
 -- the most that 32 bits hold
 abbrev pub max_u32 : ℕ
 max_u32 = 4294967295
+
+-- The counts are within the bounds of a validator: types and core types together, functions and exports together, and the others each.
+pub record AreCountsValid (config : Config) : Type 0 where
+  pub types : config.max_types ≤ 500000
+  pub funcs : config.max_funcs + config.max_exports ≤ 1000000
+  pub modules : config.max_modules ≤ 1000
+  pub components : config.max_components ≤ 1000
+  pub instances : config.max_instances ≤ 1000
+  pub memories : config.max_memories ≤ 100
 
 -- No minimum exceeds its maximum, what is counted in the written bytes fits 32 bits, and components nest at most 1000 deep.
 pub record IsConsistent (config : Config) : Type 0 where
@@ -18,6 +27,7 @@ pub record IsConsistent (config : Config) : Type 0 where
   pub components : config.max_components ≤ max_u32
   pub instances : config.max_instances ≤ max_u32
   pub nesting : config.max_nesting_depth ≤ 1000
+  pub valid : config.must_validate ≡ true → AreCountsValid config
 
 -- the limits that hold where none are given
 abbrev pub IsDefault : Config → Type 0
@@ -48,4 +58,5 @@ IsDefault c =
       max_nesting_depth = 10;
       max_type_size = 1000;
       finish_after = 0;
+      must_validate = false;
     }

@@ -1,6 +1,6 @@
 //! The limits of what is built.
 
-ghost use Rattle.std.specs.Prelude.{◌≡◌, ◌↔◌, IsOk, IfErr};
+ghost use Rattle.std.specs.Prelude.{◌≡◌, ◌↔◌, true, IsOk, IfErr};
 
 use smith_input::Error;
 
@@ -60,6 +60,9 @@ pub struct Config {
     /// How many sections a component has at least when the input finishes it. Where no input is left, it is finished
     /// whatever it has.
     pub finish_after: usize,
+    /// Whether a validator accepts each component: what it imports and exports is of types that it names, and effective
+    /// sizes and counts are below the bounds of wasmparser.
+    pub must_validate: bool,
 }
 
 impl Default for Config {
@@ -95,16 +98,30 @@ impl Default for Config {
             max_nesting_depth: 10,
             max_type_size: 1000,
             finish_after: 0,
+            must_validate: false,
         }
     }
 }
 
 impl Config {
-    ghost use Rattle.smith_format.specs.Consistency.{IsConsistent};
+    ghost use Rattle.smith_format.specs.Consistency.{AreCountsValid, IsConsistent};
+
+    // Are the counts within the bounds of a validator?
+    fn are_counts_valid(&self) -> bool
+        ensures { result ≡ true ↔ AreCountsValid self.now }
+    {
+        self.max_types <= 500_000
+            && self.max_funcs.saturating_add(self.max_exports) <= 1_000_000
+            && self.max_modules <= 1_000
+            && self.max_components <= 1_000
+            && self.max_instances <= 1_000
+            && self.max_memories <= 100
+    }
 
     /// Accepts limits that fit together: no minimum exceeds its maximum, counts that are written are at most
-    /// 4,294,967,295, those of functions and of exports together, and the nesting depth is at most 1000. Others are
-    /// refused with `InconsistentLimits`.
+    /// 4,294,967,295, those of functions and of exports together, and the nesting depth is at most 1000. Where components
+    /// must validate, there are at most 500,000 types, 1,000,000 functions and exports together, 1,000 modules, components
+    /// and instances each, and 100 memories. Others are refused with `InconsistentLimits`.
     pub fn check(&self) -> Result<(), Error>
         ensures accepts { IsOk result ↔ IsConsistent self.now }
         ensures refuses { IfErr result (λ e. e ≡ Error.InconsistentLimits) }
@@ -119,6 +136,9 @@ impl Config {
             || self.max_components > 0xffff_ffff
             || self.max_instances > 0xffff_ffff;
         if crossed || wide || self.max_nesting_depth > 1000 {
+            return Err(Error::InconsistentLimits);
+        }
+        if self.must_validate && !self.are_counts_valid() {
             return Err(Error::InconsistentLimits);
         }
         Ok(())

@@ -8,7 +8,7 @@ use Rattle.smith_limits.specs.declared.keys.Key.{Key}
 use Rattle.smith_limits.specs.declared.keys.Key.TheVariants.{MinTypes, MinImports, MinFuncs, MinMemories, MaxTypes, MaxImports, MaxFuncs}
 use Rattle.smith_limits.specs.declared.keys.Key.TheVariants.{MaxExports, MaxGlobals, MaxTables, MaxTags, MaxMemories, MaxModules, MaxComponents}
 use Rattle.smith_limits.specs.declared.keys.Key.TheVariants.{MaxInstances, MaxNestingDepth, MaxTypeSize, MultiValueEnabled, ExceptionsEnabled}
-use Rattle.smith_limits.specs.declared.keys.Key.TheVariants.{ReferenceTypesEnabled, SimdEnabled, AllowFloats, BulkMemoryEnabled, FinishAfter}
+use Rattle.smith_limits.specs.declared.keys.Key.TheVariants.{ReferenceTypesEnabled, SimdEnabled, AllowFloats, BulkMemoryEnabled, FinishAfter, MustValidate}
 
 -- its name
 abbrev pub name_of : Key → List ℕ
@@ -36,6 +36,7 @@ name_of SimdEnabled = codes "simd_enabled"
 name_of AllowFloats = codes "allow_floats"
 name_of BulkMemoryEnabled = codes "bulk_memory_enabled"
 name_of FinishAfter = codes "finish_after"
+name_of MustValidate = codes "must_validate"
 
 -- what it is, as a value of TOML
 abbrev pub value_of : Config → Key → Data
@@ -63,13 +64,14 @@ value_of c SimdEnabled = boolean c.simd_enabled
 value_of c AllowFloats = boolean c.allow_floats
 value_of c BulkMemoryEnabled = boolean c.bulk_memory_enabled
 value_of c FinishAfter = integer (pos c.finish_after)
+value_of c MustValidate = boolean c.must_validate
 
 -- all of them
 abbrev pub all_keys : List Key
 all_keys =
     MinTypes ∷ MinImports ∷ MinFuncs ∷ MinMemories ∷ MaxTypes ∷ MaxImports ∷ MaxFuncs ∷ MaxExports ∷ MaxGlobals ∷ MaxTables ∷ MaxTags ∷ MaxMemories ∷
     MaxModules ∷ MaxComponents ∷ MaxInstances ∷ MaxNestingDepth ∷ MaxTypeSize ∷ MultiValueEnabled ∷ ExceptionsEnabled ∷ ReferenceTypesEnabled ∷
-    SimdEnabled ∷ AllowFloats ∷ BulkMemoryEnabled ∷ FinishAfter ∷ []
+    SimdEnabled ∷ AllowFloats ∷ BulkMemoryEnabled ∷ FinishAfter ∷ MustValidate ∷ []
 
 -- whether it is a truth value, and not a number
 abbrev pub is_switch : Key → Bool
@@ -79,6 +81,7 @@ is_switch ReferenceTypesEnabled = true
 is_switch SimdEnabled = true
 is_switch AllowFloats = true
 is_switch BulkMemoryEnabled = true
+is_switch MustValidate = true
 is_switch _ = false
 
 -- one of them has this name

@@ -1,5 +1,5 @@
 -- The limits that a table of TOML sets, and why it sets none.
-use Rattle.std.specs.Prelude.{if◌then◌else◌, ◌≡◌, ◌≢◌, ℕ, ◌+◌, ◌≤◌, ◌<◌, nat_lt, ℤ, pos, negsuc, Bool, true, false, not}
+use Rattle.std.specs.Prelude.{if◌then◌else◌, ◌≡◌, ◌≢◌, ℕ, ◌+◌, ◌≤◌, ◌<◌, nat_lt, ℤ, pos, negsuc, Bool, true, false, not, ◌&&◌}
 use Rattle.std.specs.Prelude.{List, [], ◌∷◌, Option, Some, None, unwrap_or, string_bytes}
 use Rattle.std.specs.List.{find}
 use Rattle.std.specs.Option.{is_some}
@@ -9,10 +9,11 @@ use Rattle.smith_format.specs.declared.config.Config.{Config}
 use Rattle.smith_limits.specs.Keys.{all_keys, is_name, is_switch, most_of, name_of, value_of}
 use Rattle.smith_limits.specs.declared.keys.Key.{Key}
 use Rattle.smith_limits.specs.declared.keys.Key.TheVariants.{MinTypes, MinImports, MinFuncs, MaxTypes, MaxImports, MaxFuncs, MaxExports}
+use Rattle.smith_limits.specs.declared.keys.Key.TheVariants.{MaxComponents, MaxInstances, MaxMemories, MaxModules, MustValidate}
 use Rattle.smith_limits.specs.declared.limits.Fault.{Fault}
 use Rattle.smith_limits.specs.declared.limits.Fault.TheVariants.{Unknown, At, Apart, OutOfMemory}
 use Rattle.smith_limits.specs.declared.limits.Pair.{Pair}
-use Rattle.smith_limits.specs.declared.limits.Pair.TheVariants.{Types, Imports, Funcs, Exports}
+use Rattle.smith_limits.specs.declared.limits.Pair.TheVariants.{Types, Imports, Funcs, Exports, ValidTypes, ValidExports, ValidModules, ValidComponents, ValidInstances, ValidMemories}
 use Rattle.smith_limits.specs.declared.keys.Wrong.{Wrong}
 use Rattle.smith_limits.specs.declared.keys.Wrong.TheVariants.{NoInteger, NoBoolean, Negative, TooLarge}
 
@@ -73,23 +74,46 @@ lower_of Types = MinTypes
 lower_of Imports = MinImports
 lower_of Funcs = MinFuncs
 lower_of Exports = MaxExports
+lower_of ValidTypes = MaxTypes
+lower_of ValidExports = MaxExports
+lower_of ValidModules = MaxModules
+lower_of ValidComponents = MaxComponents
+lower_of ValidInstances = MaxInstances
+lower_of ValidMemories = MaxMemories
 
 abbrev pub upper_of : Pair → Key
 upper_of Types = MaxTypes
 upper_of Imports = MaxImports
 upper_of Funcs = MaxFuncs
 upper_of Exports = MaxFuncs
+upper_of ValidTypes = MustValidate
+upper_of ValidExports = MaxFuncs
+upper_of ValidModules = MustValidate
+upper_of ValidComponents = MustValidate
+upper_of ValidInstances = MustValidate
+upper_of ValidMemories = MustValidate
 
--- whether the two do not fit together: a minimum exceeds its maximum, or functions and exports together pass 32 bits
+-- whether the two do not fit together: a minimum exceeds its maximum, functions and exports together pass 32 bits, or components must
+-- validate and may have more than a validator accepts
 abbrev pub is_apart : Config → Pair → Bool
 is_apart config Types = nat_lt config.max_types config.min_types
 is_apart config Imports = nat_lt config.max_imports config.min_imports
 is_apart config Funcs = nat_lt config.max_funcs config.min_funcs
 is_apart config Exports = nat_lt max_u32 (config.max_funcs + config.max_exports)
+is_apart config ValidTypes = config.must_validate && nat_lt 500000 config.max_types
+is_apart config ValidExports = config.must_validate && nat_lt 1000000 (config.max_funcs + config.max_exports)
+is_apart config ValidModules = config.must_validate && nat_lt 1000 config.max_modules
+is_apart config ValidComponents = config.must_validate && nat_lt 1000 config.max_components
+is_apart config ValidInstances = config.must_validate && nat_lt 1000 config.max_instances
+is_apart config ValidMemories = config.must_validate && nat_lt 100 config.max_memories
+
+-- what may not fit where components must validate
+abbrev pub valid_pairs : List Pair
+valid_pairs = ValidTypes ∷ ValidExports ∷ ValidModules ∷ ValidComponents ∷ ValidInstances ∷ ValidMemories ∷ []
 
 -- the first pair that does not fit together
 abbrev pub first_apart : Config → Option Pair
-first_apart config = find (is_apart config) (Types ∷ Imports ∷ Funcs ∷ Exports ∷ [])
+first_apart config = find (is_apart config) (Types ∷ Imports ∷ Funcs ∷ Exports ∷ valid_pairs)
 
 -- what is wrong at a limit's name
 abbrev pub IsWrong : Members → Key → Wrong → Type 0

@@ -49,6 +49,9 @@ simd_enabled = true
 allow_floats = true
 # Whether core modules count their data segments in a section.
 bulk_memory_enabled = true
+# Whether a validator accepts each component: what it imports and exports is of types that it names, and effective sizes
+# and counts are below the bounds of wasmparser.
+must_validate = false
 # How many sections a component has at least when the input finishes it. Where no input is left, it is finished whatever
 # it has.
 finish_after = 0

@@ -55,10 +55,11 @@ pub enum Key {
     AllowFloats,
     BulkMemoryEnabled,
     FinishAfter,
+    MustValidate,
 }
 
 /// All limits, in the order in which what is wrong is looked for.
-pub const KEYS: [Key; 24] = [
+pub const KEYS: [Key; 25] = [
     Key::MinTypes,
     Key::MinImports,
     Key::MinFuncs,
@@ -83,6 +84,7 @@ pub const KEYS: [Key; 24] = [
     Key::AllowFloats,
     Key::BulkMemoryEnabled,
     Key::FinishAfter,
+    Key::MustValidate,
 ];
 
 // What is counted in 32 bits of the written bytes.
@@ -120,6 +122,7 @@ impl Key {
             Key::AllowFloats => "allow_floats",
             Key::BulkMemoryEnabled => "bulk_memory_enabled",
             Key::FinishAfter => "finish_after",
+            Key::MustValidate => "must_validate",
         }
     }
 
@@ -135,6 +138,7 @@ impl Key {
                 | Key::SimdEnabled
                 | Key::AllowFloats
                 | Key::BulkMemoryEnabled
+                | Key::MustValidate
         )
     }
 
@@ -267,6 +271,7 @@ fn set_over(table: &Table, base: Config) -> Config
         allow_floats: switch(table, Key::AllowFloats, base.allow_floats),
         bulk_memory_enabled: switch(table, Key::BulkMemoryEnabled, base.bulk_memory_enabled),
         finish_after: number(table, Key::FinishAfter, base.finish_after),
+        must_validate: switch(table, Key::MustValidate, base.must_validate),
     }
 }
 

@@ -1,13 +1,13 @@
 //! The limits of a run, from a table of TOML.
 
-ghost use Rattle.std.specs.Prelude.{◌≡◌, IfOk, IfErr, OnOk, None, not, option_map, string_bytes};
+ghost use Rattle.std.specs.Prelude.{◌≡◌, IfOk, IfErr, OnOk, None, not, option_map, string_bytes, true};
 ghost use Rattle.std.specs.List.{find};
 ghost use Rattle.std.specs.BTreeMap.{keys};
 ghost use Rattle.toml.specs.View.{table_view};
 ghost use Rattle.smith_format.specs.declared.config.Config.{Config};
 ghost use Rattle.smith_format.specs.Consistency.{IsConsistent, IsDefault};
 ghost use Rattle.smith_limits.specs.Keys.{is_name};
-ghost use Rattle.smith_limits.specs.Limits.{first_apart, first_wrong, lower_of, unknown_in, upper_of};
+ghost use Rattle.smith_limits.specs.Limits.{first_apart, first_wrong, is_apart, lower_of, unknown_in, upper_of, valid_pairs};
 ghost use Rattle.smith_limits.specs.Limits.{IsBounded, IsRefused, Sets};
 
 use crate::keys::{Key, Wrong, first_wrong, is_known, set_by, wrong_at};
@@ -15,6 +15,16 @@ use smith_format::Config;
 use std::alloc::{AllocError, Global};
 use std::fmt;
 use toml::Table;
+
+// What components may have that must validate: types, functions and exports together, modules, components and instances
+// each, and memories.
+const MOST_TYPES: usize = 500_000;
+
+const MOST_FUNCS: usize = 1_000_000;
+
+const MOST_NESTED: usize = 1_000;
+
+const MOST_MEMORIES: usize = 100;
 
 /// Two limits that may not fit together.
 #[derive(Debug, Clone, Copy, PartialEq, Eq)]
@@ -27,9 +37,32 @@ pub enum Pair {
     Funcs,
     /// `max_funcs` and `max_exports` together are greater than 4,294,967,295.
     Exports,
+    /// Components must validate, and `max_types` is greater than 500,000.
+    ValidTypes,
+    /// Components must validate, and `max_funcs` and `max_exports` together are greater than 1,000,000.
+    ValidExports,
+    /// Components must validate, and `max_modules` is greater than 1,000.
+    ValidModules,
+    /// Components must validate, and `max_components` is greater than 1,000.
+    ValidComponents,
+    /// Components must validate, and `max_instances` is greater than 1,000.
+    ValidInstances,
+    /// Components must validate, and `max_memories` is greater than 100.
+    ValidMemories,
 }
 
 impl Pair {
+    // The most that the first limit may be, if it is one of components that must validate.
+    fn most_valid(self) -> Option<usize> {
+        match self {
+            Pair::Types | Pair::Imports | Pair::Funcs | Pair::Exports => None,
+            Pair::ValidTypes => Some(MOST_TYPES),
+            Pair::ValidExports => Some(MOST_FUNCS),
+            Pair::ValidModules | Pair::ValidComponents | Pair::ValidInstances => Some(MOST_NESTED),
+            Pair::ValidMemories => Some(MOST_MEMORIES),
+        }
+    }
+
     /// Its two limits.
     pub fn keys(self) -> (Key, Key)
         ensures lower { result.0 ≡ lower_of self }
@@ -39,7 +72,40 @@ impl Pair {
             Pair::Types => (Key::MinTypes, Key::MaxTypes),
             Pair::Imports => (Key::MinImports, Key::MaxImports),
             Pair::Funcs => (Key::MinFuncs, Key::MaxFuncs),
-            Pair::Exports => (Key::MaxExports, Key::MaxFuncs),
+            Pair::Exports | Pair::ValidExports => (Key::MaxExports, Key::MaxFuncs),
+            Pair::ValidTypes => (Key::MaxTypes, Key::MustValidate),
+            Pair::ValidModules => (Key::MaxModules, Key::MustValidate),
+            Pair::ValidComponents => (Key::MaxComponents, Key::MustValidate),
+            Pair::ValidInstances => (Key::MaxInstances, Key::MustValidate),
+            Pair::ValidMemories => (Key::MaxMemories, Key::MustValidate),
+        }
+    }
+}
+
+impl fmt::Display for Pair {
+    fn fmt<W: fmt::Write>(&self, f: &mut fmt::Formatter<W>) -> fmt::Result {
+        let (lower, upper) = self.keys();
+        let (lower, upper) = (lower.name(), upper.name());
+        match (self, self.most_valid()) {
+            (Pair::Exports, _) => {
+                write!(
+                    f,
+                    "`{lower}` and `{upper}` together are greater than 4294967295"
+                )
+            }
+            (Pair::ValidExports, Some(most)) => {
+                write!(
+                    f,
+                    "`{lower}` and `{upper}` together are greater than {most}, and components must validate"
+                )
+            }
+            (_, Some(most)) => {
+                write!(
+                    f,
+                    "`{lower}` is greater than {most}, and components must validate"
+                )
+            }
+            (_, None) => write!(f, "`{lower}` is greater than `{upper}`"),
         }
     }
 }
@@ -67,13 +133,7 @@ impl fmt::Display for Fault {
             Fault::At(key, Wrong::TooLarge) => {
                 write!(f, "`{}` is greater than {}", key.name(), key.most())
             }
-            Fault::Apart(Pair::Exports) => {
-                f.write_str("`max_exports` and `max_funcs` together are greater than 4294967295")
-            }
-            Fault::Apart(pair) => {
-                let (lower, upper) = pair.keys();
-                write!(f, "`{}` is greater than `{}`", lower.name(), upper.name())
-            }
+            Fault::Apart(pair) => write!(f, "{pair}"),
             Fault::OutOfMemory => f.write_str("out of memory"),
         }
     }
@@ -111,6 +171,32 @@ fn check_values(table: &Table) -> Result<(), Fault>
     }
 }
 
+// The first limit that is greater than components may have that must validate, in the order of `Pair`.
+fn invalid(config: &Config) -> Option<Pair>
+    requires { config.now.must_validate ≡ true }
+    ensures { result ≡ find (is_apart config.now) valid_pairs }
+{
+    if config.max_types > MOST_TYPES {
+        return Some(Pair::ValidTypes);
+    }
+    if config.max_funcs.saturating_add(config.max_exports) > MOST_FUNCS {
+        return Some(Pair::ValidExports);
+    }
+    if config.max_modules > MOST_NESTED {
+        return Some(Pair::ValidModules);
+    }
+    if config.max_components > MOST_NESTED {
+        return Some(Pair::ValidComponents);
+    }
+    if config.max_instances > MOST_NESTED {
+        return Some(Pair::ValidInstances);
+    }
+    if config.max_memories > MOST_MEMORIES {
+        return Some(Pair::ValidMemories);
+    }
+    None
+}
+
 /// The first two limits that do not fit together, in the order of `Pair`.
 pub fn apart(config: &Config) -> Option<Pair>
     ensures apart { result ≡ first_apart config.now }
@@ -128,6 +214,9 @@ pub fn apart(config: &Config) -> Option<Pair>
     let together = config.max_funcs.saturating_add(config.max_exports);
     if together > 0xffff_ffff {
         return Some(Pair::Exports);
+    }
+    if config.must_validate {
+        return invalid(config);
     }
     None
 }

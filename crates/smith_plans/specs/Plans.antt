@@ -36,6 +36,7 @@ small_limits = record {
   max_nesting_depth = 2;
   max_type_size = 10;
   finish_after = 0;
+  must_validate = false;
 }
 
 -- the same, and 10 exports

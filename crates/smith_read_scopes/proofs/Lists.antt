@@ -19,6 +19,9 @@ module _ {A B : Type 0} (f : A → B) (own : B) (xs : List A) where
   scope_missing zero h = absurd (omega arith)
   scope_missing (suc k) h = slice_get_past (reverse (map f xs)) k (omega (arith, length-reverse (map f xs), length-map xs f, h))
 
+pub found_at : {A : Type 0} (xs : List A) (i : ℕ) (x : A) → i < length xs → x ≡ get_or xs i x → slice_get xs i ≡ Some x
+found_at xs i x h is = slice_get-get_or xs i x h ∙ ap (λ y. Some y) (sym is)
+
 pub head_same : {A : Type 0} (x y : A) (xs ys : List A) → x ∷ xs ≡ y ∷ ys → x ≡ y
 head_same x y xs ys e = cc
 

@@ -118,22 +118,22 @@ module _ (bs : List (Bor CoreNode)) {funcs modules : List ℕ} (tied : IsCoreTie
 
 -- Positions ascend.
 
-module _ {A : Type 0} (test : A → Bool) where
-  first_at : (i : ℕ) (xs : List A) (ks : List ℕ) (b : Bool) → (0 < length ks → i + 1 ≤ slice_index ks 0)
-      → 0 < length (cond b (i ∷ ks) ks) → i ≤ slice_index (cond b (i ∷ ks) ks) 0
-  first_at i xs ks true later h = omega arith
-  first_at i xs ks false later h = omega (arith, later h)
+pub first_at : (i : ℕ) (ks : List ℕ) (b : Bool) → (0 < length ks → i + 1 ≤ slice_index ks 0)
+    → 0 < length (cond b (i ∷ ks) ks) → i ≤ slice_index (cond b (i ∷ ks) ks) 0
+first_at i ks true later h = omega arith
+first_at i ks false later h = omega (arith, later h)
 
+pub ascend_at : (i : ℕ) (ks : List ℕ) (b : Bool) → (0 < length ks → i + 1 ≤ slice_index ks 0) → IsStrictlyIncreasing ks
+    → IsStrictlyIncreasing (cond b (i ∷ ks) ks)
+ascend_at i ks true later s zero h = omega (arith, later (omega arith))
+ascend_at i ks true later s (suc k) h = let next : suc k + 1 ≡ suc (k + 1) = omega arith in rw next (s k (omega (arith, h)))
+ascend_at i ks false later s k h = s k h
+
+module _ {A : Type 0} (test : A → Bool) where
   -- the first is no less than where the list begins
   pub first_place : (i : ℕ) (xs : List A) → 0 < length (places test i xs) → i ≤ slice_index (places test i xs) 0
   first_place i [] h = absurd (omega arith)
-  first_place i (x ∷ xs) h = first_at i xs (places test (i + 1) xs) (test x) (first_place (i + 1) xs) h
-
-  ascend_at : (i : ℕ) (ks : List ℕ) (b : Bool) → (0 < length ks → i + 1 ≤ slice_index ks 0) → IsStrictlyIncreasing ks
-      → IsStrictlyIncreasing (cond b (i ∷ ks) ks)
-  ascend_at i ks true later s zero h = omega (arith, later (omega arith))
-  ascend_at i ks true later s (suc k) h = let next : suc k + 1 ≡ suc (k + 1) = omega arith in rw next (s k (omega (arith, h)))
-  ascend_at i ks false later s k h = s k h
+  first_place i (x ∷ xs) h = first_at i (places test (i + 1) xs) (test x) (first_place (i + 1) xs) h
 
   pub places_ascend : (i : ℕ) (xs : List A) → IsStrictlyIncreasing (places test i xs)
   places_ascend i [] k h = absurd (omega arith)

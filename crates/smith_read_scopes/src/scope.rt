@@ -1,32 +1,42 @@
-//! A scope: which types that were read are in it (Explainer.md, index spaces).
+//! A scope: which types that were read are in it (Explainer.md, index spaces), and what is kept of them for a validator.
 
-ghost use Rattle.std.specs.Prelude.{◌≡◌, ◌<◌, length, option_map, slice_get, OnOk};
+ghost use Rattle.std.specs.Prelude.{◌≡◌, ◌<◌, get_or, length, nat_le, option_map, slice_get, true};
+ghost use Rattle.std.specs.Prelude.{OnOk, IfSome, Some};
 ghost use Rattle.std.specs.List.Sorted.{IsStrictlyIncreasing};
-ghost use Rattle.smith_syntax.specs.Scope.{empty_scope, with_core_type, with_type};
+ghost use Rattle.smith_syntax.specs.Marked.{empty_marked, with_marked, with_sized};
+ghost use Rattle.smith_syntax.specs.Marks.{no_mark, room_size};
+ghost use Rattle.smith_scopes.specs.Kept.{AreOffered, AreUses};
+ghost use Rattle.smith_read_types.specs.TypeNodes.{shown_type_node};
 ghost use Rattle.smith_scopes.specs.Scopes.{kind_places};
-ghost use Rattle.smith_read_scopes.specs.Scope.{shown_scope};
+ghost use Rattle.smith_read_scopes.specs.Scope.{shown_marked, shown_scope};
 
+use crate::nodes::Plain;
 use smith_read_types::{CoreNode, TypeNode};
-use smith_scopes::Kind;
+use smith_scopes::{Kind, Offer, Offers, Uses};
+use smith_syntax::{Mark, Reach};
 use std::alloc::{AllocError, Global};
 use std::marker::Model;
 
+// The size that a component may have where one more is imported or exported.
+const ROOM_SIZE: u32 = 990_000;
+
 /// The types and core types of one scope before a place, and the positions of those of each kind. A type that is named
-/// again, by an outer alias or an export, is there once more. Contracts see types and core types.
+/// again, by an outer alias or an export, is there once more. If anything is kept, there are the mark of each type, the
+/// positions of those that may be used for each, the size of each core type, what exports refer to, and the size so
+/// far. Contracts see types and core types, and what is kept but for positions.
 #[derive(Drop)]
 pub struct Scope<'a> {
-    types: Vec<&'a TypeNode>,
-    defined: Vec<usize>,
-    funcs: Vec<usize>,
-    components: Vec<usize>,
-    instances: Vec<usize>,
-    core_types: Vec<&'a CoreNode>,
-    core_funcs: Vec<usize>,
-    core_modules: Vec<usize>,
+    pub(crate) plain: Plain<'a>,
+    pub(crate) keeps: bool,
+    pub(crate) marks: Vec<Mark>,
+    offers: Offers<usize>,
+    core_sizes: Vec<u32>,
+    pub(crate) exported: Reach,
+    pub(crate) size: u32,
 }
 
 impl<'a> Model for Scope<'a> {
-    ghost use Rattle.smith_read_scopes.specs.Scope.{Contents, IsCoreTied, IsTied, nodes_of};
+    ghost use Rattle.smith_read_scopes.specs.Scope.{Contents, IsKept};
 
     ghost Value = { Contents };
 
@@ -35,57 +45,84 @@ impl<'a> Model for Scope<'a> {
 
     ghost coded = { Prim.hlevel (codes, kind.the_row.coded) };
 
-    ghost view = { λ s. record { types = nodes_of s.types.items; core_types = nodes_of s.core_types.items } };
+    ghost view = { λ s. record {
+      types = s.plain.types;
+      core_types = s.plain.core_types;
+      keeps = s.keeps;
+      marks = s.marks.items;
+      core_sizes = s.core_sizes.items;
+      exported = s.exported;
+      size = s.size;
+    } };
 
-    ghost invariant = { λ s. IsTied (nodes_of s.types.items) s.defined.items s.funcs.items s.components.items
-        s.instances.items
-        × IsCoreTied (nodes_of s.core_types.items) s.core_funcs.items s.core_modules.items };
+    ghost invariant = { λ s. IsKept s.plain s.keeps s.marks.items s.core_sizes.items s.offers };
+}
+
+// What a type of that mark may be used for.
+#[tactic(auto, using(smith_read_types::proofs::ShownNodes::shown_nodes))]
+fn uses_of(ty: &TypeNode, mark: Mark) -> Uses
+    ensures { AreUses result (shown_type_node ty.now) mark }
+{
+    match ty {
+        TypeNode::Defined(_) => Uses::defined(mark),
+        TypeNode::Func(_) => Uses::function(mark),
+        TypeNode::Component(_) => Uses::component(mark),
+        TypeNode::Instance(_) => Uses::instance(mark),
+    }
 }
 
 impl<'a> Scope<'a> {
-    /// An empty scope.
-    pub(crate) fn new(alloc: Global) -> Scope<'a>
-        ensures { result ≡ empty_scope }
+    /// An empty scope, in which marks are kept if `keeps` says so.
+    pub(crate) fn new(alloc: Global, keeps: bool) -> Scope<'a>
+        ensures { result ≡ empty_marked keeps }
     {
         Scope {
-            types: Vec::new(alloc),
-            defined: Vec::new(alloc),
-            funcs: Vec::new(alloc),
-            components: Vec::new(alloc),
-            instances: Vec::new(alloc),
-            core_types: Vec::new(alloc),
-            core_funcs: Vec::new(alloc),
-            core_modules: Vec::new(alloc),
+            plain: Plain::new(alloc),
+            keeps,
+            marks: Vec::new(alloc),
+            offers: Offers::new(alloc),
+            core_sizes: Vec::new(alloc),
+            exported: Reach::Everywhere,
+            size: 1,
         }
     }
 
-    /// Adds a type at the end.
-    pub(crate) fn push_type(&mut self, ty: &'a TypeNode) -> Result<(), AllocError>
-        ensures { OnOk result (self.new ≡ with_type self.old ty.now) }
+    /// Are marks kept?
+    pub(crate) fn keeps(&self) -> bool
+        ensures { result ≡ self.now.keeps }
     {
-        let index = self.types.len();
-        self.types.reserve(1)?;
-        match ty {
-            TypeNode::Defined(_) => self.defined.push(index)?,
-            TypeNode::Func(_) => self.funcs.push(index)?,
-            TypeNode::Component(_) => self.components.push(index)?,
-            TypeNode::Instance(_) => self.instances.push(index)?,
+        self.keeps
+    }
+
+    /// Adds a type of that mark at the end.
+    pub(crate) fn push_type(&mut self, ty: &'a TypeNode, mark: Mark) -> Result<(), AllocError>
+        ensures grown { OnOk result (self.new ≡ with_marked self.old ty.now mark) }
+        ensures keeps { self.new.keeps ≡ self.old.keeps }
+    {
+        if !self.keeps {
+            return self.plain.push_type(ty);
         }
-        self.types.push_reserved(ty);
+        self.marks.reserve(1)?;
+        self.offers.reserve()?;
+        let index = self.plain.types_len();
+        let uses = uses_of(ty, mark);
+        self.plain.push_type(ty)?;
+        self.offers.add(index, uses);
+        self.marks.push_reserved(mark);
         Ok(())
     }
 
-    /// Adds a core type at the end.
-    pub(crate) fn push_core_type(&mut self, ty: &'a CoreNode) -> Result<(), AllocError>
-        ensures { OnOk result (self.new ≡ with_core_type self.old ty.now) }
+    /// Adds a core type of that size at the end.
+    pub(crate) fn push_core_type(&mut self, ty: &'a CoreNode, size: u32) -> Result<(), AllocError>
+        ensures grown { OnOk result (self.new ≡ with_sized self.old ty.now size) }
+        ensures keeps { self.new.keeps ≡ self.old.keeps }
     {
-        let index = self.core_types.len();
-        self.core_types.reserve(1)?;
-        match ty {
-            CoreNode::Func(_) => self.core_funcs.push(index)?,
-            CoreNode::Module(_) => self.core_modules.push(index)?,
+        if !self.keeps {
+            return self.plain.push_core_type(ty);
         }
-        self.core_types.push_reserved(ty);
+        self.core_sizes.reserve(1)?;
+        self.plain.push_core_type(ty)?;
+        self.core_sizes.push_reserved(size);
         Ok(())
     }
 
@@ -94,14 +131,19 @@ impl<'a> Scope<'a> {
         ensures places { result.now ≡ kind_places kind (shown_scope self.now) }
         ensures ascending { IsStrictlyIncreasing result.now }
     {
-        match kind {
-            Kind::Defined => &self.defined,
-            Kind::Func => &self.funcs,
-            Kind::Component => &self.components,
-            Kind::Instance => &self.instances,
-            Kind::CoreFunc => &self.core_funcs,
-            Kind::CoreModule => &self.core_modules,
+        self.plain.places(kind)
+    }
+
+    /// The positions of the types that may be used for it, ascending, or none if all types may be.
+    pub fn offered(&self, offer: Offer) -> Option<&[usize]>
+        ensures places { AreOffered offer (shown_marked self.now) (option_map (λ r. r.now) result) }
+        ensures ascending { IfSome result (λ r. IsStrictlyIncreasing r.now) }
+    {
+        if self.keeps {
+            return Some(self.offers.row(offer));
         }
+        let kind = offer.kind()?;
+        Some(self.plain.places(kind))
     }
 
     /// How many types there are.
@@ -109,7 +151,7 @@ impl<'a> Scope<'a> {
         ensures count { result ≡ length (shown_scope self.now).types }
         ensures small { result < 9223372036854775808 }
     {
-        self.types.len()
+        self.plain.types_len()
     }
 
     /// How many core types there are.
@@ -117,20 +159,50 @@ impl<'a> Scope<'a> {
         ensures count { result ≡ length (shown_scope self.now).core_types }
         ensures small { result < 9223372036854775808 }
     {
-        self.core_types.len()
+        self.plain.core_types_len()
     }
 
     /// The type with that index.
     pub fn type_at(&self, index: u32) -> Option<&'a TypeNode>
         ensures { option_map (λ t. t.now) result ≡ slice_get self.now.types index }
     {
-        self.types.get(index as usize).copied()
+        self.plain.type_at(index)
     }
 
     /// The core type with that index.
     pub fn core_type_at(&self, index: u32) -> Option<&'a CoreNode>
         ensures { option_map (λ t. t.now) result ≡ slice_get self.now.core_types index }
     {
-        self.core_types.get(index as usize).copied()
+        self.plain.core_type_at(index)
+    }
+
+    /// The mark of the type with that index.
+    pub(crate) fn mark_at(&self, index: u32) -> Mark
+        ensures value { result ≡ get_or self.now.marks index no_mark }
+        ensures known { self.now.keeps ≡ true → index < length self.now.types
+            → slice_get self.now.marks index ≡ Some result }
+        ensures many { self.now.keeps ≡ true → length self.now.marks ≡ length self.now.types }
+    {
+        self.marks
+            .get(index as usize)
+            .copied()
+            .unwrap_or(Mark::NONE)
+    }
+
+    /// The size of the core type with that index.
+    pub(crate) fn core_size_at(&self, index: u32) -> u32
+        ensures value { result ≡ get_or self.now.core_sizes index 0 }
+        ensures known { self.now.keeps ≡ true → index < length self.now.core_types
+            → slice_get self.now.core_sizes index ≡ Some result }
+        ensures many { self.now.keeps ≡ true → length self.now.core_sizes ≡ length self.now.core_types }
+    {
+        self.core_sizes.get(index as usize).copied().unwrap_or(0)
+    }
+
+    /// Can one more be imported or exported?
+    pub fn has_room(&self) -> bool
+        ensures { result ≡ nat_le (shown_marked self.now).size room_size }
+    {
+        self.size <= ROOM_SIZE
     }
 }

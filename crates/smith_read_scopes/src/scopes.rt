@@ -1,35 +1,50 @@
 //! Scopes, one in another (Explainer.md, index spaces).
 
-ghost use Rattle.std.specs.Prelude.{◌≡◌, ◌<◌, ◌∷◌, [], length, option_map, slice_get, None, Some};
-ghost use Rattle.std.specs.Prelude.{MatchOption, OnOk};
-ghost use Rattle.std.specs.Option.{option_to_list};
-ghost use Rattle.smith_syntax.specs.Scope.{after_decl, core_type_named, empty_scope, type_named};
-ghost use Rattle.smith_syntax.specs.Scope.{with_core_type, with_core_types, with_type, with_types};
-ghost use Rattle.smith_read_types.specs.Nodes.{shown_core_node};
-ghost use Rattle.smith_read_types.specs.TypeNodes.{shown_decl_node, shown_type_node};
-ghost use Rattle.smith_read_scopes.specs.Scopes.{outer_in, own_in, shown_scope};
+ghost use Rattle.smith_read_scopes.specs.Scope.{AreAlike};
+
+mod marking;
 
 use crate::scope::Scope;
 use smith_read_types::{CoreNode, DeclNode, TypeNode};
-use smith_syntax::ComponentTypeRef;
+use smith_syntax::{ComponentTypeRef, Mark};
 use std::alloc::{AllocError, Global};
 use std::mem::replace;
 
-/// The innermost scope, and those around it, outermost first.
+/// The innermost scope, and those around it, outermost first. In each of them marks are kept, or in none.
 #[derive(Drop)]
 pub struct Scopes<'a> {
     pub own: Scope<'a>,
     pub outer: Vec<Scope<'a>>,
+    ghost alike: { AreAlike own.keeps outer.items },
 }
 
 impl<'a> Scopes<'a> {
-    /// One empty scope.
+    ghost use Rattle.std.specs.Prelude.{◌≡◌, ◌<◌, ◌∷◌, [], length, option_map, slice_get, None, Some, false, if◌then◌else◌};
+    ghost use Rattle.std.specs.Prelude.{MatchOption, IfSome, OnOk};
+    ghost use Rattle.std.specs.Option.{option_to_list};
+    ghost use Rattle.smith_syntax.specs.Marked.{empty_marked};
+    ghost use Rattle.smith_syntax.specs.Scope.{after_decl, core_type_named, empty_scope, type_named};
+    ghost use Rattle.smith_syntax.specs.Scope.{with_core_type, with_core_types, with_type, with_types};
+    ghost use Rattle.smith_read_types.specs.Nodes.{shown_core_node};
+    ghost use Rattle.smith_read_types.specs.TypeNodes.{shown_decl_node, shown_type_node};
+    ghost use Rattle.smith_read_scopes.specs.Scopes.{outer_in, own_in, outer_marked_in, own_marked_in, shown_marked, shown_scope};
+
+    /// One empty scope, in which nothing is kept of the types.
     pub fn new(alloc: Global) -> Scopes<'a>
         ensures own { own_in result ≡ empty_scope }
         ensures outer { outer_in result ≡ [] }
     {
+        Scopes::with_marks(alloc, false)
+    }
+
+    /// One empty scope. Here and in the scopes that are entered marks are kept if `keeps` says so.
+    pub fn with_marks(alloc: Global, keeps: bool) -> Scopes<'a>
+        ensures own { own_marked_in result ≡ empty_marked keeps }
+        ensures outer { outer_marked_in result ≡ [] }
+        ensures plain { outer_in result ≡ [] }
+    {
         Scopes {
-            own: Scope::new(alloc),
+            own: Scope::new(alloc, keeps),
             outer: Vec::new(alloc),
         }
     }
@@ -38,16 +53,21 @@ impl<'a> Scopes<'a> {
     pub fn enter(&mut self, alloc: Global) -> Result<(), AllocError>
         ensures own { OnOk result (own_in self.new ≡ empty_scope) }
         ensures outer { OnOk result (outer_in self.new ≡ own_in self.old ∷ outer_in self.old) }
+        ensures fresh { OnOk result (own_marked_in self.new ≡ empty_marked (own_marked_in self.old).keeps) }
+        ensures around { OnOk result (outer_marked_in self.new ≡ own_marked_in self.old ∷ outer_marked_in self.old) }
     {
-        let own = replace(&mut self.own, Scope::new(alloc));
-        self.outer.push(own)?;
+        self.outer.reserve(1)?;
+        let empty = Scope::new(alloc, self.own.keeps());
+        let own = replace(&mut self.own, empty);
+        self.outer.push_reserved(own);
         Ok(())
     }
 
     /// Leaves the innermost scope, which has one around it.
     pub fn leave(&mut self)
         requires { 0 < length (outer_in self.old) }
-        ensures { outer_in self.old ≡ own_in self.new ∷ outer_in self.new }
+        ensures plain { outer_in self.old ≡ own_in self.new ∷ outer_in self.new }
+        ensures marked { outer_marked_in self.old ≡ own_marked_in self.new ∷ outer_marked_in self.new }
     {
         if let Some(own) = self.outer.pop() {
             let _inner = replace(&mut self.own, own);
@@ -56,9 +76,13 @@ impl<'a> Scopes<'a> {
 
     /// The scope of that count, innermost first.
     pub fn scope_at(&self, count: u32) -> Option<&Scope<'a>>
-        ensures { MatchOption result
+        ensures plain { MatchOption result
             (slice_get (own_in self.now ∷ outer_in self.now) count ≡ None)
             (λ s. slice_get (own_in self.now ∷ outer_in self.now) count ≡ Some (shown_scope s.now)) }
+        ensures marked { MatchOption result
+            (slice_get (own_marked_in self.now ∷ outer_marked_in self.now) count ≡ None)
+            (λ s. slice_get (own_marked_in self.now ∷ outer_marked_in self.now) count ≡ Some (shown_marked s.now)) }
+        ensures alike { IfSome result (λ s. s.now.keeps ≡ (own_marked_in self.now).keeps) }
     {
         if count == 0 {
             return Some(&self.own);
@@ -101,20 +125,20 @@ impl<'a> Scopes<'a> {
         self.own.core_type_at(index)
     }
 
-    /// Adds a type to the innermost scope.
+    /// Adds a type to the innermost scope, of which nothing is known.
     pub fn add_type(&mut self, ty: &'a TypeNode) -> Result<(), AllocError>
         ensures own { OnOk result (own_in self.new ≡ with_type (own_in self.old) (shown_type_node ty.now)) }
         ensures outer { outer_in self.new ≡ outer_in self.old }
     {
-        self.own.push_type(ty)
+        self.own.push_type(ty, Mark::NONE)
     }
 
-    /// Adds a core type to the innermost scope.
+    /// Adds a core type to the innermost scope, of which nothing is known.
     pub fn add_core_type(&mut self, ty: &'a CoreNode) -> Result<(), AllocError>
         ensures own { OnOk result (own_in self.new ≡ with_core_type (own_in self.old) (shown_core_node ty.now)) }
         ensures outer { outer_in self.new ≡ outer_in self.old }
     {
-        self.own.push_core_type(ty)
+        self.own.push_core_type(ty, 0)
     }
 
     // Adds a type, if there is one.

@@ -1,3 +1,8 @@
+pub mod Marking
+pub mod ModuleSteps
+pub mod OfferSteps
+pub mod Offered
+pub mod Parts
 pub mod Places
 pub mod Plain
 pub mod Stack

@@ -1,1 +1,3 @@
+pub mod Kept
+pub mod ModuleSizes
 pub mod Scopes

@@ -1,12 +1,15 @@
 -- The scopes of the program, outermost first, and what it keeps beside the types of each.
-use Rattle.std.specs.Prelude.{◌≡◌, ℕ, ◌≤◌, List, [], ◌∷◌, ◌++◌, map, length, reverse, get_or, Option, Some, None, if◌then◌else◌}
+use Rattle.std.specs.Prelude.{◌≡◌, ℕ, ◌≤◌, false, List, [], ◌∷◌, ◌++◌, drop, map, length, reverse, get_or, Option, Some, None, if◌then◌else◌}
 use Rattle.std.specs.HashMap.{HashMap, get}
 use Rattle.std.specs.declared.alloc.Global.{Global}
 use Rattle.std.specs.declared.rc.Rc.{Rc}
 use Rattle.std.specs.declared.vec.Vec.{Vec}
 use Rattle.smith_format.specs.Consistency.{max_u32}
 use Rattle.smith_syntax.specs.Entries.{Signature}
-use Rattle.smith_syntax.specs.Scope.{ScopeOf, Scope, empty_scope, with_type, with_core_type, is_defined, is_func, is_component}
+use Rattle.smith_syntax.specs.Scope.{ScopeOf, Scope, is_defined, is_func, is_component}
+use Rattle.smith_syntax.specs.Marked.{Marked, MarkedOf, empty_marked, first_marked, scope_in, with_marked, with_sized}
+use Rattle.smith_syntax.specs.Marks.{no_mark}
+use Rattle.smith_syntax.specs.declared.marks.Mark.{Mark}
 use Rattle.smith_syntax.specs.Places.{own_of, outer_of, places, is_core_func}
 use Rattle.smith_syntax.specs.Scope.{is_instance, is_core_module}
 use Rattle.smith_syntax.specs.Shown.{shown_type, shown_core}
@@ -18,16 +21,47 @@ use Rattle.smith_scopes.specs.declared.scopes.Kind.TheVariants as kind
 use Rattle.smith_syntax.specs.declared.deftype.DefType.{DefType}
 
 -- a scope of the program's own types
-abbrev pub Contents : Type 0
-Contents = ScopeOf DefType CoreType
+abbrev pub Types : Type 0
+Types = ScopeOf DefType CoreType
 
--- the same as plain trees
+abbrev pub shown_types : Types → Scope
+shown_types d = record { types = map shown_type d.types; core_types = map shown_core d.core_types }
+
+-- the same with what is kept of them
+abbrev pub Contents : Type 0
+Contents = MarkedOf DefType CoreType
+
+-- these as plain trees
+abbrev pub shown_marked : Contents → Marked
+shown_marked d = record {
+  types = map shown_type d.types;
+  core_types = map shown_core d.core_types;
+  keeps = d.keeps;
+  marks = d.marks;
+  core_sizes = d.core_sizes;
+  exported = d.exported;
+  size = d.size;
+}
+
+-- and without what is kept
 abbrev pub shown_scope : Contents → Scope
-shown_scope d = record { types = map shown_type d.types; core_types = map shown_core d.core_types }
+shown_scope d = shown_types (scope_in d)
 
 -- the scopes as plain trees, innermost first
 abbrev pub inward : List Contents → List Scope
 inward scopes = reverse (map shown_scope scopes)
+
+-- the same with what is kept
+abbrev pub inward_marked : List Contents → List Marked
+inward_marked scopes = reverse (map shown_marked scopes)
+
+-- the innermost scope with what is kept, and those around it
+
+abbrev pub own_marked : List Contents → Marked
+own_marked scopes = first_marked (inward_marked scopes)
+
+abbrev pub outer_marked : List Contents → List Marked
+outer_marked scopes = drop 1 (inward_marked scopes)
 
 -- the innermost scope as plain trees, and those around it
 abbrev pub own_scope : List Contents → Scope
@@ -38,7 +72,7 @@ outer_scopes scopes = outer_of (inward scopes)
 
 -- the scope of that count, where 0 is the last
 abbrev pub scope_at : List Contents → ℕ → Contents
-scope_at scopes count = get_or (reverse scopes) count empty_scope
+scope_at scopes count = get_or (reverse scopes) count (empty_marked false)
 
 abbrev pub last_of : List Contents → Contents
 last_of scopes = scope_at scopes 0
@@ -50,13 +84,19 @@ pub record Changes (f : Contents → Contents) (old new : List Contents) : Type 
   pub before : old ≡ outer ++ own ∷ []
   pub after : new ≡ outer ++ f own ∷ []
 
--- new is old with the type at the end of the last scope
-abbrev pub AddsType : List Contents → DefType → List Contents → Type 0
-AddsType old ty new = Changes (λ d. with_type d ty) old new
+-- new is old with the type of that mark at the end of the last scope
+abbrev pub AddsMarked : List Contents → DefType → Mark → List Contents → Type 0
+AddsMarked old ty m new = Changes (λ d. with_marked d ty m) old new
 
--- new is old with the core type at the end of the last scope
+abbrev pub AddsType : List Contents → DefType → List Contents → Type 0
+AddsType old ty new = AddsMarked old ty no_mark new
+
+-- new is old with the core type of that size at the end of the last scope
+abbrev pub AddsSized : List Contents → CoreType → ℕ → List Contents → Type 0
+AddsSized old ty n new = Changes (λ d. with_sized d ty n) old new
+
 abbrev pub AddsCoreType : List Contents → CoreType → List Contents → Type 0
-AddsCoreType old ty new = Changes (λ d. with_core_type d ty) old new
+AddsCoreType old ty new = AddsSized old ty 0 new
 
 -- the indexes of the entries of a kind, ascending
 abbrev pub kind_places : Kind → Scope → List ℕ

@@ -3,4 +3,7 @@
 
 mod scopes;
 
-pub use scopes::{Kind, Scopes};
+pub use scopes::{
+    Kind, ModuleSize, Offer, Offers, Scopes, Uses, defined_mark, function_mark, function_size,
+    size_sum,
+};

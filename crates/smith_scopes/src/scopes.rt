@@ -1,18 +1,31 @@
 //! Scopes: what types stand where (Explainer.md, index spaces).
 
-ghost use Rattle.std.specs.Prelude.{◌≡◌, ◌+◌, ◌<◌, ◌≤◌, [], ◌∷◌, ◌++◌, length, Some};
+ghost use Rattle.std.specs.Prelude.{◌≡◌, false, ◌+◌, ◌<◌, ◌≤◌, [], ◌∷◌, ◌++◌, length, Some};
 ghost use Rattle.std.specs.Prelude.{OnOk, IfOk, OnErr, IfErr};
 ghost use Rattle.smith_format.specs.Consistency.{max_u32};
+ghost use Rattle.smith_syntax.specs.Marked.{empty_marked};
 ghost use Rattle.smith_syntax.specs.Scope.{empty_scope, with_type, with_core_type};
 ghost use Rattle.smith_syntax.specs.Places.{places};
-ghost use Rattle.smith_scopes.specs.Scopes.{shown_scope, kind_places, last_of};
+ghost use Rattle.smith_scopes.specs.Scopes.{shown_types, kind_places, last_of};
 ghost use Rattle.smith_syntax.specs.HasSignature.{has_signature};
-ghost use Rattle.smith_scopes.specs.Scopes.{AddsType, AddsCoreType, Notes, SameRows};
+ghost use Rattle.smith_scopes.specs.Scopes.{AddsType, AddsMarked, AddsCoreType, AddsSized, Notes, SameRows};
 
+mod marked;
+mod marking;
+mod module_sizes;
+mod offers;
+mod parts;
 mod queries;
+mod references;
+mod sizes;
 
+use marked::Marked;
+pub use module_sizes::ModuleSize;
+pub use offers::{Offer, Offers, Uses};
+pub use parts::{defined_mark, function_mark};
+pub use sizes::{function_size, size_sum};
 use smith_input::Error;
-use smith_syntax::{CoreType, DefType, FuncType, drop_last_first};
+use smith_syntax::{CoreType, DefType, FuncType, Mark, drop_last_first};
 use std::alloc::Global;
 use std::collections::HashMap;
 use std::hash::{BuildHasherDefault, DefaultHasher};
@@ -57,9 +70,9 @@ struct Scope {
 }
 
 impl Model for Scope {
-    ghost use Rattle.smith_scopes.specs.Scopes.{Contents, values_of, IsTied, IsCoreTied};
+    ghost use Rattle.smith_scopes.specs.Scopes.{Types, values_of, IsTied, IsCoreTied};
 
-    ghost Value = { Contents };
+    ghost Value = { Types };
 
     ghost use Rattle.smith_syntax.specs.contracts.deftype.DefType as kind;
     ghost use Rattle.std.specs.Coded.{codes};
@@ -73,13 +86,13 @@ impl Model for Scope {
         × IsCoreTied (values_of s.core_types.items) s.core_funcs.items s.core_modules.items };
 }
 
-/// A stack of scopes, never empty. Contracts see the list, outermost first, of the types and core types in each. It is
-/// dropped from the last scope to the first, and each scope from its last type to its first, so that the stack that
-/// this takes does not grow with the number of types; no clause can say so.
+/// A stack of scopes, never empty. Contracts see the list, outermost first, of the types and core types in each, and of
+/// what is kept of them. It is dropped from the last scope to the first, and each scope from its last type to its
+/// first, so that the stack that this takes does not grow with the number of types; no clause can say so.
 pub struct Scopes {
     alloc: Global,
-    outer: Vec<Scope>,
-    inner: Scope,
+    outer: Vec<Marked>,
+    inner: Marked,
 }
 
 impl Model for Scopes {
@@ -199,7 +212,7 @@ impl Scope {
 
     // The indexes of the entries of that kind.
     fn places(&self, kind: Kind) -> &[u32]
-        ensures places { result.now ≡ kind_places kind (shown_scope self.now) }
+        ensures places { result.now ≡ kind_places kind (shown_types self.now) }
         ensures few { length result.now ≤ max_u32 }
         ensures small { length result.now < 9223372036854775808 }
     {
@@ -224,26 +237,34 @@ impl Scope {
 }
 
 impl Scopes {
-    /// One scope, empty.
+    /// One scope, empty, in which nothing is kept of the types.
     pub fn new(alloc: Global) -> Scopes
-        ensures { result ≡ empty_scope ∷ [] }
+        ensures { result ≡ empty_marked false ∷ [] }
+    {
+        Scopes::with_marks(alloc, false)
+    }
+
+    /// One scope, empty. Here and in the scopes that are opened marks are kept if `keeps` says so.
+    pub fn with_marks(alloc: Global, keeps: bool) -> Scopes
+        ensures { result ≡ empty_marked keeps ∷ [] }
     {
         Scopes {
             alloc,
             outer: Vec::new(alloc),
-            inner: Scope::new(alloc),
+            inner: Marked::new(alloc, keeps),
         }
     }
 
     /// Adds an empty scope. It refuses for want of memory alone, and all is as it was then.
     pub fn open_scope(&mut self) -> Result<(), Error>
-        ensures ok { OnOk result (self.new ≡ self.old ++ empty_scope ∷ []) }
+        ensures ok { OnOk result (self.new ≡ self.old ++ empty_marked (last_of self.old).keeps ∷ []) }
         ensures deep { OnOk result (2 ≤ length self.new) }
         ensures err { OnErr result (self.new ≡ self.old) }
         ensures memory { IfErr result (λ e. e ≡ Error.OutOfMemory) }
     {
         self.outer.reserve(1)?;
-        let around = mem::replace(&mut self.inner, Scope::new(self.alloc));
+        let empty = Marked::new(self.alloc, self.inner.keeps());
+        let around = mem::replace(&mut self.inner, empty);
         self.outer.push_reserved(around);
         Ok(())
     }
@@ -267,7 +288,19 @@ impl Scopes {
         ensures err { OnErr result (self.new ≡ self.old) }
         ensures memory { IfErr result (λ e. e ≡ Error.OutOfMemory) }
     {
-        self.inner.push_type(self.alloc, entry)
+        self.push_marked(entry, Mark::NONE)
+    }
+
+    /// Adds a type of that mark to the last scope, and answers its index there. It refuses for want of memory alone,
+    /// and all is as it was then.
+    pub fn push_marked(&mut self, entry: Rc<DefType>, mark: Mark) -> Result<u32, Error>
+        requires { length (last_of self.old).types < max_u32 }
+        ensures ok { OnOk result (AddsMarked self.old entry.value mark self.new) }
+        ensures index { IfOk result (λ i. i ≡ length (last_of self.old).types) }
+        ensures err { OnErr result (self.new ≡ self.old) }
+        ensures memory { IfErr result (λ e. e ≡ Error.OutOfMemory) }
+    {
+        self.inner.push_type(self.alloc, entry, mark)
     }
 
     /// Adds a core type to the last scope, and answers its index there. It refuses for want of memory alone, and all is
@@ -279,6 +312,18 @@ impl Scopes {
         ensures err { OnErr result (self.new ≡ self.old) }
         ensures memory { IfErr result (λ e. e ≡ Error.OutOfMemory) }
     {
-        self.inner.push_core_type(entry)
+        self.push_sized(entry, 0)
+    }
+
+    /// Adds a core type of that size to the last scope, and answers its index there. It refuses for want of memory
+    /// alone, and all is as it was then.
+    pub fn push_sized(&mut self, entry: Rc<CoreType>, size: u32) -> Result<u32, Error>
+        requires { length (last_of self.old).core_types < max_u32 }
+        ensures ok { OnOk result (AddsSized self.old entry.value size self.new) }
+        ensures index { IfOk result (λ i. i ≡ length (last_of self.old).core_types) }
+        ensures err { OnErr result (self.new ≡ self.old) }
+        ensures memory { IfErr result (λ e. e ≡ Error.OutOfMemory) }
+    {
+        self.inner.push_core_type(entry, size)
     }
 }

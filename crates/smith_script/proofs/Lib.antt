@@ -1,6 +1,7 @@
 pub mod Differing
 pub mod Given
 pub mod Grown
+pub mod Keeps
 pub mod Known
 pub mod Noted
 pub mod Plans

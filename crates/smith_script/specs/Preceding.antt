@@ -1,14 +1,15 @@
 -- What a script needs to know of what there is before a place, and how it grows.
-use Rattle.std.specs.Prelude.{◌≡◌, ℕ, ◌+◌, ◌<◌, List, [], ◌∷◌, ◌++◌, fold, map, length, slice_get, if◌then◌else◌}
+use Rattle.std.specs.Prelude.{◌≡◌, ℕ, Bool, ◌+◌, ◌<◌, List, [], ◌∷◌, ◌++◌, fold, map, length, slice_get, if◌then◌else◌}
 use Rattle.std.specs.List.{AllByRecursion}
 use Rattle.std.specs.Option.{option_to_list}
 use Rattle.smith_syntax.specs.Entries.{Entry, CoreEntry, ImportEntry}
-use Rattle.smith_syntax.specs.Scope.{Scope, empty_scope, with_type, with_core_type}
+use Rattle.smith_syntax.specs.Marked.{Marked, empty_marked}
 use Rattle.smith_syntax.specs.declared.deftype.ComponentTypeRef.{ComponentTypeRef}
 use Rattle.smith_tree.specs.declared.totals.RefTotals.{RefTotals}
+use Rattle.smith_format.specs.declared.config.Config.{Config}
 use Rattle.smith_read_types.specs.TypeNodes.{shown_type_node}
 use Rattle.smith_tree.specs.Offers.{is_scalar_type, scalar_functions, totals_of}
-use Rattle.smith_tree.specs.Open.{scopes_in}
+use Rattle.smith_tree.specs.Marking.{exported_reference, marked_in, marked_inner, with_core_entry, with_exports_entry, with_import_entry, with_type_entry}
 use Rattle.smith_tree.specs.Spaces.{Spaces, spaces_of}
 use Rattle.smith_tree.specs.Tree.{Canon, ExportEntry, lift, lower, Tree, Part, custom, core_module, core_types, component, types, canons}
 use Rattle.smith_tree.specs.Tree.{imports, exports, exports_of, imports_of, function_of, module_of, component_of, instance_of}
@@ -18,7 +19,7 @@ use Rattle.smith_script.specs.declared.preceding.Open.{Open}
 -- where they were added, its core functions by what they lower, how many imports and exports it has, and how many functions; and how many
 -- modules, components and instances there are in the whole tree.
 pub record Preceding : Type 0 where
-  pub scope : Scope
+  pub scope : Marked
   pub types : List Entry
   pub functions : List ℕ
   pub scalars : List ℕ
@@ -28,7 +29,7 @@ pub record Preceding : Type 0 where
   pub totals : RefTotals
 
 -- in an open component of that scope
-abbrev pub preceding : Scope → Open → Preceding
+abbrev pub preceding : Marked → Open → Preceding
 preceding own o = record {
   scope = own;
   types = map shown_type_node o.types;
@@ -69,21 +70,28 @@ with_functions s tys = fold with_function_of s tys
 
 -- after an entry of a section
 
-abbrev pub after_core_type : Preceding → CoreEntry → Preceding
-after_core_type s x = record s { scope = with_core_type s.scope x }
+abbrev pub after_core_type : List Marked → Preceding → CoreEntry → Preceding
+after_core_type outer s x = record s { scope = with_core_entry s.scope x }
 
-abbrev pub after_type : Preceding → Entry → Preceding
-after_type s e = record s { scope = with_type s.scope e; types = s.types ++ e ∷ [] }
+abbrev pub after_type : List Marked → Preceding → Entry → Preceding
+after_type outer s e = record s { scope = with_type_entry outer s.scope e; types = s.types ++ e ∷ [] }
 
-abbrev pub after_canon : Preceding → Canon → Preceding
-after_canon s (lift c t) = record (with_function_of s t) { totals = with_function s.totals }
-after_canon s (lower f) = record s { core_functions = s.core_functions ++ f ∷ []; totals = with_function s.totals }
+abbrev pub after_canon : List Marked → Preceding → Canon → Preceding
+after_canon outer s (lift c t) = record (with_function_of s t) { totals = with_function s.totals }
+after_canon outer s (lower f) = record s { core_functions = s.core_functions ++ f ∷ []; totals = with_function s.totals }
 
-abbrev pub after_import : Preceding → ImportEntry → Preceding
-after_import s x = record (with_functions s (function_of x.to)) { imports = s.imports + 1; totals = with_import s.totals x.to }
+abbrev pub after_import : List Marked → Preceding → ImportEntry → Preceding
+after_import outer s x = record (with_functions s (function_of x.to)) {
+  scope = with_import_entry s.scope x;
+  imports = s.imports + 1;
+  totals = with_import s.totals x.to;
+}
 
-abbrev pub after_export : Preceding → ExportEntry → Preceding
-after_export s x = record (with_functions s (option_to_list (slice_get s.functions x.func))) { exports = s.exports + 1 }
+abbrev pub after_export : List Marked → Preceding → ExportEntry → Preceding
+after_export outer s x = record (with_functions s (option_to_list (slice_get s.functions x.func))) {
+  scope = with_exports_entry s.scope (exported_reference s.functions x);
+  exports = s.exports + 1;
+}
 
 -- after a core module
 abbrev pub after_module : Preceding → Preceding
@@ -91,29 +99,29 @@ after_module s = record s {
   totals = record { modules = s.totals.modules + 1; funcs = s.totals.funcs; components = s.totals.components; instances = s.totals.instances };
 }
 
--- in an empty component of a tree with these totals
-abbrev pub empty_in : RefTotals → Preceding
-empty_in t = record { scope = empty_scope; types = []; functions = []; scalars = []; core_functions = []; imports = 0; exports = 0; totals = t }
+-- in an empty component of a tree with these totals, where marks are kept or not
+abbrev pub empty_in : Bool → RefTotals → Preceding
+empty_in keeps t = record { scope = empty_marked keeps; types = []; functions = []; scalars = []; core_functions = []; imports = 0; exports = 0; totals = t }
 
 -- the totals where a component is opened
 abbrev pub opened : RefTotals → RefTotals
 opened t = record { modules = t.modules; funcs = 0; components = t.components + 1; instances = t.instances }
 
--- after a section. A component in it is none.
-abbrev pub after_section : Part → Preceding → Preceding
-after_section (custom name contents) s = s
-after_section (core_module text) s = after_module s
-after_section (core_types ts) s = fold after_core_type s ts
-after_section (component t) s = s
-after_section (types ts) s = fold after_type s ts
-after_section (canons fs) s = fold after_canon s fs
-after_section (imports is) s = fold after_import s is
-after_section (exports es) s = fold after_export s es
+-- after a section in the scopes around the component. A component in it is none.
+abbrev pub after_section : List Marked → Part → Preceding → Preceding
+after_section outer (custom name contents) s = s
+after_section outer (core_module text) s = after_module s
+after_section outer (core_types ts) s = fold (after_core_type outer) s ts
+after_section outer (component t) s = s
+after_section outer (types ts) s = fold (after_type outer) s ts
+after_section outer (canons fs) s = fold (after_canon outer) s fs
+after_section outer (imports is) s = fold (after_import outer) s is
+after_section outer (exports es) s = fold (after_export outer) s es
 
--- what there is where these spaces are, so many imports and exports, and these totals
-abbrev pub stands : Spaces → ℕ → ℕ → RefTotals → Preceding
-stands sp i e t = record {
-  scope = record { types = sp.types; core_types = sp.core_types };
+-- what there is where this scope and these spaces are, so many imports and exports, and these totals
+abbrev pub stands : Marked → Spaces → ℕ → ℕ → RefTotals → Preceding
+stands own sp i e t = record {
+  scope = own;
   types = sp.types;
   functions = sp.functions;
   scalars = scalar_functions sp;
@@ -127,15 +135,15 @@ stands sp i e t = record {
 abbrev pub totals_in : List Tree → Tree → RefTotals
 totals_in outer t = totals_of (record { outer = outer; inner = t })
 
-abbrev pub standing_at : List Tree → Tree → Preceding
-standing_at outer t = stands (spaces_of t) (length (imports_of t)) (length (exports_of t)) (totals_in outer t)
+abbrev pub standing_at : Config → List Tree → Tree → Preceding
+standing_at config outer t = stands (marked_inner config outer t) (spaces_of t) (length (imports_of t)) (length (exports_of t)) (totals_in outer t)
 
 -- The types of all component functions are there.
 abbrev pub Known : Spaces → Type 0
 Known sp = AllByRecursion (λ ty. ty < length sp.types) sp.functions
 
 -- Where these components are open, the inner one after these parts, there are these scopes around, and this before.
-pub record IsAfter (outer : List Tree) (before : Tree) (around : List Scope) (s : Preceding) : Type 0 where
-  pub scopes : around ≡ scopes_in outer
-  pub here : s ≡ standing_at outer before
+pub record IsAfter (config : Config) (outer : List Tree) (before : Tree) (around : List Marked) (s : Preceding) : Type 0 where
+  pub scopes : around ≡ marked_in config outer
+  pub here : s ≡ standing_at config outer before
   pub known : Known (spaces_of before)

@@ -6,7 +6,7 @@ use Rattle.smith_input.specs.Script.{pick, script_among, script_bytes, script_lo
 use Rattle.smith_core.specs.StandInScript.{script_stand_in, stand_in_of}
 use Rattle.smith_format.specs.declared.config.Config.{Config}
 use Rattle.smith_syntax.specs.Entries.{Entry, CoreEntry, ImportEntry}
-use Rattle.smith_syntax.specs.Scope.{Scope}
+use Rattle.smith_syntax.specs.Marked.{Marked, scope_in}
 use Rattle.smith_tree.specs.CoreTypeScript.{script_core}
 use Rattle.smith_tree.specs.TypeScript.{script_extern, script_ref, script_type}
 use Rattle.smith_tree.specs.CanonScript.{canon_item_of, script_lift}
@@ -20,10 +20,10 @@ use Rattle.smith_script.specs.Preceding.{Preceding, after_canon, after_core_type
 
 -- entries of sections
 
-abbrev pub core_type_says : Config → List Scope → Preceding → CoreEntry → List ℕ
-core_type_says config outer s x = script_core config s.scope config.max_type_size x
+abbrev pub core_type_says : Config → List Marked → Preceding → CoreEntry → List ℕ
+core_type_says config outer s x = script_core config (scope_in s.scope) config.max_type_size x
 
-abbrev pub type_says : Config → List Scope → Preceding → Entry → List ℕ
+abbrev pub type_says : Config → List Marked → Preceding → Entry → List ℕ
 type_says config outer s e = script_type e config config.max_type_size s.scope outer
 
 -- a canonical function: which of two it is, and what it is of
@@ -38,13 +38,13 @@ canon_rest_says s (lower f) = script_among nat_eq s.scalars f
 abbrev pub canon_says : Preceding → Canon → List ℕ
 canon_says s c = canon_item_says s c ++ canon_rest_says s c
 
-abbrev pub canon_row_says : Config → List Scope → Preceding → Canon → List ℕ
+abbrev pub canon_row_says : Config → List Marked → Preceding → Canon → List ℕ
 canon_row_says config outer s c = canon_says s c
 
-abbrev pub import_says : Config → List Scope → Preceding → ImportEntry → List ℕ
+abbrev pub import_says : Config → List Marked → Preceding → ImportEntry → List ℕ
 import_says config outer s x = script_ref config s.scope s.totals true false x.to ++ script_extern s.imports x.name
 
-abbrev pub export_says : Config → List Scope → Preceding → ExportEntry → List ℕ
+abbrev pub export_says : Config → List Marked → Preceding → ExportEntry → List ℕ
 export_says config outer s x = pick (length s.functions) x.func ++ script_new 100 s.exports x.name
 
 -- a section of entries
@@ -52,7 +52,7 @@ abbrev pub rows_say : {A : Type 0} → (Preceding → A → List ℕ) → (Prece
 rows_say says after max s xs = script_loop says after 0 max 0 s xs
 
 -- the choice of an item after so many sections
-abbrev pub item_says : Config → List Scope → ℕ → Preceding → Item → List ℕ
+abbrev pub item_says : Config → List Marked → ℕ → Preceding → Item → List ℕ
 item_says config outer sections s chosen =
     script_among equal.eq
     (more_items (nat_le config.finish_after sections) (nat_lt s.totals.modules config.max_modules)
@@ -60,12 +60,12 @@ item_says config outer sections s chosen =
     chosen
 
 -- what follows the choice of the item of a section. A component in it is none.
-abbrev pub section_says : Part → Config → List Scope → Preceding → List ℕ
+abbrev pub section_says : Part → Config → List Marked → Preceding → List ℕ
 section_says (custom name contents) config outer s = script_text 1000 name ++ script_bytes contents
 section_says (core_module text) config outer s = script_stand_in config (stand_in_of text)
-section_says (core_types ts) config outer s = rows_say (core_type_says config outer) after_core_type (config.max_types - length s.scope.core_types) s ts
+section_says (core_types ts) config outer s = rows_say (core_type_says config outer) (after_core_type outer) (config.max_types - length s.scope.core_types) s ts
 section_says (component t) config outer s = []
-section_says (types ts) config outer s = rows_say (type_says config outer) after_type (config.max_types - length s.scope.types) s ts
-section_says (canons fs) config outer s = rows_say (canon_row_says config outer) after_canon (config.max_funcs - s.totals.funcs) s fs
-section_says (imports is) config outer s = rows_say (import_says config outer) after_import (config.max_imports - s.imports) s is
-section_says (exports es) config outer s = rows_say (export_says config outer) after_export (config.max_exports - s.exports) s es
+section_says (types ts) config outer s = rows_say (type_says config outer) (after_type outer) (config.max_types - length s.scope.types) s ts
+section_says (canons fs) config outer s = rows_say (canon_row_says config outer) (after_canon outer) (config.max_funcs - s.totals.funcs) s fs
+section_says (imports is) config outer s = rows_say (import_says config outer) (after_import outer) (config.max_imports - s.imports) s is
+section_says (exports es) config outer s = rows_say (export_says config outer) (after_export outer) (config.max_exports - s.exports) s es

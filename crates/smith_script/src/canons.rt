@@ -1,6 +1,6 @@
 //! Canonical functions.
 
-ghost use Rattle.smith_syntax.specs.Scope.{Scope};
+ghost use Rattle.smith_syntax.specs.Marked.{Marked};
 ghost use Rattle.smith_read.specs.PartNodes.{shown_canon_node};
 ghost use Rattle.smith_script_core.specs.Says.{Says};
 ghost use Rattle.smith_script.specs.Saying.{canon_item_says, canon_rest_says, canon_says};
@@ -20,7 +20,7 @@ fn put_canon_item(
     here: &Open<'_>,
     canon: &CanonNode,
 ) -> Result<(), Error>
-    ensures { (own : Scope) → Says result out.old out.new
+    ensures { (own : Marked) → Says result out.old out.new
         (canon_item_says (preceding own here.now) (shown_canon_node canon.now)) }
 {
     let item = match canon {
@@ -36,7 +36,7 @@ fn put_canon_item(
 
 // What follows the choice of the item.
 fn put_canon_rest(out: &mut Vec<u8>, here: &Open<'_>, canon: &CanonNode) -> Result<(), Error>
-    ensures { (own : Scope) → Says result out.old out.new
+    ensures { (own : Marked) → Says result out.old out.new
         (canon_rest_says (preceding own here.now) (shown_canon_node canon.now)) }
 {
     match *canon {
@@ -55,7 +55,7 @@ pub(crate) fn put_canon(
     here: &Open<'_>,
     canon: &CanonNode,
 ) -> Result<(), Error>
-    ensures { (own : Scope) → Says result out.old out.new
+    ensures { (own : Marked) → Says result out.old out.new
         (canon_says (preceding own here.now) (shown_canon_node canon.now)) }
 {
     put_canon_item(alloc, out, here, canon)?;

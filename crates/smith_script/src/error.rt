@@ -14,6 +14,8 @@ pub enum Unkept {
     Below { name: &'static str, value: usize },
     /// There is what takes a feature that is off.
     Off { name: &'static str },
+    /// There is what a demand excludes that is on.
+    On { name: &'static str },
 }
 
 impl fmt::Display for Unkept {
@@ -22,6 +24,7 @@ impl fmt::Display for Unkept {
             Unkept::Above { name, value } => write!(f, "more than {name} = {value}"),
             Unkept::Below { name, value } => write!(f, "less than {name} = {value}"),
             Unkept::Off { name } => write!(f, "{name} = false"),
+            Unkept::On { name } => write!(f, "{name} = true"),
         }
     }
 }

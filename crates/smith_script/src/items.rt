@@ -3,8 +3,8 @@
 ghost use Rattle.std.specs.Prelude.{◌≡◌, ◌+◌, List, length, IfOk, IfErr};
 ghost use Rattle.smith_input.specs.declared.error.Error.TheVariants.{OutOfMemory};
 ghost use Rattle.smith_read.specs.PartNodes.{shown_part_node};
-ghost use Rattle.smith_read_scopes.specs.Scopes.{outer_in};
-ghost use Rattle.smith_syntax.specs.Scope.{Scope};
+ghost use Rattle.smith_read_scopes.specs.Scopes.{outer_marked_in};
+ghost use Rattle.smith_syntax.specs.Marked.{Marked};
 ghost use Rattle.smith_tree.specs.Script.{item_of};
 ghost use Rattle.smith_script_core.specs.Says.{Says};
 ghost use Rattle.smith_script.specs.Saying.{item_says};
@@ -42,7 +42,7 @@ pub(crate) struct Turn {
 impl Turn {
     /// The first turn of a component in these scopes.
     pub(crate) fn first(scopes: &Scopes<'_>) -> Turn
-        ensures depth { length (outer_in scopes.now) ≡ result.depth }
+        ensures depth { length (outer_marked_in scopes.now) ≡ result.depth }
         ensures none { result.sections ≡ 0 }
     {
         let depth = scopes.outer.len();
@@ -67,7 +67,7 @@ pub(crate) fn put_item(
     here: &Open<'_>,
     item: Item,
 ) -> Result<(), Error>
-    ensures { (own : Scope) (outer : List Scope) → length outer ≡ turn.depth → Says result out.old out.new
+    ensures { (own : Marked) (outer : List Marked) → length outer ≡ turn.depth → Says result out.old out.new
         (item_says given.entry.config.now outer turn.sections (preceding own here.now) item) }
 {
     let config = given.config;

@@ -1,7 +1,7 @@
 //! The types of lifts.
 
 ghost use Rattle.std.specs.Prelude.{◌≡◌, Some, map, slice_get};
-ghost use Rattle.smith_syntax.specs.Scope.{Scope};
+ghost use Rattle.smith_syntax.specs.Marked.{Marked};
 ghost use Rattle.smith_syntax.specs.Signature.{named};
 ghost use Rattle.smith_read_types.specs.TypeNodes.{shown_type_node};
 ghost use Rattle.smith_tree.specs.TypeScript.{script_lifted, script_params, script_result, script_scalar};
@@ -68,7 +68,7 @@ fn put_signature(out: &mut Vec<u8>, signature: &FuncType) -> Result<(), Error>
 // and a choice among the types that are equal to it.
 fn put_lift_to(out: &mut Vec<u8>, here: &Open<'_>, ty: u32, entry: &TypeNode) -> Result<(), Error>
     requires { slice_get (map shown_type_node here.now.types) ty ≡ Some (shown_type_node entry.now) }
-    ensures { (own : Scope) → Says result out.old out.new
+    ensures { (own : Marked) → Says result out.old out.new
         (script_lift (spaces_in (preceding own here.now)) ty (Some (shown_type_node entry.now))) }
 {
     match entry {
@@ -82,7 +82,7 @@ fn put_lift_to(out: &mut Vec<u8>, here: &Open<'_>, ty: u32, entry: &TypeNode) ->
 
 /// What follows the choice of the core function of a lift to the type of that index.
 pub(crate) fn put_lifted(out: &mut Vec<u8>, here: &Open<'_>, ty: u32) -> Result<(), Error>
-    ensures { (own : Scope) → Says result out.old out.new (script_lift (spaces_in (preceding own here.now)) ty
+    ensures { (own : Marked) → Says result out.old out.new (script_lift (spaces_in (preceding own here.now)) ty
         (slice_get (preceding own here.now).types ty)) }
 {
     match here.types.get(ty) {

@@ -3,12 +3,13 @@
 ghost use Rattle.std.specs.Prelude.{◌≡◌, ◌++◌, ◌-◌, List, IfOk, IfErr, OnOk, map};
 ghost use Rattle.smith_input.specs.Script.{script_bytes, script_text};
 ghost use Rattle.smith_core.specs.StandInScript.{script_stand_in, stand_in_of};
-ghost use Rattle.smith_syntax.specs.Scope.{Scope, empty_scope};
+ghost use Rattle.smith_syntax.specs.Marked.{Marked, empty_marked};
+ghost use Rattle.smith_tree.specs.Open.{scopes_in};
 ghost use Rattle.smith_tree.specs.Tree.{Tree, add, ends, tree_of};
 ghost use Rattle.smith_tree.specs.WellFormed.{Formed, FormedPart, WellFormed};
 ghost use Rattle.smith_tree.specs.Script.{script, script_from, script_part};
 ghost use Rattle.smith_read.specs.PartNodes.{shown_part_node, shown_tree};
-ghost use Rattle.smith_read_scopes.specs.Scopes.{outer_in, own_in};
+ghost use Rattle.smith_read_scopes.specs.Scopes.{outer_marked_in, own_marked_in};
 ghost use Rattle.smith_script_core.specs.Says.{Says};
 ghost use Rattle.smith_input.specs.declared.error.Error.TheVariants.{OutOfMemory};
 ghost use Rattle.smith_script.specs.Saying.{section_says};
@@ -52,7 +53,7 @@ fn put_module(
     text: &[u8],
 ) -> Result<(), Error>
     ensures said { Says result out.old out.new (script_stand_in given.entry.config.now (stand_in_of text.now)) }
-    ensures added { (own : Scope) → OnOk result (preceding own here.new ≡ after_module (preceding own here.old)) }
+    ensures added { (own : Marked) → OnOk result (preceding own here.new ≡ after_module (preceding own here.old)) }
 {
     put_stand_in(given.alloc, out, given.config, text)?;
     here.add_module()
@@ -68,10 +69,10 @@ fn put_section<'a>(
     part: &'a PartNode,
 ) -> Result<(), Error>
     ensures said { Says result out.old out.new (section_says (shown_part_node part.now) given.entry.config.now
-        (outer_in scopes.old) (preceding (own_in scopes.old) here.old)) }
-    ensures added { OnOk result (preceding (own_in scopes.new) here.new
-        ≡ after_section (shown_part_node part.now) (preceding (own_in scopes.old) here.old)) }
-    ensures outer { OnOk result (outer_in scopes.new ≡ outer_in scopes.old) }
+        (outer_marked_in scopes.old) (preceding (own_marked_in scopes.old) here.old)) }
+    ensures added { OnOk result (preceding (own_marked_in scopes.new) here.new
+        ≡ after_section (outer_marked_in scopes.old) (shown_part_node part.now) (preceding (own_marked_in scopes.old) here.old)) }
+    ensures outer { OnOk result (outer_marked_in scopes.new ≡ outer_marked_in scopes.old) }
 {
     let config = given.config;
     match part {
@@ -110,16 +111,18 @@ fn put_part<'a>(
     here: &mut Open<'a>,
     part: &'a PartNode,
 ) -> Result<(), Error>
+    requires { (own_marked_in scopes.old).keeps ≡ given.config.now.must_validate }
     ensures said { (outer : List Tree) (before : Tree)
-        → IsAfter outer before (outer_in scopes.old) (preceding (own_in scopes.old) here.old)
-        → FormedPart (shown_part_node part.now) (outer_in scopes.old) before → Says result out.old out.new
+        → IsAfter given.entry.config.now outer before (outer_marked_in scopes.old) (preceding (own_marked_in scopes.old) here.old)
+        → FormedPart (shown_part_node part.now) (scopes_in outer) before → Says result out.old out.new
         (script_part (shown_part_node part.now) given.entry.config.now outer before) }
     ensures added { (outer : List Tree) (before : Tree)
-        → IsAfter outer before (outer_in scopes.old) (preceding (own_in scopes.old) here.old)
-        → FormedPart (shown_part_node part.now) (outer_in scopes.old) before → OnOk result
-        (IsAfter outer (add before (shown_part_node part.now)) (outer_in scopes.old)
-        (preceding (own_in scopes.new) here.new)) }
-    ensures outer { OnOk result (outer_in scopes.new ≡ outer_in scopes.old) }
+        → IsAfter given.entry.config.now outer before (outer_marked_in scopes.old) (preceding (own_marked_in scopes.old) here.old)
+        → FormedPart (shown_part_node part.now) (scopes_in outer) before → OnOk result
+        (IsAfter given.entry.config.now outer (add before (shown_part_node part.now)) (outer_marked_in scopes.old)
+        (preceding (own_marked_in scopes.new) here.new)) }
+    ensures keeps { OnOk result ((own_marked_in scopes.new).keeps ≡ (own_marked_in scopes.old).keeps) }
+    ensures outer { OnOk result (outer_marked_in scopes.new ≡ outer_marked_in scopes.old) }
 {
     match part {
         PartNode::Component(parts) => {
@@ -152,14 +155,16 @@ fn put_parts<'a>(
     totals: RefTotals,
     parts: &'a [PartNode],
 ) -> Result<RefTotals, Error>
-    requires { own_in scopes.old ≡ empty_scope }
-    ensures said { (outer : List Tree) → IsAfter outer ends (outer_in scopes.old) (empty_in totals)
-        → Formed (tree_of (map shown_part_node parts.now)) (outer_in scopes.old) ends → Says result out.old out.new
+    requires { own_marked_in scopes.old ≡ empty_marked given.config.now.must_validate }
+    ensures said { (outer : List Tree) → IsAfter given.entry.config.now outer ends (outer_marked_in scopes.old)
+        (empty_in given.entry.config.now.must_validate totals)
+        → Formed (tree_of (map shown_part_node parts.now)) (scopes_in outer) ends → Says result out.old out.new
         (script_from (tree_of (map shown_part_node parts.now)) given.entry.config.now outer ends) }
-    ensures totals { (outer : List Tree) → IsAfter outer ends (outer_in scopes.old) (empty_in totals)
-        → Formed (tree_of (map shown_part_node parts.now)) (outer_in scopes.old) ends
+    ensures totals { (outer : List Tree) → IsAfter given.entry.config.now outer ends (outer_marked_in scopes.old)
+        (empty_in given.entry.config.now.must_validate totals)
+        → Formed (tree_of (map shown_part_node parts.now)) (scopes_in outer) ends
         → IfOk result (λ t. t ≡ totals_in outer (tree_of (map shown_part_node parts.now))) }
-    ensures outer { OnOk result (outer_in scopes.new ≡ outer_in scopes.old) }
+    ensures outer { OnOk result (outer_marked_in scopes.new ≡ outer_marked_in scopes.old) }
 {
     let mut here = Open::new(given.alloc, totals);
     let mut turn = Turn::first(scopes);
@@ -187,7 +192,7 @@ pub(crate) fn put_tree(
         components: 0,
         instances: 0,
     };
-    let mut scopes = Scopes::new(given.alloc);
+    let mut scopes = Scopes::with_marks(given.alloc, given.config.must_validate);
     put_parts(given, out, &mut scopes, totals, &tree.parts)?;
     Ok(())
 }

@@ -1,10 +1,11 @@
 //! What there is before a place in an open component.
 
-ghost use Rattle.std.specs.Prelude.{◌≡◌, ◌+◌, ◌∷◌, [], map, IfOk, IfErr, OnOk};
+ghost use Rattle.std.specs.Prelude.{◌≡◌, Bool, List, ◌+◌, ◌∷◌, [], map, IfOk, IfErr, OnOk};
 ghost use Rattle.std.specs.Option.{option_to_list};
 ghost use Rattle.smith_read_types.specs.TypeNodes.{shown_type_node};
 ghost use Rattle.smith_read.specs.PartNodes.{shown_export_node, shown_import_node};
-ghost use Rattle.smith_syntax.specs.Scope.{Scope, empty_scope, with_type};
+ghost use Rattle.smith_syntax.specs.Marked.{Marked, empty_marked};
+ghost use Rattle.smith_tree.specs.Marking.{exported_reference, with_exports_entry, with_import_entry, with_type_entry};
 ghost use Rattle.smith_tree.specs.Offers.{is_scalar_entry, is_scalar_type};
 ghost use Rattle.smith_tree.specs.Tree.{function_of, lift, lower};
 ghost use Rattle.smith_input.specs.declared.error.Error.TheVariants.{OutOfMemory};
@@ -93,7 +94,7 @@ impl<'a> Types<'a> {
 impl<'a> Open<'a> {
     /// An empty component.
     pub(crate) fn new(alloc: Global, totals: RefTotals) -> Open<'a>
-        ensures { preceding empty_scope result ≡ empty_in totals }
+        ensures { (keeps : Bool) → preceding (empty_marked keeps) result ≡ empty_in keeps totals }
     {
         Open {
             types: Types::new(alloc),
@@ -107,7 +108,7 @@ impl<'a> Open<'a> {
 
     // One component function more, of the type with that index.
     fn add_function(&mut self, ty: u32) -> Result<(), Error>
-        ensures added { (own : Scope) → OnOk result
+        ensures added { (own : Marked) → OnOk result
             (preceding own self.new ≡ with_functions (preceding own self.old) (ty ∷ [])) }
         ensures memory { IfErr result (λ e. e ≡ OutOfMemory) }
     {
@@ -118,7 +119,7 @@ impl<'a> Open<'a> {
 
     // The same if there is a type.
     fn add_function_of(&mut self, ty: Option<u32>) -> Result<(), Error>
-        ensures added { (own : Scope) → OnOk result
+        ensures added { (own : Marked) → OnOk result
             (preceding own self.new ≡ with_functions (preceding own self.old) (option_to_list ty)) }
         ensures memory { IfErr result (λ e. e ≡ OutOfMemory) }
     {
@@ -129,7 +130,7 @@ impl<'a> Open<'a> {
     }
 
     pub(crate) fn add_module(&mut self) -> Result<(), Error>
-        ensures added { (own : Scope) → OnOk result (preceding own self.new ≡ after_module (preceding own self.old)) }
+        ensures added { (own : Marked) → OnOk result (preceding own self.new ≡ after_module (preceding own self.old)) }
         ensures memory { IfErr result (λ e. e ≡ OutOfMemory) }
     {
         self.totals.modules = one_more(self.totals.modules)?;
@@ -137,8 +138,9 @@ impl<'a> Open<'a> {
     }
 
     pub(crate) fn add_type(&mut self, ty: &'a TypeNode) -> Result<(), Error>
-        ensures added { (own : Scope) → OnOk result (preceding (with_type own (shown_type_node ty.now)) self.new
-            ≡ after_type (preceding own self.old) (shown_type_node ty.now)) }
+        ensures added { (own : Marked) (outer : List Marked) → OnOk result
+            (preceding (with_type_entry outer own (shown_type_node ty.now)) self.new
+            ≡ after_type outer (preceding own self.old) (shown_type_node ty.now)) }
         ensures memory { IfErr result (λ e. e ≡ OutOfMemory) }
     {
         self.types.push(ty)?;
@@ -146,8 +148,8 @@ impl<'a> Open<'a> {
     }
 
     pub(crate) fn add_lift(&mut self, core_func: u32, ty: u32) -> Result<(), Error>
-        ensures added { (own : Scope) → OnOk result
-            (preceding own self.new ≡ after_canon (preceding own self.old) (lift core_func ty)) }
+        ensures added { (own : Marked) (outer : List Marked) → OnOk result
+            (preceding own self.new ≡ after_canon outer (preceding own self.old) (lift core_func ty)) }
         ensures memory { IfErr result (λ e. e ≡ OutOfMemory) }
     {
         self.add_function(ty)?;
@@ -156,8 +158,8 @@ impl<'a> Open<'a> {
     }
 
     pub(crate) fn add_lower(&mut self, func: u32) -> Result<(), Error>
-        ensures added { (own : Scope) → OnOk result
-            (preceding own self.new ≡ after_canon (preceding own self.old) (lower func)) }
+        ensures added { (own : Marked) (outer : List Marked) → OnOk result
+            (preceding own self.new ≡ after_canon outer (preceding own self.old) (lower func)) }
         ensures memory { IfErr result (λ e. e ≡ OutOfMemory) }
     {
         self.core_functions.push(func)?;
@@ -166,8 +168,9 @@ impl<'a> Open<'a> {
     }
 
     pub(crate) fn add_import(&mut self, import: &ImportNode) -> Result<(), Error>
-        ensures added { (own : Scope) → OnOk result
-            (preceding own self.new ≡ after_import (preceding own self.old) (shown_import_node import.now)) }
+        ensures added { (own : Marked) (outer : List Marked) → OnOk result
+            (preceding (with_import_entry own (shown_import_node import.now)) self.new
+            ≡ after_import outer (preceding own self.old) (shown_import_node import.now)) }
         ensures memory { IfErr result (λ e. e ≡ OutOfMemory) }
     {
         self.add_function_of(function_of(import.to))?;
@@ -177,8 +180,10 @@ impl<'a> Open<'a> {
     }
 
     pub(crate) fn add_export(&mut self, export: &ExportNode) -> Result<(), Error>
-        ensures added { (own : Scope) → OnOk result
-            (preceding own self.new ≡ after_export (preceding own self.old) (shown_export_node export.now)) }
+        ensures added { (own : Marked) (outer : List Marked) → OnOk result
+            (preceding (with_exports_entry own
+            (exported_reference (preceding own self.old).functions (shown_export_node export.now))) self.new
+            ≡ after_export outer (preceding own self.old) (shown_export_node export.now)) }
         ensures memory { IfErr result (λ e. e ≡ OutOfMemory) }
     {
         let ty = self.functions.type_of(export.func);

@@ -1,13 +1,15 @@
 //! Sections that are lists.
 
-ghost use Rattle.std.specs.Prelude.{◌≡◌, ℕ, List, fold, map, OnOk};
+ghost use Rattle.std.specs.Prelude.{◌≡◌, ℕ, List, fold, map, slice_get, OnOk};
+ghost use Rattle.std.specs.Option.{option_to_list};
 ghost use Rattle.smith_format.specs.declared.config.Config.{Config};
 ghost use Rattle.smith_syntax.specs.Entries.{CoreEntry, Entry, ImportEntry};
-ghost use Rattle.smith_syntax.specs.Scope.{Scope};
+ghost use Rattle.smith_syntax.specs.Marked.{Marked};
 ghost use Rattle.smith_read_types.specs.Nodes.{shown_core_node};
 ghost use Rattle.smith_read_types.specs.TypeNodes.{shown_type_node};
 ghost use Rattle.smith_read.specs.PartNodes.{shown_canon_node, shown_export_node, shown_import_node};
-ghost use Rattle.smith_read_scopes.specs.Scopes.{outer_in, own_in};
+ghost use Rattle.smith_read_scopes.specs.Scopes.{outer_marked_in, own_marked_in};
+ghost use Rattle.smith_tree.specs.Marking.{with_exports_entry};
 ghost use Rattle.smith_tree.specs.Tree.{Canon, ExportEntry};
 ghost use Rattle.smith_script_core.specs.Says.{Says};
 ghost use Rattle.smith_script.specs.Saying.{canon_row_says, core_type_says, export_says, import_says, rows_say};
@@ -23,6 +25,7 @@ use smith_script_types::{
     Error, Given, Purpose, put_choice, put_core, put_end, put_extern, put_more, put_name,
     put_reference, put_type,
 };
+use smith_syntax::ComponentTypeRef;
 
 /// An entry of a section.
 pub(crate) trait Row {
@@ -30,9 +33,9 @@ pub(crate) trait Row {
 
     ghost shown: { Self → Shown };
 
-    ghost says: { Config → List Scope → Preceding → Shown → List ℕ };
+    ghost says: { Config → List Marked → Preceding → Shown → List ℕ };
 
-    ghost after: { Preceding → Shown → Preceding };
+    ghost after: { List Marked → Preceding → Shown → Preceding };
 
     /// Puts the script of the entry, and adds it to what is before the next.
     fn put<'a>(
@@ -42,11 +45,11 @@ pub(crate) trait Row {
         scopes: &mut Scopes<'a>,
         here: &mut Open<'a>,
     ) -> Result<(), Error>
-        ensures said { Says result out.old out.new (says given.entry.config.now (outer_in scopes.old)
-            (preceding (own_in scopes.old) here.old) (shown self.now)) }
-        ensures added { OnOk result (preceding (own_in scopes.new) here.new
-            ≡ after (preceding (own_in scopes.old) here.old) (shown self.now)) }
-        ensures outer { OnOk result (outer_in scopes.new ≡ outer_in scopes.old) };
+        ensures said { Says result out.old out.new (says given.entry.config.now (outer_marked_in scopes.old)
+            (preceding (own_marked_in scopes.old) here.old) (shown self.now)) }
+        ensures added { OnOk result (preceding (own_marked_in scopes.new) here.new
+            ≡ after (outer_marked_in scopes.old) (preceding (own_marked_in scopes.old) here.old) (shown self.now)) }
+        ensures outer { OnOk result (outer_marked_in scopes.new ≡ outer_marked_in scopes.old) };
 }
 
 /// A section with these entries, of which there are at most so many.
@@ -59,11 +62,11 @@ pub(crate) fn put_rows<'a, T: Row>(
     rows: &'a [T],
 ) -> Result<(), Error>
     ensures said { Says result out.old out.new (rows_say
-        (T.says given.entry.config.now (outer_in scopes.old)) T.after max (preceding (own_in scopes.old) here.old)
-        (map T.shown rows.now)) }
-    ensures added { OnOk result (preceding (own_in scopes.new) here.new
-        ≡ fold T.after (preceding (own_in scopes.old) here.old) (map T.shown rows.now)) }
-    ensures outer { OnOk result (outer_in scopes.new ≡ outer_in scopes.old) }
+        (T.says given.entry.config.now (outer_marked_in scopes.old)) (T.after (outer_marked_in scopes.old)) max
+        (preceding (own_marked_in scopes.old) here.old) (map T.shown rows.now)) }
+    ensures added { OnOk result (preceding (own_marked_in scopes.new) here.new
+        ≡ fold (T.after (outer_marked_in scopes.old)) (preceding (own_marked_in scopes.old) here.old) (map T.shown rows.now)) }
+    ensures outer { OnOk result (outer_marked_in scopes.new ≡ outer_marked_in scopes.old) }
 {
     let mut done = 0;
     for row in rows {
@@ -91,7 +94,7 @@ impl Row for CoreNode {
         _here: &mut Open<'a>,
     ) -> Result<(), Error> {
         put_core(out, given.place(scopes), given.config.max_type_size, self)?;
-        scopes.add_core_type(self)?;
+        scopes.add_core_entry(given.alloc, self)?;
         Ok(())
     }
 }
@@ -112,8 +115,8 @@ impl Row for TypeNode {
         scopes: &mut Scopes<'a>,
         here: &mut Open<'a>,
     ) -> Result<(), Error> {
-        put_type(out, given, scopes, given.config.max_type_size, self)?;
-        scopes.add_type(self)?;
+        let typed = put_type(out, given, scopes, given.config.max_type_size, self)?;
+        scopes.add_marked(self, typed.mark)?;
         here.add_type(self)
     }
 }
@@ -165,7 +168,19 @@ impl Row for ImportNode {
         };
         put_reference(out, given.place(scopes), purpose, self.to)?;
         put_extern(out, here.imports, &self.name)?;
+        scopes.note_import(self.to);
         here.add_import(self)
+    }
+}
+
+// Notes the export of a function, of the type of the function that it names.
+fn note_export(scopes: &mut Scopes<'_>, here: &Open<'_>, func: u32)
+    ensures own { own_marked_in scopes.new ≡ with_exports_entry (own_marked_in scopes.old)
+        (map (λ t. ComponentTypeRef.Func t) (option_to_list (slice_get (preceding (own_marked_in scopes.old) here.now).functions func))) }
+    ensures outer { outer_marked_in scopes.new ≡ outer_marked_in scopes.old }
+{
+    if let Some(ty) = here.functions.type_of(func) {
+        scopes.note_export(ComponentTypeRef::Func(ty));
     }
 }
 
@@ -182,11 +197,12 @@ impl Row for ExportNode {
         &'a self,
         _given: Given<'_>,
         out: &mut Vec<u8>,
-        _scopes: &mut Scopes<'a>,
+        scopes: &mut Scopes<'a>,
         here: &mut Open<'a>,
     ) -> Result<(), Error> {
         put_choice(out, here.functions.len(), self.func as usize)?;
         put_name(out, here.exports, &self.name)?;
+        note_export(scopes, here, self.func);
         here.add_export(self)
     }
 }

@@ -13,7 +13,7 @@ ghost use Rattle.smith_script.specs.declared.error.ScriptError.TheVariants.{Inco
 ghost use Rattle.smith_script.specs.declared.scripting.Trial.TheVariants as trial;
 
 use crate::difference::common_length;
-use crate::error::ScriptError;
+use crate::error::{ScriptError, Unkept};
 use crate::limits::unkept;
 use crate::parts::put_tree;
 use smith_check::{Judgement, judged};
@@ -67,9 +67,37 @@ fn tried(alloc: Global, config: &Config, input: &[u8], bytes: &[u8]) -> Result<T
     }
 }
 
+// Does a script produce the component where components need not validate?
+fn would_be_given(alloc: Global, config: &Config, bytes: &[u8], tree: &ComponentTree) -> bool {
+    let config = Config {
+        must_validate: false,
+        ..*config
+    };
+    let mut input = Vec::new(alloc);
+    let given = Given {
+        alloc,
+        config: &config,
+    };
+    put_tree(&mut input, given, tree).is_ok()
+        && matches!(tried(alloc, &config, &input, bytes), Ok(Trial::These))
+}
+
+// The limit that the component does not keep, if one is found.
+fn limit_of(given: Given<'_>, bytes: &[u8], tree: &ComponentTree) -> Option<Unkept> {
+    let limit = unkept(given.config, tree);
+    let demands = limit.is_none() && given.config.must_validate;
+    if demands && would_be_given(given.alloc, given.config, bytes, tree) {
+        return Some(Unkept::On {
+            name: "must_validate",
+        });
+    }
+    limit
+}
+
 // That no input produces the component, where its script was tried, or as much of it as there is.
 fn no_script(
-    config: &Config,
+    given: Given<'_>,
+    bytes: &[u8],
     tree: &ComponentTree,
     tried: Result<Trial, ScriptError>,
 ) -> ScriptError
@@ -80,7 +108,7 @@ fn no_script(
         _ => None,
     };
     ScriptError::NoScript {
-        limit: unkept(config, tree),
+        limit: limit_of(given, bytes, tree),
         offset,
     }
 }
@@ -106,12 +134,12 @@ fn written(
         Err(Error::OutOfMemory) => return Err(ScriptError::OutOfMemory),
         Err(_) => {
             let part = tried(alloc, config, &input, bytes);
-            return Err(no_script(config, tree, part));
+            return Err(no_script(Given { alloc, config }, bytes, tree, part));
         }
     }
     match tried(alloc, config, &input, bytes)? {
         Trial::These => Ok(input),
-        other => Err(no_script(config, tree, Ok(other))),
+        other => Err(no_script(Given { alloc, config }, bytes, tree, Ok(other))),
     }
 }
 

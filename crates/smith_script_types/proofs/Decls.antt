@@ -6,7 +6,7 @@ use Rattle.std.specs.declared.vec.Vec.{Vec}
 use Rattle.smith_input.specs.Script.{script_end}
 use Rattle.smith_format.specs.declared.config.Config.{Config}
 use Rattle.smith_syntax.specs.Entries.{in_order}
-use Rattle.smith_syntax.specs.Scope.{Scope, after_decl}
+use Rattle.smith_syntax.specs.Marked.{Marked, marked_after, marked_after_all}
 use Rattle.smith_read_types.specs.TypeNodes.{shown_decl_node}
 use Rattle.smith_read_types.specs.declared.nodes.DeclNode.{DeclNode}
 use Rattle.smith_tree.specs.TypeNeeds.{decl_cost, decls_cost}
@@ -14,21 +14,21 @@ use Rattle.smith_tree.specs.TypeScript.{Taken, after_taken, script_decl, script_
 use Rattle.smith_script_core.proofs.Saying.{Towards, towards_step}
 use Rattle.smith_script_core.specs.Says.{Adds}
 
-module _ (config : Config) (importing : Bool) (outer : List Scope) where
+module _ (config : Config) (importing : Bool) (outer : List Marked) where
   -- a declaration, and those after it
-  pub decls_at : (xs : List DeclNode) (i fuel : ℕ) (taken : Taken) (own : Scope) (x : DeclNode) → i < length xs → x ≡ get_or xs i x
+  pub decls_at : (xs : List DeclNode) (i fuel : ℕ) (taken : Taken) (own : Marked) (x : DeclNode) → i < length xs → x ≡ get_or xs i x
       → script_decls (in_order (map shown_decl_node (drop i xs))) config importing fuel i taken own outer
       ≡ (1 ∷ []) ++ (script_decl (shown_decl_node x) config importing (fuel - 1) taken own outer
       ++ script_decls (in_order (map shown_decl_node (drop (suc i) xs))) config importing (fuel - 1 - decl_cost (shown_decl_node x)) (i + 1)
-      (after_taken taken (shown_decl_node x)) (after_decl outer own (shown_decl_node x)) outer)
+      (after_taken taken (shown_decl_node x)) (marked_after (shown_decl_node x) outer own) outer)
   decls_at xs i fuel taken own x h e =
       ap (λ ys. script_decls (in_order (map shown_decl_node ys)) config importing fuel i taken own outer) (drop-cons xs i x h)
       ∙ ap (λ y. 1 ∷ (script_decl (shown_decl_node y) config importing (fuel - 1) taken own outer
       ++ script_decls (in_order (map shown_decl_node (drop (suc i) xs))) config importing (fuel - 1 - decl_cost (shown_decl_node y)) (i + 1)
-      (after_taken taken (shown_decl_node y)) (after_decl outer own (shown_decl_node y)) outer)) (sym e)
+      (after_taken taken (shown_decl_node y)) (marked_after (shown_decl_node y) outer own) outer)) (sym e)
 
   -- no declaration is left
-  pub decls_over : (xs : List DeclNode) (i done fuel : ℕ) (taken : Taken) (own : Scope) → length xs ≤ i
+  pub decls_over : (xs : List DeclNode) (i done fuel : ℕ) (taken : Taken) (own : Marked) → length xs ≤ i
       → script_decls (in_order (map shown_decl_node (drop i xs))) config importing fuel done taken own outer ≡ script_end done 100
   decls_over [] zero done fuel taken own h = refl
   decls_over [] (suc i) done fuel taken own h = refl
@@ -36,9 +36,9 @@ module _ (config : Config) (importing : Bool) (outer : List Scope) where
   decls_over (x ∷ xs) (suc i) done fuel taken own h = decls_over xs i done fuel taken own (omega arith)
 
   -- one declaration more
-  pub decls_step : {a b m c : Vec ℕ Global} {all : List ℕ} (xs : List DeclNode) (i fuel less left : ℕ) (taken more_taken : Taken) (own next : Scope)
+  pub decls_step : {a b m c : Vec ℕ Global} {all : List ℕ} (xs : List DeclNode) (i fuel less left : ℕ) (taken more_taken : Taken) (own next : Marked)
       (x : DeclNode) → i < length xs → x ≡ get_or xs i x → less ≡ fuel - 1 → left ≡ less - decl_cost (shown_decl_node x)
-      → more_taken ≡ after_taken taken (shown_decl_node x) → next ≡ after_decl outer own (shown_decl_node x)
+      → more_taken ≡ after_taken taken (shown_decl_node x) → next ≡ marked_after (shown_decl_node x) outer own
       → Towards a b all (script_decls (in_order (map shown_decl_node (drop i xs))) config importing fuel i taken own outer) → Adds b m (1 ∷ [])
       → Adds m c (script_decl (shown_decl_node x) config importing less taken own outer)
       → Towards a c all (script_decls (in_order (map shown_decl_node (drop (i + 1) xs))) config importing left (i + 1) more_taken next outer)
@@ -51,9 +51,9 @@ module _ (config : Config) (importing : Bool) (outer : List Scope) where
       let ds = in_order (map shown_decl_node (drop (i + 1) xs)) in
       subst (Towards a c all)
       (ap (λ j. script_decls (in_order (map shown_decl_node (drop j xs))) config importing (fuel - 1 - decl_cost (shown_decl_node x)) (i + 1)
-      (after_taken taken (shown_decl_node x)) (after_decl outer own (shown_decl_node x)) outer) more
-      ∙ ap (λ n. script_decls ds config importing n (i + 1) (after_taken taken (shown_decl_node x)) (after_decl outer own (shown_decl_node x)) outer) burned
-      ∙ ap (λ n. script_decls ds config importing left (i + 1) n (after_decl outer own (shown_decl_node x)) outer) (sym grown)
+      (after_taken taken (shown_decl_node x)) (marked_after (shown_decl_node x) outer own) outer) more
+      ∙ ap (λ n. script_decls ds config importing n (i + 1) (after_taken taken (shown_decl_node x)) (marked_after (shown_decl_node x) outer own) outer) burned
+      ∙ ap (λ n. script_decls ds config importing left (i + 1) n (marked_after (shown_decl_node x) outer own) outer) (sym grown)
       ∙ ap (λ s. script_decls ds config importing left (i + 1) more_taken s outer) (sym scope)) u
 
 -- What the declarations take of the fuel.
@@ -74,3 +74,23 @@ cost_over [] zero h = refl
 cost_over [] (suc i) h = refl
 cost_over (x ∷ xs) zero h = absurd (omega arith)
 cost_over (x ∷ xs) (suc i) h = cost_over xs i (omega arith)
+
+-- the scope after all of them
+
+abbrev pub scope_after : List DeclNode → ℕ → List Marked → Marked → Marked
+scope_after xs i outer own = marked_after_all (in_order (map shown_decl_node (drop i xs))) outer own
+
+pub scope_at : (xs : List DeclNode) (i : ℕ) (x : DeclNode) (outer : List Marked) (own next : Marked) → i < length xs → x ≡ get_or xs i x
+    → next ≡ marked_after (shown_decl_node x) outer own → scope_after xs i outer own ≡ scope_after xs (i + 1) outer next
+scope_at xs i x outer own next h e n =
+    let more : suc i ≡ i + 1 = omega arith in
+    ap (λ ys. marked_after_all (in_order (map shown_decl_node ys)) outer own) (drop-cons xs i x h)
+    ∙ ap (λ y. marked_after_all (in_order (map shown_decl_node (drop (suc i) xs))) outer (marked_after (shown_decl_node y) outer own)) (sym e)
+    ∙ ap (λ s. scope_after xs (suc i) outer s) (sym n)
+    ∙ ap (λ j. scope_after xs j outer next) more
+
+pub scope_over : (xs : List DeclNode) (i : ℕ) (outer : List Marked) (own : Marked) → length xs ≤ i → scope_after xs i outer own ≡ own
+scope_over [] zero outer own h = refl
+scope_over [] (suc i) outer own h = refl
+scope_over (x ∷ xs) zero outer own h = absurd (omega arith)
+scope_over (x ∷ xs) (suc i) outer own h = scope_over xs i outer own (omega arith)

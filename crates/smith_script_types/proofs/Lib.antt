@@ -5,3 +5,4 @@ pub mod Occupied
 pub mod Ranks
 pub mod TableSteps
 pub mod Turns
+pub mod UsableTypes

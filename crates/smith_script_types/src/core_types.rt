@@ -7,7 +7,7 @@ ghost use Rattle.smith_read_types.specs.Nodes.{shown_core_node, shown_module_nod
 ghost use Rattle.smith_tree.specs.ModuleScript.{script_module};
 ghost use Rattle.smith_tree.specs.CoreTypeScript.{script_core, script_core_type};
 ghost use Rattle.smith_script_core.specs.Says.{Says};
-ghost use Rattle.smith_script_types.specs.Places.{own_at};
+ghost use Rattle.smith_script_types.specs.Places.{plain_at};
 
 use crate::modules::put_module;
 use crate::place::Place;
@@ -30,7 +30,7 @@ fn put_core_module<'a>(
     decls: &'a [ModuleNode],
 ) -> Result<(), Error>
     ensures { (fuel : ℕ) → Says result out.old out.new
-        (pick 2 1 ++ script_module place.entry.config.now (own_at place.entry) fuel (map shown_module_node decls.now)) }
+        (pick 2 1 ++ script_module place.entry.config.now (plain_at place.entry) fuel (map shown_module_node decls.now)) }
 {
     put_choice(out, 2, 1)?;
     put_module(out, place, decls)
@@ -44,7 +44,7 @@ pub fn put_core<'a>(
     ty: &'a CoreNode,
 ) -> Result<(), Error>
     ensures { Says result out.old out.new
-        (script_core place.entry.config.now (own_at place.entry) fuel (shown_core_node ty.now)) }
+        (script_core place.entry.config.now (plain_at place.entry) fuel (shown_core_node ty.now)) }
 {
     match ty {
         CoreNode::Func(ty) => put_core_func(out, place, ty),

@@ -4,7 +4,7 @@ ghost use Rattle.std.specs.Prelude.{◌≡◌, ◌∷◌, ◌++◌, ◌+◌, [],
 ghost use Rattle.std.specs.Prelude.{IfOk, IfErr, OnOk};
 ghost use Rattle.std.specs.List.Sorted.{IsStrictlyIncreasing};
 ghost use Rattle.smith_input.specs.Script.{script_among};
-ghost use Rattle.smith_read_scopes.specs.Scopes.{outer_in, own_in, shown_scope};
+ghost use Rattle.smith_read_scopes.specs.Scopes.{outer_marked_in, own_marked_in, shown_marked};
 ghost use Rattle.smith_tree.specs.TypeOffers.{aliases_of, is_occupied, occupied};
 ghost use Rattle.smith_tree.specs.TypeScript.{script_alias, script_declaration_item, script_declares, script_no_import};
 ghost use Rattle.smith_script_core.specs.Says.{Says};
@@ -13,7 +13,7 @@ ghost use Rattle.smith_script_types.specs.Places.{outer_at, own_at};
 
 use crate::place::Place;
 use crate::positions::put_position;
-use crate::references::has_reference;
+use crate::references::{has_export, has_reference};
 use smith_read_scopes::{Scope, Scopes};
 use smith_script_core::{Error, put_choice, put_offered};
 use smith_tree::{DeclarationItem, declaration_offers};
@@ -30,7 +30,7 @@ fn put_no_import(out: &mut Vec<u8>, place: Place<'_, '_>, importing: bool) -> Re
 }
 
 fn is_occupied(scope: &Scope<'_>) -> bool
-    ensures { result ≡ is_occupied (shown_scope scope.now) }
+    ensures { result ≡ is_occupied (shown_marked scope.now) }
 {
     scope.types_len() > 0 || scope.core_types_len() > 0
 }
@@ -38,7 +38,7 @@ fn is_occupied(scope: &Scope<'_>) -> bool
 // Adds the count of a scope if it has an entry.
 fn push_occupied(counts: &mut Vec<usize>, count: usize, scope: &Scope<'_>) -> Result<(), Error>
     ensures added { OnOk result (counts.new.items
-        ≡ counts.old.items ++ (if is_occupied (shown_scope scope.now) then count ∷ [] else [])) }
+        ≡ counts.old.items ++ (if is_occupied (shown_marked scope.now) then count ∷ [] else [])) }
     ensures memory { IfErr result (λ e. e ≡ OutOfMemory) }
 {
     if is_occupied(scope) {
@@ -49,7 +49,7 @@ fn push_occupied(counts: &mut Vec<usize>, count: usize, scope: &Scope<'_>) -> Re
 
 // The counts of the scopes that have an entry.
 fn occupied(alloc: Global, scopes: &Scopes<'_>) -> Result<Vec<usize>, Error>
-    ensures list { IfOk result (λ v. v.items ≡ occupied (own_in scopes.now ∷ outer_in scopes.now)) }
+    ensures list { IfOk result (λ v. v.items ≡ occupied (own_marked_in scopes.now ∷ outer_marked_in scopes.now)) }
     ensures ascending { IfOk result (λ v. IsStrictlyIncreasing v.items) }
     ensures memory { IfErr result (λ e. e ≡ OutOfMemory) }
 {
@@ -86,7 +86,7 @@ fn put_item(out: &mut Vec<u8>, place: Place<'_, '_>, item: DeclarationItem) -> R
     ensures { Says result out.old out.new
         (script_declaration_item place.entry.config.now (outer_at place.entry) (own_at place.entry) item) }
 {
-    let with_export = has_reference(&place.scopes.own);
+    let with_export = has_export(&place.scopes.own);
     let offers = declaration_offers(with_export, has_entry(place)?, may_nest(place));
     put_offered(place.alloc, out, &offers, item)
 }
@@ -115,7 +115,7 @@ fn put_scope(out: &mut Vec<u8>, place: Place<'_, '_>, count: u32) -> Result<(), 
 
 // How many entries a scope has, or no less than memory has bytes.
 fn entries_in(scope: &Scope<'_>) -> usize
-    ensures { (count : ℕ) → result ≡ length (aliases_of count (shown_scope scope.now)) }
+    ensures { (count : ℕ) → result ≡ length (aliases_of count (shown_marked scope.now)) }
 {
     scope.types_len() + scope.core_types_len()
 }

@@ -15,6 +15,7 @@ mod positions;
 mod references;
 mod tables;
 mod types;
+mod usable;
 mod values;
 
 pub use core_types::put_core;
@@ -27,4 +28,4 @@ pub use smith_script_core::{
     put_stand_in, put_text,
 };
 pub use tables::one_more;
-pub use types::put_type;
+pub use types::{Typed, put_type};

@@ -6,7 +6,7 @@ ghost use Rattle.smith_tree.specs.ModuleScript.{alias_place, script_decl, script
 ghost use Rattle.smith_tree.specs.CoreTypeOffers.{alias_choices};
 ghost use Rattle.smith_script_core.specs.Says.{Says};
 ghost use Rattle.smith_script_types.specs.Modules.{so_far};
-ghost use Rattle.smith_script_types.specs.Places.{own_at};
+ghost use Rattle.smith_script_types.specs.Places.{plain_at};
 
 use crate::declared::Declared;
 use crate::entities::put_entity;
@@ -23,7 +23,7 @@ use smith_tree::{ModuleItem, module_item_offers};
 
 // How many function types an outer alias is among.
 fn alias_count(place: Place<'_, '_>, declared: &Declared<'_>) -> usize
-    ensures { result ≡ length (alias_choices (own_at place.entry) (so_far declared.now)) }
+    ensures { result ≡ length (alias_choices (plain_at place.entry) (so_far declared.now)) }
 {
     place.scopes.own.places(Kind::CoreFunc).len() + declared.tables.own.len()
 }
@@ -36,7 +36,7 @@ fn put_item(
     item: ModuleItem,
 ) -> Result<(), Error>
     ensures { Says result out.old out.new
-        (script_item place.entry.config.now (own_at place.entry) (so_far declared.now) item) }
+        (script_item place.entry.config.now (plain_at place.entry) (so_far declared.now) item) }
 {
     let with_type = declared.allows_type(place.config);
     let with_alias = with_type && alias_count(place, declared) > 0;
@@ -50,7 +50,7 @@ fn put_item(
 
 // The place of an outer alias among the function types of the scope around, and then the module type's own.
 fn alias_place(place: Place<'_, '_>, count: u32, index: u32) -> usize
-    ensures { result ≡ alias_place (own_at place.entry) count index }
+    ensures { result ≡ alias_place (plain_at place.entry) count index }
 {
     let around = place.scopes.own.places(Kind::CoreFunc);
     if count == 0 {
@@ -67,7 +67,7 @@ fn put_decl(
     decl: &ModuleNode,
 ) -> Result<(), Error>
     ensures { Says result out.old out.new
-        (script_decl place.entry.config.now (own_at place.entry) (so_far declared.now)
+        (script_decl place.entry.config.now (plain_at place.entry) (so_far declared.now)
         (shown_module_node decl.now)) }
 {
     match decl {
@@ -106,7 +106,7 @@ pub(crate) fn put_module<'a>(
     decls: &'a [ModuleNode],
 ) -> Result<(), Error>
     ensures { (fuel : ℕ) → Says result out.old out.new
-        (script_module place.entry.config.now (own_at place.entry) fuel (map shown_module_node decls.now)) }
+        (script_module place.entry.config.now (plain_at place.entry) fuel (map shown_module_node decls.now)) }
 {
     put_front(out, place, decls)?;
     let front = decls.len() - after_front(decls).len();

@@ -1,8 +1,8 @@
 //! Where a type is.
 
 ghost use Rattle.std.specs.Prelude.{◌≡◌};
-ghost use Rattle.smith_read_scopes.specs.Scopes.{outer_in, own_in};
-ghost use Rattle.smith_script_types.specs.Places.{outer_at, own_at};
+ghost use Rattle.smith_read_scopes.specs.Scopes.{outer_marked_in, own_in, own_marked_in};
+ghost use Rattle.smith_script_types.specs.Places.{outer_at, own_at, plain_at};
 
 use smith_format::Config;
 use smith_read_scopes::Scopes;
@@ -27,8 +27,9 @@ impl<'s> Given<'s> {
     /// A place in these scopes.
     pub fn place<'a>(self, scopes: &'s Scopes<'a>) -> Place<'s, 'a>
         ensures config { result.config.now ≡ self.entry.config.now }
-        ensures own { own_at result ≡ own_in scopes.now }
-        ensures outer { outer_at result ≡ outer_in scopes.now }
+        ensures own { own_at result ≡ own_marked_in scopes.now }
+        ensures outer { outer_at result ≡ outer_marked_in scopes.now }
+        ensures plain { plain_at result ≡ own_in scopes.now }
     {
         Place {
             alloc: self.alloc,

@@ -1,15 +1,15 @@
 //! Types.
 
-ghost use Rattle.std.specs.Prelude.{◌≡◌, ◌∷◌, ◌-◌, [], map, nat_le, if◌then◌else◌, IfOk, OnOk};
+ghost use Rattle.std.specs.Prelude.{◌≡◌, ◌∷◌, ◌-◌, [], map, nat_le, true, if◌then◌else◌, IfOk, OnOk};
 ghost use Rattle.smith_syntax.specs.Entries.{in_order};
-ghost use Rattle.smith_syntax.specs.Scope.{empty_scope};
-ghost use Rattle.smith_read_scopes.specs.Scopes.{outer_in, own_in};
+ghost use Rattle.smith_syntax.specs.Marked.{empty_marked, mark, marked_after};
+ghost use Rattle.smith_read_scopes.specs.Scopes.{outer_marked_in, own_marked_in};
 ghost use Rattle.smith_read_types.specs.TypeNodes.{shown_decl_node, shown_type_node};
 ghost use Rattle.smith_tree.specs.TypeNeeds.{cost, decl_cost, decls_cost};
 ghost use Rattle.smith_tree.specs.TypeScript.{none_taken, script_decl, script_decls, script_type, script_type_kind};
 ghost use Rattle.smith_tree.specs.declared.choices.TypeKind.TheVariants.{Defined};
 ghost use Rattle.smith_script_core.specs.Says.{Says};
-ghost use Rattle.smith_script_types.specs.Declaring.{taken_in};
+ghost use Rattle.smith_script_types.specs.Declaring.{closed_in, taken_in};
 
 use crate::core_types::put_core;
 use crate::declarations::{put_core_type_alias, put_declares, put_type_alias};
@@ -21,6 +21,7 @@ use crate::values::{put_defined, put_signature};
 use smith_read_scopes::Scopes;
 use smith_read_types::{DeclNode, TypeNode};
 use smith_script_core::{Error, put_among, put_byte, put_choice, put_end};
+use smith_syntax::Mark;
 use smith_tree::{DeclarationItem, RefTotals, TypeKind, type_kinds};
 
 // Nothing is counted within types.
@@ -59,7 +60,14 @@ fn put_defined_kind(out: &mut Vec<u8>, fuel: u32) -> Result<(), Error>
     put_type_kind(out, TypeKind::Defined)
 }
 
-/// A type with so much fuel, and how much it leaves of it.
+/// What was said of a type: how much fuel it leaves, and its mark. Public for the crate above alone.
+#[derive(Clone, Copy, Debug)]
+pub struct Typed {
+    pub left: u32,
+    pub mark: Mark,
+}
+
+/// A type with so much fuel, how much it leaves of it, and its mark, if marks are kept.
 #[cycle(types)]
 #[tactic(auto, using(crate::proofs::Nodes::nodes))]
 pub fn put_type<'a>(
@@ -68,23 +76,31 @@ pub fn put_type<'a>(
     scopes: &mut Scopes<'a>,
     fuel: u32,
     ty: &'a TypeNode,
-) -> Result<u32, Error>
+) -> Result<Typed, Error>
     ensures said { Says result out.old out.new (script_type (shown_type_node ty.now) given.entry.config.now fuel
-        (own_in scopes.old) (outer_in scopes.old)) }
-    ensures left { IfOk result (λ left. left ≡ fuel - cost (shown_type_node ty.now)) }
-    ensures own { OnOk result (own_in scopes.new ≡ own_in scopes.old) }
-    ensures outer { OnOk result (outer_in scopes.new ≡ outer_in scopes.old) }
+        (own_marked_in scopes.old) (outer_marked_in scopes.old)) }
+    ensures left { IfOk result (λ t. t.left ≡ fuel - cost (shown_type_node ty.now)) }
+    ensures mark { IfOk result (λ t. (own_marked_in scopes.old).keeps ≡ true
+        → t.mark ≡ mark (shown_type_node ty.now) (own_marked_in scopes.old) (outer_marked_in scopes.old)) }
+    ensures own { OnOk result (own_marked_in scopes.new ≡ own_marked_in scopes.old) }
+    ensures outer { OnOk result (outer_marked_in scopes.new ≡ outer_marked_in scopes.old) }
 {
     match ty {
         TypeNode::Defined(ty) => {
             put_defined_kind(out, fuel)?;
             put_defined(out, &scopes.own, ty)?;
-            Ok(after_defined(fuel, ty))
+            Ok(Typed {
+                left: after_defined(fuel, ty),
+                mark: scopes.own.defined_mark(ty),
+            })
         }
         TypeNode::Func(ty) => {
             put_type_kind(out, TypeKind::Function)?;
             put_signature(out, &scopes.own, ty)?;
-            Ok(after_function(fuel, ty))
+            Ok(Typed {
+                left: after_function(fuel, ty),
+                mark: scopes.own.function_mark(ty),
+            })
         }
         TypeNode::Component(decls) => {
             put_type_kind(out, TypeKind::Component)?;
@@ -99,7 +115,7 @@ pub fn put_type<'a>(
     }
 }
 
-// A declaration, and how much fuel it leaves.
+// A declaration, which is added to the scope, and how much fuel it leaves.
 #[cycle(types)]
 #[tactic(auto, using(crate::proofs::Nodes::nodes))]
 fn put_decl<'a>(
@@ -110,10 +126,11 @@ fn put_decl<'a>(
     decl: &'a DeclNode,
 ) -> Result<u32, Error>
     ensures said { Says result out.old out.new (script_decl (shown_decl_node decl.now) given.entry.config.now here.importing
-        here.fuel (taken_in here) (own_in scopes.old) (outer_in scopes.old)) }
+        here.fuel (taken_in here) (own_marked_in scopes.old) (outer_marked_in scopes.old)) }
     ensures left { IfOk result (λ left. left ≡ here.fuel - decl_cost (shown_decl_node decl.now)) }
-    ensures own { OnOk result (own_in scopes.new ≡ own_in scopes.old) }
-    ensures outer { OnOk result (outer_in scopes.new ≡ outer_in scopes.old) }
+    ensures own { OnOk result (own_marked_in scopes.new
+        ≡ marked_after (shown_decl_node decl.now) (outer_marked_in scopes.old) (own_marked_in scopes.old)) }
+    ensures outer { OnOk result (outer_marked_in scopes.new ≡ outer_marked_in scopes.old) }
 {
     let importing = here.importing;
     match decl {
@@ -125,35 +142,43 @@ fn put_decl<'a>(
                 DeclarationItem::CoreType,
             )?;
             put_core(out, given.place(scopes), here.fuel, ty)?;
+            scopes.add_core_entry(given.alloc, ty)?;
             return Ok(after_core(here.fuel, ty));
         }
         DeclNode::Type(ty) => {
             put_declares(out, given.place(scopes), importing, DeclarationItem::Type)?;
-            return put_type(out, given, scopes, here.fuel, ty);
+            let typed = put_type(out, given, scopes, here.fuel, ty)?;
+            scopes.add_marked(ty, typed.mark)?;
+            return Ok(typed.left);
         }
         DeclNode::TypeAlias { count, index } => {
             put_declares(out, given.place(scopes), importing, DeclarationItem::Alias)?;
             put_type_alias(out, given.place(scopes), *count, *index)?;
+            scopes.add_alias(*count, *index)?;
         }
         DeclNode::CoreTypeAlias { count, index } => {
             put_declares(out, given.place(scopes), importing, DeclarationItem::Alias)?;
             put_core_type_alias(out, given.place(scopes), *count, *index)?;
+            scopes.add_core_alias(*count, *index)?;
         }
         DeclNode::Import { name, to } => {
             put_choice(out, 4, 0)?;
             put_reference(out, given.place(scopes), IMPORT, *to)?;
             put_extern(out, here.imports, name)?;
+            scopes.note_import(*to);
         }
         DeclNode::Export { name, to } => {
             put_declares(out, given.place(scopes), importing, DeclarationItem::Export)?;
             put_reference(out, given.place(scopes), EXPORT, *to)?;
             put_extern(out, here.exports, name)?;
+            scopes.add_export(*to)?;
         }
     }
     Ok(here.fuel)
 }
 
-// What a type declares, in a scope of its own, and how much fuel it leaves.
+// What a type declares, in a scope of its own, how much fuel it leaves, and the mark of the type: what a component type
+// exports is of no account.
 #[cycle(types)]
 #[tactic(auto, using(crate::proofs::Nodes::nodes))]
 fn put_decls<'a>(
@@ -162,14 +187,16 @@ fn put_decls<'a>(
     scopes: &mut Scopes<'a>,
     start: Declaring,
     decls: &'a [DeclNode],
-) -> Result<u32, Error>
+) -> Result<Typed, Error>
     requires { taken_in start ≡ none_taken }
     ensures said { Says result out.old out.new (script_decls (in_order (map shown_decl_node decls.now))
-        given.entry.config.now start.importing start.fuel 0 none_taken empty_scope
-        (own_in scopes.old ∷ outer_in scopes.old)) }
-    ensures left { IfOk result (λ left. left ≡ start.fuel - decls_cost (in_order (map shown_decl_node decls.now))) }
-    ensures own { OnOk result (own_in scopes.new ≡ own_in scopes.old) }
-    ensures outer { OnOk result (outer_in scopes.new ≡ outer_in scopes.old) }
+        given.entry.config.now start.importing start.fuel 0 none_taken (empty_marked (own_marked_in scopes.old).keeps)
+        (own_marked_in scopes.old ∷ outer_marked_in scopes.old)) }
+    ensures left { IfOk result (λ t. t.left ≡ start.fuel - decls_cost (in_order (map shown_decl_node decls.now))) }
+    ensures mark { IfOk result (λ t. t.mark ≡ closed_in start.importing (in_order (map shown_decl_node decls.now))
+        (own_marked_in scopes.old) (outer_marked_in scopes.old)) }
+    ensures own { OnOk result (own_marked_in scopes.new ≡ own_marked_in scopes.old) }
+    ensures outer { OnOk result (outer_marked_in scopes.new ≡ outer_marked_in scopes.old) }
 {
     scopes.enter(given.alloc)?;
     let mut here = start;
@@ -177,10 +204,13 @@ fn put_decls<'a>(
         put_byte(out, 1)?;
         let turn = here.with_fuel(here.fuel.saturating_sub(1));
         let left = put_decl(out, given, scopes, turn, decl)?;
-        scopes.add_decl(decl)?;
         here = turn.after(decl, left);
     }
+    let mark = scopes.closed_mark(!start.importing);
     scopes.leave();
     put_end(out, decls.len(), 100)?;
-    Ok(here.fuel)
+    Ok(Typed {
+        left: here.fuel,
+        mark,
+    })
 }

@@ -8,11 +8,11 @@ ghost use Rattle.smith_tree.specs.TypeScript.{script_case, script_defined, scrip
 ghost use Rattle.smith_tree.specs.TypeScript.{script_label};
 ghost use Rattle.smith_tree.specs.TypeScript.{script_maybe, script_members, script_primitive, script_signature};
 ghost use Rattle.smith_tree.specs.TypeScript.{script_val};
-ghost use Rattle.smith_read_scopes.specs.Scope.{shown_scope};
+ghost use Rattle.smith_read_scopes.specs.Scope.{shown_marked};
 ghost use Rattle.smith_script_core.specs.Says.{Says};
 
-use crate::positions::put_position;
-use smith_read_scopes::{Kind, Scope};
+use crate::usable::{offered_len, put_usable};
+use smith_read_scopes::{Offer, Scope};
 use smith_script_core::{Error, Scripted, put_among, put_byte, put_choice, put_members, put_name};
 use smith_syntax::{ComponentValType, DefinedType, FuncType, PrimitiveValType, ResultType};
 use smith_tree::{DefinedKind, defined_kinds, primitives};
@@ -46,17 +46,16 @@ fn put_either(out: &mut Vec<u8>, count: usize) -> Result<(), Error>
 }
 
 fn put_value(out: &mut Vec<u8>, own: &Scope<'_>, ty: ComponentValType) -> Result<(), Error>
-    ensures { Says result out.old out.new (script_val (shown_scope own.now) ty) }
+    ensures { Says result out.old out.new (script_val (shown_marked own.now) ty) }
 {
-    let defined = own.places(Kind::Defined);
     match ty {
         ComponentValType::Primitive(primitive) => {
-            put_either(out, defined.len())?;
+            put_either(out, offered_len(own, Offer::Value))?;
             put_primitive(out, primitive)
         }
         ComponentValType::Indexed(index) => {
             put_choice(out, 2, 1)?;
-            put_position(out, defined, index as usize)
+            put_usable(out, own, Offer::Value, index)
         }
     }
 }
@@ -66,7 +65,7 @@ fn put_maybe_value(
     own: &Scope<'_>,
     ty: Option<ComponentValType>,
 ) -> Result<(), Error>
-    ensures { Says result out.old out.new (script_maybe (shown_scope own.now) ty) }
+    ensures { Says result out.old out.new (script_maybe (shown_marked own.now) ty) }
 {
     match ty {
         None => put_byte(out, 0),
@@ -80,14 +79,14 @@ fn put_maybe_value(
 // The two types of a result.
 fn put_both(out: &mut Vec<u8>, own: &Scope<'_>, ty: &ResultType) -> Result<(), Error>
     ensures { Says result out.old out.new
-        (script_maybe (shown_scope own.now) ty.now.ok_ty ++ script_maybe (shown_scope own.now) ty.now.err_ty) }
+        (script_maybe (shown_marked own.now) ty.now.ok_ty ++ script_maybe (shown_marked own.now) ty.now.err_ty) }
 {
     put_maybe_value(out, own, ty.ok_ty)?;
     put_maybe_value(out, own, ty.err_ty)
 }
 
 impl<'a> Scripted<Own<'a>> for ComponentValType {
-    ghost script = { λ own _ ty. script_val (shown_scope own.scope.now) ty };
+    ghost script = { λ own _ ty. script_val (shown_marked own.scope.now) ty };
 
     fn say(&self, context: &Own<'a>, _done: usize, out: &mut Vec<u8>) -> Result<(), Error> {
         put_value(out, context.scope, *self)
@@ -103,7 +102,7 @@ impl<'a> Scripted<Own<'a>> for String {
 }
 
 impl<'a> Scripted<Own<'a>> for (String, ComponentValType) {
-    ghost script = { λ own count field. script_field (shown_scope own.scope.now) count (named field) };
+    ghost script = { λ own count field. script_field (shown_marked own.scope.now) count (named field) };
 
     fn say(&self, context: &Own<'a>, done: usize, out: &mut Vec<u8>) -> Result<(), Error> {
         put_name(out, done, &self.0)?;
@@ -112,7 +111,7 @@ impl<'a> Scripted<Own<'a>> for (String, ComponentValType) {
 }
 
 impl<'a> Scripted<Own<'a>> for (String, Option<ComponentValType>) {
-    ghost script = { λ own count case. script_case (shown_scope own.scope.now) count (named case) };
+    ghost script = { λ own count case. script_case (shown_marked own.scope.now) count (named case) };
 
     fn say(&self, context: &Own<'a>, done: usize, out: &mut Vec<u8>) -> Result<(), Error> {
         put_name(out, done, &self.0)?;
@@ -136,7 +135,7 @@ fn put_list<'a, T: Scripted<Own<'a>>>(
 
 /// A type of values after what says that it is one.
 pub(crate) fn put_defined(out: &mut Vec<u8>, own: &Scope<'_>, ty: &DefinedType) -> Result<(), Error>
-    ensures { Says result out.old out.new (script_defined (shown_scope own.now) (shown_defined ty.now)) }
+    ensures { Says result out.old out.new (script_defined (shown_marked own.now) (shown_defined ty.now)) }
 {
     match ty {
         DefinedType::Primitive(primitive) => {
@@ -194,7 +193,7 @@ pub(crate) fn put_defined(out: &mut Vec<u8>, own: &Scope<'_>, ty: &DefinedType) 
 }
 
 fn put_result(out: &mut Vec<u8>, own: &Scope<'_>, ty: Option<ComponentValType>) -> Result<(), Error>
-    ensures { Says result out.old out.new (script_members (λ count v. script_val (shown_scope own.now) v) 0 1 (option_to_list ty)) }
+    ensures { Says result out.old out.new (script_members (λ count v. script_val (shown_marked own.now) v) 0 1 (option_to_list ty)) }
 {
     match ty {
         None => put_members(out, &Own { scope: own }, 0, 1, &[] as &[ComponentValType]),
@@ -204,7 +203,7 @@ fn put_result(out: &mut Vec<u8>, own: &Scope<'_>, ty: Option<ComponentValType>) 
 
 /// The parameters of a function type, and its result or none.
 pub(crate) fn put_signature(out: &mut Vec<u8>, own: &Scope<'_>, ty: &FuncType) -> Result<(), Error>
-    ensures { Says result out.old out.new (script_signature (shown_scope own.now) ty.now) }
+    ensures { Says result out.old out.new (script_signature (shown_marked own.now) ty.now) }
 {
     put_members(out, &Own { scope: own }, 0, 16, &ty.params)?;
     put_result(out, own, ty.result)

@@ -4,7 +4,12 @@ pub mod Scope
 pub mod Places
 pub mod Grammar
 pub mod TooLong
+pub mod Marked
+pub mod Marks
+pub mod Members
 pub mod ModuleTypes
+pub mod Sizes
+pub mod Usable
 pub mod WellFormed
 pub mod CoreLimits
 pub mod TypeLimits

@@ -7,7 +7,9 @@ mod drops;
 mod encode;
 mod func;
 pub mod laws;
+mod marks;
 mod types;
+mod valued;
 
 pub use core_types::{CoreType, ModuleType, ModuleTypeDef};
 pub use deftype::{
@@ -20,7 +22,9 @@ pub use encode::{
     write_core_type, write_import, write_type,
 };
 pub use func::FuncType;
+pub use marks::{Mark, Reach};
 pub use types::{
     ComponentValType, DefinedType, EnumType, FlagsType, ListType, OptionType, PrimitiveValType,
     RecordType, ResultType, TupleType, VariantType,
 };
+pub use valued::Valued;

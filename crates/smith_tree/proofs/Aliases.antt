@@ -2,7 +2,7 @@
 use Rattle.std.proofs.Common.{◌≡◌, ℕ, zero, suc, ◌+◌, None, Some, List, [], ◌∷◌, length, sym, ap, ◌∙◌, refl, arith, length-append}
 use Rattle.std.specs.Prelude.{slice_get}
 use Rattle.smith_syntax.specs.Entries.{Entry, CoreEntry, FullDecl, type_alias, core_type_alias, keeps_type, keeps_core_type}
-use Rattle.smith_syntax.specs.Scope.{Scope}
+use Rattle.smith_syntax.specs.Marked.{Marked}
 use Rattle.smith_tree.specs.TypeOffers.{numbered, aliases_of}
 
 module _ {A B : Type 0} (f : ℕ → A → B) where
@@ -33,7 +33,7 @@ module _ {A B : Type 0} (f : ℕ → A → B) where
       (r.0, r.1, r.2 ∙ ap (λ m. f m r.0) at)
 
 -- how many entries a scope has
-pub length-aliases : (count : ℕ) (s : Scope) → length (aliases_of count s) ≡ length s.types + length s.core_types
+pub length-aliases : (count : ℕ) (s : Marked) → length (aliases_of count s) ≡ length s.types + length s.core_types
 length-aliases count s =
     let f : ℕ → Entry → FullDecl = λ i e. type_alias count i (keeps_type e) in
     let g : ℕ → CoreEntry → FullDecl = λ i e. core_type_alias count i (keeps_core_type e) in

@@ -7,7 +7,9 @@ pub mod Functions
 pub mod Generates
 pub mod Grammar
 pub mod Limits
+pub mod Marking
 pub mod ModuleScript
+pub mod Offered
 pub mod Offers
 pub mod Open
 pub mod Readable

@@ -1,17 +1,19 @@
 -- What choices are among where imports and canonical functions are read.
-use Rattle.std.specs.Prelude.{ℕ, Bool, true, false, List, [], ◌∷◌, length, nat_lt, Some, None, slice_get}
+use Rattle.std.specs.Prelude.{ℕ, Bool, true, false, List, [], ◌∷◌, if◌then◌else◌, length, nat_lt, Some, None, slice_get}
 use Rattle.smith_input.specs.Offers.{offers_of}
 use Rattle.smith_format.specs.declared.config.Config.{Config}
 use Rattle.smith_syntax.specs.Entries.{Entry, defined, function, component_type, instance_type, ImportEntry}
 use Rattle.smith_syntax.specs.Flat.{is_scalar}
 use Rattle.smith_syntax.specs.Places.{places}
-use Rattle.smith_tree.specs.TypeOffers.{ref_kinds}
+use Rattle.smith_tree.specs.TypeOffers.{has_room, ref_kinds}
 use Rattle.smith_tree.specs.declared.choices.RefKind.{RefKind}
 use Rattle.smith_tree.specs.declared.totals.RefTotals.{RefTotals}
+use Rattle.smith_tree.specs.Functions.{functions_of}
 use Rattle.smith_tree.specs.Open.{Open, tree_so_far, with_inner}
 use Rattle.smith_tree.specs.Spaces.{Spaces}
 use Rattle.smith_tree.specs.Tree.{ExportEntry, Tree, imports, exports, add, function_count, module_count, component_count, instance_count}
-use Rattle.smith_tree.specs.WellFormed.{scope_of}
+use Rattle.smith_syntax.specs.Marked.{Marked}
+use Rattle.smith_tree.specs.Marking.{marked_inner}
 use Rattle.smith_tree.specs.declared.choices.CanonItem.{CanonItem}
 use Rattle.smith_tree.specs.declared.choices.CanonItem.TheVariants.{Lower, Lift}
 
@@ -32,9 +34,13 @@ totals_of stack = record {
   instances = instance_count (tree_so_far stack.outer stack.inner);
 }
 
+-- the scope of the inner component, where the section has these imports
+abbrev pub marked_with_imports : Config → Open → List ImportEntry → Marked
+marked_with_imports config stack is = marked_inner config stack.outer (with_imports stack is).inner
+
 -- what the next import may be of, where the section has these
 abbrev pub import_kinds : Config → Open → List ImportEntry → List RefKind
-import_kinds config stack is = ref_kinds config (scope_of stack.inner) (totals_of (with_imports stack is)) true false
+import_kinds config stack is = ref_kinds config (marked_with_imports config stack is) (totals_of (with_imports stack is)) true false
 
 -- Is it a function type that flattens?
 abbrev pub is_scalar_entry : Entry → Bool
@@ -61,3 +67,8 @@ canon_offers s = canon_table (nat_lt 0 (length (scalar_functions s))) (nat_lt 0 
 
 abbrev pub canon_items : Spaces → List CanonItem
 canon_items s = offers_of (canon_offers s)
+
+-- the component functions that the next export may be of, where the section has these: none where the component has no room for one
+abbrev pub export_functions : Config → List Tree → Tree → List ExportEntry → List ℕ
+export_functions config outer t es =
+    if has_room (marked_inner config outer (with_exports t es)) false then functions_of (with_exports t es) else []

@@ -7,6 +7,7 @@ use Rattle.smith_input.specs.NameScript.{AreReachable}
 use Rattle.smith_core.specs.StandInText.{StandIn, stand_in_text}
 use Rattle.smith_core.specs.StandInScript.{IsStandIn}
 use Rattle.smith_format.specs.declared.config.Config.{Config}
+use Rattle.smith_tree.specs.Offered.{IsOffered}
 use Rattle.smith_tree.specs.ReadableCoreTypes.{IsReadableCore}
 use Rattle.smith_tree.specs.ReadableTypes.{IsReadableType}
 use Rattle.smith_tree.specs.Limits.{Limits, Sized}
@@ -46,9 +47,10 @@ IsFinishable config t = config.finish_after ≤ length (parts_of t)
 abbrev pub AreFinishable : Config → Tree → Type 0
 AreFinishable config tree = AllByRecursion (IsFinishable config) (tree ∷ inside tree)
 
--- It is well formed, within the limits and the fuel of types, and can be read.
+-- It is well formed, within the limits and the fuel of types, and can be read, and all that it uses is offered.
 pub record CanBeGenerated (config : Config) (tree : Tree) : Type 0 where
   pub formed : WellFormed tree
   pub limits : Limits config tree
   pub sized : Sized config tree
   pub readable : IsReadable config tree
+  pub offered : IsOffered config tree

@@ -5,7 +5,7 @@ use Rattle.smith_input.specs.Script.{pick, script_among, script_loop, script_tex
 use Rattle.smith_core.specs.StandInScript.{script_stand_in, stand_in_of}
 use Rattle.smith_format.specs.declared.config.Config.{Config}
 use Rattle.smith_syntax.specs.Entries.{Entry, CoreEntry, ImportEntry}
-use Rattle.smith_syntax.specs.Scope.{Scope, with_type, with_core_type}
+use Rattle.smith_syntax.specs.Marked.{Marked, scope_in}
 use Rattle.smith_tree.specs.CoreTypeScript.{script_core}
 use Rattle.smith_tree.specs.TypeScript.{script_type, script_ref, script_extern}
 use Rattle.smith_tree.specs.Spaces.{core_types_of, spaces_of, types_of}
@@ -14,10 +14,12 @@ use Rattle.smith_tree.specs.Tree.{Tree, ends, first, Part, custom, core_module, 
 use Rattle.smith_tree.specs.Tree.{ExportEntry, exports_of, function_count, imports_of}
 use Rattle.smith_tree.specs.CanonScript.{script_canons}
 use Rattle.smith_tree.specs.Grammar.{Spells, part}
-use Rattle.smith_tree.specs.Offers.{totals_of, with_exports, with_imports}
+use Rattle.smith_tree.specs.Marking.{marked_in, marked_inner, with_core_entry, with_type_entry}
+use Rattle.smith_tree.specs.Offered.{OfferedPart}
+use Rattle.smith_tree.specs.Offers.{marked_with_imports, totals_of, with_exports, with_imports}
 use Rattle.smith_tree.specs.Open.{Open, items_with_input, scopes_in, tree_so_far}
 use Rattle.smith_tree.specs.Readable.{AreFinishable, CanBeGenerated, IsReadable, IsReadablePart}
-use Rattle.smith_tree.specs.WellFormed.{Formed, scope_of}
+use Rattle.smith_tree.specs.WellFormed.{Formed}
 use Rattle.smith_tree.specs.Limits.{Maxima, Sized}
 use Rattle.smith_tree.specs.contracts.choices.ItemPartialEq.TheImpl.{ghosts as equal}
 use Rattle.smith_tree.specs.declared.choices.Item.{Item}
@@ -39,17 +41,17 @@ abbrev pub script_item : Config → List Tree → Tree → Item → List ℕ
 script_item config outer before chosen = script_among equal.eq (items_with_input config (record { outer = outer; inner = before })) chosen
 
 -- The entries of a type section: a byte before each, and one at the end where there might be another.
-abbrev pub script_types : Config → ℕ → Scope → List Scope → List Entry → List ℕ
-script_types config max own outer ts = script_loop (λ s e. script_type e config config.max_type_size s outer) with_type 0 max 0 own ts
+abbrev pub script_types : Config → ℕ → Marked → List Marked → List Entry → List ℕ
+script_types config max own outer ts = script_loop (λ s e. script_type e config config.max_type_size s outer) (with_type_entry outer) 0 max 0 own ts
 
 -- The same of a core type section.
-abbrev pub script_core_types : Config → ℕ → Scope → List CoreEntry → List ℕ
-script_core_types config max own ts = script_loop (λ s x. script_core config s config.max_type_size x) with_core_type 0 max 0 own ts
+abbrev pub script_core_types : Config → ℕ → Marked → List CoreEntry → List ℕ
+script_core_types config max own ts = script_loop (λ s x. script_core config (scope_in s) config.max_type_size x) with_core_entry 0 max 0 own ts
 
 -- an import where the section has these: what it is of, its name, and that there is no URL
 abbrev pub script_import : Config → Open → List ImportEntry → ImportEntry → List ℕ
 script_import config stack is x =
-    script_ref config (scope_of stack.inner) (totals_of (with_imports stack is)) true false x.to
+    script_ref config (marked_with_imports config stack is) (totals_of (with_imports stack is)) true false x.to
     ++ script_extern (length (imports_of stack.inner) + length is) x.name
 
 abbrev pub script_imports : Config → Open → List ImportEntry → List ℕ
@@ -73,9 +75,9 @@ abbrev mutual
   pub script_part : Part → Config → List Tree → Tree → List ℕ
   script_part (custom name contents) config outer before = script_text 1000 name ++ script_bytes contents
   script_part (core_module text) config outer before = script_stand_in config (stand_in_of text)
-  script_part (core_types ts) config outer before = script_core_types config (config.max_types - length (core_types_of before)) (scope_of before) ts
+  script_part (core_types ts) config outer before = script_core_types config (config.max_types - length (core_types_of before)) (marked_inner config outer before) ts
   script_part (component t) config outer before = script_from t config (outer ++ before ∷ []) ends
-  script_part (types ts) config outer before = script_types config (config.max_types - length (types_of before)) (scope_of before) (scopes_in outer) ts
+  script_part (types ts) config outer before = script_types config (config.max_types - length (types_of before)) (marked_inner config outer before) (marked_in config outer) ts
   script_part (canons fs) config outer before = script_canons (config.max_funcs - function_count before) (spaces_of before) fs
   script_part (imports is) config outer before = script_imports config (record { outer = outer; inner = before }) is
   script_part (exports es) config outer before = script_exports config before es
@@ -96,4 +98,5 @@ pub record Continues (config : Config) (stack : Open) (p : Part) : Type 0 where
   pub formed : Formed (add stack.inner p) (scopes_in stack.outer) ends
   pub maxima : Maxima config (tree_so_far stack.outer (add stack.inner p))
   pub sized : Sized config (tree_so_far stack.outer (add stack.inner p))
+  pub offered : OfferedPart p config (spaces_of stack.inner) (marked_in config stack.outer) (marked_inner config stack.outer stack.inner)
   pub spelled : (b : List ℕ) × (part p ≡ Some b)

@@ -10,8 +10,8 @@ use Rattle.smith_syntax.specs.Entries.{DefValType, primitive_type, record_type, 
 use Rattle.smith_syntax.specs.Entries.{result_type, Field, Case, Signature, Entry, defined, function, component_type, instance_type}
 use Rattle.smith_syntax.specs.Entries.{Decl, Decls, core_type_decl, type_decl, type_alias, core_type_alias, import_decl, export_decl, no_decls}
 use Rattle.smith_syntax.specs.Entries.{then_decls}
-use Rattle.smith_syntax.specs.Scope.{Scope, empty_scope, after_decl}
-use Rattle.smith_syntax.specs.Places.{defined_places}
+use Rattle.smith_syntax.specs.Marked.{Marked, empty_marked, marked_after, scope_in}
+use Rattle.smith_syntax.specs.Usable.{value_places}
 use Rattle.smith_syntax.specs.WellFormed.{import_of, export_of}
 use Rattle.smith_syntax.specs.declared.deftype.ComponentTypeRef.{ComponentTypeRef}
 use Rattle.smith_syntax.specs.declared.deftype.ComponentTypeRef.TheVariants as to
@@ -44,11 +44,11 @@ script_either count = if nat_eq count 0 then [] else pick 2 0
 abbrev pub script_primitive : PrimitiveValType → List ℕ
 script_primitive p = script_among prims.eq primitives p
 
-abbrev pub script_val : Scope → ComponentValType → List ℕ
-script_val own (Primitive p) = script_either (length (defined_places own)) ++ script_primitive p
-script_val own (Indexed i) = pick 2 1 ++ script_among nat_eq (defined_places own) i
+abbrev pub script_val : Marked → ComponentValType → List ℕ
+script_val own (Primitive p) = script_either (length (value_places own)) ++ script_primitive p
+script_val own (Indexed i) = pick 2 1 ++ script_among nat_eq (value_places own) i
 
-abbrev pub script_maybe : Scope → Option ComponentValType → List ℕ
+abbrev pub script_maybe : Marked → Option ComponentValType → List ℕ
 script_maybe own None = 0 ∷ []
 script_maybe own (Some v) = 1 ∷ script_val own v
 
@@ -56,10 +56,10 @@ script_maybe own (Some v) = 1 ∷ script_val own v
 abbrev pub script_label : ℕ → List ℕ → List ℕ
 script_label count n = script_new 100 count n
 
-abbrev pub script_field : Scope → ℕ → Field → List ℕ
+abbrev pub script_field : Marked → ℕ → Field → List ℕ
 script_field own count f = script_label count f.0 ++ script_val own f.1
 
-abbrev pub script_case : Scope → ℕ → Case → List ℕ
+abbrev pub script_case : Marked → ℕ → Case → List ℕ
 script_case own count c = script_label count c.0 ++ script_maybe own c.1
 
 -- members, each of which has a script after so many before it
@@ -69,7 +69,7 @@ script_members f min max xs = script_loop f (λ count x. count + 1) min max 0 0 
 abbrev pub script_kind : DefinedKind → List ℕ
 script_kind k = script_among kinds.eq defined_kinds k
 
-abbrev pub script_defined : Scope → DefValType → List ℕ
+abbrev pub script_defined : Marked → DefValType → List ℕ
 script_defined own (primitive_type p) = script_kind kind.Primitive ++ script_primitive p
 script_defined own (record_type fs) = script_kind kind.Record ++ script_members (script_field own) 1 100 fs
 script_defined own (variant_type cs) = script_kind kind.Variant ++ script_members (script_case own) 1 100 cs
@@ -81,7 +81,7 @@ script_defined own (option_type v) = script_kind kind.Option ++ script_val own v
 script_defined own (result_type ok err) = script_kind kind.Result ++ (script_maybe own ok ++ script_maybe own err)
 
 -- the parameters, and then the result or none
-abbrev pub script_signature : Scope → Signature → List ℕ
+abbrev pub script_signature : Marked → Signature → List ℕ
 script_signature own s = script_members (script_field own) 0 16 s.params ++ script_members (λ count v. script_val own v) 0 1 (option_to_list s.result)
 
 abbrev pub script_type_kind : TypeKind → List ℕ
@@ -121,9 +121,9 @@ index_in (to.Component i) = i
 index_in (to.Instance i) = i
 
 -- what an import or an export is of: a choice of a kind, and of an entry of that kind
-abbrev pub script_ref : Config → Scope → RefTotals → Bool → Bool → ComponentTypeRef → List ℕ
+abbrev pub script_ref : Config → Marked → RefTotals → Bool → Bool → ComponentTypeRef → List ℕ
 script_ref config own totals for_import for_type_def r =
-    script_among refs.eq (ref_kinds config own totals for_import for_type_def) (kind_in r) ++ script_among nat_eq (ref_places own (kind_in r)) (index_in r)
+    script_among refs.eq (ref_kinds config own totals for_import for_type_def) (kind_in r) ++ script_among nat_eq (ref_places own for_import (kind_in r)) (index_in r)
 
 -- a name after so many, and no URL
 abbrev pub script_extern : ℕ → List ℕ → List ℕ
@@ -142,38 +142,38 @@ abbrev pub after_taken : Taken → Decl → Taken
 after_taken taken d = record { imports = taken.imports + length (import_of d); exports = taken.exports + length (export_of d) }
 
 -- an outer alias: a choice of the scope, and of what stands in it, the core types after the types
-abbrev pub script_entry : ℕ → (Scope → ℕ) → Option Scope → List ℕ
+abbrev pub script_entry : ℕ → (Marked → ℕ) → Option Marked → List ℕ
 script_entry count place None = []
 script_entry count place (Some s) = pick (length (aliases_of count s)) (place s)
 
-abbrev pub script_alias : List Scope → ℕ → (Scope → ℕ) → List ℕ
+abbrev pub script_alias : List Marked → ℕ → (Marked → ℕ) → List ℕ
 script_alias scopes count place = script_among nat_eq (occupied scopes) count ++ script_entry count place (slice_get scopes count)
 
 -- that no import is declared, where one might be
-abbrev pub script_no_import : Bool → Scope → List ℕ
+abbrev pub script_no_import : Bool → Marked → List ℕ
 script_no_import importing own = if importing && has_reference own then pick 4 1 else []
 
 -- what is declared
-abbrev pub script_declaration_item : Config → List Scope → Scope → DeclarationItem → List ℕ
+abbrev pub script_declaration_item : Config → List Marked → Marked → DeclarationItem → List ℕ
 script_declaration_item config outer own chosen = script_among items.eq (declaration_items config outer own) chosen
 
-abbrev pub script_declares : Config → Bool → Scope → List Scope → DeclarationItem → List ℕ
+abbrev pub script_declares : Config → Bool → Marked → List Marked → DeclarationItem → List ℕ
 script_declares config importing own outer chosen = script_no_import importing own ++ script_declaration_item config outer own chosen
 
 -- A type with so much fuel: which of four kinds it is, where the fuel lasts, and then what it is. The fuel lasts for all but a type of
 -- values.
 abbrev mutual
-  pub script_type : Entry → Config → ℕ → Scope → List Scope → List ℕ
+  pub script_type : Entry → Config → ℕ → Marked → List Marked → List ℕ
   script_type (defined t) config fuel own outer = (if nat_le 2 fuel then script_type_kind Defined else []) ++ script_defined own t
   script_type (function s) config fuel own outer = script_type_kind Function ++ script_signature own s
   script_type (component_type ds) config fuel own outer =
-      script_type_kind Component ++ script_decls ds config true (fuel - 1) 0 none_taken empty_scope (own ∷ outer)
+      script_type_kind Component ++ script_decls ds config true (fuel - 1) 0 none_taken (empty_marked own.keeps) (own ∷ outer)
   script_type (instance_type ds) config fuel own outer =
-      script_type_kind Instance ++ script_decls ds config false (fuel - 1) 0 none_taken empty_scope (own ∷ outer)
+      script_type_kind Instance ++ script_decls ds config false (fuel - 1) 0 none_taken (empty_marked own.keeps) (own ∷ outer)
 
-  pub script_decl : Decl → Config → Bool → ℕ → Taken → Scope → List Scope → List ℕ
+  pub script_decl : Decl → Config → Bool → ℕ → Taken → Marked → List Marked → List ℕ
   script_decl (core_type_decl t k) config importing fuel taken own outer =
-      script_declares config importing own outer item.CoreType ++ script_core config own fuel t
+      script_declares config importing own outer item.CoreType ++ script_core config (scope_in own) fuel t
   script_decl (type_decl e) config importing fuel taken own outer =
       script_declares config importing own outer item.«Type» ++ script_type e config fuel own outer
   script_decl (type_alias count i k) config importing fuel taken own outer =
@@ -186,8 +186,8 @@ abbrev mutual
       script_declares config importing own outer item.Export ++ (script_ref config own uncounted false true r ++ script_extern taken.exports name)
 
   -- A byte asks for each declaration, so many being made before, with these names. Each turn takes one from the fuel.
-  pub script_decls : Decls → Config → Bool → ℕ → ℕ → Taken → Scope → List Scope → List ℕ
+  pub script_decls : Decls → Config → Bool → ℕ → ℕ → Taken → Marked → List Marked → List ℕ
   script_decls no_decls config importing fuel done taken own outer = script_end done 100
   script_decls (then_decls d ds) config importing fuel done taken own outer =
       1 ∷ (script_decl d config importing (fuel - 1) taken own outer
-      ++ script_decls ds config importing (fuel - 1 - decl_cost d) (done + 1) (after_taken taken d) (after_decl outer own d) outer)
+      ++ script_decls ds config importing (fuel - 1 - decl_cost d) (done + 1) (after_taken taken d) (marked_after d outer own) outer)

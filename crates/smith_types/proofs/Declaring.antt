@@ -1,48 +1,50 @@
 -- The scopes as declarations are made: what stands in one of them, and how the last one grows.
 use Rattle.std.proofs.Common.{◌≡◌, ℕ, ◌+◌, ◌<◌, ◌≤◌, Bool, true, false, cond, inl, inr, append_assoc, List, [], ◌∷◌, ◌++◌, length, map, reverse}
-use Rattle.std.proofs.Common.{refl, sym, ap, ◌∙◌, subst, arith}
+use Rattle.std.proofs.Common.{append-nil, refl, sym, ap, ◌∙◌, subst, arith}
 use Rattle.std.proofs.Math.ListN.{drop}
-use Rattle.std.proofs.lemmas.List.{reverse-append, reverse-reverse, length-append, length-map, length-reverse}
-use Rattle.std.proofs.lemmas.Option.{slice_get-map, slice_get-get_or, slice_get_within}
+use Rattle.std.proofs.lemmas.List.{reverse-append, reverse-reverse, length-append, length-map}
+use Rattle.std.proofs.lemmas.Option.{slice_get-map, slice_get_within}
 use Rattle.std.proofs.lemmas.Bool.Decides.{nat_tests}
 use Rattle.std.specs.Option.{option_to_list}
-use Rattle.std.specs.Prelude.{nat_lt, Some, option_map, slice_get}
+use Rattle.std.specs.Prelude.{get_or, nat_lt, Option, None, Some, option_map, slice_get}
 use Rattle.smith_input.specs.Choices.{ReadsAmong}
 use Rattle.smith_input.specs.Reading.{Reads}
-use Rattle.smith_syntax.specs.Entries.{FullDecl, type_alias, core_type_alias, keeps_type, keeps_core_type}
-use Rattle.smith_syntax.specs.Scope.{Scope, empty_scope, with_type, with_types, with_core_type, with_core_types, after_decl}
-use Rattle.smith_syntax.specs.Places.{own_of, outer_of, places}
-use Rattle.smith_syntax.specs.Shown.{shown_type, shown_core}
+use Rattle.smith_input.proofs.Rests.{drop_past}
+use Rattle.smith_syntax.specs.Entries.{CoreEntry, Entry, FullDecl, Kept, core_type_decl, import_decl, keeps_type, keeps_core_type, type_alias, core_type_alias}
+use Rattle.smith_syntax.specs.Entries.{type_decl}
+use Rattle.smith_syntax.specs.Marked.{Marked, core_size_named, empty_marked, exported_mark, first_marked, mark, mark_named, marks_for, more_kept, scope_in}
+use Rattle.smith_syntax.specs.Marked.{scopes_in_marked, with_export, with_exported, with_import, with_marked, with_sized}
+use Rattle.smith_syntax.specs.Marks.{aliased_mark, equal_mark, no_mark}
+use Rattle.smith_syntax.specs.Places.{places}
+use Rattle.smith_syntax.specs.Scope.{core_type_named, exported_type, type_named}
+use Rattle.smith_syntax.specs.Shown.{full_type, shown_type, shown_core}
 use Rattle.smith_syntax.specs.ShownDecls.{full_alias}
+use Rattle.smith_syntax.specs.Sizes.{capped, module_type_size}
 use Rattle.smith_syntax.specs.WellFormed.{FormedRef}
 use Rattle.smith_syntax.proofs.Shown.{alias_of_type, alias_of_core_type}
+use Rattle.smith_syntax.specs.declared.core_types.CoreType.{CoreType}
 use Rattle.smith_syntax.specs.declared.deftype.Alias.{Alias}
+use Rattle.smith_syntax.specs.declared.deftype.ComponentTypeRef.{ComponentTypeRef}
 use Rattle.smith_syntax.specs.declared.deftype.ComponentTypeRef.TheVariants as to
+use Rattle.smith_syntax.specs.declared.deftype.DefType.{DefType}
 use Rattle.smith_syntax.specs.declared.deftype.OuterAliasKind.TheVariants as of
+use Rattle.smith_syntax.specs.declared.marks.Mark.{Mark}
 use Rattle.std.specs.declared.alloc.Global.{Global}
 use Rattle.std.specs.declared.rc.Rc.{Rc}
-use Rattle.smith_syntax.specs.declared.core_types.CoreType.{CoreType}
-use Rattle.smith_syntax.specs.declared.deftype.DefType.{DefType}
-use Rattle.smith_types.specs.Declarations.{ReadsAlias}
-use Rattle.smith_tree.specs.TypeOffers.{is_occupied, occupied, numbered, aliases_of}
-use Rattle.smith_types.specs.MakingTypes.{Declares, SameOuter, with_aliased, with_exported}
-use Rattle.smith_scopes.specs.Scopes.{Contents, shown_scope, inward, last_of, scope_at, AddsType, AddsCoreType}
-use Rattle.smith_tree.proofs.Aliases.{length-numbered, numbered_here, numbered_stands}
-use Rattle.smith_types.proofs.ReadsDeclarations.{named_in}
-use Rattle.smith_input.proofs.Rests.{drop_past}
+use Rattle.smith_scopes.specs.Scopes.{AddsMarked, AddsSized, Changes, Contents, inward_marked, last_of, outer_marked, own_marked, scope_at, shown_marked}
+use Rattle.smith_scopes.proofs.Marking.{core_size_found, grown_export, grown_import, mark_found, marked_alike, sized_alike}
 use Rattle.smith_scopes.proofs.Places.{place_stands, get_either, get_left, get_right}
 use Rattle.smith_scopes.proofs.Plain.{rest_from}
-use Rattle.smith_scopes.proofs.Stack.{map-reverse, opened_scope, split_scopes, length-inward, length-last, own_last, grown, grown_core}
-
--- the scope of a count, as a plain tree
-pub scope_shown : (scopes : List Contents) (count : ℕ) → count < length scopes → slice_get (inward scopes) count ≡ Some (shown_scope (scope_at scopes count))
-scope_shown scopes count h =
-    ap (λ ss. slice_get ss count) (map-reverse shown_scope scopes)
-    ∙ (slice_get-map shown_scope (reverse scopes) count ∙ ap (option_map shown_scope)
-    (slice_get-get_or (reverse scopes) count empty_scope (let l = length-reverse scopes in omega (arith, l, h))))
+use Rattle.smith_scopes.proofs.Stack.{GrownMarked, grown_marked, grown_sized, keeps_last, length-inward_marked, marked_at, opened_outer, own_marked_last}
+use Rattle.smith_scopes.proofs.Stack.{split_marked}
+use Rattle.smith_tree.specs.TypeOffers.{is_occupied, occupied, numbered, aliases_of}
+use Rattle.smith_tree.proofs.Aliases.{length-numbered, numbered_here, numbered_stands}
+use Rattle.smith_types.specs.Declarations.{ReadsAlias}
+use Rattle.smith_types.proofs.ReadsDeclarations.{named_in}
+use Rattle.smith_types.specs.MakingTypes.{Declares, IsAliased, IsMarkOf, SameOuter}
 
 -- what an outer alias may name is counted, and stands where the choice says
-module _ (scopes : List Contents) (b mid rest : List ℕ) (count place : ℕ) (choice : ReadsAmong (occupied (inward scopes)) b count mid)
+module _ (scopes : List Contents) (b mid rest : List ℕ) (count place : ℕ) (choice : ReadsAmong (occupied (inward_marked scopes)) b count mid)
     (within : count < length scopes)
     (reads : Reads (length (scope_at scopes count).types + length (scope_at scopes count).core_types) mid place rest) where
   abbrev as_types : List FullDecl
@@ -61,21 +63,21 @@ module _ (scopes : List Contents) (b mid rest : List ℕ) (count place : ℕ) (c
       ∙ length-map (scope_at scopes count).core_types shown_core
 
   alias_total : length (scope_at scopes count).types + length (scope_at scopes count).core_types ≡ length
-      (aliases_of count (shown_scope (scope_at scopes count)))
+      (aliases_of count (shown_marked (scope_at scopes count)))
   alias_total = omega (arith, types_counted, core_types_counted, length-append as_types as_core_types)
 
-  alias_at : (d : FullDecl) → slice_get (aliases_of count (shown_scope (scope_at scopes count))) place ≡ Some d → ReadsAlias (inward scopes) b d rest
+  alias_at : (d : FullDecl) → slice_get (aliases_of count (shown_marked (scope_at scopes count))) place ≡ Some d → ReadsAlias (inward_marked scopes) b d rest
   alias_at d at = record {
     count = count;
     mid = mid;
-    scope = shown_scope (scope_at scopes count);
+    scope = shown_marked (scope_at scopes count);
     choice = choice;
-    stands = scope_shown scopes count within;
+    stands = marked_at scopes count within;
     names = record { place = place; reads = subst (λ n. Reads n mid place rest) alias_total reads; named = at };
   }
 
   pub type_alias_read : (ty : DefType) → slice_get (scope_at scopes count).types place ≡ Some ty
-      → ReadsAlias (inward scopes) b (type_alias count place (keeps_type (shown_type ty))) rest
+      → ReadsAlias (inward_marked scopes) b (type_alias count place (keeps_type (shown_type ty))) rest
   type_alias_read ty at =
       let s = scope_at scopes count in
       let here = numbered_here {B = FullDecl} (λ i e. type_alias count i (keeps_type e)) (map shown_type s.types) place (shown_type ty)
@@ -84,7 +86,7 @@ module _ (scopes : List Contents) (b mid rest : List ℕ) (count place : ℕ) (c
 
   pub core_type_alias_read : (i : ℕ) (ty : CoreType) → place ≡ length (scope_at scopes count).types + i
       → slice_get (scope_at scopes count).core_types i ≡ Some ty
-      → ReadsAlias (inward scopes) b (core_type_alias count i (keeps_core_type (shown_core ty))) rest
+      → ReadsAlias (inward_marked scopes) b (core_type_alias count i (keeps_core_type (shown_core ty))) rest
   core_type_alias_read i ty past at =
       let s = scope_at scopes count in
       alias_at (core_type_alias count i (keeps_core_type (shown_core ty)))
@@ -97,66 +99,73 @@ pub record IsAmong (scopes : List Contents) (count : ℕ) : Type 0 where
   pub within : count < length scopes
   pub some : 0 < length (scope_at scopes count).types + length (scope_at scopes count).core_types
 
-pub among_occupied : (scopes : List Contents) (count k : ℕ) → slice_get (occupied (inward scopes)) k ≡ Some count → IsAmong scopes count
+pub among_occupied : (scopes : List Contents) (count k : ℕ) → slice_get (occupied (inward_marked scopes)) k ≡ Some count → IsAmong scopes count
 among_occupied scopes count k h =
-    let p = place_stands is_occupied (inward scopes) k count h in
-    let w : count < length scopes = omega (arith, slice_get_within (inward scopes) count p.0 p.1, length-inward scopes) in
-    let same : Some p.0 ≡ Some (shown_scope (scope_at scopes count)) = sym p.1 ∙ scope_shown scopes count w in
-    let is : p.0 ≡ shown_scope (scope_at scopes count) = cc in
-    let t : is_occupied (shown_scope (scope_at scopes count)) ≡ true = sym (ap is_occupied is) ∙ p.2 in
+    let p = place_stands is_occupied (inward_marked scopes) k count h in
+    let w : count < length scopes = omega (arith, slice_get_within (inward_marked scopes) count p.0 p.1, length-inward_marked scopes) in
+    let same : Some p.0 ≡ Some (shown_marked (scope_at scopes count)) = sym p.1 ∙ marked_at scopes count w in
+    let is : p.0 ≡ shown_marked (scope_at scopes count) = cc in
+    let t : is_occupied (shown_marked (scope_at scopes count)) ≡ true = sym (ap is_occupied is) ∙ p.2 in
     let s = scope_at scopes count in
     let lt : 0 < length (map shown_type s.types) + length (map shown_core s.core_types) = grind (arith, nat_tests) in
     record { within = w; some = omega (arith, lt, length-map s.types shown_type, length-map s.core_types shown_core) }
 
 -- one scope after another
 module _ (scopes : List Contents) (i : ℕ) (h : i < length scopes) (so_far whole : List ℕ)
-    (here : so_far ++ places is_occupied i (drop i (inward scopes)) ≡ whole) where
+    (here : so_far ++ places is_occupied i (drop i (inward_marked scopes)) ≡ whole) where
   abbrev scope : Contents
   scope = scope_at scopes i
 
   abbrev later : List ℕ
-  later = places is_occupied (i + 1) (drop (i + 1) (inward scopes))
+  later = places is_occupied (i + 1) (drop (i + 1) (inward_marked scopes))
 
-  from_here : (b : Bool) → is_occupied (shown_scope scope) ≡ b → so_far ++ cond b (i ∷ later) later ≡ whole
+  from_here : (b : Bool) → is_occupied (shown_marked scope) ≡ b → so_far ++ cond b (i ∷ later) later ≡ whole
   from_here b e = ap (λ c. so_far ++ cond c (i ∷ later) later) (sym e)
-      ∙ (ap (λ ss. so_far ++ places is_occupied i ss) (sym (rest_from (inward scopes) i (shown_scope scope) (scope_shown scopes i h))) ∙ here)
+      ∙ (ap (λ ss. so_far ++ places is_occupied i ss) (sym (rest_from (inward_marked scopes) i (shown_marked scope) (marked_at scopes i h))) ∙ here)
 
   pub occupied_here : 0 < length scope.types + length scope.core_types → (next : List ℕ) → next ≡ so_far ++ i ∷ [] → next ++ later ≡ whole
   occupied_here some next e =
       let lt : 0 < length (map shown_type scope.types) + length (map shown_core scope.core_types) =
       omega (arith, some, length-map scope.types shown_type, length-map scope.core_types shown_core) in
-      let t : is_occupied (shown_scope scope) ≡ true = grind (arith, nat_tests) in
+      let t : is_occupied (shown_marked scope) ≡ true = grind (arith, nat_tests) in
       ap (λ xs. xs ++ later) e ∙ (append_assoc so_far (i ∷ []) later ∙ from_here true t)
 
   pub empty_here : length scope.types + length scope.core_types ≡ 0 → so_far ++ later ≡ whole
   empty_here none =
       let lt : length (map shown_type scope.types) + length (map shown_core scope.core_types) ≡ 0 =
       omega (arith, none, length-map scope.types shown_type, length-map scope.core_types shown_core) in
-      let f : is_occupied (shown_scope scope) ≡ false = ap (nat_lt 0) lt in
+      let f : is_occupied (shown_marked scope) ≡ false = ap (nat_lt 0) lt in
       from_here false f
 
-pub occupied_past : (scopes : List Contents) (i : ℕ) → length scopes ≤ i → [] ++ places is_occupied i (drop i (inward scopes)) ≡ occupied (inward scopes)
-    → occupied (inward scopes) ≡ []
-occupied_past scopes i h e = sym e ∙ ap (places is_occupied i) (drop_past (inward scopes) i (omega (arith, h, length-inward scopes)))
+pub occupied_past : (scopes : List Contents) (i : ℕ) → length scopes ≤ i
+    → [] ++ places is_occupied i (drop i (inward_marked scopes)) ≡ occupied (inward_marked scopes)
+    → occupied (inward_marked scopes) ≡ []
+occupied_past scopes i h e = sym e ∙ ap (places is_occupied i) (drop_past (inward_marked scopes) i (omega (arith, h, length-inward_marked scopes)))
 
 -- a choice among the counts of the scopes that have an entry
-pub scope_chosen : (scopes : List Contents) (counts b mid : List ℕ) (count : ℕ) → counts ≡ occupied (inward scopes)
-    → (k : ℕ) × Reads (length counts) b k mid × (slice_get counts k ≡ Some count) → ReadsAmong (occupied (inward scopes)) b count mid
+pub scope_chosen : (scopes : List Contents) (counts b mid : List ℕ) (count : ℕ) → counts ≡ occupied (inward_marked scopes)
+    → (k : ℕ) × Reads (length counts) b k mid × (slice_get counts k ≡ Some count) → ReadsAmong (occupied (inward_marked scopes)) b count mid
 scope_chosen scopes counts b mid count e (k, r, at) = record
     { place = k; reads = subst (λ cs. Reads (length cs) b k mid) e r; named = ap (λ cs. slice_get cs k) (sym e) ∙ at }
 
 -- where one of the scopes has an entry, there is one
-pub split_occupied : (scopes : List Scope) → 0 < length (occupied (own_of scopes ∷ outer_of scopes)) → scopes ≡ own_of scopes ∷ outer_of scopes
+pub split_occupied : (scopes : List Marked) → 0 < length (occupied (first_marked scopes ∷ drop 1 scopes)) → scopes ≡ first_marked scopes ∷ drop 1 scopes
 split_occupied [] h = absurd (omega (arith, h))
 split_occupied (s ∷ ss) h = refl
 
 -- the same, also where there is none
-pub occupied_count : (scopes : List Scope) → length (occupied (own_of scopes ∷ outer_of scopes)) ≡ length (occupied scopes)
+pub occupied_count : (scopes : List Marked) → length (occupied (first_marked scopes ∷ drop 1 scopes)) ≡ length (occupied scopes)
 occupied_count [] = refl
 occupied_count (s ∷ ss) = refl
 
-pub scopes_count : (scopes : List Contents) → 1 ≤ length scopes → length (own_of (inward scopes) ∷ outer_of (inward scopes)) ≡ length scopes
-scopes_count scopes h = sym (ap length (split_scopes (inward scopes) (omega (arith, h, length-inward scopes)))) ∙ length-inward scopes
+pub scopes_count : (scopes : List Contents) → 1 ≤ length scopes → length (own_marked scopes ∷ outer_marked scopes) ≡ length scopes
+scopes_count scopes h = sym (ap length (split_marked scopes (omega (arith, h)))) ∙ length-inward_marked scopes
+
+pub length-last_types : (scopes : List Contents) → length (last_of scopes).types ≡ length (own_marked scopes).types
+length-last_types scopes = sym (ap (λ s. length s.types) (own_marked_last scopes) ∙ length-map (last_of scopes).types shown_type)
+
+pub length-last_core_types : (scopes : List Contents) → length (last_of scopes).core_types ≡ length (own_marked scopes).core_types
+length-last_core_types scopes = sym (ap (λ s. length s.core_types) (own_marked_last scopes) ∙ length-map (last_of scopes).core_types shown_core)
 
 -- The last scope grows, and those around it stay.
 
@@ -175,62 +184,162 @@ closed_again old opened changed new inner last o same c =
     ∙ (same.around ∙ (ap (λ s. drop 1 (reverse s)) o ∙ ap (drop 1) (reverse-append old (inner ∷ [])))) in
     sym (reverse-reverse new) ∙ (ap reverse backwards ∙ reverse-reverse old)
 
--- what a declaration leaves of the last scope
-pub declares : (old new : List Contents) (d : FullDecl) → own_of (inward new) ≡ after_decl (outer_of (inward old)) (own_of (inward old)) d
-    → outer_of (inward new) ≡ outer_of (inward old) → Declares old new d
-declares old new d own outer = record { own = own; outer = outer }
+-- What a declaration leaves of the last scope.
 
--- An outer alias adds what it keeps, since it keeps what it names.
-pub alias_adds : (own : Scope) (outer : List Scope) (b : List ℕ) (d : FullDecl) (rest : List ℕ) → ReadsAlias (own ∷ outer) b d rest
-    → with_aliased own d ≡ after_decl outer own d
-alias_adds own outer b d rest r =
+module _ (old new : List Contents) where
+  pub type_declared : (entry ty : DefType) (m : Mark) (d : FullDecl) → AddsMarked old entry m new → entry ≡ ty → d ≡ type_decl (full_type ty)
+      → IsMarkOf old (full_type ty) m → Declares old new d
+  type_declared entry ty m d adds same is marked =
+      let own = own_marked old in
+      let g = grown_marked old new entry adds in
+      subst (λ x. Declares old new x) (sym is)
+      (record {
+        own = g.own
+            ∙ (ap (λ t. with_marked own (shown_type t) m) same ∙ marked_alike own (shown_type ty) m (mark (full_type ty) own (outer_marked old)) marked);
+        outer = g.outer;
+      })
+
+  pub core_type_declared : (entry ty : CoreType) (n : ℕ) (k : Kept) (d : FullDecl) → AddsSized old entry n new → entry ≡ ty
+      → d ≡ core_type_decl (shown_core ty) k
+      → ((last_of old).keeps ≡ true → n ≡ capped (module_type_size (map shown_core (last_of old).core_types) (shown_core ty))) → Declares old new d
+  core_type_declared entry ty n k d adds same is sized =
+      let own = own_marked old in
+      let g = grown_sized old new entry adds in
+      let around : map shown_core (last_of old).core_types ≡ own.core_types = sym (ap (λ s. s.core_types) (own_marked_last old)) in
+      let known : own.keeps ≡ true → n ≡ capped (module_type_size own.core_types (shown_core ty)) =
+      λ keeps. sized (keeps_last old ∙ keeps) ∙ ap (λ ts. capped (module_type_size ts (shown_core ty))) around in
+      subst (λ x. Declares old new x) (sym is)
+      (record {
+        own = g.own ∙ (ap (λ t. with_sized own (shown_core t) n) same
+            ∙ sized_alike own (shown_core ty) n (capped (module_type_size own.core_types (shown_core ty))) known);
+        outer = g.outer;
+      })
+
+  pub import_declared : (name : List ℕ) (url : Option (List ℕ)) (r : ComponentTypeRef) → Changes (λ d. with_import d r) old new
+      → Declares old new (import_decl name url r)
+  import_declared name url r c = let g = grown_import old new r c in record { own = g.own; outer = g.outer }
+
+-- An outer alias keeps what it names.
+
+pub alias_kept : (scopes : List Marked) (b : List ℕ) (d : FullDecl) (rest : List ℕ) → ReadsAlias scopes b d rest → IsAliased scopes d
+alias_kept scopes b d rest r =
     elim (get_either (numbered (λ i e. type_alias r.count i (keeps_type e)) 0 r.scope.types)
     (numbered (λ i e. core_type_alias r.count i (keeps_core_type e)) 0 r.scope.core_types) r.names.place d r.names.named) [
       | inl p ↦ (let t = numbered_stands (λ i e. type_alias r.count i (keeps_type e)) r.scope.types p.0 d p.1 in
-          subst (λ z. with_aliased own z ≡ after_decl outer own z) (sym t.2)
-          (ap (λ o. with_types own (option_to_list o)) (sym (named_in (λ s. s.types) (own ∷ outer) r.count p.0 r.scope t.0 r.stands t.1))))
+          subst (λ z. IsAliased scopes z) (sym t.2)
+          (t.0, refl, named_in (λ s. s.types) scopes r.count p.0 r.scope t.0 r.stands t.1))
       | inr p ↦ (let t = numbered_stands (λ i e. core_type_alias r.count i (keeps_core_type e)) r.scope.core_types p.0 d p.1 in
-          subst (λ z. with_aliased own z ≡ after_decl outer own z) (sym t.2)
-          (ap (λ o. with_core_types own (option_to_list o)) (sym (named_in (λ s. s.core_types) (own ∷ outer) r.count p.0 r.scope t.0 r.stands t.1))))
+          subst (λ z. IsAliased scopes z) (sym t.2)
+          (t.0, refl, named_in (λ s. s.core_types) scopes r.count p.0 r.scope t.0 r.stands t.1))
     ]
 
--- what an alias of the program keeps was added
-module _ (old new : List Contents) (a : Alias) where
-  pub added_type_alias : (ty : Rc DefType Global) (entry : DefType) → AddsType old entry new → entry ≡ ty.value → a.kind ≡ of.OfType ty
-      → own_of (inward new) ≡ with_aliased (own_of (inward old)) (full_alias a)
-  added_type_alias ty entry adds same kind =
-      (grown old new entry adds).own ∙ (ap (λ t. with_type (own_of (inward old)) (shown_type t)) same
-      ∙ sym (ap (with_aliased (own_of (inward old))) (alias_of_type a ty kind)))
+module _ (old new : List Contents) (a : Alias) (within : a.count < length old) (kept : IsAliased (inward_marked old) (full_alias a)) where
+  abbrev own : Marked
+  own = own_marked old
 
-  pub added_core_type_alias : (ty : Rc CoreType Global) (entry : CoreType) → AddsCoreType old entry new → entry ≡ ty.value → a.kind ≡ of.OfCoreType ty
-      → own_of (inward new) ≡ with_aliased (own_of (inward old)) (full_alias a)
-  added_core_type_alias ty entry adds same kind =
-      (grown_core old new entry adds).own ∙ (ap (λ t. with_core_type (own_of (inward old)) (shown_core t)) same
-      ∙ sym (ap (with_aliased (own_of (inward old))) (alias_of_core_type a ty kind)))
+  abbrev around : List Marked
+  around = own_marked old ∷ outer_marked old
 
--- a type that an export is equal to stands in the last scope
-pub equal_stands : (scopes : List Contents) (i : ℕ) → FormedRef (own_of (inward scopes)) (to.TypeEq i) → i < length (last_of scopes).types
-equal_stands scopes i (e, at) =
-    let l = slice_get_within (own_of (inward scopes)).types i e at in
-    omega (arith, l, length-last scopes)
+  split : inward_marked old ≡ own_marked old ∷ outer_marked old
+  split = split_marked old (omega (arith, within))
 
-pub equal_shown : (scopes : List Contents) (i : ℕ) (ty : DefType) → slice_get (last_of scopes).types i ≡ Some ty
-    → slice_get (own_of (inward scopes)).types i ≡ Some (shown_type ty)
-equal_shown scopes i ty at = ap (λ s. slice_get s.types i) (own_last scopes)
-    ∙ (slice_get-map shown_type (last_of scopes).types i ∙ ap (option_map shown_type) at)
+  pub type_alias_declared : (ty : Rc DefType Global) (entry : DefType) (m : Mark) → AddsMarked old entry m new → entry ≡ ty.value → a.kind ≡ of.OfType ty
+      → m ≡ aliased_mark a.count (get_or (scope_at old a.count).marks a.i no_mark) → Declares old new (full_alias a)
+  type_alias_declared ty entry m adds same kind is =
+      let g = grown_marked old new entry adds in
+      let t = shown_type ty.value in
+      let d = alias_of_type a ty kind in
+      let k = subst (IsAliased (inward_marked old)) d kept in
+      let there : type_named (scopes_in_marked around) a.count a.i ≡ Some t =
+      ap (λ ss. type_named (scopes_in_marked ss) a.count a.i) (sym split) ∙ (k.2 ∙ ap Some (sym (kept_type k.1))) in
+      let m_is : m ≡ aliased_mark a.count (mark_named around a.count a.i) = is ∙ ap (aliased_mark a.count) (mark_found old a.count a.i within) in
+      let adding : Option Entry → Marked = λ o. record own {
+        types = own.types ++ option_to_list o;
+        marks = more_kept own.keeps own.marks (marks_for o (aliased_mark a.count (mark_named around a.count a.i)));
+      } in
+      subst (λ x. Declares old new x) (sym d)
+      (record {
+        own = g.own ∙ (ap (λ e. with_marked own (shown_type e) m) same ∙ (ap (λ n. with_marked own t n) m_is ∙ ap adding (sym there)));
+        outer = g.outer;
+      })
+    where
+      kept_type : {x y : Entry} → keeps_type x ≡ keeps_type y → x ≡ y
+      kept_type e = cc
 
-pub added_equal : (old new : List Contents) (i : ℕ) (ty entry : DefType) → AddsType old entry new → entry ≡ ty → slice_get (last_of old).types i ≡ Some ty
-    → own_of (inward new) ≡ with_exported (own_of (inward old)) (to.TypeEq i)
-added_equal old new i ty entry adds same at =
-    (grown old new entry adds).own ∙ (ap (λ t. with_type (own_of (inward old)) (shown_type t)) same
-    ∙ ap (λ o. with_types (own_of (inward old)) (option_to_list o)) (sym (equal_shown old i ty at)))
+  pub core_type_alias_declared : (ty : Rc CoreType Global) (entry : CoreType) (n : ℕ) → AddsSized old entry n new → entry ≡ ty.value
+      → a.kind ≡ of.OfCoreType ty → n ≡ get_or (scope_at old a.count).core_sizes a.i 0 → Declares old new (full_alias a)
+  core_type_alias_declared ty entry n adds same kind is =
+      let g = grown_sized old new entry adds in
+      let t = shown_core ty.value in
+      let d = alias_of_core_type a ty kind in
+      let k = subst (IsAliased (inward_marked old)) d kept in
+      let there : core_type_named (scopes_in_marked around) a.count a.i ≡ Some t =
+      ap (λ ss. core_type_named (scopes_in_marked ss) a.count a.i) (sym split) ∙ (k.2 ∙ ap Some (sym (kept_core k.1))) in
+      let n_is : n ≡ core_size_named around a.count a.i = is ∙ core_size_found old a.count a.i within in
+      let adding : Option CoreEntry → Marked = λ o. record own {
+        core_types = own.core_types ++ option_to_list o;
+        core_sizes = more_kept own.keeps own.core_sizes (map (λ x. core_size_named around a.count a.i) (option_to_list o));
+      } in
+      subst (λ x. Declares old new x) (sym d)
+      (record {
+        own = g.own ∙ (ap (λ e. with_sized own (shown_core e) n) same ∙ (ap (λ m. with_sized own t m) n_is ∙ ap adding (sym there)));
+        outer = g.outer;
+      })
+    where
+      kept_core : {x y : CoreEntry} → keeps_core_type x ≡ keeps_core_type y → x ≡ y
+      kept_core e = cc
+
+-- An export is noted, and adds a type if it is of one.
+
+more_none : {A : Type 0} (keeps : Bool) (xs : List A) → more_kept keeps xs [] ≡ xs
+more_none true xs = append-nil xs
+more_none false xs = refl
+
+module _ (old noted : List Contents) (r : ComponentTypeRef) (notes : Changes (λ d. with_export d r) old noted) where
+  abbrev exports : Marked
+  exports = with_export (own_marked old) r
+
+  g : GrownMarked (λ s. with_export s r) old noted
+  g = grown_export old noted r notes
+
+  -- with the type that it adds, or none
+  abbrev adding : Option Entry → Marked
+  adding o = record exports
+      { types = exports.types ++ option_to_list o; marks = more_kept exports.keeps exports.marks (marks_for o (exported_mark exports.marks r)) }
+
+  pub none_added : exported_type (scope_in (own_marked old)) r ≡ None → own_marked noted ≡ with_exported (own_marked old) r
+  none_added none =
+      g.own ∙ (sym (ap (λ ms. record exports { types = exports.types ++ []; marks = ms }) (more_none exports.keeps exports.marks)
+      ∙ ap (λ ts. record exports { types = ts }) (append-nil exports.types))
+      ∙ ap adding (sym none))
+
+  module _ (i : ℕ) (is_equal : r ≡ to.TypeEq i) where
+    -- a type that it is equal to stands in the last scope
+    pub equal_stands : FormedRef (scope_in (own_marked old)) r → i < length (last_of noted).types
+    equal_stands formed =
+        let f = subst (FormedRef (scope_in (own_marked old))) is_equal formed in
+        let l = slice_get_within (own_marked old).types i f.0 f.1 in
+        omega (arith, l, length-last_types noted, ap (λ s. length s.types) g.own)
+
+    equal_shown : (ty : DefType) → slice_get (last_of noted).types i ≡ Some ty → exported_type (scope_in (own_marked old)) r ≡ Some (shown_type ty)
+    equal_shown ty at =
+        ap (exported_type (scope_in (own_marked old))) is_equal ∙ (ap (λ s. slice_get s.types i) (sym g.own)
+        ∙ (ap (λ s. slice_get s.types i) (own_marked_last noted)
+        ∙ (slice_get-map shown_type (last_of noted).types i ∙ ap (option_map shown_type) at)))
+
+    pub equal_added : (new : List Contents) (ty entry : DefType) (m : Mark) → AddsMarked noted entry m new → entry ≡ ty
+        → slice_get (last_of noted).types i ≡ Some ty → m ≡ equal_mark (get_or (last_of noted).marks i no_mark)
+        → own_marked new ≡ with_exported (own_marked old) r
+    equal_added new ty entry m adds same at is =
+        let m_is : m ≡ exported_mark exports.marks r =
+        is ∙ (ap (λ s. equal_mark (get_or s.marks i no_mark)) (sym (own_marked_last noted) ∙ g.own) ∙ ap (exported_mark exports.marks) (sym is_equal)) in
+        (grown_marked noted new entry adds).own ∙ (ap (λ s. with_marked s (shown_type entry) m) g.own
+        ∙ (ap (λ e. with_marked exports (shown_type e) m) same
+        ∙ (ap (λ n. with_marked exports (shown_type ty) n) m_is ∙ ap adding (sym (equal_shown ty at)))))
 
 -- an empty scope was opened
-pub opened_own : (old new : List Contents) → new ≡ old ++ empty_scope ∷ [] → own_of (inward new) ≡ empty_scope
-opened_own old new o = ap own_of (opened_scope old new o)
-
-pub opened_around : (old new : List Contents) → new ≡ old ++ empty_scope ∷ [] → 2 ≤ length new
-    → outer_of (inward new) ≡ own_of (inward old) ∷ outer_of (inward old)
-opened_around old new o deep =
-    let grew : length new ≡ length old + 1 = ap length o ∙ length-append old (empty_scope ∷ []) in
-    ap outer_of (opened_scope old new o) ∙ split_scopes (inward old) (omega (arith, grew, deep, length-inward old))
+pub opened_around : (old new : List Contents) (keeps : Bool) → new ≡ old ++ empty_marked keeps ∷ [] → 2 ≤ length new
+    → outer_marked new ≡ own_marked old ∷ outer_marked old
+opened_around old new keeps o deep =
+    let grew : length new ≡ length old + 1 = ap length o ∙ length-append old (empty_marked keeps ∷ []) in
+    opened_outer old new keeps o ∙ split_marked old (omega (arith, grew, deep))

@@ -1,5 +1,5 @@
--- Which types are read: exactly those that are well formed and within the limits, whose names can be read, for which there is fuel, and
--- that nest.
+-- Which types are read: exactly those that are well formed, of what was offered and within the limits, whose names can be read, for
+-- which there is fuel, and that nest.
 use Rattle.std.proofs.Common.{ℕ, zero, suc, ◌+◌, ◌-◌, ◌≤◌, List, [], ◌∷◌, ◌++◌, length, arith, subst, sym}
 use Rattle.std.specs.Prelude.{max, ◌↔◌}
 use Rattle.smith_input.specs.Script.{AreBytes}
@@ -9,7 +9,9 @@ use Rattle.smith_syntax.specs.Entries.{DefValType, primitive_type, record_type, 
 use Rattle.smith_syntax.specs.Entries.{result_type}
 use Rattle.smith_syntax.specs.Entries.{Entry, defined, function, component_type, instance_type, plain}
 use Rattle.smith_syntax.specs.Entries.{Decl, Decls, core_type_decl, type_decl, type_alias, core_type_alias, import_decl, export_decl, no_decls, then_decls}
+use Rattle.smith_syntax.specs.Marked.{Marked, scope_in, scopes_in_marked}
 use Rattle.smith_syntax.specs.Scope.{Scope, empty_scope, after_decl}
+use Rattle.smith_syntax.specs.Usable.{OfferedEntry}
 use Rattle.smith_syntax.specs.TypeLimits.{EntryLimits}
 use Rattle.smith_syntax.specs.WellFormed.{FormedDefined, FormedEntry, FormedDeclaration, FormedDeclarations}
 use Rattle.smith_types.specs.Made.{MadeWith}
@@ -19,7 +21,7 @@ use Rattle.smith_tree.specs.TypeNeeds.{decl_cost}
 use Rattle.smith_tree.specs.ReadableTypes.{IsReadableType}
 use Rattle.smith_types.specs.Sayable.{Fit, IsSayable, Lasts, LastsDecl, LastsDecls, LastsDefined}
 use Rattle.smith_tree.specs.TypeScript.{script_type}
-use Rattle.smith_types.proofs.MadeFormed.{made_formed}
+use Rattle.smith_types.proofs.MadeFormed.{made_formed, made_offered}
 use Rattle.smith_types.proofs.MadeReadable.{made_readable}
 use Rattle.smith_types.proofs.MadeTypes.{made_limits}
 use Rattle.smith_types.proofs.Needs.{made_needs}
@@ -77,12 +79,12 @@ mutual
       )
 
 -- What is asked of a type that is to be read with so much fuel where these scopes stand.
-abbrev Asked : Config → Scope → List Scope → ℕ → Entry → Type 0
+abbrev Asked : Config → Marked → List Marked → ℕ → Entry → Type 0
 Asked config own outer fuel e =
-    FormedEntry e own outer × EntryLimits config e × IsReadableType e × (need e ≤ fuel)
+    FormedEntry e (scope_in own) (scopes_in_marked outer) × OfferedEntry e own outer × EntryLimits config e × IsReadableType e × (need e ≤ fuel)
     × (length (own ∷ outer) + declaring e ≤ max (length (own ∷ outer)) config.max_nesting_depth)
 
-pub exact : (config : Config) (own : Scope) (outer : List Scope) (fuel : ℕ) (e : Entry) → config.max_nesting_depth ≤ 1000 → Fit (own ∷ outer)
+pub exact : (config : Config) (own : Marked) (outer : List Marked) (fuel : ℕ) (e : Entry) → config.max_nesting_depth ≤ 1000 → Fit (own ∷ outer)
     → length (own ∷ outer) ≤ 1000
     → ((bytes rest : List ℕ) × AreBytes bytes × MadeWith config own outer fuel bytes e rest) ↔ Asked config own outer fuel e
 exact config own outer fuel e deep fit few = (
@@ -91,17 +93,19 @@ exact config own outer fuel e deep fit few = (
       let r = made_needs config own outer bytes fuel made.full rest made.left m in
       subst (Asked config own outer fuel) (sym made.shown) (
         made_formed config own outer bytes fuel made.full rest made.left m,
+        made_offered config own outer bytes fuel made.full rest made.left m,
         made_limits config own outer bytes fuel made.full rest made.left m,
         made_readable config own outer bytes fuel made.full rest made.left m,
         r.enough,
         declared_within (plain made.full) config (length (own ∷ outer)) r.nests,
       ),
-  λ (f, m, names, n, x).
+  λ (f, o, m, names, n, x).
       let sayable : IsSayable config own outer fuel e = record {
         formed = f;
+        offered = o;
         limits = m;
         readable = names;
-        lasts = lasts e config own outer (length (own ∷ outer)) fuel f (nests_within e config (length (own ∷ outer)) x) n;
+        lasts = lasts e config (scope_in own) (scopes_in_marked outer) (length (own ∷ outer)) fuel f (nests_within e config (length (own ∷ outer)) x) n;
         fit = fit;
         shallow = few;
       } in (

@@ -24,7 +24,8 @@ pub names_more : (so_far : List NamedExtern) (x : NamedExtern) → names (so_far
 names_more so_far x = map-append (λ y. y.0) so_far (x ∷ [])
 
 -- The names with those of one declaration more, whose plain tree has the same.
-pub names_behind : (so_far more : List NamedExtern) (one : List (List ℕ × Unit {0})) → names one ≡ names more → names so_far ++ names one ≡ names (so_far ++ more)
+pub names_behind : (so_far more : List NamedExtern) (one : List (List ℕ × Unit {0})) → names one ≡ names more
+    → names so_far ++ names one ≡ names (so_far ++ more)
 names_behind so_far more one same = ap (λ z. names so_far ++ z) same ∙ sym (map-append (λ x. x.0) so_far more)
 
 pub url_names_more : (so_far : List NamedExtern) (x : NamedExtern) → url_names (so_far ++ x ∷ []) ≡ url_names so_far ++ url_name x.1

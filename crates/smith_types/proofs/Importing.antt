@@ -1,20 +1,17 @@
 -- Imports and exports as declarations are made: when there is one.
-use Rattle.std.proofs.Common.{◌≡◌, ℕ, ◌+◌, ◌<◌, Bool, true, false, ◌&&◌, ◌||◌, List, [], ◌∷◌, length, refl, sym, ap, ◌∙◌, subst, arith}
+use Rattle.std.proofs.Common.{◌≡◌, ℕ, ◌+◌, ◌<◌, Bool, true, false, ◌&&◌, ◌||◌, List, [], ◌∷◌, refl, sym, ◌∙◌, subst, arith}
 use Rattle.std.proofs.lemmas.Bool.{false≢true}
-use Rattle.std.specs.Prelude.{nat_lt, drop}
+use Rattle.std.specs.Prelude.{drop}
 use Rattle.smith_format.specs.declared.config.Config.{Config}
 use Rattle.smith_input.specs.Reading.{Reads}
 use Rattle.smith_input.specs.Offers.{offers_of}
 use Rattle.smith_syntax.specs.Entries.{FullDecl, import_decl, export_decl}
-use Rattle.smith_syntax.specs.Scope.{Scope, is_core_module}
-use Rattle.smith_syntax.specs.Places.{places}
+use Rattle.smith_syntax.specs.Marked.{Marked}
 use Rattle.smith_syntax.specs.declared.deftype.ComponentTypeRef.{ComponentTypeRef}
 use Rattle.smith_types.specs.Declarations.{NamedExtern, NoImportDecl, not_asked, none_fits, ReadsImportDecl, ReadsExportDecl, ReadsNamedExtern}
-use Rattle.smith_tree.specs.TypeOffers.{has_reference, ref_kinds, ref_offers, has_place, uncounted}
-use Rattle.smith_tree.specs.CoreTypeOffers.{indexes}
+use Rattle.smith_tree.specs.TypeOffers.{has_export, has_reference, ref_kinds, ref_offers, has_place, uncounted}
 use Rattle.smith_types.specs.References.{ReadsRef}
 use Rattle.smith_tree.specs.declared.choices.RefKind.TheVariants as kind
-use Rattle.smith_core_types.proofs.MakingCore.{length-indexes}
 
 -- where nothing is offered, none is offered of the first
 first_offered : {A : Type 0} (b : Bool) (x : A) (os : List (Bool × A)) → offers_of ((b, x) ∷ os) ≡ [] → (b ≡ false) × (offers_of os ≡ [])
@@ -25,22 +22,23 @@ left_true : (a b : Bool) → b ≡ true → a && b ≡ false → a ≡ false
 left_true true b t e = absurd (false≢true (sym e ∙ t))
 left_true false b t e = refl
 
-either_false : (a b : Bool) → a ≡ false → b ≡ false → a || b ≡ false
-either_false true b e f = absurd (false≢true (sym e))
-either_false false b e f = f
-
--- An export has something to name where there is something to name.
-pub export_possible : (config : Config) (own : Scope) → has_reference own ≡ true → ref_kinds config own uncounted false true ≡ [] → ⊥
+-- An export has something to name where there is something to export.
+pub export_possible : (config : Config) (own : Marked) → has_export own ≡ true → ref_kinds config own uncounted false true ≡ [] → ⊥
 export_possible config own has none =
     let offers = ref_offers config own uncounted false true in
-    let m = first_offered (has_place own kind.Module && true) kind.Module (drop 1 offers) none in
-    let t = first_offered (has_place own kind.TypeEq && true) kind.TypeEq (drop 2 offers) m.1 in
-    let no_module : nat_lt 0 (length (places is_core_module 0 own.core_types)) ≡ false = left_true (has_place own kind.Module) true refl m.0 in
-    let no_type : nat_lt 0 (length (indexes own.types)) ≡ false = left_true (has_place own kind.TypeEq) true refl t.0 in
-    let no_own : nat_lt 0 (length own.types) ≡ false = ap (nat_lt 0) (sym (length-indexes 0 own.types)) ∙ no_type in
-    false≢true (sym (either_false _ _ no_own no_module) ∙ has)
+    let m = first_offered (has_place own false kind.Module && true) kind.Module (drop 1 offers) none in
+    let t = first_offered (has_place own false kind.TypeEq && true) kind.TypeEq (drop 2 offers) m.1 in
+    let f = first_offered (has_place own false kind.Func && true) kind.Func (drop 3 offers) t.1 in
+    let c = first_offered (has_place own false kind.Component && true) kind.Component (drop 4 offers) f.1 in
+    let i = first_offered (has_place own false kind.Instance && true) kind.Instance (drop 5 offers) c.1 in
+    let no_module = left_true (has_place own false kind.Module) true refl m.0 in
+    let no_type = left_true (has_place own false kind.TypeEq) true refl t.0 in
+    let no_component = left_true (has_place own false kind.Component) true refl c.0 in
+    let no_instance = left_true (has_place own false kind.Instance) true refl i.0 in
+    let never : has_export own ≡ false = λ j. no_module j || no_type j || no_component j || no_instance j in
+    false≢true (sym never ∙ has)
 
-module _ (config : Config) (own : Scope) (b mid : List ℕ) (n : ℕ) (has : has_reference own ≡ true) (read : (k : ℕ) × (n ≡ 0 + k) × Reads 4 b k mid) where
+module _ (config : Config) (own : Marked) (b mid : List ℕ) (n : ℕ) (has : has_reference own ≡ true) (read : (k : ℕ) × (n ≡ 0 + k) × Reads 4 b k mid) where
   pub import_not_asked : 0 < n → NoImportDecl config true own b mid
   import_not_asked h = not_asked refl has read.2 (omega (arith, h, read.1))
 
@@ -55,7 +53,7 @@ module _ (config : Config) (own : Scope) (b mid : List ℕ) (n : ℕ) (has : has
       → ReadsImportDecl config own so_far b (import_decl x.0 x.1 r) rest
   import_read so_far r x low rest e of name = record { mid = mid; low = low; to = r; named = x; there = has; asked = asked e; of = of; name = name; is = refl }
 
-pub export_read : (config : Config) (own : Scope) (so_far : List NamedExtern) (r : ComponentTypeRef) (x : NamedExtern) (b mid rest : List ℕ) (d : FullDecl)
+pub export_read : (config : Config) (own : Marked) (so_far : List NamedExtern) (r : ComponentTypeRef) (x : NamedExtern) (b mid rest : List ℕ) (d : FullDecl)
     → ReadsRef config own uncounted false true b r mid → ReadsNamedExtern so_far mid x rest → d ≡ export_decl x.0 x.1 r
     → ReadsExportDecl config own so_far b d rest
 export_read config own so_far r x b mid rest d of name is = record { mid = mid; to = r; named = x; of = of; name = name; is = is }

@@ -1,8 +1,10 @@
+pub mod Choosing
 pub mod ReadsDeclarations
 pub mod Declaring
 pub mod Exact
 pub mod Externs
 pub mod Importing
+pub mod Judged
 pub mod LiftingRead
 pub mod LiftingSame
 pub mod Lifting
@@ -12,6 +14,8 @@ pub mod MadeReadable
 pub mod MadeSame
 pub mod MadeTypes
 pub mod MakingTypes
+pub mod MarkedPlaces
+pub mod MarkedPlain
 pub mod Members
 pub mod ReferencesRead
 pub mod Needs

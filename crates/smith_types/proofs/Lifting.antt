@@ -18,7 +18,9 @@ use Rattle.smith_input.proofs.NewNames.{new_tail, new_kebab}
 use Rattle.smith_input.proofs.Reading.{tail_same, tail_trans}
 use Rattle.smith_syntax.specs.Entries.{Field, Signature, function}
 use Rattle.smith_syntax.specs.Flat.{flat_primitive, flat_value, Flattens}
+use Rattle.smith_syntax.specs.Marked.{Marked}
 use Rattle.smith_syntax.specs.Scope.{Scope}
+use Rattle.smith_syntax.specs.Usable.{OfferedEntry, OfferedValue}
 use Rattle.smith_syntax.specs.WellFormed.{Named, FormedVal, FormedMaybe, FormedEntry}
 use Rattle.smith_syntax.specs.declared.types.ComponentValType.{ComponentValType}
 use Rattle.smith_syntax.specs.declared.types.ComponentValType.TheVariants.{Primitive, Indexed}
@@ -28,7 +30,7 @@ use Rattle.smith_types.specs.Lifting.{IsLiftable, IsLiftableFunction, ReadsParam
 use Rattle.smith_tree.specs.TypeOffers.{lifted}
 use Rattle.smith_tree.specs.ReadableTypes.{AreReadableNames}
 use Rattle.smith_core_types.proofs.Names.{AreNew, new_distinct}
-use Rattle.smith_input.proofs.Lists.{all_at}
+use Rattle.smith_input.proofs.Lists.{all_at, all_both}
 
 -- core value types
 
@@ -102,6 +104,11 @@ params_primitive : {names : List (List ℕ)} {vs : List ValType} {b rest : List 
 params_primitive own no_params = tt
 params_primitive own (a_param n p later) = (tt, params_primitive own later)
 
+params_offered : {names : List (List ℕ)} {vs : List ValType} {b rest : List ℕ} {fs : List Field} (own : Marked) → ReadsParams names vs b fs rest
+    → AllByRecursion (OfferedValue own) (map (λ p. p.1) fs)
+params_offered own no_params = tt
+params_offered own (a_param n p later) = (tt, params_offered own later)
+
 params_new : {names : List (List ℕ)} {vs : List ValType} {b rest : List ℕ} {fs : List Field} → ReadsParams names vs b fs rest → AreNew names (map (λ p. p.0) fs)
 params_new no_params = tt
 params_new (a_param n p later) = (n.unique.is_new, params_new later)
@@ -154,6 +161,13 @@ module _ {f : Function} {b : List ℕ} {s : Signature} {rest : List ℕ} (r : Re
       let prims = lifted_prims own in
       let count = lifted_params in
       (lifted_named, prims.0, omega (arith, few, count), prims.1)
+
+  -- All that it names is offered: it names nothing.
+  pub lifted_offered : (own : Marked) (outer : List Marked) → OfferedEntry {N = Unit {0}} {K = Unit {0}} (function s) own outer
+  lifted_offered own outer =
+      let result : AllByRecursion (OfferedValue own) (option_to_list s.result) =
+      subst (λ v. AllByRecursion (OfferedValue own) (option_to_list v)) (sym r.is) (tt, tt) in
+      all_both (OfferedValue own) (map (λ p. p.1) s.params) (option_to_list s.result) (params_offered own r.params) result
 
 -- The same parameter by parameter, as the program reads them: whatever is read from here, all is read with the parameters so far.
 

@@ -1,4 +1,4 @@
--- Types that are made are well formed.
+-- Types that are made are well formed, and all that they name was offered.
 use Rattle.std.proofs.Common.{◌≡◌, ◌⊎◌, inl, inr, ℕ, ◌+◌, ◌-◌, Bool, true, false, List, [], ◌∷◌, ◌++◌, refl, sym, ap, ◌∙◌, subst}
 use Rattle.std.proofs.Common.{append-nil, append_assoc}
 use Rattle.std.proofs.lemmas.Bool.{false≢true}
@@ -8,51 +8,26 @@ use Rattle.smith_input.specs.Kebab.{Kebab}
 use Rattle.smith_input.specs.Names.{ReadsNew}
 use Rattle.smith_input.proofs.NewNames.{new_kebab}
 use Rattle.smith_format.specs.declared.config.Config.{Config}
-use Rattle.smith_syntax.specs.Entries.{EntryOf, DeclOf, DeclsOf, defined, function, component_type, instance_type, core_type_decl, type_decl, type_alias}
+use Rattle.smith_syntax.specs.Entries.{DeclOf, DeclsOf, core_type_decl, type_decl, type_alias}
 use Rattle.smith_syntax.specs.Entries.{core_type_alias, import_decl, export_decl, no_decls, then_decls}
 use Rattle.smith_syntax.specs.Entries.{FullEntry, FullDecl, FullDecls, plain, plain_decl, plain_decls}
-use Rattle.smith_syntax.specs.Scope.{Scope, with_type, after_decl}
-use Rattle.smith_syntax.specs.WellFormed.{FormedEntry, FormedDeclaration, FormedDeclarations, Named, names, import_of, export_of, decl_imports, decl_exports}
+use Rattle.smith_syntax.specs.Marked.{Marked, marked_after, scope_in, scopes_in_marked}
+use Rattle.smith_syntax.specs.Scope.{after_decl}
+use Rattle.smith_syntax.specs.Usable.{OfferedDecls, OfferedEntry}
+use Rattle.smith_syntax.specs.WellFormed.{FormedEntry, FormedDeclarations, Named, names, import_of, export_of, decl_imports, decl_exports}
 use Rattle.smith_types.specs.Declarations.{NamedExtern, SoFar, nothing_so_far, after_one}
 use Rattle.smith_types.specs.Made.{Made, spent_type, made_defined, made_function, made_component, made_instance}
 use Rattle.smith_types.specs.Made.{MadeDeclaration, made_import, made_export, made_alias, made_core_type, made_type, MadeDeclarations, no_more_decls}
 use Rattle.smith_types.specs.Made.{spent_decls, one_decl}
-use Rattle.smith_types.proofs.ReadsDeclarations.{alias_holds, alias_formed, import_formed, export_formed}
-use Rattle.smith_types.proofs.Made.{defined_formed, function_formed}
+use Rattle.smith_types.proofs.ReadsDeclarations.{IsDeclaration, alias_holds, alias_is, import_is, export_is}
+use Rattle.smith_types.proofs.Judged.{IsType}
+use Rattle.smith_types.proofs.MarkedPlain.{after_plain, scope_after}
+use Rattle.smith_types.proofs.Made.{defined_is, function_is}
 use Rattle.smith_core_types.proofs.MadeCore.{made_core_formed}
 use Rattle.smith_core_types.proofs.Names.{AreNew, new_distinct, distinct_new, none_before}
 
--- A plain tree of a plain tree is that tree.
+-- A declaration and its plain tree import and export the same names.
 module _ {N K : Type 0} where
-  mutual
-    pub plain_twice : (e : EntryOf N K) → plain (plain e) ≡ plain e
-    plain_twice (defined t) = refl
-    plain_twice (function s) = refl
-    plain_twice (component_type ds) = ap component_type (decls_twice ds)
-    plain_twice (instance_type ds) = ap instance_type (decls_twice ds)
-
-    decl_twice : (d : DeclOf N K) → plain_decl (plain_decl d) ≡ plain_decl d
-    decl_twice (core_type_decl t k) = refl
-    decl_twice (type_decl e) = ap type_decl (plain_twice e)
-    decl_twice (type_alias count i k) = refl
-    decl_twice (core_type_alias count i k) = refl
-    decl_twice (import_decl name n r) = refl
-    decl_twice (export_decl name n r) = refl
-
-    decls_twice : (ds : DeclsOf N K) → plain_decls (plain_decls ds) ≡ plain_decls ds
-    decls_twice no_decls = refl
-    decls_twice (then_decls d ds) = λ i. then_decls (decl_twice d i) (decls_twice ds i)
-
-  -- A declaration and its plain tree leave the same scope, and import and export the same names.
-
-  pub after_plain : (outer : List Scope) (own : Scope) (d : DeclOf N K) → after_decl outer own (plain_decl d) ≡ after_decl outer own d
-  after_plain outer own (core_type_decl t k) = refl
-  after_plain outer own (type_decl e) = ap (with_type own) (plain_twice e)
-  after_plain outer own (type_alias count i k) = refl
-  after_plain outer own (core_type_alias count i k) = refl
-  after_plain outer own (import_decl name n r) = refl
-  after_plain outer own (export_decl name n r) = refl
-
   pub import_plain : (d : DeclOf N K) → names (import_of (plain_decl d)) ≡ names (import_of d)
   import_plain (core_type_decl t k) = refl
   import_plain (type_decl e) = refl
@@ -85,7 +60,7 @@ module _ {N K : Type 0} where
 abbrev MaybeNew : List NamedExtern → List NamedExtern → Type 0
 MaybeNew so_far more = (more ≡ []) ⊎ ((x : NamedExtern) × (more ≡ x ∷ []) × (b rest : List ℕ) × ReadsNew 100 (names so_far) b x.0 rest)
 
-module _ (config : Config) (importing : Bool) (outer : List Scope) (s : SoFar) (b : List ℕ) (fuel : ℕ) (d : FullDecl) (rest : List ℕ) (left : ℕ) where
+module _ (config : Config) (importing : Bool) (outer : List Marked) (s : SoFar) (b : List ℕ) (fuel : ℕ) (d : FullDecl) (rest : List ℕ) (left : ℕ) where
   declaration_imports : MadeDeclaration config importing outer s b fuel d rest left → MaybeNew s.imports (import_of d)
   declaration_imports (made_import e r l) = inr (r.named, ap import_of r.is, r.low, r.name.mid, r.name.name)
   declaration_imports (made_export n c r l) = inl (ap import_of r.is)
@@ -129,7 +104,7 @@ names_more so_far one later (inr (x, is, b, rest, new)) after =
       (new_kebab new, then_new.1),
     )
 
-pub imports_new : (config : Config) (importing : Bool) (outer : List Scope) (done : ℕ) (s : SoFar) (b : List ℕ) (fuel : ℕ) (ds : FullDecls) (rest : List ℕ)
+pub imports_new : (config : Config) (importing : Bool) (outer : List Marked) (done : ℕ) (s : SoFar) (b : List ℕ) (fuel : ℕ) (ds : FullDecls) (rest : List ℕ)
     (left : ℕ) → MadeDeclarations config importing outer done s b fuel ds rest left → NewNames s.imports (decl_imports ds)
 imports_new config importing outer done s b fuel ds rest left (no_more_decls m l) = (tt, tt)
 imports_new config importing outer done s b fuel ds rest left (spent_decls m f l) = (tt, tt)
@@ -137,7 +112,7 @@ imports_new config importing outer done s b fuel _ rest left (one_decl {mid = mi
     let new = declaration_imports config importing outer s mid (fuel - 1) d low held one in
     names_more s.imports (import_of d) (decl_imports ds) new (imports_new config importing outer (done + 1) (after_one outer s d) low held ds rest left later)
 
-pub exports_new : (config : Config) (importing : Bool) (outer : List Scope) (done : ℕ) (s : SoFar) (b : List ℕ) (fuel : ℕ) (ds : FullDecls) (rest : List ℕ)
+pub exports_new : (config : Config) (importing : Bool) (outer : List Marked) (done : ℕ) (s : SoFar) (b : List ℕ) (fuel : ℕ) (ds : FullDecls) (rest : List ℕ)
     (left : ℕ) → MadeDeclarations config importing outer done s b fuel ds rest left → NewNames s.exports (decl_exports ds)
 exports_new config importing outer done s b fuel ds rest left (no_more_decls m l) = (tt, tt)
 exports_new config importing outer done s b fuel ds rest left (spent_decls m f l) = (tt, tt)
@@ -145,7 +120,7 @@ exports_new config importing outer done s b fuel _ rest left (one_decl {mid = mi
     let new = declaration_exports config importing outer s mid (fuel - 1) d low held one in
     names_more s.exports (export_of d) (decl_exports ds) new (exports_new config importing outer (done + 1) (after_one outer s d) low held ds rest left later)
 
-pub no_imports : (config : Config) (importing : Bool) (outer : List Scope) (done : ℕ) (s : SoFar) (b : List ℕ) (fuel : ℕ) (ds : FullDecls) (rest : List ℕ)
+pub no_imports : (config : Config) (importing : Bool) (outer : List Marked) (done : ℕ) (s : SoFar) (b : List ℕ) (fuel : ℕ) (ds : FullDecls) (rest : List ℕ)
     (left : ℕ) → importing ≡ false
     → MadeDeclarations config importing outer done s b fuel ds rest left → decl_imports (plain_decls ds) ≡ []
 no_imports config importing outer done s b fuel ds rest left never (no_more_decls m l) = refl
@@ -169,7 +144,7 @@ named_more xs ys n new =
     let whole = new_append [] (names xs) (names ys) (distinct_new [] (names xs) (none_before (names xs)) n.1) new.0 in
     subst Named (sym (map-append (λ x. x.0) xs ys)) (kebab_append (names xs) (names ys) n.0 new.1, new_distinct [] (names xs ++ names ys) whole)
 
-module _ (config : Config) (importing : Bool) (outer : List Scope) (done : ℕ) (s : SoFar) (b : List ℕ) (fuel : ℕ) (ds : FullDecls) (rest : List ℕ)
+module _ (config : Config) (importing : Bool) (outer : List Marked) (done : ℕ) (s : SoFar) (b : List ℕ) (fuel : ℕ) (ds : FullDecls) (rest : List ℕ)
     (left : ℕ) where
   pub imports_named : Named (names s.imports) → MadeDeclarations config importing outer done s b fuel ds rest left
       → Named (names (s.imports ++ decl_imports ds))
@@ -182,47 +157,76 @@ module _ (config : Config) (importing : Bool) (outer : List Scope) (done : ℕ) 
 none_named : Named []
 none_named = (tt, new_distinct [] [] tt)
 
+-- Declarations as they are judged.
+abbrev AreDeclarations : FullDecls → Marked → List Marked → Type 0
+AreDeclarations ds own outer = FormedDeclarations (plain_decls ds) (scope_in own) (scopes_in_marked outer) × OfferedDecls (plain_decls ds) outer own
+
+-- those after one
+are_after : (d : FullDecl) (ds : FullDecls) (own : Marked) (outer : List Marked) → AreDeclarations ds (marked_after d outer own) outer
+    → FormedDeclarations (plain_decls ds) (after_decl (scopes_in_marked outer) (scope_in own) (plain_decl d)) (scopes_in_marked outer)
+    × OfferedDecls (plain_decls ds) outer (marked_after (plain_decl d) outer own)
+are_after d ds own outer h =
+    let back = subst (λ z. AreDeclarations ds z outer) (sym (after_plain outer own d)) h in
+    (subst (λ z. FormedDeclarations (plain_decls ds) z (scopes_in_marked outer)) (scope_after outer own (plain_decl d)) back.0, back.1)
+
 mutual
-  pub made_formed : (config : Config) (own : Scope) (outer : List Scope) (b : List ℕ) (fuel : ℕ) (e : FullEntry) (rest : List ℕ) (left : ℕ)
+  pub made_is : (config : Config) (own : Marked) (outer : List Marked) (b : List ℕ) (fuel : ℕ) (e : FullEntry) (rest : List ℕ) (left : ℕ)
       → Made config own outer b fuel e rest left
-      → FormedEntry (plain e) own outer
-  made_formed config own outer b fuel e rest left (spent_type {t = t} f d i) =
-      subst (λ z. FormedEntry (plain z) own outer) (sym i) (defined_formed own b 0 t rest left d)
-  made_formed config own outer b fuel e rest left (made_defined {mid = mid} {t = t} f c d i) =
-      subst (λ z. FormedEntry (plain z) own outer) (sym i) (defined_formed own mid (fuel - 1) t rest left d)
-  made_formed config own outer b fuel e rest left (made_function {mid = mid} {s = s} f c d i) =
-      subst (λ z. FormedEntry (plain z) own outer) (sym i) (function_formed own outer mid (fuel - 1) s rest left d)
-  made_formed config own outer b fuel e rest left (made_component {mid = mid} {ds = ds} f c d i) =
-      subst (λ z. FormedEntry (plain z) own outer) (sym i) (
-        declarations_formed config true (own ∷ outer) 0 nothing_so_far mid (fuel - 1) ds rest left d,
-        subst Named (sym (imports_plain ds)) (imports_named config true (own ∷ outer) 0 nothing_so_far mid (fuel - 1) ds rest left none_named d),
-        subst Named (sym (exports_plain ds)) (exports_named config true (own ∷ outer) 0 nothing_so_far mid (fuel - 1) ds rest left none_named d),
+      → IsType (plain e) own outer
+  made_is config own outer b fuel e rest left (spent_type {t = t} f d i) =
+      subst (λ z. IsType (plain z) own outer) (sym i) (defined_is own b 0 t rest left d)
+  made_is config own outer b fuel e rest left (made_defined {mid = mid} {t = t} f c d i) =
+      subst (λ z. IsType (plain z) own outer) (sym i) (defined_is own mid (fuel - 1) t rest left d)
+  made_is config own outer b fuel e rest left (made_function {mid = mid} {s = s} f c d i) =
+      subst (λ z. IsType (plain z) own outer) (sym i) (function_is own outer mid (fuel - 1) s rest left d)
+  made_is config own outer b fuel e rest left (made_component {mid = mid} {ds = ds} f c d i) =
+      let start : SoFar = nothing_so_far (own ∷ outer) in
+      let r = declarations_are config true (own ∷ outer) 0 start mid (fuel - 1) ds rest left d in
+      subst (λ z. IsType (plain z) own outer) (sym i) (
+        (
+          r.0,
+          subst Named (sym (imports_plain ds)) (imports_named config true (own ∷ outer) 0 start mid (fuel - 1) ds rest left none_named d),
+          subst Named (sym (exports_plain ds)) (exports_named config true (own ∷ outer) 0 start mid (fuel - 1) ds rest left none_named d),
+        ),
+        r.1,
       )
-  made_formed config own outer b fuel e rest left (made_instance {mid = mid} {ds = ds} f c d i) =
-      subst (λ z. FormedEntry (plain z) own outer) (sym i) (
-        declarations_formed config false (own ∷ outer) 0 nothing_so_far mid (fuel - 1) ds rest left d,
-        no_imports config false (own ∷ outer) 0 nothing_so_far mid (fuel - 1) ds rest left refl d,
-        subst Named (sym (exports_plain ds)) (exports_named config false (own ∷ outer) 0 nothing_so_far mid (fuel - 1) ds rest left none_named d),
+  made_is config own outer b fuel e rest left (made_instance {mid = mid} {ds = ds} f c d i) =
+      let start : SoFar = nothing_so_far (own ∷ outer) in
+      let r = declarations_are config false (own ∷ outer) 0 start mid (fuel - 1) ds rest left d in
+      subst (λ z. IsType (plain z) own outer) (sym i) (
+        (
+          r.0,
+          no_imports config false (own ∷ outer) 0 start mid (fuel - 1) ds rest left refl d,
+          subst Named (sym (exports_plain ds)) (exports_named config false (own ∷ outer) 0 start mid (fuel - 1) ds rest left none_named d),
+        ),
+        r.1,
       )
 
-  pub declaration_formed : (config : Config) (importing : Bool) (outer : List Scope) (s : SoFar) (b : List ℕ) (fuel : ℕ) (d : FullDecl) (rest : List ℕ)
+  declaration_is : (config : Config) (importing : Bool) (outer : List Marked) (s : SoFar) (b : List ℕ) (fuel : ℕ) (d : FullDecl) (rest : List ℕ)
       (left : ℕ)
-      → MadeDeclaration config importing outer s b fuel d rest left → FormedDeclaration (plain_decl d) s.own outer
-  declaration_formed config importing outer s b fuel d rest left (made_import i r l) = import_formed config s.own outer s.imports b d rest r
-  declaration_formed config importing outer s b fuel d rest left (made_export {low = low} n c r l) = export_formed config s.own outer s.exports low d rest r
-  declaration_formed config importing outer s b fuel d rest left (made_alias {low = low} n c r l) = alias_formed s.own outer low d rest r
-  declaration_formed config importing outer s b fuel d rest left (made_core_type n c m i) =
-      subst (λ z. FormedDeclaration (plain_decl z) s.own outer) (sym i) (made_core_formed m)
-  declaration_formed config importing outer s b fuel d rest left (made_type {low = low} {e = e} n c m i) =
-      subst (λ z. FormedDeclaration (plain_decl z) s.own outer) (sym i) (made_formed config s.own outer low fuel e rest left m)
+      → MadeDeclaration config importing outer s b fuel d rest left → IsDeclaration d s.own outer
+  declaration_is config importing outer s b fuel d rest left (made_import i r l) = import_is config s.own outer s.imports b d rest r
+  declaration_is config importing outer s b fuel d rest left (made_export {low = low} n c r l) = export_is config s.own outer s.exports low d rest r
+  declaration_is config importing outer s b fuel d rest left (made_alias {low = low} n c r l) = alias_is s.own outer low d rest r
+  declaration_is config importing outer s b fuel d rest left (made_core_type n c m i) =
+      subst (λ z. IsDeclaration z s.own outer) (sym i) (made_core_formed m, tt)
+  declaration_is config importing outer s b fuel d rest left (made_type {low = low} {e = e} n c m i) =
+      subst (λ z. IsDeclaration z s.own outer) (sym i) (made_is config s.own outer low fuel e rest left m)
 
-  pub declarations_formed : (config : Config) (importing : Bool) (outer : List Scope) (done : ℕ) (s : SoFar) (b : List ℕ) (fuel : ℕ) (ds : FullDecls)
+  declarations_are : (config : Config) (importing : Bool) (outer : List Marked) (done : ℕ) (s : SoFar) (b : List ℕ) (fuel : ℕ) (ds : FullDecls)
       (rest : List ℕ) (left : ℕ)
-      → MadeDeclarations config importing outer done s b fuel ds rest left → FormedDeclarations (plain_decls ds) s.own outer
-  declarations_formed config importing outer done s b fuel ds rest left (no_more_decls m l) = tt
-  declarations_formed config importing outer done s b fuel ds rest left (spent_decls m f l) = tt
-  declarations_formed config importing outer done s b fuel _ rest left (one_decl {mid = mid} {low = low} {held = held} {d = d} {ds = ds} m f one later) = (
-    declaration_formed config importing outer s mid (fuel - 1) d low held one,
-    subst (λ z. FormedDeclarations (plain_decls ds) z outer) (sym (after_plain outer s.own d))
-        (declarations_formed config importing outer (done + 1) (after_one outer s d) low held ds rest left later),
-  )
+      → MadeDeclarations config importing outer done s b fuel ds rest left → AreDeclarations ds s.own outer
+  declarations_are config importing outer done s b fuel ds rest left (no_more_decls m l) = (tt, tt)
+  declarations_are config importing outer done s b fuel ds rest left (spent_decls m f l) = (tt, tt)
+  declarations_are config importing outer done s b fuel _ rest left (one_decl {mid = mid} {low = low} {held = held} {d = d} {ds = ds} m f one later) =
+      let here = declaration_is config importing outer s mid (fuel - 1) d low held one in
+      let behind = are_after d ds s.own outer (declarations_are config importing outer (done + 1) (after_one outer s d) low held ds rest left later) in
+      ((here.0, behind.0), (here.1, behind.1))
+
+pub made_formed : (config : Config) (own : Marked) (outer : List Marked) (b : List ℕ) (fuel : ℕ) (e : FullEntry) (rest : List ℕ) (left : ℕ)
+    → Made config own outer b fuel e rest left → FormedEntry (plain e) (scope_in own) (scopes_in_marked outer)
+made_formed config own outer b fuel e rest left m = (made_is config own outer b fuel e rest left m).0
+
+pub made_offered : (config : Config) (own : Marked) (outer : List Marked) (b : List ℕ) (fuel : ℕ) (e : FullEntry) (rest : List ℕ) (left : ℕ)
+    → Made config own outer b fuel e rest left → OfferedEntry (plain e) own outer
+made_offered config own outer b fuel e rest left m = (made_is config own outer b fuel e rest left m).1

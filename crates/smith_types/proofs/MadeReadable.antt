@@ -4,7 +4,7 @@ use Rattle.smith_input.proofs.NameScript.{new_reachable}
 use Rattle.smith_format.specs.declared.config.Config.{Config}
 use Rattle.smith_syntax.specs.Entries.{DefValType, record_type, variant_type, tuple_type, flags_type, enum_type}
 use Rattle.smith_syntax.specs.Entries.{FullEntry, FullDecl, FullDecls, plain, plain_decl, plain_decls}
-use Rattle.smith_syntax.specs.Scope.{Scope}
+use Rattle.smith_syntax.specs.Marked.{Marked}
 use Rattle.smith_syntax.specs.WellFormed.{names, import_of, export_of}
 use Rattle.smith_core_types.proofs.Readable.{made_core_readable}
 use Rattle.smith_types.specs.Declarations.{SoFar, nothing_so_far, after_one}
@@ -25,7 +25,7 @@ or_bool_readable : {A : Type 0} (of : List A → DefValType) (t : DefValType) (x
 or_bool_readable of t [] i n = subst IsReadableDefined (sym i) tt
 or_bool_readable of t (x ∷ xs) i n = subst IsReadableDefined (sym i) n
 
-as_readable : (own : Scope) (k : DefinedKind) (b : List ℕ) (fuel : ℕ) (t : DefValType) (rest : List ℕ) (left : ℕ) → MadeAs own k b fuel t rest left
+as_readable : (own : Marked) (k : DefinedKind) (b : List ℕ) (fuel : ℕ) (t : DefValType) (rest : List ℕ) (left : ℕ) → MadeAs own k b fuel t rest left
     → IsReadableDefined t
 as_readable own kind.Primitive b fuel t rest left (p, r, i, _) = subst IsReadableDefined (sym i) tt
 as_readable own kind.Record b fuel t rest left (xs, r, i) =
@@ -39,12 +39,12 @@ as_readable own kind.Enum b fuel t rest left (xs, r, i) = or_bool_readable enum_
 as_readable own kind.Option b fuel t rest left (v, r, i, _) = subst IsReadableDefined (sym i) tt
 as_readable own kind.Result b fuel t rest left (ok, mid, r, err, s, i, _) = subst IsReadableDefined (sym i) tt
 
-defined_readable : (own : Scope) (b : List ℕ) (fuel : ℕ) (t : DefValType) (rest : List ℕ) (left : ℕ) → MadeDefined own b fuel t rest left
+defined_readable : (own : Marked) (b : List ℕ) (fuel : ℕ) (t : DefValType) (rest : List ℕ) (left : ℕ) → MadeDefined own b fuel t rest left
     → IsReadableDefined t
 defined_readable own b fuel t rest left d = as_readable own d.kind d.mid fuel t rest left d.made
 
 mutual
-  pub made_readable : (config : Config) (own : Scope) (outer : List Scope) (b : List ℕ) (fuel : ℕ) (e : FullEntry) (rest : List ℕ) (left : ℕ)
+  pub made_readable : (config : Config) (own : Marked) (outer : List Marked) (b : List ℕ) (fuel : ℕ) (e : FullEntry) (rest : List ℕ) (left : ℕ)
       → Made config own outer b fuel e rest left → IsReadableType (plain e)
   made_readable config own outer b fuel e rest left (spent_type {t = t} f d i) =
       subst (λ z. IsReadableType (plain z)) (sym i) (defined_readable own b 0 t rest left d)
@@ -54,12 +54,12 @@ mutual
       subst (λ z. IsReadableType (plain z)) (sym i) (members_readable (λ p. p.0) named_name mid (fuel - 1) s.params d.mid d.held d.takes)
   made_readable config own outer b fuel e rest left (made_component {mid = mid} {ds = ds} f c d i) =
       subst (λ z. IsReadableType (plain z)) (sym i)
-      (declarations_readable config true (own ∷ outer) 0 nothing_so_far mid (fuel - 1) ds rest left d)
+      (declarations_readable config true (own ∷ outer) 0 (nothing_so_far (own ∷ outer)) mid (fuel - 1) ds rest left d)
   made_readable config own outer b fuel e rest left (made_instance {mid = mid} {ds = ds} f c d i) =
       subst (λ z. IsReadableType (plain z)) (sym i)
-      (declarations_readable config false (own ∷ outer) 0 nothing_so_far mid (fuel - 1) ds rest left d)
+      (declarations_readable config false (own ∷ outer) 0 (nothing_so_far (own ∷ outer)) mid (fuel - 1) ds rest left d)
 
-  declaration_readable : (config : Config) (importing : Bool) (outer : List Scope) (s : SoFar) (b : List ℕ) (fuel : ℕ) (d : FullDecl) (rest : List ℕ)
+  declaration_readable : (config : Config) (importing : Bool) (outer : List Marked) (s : SoFar) (b : List ℕ) (fuel : ℕ) (d : FullDecl) (rest : List ℕ)
       (left : ℕ) → MadeDeclaration config importing outer s b fuel d rest left → IsReadableDecl (plain_decl d) (names s.imports) (names s.exports)
   declaration_readable config importing outer s b fuel d rest left (made_import i r l) =
       subst (λ z. IsReadableDecl (plain_decl z) (names s.imports) (names s.exports)) (sym r.is) (new_reachable r.name.name)
@@ -72,7 +72,7 @@ mutual
   declaration_readable config importing outer s b fuel d rest left (made_type {low = low} {e = e} n c m i) =
       subst (λ z. IsReadableDecl (plain_decl z) (names s.imports) (names s.exports)) (sym i) (made_readable config s.own outer low fuel e rest left m)
 
-  declarations_readable : (config : Config) (importing : Bool) (outer : List Scope) (done : ℕ) (s : SoFar) (b : List ℕ) (fuel : ℕ) (ds : FullDecls)
+  declarations_readable : (config : Config) (importing : Bool) (outer : List Marked) (done : ℕ) (s : SoFar) (b : List ℕ) (fuel : ℕ) (ds : FullDecls)
       (rest : List ℕ) (left : ℕ) → MadeDeclarations config importing outer done s b fuel ds rest left
       → AreReadableDecls (plain_decls ds) (names s.imports) (names s.exports)
   declarations_readable config importing outer done s b fuel ds rest left (no_more_decls m l) = tt

@@ -6,7 +6,7 @@ use Rattle.smith_input.proofs.Reading.{more_unique}
 use Rattle.smith_format.specs.declared.config.Config.{Config}
 use Rattle.smith_syntax.specs.Entries.{FullEntry, FullDecl, FullDecls, defined, function, component_type, instance_type, core_type_decl, type_decl, then_decls}
 use Rattle.smith_syntax.specs.Entries.{keeps_functions}
-use Rattle.smith_syntax.specs.Scope.{Scope}
+use Rattle.smith_syntax.specs.Marked.{Marked, scope_in}
 use Rattle.smith_types.specs.Declarations.{SoFar, nothing_so_far, after_one, ReadsAlias, ReadsExportDecl, NoImportDecl}
 use Rattle.smith_tree.specs.TypeOffers.{declaration_items}
 use Rattle.smith_types.specs.Made.{MadeDefined, MadeFunction, Made, spent_type, made_defined, made_function, made_component, made_instance, MadeDeclaration}
@@ -21,7 +21,7 @@ use Rattle.smith_core_types.proofs.MadeCore.{made_core_same}
 use Rattle.smith_core_types.proofs.MadeCoreSame.{Same}
 
 -- a choice of what is declared, where no import is
-items_same : (config : Config) (importing : Bool) (outer : List Scope) (own : Scope) (b mid low m l : List ℕ) (i j : DeclarationItem)
+items_same : (config : Config) (importing : Bool) (outer : List Marked) (own : Marked) (b mid low m l : List ℕ) (i j : DeclarationItem)
     → NoImportDecl config importing own b mid
     → ReadsAmong (declaration_items config outer own) mid i low → NoImportDecl config importing own b m → ReadsAmong (declaration_items config outer own) m j l
     → (i ≡ j) × (low ≡ l)
@@ -30,7 +30,7 @@ items_same config importing outer own b mid low m l i j n c o a =
     among_same (subst P (no_import_same config own importing b mid m n o) c) a
 
 mutual
-  pub made_same : (config : Config) (own : Scope) (outer : List Scope) (b : List ℕ) (fuel : ℕ) (d e : FullEntry) (r s : List ℕ) (f g : ℕ)
+  pub made_same : (config : Config) (own : Marked) (outer : List Marked) (b : List ℕ) (fuel : ℕ) (d e : FullEntry) (r s : List ℕ) (f g : ℕ)
       → Made config own outer b fuel d r f
       → Made config own outer b fuel e s g → Same d e r s f g
   made_same config own outer b fuel d e r s f g (spent_type {t = t} h x i) (spent_type {t = u} k y j) =
@@ -45,12 +45,12 @@ mutual
       let v = function_same own low (fuel - 1) t u r s f g (subst P (among_same c a).1 x) y in
       record { value = i ∙ (ap function v.value ∙ sym j); rest = v.rest; left = v.left }
   made_same config own outer b fuel d e r s f g (made_component {mid = mid} {ds = ds} h c x i) (made_component {mid = low} {ds = es} k a y j) =
-      let P : List ℕ → Type 0 = λ z. MadeDeclarations config true (own ∷ outer) 0 nothing_so_far z (fuel - 1) ds r f in
-      let v = declarations_same config true (own ∷ outer) 0 nothing_so_far low (fuel - 1) ds es r s f g (subst P (among_same c a).1 x) y in
+      let P : List ℕ → Type 0 = λ z. MadeDeclarations config true (own ∷ outer) 0 (nothing_so_far (own ∷ outer)) z (fuel - 1) ds r f in
+      let v = declarations_same config true (own ∷ outer) 0 (nothing_so_far (own ∷ outer)) low (fuel - 1) ds es r s f g (subst P (among_same c a).1 x) y in
       record { value = i ∙ (ap component_type v.value ∙ sym j); rest = v.rest; left = v.left }
   made_same config own outer b fuel d e r s f g (made_instance {mid = mid} {ds = ds} h c x i) (made_instance {mid = low} {ds = es} k a y j) =
-      let P : List ℕ → Type 0 = λ z. MadeDeclarations config false (own ∷ outer) 0 nothing_so_far z (fuel - 1) ds r f in
-      let v = declarations_same config false (own ∷ outer) 0 nothing_so_far low (fuel - 1) ds es r s f g (subst P (among_same c a).1 x) y in
+      let P : List ℕ → Type 0 = λ z. MadeDeclarations config false (own ∷ outer) 0 (nothing_so_far (own ∷ outer)) z (fuel - 1) ds r f in
+      let v = declarations_same config false (own ∷ outer) 0 (nothing_so_far (own ∷ outer)) low (fuel - 1) ds es r s f g (subst P (among_same c a).1 x) y in
       record { value = i ∙ (ap instance_type v.value ∙ sym j); rest = v.rest; left = v.left }
   made_same config own outer b fuel d e r s f g (spent_type h x i) (made_defined k a y j) = absurd (omega (arith, h, k))
   made_same config own outer b fuel d e r s f g (spent_type h x i) (made_function k a y j) = absurd (omega (arith, h, k))
@@ -81,7 +81,8 @@ mutual
   made_same config own outer b fuel d e r s f g (made_instance h c x i) (made_component k a y j) =
       absurd (let z : Instance ≡ Component = (among_same c a).0 in cc)
 
-  pub declaration_same : (config : Config) (importing : Bool) (outer : List Scope) (t : SoFar) (b : List ℕ) (fuel : ℕ) (d e : FullDecl) (r s : List ℕ) (f g : ℕ)
+  pub declaration_same : (config : Config) (importing : Bool) (outer : List Marked) (t : SoFar) (b : List ℕ) (fuel : ℕ) (d e : FullDecl) (r s : List ℕ)
+      (f g : ℕ)
       → MadeDeclaration config importing outer t b fuel d r f → MadeDeclaration config importing outer t b fuel e s g → Same d e r s f g
   declaration_same config importing outer t b fuel d e r s f g (made_import h x l) (made_import k y m) =
       let v = import_same config t.own t.imports b d e r s x y in
@@ -99,7 +100,7 @@ mutual
   declaration_same config importing outer t b fuel d e r s f g (made_core_type {mid = u} {low = low} {c = p} n c x i)
       (made_core_type {mid = w} {low = after} {c = q} o a y j) =
       let v = items_same config importing outer t.own b u low w after item.CoreType item.CoreType n c o a in
-      let P : List ℕ → Type 0 = λ z. MadeCore config t.own z fuel p r f in
+      let P : List ℕ → Type 0 = λ z. MadeCore config (scope_in t.own) z fuel p r f in
       let w = made_core_same (subst P v.1 x) y in
       record { value = i ∙ (ap (λ z. core_type_decl z (keeps_functions (named_by_core t.own.core_types z))) w.value ∙ sym j); rest = w.rest; left = w.left }
   declaration_same config importing outer t b fuel d e r s f g (made_type {mid = u} {low = low} {e = p} n c x i)
@@ -149,7 +150,7 @@ mutual
   declaration_same config importing outer t b fuel d e r s f g (made_type n c x l) (made_core_type o a y m) =
       absurd (let z : item.«Type» ≡ item.CoreType = (items_same config importing outer t.own b _ _ _ _ item.«Type» item.CoreType n c o a).0 in cc)
 
-  pub declarations_same : (config : Config) (importing : Bool) (outer : List Scope) (done : ℕ) (t : SoFar) (b : List ℕ) (fuel : ℕ) (ds es : FullDecls)
+  pub declarations_same : (config : Config) (importing : Bool) (outer : List Marked) (done : ℕ) (t : SoFar) (b : List ℕ) (fuel : ℕ) (ds es : FullDecls)
       (r s : List ℕ) (f g : ℕ)
       → MadeDeclarations config importing outer done t b fuel ds r f → MadeDeclarations config importing outer done t b fuel es s g → Same ds es r s f g
   declarations_same config importing outer done t b fuel ds es r s f g (no_more_decls m l) (no_more_decls n k) =

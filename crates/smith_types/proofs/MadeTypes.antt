@@ -2,14 +2,13 @@
 -- they may.
 use Rattle.std.proofs.Common.{◌≡◌, ℕ, ◌+◌, ◌-◌, ◌<◌, ◌≤◌, Bool, true, false, List, [], ◌∷◌, length, refl, sym, ap, subst, arith}
 use Rattle.std.proofs.Math.Nat.{le-max_left, le-max_right, max-le, max-eq_right}
-use Rattle.std.specs.Prelude.{max}
+use Rattle.std.specs.Prelude.{drop, max}
 use Rattle.smith_input.specs.Reading.{IsTail}
 use Rattle.smith_input.proofs.Choices.{among_tail}
 use Rattle.smith_input.proofs.Reading.{tail_trans, more_tail, more_within}
 use Rattle.smith_format.specs.declared.config.Config.{Config}
 use Rattle.smith_syntax.specs.Entries.{FullEntry, FullDecl, FullDecls, plain, plain_decl, plain_decls, decl_count}
-use Rattle.smith_syntax.specs.Scope.{Scope}
-use Rattle.smith_syntax.specs.Places.{own_of, outer_of}
+use Rattle.smith_syntax.specs.Marked.{Marked, first_marked}
 use Rattle.smith_syntax.specs.TypeLimits.{EntryLimits, DeclLimits, DeclsLimits}
 use Rattle.smith_syntax.specs.Nesting.{nesting, decl_nesting, decls_nesting}
 use Rattle.smith_syntax.specs.WellFormed.{size, decl_size, decls_size}
@@ -25,7 +24,7 @@ use Rattle.smith_core_types.proofs.MadeCore.{made_core_tail, made_core_size, mad
 -- tails
 
 mutual
-  pub made_tail : (config : Config) (own : Scope) (outer : List Scope) (b : List ℕ) (fuel : ℕ) (e : FullEntry) (rest : List ℕ) (left : ℕ)
+  pub made_tail : (config : Config) (own : Marked) (outer : List Marked) (b : List ℕ) (fuel : ℕ) (e : FullEntry) (rest : List ℕ) (left : ℕ)
       → Made config own outer b fuel e rest left → IsTail rest b
   made_tail config own outer b fuel e rest left (spent_type {t = t} f d i) = defined_tail own b 0 t rest left d
   made_tail config own outer b fuel e rest left (made_defined {mid = mid} {t = t} f c d i) =
@@ -33,11 +32,12 @@ mutual
   made_tail config own outer b fuel e rest left (made_function {mid = mid} {s = s} f c d i) =
       tail_trans (function_tail own mid (fuel - 1) s rest left d) (among_tail c)
   made_tail config own outer b fuel e rest left (made_component {mid = mid} {ds = ds} f c d i) =
-      tail_trans (declarations_tail config true (own ∷ outer) 0 nothing_so_far mid (fuel - 1) ds rest left d) (among_tail c)
+      tail_trans (declarations_tail config true (own ∷ outer) 0 (nothing_so_far (own ∷ outer)) mid (fuel - 1) ds rest left d) (among_tail c)
   made_tail config own outer b fuel e rest left (made_instance {mid = mid} {ds = ds} f c d i) =
-      tail_trans (declarations_tail config false (own ∷ outer) 0 nothing_so_far mid (fuel - 1) ds rest left d) (among_tail c)
+      tail_trans (declarations_tail config false (own ∷ outer) 0 (nothing_so_far (own ∷ outer)) mid (fuel - 1) ds rest left d) (among_tail c)
 
-  pub declaration_tail : (config : Config) (importing : Bool) (outer : List Scope) (s : SoFar) (b : List ℕ) (fuel : ℕ) (d : FullDecl) (rest : List ℕ) (left : ℕ)
+  pub declaration_tail : (config : Config) (importing : Bool) (outer : List Marked) (s : SoFar) (b : List ℕ) (fuel : ℕ) (d : FullDecl) (rest : List ℕ)
+      (left : ℕ)
       → MadeDeclaration config importing outer s b fuel d rest left → IsTail rest b
   declaration_tail config importing outer s b fuel d rest left (made_import i r l) = import_tail config s.own s.imports b d rest r
   declaration_tail config importing outer s b fuel d rest left (made_export {mid = mid} {low = low} n c r l) =
@@ -49,7 +49,7 @@ mutual
   declaration_tail config importing outer s b fuel d rest left (made_type {mid = mid} {low = low} {e = e} n c m i) =
       tail_trans (made_tail config s.own outer low fuel e rest left m) (tail_trans (among_tail c) (no_import_tail config s.own importing b mid n))
 
-  pub declarations_tail : (config : Config) (importing : Bool) (outer : List Scope) (done : ℕ) (s : SoFar) (b : List ℕ) (fuel : ℕ) (ds : FullDecls)
+  pub declarations_tail : (config : Config) (importing : Bool) (outer : List Marked) (done : ℕ) (s : SoFar) (b : List ℕ) (fuel : ℕ) (ds : FullDecls)
       (rest : List ℕ) (left : ℕ)
       → MadeDeclarations config importing outer done s b fuel ds rest left → IsTail rest b
   declarations_tail config importing outer done s b fuel ds rest left (no_more_decls m l) = more_tail m
@@ -61,7 +61,7 @@ mutual
 -- no larger than the fuel
 
 mutual
-  pub made_size : (config : Config) (own : Scope) (outer : List Scope) (b : List ℕ) (fuel : ℕ) (e : FullEntry) (rest : List ℕ) (left : ℕ)
+  pub made_size : (config : Config) (own : Marked) (outer : List Marked) (b : List ℕ) (fuel : ℕ) (e : FullEntry) (rest : List ℕ) (left : ℕ)
       → Made config own outer b fuel e rest left
       → size (plain e) + left ≤ fuel
   made_size config own outer b fuel e rest left (spent_type {t = t} f d i) = omega (arith, ap (λ z. size (plain z)) i, defined_within own b 0 t rest left d)
@@ -70,11 +70,12 @@ mutual
   made_size config own outer b fuel e rest left (made_function {mid = mid} {s = s} f c d i) =
       omega (arith, f, ap (λ z. size (plain z)) i, function_within own mid (fuel - 1) s rest left d)
   made_size config own outer b fuel e rest left (made_component {mid = mid} {ds = ds} f c d i) =
-      omega (arith, f, ap (λ z. size (plain z)) i, declarations_size config true (own ∷ outer) 0 nothing_so_far mid (fuel - 1) ds rest left d)
+      omega (arith, f, ap (λ z. size (plain z)) i, declarations_size config true (own ∷ outer) 0 (nothing_so_far (own ∷ outer)) mid (fuel - 1) ds rest left d)
   made_size config own outer b fuel e rest left (made_instance {mid = mid} {ds = ds} f c d i) =
-      omega (arith, f, ap (λ z. size (plain z)) i, declarations_size config false (own ∷ outer) 0 nothing_so_far mid (fuel - 1) ds rest left d)
+      omega (arith, f, ap (λ z. size (plain z)) i, declarations_size config false (own ∷ outer) 0 (nothing_so_far (own ∷ outer)) mid (fuel - 1) ds rest left d)
 
-  pub declaration_size : (config : Config) (importing : Bool) (outer : List Scope) (s : SoFar) (b : List ℕ) (fuel : ℕ) (d : FullDecl) (rest : List ℕ) (left : ℕ)
+  pub declaration_size : (config : Config) (importing : Bool) (outer : List Marked) (s : SoFar) (b : List ℕ) (fuel : ℕ) (d : FullDecl) (rest : List ℕ)
+      (left : ℕ)
       → MadeDeclaration config importing outer s b fuel d rest left → decl_size (plain_decl d) + left ≤ fuel
   declaration_size config importing outer s b fuel d rest left (made_import i r l) = omega (arith, l, ap (λ z. decl_size (plain_decl z)) r.is)
   declaration_size config importing outer s b fuel d rest left (made_export n c r l) = omega (arith, l, ap (λ z. decl_size (plain_decl z)) r.is)
@@ -84,7 +85,7 @@ mutual
   declaration_size config importing outer s b fuel d rest left (made_type {low = low} {e = e} n c m i) =
       omega (arith, ap (λ z. decl_size (plain_decl z)) i, made_size config s.own outer low fuel e rest left m)
 
-  pub declarations_size : (config : Config) (importing : Bool) (outer : List Scope) (done : ℕ) (s : SoFar) (b : List ℕ) (fuel : ℕ) (ds : FullDecls)
+  pub declarations_size : (config : Config) (importing : Bool) (outer : List Marked) (done : ℕ) (s : SoFar) (b : List ℕ) (fuel : ℕ) (ds : FullDecls)
       (rest : List ℕ) (left : ℕ)
       → MadeDeclarations config importing outer done s b fuel ds rest left → decls_size (plain_decls ds) + left ≤ fuel
   declarations_size config importing outer done s b fuel ds rest left (no_more_decls m l) = omega (arith, l)
@@ -99,7 +100,8 @@ mutual
 
 -- within the limits
 
-pub declarations_few : (config : Config) (importing : Bool) (outer : List Scope) (done : ℕ) (s : SoFar) (b : List ℕ) (fuel : ℕ) (ds : FullDecls) (rest : List ℕ)
+pub declarations_few : (config : Config) (importing : Bool) (outer : List Marked) (done : ℕ) (s : SoFar) (b : List ℕ) (fuel : ℕ) (ds : FullDecls)
+    (rest : List ℕ)
     (left : ℕ) → done ≤ 100
     → MadeDeclarations config importing outer done s b fuel ds rest left → done + decl_count (plain_decls ds) ≤ 100
 declarations_few config importing outer done s b fuel ds rest left few (no_more_decls m l) = omega arith
@@ -109,26 +111,26 @@ declarations_few config importing outer done s b fuel _ rest left few (one_decl 
     omega (arith, declarations_few config importing outer (done + 1) (after_one outer s d) low held ds rest left (omega (arith, lt)) later)
 
 mutual
-  pub made_limits : (config : Config) (own : Scope) (outer : List Scope) (b : List ℕ) (fuel : ℕ) (e : FullEntry) (rest : List ℕ) (left : ℕ)
+  pub made_limits : (config : Config) (own : Marked) (outer : List Marked) (b : List ℕ) (fuel : ℕ) (e : FullEntry) (rest : List ℕ) (left : ℕ)
       → Made config own outer b fuel e rest left
       → EntryLimits config (plain e)
   made_limits config own outer b fuel e rest left (spent_type f d i) = subst (λ z. EntryLimits config (plain z)) (sym i) tt
   made_limits config own outer b fuel e rest left (made_defined f c d i) = subst (λ z. EntryLimits config (plain z)) (sym i) tt
   made_limits config own outer b fuel e rest left (made_function f c d i) = subst (λ z. EntryLimits config (plain z)) (sym i) tt
   made_limits config own outer b fuel e rest left (made_component {mid = mid} {ds = ds} f c d i) =
-      let few = declarations_few config true (own ∷ outer) 0 nothing_so_far mid (fuel - 1) ds rest left (omega arith) d in
+      let few = declarations_few config true (own ∷ outer) 0 (nothing_so_far (own ∷ outer)) mid (fuel - 1) ds rest left (omega arith) d in
       subst (λ z. EntryLimits config (plain z)) (sym i) (
         omega (arith, few),
-        declarations_limits config true (own ∷ outer) 0 nothing_so_far mid (fuel - 1) ds rest left d,
+        declarations_limits config true (own ∷ outer) 0 (nothing_so_far (own ∷ outer)) mid (fuel - 1) ds rest left d,
       )
   made_limits config own outer b fuel e rest left (made_instance {mid = mid} {ds = ds} f c d i) =
-      let few = declarations_few config false (own ∷ outer) 0 nothing_so_far mid (fuel - 1) ds rest left (omega arith) d in
+      let few = declarations_few config false (own ∷ outer) 0 (nothing_so_far (own ∷ outer)) mid (fuel - 1) ds rest left (omega arith) d in
       subst (λ z. EntryLimits config (plain z)) (sym i) (
         omega (arith, few),
-        declarations_limits config false (own ∷ outer) 0 nothing_so_far mid (fuel - 1) ds rest left d,
+        declarations_limits config false (own ∷ outer) 0 (nothing_so_far (own ∷ outer)) mid (fuel - 1) ds rest left d,
       )
 
-  pub declaration_limits : (config : Config) (importing : Bool) (outer : List Scope) (s : SoFar) (b : List ℕ) (fuel : ℕ) (d : FullDecl) (rest : List ℕ)
+  pub declaration_limits : (config : Config) (importing : Bool) (outer : List Marked) (s : SoFar) (b : List ℕ) (fuel : ℕ) (d : FullDecl) (rest : List ℕ)
       (left : ℕ)
       → MadeDeclaration config importing outer s b fuel d rest left → DeclLimits config (plain_decl d)
   declaration_limits config importing outer s b fuel d rest left (made_import i r l) = subst (λ z. DeclLimits config (plain_decl z)) (sym r.is) tt
@@ -140,7 +142,7 @@ mutual
   declaration_limits config importing outer s b fuel d rest left (made_type {low = low} {e = e} n c m i) =
       subst (λ z. DeclLimits config (plain_decl z)) (sym i) (made_limits config s.own outer low fuel e rest left m)
 
-  pub declarations_limits : (config : Config) (importing : Bool) (outer : List Scope) (done : ℕ) (s : SoFar) (b : List ℕ) (fuel : ℕ) (ds : FullDecls)
+  pub declarations_limits : (config : Config) (importing : Bool) (outer : List Marked) (done : ℕ) (s : SoFar) (b : List ℕ) (fuel : ℕ) (ds : FullDecls)
       (rest : List ℕ) (left : ℕ)
       → MadeDeclarations config importing outer done s b fuel ds rest left → DeclsLimits config (plain_decls ds)
   declarations_limits config importing outer done s b fuel ds rest left (no_more_decls m l) = tt
@@ -164,7 +166,7 @@ either_nested : (n j k m : ℕ) → n + j ≤ m → n + k ≤ m → n + max j k 
 either_nested n j k m h i = let most : max j k ≤ m - n = max-le {a = j} {b = k} {k = m - n} (omega (arith, h)) (omega (arith, i)) in omega (arith, most, h)
 
 mutual
-  pub made_nesting : (config : Config) (own : Scope) (outer : List Scope) (b : List ℕ) (fuel : ℕ) (e : FullEntry) (rest : List ℕ) (left : ℕ)
+  pub made_nesting : (config : Config) (own : Marked) (outer : List Marked) (b : List ℕ) (fuel : ℕ) (e : FullEntry) (rest : List ℕ) (left : ℕ)
       → Made config own outer b fuel e rest left
       → length (own ∷ outer) + nesting (plain e) ≤ max (length (own ∷ outer) + 1) config.max_nesting_depth
   made_nesting config own outer b fuel e rest left (spent_type f d i) =
@@ -174,11 +176,13 @@ mutual
   made_nesting config own outer b fuel e rest left (made_function f c d i) =
       omega (arith, ap (λ z. nesting (plain z)) i, within_most (length (own ∷ outer) + 1) config.max_nesting_depth)
   made_nesting config own outer b fuel e rest left (made_component {mid = mid} {ds = ds} f c d i) =
-      omega (arith, ap (λ z. nesting (plain z)) i, declarations_nesting config true (own ∷ outer) 0 nothing_so_far mid (fuel - 1) ds rest left d)
+      let n = declarations_nesting config true (own ∷ outer) 0 (nothing_so_far (own ∷ outer)) mid (fuel - 1) ds rest left d in
+      omega (arith, ap (λ z. nesting (plain z)) i, n)
   made_nesting config own outer b fuel e rest left (made_instance {mid = mid} {ds = ds} f c d i) =
-      omega (arith, ap (λ z. nesting (plain z)) i, declarations_nesting config false (own ∷ outer) 0 nothing_so_far mid (fuel - 1) ds rest left d)
+      let n = declarations_nesting config false (own ∷ outer) 0 (nothing_so_far (own ∷ outer)) mid (fuel - 1) ds rest left d in
+      omega (arith, ap (λ z. nesting (plain z)) i, n)
 
-  pub declaration_nesting : (config : Config) (importing : Bool) (outer : List Scope) (s : SoFar) (b : List ℕ) (fuel : ℕ) (d : FullDecl) (rest : List ℕ)
+  pub declaration_nesting : (config : Config) (importing : Bool) (outer : List Marked) (s : SoFar) (b : List ℕ) (fuel : ℕ) (d : FullDecl) (rest : List ℕ)
       (left : ℕ)
       → MadeDeclaration config importing outer s b fuel d rest left
       → length outer + 1 + decl_nesting (plain_decl d) ≤ max (length outer + 1) config.max_nesting_depth
@@ -201,7 +205,7 @@ mutual
       let most = nested (length outer) (nesting (plain e)) config.max_nesting_depth (omega (arith, room)) inner in
       omega (arith, ap (λ z. decl_nesting (plain_decl z)) i, most)
 
-  pub declarations_nesting : (config : Config) (importing : Bool) (outer : List Scope) (done : ℕ) (s : SoFar) (b : List ℕ) (fuel : ℕ) (ds : FullDecls)
+  pub declarations_nesting : (config : Config) (importing : Bool) (outer : List Marked) (done : ℕ) (s : SoFar) (b : List ℕ) (fuel : ℕ) (ds : FullDecls)
       (rest : List ℕ) (left : ℕ)
       → MadeDeclarations config importing outer done s b fuel ds rest left
       → length outer + 1 + decls_nesting (plain_decls ds) ≤ max (length outer + 1) config.max_nesting_depth
@@ -216,7 +220,7 @@ mutual
 
 -- The same of a stack of scopes, also of none.
 
-deeper : (ss : List Scope) (k depth : ℕ) → length (own_of ss ∷ outer_of ss) + k ≤ max (length (own_of ss ∷ outer_of ss) + 1) depth
+deeper : (ss : List Marked) (k depth : ℕ) → length (first_marked ss ∷ drop 1 ss) + k ≤ max (length (first_marked ss ∷ drop 1 ss) + 1) depth
     → length ss + k ≤ max (length ss + 1) depth
 deeper [] k depth h =
     let most : max 2 depth ≤ max 1 depth + 1 = max-le {a = 2} {b = depth} {k = max 1 depth + 1} (omega (arith, le-max_left 1 depth))
@@ -224,8 +228,8 @@ deeper [] k depth h =
     omega (arith, h, most)
 deeper (s ∷ ss) k depth h = h
 
-pub stack_nesting : (config : Config) (ss : List Scope) (b : List ℕ) (fuel : ℕ) (e : FullEntry) (rest : List ℕ) (left : ℕ)
-    → Made config (own_of ss) (outer_of ss) b fuel e rest left
+pub stack_nesting : (config : Config) (ss : List Marked) (b : List ℕ) (fuel : ℕ) (e : FullEntry) (rest : List ℕ) (left : ℕ)
+    → Made config (first_marked ss) (drop 1 ss) b fuel e rest left
     → length ss + nesting (plain e) ≤ max (length ss + 1) config.max_nesting_depth
 stack_nesting config ss b fuel e rest left m = deeper ss (nesting (plain e)) config.max_nesting_depth
-    (made_nesting config (own_of ss) (outer_of ss) b fuel e rest left m)
+    (made_nesting config (first_marked ss) (drop 1 ss) b fuel e rest left m)

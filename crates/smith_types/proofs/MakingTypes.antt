@@ -1,14 +1,20 @@
 -- Types as the program makes them, by kind and by sort of declaration.
-use Rattle.std.proofs.Common.{◌≡◌, ℕ, zero, suc, ◌-◌, ◌<◌, Bool, List, [], ◌++◌, refl, sym, ap, ◌∙◌, subst, arith, append-nil}
+use Rattle.std.proofs.Common.{◌≡◌, ℕ, zero, suc, ◌-◌, ◌<◌, Bool, true, false, not, List, ◌∷◌, [], ◌++◌, refl, sym, ap, ◌∙◌, subst, arith, append-nil}
 use Rattle.smith_format.specs.declared.config.Config.{Config}
 use Rattle.smith_input.specs.Choices.{ReadsAmong}
-use Rattle.smith_syntax.specs.Entries.{FullEntry, FullDecl}
-use Rattle.smith_syntax.specs.Scope.{Scope}
+use Rattle.std.specs.Prelude.{if◌then◌else◌}
+use Rattle.smith_syntax.specs.Entries.{FullEntry, FullDecl, FullDecls}
+use Rattle.smith_syntax.specs.Marked.{Marked, empty_marked, mark, marked_after_all}
+use Rattle.smith_syntax.specs.Marks.{closed_mark}
+use Rattle.smith_syntax.specs.declared.marks.Mark.{Mark}
+use Rattle.smith_syntax.specs.declared.marks.Reach.TheVariants.{Everywhere}
 use Rattle.smith_types.specs.Declarations.{NamedExtern, SoFar, NoImportDecl}
 use Rattle.smith_tree.specs.TypeOffers.{declaration_items, type_kinds}
 use Rattle.smith_types.specs.Made.{Made, spent_type, made_defined, made_function, made_component, made_instance, MadeDeclaration, made_export, made_alias}
 use Rattle.smith_types.specs.Made.{made_core_type, made_type}
-use Rattle.smith_types.specs.MakingTypes.{HoldsExterns, MadeItem, MadeKind}
+use Rattle.smith_types.specs.MakingTypes.{HoldsExterns, IsMarkOf, MadeItem, MadeKind, declaring}
+use Rattle.smith_scopes.specs.Scopes.{Contents, last_of, outer_marked, own_marked}
+use Rattle.smith_scopes.proofs.Stack.{own_marked_last}
 use Rattle.smith_tree.specs.declared.choices.TypeKind.{TypeKind}
 use Rattle.smith_tree.specs.declared.choices.TypeKind.TheVariants as kind
 use Rattle.smith_tree.specs.declared.choices.DeclarationItem.{DeclarationItem}
@@ -16,7 +22,7 @@ use Rattle.smith_tree.specs.declared.choices.DeclarationItem.TheVariants as item
 use Rattle.smith_types.specs.declared.make.externs.ExternNames.{ExternNames}
 
 -- a declaration of a sort that was chosen
-pub item_made : (config : Config) (importing : Bool) (s : SoFar) (outer : List Scope) (start mid low rest : List ℕ) (i : DeclarationItem) (fuel left : ℕ)
+pub item_made : (config : Config) (importing : Bool) (s : SoFar) (outer : List Marked) (start mid low rest : List ℕ) (i : DeclarationItem) (fuel left : ℕ)
     (d : FullDecl) → NoImportDecl config importing s.own start mid → ReadsAmong (declaration_items config outer s.own) mid i low
     → MadeItem config s.own outer s.exports i low fuel d rest left → MadeDeclaration config importing outer s start fuel d rest left
 item_made config importing s outer start mid low rest item.Export fuel left d none chosen (r, l) = made_export none chosen r l
@@ -25,14 +31,14 @@ item_made config importing s outer start mid low rest item.CoreType fuel left d 
 item_made config importing s outer start mid low rest item.«Type» fuel left d none chosen (e, m, is) = made_type none chosen m is
 
 -- a type of a kind that was chosen, after it took one from the fuel
-kind_made : (config : Config) (own : Scope) (outer : List Scope) (b mid rest : List ℕ) (k : TypeKind) (fuel left : ℕ) (e : FullEntry) → 0 < fuel - 1
+kind_made : (config : Config) (own : Marked) (outer : List Marked) (b mid rest : List ℕ) (k : TypeKind) (fuel left : ℕ) (e : FullEntry) → 0 < fuel - 1
     → ReadsAmong type_kinds b k mid → MadeKind config own outer k mid (fuel - 1) e rest left → Made config own outer b fuel e rest left
 kind_made config own outer b mid rest kind.Defined fuel left e lasts chosen (t, m, is) = made_defined lasts chosen m is
 kind_made config own outer b mid rest kind.Function fuel left e lasts chosen (s, m, is) = made_function lasts chosen m is
 kind_made config own outer b mid rest kind.Component fuel left e lasts chosen (ds, m, is) = made_component lasts chosen m is
 kind_made config own outer b mid rest kind.Instance fuel left e lasts chosen (ds, m, is) = made_instance lasts chosen m is
 
-spent_made : (config : Config) (own : Scope) (outer : List Scope) (b mid rest : List ℕ) (k : TypeKind) (fuel left : ℕ) (e : FullEntry) → fuel - 1 ≡ 0
+spent_made : (config : Config) (own : Marked) (outer : List Marked) (b mid rest : List ℕ) (k : TypeKind) (fuel left : ℕ) (e : FullEntry) → fuel - 1 ≡ 0
     → (k ≡ kind.Defined) × (mid ≡ b) → MadeKind config own outer k mid (fuel - 1) e rest left → Made config own outer b fuel e rest left
 spent_made config own outer b mid rest k fuel left e none (is, same) m =
     let d = subst (λ n. MadeKind config own outer kind.Defined b n e rest left) none
@@ -40,7 +46,8 @@ spent_made config own outer b mid rest k fuel left e none (is, same) m =
     (subst (λ z. MadeKind config own outer z mid (fuel - 1) e rest left) is m)) in
     spent_type none d.1 d.2
 
-pub type_made : (config : Config) (own : Scope) (outer : List Scope) (b mid rest : List ℕ) (k : TypeKind) (fuel held left : ℕ) (e : FullEntry) → held ≡ fuel - 1
+pub type_made : (config : Config) (own : Marked) (outer : List Marked) (b mid rest : List ℕ) (k : TypeKind) (fuel held left : ℕ) (e : FullEntry)
+    → held ≡ fuel - 1
     → (held ≡ 0 → (k ≡ kind.Defined) × (mid ≡ b)) → (0 < held → ReadsAmong type_kinds b k mid)
     → MadeKind config own outer k mid held e rest left → Made config own outer b fuel e rest left
 type_made config own outer b mid rest k fuel zero left e burnt spent chosen m =
@@ -53,3 +60,24 @@ type_made config own outer b mid rest k fuel (suc n) left e burnt spent chosen m
 pub names_stay : (sets : ExternNames) (so_far : List NamedExtern) (more : List NamedExtern) → more ≡ [] → HoldsExterns sets so_far
     → HoldsExterns sets (so_far ++ more)
 names_stay sets so_far more none held = subst (HoldsExterns sets) (sym (ap (λ xs. so_far ++ xs) none ∙ append-nil so_far)) held
+
+-- the mark of a type of a component or of an instance, from its scope when all was declared there
+mark_closed : (importing : Bool) (own : Marked) (outer : List Marked) (ds : FullDecls) (s : Marked) (m : Mark)
+    → s ≡ marked_after_all ds (own ∷ outer) (empty_marked own.keeps) → m ≡ closed_mark (if not importing then s.exported else Everywhere) s.size
+    → m ≡ mark (declaring importing ds) own outer
+mark_closed true own outer ds s m e is = is ∙ ap (λ t. closed_mark Everywhere t.size) e
+mark_closed false own outer ds s m e is = is ∙ ap (λ t. closed_mark t.exported t.size) e
+
+pub scoped_marked : (importing : Bool) (old opened changed : List Contents) (ds : FullDecls) (e : FullEntry) (m : Mark)
+    → own_marked opened ≡ empty_marked (own_marked old).keeps → outer_marked opened ≡ own_marked old ∷ outer_marked old
+    → own_marked changed ≡ marked_after_all ds (outer_marked opened) (own_marked opened)
+    → m ≡ closed_mark (if not importing then (last_of changed).exported else Everywhere) (last_of changed).size → e ≡ declaring importing ds
+    → IsMarkOf old e m
+scoped_marked importing old opened changed ds e m fresh around closed is made = λ keeps.
+    let own = own_marked old in
+    let outer = outer_marked old in
+    let s_is : own_marked changed ≡ marked_after_all ds (own ∷ outer) (empty_marked own.keeps) =
+    closed ∙ (ap (λ ss. marked_after_all ds ss (own_marked opened)) around ∙ ap (marked_after_all ds (own ∷ outer)) fresh) in
+    let m_is : m ≡ closed_mark (if not importing then (own_marked changed).exported else Everywhere) (own_marked changed).size =
+    is ∙ ap (λ s. closed_mark (if not importing then s.exported else Everywhere) s.size) (sym (own_marked_last changed)) in
+    mark_closed importing own outer ds (own_marked changed) m s_is m_is ∙ ap (λ x. mark x own outer) (sym made)

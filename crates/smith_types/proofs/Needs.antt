@@ -4,20 +4,18 @@ use Rattle.std.specs.Option.{option_to_list}
 use Rattle.std.specs.Prelude.{max}
 use Rattle.smith_input.proofs.Loops.{loop_gives}
 use Rattle.smith_format.specs.declared.config.Config.{Config}
-use Rattle.smith_syntax.specs.Entries.{record_type, variant_type, tuple_type, flags_type, enum_type, Entry, Decl, Decls, type_alias, core_type_alias}
-use Rattle.smith_syntax.specs.Entries.{import_decl, export_decl, no_decls, then_decls, DefValType, Signature, CoreEntry, core_func, core_module}
-use Rattle.smith_syntax.specs.Entries.{FullEntry, FullDecl, FullDecls, defined, function, component_type, instance_type, plain, plain_decl, plain_decls}
-use Rattle.smith_syntax.specs.Entries.{type_decl, core_type_decl}
-use Rattle.smith_syntax.specs.Scope.{Scope}
-use Rattle.smith_syntax.specs.WellFormed.{size, decl_size, decls_size, defined_size, core_size}
-use Rattle.smith_tree.specs.CoreTypeNeeds.{core_cost, core_need}
+use Rattle.smith_syntax.specs.Entries.{record_type, variant_type, tuple_type, flags_type, enum_type}
+use Rattle.smith_syntax.specs.Entries.{DefValType, Signature}
+use Rattle.smith_syntax.specs.Entries.{FullEntry, FullDecl, FullDecls, function, plain, plain_decl, plain_decls}
+use Rattle.smith_syntax.specs.Marked.{Marked}
+use Rattle.smith_syntax.specs.WellFormed.{size, defined_size}
 use Rattle.smith_core_types.proofs.Needs.{core_leaves, core_needed, one_used, used}
 use Rattle.smith_types.specs.Declarations.{SoFar, nothing_so_far, after_one}
 use Rattle.smith_types.specs.Made.{ReadsMembers, MadeMembers, MadeAs, MadeFunction, or_bool, Made, spent_type, made_defined, made_function, made_component}
 use Rattle.smith_types.specs.Made.{made_instance}
 use Rattle.smith_types.specs.Made.{MadeDeclaration, made_import, made_export, made_alias, made_core_type, made_type, MadeDeclarations, no_more_decls}
 use Rattle.smith_types.specs.Made.{spent_decls, one_decl}
-use Rattle.smith_tree.specs.TypeNeeds.{need_of, need, decl_need, decls_need, declaring, decl_declaring, decls_declaring}
+use Rattle.smith_tree.specs.TypeNeeds.{need_of, need, decl_need, decls_need}
 use Rattle.smith_tree.specs.TypeNeeds.{cost, decl_cost, decls_cost}
 use Rattle.smith_tree.specs.declared.choices.DeclarationItem.TheVariants as item
 use Rattle.smith_tree.specs.declared.choices.DefinedKind.{DefinedKind}
@@ -60,7 +58,7 @@ made_members_used of is b fuel t rest left (xs, r, i) = subst (λ z. used (defin
 none_used : (t u : DefValType) (fuel : ℕ) → t ≡ u → used (defined_size u) ≤ 0 → used (defined_size t) ≤ fuel
 none_used t u fuel i h = subst (λ z. used (defined_size z) ≤ fuel) (sym i) (omega (arith, h))
 
-as_used : (own : Scope) (k : DefinedKind) (b : List ℕ) (fuel : ℕ) (t : DefValType) (rest : List ℕ) (left : ℕ) → MadeAs own k b fuel t rest left
+as_used : (own : Marked) (k : DefinedKind) (b : List ℕ) (fuel : ℕ) (t : DefValType) (rest : List ℕ) (left : ℕ) → MadeAs own k b fuel t rest left
     → used (defined_size t) ≤ fuel
 as_used own kind.Primitive b fuel t rest left (p, r, i, j) = none_used t _ fuel i (omega arith)
 as_used own kind.Record b fuel t rest left m = made_members_used record_type (λ xs. refl) b fuel t rest left m
@@ -76,7 +74,7 @@ needed : (n f g : ℕ) → used n ≤ f → f ≤ g - 1 → need_of n ≤ g
 needed zero f g h le = omega arith
 needed (suc n) f g h le = omega (arith, h, le)
 
-function_used : (own : Scope) (b : List ℕ) (fuel : ℕ) (s : Signature) (rest : List ℕ) (left : ℕ) → 0 < fuel → MadeFunction own b fuel s rest left
+function_used : (own : Marked) (b : List ℕ) (fuel : ℕ) (s : Signature) (rest : List ℕ) (left : ℕ) → 0 < fuel → MadeFunction own b fuel s rest left
     → size (function s) + 1 ≤ fuel
 function_used own b fuel s rest left some f =
     by (length s.params) (length (option_to_list s.result)) fuel f.held some (members_used b fuel s.params f.mid f.held f.takes)
@@ -112,7 +110,7 @@ most_two : (a b f : ℕ) → a ≤ f → b ≤ f → max a b ≤ f
 most_two a b f h k = omega (arith, h, k)
 
 mutual
-  pub made_needs : (config : Config) (own : Scope) (outer : List Scope) (b : List ℕ) (fuel : ℕ) (e : FullEntry) (rest : List ℕ) (left : ℕ)
+  pub made_needs : (config : Config) (own : Marked) (outer : List Marked) (b : List ℕ) (fuel : ℕ) (e : FullEntry) (rest : List ℕ) (left : ℕ)
       → Made config own outer b fuel e rest left → Needs config (length (own ∷ outer)) fuel e left
   made_needs config own outer b fuel e rest left (spent_type {t = t} f d i) =
       subst (λ z. Needs config (length (own ∷ outer)) fuel z left) (sym i) (record {
@@ -133,21 +131,21 @@ mutual
         nests = tt;
       })
   made_needs config own outer b fuel e rest left (made_component {mid = mid} {ds = ds} f c d i) =
-      let r = declarations_need config true (own ∷ outer) 0 nothing_so_far mid (fuel - 1) ds rest left d in
+      let r = declarations_need config true (own ∷ outer) 0 (nothing_so_far (own ∷ outer)) mid (fuel - 1) ds rest left d in
       subst (λ z. Needs config (length (own ∷ outer)) fuel z left) (sym i) (record {
         enough = most_two 2 (decls_need (plain_decls ds) + 1) fuel (omega (arith, f)) (omega (arith, f, r.enough));
         leaves = omega (arith, r.leaves);
         nests = r.nests;
       })
   made_needs config own outer b fuel e rest left (made_instance {mid = mid} {ds = ds} f c d i) =
-      let r = declarations_need config false (own ∷ outer) 0 nothing_so_far mid (fuel - 1) ds rest left d in
+      let r = declarations_need config false (own ∷ outer) 0 (nothing_so_far (own ∷ outer)) mid (fuel - 1) ds rest left d in
       subst (λ z. Needs config (length (own ∷ outer)) fuel z left) (sym i) (record {
         enough = most_two 2 (decls_need (plain_decls ds) + 1) fuel (omega (arith, f)) (omega (arith, f, r.enough));
         leaves = omega (arith, r.leaves);
         nests = r.nests;
       })
 
-  declaration_needs : (config : Config) (importing : Bool) (outer : List Scope) (s : SoFar) (b : List ℕ) (fuel : ℕ) (d : FullDecl) (rest : List ℕ) (left : ℕ)
+  declaration_needs : (config : Config) (importing : Bool) (outer : List Marked) (s : SoFar) (b : List ℕ) (fuel : ℕ) (d : FullDecl) (rest : List ℕ) (left : ℕ)
       → MadeDeclaration config importing outer s b fuel d rest left → DeclNeeds config (length (s.own ∷ outer)) fuel d left
   declaration_needs config importing outer s b fuel d rest left (made_import i r l) =
       subst (λ z. DeclNeeds config (length (s.own ∷ outer)) fuel z left) (sym r.is) (nothing_needed config _ fuel left l _ refl refl tt)
@@ -163,7 +161,7 @@ mutual
       subst (λ z. DeclNeeds config (length (s.own ∷ outer)) fuel z left) (sym i)
       (record { enough = r.enough; leaves = r.leaves; nests = (item_offered config outer s.own c.place item.«Type» c.named, r.nests) })
 
-  declarations_need : (config : Config) (importing : Bool) (outer : List Scope) (done : ℕ) (s : SoFar) (b : List ℕ) (fuel : ℕ) (ds : FullDecls) (rest : List ℕ)
+  declarations_need : (config : Config) (importing : Bool) (outer : List Marked) (done : ℕ) (s : SoFar) (b : List ℕ) (fuel : ℕ) (ds : FullDecls) (rest : List ℕ)
       (left : ℕ) → MadeDeclarations config importing outer done s b fuel ds rest left → DeclsNeed config (length (s.own ∷ outer)) fuel ds left
   declarations_need config importing outer done s b fuel ds rest left (no_more_decls m l) =
       record { enough = omega arith; leaves = omega (arith, l); nests = tt }

@@ -6,12 +6,13 @@ use Rattle.smith_input.specs.Reading.{More}
 use Rattle.smith_input.proofs.Reading.{more_full}
 use Rattle.smith_syntax.specs.Entries.{FullDecl, FullDecls, in_order, no_decls, then_decls, core_type_decl, type_decl, type_alias, core_type_alias, import_decl}
 use Rattle.smith_syntax.specs.Entries.{export_decl}
-use Rattle.smith_syntax.specs.Scope.{Scope, after_decl, type_named, core_type_named, exported_type}
+use Rattle.smith_syntax.specs.Marked.{Marked, marked_after, marked_after_all, scope_in, scopes_in_marked}
+use Rattle.smith_syntax.specs.Scope.{type_named, core_type_named, exported_type}
 use Rattle.smith_syntax.specs.WellFormed.{import_of, export_of}
 use Rattle.smith_types.specs.Declarations.{SoFar, nothing_so_far, after_one}
 use Rattle.smith_types.specs.Made.{MadeDeclaration, MadeDeclarations, no_more_decls, spent_decls, one_decl}
 use Rattle.smith_types.specs.MakingTypes.{AddsDeclaration, Declares, HasAtMost, HoldsExterns, HoldsNames, Progress, onto, defs_in}
-use Rattle.smith_scopes.specs.Scopes.{Contents, own_scope, outer_scopes}
+use Rattle.smith_scopes.specs.Scopes.{Contents, own_marked, outer_marked}
 use Rattle.smith_types.specs.declared.make.externs.ExternNames.{ExternNames}
 use Rattle.smith_types.specs.declared.make.scoped.TypeBody.{TypeBody}
 use Rattle.smith_types.specs.declared.make.scoped.TypeBody.TheVariants.{Component, Instance}
@@ -30,34 +31,41 @@ onto_more : (ds : List FullDecl) (d : FullDecl) (more : FullDecls) → onto (ds 
 onto_more [] d more = refl
 onto_more (x ∷ ds) d more = ap (then_decls x) (onto_more ds d more)
 
+after_more : (outer : List Marked) (ds : List FullDecl) (d : FullDecl) (own : Marked)
+    → marked_after_all (in_order (ds ++ d ∷ [])) outer own ≡ marked_after d outer (marked_after_all (in_order ds) outer own)
+after_more outer [] d own = refl
+after_more outer (x ∷ ds) d own = after_more outer ds d (marked_after x outer own)
+
 -- a declaration adds one type at most, and one core type at most
 
 grows : {A : Type 0} (xs ys : List A) (n : ℕ) → length xs ≤ n → length ys ≤ 1 → length (xs ++ ys) ≤ n + 1
 grows xs ys n h g = let l = length-append xs ys in omega (arith, l, h, g)
 
-pub few_after : (outer : List Scope) (own : Scope) (d : FullDecl) (n : ℕ) → HasAtMost n own → HasAtMost (n + 1) (after_decl outer own d)
+pub few_after : (outer : List Marked) (own : Marked) (d : FullDecl) (n : ℕ) → HasAtMost n own → HasAtMost (n + 1) (marked_after d outer own)
 few_after outer own (core_type_decl t k) n h = record {
   types = omega (arith, h.types);
   core_types = grows own.core_types (t ∷ []) n h.core_types (omega arith);
 }
 few_after outer own (type_decl e) n h = record { types = grows own.types _ n h.types (omega arith); core_types = omega (arith, h.core_types) }
 few_after outer own (type_alias count i k) n h = record {
-  types = grows own.types _ n h.types (one_at_most (type_named (own ∷ outer) count i));
+  types = grows own.types _ n h.types (one_at_most (type_named (scopes_in_marked (own ∷ outer)) count i));
   core_types = omega (arith, h.core_types);
 }
-few_after outer own (core_type_alias count i k) n h = record
-    { types = omega (arith, h.types); core_types = grows own.core_types _ n h.core_types (one_at_most (core_type_named (own ∷ outer) count i)) }
+few_after outer own (core_type_alias count i k) n h = record {
+  types = omega (arith, h.types);
+  core_types = grows own.core_types _ n h.core_types (one_at_most (core_type_named (scopes_in_marked (own ∷ outer)) count i));
+}
 few_after outer own (import_decl name m r) n h = record { types = omega (arith, h.types); core_types = omega (arith, h.core_types) }
 few_after outer own (export_decl name m r) n h = record {
-  types = grows own.types _ n h.types (one_at_most (exported_type own r));
+  types = grows own.types _ n h.types (one_at_most (exported_type (scope_in own) r));
   core_types = omega (arith, h.core_types);
 }
 
-module _ {config : Config} {importing : Bool} {outer : List Scope} {start : List ℕ} {first_fuel : ℕ} where
+module _ {config : Config} {importing : Bool} {outer : List Marked} {start : List ℕ} {first_fuel : ℕ} where
   module _ {done : ℕ} {scopes : List Contents} {declared : TypeBody} {bytes : List ℕ} {fuel : ℕ}
       (p : Progress config importing outer start first_fuel done scopes declared bytes fuel) where
     abbrev All : FullDecls → List ℕ → ℕ → Type 0
-    All ds rest left = MadeDeclarations config importing outer 0 nothing_so_far start first_fuel ds rest left
+    All ds rest left = MadeDeclarations config importing outer 0 (nothing_so_far outer) start first_fuel ds rest left
 
     pub stops : (rest : List ℕ) (answer : Bool) → More done 0 100 bytes answer rest → answer ≡ false → All (in_order (defs_in declared)) rest fuel
     stops rest answer m e = subst (λ ds. All ds rest fuel) (onto_none (defs_in declared))
@@ -68,6 +76,9 @@ module _ {config : Config} {importing : Bool} {outer : List Scope} {start : List
     spends rest answer left m e burnt none = subst (λ ds. All ds rest left) (onto_none (defs_in declared))
         (p.onward no_decls rest left (spent_decls (subst (λ a. More done 0 100 bytes a rest) e m) (sym burnt ∙ none) none))
 
+    pub closes : {own : Marked} → own ≡ (nothing_so_far outer).own → own_marked scopes ≡ marked_after_all (in_order (defs_in declared)) outer own
+    closes fresh = p.own_is ∙ (p.closed ∙ sym (ap (marked_after_all (in_order (defs_in declared)) outer) fresh))
+
     pub is_full : 100 ≤ done → All (in_order (defs_in declared)) bytes fuel
     is_full h = stops bytes false (more_full bytes h) refl
 
@@ -77,15 +88,18 @@ module _ {config : Config} {importing : Bool} {outer : List Scope} {start : List
     goes_on mid low answer held left next declared2 m e burnt lasts a = record {
       so_far = after_one outer p.so_far a.added;
       of = a.of ∙ p.of;
-      own_is = a.declares.own ∙ (ap (λ o. after_decl o (own_scope scopes) a.added) p.outer_is ∙ ap (λ s. after_decl outer s a.added) p.own_is);
+      own_is = a.declares.own ∙ (ap (λ o. marked_after a.added o (own_marked scopes)) p.outer_is ∙ ap (λ s. marked_after a.added outer s) p.own_is);
       outer_is = a.declares.outer ∙ p.outer_is;
       names = subst (λ o. HoldsNames declared2 (after_one o p.so_far a.added)) p.outer_is a.names;
+      closed = ap (λ s. marked_after a.added outer s) p.closed
+          ∙ sym (ap (λ xs. marked_after_all (in_order xs) outer (nothing_so_far outer).own) a.defs
+          ∙ after_more outer (defs_in declared) a.added (nothing_so_far outer).own);
       few = few_after outer p.so_far.own a.added done p.few;
       onward = λ ds rest rest_fuel loop.
           let here : MadeDeclaration config importing outer p.so_far mid (fuel - 1) a.added low left =
           subst (λ n. MadeDeclaration config importing outer p.so_far mid n a.added low left) burnt
           (subst (λ o. MadeDeclaration config importing o p.so_far mid held a.added low left) p.outer_is
-          (subst (λ b. MadeDeclaration config b (outer_scopes scopes) p.so_far mid held a.added low left) p.of a.made)) in
+          (subst (λ b. MadeDeclaration config b (outer_marked scopes) p.so_far mid held a.added low left) p.of a.made)) in
           let whole = p.onward (then_decls a.added ds) rest rest_fuel
           (one_decl (subst (λ b. More done 0 100 bytes b mid) e m) (omega (arith, burnt, lasts)) here loop) in
           subst (λ all. All all rest rest_fuel) (sym (ap (λ xs. onto xs ds) a.defs ∙ onto_more (defs_in declared) a.added ds)) whole;
@@ -93,15 +107,15 @@ module _ {config : Config} {importing : Bool} {outer : List Scope} {start : List
 
 -- One declaration was added to those of a component type, or to those of an instance type.
 pub adds_to_component : (config : Config) (scopes next : List Contents) (s : SoFar) (imports exports imports2 exports2 : ExternNames)
-    (defs defs2 : Vec ComponentTypeDef Global) (def : ComponentTypeDef) (b : List ℕ) (fuel : ℕ) (rest : List ℕ) (left : ℕ) → own_scope scopes ≡ s.own
-    → MadeDeclaration config true (outer_scopes scopes) (record { own = own_scope scopes; imports = s.imports; exports = s.exports }) b fuel
+    (defs defs2 : Vec ComponentTypeDef Global) (def : ComponentTypeDef) (b : List ℕ) (fuel : ℕ) (rest : List ℕ) (left : ℕ) → own_marked scopes ≡ s.own
+    → MadeDeclaration config true (outer_marked scopes) (record { own = own_marked scopes; imports = s.imports; exports = s.exports }) b fuel
     (full_component_decl def) rest left
     → Declares scopes next (full_component_decl def) → HoldsExterns imports2 (s.imports ++ import_of (full_component_decl def))
     → HoldsExterns exports2 (s.exports ++ export_of (full_component_decl def)) → defs2.items ≡ defs.items ++ def ∷ []
     → AddsDeclaration config scopes next s (Component imports exports defs) (Component imports2 exports2 defs2) b fuel rest left
 adds_to_component config scopes next s imports exports imports2 exports2 defs defs2 def b fuel rest left own made declares i x more = record {
   added = full_component_decl def;
-  made = subst (λ o. MadeDeclaration config true (outer_scopes scopes) (record { own = o; imports = s.imports; exports = s.exports }) b fuel
+  made = subst (λ o. MadeDeclaration config true (outer_marked scopes) (record { own = o; imports = s.imports; exports = s.exports }) b fuel
       (full_component_decl def) rest left) own made;
   declares = declares;
   names = (i, x);
@@ -110,15 +124,15 @@ adds_to_component config scopes next s imports exports imports2 exports2 defs de
 }
 
 pub adds_to_instance : (config : Config) (scopes next : List Contents) (s : SoFar) (exports exports2 : ExternNames) (defs defs2 : Vec InstanceTypeDecl Global)
-    (decl : InstanceTypeDecl) (b : List ℕ) (fuel : ℕ) (rest : List ℕ) (left : ℕ) → own_scope scopes ≡ s.own
-    → MadeDeclaration config false (outer_scopes scopes) (record { own = own_scope scopes; imports = s.imports; exports = s.exports }) b fuel
+    (decl : InstanceTypeDecl) (b : List ℕ) (fuel : ℕ) (rest : List ℕ) (left : ℕ) → own_marked scopes ≡ s.own
+    → MadeDeclaration config false (outer_marked scopes) (record { own = own_marked scopes; imports = s.imports; exports = s.exports }) b fuel
     (full_instance_decl decl) rest left
     → Declares scopes next (full_instance_decl decl) → HoldsExterns exports2 (s.exports ++ export_of (full_instance_decl decl))
     → defs2.items ≡ defs.items ++ decl ∷ []
     → AddsDeclaration config scopes next s (Instance exports defs) (Instance exports2 defs2) b fuel rest left
 adds_to_instance config scopes next s exports exports2 defs defs2 decl b fuel rest left own made declares x more = record {
   added = full_instance_decl decl;
-  made = subst (λ o. MadeDeclaration config false (outer_scopes scopes) (record { own = o; imports = s.imports; exports = s.exports }) b fuel
+  made = subst (λ o. MadeDeclaration config false (outer_marked scopes) (record { own = o; imports = s.imports; exports = s.exports }) b fuel
       (full_instance_decl decl) rest left) own made;
   declares = declares;
   names = x;

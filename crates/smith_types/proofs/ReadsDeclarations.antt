@@ -1,7 +1,7 @@
 -- Imports, exports and outer aliases that are read: they leave a tail of the bytes, name what stands there, and are determined.
-use Rattle.std.proofs.Common.{◌≡◌, inl, inr, ℕ, ◌+◌, Bool, true, false, List, ◌∷◌, ◌++◌, codes, length, refl, sym, ap, ◌∙◌, subst, arith}
+use Rattle.std.proofs.Common.{◌≡◌, inl, inr, ℕ, zero, suc, Bool, true, false, List, [], ◌∷◌, ◌++◌, codes, length, refl, sym, ap, ◌∙◌, subst, arith}
 use Rattle.std.proofs.lemmas.Bool.{false≢true, ltb-true}
-use Rattle.std.specs.Prelude.{Option, Some, None, slice_get}
+use Rattle.std.specs.Prelude.{Option, Some, None, map, slice_get}
 use Rattle.smith_input.specs.Choices.{ReadsAmong}
 use Rattle.smith_input.specs.Names.{ReadsNew}
 use Rattle.smith_input.specs.Reading.{IsTail}
@@ -11,7 +11,9 @@ use Rattle.smith_input.proofs.Offered.{offer_holds}
 use Rattle.smith_input.proofs.Reading.{tail_same, tail_trans, reads_tail, reads_unique, flips_unique}
 use Rattle.smith_format.specs.declared.config.Config.{Config}
 use Rattle.smith_syntax.specs.Entries.{Kept, FullDecl, plain_decl, type_alias, core_type_alias, import_decl, export_decl, keeps_type, keeps_core_type}
+use Rattle.smith_syntax.specs.Marked.{Marked, scope_in, scopes_in_marked}
 use Rattle.smith_syntax.specs.Scope.{Scope, in_scope}
+use Rattle.smith_syntax.specs.Usable.{OfferedDecl}
 use Rattle.smith_syntax.specs.WellFormed.{FormedDeclaration}
 use Rattle.smith_syntax.specs.declared.deftype.ComponentTypeRef.{ComponentTypeRef}
 use Rattle.smith_types.specs.Declarations.{NamedExtern, ReadsMaybeUrl, no_url, a_url, url_names, ReadsNamedExtern, ReadsAlias, NoImportDecl, in_instance}
@@ -25,11 +27,11 @@ use Rattle.smith_tree.specs.declared.totals.RefTotals.{RefTotals}
 use Rattle.smith_core_types.proofs.MadeCore.{no_choice}
 use Rattle.smith_scopes.proofs.Places.{get_either}
 use Rattle.smith_tree.proofs.Aliases.{numbered_stands}
-use Rattle.smith_types.proofs.References.{ref_formed, import_not_equal}
+use Rattle.smith_types.proofs.References.{import_not_equal, ref_is}
 
 -- tails
 
-pub ref_tail : (config : Config) (own : Scope) (totals : RefTotals) (for_import for_type_def : Bool) (b : List ℕ) (r : ComponentTypeRef) (rest : List ℕ)
+pub ref_tail : (config : Config) (own : Marked) (totals : RefTotals) (for_import for_type_def : Bool) (b : List ℕ) (r : ComponentTypeRef) (rest : List ℕ)
     → ReadsRef config own totals for_import for_type_def b r rest → IsTail rest b
 ref_tail config own totals for_import for_type_def b r rest h = tail_trans (among_tail h.names) (among_tail h.choice)
 
@@ -40,10 +42,10 @@ maybe_url_tail used b u rest (a_url f n e) = tail_trans (new_tail n) (1, f.left)
 pub extern_tail : (so_far : List NamedExtern) (b : List ℕ) (x : NamedExtern) (rest : List ℕ) → ReadsNamedExtern so_far b x rest → IsTail rest b
 extern_tail so_far b x rest r = tail_trans (maybe_url_tail (url_names so_far) r.mid x.1 rest r.url) (new_tail r.name)
 
-pub alias_tail : (scopes : List Scope) (b : List ℕ) (d : FullDecl) (rest : List ℕ) → ReadsAlias scopes b d rest → IsTail rest b
+pub alias_tail : (scopes : List Marked) (b : List ℕ) (d : FullDecl) (rest : List ℕ) → ReadsAlias scopes b d rest → IsTail rest b
 alias_tail scopes b d rest r = tail_trans (among_tail r.names) (among_tail r.choice)
 
-module _ (config : Config) (own : Scope) where
+module _ (config : Config) (own : Marked) where
   pub import_tail : (imports : List NamedExtern) (b : List ℕ) (d : FullDecl) (rest : List ℕ) → ReadsImportDecl config own imports b d rest → IsTail rest b
   import_tail imports b d rest r = tail_trans (extern_tail imports r.low r.named rest r.name)
       (tail_trans (ref_tail config own _ true true r.mid r.to r.low r.of) (reads_tail r.asked))
@@ -58,7 +60,7 @@ module _ (config : Config) (own : Scope) where
   no_import_tail importing b rest (none_fits e f r n) = reads_tail r
 
 -- A declaration has what it needs.
-pub item_offered : (config : Config) (outer : List Scope) (own : Scope) (k : ℕ) (i : DeclarationItem)
+pub item_offered : (config : Config) (outer : List Marked) (own : Marked) (k : ℕ) (i : DeclarationItem)
     → slice_get (declaration_items config outer own) k ≡ Some i → HasTarget config own outer i
 item_offered config outer own k i e =
     offer_holds (HasTarget config own outer) (declaration_offers config outer own) (
@@ -77,38 +79,48 @@ item_offered config outer own k i e =
 
 -- well formed
 
--- what stands in a scope of that count
-pub named_in : {A : Type 0} (of : Scope → List A) (scopes : List Scope) (count i : ℕ) (s : Scope) (x : A) → slice_get scopes count ≡ Some s
-    → slice_get (of s) i ≡ Some x
-    → in_scope of scopes count i ≡ Some x
-named_in of scopes count i s x e f = ap (λ o. elim o [ None ↦ None | Some t ↦ slice_get (of t) i ]) e ∙ f
+get_map : {A B : Type 0} (f : A → B) (xs : List A) (k : ℕ) (x : A) → slice_get xs k ≡ Some x → slice_get (map f xs) k ≡ Some (f x)
+get_map f [] k x e = absurd (cc)
+get_map f (y ∷ ys) zero x e = let same : y ≡ x = cc in ap (λ z. Some (f z)) same
+get_map f (y ∷ ys) (suc k) x e = get_map f ys k x e
 
-pub alias_formed : (own : Scope) (outer : List Scope) (b : List ℕ) (d : FullDecl) (rest : List ℕ) → ReadsAlias (own ∷ outer) b d rest
-    → FormedDeclaration (plain_decl d) own outer
-alias_formed own outer b d rest r =
+-- what stands in a scope of that count
+pub named_in : {A : Type 0} (of : Scope → List A) (scopes : List Marked) (count i : ℕ) (s : Marked) (x : A) → slice_get scopes count ≡ Some s
+    → slice_get (of (scope_in s)) i ≡ Some x
+    → in_scope of (scopes_in_marked scopes) count i ≡ Some x
+named_in of scopes count i s x e f = ap (λ o. elim o [ None ↦ None | Some t ↦ slice_get (of t) i ]) (get_map scope_in scopes count s e) ∙ f
+
+-- A declaration as it is judged: it is well formed, and what it names was offered.
+abbrev pub IsDeclaration : FullDecl → Marked → List Marked → Type 0
+IsDeclaration d own outer = FormedDeclaration (plain_decl d) (scope_in own) (scopes_in_marked outer) × OfferedDecl (plain_decl d) outer own
+
+pub alias_is : (own : Marked) (outer : List Marked) (b : List ℕ) (d : FullDecl) (rest : List ℕ) → ReadsAlias (own ∷ outer) b d rest
+    → IsDeclaration d own outer
+alias_is own outer b d rest r =
     elim (get_either (numbered (λ i e. type_alias r.count i (keeps_type e)) 0 r.scope.types)
     (numbered (λ i e. core_type_alias r.count i (keeps_core_type e)) 0 r.scope.core_types) r.names.place d r.names.named) [
       | inl p ↦ (let t = numbered_stands (λ i e. type_alias r.count i (keeps_type e)) r.scope.types p.0 d p.1 in
-          subst (λ z. FormedDeclaration (plain_decl z) own outer) (sym t.2) (t.0, named_in (λ s. s.types) (own ∷ outer) r.count p.0 r.scope t.0 r.stands t.1))
+          subst (λ z. IsDeclaration z own outer) (sym t.2)
+          ((t.0, named_in (λ s. s.types) (own ∷ outer) r.count p.0 r.scope t.0 r.stands t.1), tt))
       | inr p ↦ (let t = numbered_stands (λ i e. core_type_alias r.count i (keeps_core_type e)) r.scope.core_types p.0 d p.1 in
-          subst (λ z. FormedDeclaration (plain_decl z) own outer) (sym t.2)
-          (t.0, named_in (λ s. s.core_types) (own ∷ outer) r.count p.0 r.scope t.0 r.stands t.1))
+          subst (λ z. IsDeclaration z own outer) (sym t.2)
+          ((t.0, named_in (λ s. s.core_types) (own ∷ outer) r.count p.0 r.scope t.0 r.stands t.1), tt))
     ]
 
-module _ (config : Config) (own : Scope) (outer : List Scope) where
-  pub import_formed : (imports : List NamedExtern) (b : List ℕ) (d : FullDecl) (rest : List ℕ) → ReadsImportDecl config own imports b d rest
-      → FormedDeclaration (plain_decl d) own outer
-  import_formed imports b d rest r =
-      subst (λ z. FormedDeclaration (plain_decl z) own outer) (sym r.is)
-      (ref_formed config own _ true true r.mid r.to r.low r.of, import_not_equal config own _ true r.mid r.to r.low r.of)
+module _ (config : Config) (own : Marked) (outer : List Marked) where
+  pub import_is : (imports : List NamedExtern) (b : List ℕ) (d : FullDecl) (rest : List ℕ) → ReadsImportDecl config own imports b d rest
+      → IsDeclaration d own outer
+  import_is imports b d rest r =
+      let of = ref_is config own _ true true r.mid r.to r.low r.of in
+      subst (λ z. IsDeclaration z own outer) (sym r.is) ((of.0, import_not_equal config own _ true r.mid r.to r.low r.of), of.1)
 
-  pub export_formed : (exports : List NamedExtern) (b : List ℕ) (d : FullDecl) (rest : List ℕ) → ReadsExportDecl config own exports b d rest
-      → FormedDeclaration (plain_decl d) own outer
-  export_formed exports b d rest r = subst (λ z. FormedDeclaration (plain_decl z) own outer) (sym r.is) (ref_formed config own _ false true b r.to r.mid r.of)
+  pub export_is : (exports : List NamedExtern) (b : List ℕ) (d : FullDecl) (rest : List ℕ) → ReadsExportDecl config own exports b d rest
+      → IsDeclaration d own outer
+  export_is exports b d rest r = subst (λ z. IsDeclaration z own outer) (sym r.is) (ref_is config own _ false true b r.to r.mid r.of)
 
 -- what holds of all outer aliases
 pub alias_holds : (P : FullDecl → Type 0) → ((count i : ℕ) (k : Kept) → P (type_alias count i k)) → ((count i : ℕ) (k : Kept) → P (core_type_alias count i k))
-    → (scopes : List Scope) (b : List ℕ) (d : FullDecl) (rest : List ℕ) → ReadsAlias scopes b d rest → P d
+    → (scopes : List Marked) (b : List ℕ) (d : FullDecl) (rest : List ℕ) → ReadsAlias scopes b d rest → P d
 alias_holds P types core_types scopes b d rest r =
     elim (get_either (numbered (λ i e. type_alias r.count i (keeps_type e)) 0 r.scope.types)
     (numbered (λ i e. core_type_alias r.count i (keeps_core_type e)) 0 r.scope.core_types) r.names.place d r.names.named) [
@@ -120,12 +132,12 @@ alias_holds P types core_types scopes b d rest r =
 
 -- determined
 
-pub ref_same : (config : Config) (own : Scope) (totals : RefTotals) (for_import for_type_def : Bool) (b : List ℕ) (x y : ComponentTypeRef) (r s : List ℕ)
+pub ref_same : (config : Config) (own : Marked) (totals : RefTotals) (for_import for_type_def : Bool) (b : List ℕ) (x y : ComponentTypeRef) (r s : List ℕ)
     → ReadsRef config own totals for_import for_type_def b x r → ReadsRef config own totals for_import for_type_def b y s → (x ≡ y) × (r ≡ s)
 ref_same config own totals for_import for_type_def b x y r s p q =
     let u = among_same p.choice q.choice in
-    let P : RefKind → Type 0 = λ z. ReadsAmong (ref_places own z) p.mid p.index r in
-    let Q : List ℕ → Type 0 = λ z. ReadsAmong (ref_places own q.kind) z p.index r in
+    let P : RefKind → Type 0 = λ z. ReadsAmong (ref_places own for_import z) p.mid p.index r in
+    let Q : List ℕ → Type 0 = λ z. ReadsAmong (ref_places own for_import q.kind) z p.index r in
     let v = among_same (subst Q u.1 (subst P u.0 p.names)) q.names in
     (p.is ∙ (λ i. ref_to (u.0 i) (v.0 i)) ∙ sym q.is, v.1)
 
@@ -145,17 +157,17 @@ extern_same so_far b x y r s p q =
     let u = url_same (url_names so_far) q.mid x.1 y.1 r s (subst (λ z. ReadsMaybeUrl (url_names so_far) z x.1 r) n.1 p.url) q.url in
     (λ i. (n.0 i, u.0 i), u.1)
 
-pub alias_same : (scopes : List Scope) (b : List ℕ) (d e : FullDecl) (r s : List ℕ) → ReadsAlias scopes b d r → ReadsAlias scopes b e s → (d ≡ e) × (r ≡ s)
+pub alias_same : (scopes : List Marked) (b : List ℕ) (d e : FullDecl) (r s : List ℕ) → ReadsAlias scopes b d r → ReadsAlias scopes b e s → (d ≡ e) × (r ≡ s)
 alias_same scopes b d e r s p q =
     let u = among_same p.choice q.choice in
     let found : Some p.scope ≡ Some q.scope = sym p.stands ∙ (ap (slice_get scopes) u.0 ∙ q.stands) in
     let scope : p.scope ≡ q.scope = cc in
     let P : ℕ → Type 0 = λ z. ReadsAmong (aliases_of z p.scope) p.mid d r in
-    let Q : Scope → Type 0 = λ z. ReadsAmong (aliases_of q.count z) p.mid d r in
+    let Q : Marked → Type 0 = λ z. ReadsAmong (aliases_of q.count z) p.mid d r in
     let R : List ℕ → Type 0 = λ z. ReadsAmong (aliases_of q.count q.scope) z d r in
     among_same (subst R u.1 (subst Q scope (subst P u.0 p.names))) q.names
 
-module _ (config : Config) (own : Scope) where
+module _ (config : Config) (own : Marked) where
   pub import_same : (imports : List NamedExtern) (b : List ℕ) (d e : FullDecl) (r s : List ℕ) → ReadsImportDecl config own imports b d r
       → ReadsImportDecl config own imports b e s → (d ≡ e) × (r ≡ s)
   import_same imports b d e r s p q =

@@ -1,5 +1,5 @@
 -- What the scripts of references, names and outer aliases say is read as them.
-use Rattle.std.proofs.Common.{◌≡◌, ℕ, zero, suc, ◌+◌, ◌<◌, ◌≤◌, ◌^◌, ◌&&◌, Bool, true, false, List, [], ◌∷◌, ◌++◌, length, refl, sym, ap, ◌∙◌, subst}
+use Rattle.std.proofs.Common.{◌≡◌, ℕ, zero, suc, ◌+◌, ◌<◌, ◌≤◌, ◌^◌, ◌&&◌, ◌||◌, Bool, true, false, List, [], ◌∷◌, ◌++◌, length, refl, sym, ap, ◌∙◌, subst}
 use Rattle.std.proofs.Common.{arith, append_assoc, nat_eq, nat_lt, None, Some, Decides}
 use Rattle.std.proofs.lemmas.Bool.Decides.{Decides-eqb}
 use Rattle.std.proofs.lemmas.List.{length-map}
@@ -20,19 +20,23 @@ use Rattle.smith_input.proofs.Picks.{reads-pick}
 use Rattle.smith_input.proofs.Reading.{flips_zero}
 use Rattle.smith_format.specs.declared.config.Config.{Config}
 use Rattle.smith_syntax.specs.Entries.{Entry, CoreEntry, FullDecl, type_alias, core_type_alias, keeps_type, keeps_core_type}
-use Rattle.smith_syntax.specs.Scope.{Scope, is_func, is_component, is_instance, is_core_module, in_scope, type_named, core_type_named}
-use Rattle.smith_syntax.specs.Places.{places}
+use Rattle.smith_syntax.specs.Marked.{Marked, scope_in, scopes_in_marked}
+use Rattle.smith_syntax.specs.Scope.{Scope, is_core_module, in_scope, type_named, core_type_named}
+use Rattle.smith_syntax.specs.Usable.{OfferedRef, is_equatable, is_exportable, is_importable, is_small_component, is_small_instance}
 use Rattle.smith_syntax.specs.WellFormed.{FormedRef, names}
 use Rattle.smith_syntax.specs.declared.deftype.ComponentTypeRef.{ComponentTypeRef}
 use Rattle.smith_syntax.specs.declared.deftype.ComponentTypeRef.TheVariants as to
-use Rattle.smith_scopes.proofs.Places.{get_left, get_right, place_found}
+use Rattle.smith_scopes.proofs.Places.{get_left, get_mapped, get_right, place_found}
+use Rattle.smith_scopes.proofs.Offered.{length-marked_places}
 use Rattle.smith_scopes.proofs.Stack.{length-places}
 use Rattle.smith_tree.proofs.Aliases.{length-aliases, length-numbered, numbered_here}
 use Rattle.smith_types.specs.Declarations.{NamedExtern, ReadsNamedExtern, no_url, ReadsAlias, NoImportDecl, in_instance, nothing_there, not_asked}
-use Rattle.smith_tree.specs.TypeOffers.{IsAllowed, has_reference, is_occupied, occupied, numbered, aliases_of, declaration_offers, declaration_items, ref_offers}
-use Rattle.smith_tree.specs.TypeOffers.{ref_kinds, ref_places, has_place, allows_one}
+use Rattle.smith_tree.specs.TypeOffers.{IsAllowed, has_reference, is_occupied, occupied, numbered, aliases_of, declaration_offers, declaration_items}
+use Rattle.smith_tree.specs.TypeOffers.{ref_offers}
+use Rattle.smith_tree.specs.TypeOffers.{ref_kinds, ref_places, has_export, has_place, has_room, kinds_offered, allows_one}
 use Rattle.smith_types.specs.References.{ref_to, ReadsRef}
 use Rattle.smith_types.specs.Sayable.{Fit}
+use Rattle.smith_types.proofs.MarkedPlaces.{marked_found, three_from}
 use Rattle.smith_tree.specs.TypeScript.{kind_in, index_in, script_ref, script_label, script_extern, script_entry, script_alias, script_no_import}
 use Rattle.smith_tree.specs.TypeScript.{script_declaration_item}
 use Rattle.smith_tree.specs.contracts.choices.DeclarationItem.{the_type as item_type}
@@ -55,27 +59,58 @@ item_Decides a b = (same_true item_type tt a b, true_same item_type a b)
 
 -- references
 
-module _ (own : Scope) where
-  pub ref_index : (r : ComponentTypeRef) → FormedRef own r → (k : ℕ) × (slice_get (ref_places own (kind_in r)) k ≡ Some (index_in r))
-  ref_index (to.Module i) (e, at, is) = place_found is_core_module own.core_types i e at is
-  ref_index (to.TypeEq i) (e, at) = place_found (λ x. true) own.types i e at refl
-  ref_index (to.Func i) (e, at, is) = place_found is_func own.types i e at is
-  ref_index (to.Component i) (e, at, is) = place_found is_component own.types i e at is
-  ref_index (to.Instance i) (e, at, is) = place_found is_instance own.types i e at is
+module _ (own : Marked) where
+  pub ref_index : (for_import : Bool) (r : ComponentTypeRef) → FormedRef (scope_in own) r → OfferedRef own for_import r
+      → (k : ℕ) × (slice_get (ref_places own for_import (kind_in r)) k ≡ Some (index_in r))
+  ref_index for_import (to.Module i) (e, at, is) o = place_found is_core_module own.core_types i e at is
+  ref_index for_import (to.TypeEq i) (e, at) (small, named) = marked_found is_equatable own.types own.marks i e at (and_from _ _ small named)
+  ref_index true (to.Func i) (e, at, is) (small, named) = marked_found is_importable own.types own.marks i e at (three_from _ _ _ is small named)
+  ref_index false (to.Func i) (e, at, is) (small, named) = marked_found is_exportable own.types own.marks i e at (three_from _ _ _ is small named)
+  ref_index for_import (to.Component i) (e, at, is) o = marked_found is_small_component own.types own.marks i e at (and_from _ _ is o)
+  ref_index for_import (to.Instance i) (e, at, is) o = marked_found is_small_instance own.types own.marks i e at (and_from _ _ is o)
 
-  pub places_few : (k : RefKind) → length (ref_places own k) ≤ length own.types + length own.core_types
-  places_few kind.Module = omega (arith, length-places is_core_module 0 own.core_types)
-  places_few kind.TypeEq = omega (arith, length-places (λ x. true) 0 own.types)
-  places_few kind.Func = omega (arith, length-places is_func 0 own.types)
-  places_few kind.Component = omega (arith, length-places is_component 0 own.types)
-  places_few kind.Instance = omega (arith, length-places is_instance 0 own.types)
+  pub places_few : (for_import : Bool) (k : RefKind) → length (ref_places own for_import k) ≤ length own.types + length own.core_types
+  places_few for_import kind.Module = omega (arith, length-places is_core_module 0 own.core_types)
+  places_few for_import kind.TypeEq = omega (arith, length-marked_places is_equatable 0 own.types own.marks)
+  places_few true kind.Func = omega (arith, length-marked_places is_importable 0 own.types own.marks)
+  places_few false kind.Func = omega (arith, length-marked_places is_exportable 0 own.types own.marks)
+  places_few for_import kind.Component = omega (arith, length-marked_places is_small_component 0 own.types own.marks)
+  places_few for_import kind.Instance = omega (arith, length-marked_places is_small_instance 0 own.types own.marks)
 
-  pub ref_there : (r : ComponentTypeRef) → FormedRef own r → has_reference own ≡ true
-  ref_there (to.Module i) f = or_right _ _ (some_there (ref_places own kind.Module) (ref_index (to.Module i) f).0 i (ref_index (to.Module i) f).1)
+  pub ref_there : (r : ComponentTypeRef) → FormedRef (scope_in own) r → has_reference own ≡ true
+  ref_there (to.Module i) (e, at, is) =
+      let found = place_found is_core_module own.core_types i e at is in
+      or_right _ _ (some_there (ref_places own true kind.Module) found.0 i found.1)
   ref_there (to.TypeEq i) (e, at) = or_left _ _ (some_there own.types i e at)
   ref_there (to.Func i) (e, at, is) = or_left _ _ (some_there own.types i e at)
   ref_there (to.Component i) (e, at, is) = or_left _ _ (some_there own.types i e at)
   ref_there (to.Instance i) (e, at, is) = or_left _ _ (some_there own.types i e at)
+
+  place_there : (for_import : Bool) (r : ComponentTypeRef) → FormedRef (scope_in own) r → OfferedRef own for_import r
+      → has_place own for_import (kind_in r) ≡ true
+  place_there for_import r f o =
+      let at = ref_index for_import r f o in
+      some_there (ref_places own for_import (kind_in r)) at.0 (index_in r) at.1
+
+  module_there : has_place own false kind.Module ≡ true → has_export own ≡ true
+  module_there h = or_left _ _ (or_left _ (has_place own false kind.Component) (or_left _ (has_place own false kind.TypeEq) h))
+
+  equal_there : has_place own false kind.TypeEq ≡ true → has_export own ≡ true
+  equal_there h = or_left _ _ (or_left _ (has_place own false kind.Component) (or_right (has_place own false kind.Module) _ h))
+
+  component_there : has_place own false kind.Component ≡ true → has_export own ≡ true
+  component_there h = or_left _ _ (or_right (has_place own false kind.Module || has_place own false kind.TypeEq) _ h)
+
+  instance_there : has_place own false kind.Instance ≡ true → has_export own ≡ true
+  instance_there h = or_right (has_place own false kind.Module || has_place own false kind.TypeEq || has_place own false kind.Component) _ h
+
+  -- An export is offered where one may be had: what may be exported as a function may be equal to a type.
+  pub export_there : (r : ComponentTypeRef) → FormedRef (scope_in own) r → OfferedRef own false r → has_export own ≡ true
+  export_there (to.Module i) f o = module_there (place_there false (to.Module i) f o)
+  export_there (to.TypeEq i) f o = equal_there (place_there false (to.TypeEq i) f o)
+  export_there (to.Func i) (e, at, is) o = equal_there (place_there false (to.TypeEq i) (e, at) o)
+  export_there (to.Component i) f o = component_there (place_there false (to.Component i) f o)
+  export_there (to.Instance i) f o = instance_there (place_there false (to.Instance i) f o)
 
 ref_is : (r : ComponentTypeRef) → r ≡ ref_to (kind_in r) (index_in r)
 ref_is (to.Module i) = refl
@@ -84,82 +119,99 @@ ref_is (to.Func i) = refl
 ref_is (to.Component i) = refl
 ref_is (to.Instance i) = refl
 
-module _ (config : Config) (own : Scope) (totals : RefTotals) (for_import for_type_def : Bool) where
-  ref_offered : (r : ComponentTypeRef) → has_place own (kind_in r) ≡ true → IsAllowed config own totals for_import for_type_def r
-      → (j : ℕ) × (slice_get (ref_kinds config own totals for_import for_type_def) j ≡ Some (kind_in r))
-  ref_offered (to.Module i) t m = offers_found (ref_offers config own totals for_import for_type_def) 0 _ kind.Module refl (and_from _ _ t m)
-  ref_offered (to.TypeEq i) t m = offers_found (ref_offers config own totals for_import for_type_def) 1 _ kind.TypeEq refl (and_from _ _ t m)
-  ref_offered (to.Func i) t m = offers_found (ref_offers config own totals for_import for_type_def) 2 _ kind.Func refl (and_from _ _ t m)
-  ref_offered (to.Component i) t m = offers_found (ref_offers config own totals for_import for_type_def) 3 _ kind.Component refl (and_from _ _ t m)
-  ref_offered (to.Instance i) t m = offers_found (ref_offers config own totals for_import for_type_def) 4 _ kind.Instance refl (and_from _ _ t m)
+open_few : {A : Type 0} (room : Bool) (xs : List A) → length (if room then xs else []) ≤ length xs
+open_few true xs = omega arith
+open_few false xs = omega arith
+
+-- the kinds that are offered, where there is room
+open_kinds : (config : Config) (own : Marked) (totals : RefTotals) (for_import for_type_def : Bool) → has_room own for_type_def ≡ true
+    → ref_kinds config own totals for_import for_type_def ≡ kinds_offered config own totals for_import for_type_def
+open_kinds config own totals for_import for_type_def room = ap (λ b. if b then kinds_offered config own totals for_import for_type_def else []) room
+
+module _ (config : Config) (own : Marked) (totals : RefTotals) (for_import for_type_def : Bool) where
+  pub kinds_few : length (ref_kinds config own totals for_import for_type_def) ≤ 5
+  kinds_few =
+      let few = offers_few (ref_offers config own totals for_import for_type_def) in
+      omega (arith, few, open_few (has_room own for_type_def) (kinds_offered config own totals for_import for_type_def))
+
+  kind_offered : (r : ComponentTypeRef) → has_place own for_import (kind_in r) ≡ true → IsAllowed config own totals for_import for_type_def r
+      → (j : ℕ) × (slice_get (kinds_offered config own totals for_import for_type_def) j ≡ Some (kind_in r))
+  kind_offered (to.Module i) t m = offers_found (ref_offers config own totals for_import for_type_def) 0 _ kind.Module refl (and_from _ _ t m)
+  kind_offered (to.TypeEq i) t m = offers_found (ref_offers config own totals for_import for_type_def) 1 _ kind.TypeEq refl (and_from _ _ t m)
+  kind_offered (to.Func i) t m = offers_found (ref_offers config own totals for_import for_type_def) 2 _ kind.Func refl (and_from _ _ t m)
+  kind_offered (to.Component i) t m = offers_found (ref_offers config own totals for_import for_type_def) 3 _ kind.Component refl (and_from _ _ t m)
+  kind_offered (to.Instance i) t m = offers_found (ref_offers config own totals for_import for_type_def) 4 _ kind.Instance refl (and_from _ _ t m)
 
   -- the choice of the kind
-  kind_read : (r : ComponentTypeRef) (rest : List ℕ) → FormedRef own r → IsAllowed config own totals for_import for_type_def r
+  kind_read : (r : ComponentTypeRef) (rest : List ℕ) → FormedRef (scope_in own) r → OfferedRef own for_import r → has_room own for_type_def ≡ true
+      → IsAllowed config own totals for_import for_type_def r
       → ReadsAmong (ref_kinds config own totals for_import for_type_def)
       (script_among refs.eq (ref_kinds config own totals for_import for_type_def) (kind_in r) ++ rest) (kind_in r) rest
-  kind_read r rest formed allowed =
-      let at = ref_index own r formed in
-      let offered = ref_offered r (some_there (ref_places own (kind_in r)) at.0 (index_in r) at.1) allowed in
-      let count = offers_few (ref_offers config own totals for_import for_type_def) in
-      among_read refs.eq ref_kind_Decides (ref_kinds config own totals for_import for_type_def) (kind_in r) offered.0 rest (omega (arith, count)) offered.1
+  kind_read r rest formed offered room allowed =
+      let at = kind_offered r (place_there own for_import r formed offered) allowed in
+      let opened = open_kinds config own totals for_import for_type_def room in
+      among_read refs.eq ref_kind_Decides (ref_kinds config own totals for_import for_type_def) (kind_in r) at.0 rest (omega (arith, kinds_few))
+      (ap (λ ks. slice_get ks at.0) opened ∙ at.1)
 
-  pub ref_read : length own.types + length own.core_types ≤ 2 ^ 64 → (r : ComponentTypeRef) (rest : List ℕ) → FormedRef own r
-      → IsAllowed config own totals for_import for_type_def r
+  pub ref_read : length own.types + length own.core_types ≤ 2 ^ 64 → (r : ComponentTypeRef) (rest : List ℕ) → FormedRef (scope_in own) r
+      → OfferedRef own for_import r → has_room own for_type_def ≡ true → IsAllowed config own totals for_import for_type_def r
       → ReadsRef config own totals for_import for_type_def (script_ref config own totals for_import for_type_def r ++ rest) r rest
-  ref_read few r rest formed allowed =
-      let at = ref_index own r formed in
+  ref_read few r rest formed offered room allowed =
+      let at = ref_index own for_import r formed offered in
       let choice : List ℕ = script_among refs.eq (ref_kinds config own totals for_import for_type_def) (kind_in r) in
-      let said : List ℕ = script_among nat_eq (ref_places own (kind_in r)) (index_in r) in
+      let said : List ℕ = script_among nat_eq (ref_places own for_import (kind_in r)) (index_in r) in
       subst (λ z. ReadsRef config own totals for_import for_type_def z r rest) (sym (append_assoc choice said rest)) (record {
         kind = kind_in r;
         mid = said ++ rest;
         index = index_in r;
-        choice = kind_read r (said ++ rest) formed allowed;
-        names = among_read nat_eq Decides-eqb (ref_places own (kind_in r)) (index_in r) at.0 rest (omega (arith, few, places_few own (kind_in r))) at.1;
+        choice = kind_read r (said ++ rest) formed offered room allowed;
+        names = among_read nat_eq Decides-eqb (ref_places own for_import (kind_in r)) (index_in r) at.0 rest
+            (omega (arith, few, places_few own for_import (kind_in r))) at.1;
         is = ref_is r;
       })
 
   -- What a script says is read, and nothing else.
-  pub ref_scripted : (t r : ComponentTypeRef) (bytes left rest : List ℕ) → FormedRef own r → IsAllowed config own totals for_import for_type_def r
+  pub ref_scripted : (t r : ComponentTypeRef) (bytes left rest : List ℕ) → FormedRef (scope_in own) r → OfferedRef own for_import r
+      → has_room own for_type_def ≡ true → IsAllowed config own totals for_import for_type_def r
       → bytes ≡ script_ref config own totals for_import for_type_def r ++ rest
-      → (h : ReadsRef config own totals for_import for_type_def bytes t left) → length (ref_places own h.kind) ≤ 2 ^ 64 → (t ≡ r) × (left ≡ rest)
-  ref_scripted t r bytes left rest formed allowed begins h few =
+      → (h : ReadsRef config own totals for_import for_type_def bytes t left) → length (ref_places own for_import h.kind) ≤ 2 ^ 64 → (t ≡ r) × (left ≡ rest)
+  ref_scripted t r bytes left rest formed offered room allowed begins h few =
       let choice : List ℕ = script_among refs.eq (ref_kinds config own totals for_import for_type_def) (kind_in r) in
-      let said : List ℕ = script_among nat_eq (ref_places own (kind_in r)) (index_in r) in
+      let said : List ℕ = script_among nat_eq (ref_places own for_import (kind_in r)) (index_in r) in
       let C : List ℕ → Type 0 = λ z. ReadsAmong (ref_kinds config own totals for_import for_type_def) z h.kind h.mid in
-      let same = among_same (subst C (begins ∙ append_assoc choice said rest) h.choice) (kind_read r (said ++ rest) formed allowed) in
-      let at = ref_index own r formed in
-      let N : RefKind → Type 0 = λ z. length (ref_places own z) ≤ 2 ^ 64 in
-      let K : RefKind → Type 0 = λ z. ReadsAmong (ref_places own z) h.mid h.index left in
-      let M : List ℕ → Type 0 = λ z. ReadsAmong (ref_places own (kind_in r)) z h.index left in
+      let same = among_same (subst C (begins ∙ append_assoc choice said rest) h.choice) (kind_read r (said ++ rest) formed offered room allowed) in
+      let at = ref_index own for_import r formed offered in
+      let N : RefKind → Type 0 = λ z. length (ref_places own for_import z) ≤ 2 ^ 64 in
+      let K : RefKind → Type 0 = λ z. ReadsAmong (ref_places own for_import z) h.mid h.index left in
+      let M : List ℕ → Type 0 = λ z. ReadsAmong (ref_places own for_import (kind_in r)) z h.index left in
       let d = among_same (subst M same.1 (subst K same.0 h.names))
-      (among_read nat_eq Decides-eqb (ref_places own (kind_in r)) (index_in r) at.0 rest (subst N same.0 few) at.1) in
+      (among_read nat_eq Decides-eqb (ref_places own for_import (kind_in r)) (index_in r) at.0 rest (subst N same.0 few) at.1) in
       (h.is ∙ ((λ j. ref_to (same.0 j) (d.0 j)) ∙ sym (ref_is r)), d.1)
 
-  pub ref_not_none : (r : ComponentTypeRef) → FormedRef own r → IsAllowed config own totals for_import for_type_def r
-      → ref_kinds config own totals for_import for_type_def ≡ [] → ⊥
-  ref_not_none r formed allowed none = among_none none (kind_read r [] formed allowed)
+  pub ref_not_none : (r : ComponentTypeRef) → FormedRef (scope_in own) r → OfferedRef own for_import r → has_room own for_type_def ≡ true
+      → IsAllowed config own totals for_import for_type_def r → ref_kinds config own totals for_import for_type_def ≡ [] → ⊥
+  ref_not_none r formed offered room allowed none = among_none none (kind_read r [] formed offered room allowed)
 
 -- An import of a function where it can be of nothing else: its kind is no choice.
 
 none_there : (xs : List ℕ) (b : Bool) → xs ≡ [] → (nat_lt 0 (length xs) && b) ≡ false
 none_there xs b e = ap (λ ys. nat_lt 0 (length ys) && b) e
 
-pub function_chosen : (config : Config) (own : Scope) (totals : RefTotals) (i : ℕ) → places is_core_module 0 own.core_types ≡ []
-    → places is_component 0 own.types ≡ [] → places is_instance 0 own.types ≡ []
-    → FormedRef own (to.Func i) → IsAllowed config own totals true false (to.Func i)
-    → script_ref config own totals true false (to.Func i) ≡ script_among nat_eq (places is_func 0 own.types) i
+pub function_chosen : (config : Config) (own : Marked) (totals : RefTotals) (i : ℕ) → ref_places own true kind.Module ≡ []
+    → ref_places own true kind.Component ≡ [] → ref_places own true kind.Instance ≡ []
+    → FormedRef (scope_in own) (to.Func i) → OfferedRef own true (to.Func i) → has_room own false ≡ true → IsAllowed config own totals true false (to.Func i)
+    → script_ref config own totals true false (to.Func i) ≡ script_among nat_eq (ref_places own true kind.Func) i
 unfolding pick
-function_chosen config own totals i modules components instances formed allowed =
-    let at = ref_index own (to.Func i) formed in
-    let a = none_there (places is_core_module 0 own.core_types) (allows_one true false totals.modules config.max_modules) modules in
-    let b = and-false (has_place own kind.TypeEq) in
-    let c = and_from _ _ (some_there (places is_func 0 own.types) at.0 i at.1) allowed in
-    let d = none_there (places is_component 0 own.types) (allows_one true false totals.components config.max_components) components in
-    let e = none_there (places is_instance 0 own.types) (allows_one true false totals.instances config.max_instances) instances in
-    let one : ref_kinds config own totals true false ≡ kind.Func ∷ [] =
+function_chosen config own totals i modules components instances formed offered room allowed =
+    let a = none_there (ref_places own true kind.Module) (allows_one true false totals.modules config.max_modules) modules in
+    let b = and-false (has_place own true kind.TypeEq) in
+    let c = and_from _ _ (place_there own true (to.Func i) formed offered) allowed in
+    let d = none_there (ref_places own true kind.Component) (allows_one true false totals.components config.max_components) components in
+    let e = none_there (ref_places own true kind.Instance) (allows_one true false totals.instances config.max_instances) instances in
+    let one : kinds_offered config own totals true false ≡ kind.Func ∷ [] =
     λ j. offers_of ((a j, kind.Module) ∷ (b j, kind.TypeEq) ∷ (c j, kind.Func) ∷ (d j, kind.Component) ∷ (e j, kind.Instance) ∷ []) in
-    ap (λ ks. script_among refs.eq ks kind.Func ++ script_among nat_eq (places is_func 0 own.types) i) one
+    ap (λ ks. script_among refs.eq ks kind.Func ++ script_among nat_eq (ref_places own true kind.Func) i)
+    (open_kinds config own totals true false room ∙ one)
 
 -- names
 
@@ -173,7 +225,7 @@ extern_read so_far name rest k made =
 
 -- no import
 
-module _ (config : Config) (own : Scope) where
+module _ (config : Config) (own : Marked) where
   no_import_by : (rest : List ℕ) (b : Bool) → has_reference own ≡ b → NoImportDecl config true own ((if b then pick 4 1 else []) ++ rest) rest
   no_import_by rest true e = not_asked refl e (reads-pick 4 1 rest (omega arith) (omega arith)) (omega arith)
   no_import_by rest false e = nothing_there refl e
@@ -184,7 +236,7 @@ module _ (config : Config) (own : Scope) where
 
 -- what is declared
 
-pub item_read : (config : Config) (outer : List Scope) (own : Scope) (i : DeclarationItem) (k : ℕ) (b : Bool) (rest : List ℕ)
+pub item_read : (config : Config) (outer : List Marked) (own : Marked) (i : DeclarationItem) (k : ℕ) (b : Bool) (rest : List ℕ)
     → slice_get (declaration_offers config outer own) k ≡ Some (b, i) → b ≡ true
     → ReadsAmong (declaration_items config outer own) (script_declaration_item config outer own i ++ rest) i rest
 item_read config outer own i k b rest named offered =
@@ -194,23 +246,31 @@ item_read config outer own i k b rest named offered =
 
 -- outer aliases
 
-pub in_split : {A : Type 0} (of : Scope → List A) (o : Option Scope) (i : ℕ) (x : A) → elim o [ None ↦ None | Some s ↦ slice_get (of s) i ] ≡ Some x
+in_split : {A : Type 0} (of : Scope → List A) (o : Option Scope) (i : ℕ) (x : A) → elim o [ None ↦ None | Some s ↦ slice_get (of s) i ] ≡ Some x
     → (s : Scope) × (o ≡ Some s) × (slice_get (of s) i ≡ Some x)
 in_split of None i x h = absurd (cc)
 in_split of (Some s) i x h = (s, refl, h)
 
+-- the scope that an outer alias names
+pub scope_there : {A : Type 0} (of : Scope → List A) (scopes : List Marked) (count i : ℕ) (x : A) → in_scope of (scopes_in_marked scopes) count i ≡ Some x
+    → (s : Marked) × (slice_get scopes count ≡ Some s) × (slice_get (of (scope_in s)) i ≡ Some x)
+scope_there of scopes count i x h =
+    let at = in_split of (slice_get (scopes_in_marked scopes) count) i x h in
+    let there = get_mapped scope_in scopes count at.0 at.1 in
+    (there.0, there.1, subst (λ s. slice_get (of s) i ≡ Some x) there.2 at.2)
+
 -- how many stand in a scope
-abbrev pub IsFew : Scope → Type 0
+abbrev pub IsFew : Marked → Type 0
 IsFew s = length s.types + length s.core_types ≤ 2 ^ 64
 
-pub few_at : (scopes : List Scope) (count : ℕ) (s : Scope) → AllByRecursion IsFew scopes → slice_get scopes count ≡ Some s → IsFew s
+pub few_at : (scopes : List Marked) (count : ℕ) (s : Marked) → AllByRecursion IsFew scopes → slice_get scopes count ≡ Some s → IsFew s
 few_at [] count s all h = absurd (cc)
 few_at (x ∷ xs) zero s all h = let same : x ≡ s = cc in subst IsFew same all.0
 few_at (x ∷ xs) (suc k) s all h = few_at xs k s all.1 h
 
-module _ (scopes : List Scope) (fit : Fit scopes) where
+module _ (scopes : List Marked) (fit : Fit scopes) where
   -- what stands at a place of a scope
-  alias_read : (count : ℕ) (place : Scope → ℕ) (s : Scope) (d : FullDecl) (rest : List ℕ) → slice_get scopes count ≡ Some s
+  alias_read : (count : ℕ) (place : Marked → ℕ) (s : Marked) (d : FullDecl) (rest : List ℕ) → slice_get scopes count ≡ Some s
       → slice_get (aliases_of count s) (place s) ≡ Some d → ReadsAlias scopes (script_alias scopes count place ++ rest) d rest
   alias_read count place s d rest stands named =
       let os : List ℕ = occupied scopes in
@@ -235,23 +295,23 @@ module _ (scopes : List Scope) (fit : Fit scopes) where
         };
       } in
       let P : List ℕ → Type 0 = λ z. ReadsAlias scopes z d rest in
-      let Q : Option Scope → Type 0 = λ o. ReadsAlias scopes ((choice ++ script_entry count place o) ++ rest) d rest in
+      let Q : Option Marked → Type 0 = λ o. ReadsAlias scopes ((choice ++ script_entry count place o) ++ rest) d rest in
       subst Q (sym stands) (subst P (sym (append_assoc choice said rest)) made)
 
-  pub type_alias_read : (count i : ℕ) (e : Entry) (rest : List ℕ) → type_named scopes count i ≡ Some e
+  pub type_alias_read : (count i : ℕ) (e : Entry) (rest : List ℕ) → type_named (scopes_in_marked scopes) count i ≡ Some e
       → ReadsAlias scopes (script_alias scopes count (λ s. i) ++ rest) (type_alias count i (keeps_type e)) rest
   type_alias_read count i e rest h =
-      let at = in_split (λ s. s.types) (slice_get scopes count) i e h in
+      let at = scope_there (λ s. s.types) scopes count i e h in
       let f : ℕ → Entry → FullDecl = λ j x. type_alias count j (keeps_type x) in
       let g : ℕ → CoreEntry → FullDecl = λ j x. core_type_alias count j (keeps_core_type x) in
       let front : List FullDecl = numbered f 0 at.0.types in
       let here : slice_get front i ≡ Some (f i e) = numbered_here f at.0.types i e at.2 in
       alias_read count (λ s. i) at.0 (f i e) rest at.1 (get_left front (numbered g 0 at.0.core_types) i (slice_get_within front i (f i e) here) ∙ here)
 
-  pub core_alias_read : (count i : ℕ) (e : CoreEntry) (rest : List ℕ) → core_type_named scopes count i ≡ Some e
+  pub core_alias_read : (count i : ℕ) (e : CoreEntry) (rest : List ℕ) → core_type_named (scopes_in_marked scopes) count i ≡ Some e
       → ReadsAlias scopes (script_alias scopes count (λ s. length s.types + i) ++ rest) (core_type_alias count i (keeps_core_type e)) rest
   core_alias_read count i e rest h =
-      let at = in_split (λ s. s.core_types) (slice_get scopes count) i e h in
+      let at = scope_there (λ s. s.core_types) scopes count i e h in
       let f : ℕ → Entry → FullDecl = λ j x. type_alias count j (keeps_type x) in
       let g : ℕ → CoreEntry → FullDecl = λ j x. core_type_alias count j (keeps_core_type x) in
       let front : List FullDecl = numbered f 0 at.0.types in
@@ -262,10 +322,10 @@ module _ (scopes : List Scope) (fit : Fit scopes) where
 
   -- what an outer alias names stands in a scope
   pub alias_there : {A : Type 0} (of : Scope → List A) → ((s : Scope) → length (of s) ≤ length s.types + length s.core_types) → (count i : ℕ) (x : A)
-      → in_scope of scopes count i ≡ Some x → nat_lt 0 (length (occupied scopes)) ≡ true
+      → in_scope of (scopes_in_marked scopes) count i ≡ Some x → nat_lt 0 (length (occupied scopes)) ≡ true
   alias_there of within count i x h =
-      let at = in_split of (slice_get scopes count) i x h in
+      let at = scope_there of scopes count i x h in
       let some : nat_lt 0 (length at.0.types + length at.0.core_types) ≡ true =
-      lt-ltb 0 (length at.0.types + length at.0.core_types) (omega (arith, slice_get_within (of at.0) i x at.2, within at.0)) in
+      lt-ltb 0 (length at.0.types + length at.0.core_types) (omega (arith, slice_get_within (of (scope_in at.0)) i x at.2, within (scope_in at.0))) in
       let place = place_found is_occupied scopes count at.0 at.1 some in
       some_there (occupied scopes) place.0 count place.1

@@ -14,10 +14,12 @@ use Rattle.smith_format.specs.declared.config.Config.{Config}
 use Rattle.smith_syntax.specs.Entries.{Entry, Decl, Decls, FullEntry, FullDecl, FullDecls, defined, function, component_type, instance_type}
 use Rattle.smith_syntax.specs.Entries.{decl_count, plain, plain_decl, plain_decls, core_type_decl, type_decl, type_alias}
 use Rattle.smith_syntax.specs.Entries.{core_type_alias, import_decl, export_decl, no_decls, then_decls, keeps_functions, keeps_type, keeps_core_type}
-use Rattle.smith_syntax.specs.Scope.{Scope, after_decl, exported_type, type_named, core_type_named}
+use Rattle.smith_syntax.specs.Marked.{Marked, marked_after, scope_in, scopes_in_marked}
+use Rattle.smith_syntax.specs.Scope.{Scope, exported_type, type_named, core_type_named}
+use Rattle.smith_syntax.specs.Usable.{OfferedDecl, OfferedDecls, OfferedEntry, OfferedRef}
 use Rattle.smith_syntax.specs.TypeLimits.{EntryLimits, DeclLimits, DeclsLimits}
 use Rattle.smith_syntax.specs.WellFormed.{FormedEntry, FormedDeclaration, FormedDeclarations, names, import_of, export_of, decl_imports, decl_exports}
-use Rattle.smith_syntax.specs.WellFormed.{is_type_eq}
+use Rattle.smith_syntax.specs.WellFormed.{FormedRef, is_type_eq}
 use Rattle.smith_syntax.specs.declared.deftype.ComponentTypeRef.{ComponentTypeRef}
 use Rattle.smith_syntax.specs.declared.deftype.ComponentTypeRef.TheVariants as to
 use Rattle.smith_core_types.specs.MadeCore.{named_by_core}
@@ -39,9 +41,10 @@ use Rattle.smith_tree.specs.declared.choices.TypeKind.TheVariants.{Component, In
 use Rattle.smith_tree.specs.declared.choices.DeclarationItem.{DeclarationItem}
 use Rattle.smith_tree.specs.declared.choices.DeclarationItem.TheVariants as item
 use Rattle.smith_types.proofs.Externs.{names_behind}
-use Rattle.smith_types.proofs.MadeFormed.{after_plain}
+use Rattle.smith_types.proofs.MarkedPlain.{after_plain, scope_after}
 use Rattle.smith_types.proofs.MadeSame.{made_same}
-use Rattle.smith_types.proofs.ReferencesRead.{type_alias_read, core_alias_read, alias_there, item_read, no_import_read, extern_read, ref_read, ref_there}
+use Rattle.smith_types.proofs.ReferencesRead.{type_alias_read, core_alias_read, alias_there, item_read, no_import_read, extern_read, export_there, ref_read}
+use Rattle.smith_types.proofs.ReferencesRead.{ref_there}
 use Rattle.smith_types.proofs.Script.{type_function, type_values, type_kind_read}
 use Rattle.smith_input.proofs.Lists.{all_front, all_back, one_at_most}
 use Rattle.std.proofs.lemmas.Bool.{lt-ltb}
@@ -81,32 +84,32 @@ record Sayable (importing : Bool) (is es : List (List ℕ × Unit {0})) : Type 0
   own : importing ≡ false → is ≡ []
 
 -- a scope in which no more stands than so many turns gave
-abbrev pub Holding : ℕ → Scope → Type 0
+abbrev pub Holding : ℕ → Marked → Type 0
 Holding n own = length own.types + length own.core_types ≤ n
 
-pub after_holding : (outer : List Scope) (n : ℕ) (own : Scope) (d : Decl) → Holding n own → Holding (n + 1) (after_decl outer own d)
+pub after_holding : (outer : List Marked) (n : ℕ) (own : Marked) (d : Decl) → Holding n own → Holding (n + 1) (marked_after d outer own)
 after_holding outer n own (core_type_decl t k) h = omega (arith, h, length-append own.core_types (t ∷ []))
 after_holding outer n own (type_decl e) h = omega (arith, h, length-append own.types (plain e ∷ []))
 after_holding outer n own (type_alias count i k) h =
-    let more = type_named (own ∷ outer) count i in
+    let more = type_named (scopes_in_marked (own ∷ outer)) count i in
     omega (arith, h, length-append own.types (option_to_list more), one_at_most more)
 after_holding outer n own (core_type_alias count i k) h =
-    let more = core_type_named (own ∷ outer) count i in
+    let more = core_type_named (scopes_in_marked (own ∷ outer)) count i in
     omega (arith, h, length-append own.core_types (option_to_list more), one_at_most more)
 after_holding outer n own (import_decl name u r) h = omega (arith, h)
 after_holding outer n own (export_decl name u r) h =
-    let more = exported_type own r in
+    let more = exported_type (scope_in own) r in
     omega (arith, h, length-append own.types (option_to_list more), one_at_most more)
 
 -- an import of no type that is equal to another, and an export, may always be had within a type
-import_allowed : (config : Config) (own : Scope) (r : ComponentTypeRef) → is_type_eq r ≡ false → IsAllowed config own uncounted true true r
+import_allowed : (config : Config) (own : Marked) (r : ComponentTypeRef) → is_type_eq r ≡ false → IsAllowed config own uncounted true true r
 import_allowed config own (to.Module i) e = refl
 import_allowed config own (to.TypeEq i) e = absurd (cc)
 import_allowed config own (to.Func i) e = refl
 import_allowed config own (to.Component i) e = refl
 import_allowed config own (to.Instance i) e = refl
 
-export_allowed : (config : Config) (own : Scope) (r : ComponentTypeRef) → IsAllowed config own uncounted false true r
+export_allowed : (config : Config) (own : Marked) (r : ComponentTypeRef) → IsAllowed config own uncounted false true r
 export_allowed config own (to.Module i) = refl
 export_allowed config own (to.TypeEq i) = refl
 export_allowed config own (to.Func i) = refl
@@ -115,7 +118,7 @@ export_allowed config own (to.Instance i) = refl
 
 module _ (config : Config) where
   -- what stands after the choice of what is declared
-  declares_read : (importing : Bool) (outer : List Scope) (own : Scope) (i : DeclarationItem) (said rest : List ℕ) (P : List ℕ → Type 0)
+  declares_read : (importing : Bool) (outer : List Marked) (own : Marked) (i : DeclarationItem) (said rest : List ℕ) (P : List ℕ → Type 0)
       → P (script_no_import importing own ++ (script_declaration_item config outer own i ++ (said ++ rest)))
       → P ((script_declares config importing own outer i ++ said) ++ rest)
   declares_read importing outer own i said rest P made =
@@ -124,26 +127,26 @@ module _ (config : Config) where
       subst P (sym (append_assoc (a ++ b) said rest ∙ append_assoc a b (said ++ rest))) made
 
   export_read : (s : SoFar) (name rest : List ℕ) (r : ComponentTypeRef) → Holding (2 ^ 64) s.own
-      → Kebab name → IsReachable 100 (names s.exports) name → (u : Unit {0}) → FormedDeclaration (export_decl name u r) s.own []
+      → Kebab name → IsReachable 100 (names s.exports) name → FormedRef (scope_in s.own) r → OfferedRef s.own false r
       → ReadsExportDecl config s.own s.exports ((script_ref config s.own uncounted false true r ++ script_extern (length s.exports) name) ++ rest)
       (export_decl name None r) rest
-  export_read s name rest r few k made u formed =
+  export_read s name rest r few k made formed offered =
       let of : List ℕ = script_ref config s.own uncounted false true r in
       let said : List ℕ = script_extern (length s.exports) name in
       subst (λ z. ReadsExportDecl config s.own s.exports z (export_decl name None r) rest) (sym (append_assoc of said rest)) (record {
         mid = said ++ rest;
         to = r;
         named = (name, None);
-        of = ref_read config s.own uncounted false true few r (said ++ rest) formed (export_allowed config s.own r);
+        of = ref_read config s.own uncounted false true few r (said ++ rest) formed offered refl (export_allowed config s.own r);
         name = extern_read s.exports name rest k made;
         is = refl;
       })
 
   import_read : (s : SoFar) (name rest : List ℕ) (r : ComponentTypeRef) → Holding (2 ^ 64) s.own
-      → Kebab name → IsReachable 100 (names s.imports) name → (u : Unit {0}) → FormedDeclaration (import_decl name u r) s.own []
+      → Kebab name → IsReachable 100 (names s.imports) name → FormedRef (scope_in s.own) r → is_type_eq r ≡ false → OfferedRef s.own true r
       → ReadsImportDecl config s.own s.imports ((pick 4 0 ++ (script_ref config s.own uncounted true true r ++ script_extern (length s.imports) name)) ++ rest)
       (import_decl name None r) rest
-  import_read s name rest r few k made u formed =
+  import_read s name rest r few k made formed other offered =
       let of : List ℕ = script_ref config s.own uncounted true true r in
       let said : List ℕ = script_extern (length s.imports) name in
       let whole : (pick 4 0 ++ (of ++ said)) ++ rest ≡ pick 4 0 ++ (of ++ (said ++ rest)) = append_assoc (pick 4 0) (of ++ said) rest
@@ -153,48 +156,51 @@ module _ (config : Config) where
         low = said ++ rest;
         to = r;
         named = (name, None);
-        there = ref_there s.own r formed.0;
+        there = ref_there s.own r formed;
         asked = reads-pick 4 0 (of ++ (said ++ rest)) (omega arith) (omega arith);
-        of = ref_read config s.own uncounted true true few r (said ++ rest) formed.0 (import_allowed config s.own r formed.1);
+        of = ref_read config s.own uncounted true true few r (said ++ rest) formed offered refl (import_allowed config s.own r other);
         name = extern_read s.imports name rest k made;
         is = refl;
       })
 
   module _ (deep : config.max_nesting_depth ≤ 1000) where
     mutual
-      pub full_read : (e : Entry) (own : Scope) (outer : List Scope) (fuel : ℕ) (rest : List ℕ) → FormedEntry e own outer → EntryLimits config e
+      pub full_read : (e : Entry) (own : Marked) (outer : List Marked) (fuel : ℕ) (rest : List ℕ) → FormedEntry e (scope_in own) (scopes_in_marked outer)
+          → OfferedEntry e own outer → EntryLimits config e
           → IsReadableType e → Lasts e config (length (own ∷ outer)) fuel → Fit (own ∷ outer) → length (own ∷ outer) ≤ 1000
           → (full : FullEntry) × (e ≡ plain full) × Made config own outer (script_type e config fuel own outer ++ rest) fuel full rest (fuel - cost e)
-      full_read (defined t) own outer fuel rest f m n l fit few =
-          (defined t, refl, type_values own (let z = fit.each.0 in omega (arith, z)) config outer fuel t rest f n l)
-      full_read (function s) own outer fuel rest f m n l fit few =
-          (function s, refl, type_function own (let z = fit.each.0 in omega (arith, z)) config outer fuel s rest f n l)
-      full_read (component_type ds) own outer fuel rest f m n l fit few =
-          let around : Fit (nothing_so_far.own ∷ (own ∷ outer)) = record { many = omega (arith, few); each = (omega arith, fit.each) } in
+      full_read (defined t) own outer fuel rest f o m n l fit few =
+          (defined t, refl, type_values own (let z = fit.each.0 in omega (arith, z)) config outer fuel t rest (f, o) n l)
+      full_read (function s) own outer fuel rest f o m n l fit few =
+          (function s, refl, type_function own (let z = fit.each.0 in omega (arith, z)) config outer fuel s rest (f, o) n l)
+      full_read (component_type ds) own outer fuel rest f o m n l fit few =
+          let around : Fit ((nothing_so_far (own ∷ outer)).own ∷ (own ∷ outer)) = record { many = omega (arith, few); each = (omega arith, fit.each) } in
           let said : Sayable true (decl_imports ds) (decl_exports ds) = record { imports = f.1.0; exports = f.2.0; own = λ h. absurd (cc) } in
-          let r = decls_read ds true (own ∷ outer) nothing_so_far (fuel - 1) 0 rest f.0 m.1 n l.1 said (omega (arith, m.0)) (omega arith) around in
+          let r = decls_read ds true (own ∷ outer) (nothing_so_far (own ∷ outer)) (fuel - 1) 0 rest f.0 o m.1 n l.1 said (omega (arith, m.0)) (omega arith)
+          around in
           let left : fuel - 1 - decls_cost ds ≡ fuel - cost (component_type ds) = omega arith in
-          let script : List ℕ = script_decls ds config true (fuel - 1) 0 none_taken nothing_so_far.own (own ∷ outer) in
+          let script : List ℕ = script_decls ds config true (fuel - 1) 0 none_taken (nothing_so_far (own ∷ outer)).own (own ∷ outer) in
           let P : List ℕ → Type 0 = λ b. Made config own outer b fuel (component_type r.0) rest (fuel - cost (component_type ds)) in
-          let Q : ℕ → Type 0 = λ k. MadeDeclarations config true (own ∷ outer) 0 nothing_so_far (script ++ rest) (fuel - 1) r.0 rest k in (
+          let Q : ℕ → Type 0 = λ k. MadeDeclarations config true (own ∷ outer) 0 (nothing_so_far (own ∷ outer)) (script ++ rest) (fuel - 1) r.0 rest k in (
             component_type r.0,
             ap component_type r.1,
             subst P (sym (append_assoc (script_type_kind Component) script rest))
                 (made_component (omega (arith, l.0)) (type_kind_read Component 2 (script ++ rest) refl) (subst Q left r.2) refl),
           )
-      full_read (instance_type ds) own outer fuel rest f m n l fit few =
-          let around : Fit (nothing_so_far.own ∷ (own ∷ outer)) = record { many = omega (arith, few); each = (omega arith, fit.each) } in
+      full_read (instance_type ds) own outer fuel rest f o m n l fit few =
+          let around : Fit ((nothing_so_far (own ∷ outer)).own ∷ (own ∷ outer)) = record { many = omega (arith, few); each = (omega arith, fit.each) } in
           let none : decl_imports ds ≡ [] = f.1 in
           let said : Sayable false (decl_imports ds) (decl_exports ds) = record {
             imports = subst Kebabs (sym none) tt;
             exports = f.2.0;
             own = λ h. none;
           } in
-          let r = decls_read ds false (own ∷ outer) nothing_so_far (fuel - 1) 0 rest f.0 m.1 n l.1 said (omega (arith, m.0)) (omega arith) around in
+          let r = decls_read ds false (own ∷ outer) (nothing_so_far (own ∷ outer)) (fuel - 1) 0 rest f.0 o m.1 n l.1 said (omega (arith, m.0)) (omega arith)
+          around in
           let left : fuel - 1 - decls_cost ds ≡ fuel - cost (instance_type ds) = omega arith in
-          let script : List ℕ = script_decls ds config false (fuel - 1) 0 none_taken nothing_so_far.own (own ∷ outer) in
+          let script : List ℕ = script_decls ds config false (fuel - 1) 0 none_taken (nothing_so_far (own ∷ outer)).own (own ∷ outer) in
           let P : List ℕ → Type 0 = λ b. Made config own outer b fuel (instance_type r.0) rest (fuel - cost (instance_type ds)) in
-          let Q : ℕ → Type 0 = λ k. MadeDeclarations config false (own ∷ outer) 0 nothing_so_far (script ++ rest) (fuel - 1) r.0 rest k in (
+          let Q : ℕ → Type 0 = λ k. MadeDeclarations config false (own ∷ outer) 0 (nothing_so_far (own ∷ outer)) (script ++ rest) (fuel - 1) r.0 rest k in (
             instance_type r.0,
             ap instance_type r.1,
             subst P (sym (append_assoc (script_type_kind Instance) script rest))
@@ -202,26 +208,28 @@ module _ (config : Config) where
           )
 
       -- A declaration: it imports and exports what its plain tree does.
-      decl_read : (d : Decl) (importing : Bool) (outer : List Scope) (s : SoFar) (fuel : ℕ) (rest : List ℕ) → FormedDeclaration d s.own outer
+      decl_read : (d : Decl) (importing : Bool) (outer : List Marked) (s : SoFar) (fuel : ℕ) (rest : List ℕ)
+          → FormedDeclaration d (scope_in s.own) (scopes_in_marked outer)
+          → OfferedDecl d outer s.own
           → DeclLimits config d → IsReadableDecl d (names s.imports) (names s.exports) → LastsDecl d config (length (s.own ∷ outer)) fuel
           → Sayable importing (import_of d) (export_of d) → Holding 100 s.own → Fit (s.own ∷ outer)
           → (full : FullDecl) × (d ≡ plain_decl full) × (names (import_of d) ≡ names (import_of full)) × (names (export_of d) ≡ names (export_of full))
           × MadeDeclaration config importing outer s (script_decl d config importing fuel (taken_by s) s.own outer ++ rest) fuel full rest
           (fuel - decl_cost d)
-      decl_read (core_type_decl t k) importing outer s fuel rest f m n l said held fit =
+      decl_read (core_type_decl t k) importing outer s fuel rest f o m n l said held fit =
           let full : FullDecl = core_type_decl t (keeps_functions (named_by_core s.own.core_types t)) in
           let P : List ℕ → Type 0 = λ b. MadeDeclaration config importing outer s b fuel full rest (fuel - core_cost t) in (
             full,
             refl,
             refl,
             refl,
-            declares_read importing outer s.own item.CoreType (script_core config s.own fuel t) rest P
+            declares_read importing outer s.own item.CoreType (script_core config (scope_in s.own) fuel t) rest P
                 (made_core_type (no_import_read config s.own importing _) (item_read config outer s.own item.CoreType 2 true _ refl refl)
-                (core_read config s.own fuel t rest f m n l (omega (arith, held))) refl),
+                (core_read config (scope_in s.own) fuel t rest f m n l (omega (arith, held))) refl),
           )
-      decl_read (type_decl e) importing outer s fuel rest f m n l said held fit =
+      decl_read (type_decl e) importing outer s fuel rest f o m n l said held fit =
           let room : nat_lt (length (s.own ∷ outer)) config.max_nesting_depth ≡ true = lt-ltb (length (s.own ∷ outer)) config.max_nesting_depth l.0 in
-          let r = full_read e s.own outer fuel rest f m n l.1 fit (omega (arith, l.0, deep)) in
+          let r = full_read e s.own outer fuel rest f o m n l.1 fit (omega (arith, l.0, deep)) in
           let P : List ℕ → Type 0 = λ b. MadeDeclaration config importing outer s b fuel (type_decl r.0) rest (fuel - cost e) in (
             type_decl r.0,
             ap type_decl r.1,
@@ -230,7 +238,7 @@ module _ (config : Config) where
             declares_read importing outer s.own item.«Type» (script_type e config fuel s.own outer) rest P
                 (made_type (no_import_read config s.own importing _) (item_read config outer s.own item.«Type» 3 _ _ refl room) r.2 refl),
           )
-      decl_read (type_alias count i k) importing outer s fuel rest f m n l said held fit =
+      decl_read (type_alias count i k) importing outer s fuel rest f o m n l said held fit =
           let full : FullDecl = type_alias count i (keeps_type f.0) in
           let there = alias_there (s.own ∷ outer) fit (λ z. z.types) (λ z. omega arith) count i f.0 f.1 in
           let left : fuel - 0 ≡ fuel = omega arith in
@@ -243,7 +251,7 @@ module _ (config : Config) where
                 (made_alias (no_import_read config s.own importing _) (item_read config outer s.own item.Alias 1 _ _ refl there)
                 (type_alias_read (s.own ∷ outer) fit count i f.0 rest f.1) left),
           )
-      decl_read (core_type_alias count i k) importing outer s fuel rest f m n l said held fit =
+      decl_read (core_type_alias count i k) importing outer s fuel rest f o m n l said held fit =
           let full : FullDecl = core_type_alias count i (keeps_core_type f.0) in
           let there = alias_there (s.own ∷ outer) fit (λ z. z.core_types) (λ z. omega arith) count i f.0 f.1 in
           let left : fuel - 0 ≡ fuel = omega arith in
@@ -256,19 +264,19 @@ module _ (config : Config) where
                 (made_alias (no_import_read config s.own importing _) (item_read config outer s.own item.Alias 1 _ _ refl there)
                 (core_alias_read (s.own ∷ outer) fit count i f.0 rest f.1) left),
           )
-      decl_read (import_decl name u r) true outer s fuel rest f m n l said held fit =
+      decl_read (import_decl name u r) true outer s fuel rest f o m n l said held fit =
           let left : fuel - 0 ≡ fuel = omega arith in (
             import_decl name None r,
             refl,
             refl,
             refl,
-            made_import refl (import_read s name rest r fit.each.0 said.imports.0 n u f) left,
+            made_import refl (import_read s name rest r fit.each.0 said.imports.0 n f.0 f.1 o) left,
           )
-      decl_read (import_decl name u r) false outer s fuel rest f m n l said held fit = absurd (no_import (said.own refl))
+      decl_read (import_decl name u r) false outer s fuel rest f o m n l said held fit = absurd (no_import (said.own refl))
         where
           no_import : {A : Type 0} {x : A} {xs : List A} → x ∷ xs ≡ [] → ⊥
           no_import h = cc
-      decl_read (export_decl name u r) importing outer s fuel rest f m n l said held fit =
+      decl_read (export_decl name u r) importing outer s fuel rest f o m n l said held fit =
           let left : fuel - 0 ≡ fuel = omega arith in
           let full : FullDecl = export_decl name None r in
           let P : List ℕ → Type 0 = λ b. MadeDeclaration config importing outer s b fuel full rest (fuel - 0) in (
@@ -277,18 +285,20 @@ module _ (config : Config) where
             refl,
             refl,
             declares_read importing outer s.own item.Export (script_ref config s.own uncounted false true r ++ script_extern (length s.exports) name) rest P
-                (made_export (no_import_read config s.own importing _) (item_read config outer s.own item.Export 0 _ _ refl (ref_there s.own r f))
-                (export_read s name rest r fit.each.0 said.exports.0 n u f) left),
+                (made_export (no_import_read config s.own importing _) (item_read config outer s.own item.Export 0 _ _ refl (export_there s.own r f o))
+                (export_read s name rest r fit.each.0 said.exports.0 n f o) left),
           )
 
-      decls_read : (ds : Decls) (importing : Bool) (outer : List Scope) (s : SoFar) (fuel done : ℕ) (rest : List ℕ) → FormedDeclarations ds s.own outer
+      decls_read : (ds : Decls) (importing : Bool) (outer : List Marked) (s : SoFar) (fuel done : ℕ) (rest : List ℕ)
+          → FormedDeclarations ds (scope_in s.own) (scopes_in_marked outer)
+          → OfferedDecls ds outer s.own
           → DeclsLimits config ds → AreReadableDecls ds (names s.imports) (names s.exports) → LastsDecls ds config (length (s.own ∷ outer)) fuel
           → Sayable importing (decl_imports ds) (decl_exports ds) → done + decl_count ds ≤ 100 → Holding done s.own → Fit (s.own ∷ outer)
           → (full : FullDecls) × (ds ≡ plain_decls full) × MadeDeclarations config importing outer done s
           (script_decls ds config importing fuel done (taken_by s) s.own outer ++ rest) fuel full rest (fuel - decls_cost ds)
-      decls_read no_decls importing outer s fuel done rest f m n l said few held fit =
+      decls_read no_decls importing outer s fuel done rest f o m n l said few held fit =
           (no_decls, refl, no_more_decls (end_read 0 100 done rest (omega arith) (omega (arith, few))) (omega arith))
-      decls_read (then_decls d ds) importing outer s fuel done rest f m n l said few held fit =
+      decls_read (then_decls d ds) importing outer s fuel done rest f o m n l said few held fit =
           let imported = kebabs_split (import_of d) (decl_imports ds) said.imports in
           let exported = kebabs_split (export_of d) (decl_exports ds) said.exports in
           let here : Sayable importing (import_of d) (export_of d) = record {
@@ -302,13 +312,13 @@ module _ (config : Config) where
             own = λ h. none_behind (import_of d) (decl_imports ds) (said.own h);
           } in
           let held_next : ℕ = fuel - 1 - decl_cost d in
-          let script : Taken → Scope → List ℕ = λ taken own. script_decls ds config importing held_next (done + 1) taken own outer in
+          let script : Taken → Marked → List ℕ = λ taken own. script_decls ds config importing held_next (done + 1) taken own outer in
           let taken : Taken = after_taken (taken_by s) d in
-          let place : Scope = after_decl outer s.own d in
+          let place : Marked = marked_after d outer s.own in
           let later : List ℕ = script taken place in
-          let one = decl_read d importing outer s (fuel - 1) (later ++ rest) f.0 m.0 n.0 l.1 here (omega (arith, held, few)) fit in
+          let one = decl_read d importing outer s (fuel - 1) (later ++ rest) f.0 o.0 m.0 n.0 l.1 here (omega (arith, held, few)) fit in
           let next : SoFar = after_one outer s one.0 in
-          let same : place ≡ next.own = ap (after_decl outer s.own) one.1 ∙ after_plain outer s.own one.0 in
+          let same : place ≡ next.own = ap (λ z. marked_after z outer s.own) one.1 ∙ after_plain outer s.own one.0 in
           let imports : names s.imports ++ names (import_of d) ≡ names next.imports = names_behind s.imports (import_of one.0) (import_of d) one.2 in
           let exports : names s.exports ++ names (export_of d) ≡ names next.exports = names_behind s.exports (export_of one.0) (export_of d) one.3 in
           let readable : AreReadableDecls ds (names next.imports) (names next.exports) = subst (λ z. AreReadableDecls ds (names next.imports) z) exports
@@ -317,13 +327,16 @@ module _ (config : Config) where
             imports = count_behind s.imports (import_of one.0) (import_of d) one.2 i;
             exports = count_behind s.exports (export_of one.0) (export_of d) one.3 i;
           } in
-          let formed : FormedDeclarations ds next.own outer = subst (λ z. FormedDeclarations ds z outer) same f.1 in
+          let F : Scope → Type 0 = λ z. FormedDeclarations ds z (scopes_in_marked outer) in
+          let formed : F (scope_in next.own) = subst F (sym (scope_after outer s.own d) ∙ ap scope_in same) f.1 in
+          let offered : OfferedDecls ds outer next.own = subst (λ z. OfferedDecls ds outer z) same o.1 in
           let holds : Holding (done + 1) next.own = subst (Holding (done + 1)) same (after_holding outer done s.own d held) in
           let around : Fit (next.own ∷ outer) = record { many = fit.many; each = (omega (arith, holds, few), fit.each.1) } in
-          let more = decls_read ds importing outer next held_next (done + 1) rest formed m.1 readable l.2 behind (omega (arith, few)) holds around in
+          let more = decls_read ds importing outer next held_next (done + 1) rest formed offered m.1 readable l.2 behind (omega (arith, few)) holds around in
           let left : held_next - decls_cost ds ≡ fuel - decls_cost (then_decls d ds) = omega arith in
           let whole : script (taken_by next) next.own ≡ later = λ i. script (sym counts i) (sym same i) in
-          let M : List ℕ → Type 0 = λ z. MadeDeclarations config importing outer (done + 1) next (z ++ rest) held_next more.0 rest (held_next - decls_cost ds) in
+          let M : List ℕ → Type 0 =
+          λ z. MadeDeclarations config importing outer (done + 1) next (z ++ rest) held_next more.0 rest (held_next - decls_cost ds) in
           let N : ℕ → Type 0 = λ k. MadeDeclarations config importing outer (done + 1) next (later ++ rest) held_next more.0 rest k in
           let made : N (fuel - decls_cost (then_decls d ds)) = subst N left (subst M whole more.2) in
           let said_one : List ℕ = script_decl d config importing (fuel - 1) (taken_by s) s.own outer in
@@ -336,14 +349,14 @@ module _ (config : Config) where
           )
 
     -- What the script of a type says is made of it, and the rest is left.
-    pub type_read : (own : Scope) (outer : List Scope) (fuel : ℕ) (e : Entry) (rest : List ℕ) → IsSayable config own outer fuel e
+    pub type_read : (own : Marked) (outer : List Marked) (fuel : ℕ) (e : Entry) (rest : List ℕ) → IsSayable config own outer fuel e
         → MadeWith config own outer fuel (script_type e config fuel own outer ++ rest) e rest
     type_read own outer fuel e rest said =
-        let r = full_read e own outer fuel rest said.formed said.limits said.readable said.lasts said.fit said.shallow in
+        let r = full_read e own outer fuel rest said.formed said.offered said.limits said.readable said.lasts said.fit said.shallow in
         record { full = r.0; left = fuel - cost e; made = r.2; shown = r.1 }
 
     -- What a script says is made of it, and nothing else.
-    pub type_scripted : (own : Scope) (outer : List Scope) (fuel left : ℕ) (e : Entry) (full : FullEntry) (bytes rest remains : List ℕ)
+    pub type_scripted : (own : Marked) (outer : List Marked) (fuel left : ℕ) (e : Entry) (full : FullEntry) (bytes rest remains : List ℕ)
         → IsSayable config own outer fuel e → bytes ≡ script_type e config fuel own outer ++ rest
         → Made config own outer bytes fuel full remains left → (plain full ≡ e) × (remains ≡ rest)
     type_scripted own outer fuel left e full bytes rest remains said begins made =

@@ -11,6 +11,7 @@ use Rattle.smith_input.specs.Choices.{ReadsAmong}
 use Rattle.smith_input.specs.Script.{script_among, pick}
 use Rattle.smith_input.specs.Names.{ReadsNew}
 use Rattle.smith_input.proofs.Choices.{among_read}
+use Rattle.smith_input.proofs.Lists.{all_back, all_front}
 use Rattle.smith_input.proofs.Picks.{reads-pick}
 use Rattle.smith_input.proofs.Reading.{flips_one, flips_zero}
 use Rattle.smith_format.specs.declared.config.Config.{Config}
@@ -19,14 +20,14 @@ use Rattle.smith_syntax.specs.Entries.{result_type, Field, Case, Signature, defi
 use Rattle.smith_tree.specs.TypeOffers.{primitives, defined_kinds, type_kinds}
 use Rattle.smith_types.specs.Made.{ReadsVal, only_primitive, either_primitive, either_index, ReadsMaybe, absent, present, ReadsNamed, or_bool, MadeMembers}
 use Rattle.smith_types.specs.Made.{MadeAs, MadeDefined, MadeFunction, Made, spent_type, made_defined, made_function}
-use Rattle.smith_syntax.specs.Scope.{Scope, is_defined}
-use Rattle.smith_syntax.specs.Places.{defined_places}
+use Rattle.smith_syntax.specs.Marked.{Marked}
+use Rattle.smith_syntax.specs.Usable.{OfferedValue, is_value, value_places}
 use Rattle.smith_tree.specs.TypeScript.{script_primitive, script_val, script_maybe, script_label, script_field, script_case, script_members, script_kind}
 use Rattle.smith_tree.specs.TypeNeeds.{cost}
 use Rattle.smith_tree.specs.ReadableTypes.{AreReadableNames, IsReadableDefined}
 use Rattle.smith_types.specs.Sayable.{LastsDefined}
 use Rattle.smith_tree.specs.TypeScript.{script_defined, script_signature, script_type_kind, script_type}
-use Rattle.smith_syntax.specs.WellFormed.{FormedVal, FormedMaybe, FormedDefined, FormedEntry, Named, size, defined_size}
+use Rattle.smith_syntax.specs.WellFormed.{Named, size, defined_size}
 use Rattle.smith_tree.specs.contracts.choices.TypeKind.{the_type as type_kind_type}
 use Rattle.smith_tree.specs.contracts.choices.TypeKindPartialEq.TheImpl.{ghosts as types}
 use Rattle.smith_tree.specs.contracts.choices.DefinedKind.{the_type as defined_kind_type}
@@ -41,8 +42,10 @@ use Rattle.smith_syntax.specs.declared.types.ComponentValType.TheVariants.{Primi
 use Rattle.smith_syntax.specs.declared.types.PrimitiveValType.{PrimitiveValType}
 use Rattle.smith_syntax.specs.declared.types.PrimitiveValType.TheVariants as prim
 use Rattle.smith_types.proofs.Members.{Ready, members_read, IsReady, named_ready, named_read, label_read, all_unit}
-use Rattle.smith_scopes.proofs.Places.{place_found}
-use Rattle.smith_scopes.proofs.Stack.{length-places}
+use Rattle.smith_scopes.proofs.Offered.{length-marked_places}
+use Rattle.smith_types.proofs.Judged.{IsDefined, IsMaybe, IsType, IsValue, cases_are, fields_are, one_are, values_are}
+use Rattle.smith_types.proofs.MarkedPlaces.{marked_found}
+use Rattle.std.proofs.lemmas.Bool.{and_from}
 use Rattle.smith_input.proofs.Lists.{one_at_most}
 use Rattle.smith_syntax.specs.SameSignature.{primitive_Decides}
 
@@ -84,7 +87,7 @@ kind_place kind.Option = (7, refl)
 kind_place kind.Result = (8, refl)
 
 -- the kind that a script says
-kind_read : (own : Scope) (k : DefinedKind) (said rest : List ℕ) (fuel : ℕ) (t : DefValType) (left : ℕ) → MadeAs own k (said ++ rest) fuel t rest left
+kind_read : (own : Marked) (k : DefinedKind) (said rest : List ℕ) (fuel : ℕ) (t : DefValType) (left : ℕ) → MadeAs own k (said ++ rest) fuel t rest left
     → MadeDefined own ((script_kind k ++ said) ++ rest) fuel t rest left
 kind_read own k said rest fuel t left made =
     let P : List ℕ → Type 0 = λ b. MadeDefined own b fuel t rest left in
@@ -101,9 +104,9 @@ type_kind_read k at rest named = among_read types.eq type_kind_Decides type_kind
 
 -- value types
 
-val_primitive : (own : Scope) (p : PrimitiveValType) (rest : List ℕ) (b : Bool) → nat_eq (length (defined_places own)) 0 ≡ b
+val_primitive : (own : Marked) (p : PrimitiveValType) (rest : List ℕ) (b : Bool) → nat_eq (length (value_places own)) 0 ≡ b
     → ReadsVal own ((if b then [] else pick 2 0) ++ (script_primitive p ++ rest)) (Primitive p) rest
-val_primitive own p rest true e = only_primitive (none (defined_places own) e) (primitive_read p rest)
+val_primitive own p rest true e = only_primitive (none (value_places own) e) (primitive_read p rest)
   where
     none : (xs : List ℕ) → nat_eq (length xs) 0 ≡ true → xs ≡ []
     none [] h = refl
@@ -111,39 +114,39 @@ val_primitive own p rest true e = only_primitive (none (defined_places own) e) (
       where
         clash : (n : ℕ) → 0 < n → nat_eq n 0 ≡ true → ⊥
         clash n p h = grind (arith, nat_tests)
-val_primitive own p rest false e = either_primitive (some (length (defined_places own)) e)
+val_primitive own p rest false e = either_primitive (some (length (value_places own)) e)
     (reads-pick 2 0 (script_primitive p ++ rest) (omega arith) (omega arith)) (primitive_read p rest)
   where
     some : (n : ℕ) → nat_eq n 0 ≡ false → 0 < n
     some n h = grind (arith, nat_tests)
 
-module _ (own : Scope) (few : length own.types ≤ 2 ^ 64) where
-  val_read : (v : ComponentValType) (rest : List ℕ) → FormedVal own v → ReadsVal own (script_val own v ++ rest) v rest
+module _ (own : Marked) (few : length own.types ≤ 2 ^ 64) where
+  val_read : (v : ComponentValType) (rest : List ℕ) → IsValue own v → ReadsVal own (script_val own v ++ rest) v rest
   val_read (Primitive p) rest f =
       let P : List ℕ → Type 0 = λ b. ReadsVal own b (Primitive p) rest in
-      subst P (sym (append_assoc (if nat_eq (length (defined_places own)) 0 then [] else pick 2 0) (script_primitive p) rest))
-      (val_primitive own p rest (nat_eq (length (defined_places own)) 0) refl)
-  val_read (Indexed i) rest (e, at, t) =
-      let found = place_found is_defined own.types i e at t in
-      let said : List ℕ = script_among nat_eq (defined_places own) i in
+      subst P (sym (append_assoc (if nat_eq (length (value_places own)) 0 then [] else pick 2 0) (script_primitive p) rest))
+      (val_primitive own p rest (nat_eq (length (value_places own)) 0) refl)
+  val_read (Indexed i) rest ((e, at, t), small) =
+      let found = marked_found is_value own.types own.marks i e at (and_from _ _ t small) in
+      let said : List ℕ = script_among nat_eq (value_places own) i in
       let P : List ℕ → Type 0 = λ b. ReadsVal own b (Indexed i) rest in
       subst P (sym (append_assoc (pick 2 1) said rest))
       (either_index (reads-pick 2 1 (said ++ rest) (omega arith) (omega arith))
-      (among_read nat_eq Decides-eqb (defined_places own) i found.0 rest (omega (arith, length-places is_defined 0 own.types)) found.1))
+      (among_read nat_eq Decides-eqb (value_places own) i found.0 rest (omega (arith, length-marked_places is_value 0 own.types own.marks)) found.1))
 
-  maybe_read : (v : Option ComponentValType) (rest : List ℕ) → FormedMaybe own v → ReadsMaybe own (script_maybe own v ++ rest) v rest
+  maybe_read : (v : Option ComponentValType) (rest : List ℕ) → IsMaybe own v → ReadsMaybe own (script_maybe own v ++ rest) v rest
   maybe_read None rest f = absent (flips_zero rest)
-  maybe_read (Some v) rest f = present (flips_one (script_val own v ++ rest)) (val_read v rest f)
+  maybe_read (Some v) rest f = present (flips_one (script_val own v ++ rest)) (val_read v rest (f.0, f.1.0))
 
-  field_read : (so_far : List Field) (x : Field) (rest : List ℕ) → IsReady (λ y. y.0) (λ y. FormedVal own y.1) so_far x
+  field_read : (so_far : List Field) (x : Field) (rest : List ℕ) → IsReady (λ y. y.0) (λ y. IsValue own y.1) so_far x
       → ReadsNamed (ReadsVal own) so_far (script_field own (length so_far) x ++ rest) x rest
-  field_read so_far x rest r = named_read (ReadsVal own) (script_val own) (FormedVal own) val_read so_far x rest r
+  field_read so_far x rest r = named_read (ReadsVal own) (script_val own) (IsValue own) val_read so_far x rest r
 
-  case_read : (so_far : List Case) (x : Case) (rest : List ℕ) → IsReady (λ y. y.0) (λ y. FormedMaybe own y.1) so_far x
+  case_read : (so_far : List Case) (x : Case) (rest : List ℕ) → IsReady (λ y. y.0) (λ y. IsMaybe own y.1) so_far x
       → ReadsNamed (ReadsMaybe own) so_far (script_case own (length so_far) x ++ rest) x rest
-  case_read so_far x rest r = named_read (ReadsMaybe own) (script_maybe own) (FormedMaybe own) maybe_read so_far x rest r
+  case_read so_far x rest r = named_read (ReadsMaybe own) (script_maybe own) (IsMaybe own) maybe_read so_far x rest r
 
-  vals_ready : (vs so_far : List ComponentValType) → AllByRecursion (FormedVal own) vs → Ready (λ so_far. FormedVal own) so_far vs
+  vals_ready : (vs so_far : List ComponentValType) → AllByRecursion (IsValue own) vs → Ready (λ so_far. IsValue own) so_far vs
   vals_ready [] so_far all = tt
   vals_ready (v ∷ vs) so_far all = (all.0, vals_ready vs (so_far ++ v ∷ []) all.1)
 
@@ -154,7 +157,8 @@ module _ (own : Scope) (few : length own.types ≤ 2 ^ 64) where
   some_members of (x ∷ xs) h = refl
 
   -- a type of members, each of which its script says
-  made_members : {A : Type 0} (Member : List A → List ℕ → A → List ℕ → Type 0) (f : ℕ → A → List ℕ) (P : List A → A → Type 0) (max : ℕ) (of : List A → DefValType)
+  made_members : {A : Type 0} (Member : List A → List ℕ → A → List ℕ → Type 0) (f : ℕ → A → List ℕ) (P : List A → A → Type 0) (max : ℕ)
+      (of : List A → DefValType)
       → ((so_far : List A) (x : A) (rest : List ℕ) → P so_far x → Member so_far (f (length so_far) x ++ rest) x rest)
       → (xs : List A) (fuel : ℕ) (rest : List ℕ) → Ready P [] xs → 1 ≤ length xs → length xs ≤ max → length xs + 1 ≤ fuel
       → (left : ℕ) × (left + length xs ≡ fuel) × MadeMembers Member max of (script_members f 1 max xs ++ rest) fuel (of xs) rest left
@@ -170,52 +174,54 @@ module _ (own : Scope) (few : length own.types ≤ 2 ^ 64) where
       made_members (ReadsNew 100) script_label (IsReady (λ y. y) (λ y. Unit {0})) max of label_read ns fuel rest
       (named_ready (λ y. y) (λ y. Unit {0}) ns (subst Named same n) (subst AreReadableNames same r) (all_unit ns)) some most lasts
 
-  defined_read : (fuel : ℕ) (t : DefValType) (rest : List ℕ) → FormedDefined t own → IsReadableDefined t → LastsDefined (fuel + 1) t
+  defined_read : (fuel : ℕ) (t : DefValType) (rest : List ℕ) → IsDefined own t → IsReadableDefined t → LastsDefined (fuel + 1) t
       → (left : ℕ) × (left + defined_size t ≡ fuel) × MadeDefined own (script_defined own t ++ rest) fuel t rest left
   defined_read fuel (primitive_type p) rest f n l = (fuel, omega arith, kind_read own kind.Primitive _ rest fuel _ fuel (p, primitive_read p rest, refl, refl))
   defined_read fuel (record_type fs) rest f n l =
-      let r = made_members (ReadsNamed (ReadsVal own)) (script_field own) (IsReady (λ y. y.0) (λ y. FormedVal own y.1)) 100 record_type field_read fs fuel rest
-      (named_ready (λ y. y.0) (λ y. FormedVal own y.1) fs f.0 n f.1) f.2 f.3 (omega (arith, l)) in
+      let r = made_members (ReadsNamed (ReadsVal own)) (script_field own) (IsReady (λ y. y.0) (λ y. IsValue own y.1)) 100 record_type field_read fs fuel rest
+      (named_ready (λ y. y.0) (λ y. IsValue own y.1) fs f.0.0 n (fields_are own fs f.0.1 f.1)) f.0.2 f.0.3 (omega (arith, l)) in
       (r.0, r.1, kind_read own kind.Record _ rest fuel _ r.0 r.2)
   defined_read fuel (variant_type cs) rest f n l =
-      let r = made_members (ReadsNamed (ReadsMaybe own)) (script_case own) (IsReady (λ y. y.0) (λ y. FormedMaybe own y.1)) 100 variant_type case_read cs fuel
-      rest (named_ready (λ y. y.0) (λ y. FormedMaybe own y.1) cs f.0 n f.1) f.2 f.3 (omega (arith, l)) in
+      let r = made_members (ReadsNamed (ReadsMaybe own)) (script_case own) (IsReady (λ y. y.0) (λ y. IsMaybe own y.1)) 100 variant_type case_read cs fuel
+      rest (named_ready (λ y. y.0) (λ y. IsMaybe own y.1) cs f.0.0 n (cases_are own cs f.0.1 f.1)) f.0.2 f.0.3 (omega (arith, l)) in
       (r.0, r.1, kind_read own kind.Variant _ rest fuel _ r.0 r.2)
-  defined_read fuel (list_type v) rest f n l = (fuel, omega arith, kind_read own kind.List _ rest fuel _ fuel (v, val_read v rest f, refl, refl))
+  defined_read fuel (list_type v) rest f n l = (fuel, omega arith, kind_read own kind.List _ rest fuel _ fuel (v, val_read v rest (f.0, f.1.0), refl, refl))
   defined_read fuel (tuple_type vs) rest f n l =
-      let r = made_members (λ so_far. ReadsVal own) (λ count v. script_val own v) (λ so_far. FormedVal own) 100 tuple_type (λ so_far v more h. val_read v more h) vs fuel
-      rest (vals_ready vs [] f.0) f.1 f.2 (omega (arith, l)) in
+      let r = made_members (λ so_far. ReadsVal own) (λ count v. script_val own v) (λ so_far. IsValue own) 100 tuple_type
+      (λ so_far v more h. val_read v more h) vs fuel
+      rest (vals_ready vs [] (values_are own vs f.0.0 f.1)) f.0.1 f.0.2 (omega (arith, l)) in
       (r.0, r.1, kind_read own kind.Tuple _ rest fuel _ r.0 r.2)
   defined_read fuel (flags_type ns) rest f n l =
-      let r = labels_made 32 flags_type ns fuel rest f.0 n f.1 f.2 (omega (arith, l)) in
+      let r = labels_made 32 flags_type ns fuel rest f.0.0 n f.0.1 f.0.2 (omega (arith, l)) in
       (r.0, r.1, kind_read own kind.Flags _ rest fuel _ r.0 r.2)
   defined_read fuel (enum_type ns) rest f n l =
-      let r = labels_made 100 enum_type ns fuel rest f.0 n f.1 f.2 (omega (arith, l)) in
+      let r = labels_made 100 enum_type ns fuel rest f.0.0 n f.0.1 f.0.2 (omega (arith, l)) in
       (r.0, r.1, kind_read own kind.Enum _ rest fuel _ r.0 r.2)
-  defined_read fuel (option_type v) rest f n l = (fuel, omega arith, kind_read own kind.Option _ rest fuel _ fuel (v, val_read v rest f, refl, refl))
+  defined_read fuel (option_type v) rest f n l = (fuel, omega arith, kind_read own kind.Option _ rest fuel _ fuel (v, val_read v rest (f.0, f.1.0), refl, refl))
   defined_read fuel (result_type ok err) rest f n l =
+      let here : IsMaybe own ok = (f.0.0, all_front (OfferedValue own) (option_to_list ok) (option_to_list err) f.1) in
+      let there : IsMaybe own err = (f.0.1, all_back (OfferedValue own) (option_to_list ok) (option_to_list err) f.1) in
       let first : List ℕ = script_maybe own ok in
       let second : List ℕ = script_maybe own err in
       let P : List ℕ → Type 0 = λ b. MadeAs own kind.Result b fuel (result_type ok err) rest fuel in
-      let made : P (first ++ (second ++ rest)) = (ok, second ++ rest, maybe_read ok (second ++ rest) f.0, err, maybe_read err rest f.1, refl, refl) in
+      let made : P (first ++ (second ++ rest)) = (ok, second ++ rest, maybe_read ok (second ++ rest) here, err, maybe_read err rest there, refl, refl) in
       (fuel, omega arith, kind_read own kind.Result (first ++ second) rest fuel _ fuel (subst P (sym (append_assoc first second rest)) made))
 
   -- functions
 
-  pub one_all : (r : Option ComponentValType) → FormedMaybe own r → AllByRecursion (FormedVal own) (option_to_list r)
-  one_all None f = tt
-  one_all (Some v) f = (f, tt)
-
-  function_read : (outer : List Scope) (fuel : ℕ) (s : Signature) (rest : List ℕ) → FormedEntry (function s) own outer
+  function_read : (outer : List Marked) (fuel : ℕ) (s : Signature) (rest : List ℕ) → IsType (function s) own outer
       → AreReadableNames (map (λ p. p.0) s.params) → size (function s) + 2 ≤ fuel + 1
       → (left : ℕ) × (left + size (function s) ≡ fuel) × MadeFunction own (script_signature own s ++ rest) fuel s rest left
   function_read outer fuel s rest f n l =
+      let params = fields_are own s.params f.0.1 (all_front (OfferedValue own) (map (λ p. p.1) s.params) (option_to_list s.result) f.1) in
+      let result = one_are own s.result (f.0.3, all_back (OfferedValue own) (map (λ p. p.1) s.params) (option_to_list s.result) f.1) in
       let said : List ℕ = script_members (script_field own) 0 16 s.params in
       let gives : List ℕ = script_members (λ count v. script_val own v) 0 1 (option_to_list s.result) in
-      let p = members_read {min = 0} {max = 16} (ReadsNamed (ReadsVal own)) (script_field own) (IsReady (λ y. y.0) (λ y. FormedVal own y.1)) field_read s.params
-      fuel (gives ++ rest) (named_ready (λ y. y.0) (λ y. FormedVal own y.1) s.params f.0 n f.1) (omega arith) f.2 (omega (arith, l)) in
-      let g = members_read {min = 0} {max = 1} (λ so_far. ReadsVal own) (λ count v. script_val own v) (λ so_far. FormedVal own) (λ so_far v more h. val_read v more h)
-      (option_to_list s.result) p.0 rest (vals_ready (option_to_list s.result) [] (one_all s.result f.3)) (omega arith) (one_at_most s.result)
+      let p = members_read {min = 0} {max = 16} (ReadsNamed (ReadsVal own)) (script_field own) (IsReady (λ y. y.0) (λ y. IsValue own y.1)) field_read s.params
+      fuel (gives ++ rest) (named_ready (λ y. y.0) (λ y. IsValue own y.1) s.params f.0.0 n params) (omega arith) f.0.2 (omega (arith, l)) in
+      let g = members_read {min = 0} {max = 1} (λ so_far. ReadsVal own) (λ count v. script_val own v) (λ so_far. IsValue own)
+      (λ so_far v more h. val_read v more h)
+      (option_to_list s.result) p.0 rest (vals_ready (option_to_list s.result) [] result) (omega arith) (one_at_most s.result)
       (omega (arith, p.1, l)) in
       let P : List ℕ → Type 0 = λ b. MadeFunction own b fuel s rest g.0 in
       (g.0, omega (arith, p.1, g.1), subst P (sym (append_assoc said gives rest)) (record { mid = gives ++ rest; held = p.0; takes = p.2; gives = g.2 }))
@@ -223,7 +229,8 @@ module _ (own : Scope) (few : length own.types ≤ 2 ^ 64) where
   -- types
 
   -- a type of values with fuel for two turns, and with less
-  pub values_read : (config : Config) (outer : List Scope) (fuel : ℕ) (t : DefValType) (rest : List ℕ) → FormedDefined t own → IsReadableDefined t → LastsDefined fuel t → (b : Bool)
+  pub values_read : (config : Config) (outer : List Marked) (fuel : ℕ) (t : DefValType) (rest : List ℕ) → IsDefined own t → IsReadableDefined t
+      → LastsDefined fuel t → (b : Bool)
       → nat_le 2 fuel ≡ b
       → Made config own outer ((if b then script_type_kind Defined else []) ++ (script_defined own t ++ rest)) fuel (defined t) rest (fuel - cost (defined t))
   values_read config outer fuel t rest f n l true h =
@@ -251,7 +258,7 @@ module _ (own : Scope) (few : length own.types ≤ 2 ^ 64) where
       lasts_less fuel (result_type ok err) less l = tt
 
   -- What the script of a type of values or of functions says is made of it, and the rest is left.
-  pub type_values : (config : Config) (outer : List Scope) (fuel : ℕ) (t : DefValType) (rest : List ℕ) → FormedDefined t own → IsReadableDefined t
+  pub type_values : (config : Config) (outer : List Marked) (fuel : ℕ) (t : DefValType) (rest : List ℕ) → IsDefined own t → IsReadableDefined t
       → LastsDefined fuel t
       → Made config own outer (script_type (defined t) config fuel own outer ++ rest) fuel (defined t) rest (fuel - cost (defined t))
   type_values config outer fuel t rest f n l =
@@ -259,7 +266,7 @@ module _ (own : Scope) (few : length own.types ≤ 2 ^ 64) where
       subst P (sym (append_assoc (if nat_le 2 fuel then script_type_kind Defined else []) (script_defined own t) rest))
       (values_read config outer fuel t rest f n l (nat_le 2 fuel) refl)
 
-  pub type_function : (config : Config) (outer : List Scope) (fuel : ℕ) (s : Signature) (rest : List ℕ) → FormedEntry (function s) own outer
+  pub type_function : (config : Config) (outer : List Marked) (fuel : ℕ) (s : Signature) (rest : List ℕ) → IsType (function s) own outer
       → AreReadableNames (map (λ p. p.0) s.params) → size (function s) + 2 ≤ fuel
       → Made config own outer (script_type (function s) config fuel own outer ++ rest) fuel (function s) rest (fuel - cost (function s))
   type_function config outer fuel s rest f names lasts =

@@ -6,7 +6,7 @@ use Rattle.smith_input.specs.Names.{ReadsNew}
 use Rattle.smith_input.specs.Reading.{Reads, Flips}
 use Rattle.smith_format.specs.declared.config.Config.{Config}
 use Rattle.smith_syntax.specs.Entries.{FullDecl, import_decl, export_decl}
-use Rattle.smith_syntax.specs.Scope.{Scope, empty_scope, after_decl}
+use Rattle.smith_syntax.specs.Marked.{Marked, empty_marked, first_marked, marked_after}
 use Rattle.smith_syntax.specs.declared.deftype.ComponentTypeRef.{ComponentTypeRef}
 use Rattle.smith_syntax.specs.WellFormed.{import_of, export_of, names}
 use Rattle.smith_types.specs.References.{ReadsRef}
@@ -19,16 +19,16 @@ NamedExtern = List ℕ × Option (List ℕ)
 
 -- What a component type or an instance type has so far: its scope, and the names of what it imports and exports, each with its URL.
 pub record SoFar : Type 0 where
-  pub own : Scope
+  pub own : Marked
   pub imports : List NamedExtern
   pub exports : List NamedExtern
 
-abbrev pub nothing_so_far : SoFar
-nothing_so_far = record { own = empty_scope; imports = []; exports = [] }
+abbrev pub nothing_so_far : List Marked → SoFar
+nothing_so_far outer = record { own = empty_marked (first_marked outer).keeps; imports = []; exports = [] }
 
 -- with one declaration more
-abbrev pub after_one : List Scope → SoFar → FullDecl → SoFar
-after_one outer s d = record { own = after_decl outer s.own d; imports = s.imports ++ import_of d; exports = s.exports ++ export_of d }
+abbrev pub after_one : List Marked → SoFar → FullDecl → SoFar
+after_one outer s d = record { own = marked_after d outer s.own; imports = s.imports ++ import_of d; exports = s.exports ++ export_of d }
 
 -- what stands in a URL after the host
 abbrev pub url_name : Option (List ℕ) → List (List ℕ)
@@ -51,17 +51,17 @@ pub record ReadsNamedExtern (so_far : List NamedExtern) (bytes : List ℕ) (x : 
   pub url : ReadsMaybeUrl (url_names so_far) mid x.1 rest
 
 -- An outer alias: a choice of a scope that has an entry, and of an entry of it. It keeps what it names.
-pub record ReadsAlias (scopes : List Scope) (bytes : List ℕ) (d : FullDecl) (rest : List ℕ) : Type 0 where
+pub record ReadsAlias (scopes : List Marked) (bytes : List ℕ) (d : FullDecl) (rest : List ℕ) : Type 0 where
   pub count : ℕ
   pub mid : List ℕ
-  pub scope : Scope
+  pub scope : Marked
   pub choice : ReadsAmong (occupied scopes) bytes count mid
   pub stands : slice_get scopes count ≡ Some scope
   pub names : ReadsAmong (aliases_of count scope) mid d rest
 
 -- No import is declared: in an instance type; and in a component type where there is nothing to name, where the choice of four does
 -- not ask for an import, and where it does but none can be had.
-pub data NoImportDecl (config : Config) (importing : Bool) (own : Scope) : List ℕ → List ℕ → Type 0 where
+pub data NoImportDecl (config : Config) (importing : Bool) (own : Marked) : List ℕ → List ℕ → Type 0 where
   in_instance : {bytes : List ℕ} → importing ≡ false → NoImportDecl config importing own bytes bytes
   nothing_there : {bytes : List ℕ} → importing ≡ true → has_reference own ≡ false → NoImportDecl config importing own bytes bytes
   not_asked : {bytes rest : List ℕ} {k : ℕ} → importing ≡ true → has_reference own ≡ true → Reads 4 bytes k rest → 0 < k
@@ -70,7 +70,7 @@ pub data NoImportDecl (config : Config) (importing : Bool) (own : Scope) : List 
       → NoImportDecl config importing own bytes rest
 
 -- An import: where there is something to name, one of four choices, what it is of, and its name.
-pub record ReadsImportDecl (config : Config) (own : Scope) (imports : List NamedExtern) (bytes : List ℕ) (d : FullDecl) (rest : List ℕ) : Type 0 where
+pub record ReadsImportDecl (config : Config) (own : Marked) (imports : List NamedExtern) (bytes : List ℕ) (d : FullDecl) (rest : List ℕ) : Type 0 where
   pub mid : List ℕ
   pub low : List ℕ
   pub to : ComponentTypeRef
@@ -82,7 +82,7 @@ pub record ReadsImportDecl (config : Config) (own : Scope) (imports : List Named
   pub is : d ≡ import_decl named.0 named.1 to
 
 -- An export: what it is of, and its name.
-pub record ReadsExportDecl (config : Config) (own : Scope) (exports : List NamedExtern) (bytes : List ℕ) (d : FullDecl) (rest : List ℕ) : Type 0 where
+pub record ReadsExportDecl (config : Config) (own : Marked) (exports : List NamedExtern) (bytes : List ℕ) (d : FullDecl) (rest : List ℕ) : Type 0 where
   pub mid : List ℕ
   pub to : ComponentTypeRef
   pub named : NamedExtern

@@ -2,21 +2,21 @@
 use Rattle.std.specs.Prelude.{◌≡◌, ℕ, ◌<◌, ◌≤◌, Bool, true, false, List, [], ◌∷◌, ◌++◌, drop, length, map, reverse, Option, None, Some, string_bytes}
 use Rattle.smith_format.specs.declared.config.Config.{Config}
 use Rattle.smith_input.specs.Names.{Holds}
-use Rattle.smith_syntax.specs.Entries.{Kept, keeps_type, keeps_core_type, import_decl, export_decl, type_alias, core_type_alias, Signature, CoreEntry}
+use Rattle.smith_syntax.specs.Entries.{Entry, keeps_type, keeps_core_type, import_decl, export_decl, type_alias, core_type_alias, Signature, CoreEntry}
 use Rattle.smith_syntax.specs.Entries.{DefValType, FullEntry, FullDecl, FullDecls, defined, function, component_type, instance_type, core_type_decl, type_decl}
-use Rattle.smith_syntax.specs.Entries.{then_decls, keeps_functions}
-use Rattle.smith_syntax.specs.Scope.{Scope, with_type, with_core_type, with_types, after_decl, exported_type}
+use Rattle.smith_syntax.specs.Entries.{in_order, then_decls, keeps_functions}
+use Rattle.smith_syntax.specs.Marked.{Marked, mark, marked_after, marked_after_all, scope_in, scopes_in_marked}
+use Rattle.smith_syntax.specs.Scope.{core_type_named, type_named}
+use Rattle.smith_syntax.specs.declared.marks.Mark.{Mark}
 use Rattle.smith_syntax.specs.Shown.{shown_url}
 use Rattle.smith_syntax.specs.ShownDecls.{full_component_decl, full_instance_decl}
 use Rattle.smith_syntax.specs.WellFormed.{names, import_of, export_of}
-use Rattle.smith_syntax.specs.declared.deftype.ComponentTypeRef.{ComponentTypeRef}
 use Rattle.smith_syntax.specs.declared.deftype.Import.{Import}
-use Rattle.std.specs.Option.{option_to_list}
 use Rattle.smith_types.specs.Declarations.{NamedExtern, SoFar, after_one, nothing_so_far, ReadsAlias, ReadsExportDecl, ReadsImportDecl, NoImportDecl, url_names}
-use Rattle.smith_tree.specs.TypeOffers.{has_reference, occupied}
+use Rattle.smith_tree.specs.TypeOffers.{has_export, occupied}
 use Rattle.smith_types.specs.Made.{Made, MadeDeclaration, MadeDefined, MadeFunction, MadeDeclarations}
 use Rattle.smith_core_types.specs.MadeCore.{MadeCore, named_by_core}
-use Rattle.smith_scopes.specs.Scopes.{Contents, own_scope, outer_scopes}
+use Rattle.smith_scopes.specs.Scopes.{Contents, own_marked, outer_marked}
 use Rattle.smith_tree.specs.declared.choices.TypeKind.{TypeKind}
 use Rattle.smith_tree.specs.declared.choices.TypeKind.TheVariants as kind
 use Rattle.smith_tree.specs.declared.choices.DeclarationItem.{DeclarationItem}
@@ -31,34 +31,34 @@ declaring true ds = component_type ds
 declaring false ds = instance_type ds
 
 -- a type that declares in a scope of its own
-abbrev pub MadeScoped : Config → Scope → List Scope → Bool → List ℕ → ℕ → FullEntry → List ℕ → ℕ → Type 0
+abbrev pub MadeScoped : Config → Marked → List Marked → Bool → List ℕ → ℕ → FullEntry → List ℕ → ℕ → Type 0
 MadeScoped config own outer importing b fuel e rest left = (ds : FullDecls)
-    × MadeDeclarations config importing (own ∷ outer) 0 nothing_so_far b fuel ds rest left × (e ≡ declaring importing ds)
+    × MadeDeclarations config importing (own ∷ outer) 0 (nothing_so_far (own ∷ outer)) b fuel ds rest left × (e ≡ declaring importing ds)
 
 -- a type of a kind
-abbrev pub MadeKind : Config → Scope → List Scope → TypeKind → List ℕ → ℕ → FullEntry → List ℕ → ℕ → Type 0
+abbrev pub MadeKind : Config → Marked → List Marked → TypeKind → List ℕ → ℕ → FullEntry → List ℕ → ℕ → Type 0
 MadeKind config own outer kind.Defined b fuel e rest left = (t : DefValType) × MadeDefined own b fuel t rest left × (e ≡ defined t)
 MadeKind config own outer kind.Function b fuel e rest left = (s : Signature) × MadeFunction own b fuel s rest left × (e ≡ function s)
 MadeKind config own outer kind.Component b fuel e rest left = MadeScoped config own outer true b fuel e rest left
 MadeKind config own outer kind.Instance b fuel e rest left = MadeScoped config own outer false b fuel e rest left
 
 -- a declaration of a sort
-abbrev pub MadeItem : Config → Scope → List Scope → List NamedExtern → DeclarationItem → List ℕ → ℕ → FullDecl → List ℕ → ℕ → Type 0
+abbrev pub MadeItem : Config → Marked → List Marked → List NamedExtern → DeclarationItem → List ℕ → ℕ → FullDecl → List ℕ → ℕ → Type 0
 MadeItem config own outer exports item.Export b fuel d rest left = ReadsExportDecl config own exports b d rest × (left ≡ fuel)
 MadeItem config own outer exports item.Alias b fuel d rest left = ReadsAlias (own ∷ outer) b d rest × (left ≡ fuel)
-MadeItem config own outer exports item.CoreType b fuel d rest left = (c : CoreEntry) × MadeCore config own b fuel c rest left
+MadeItem config own outer exports item.CoreType b fuel d rest left = (c : CoreEntry) × MadeCore config (scope_in own) b fuel c rest left
     × (d ≡ core_type_decl c (keeps_functions (named_by_core own.core_types c)))
 MadeItem config own outer exports item.«Type» b fuel d rest left = (e : FullEntry) × Made config own outer b fuel e rest left × (d ≡ type_decl e)
 
 -- what a declaration needs: an export and an outer alias something to name, and a type that one more scope may nest
-abbrev pub HasTarget : Config → Scope → List Scope → DeclarationItem → Type 0
-HasTarget config own outer item.Export = has_reference own ≡ true
+abbrev pub HasTarget : Config → Marked → List Marked → DeclarationItem → Type 0
+HasTarget config own outer item.Export = has_export own ≡ true
 HasTarget config own outer item.Alias = 0 < length (occupied (own ∷ outer))
 HasTarget config own outer item.CoreType = Unit {0}
 HasTarget config own outer item.«Type» = length (own ∷ outer) < config.max_nesting_depth
 
 -- an import, or none of the sort that no import is declared
-abbrev pub MaybeImport : Config → Scope → List NamedExtern → List ℕ → Option FullDecl → List ℕ → Type 0
+abbrev pub MaybeImport : Config → Marked → List NamedExtern → List ℕ → Option FullDecl → List ℕ → Type 0
 MaybeImport config own imports b None rest = NoImportDecl config true own b rest
 MaybeImport config own imports b (Some d) rest = ReadsImportDecl config own imports b d rest
 
@@ -71,24 +71,6 @@ shown_import_decl (Some i) = Some (import_decl (string_bytes i.name) (shown_url 
 abbrev pub imported_by : Option FullDecl → List NamedExtern
 imported_by None = []
 imported_by (Some d) = import_of d
-
--- the scope with the type that an export adds to it
-abbrev pub with_exported : Scope → ComponentTypeRef → Scope
-with_exported own r = with_types own (option_to_list (exported_type own r))
-
--- the scope with what an outer alias keeps
-abbrev pub with_kept : Scope → Kept → Scope
-with_kept own (keeps_type e) = with_type own e
-with_kept own (keeps_core_type e) = with_core_type own e
-with_kept own (keeps_functions fs) = own
-
-abbrev pub with_aliased : Scope → FullDecl → Scope
-with_aliased own (core_type_decl t k) = own
-with_aliased own (type_decl e) = own
-with_aliased own (type_alias count i k) = with_kept own k
-with_aliased own (core_type_alias count i k) = with_kept own k
-with_aliased own (import_decl name n r) = own
-with_aliased own (export_decl name n r) = own
 
 -- the sets have the names so far, and those in the URLs so far
 abbrev pub HoldsExterns : ExternNames → List NamedExtern → Type 0
@@ -106,11 +88,24 @@ pub record SameOuter (old new : List Contents) : Type 0 where
 
 -- The last scope is as the declaration leaves it.
 pub record Declares (old new : List Contents) (d : FullDecl) : Type 0 where
-  pub own : own_scope new ≡ after_decl (outer_scopes old) (own_scope old) d
-  pub outer : outer_scopes new ≡ outer_scopes old
+  pub own : own_marked new ≡ marked_after d (outer_marked old) (own_marked old)
+  pub outer : outer_marked new ≡ outer_marked old
+
+-- An outer alias keeps what it names.
+abbrev pub IsAliased : List Marked → FullDecl → Type 0
+IsAliased scopes (core_type_decl t k) = ⊥
+IsAliased scopes (type_decl e) = ⊥
+IsAliased scopes (type_alias count i k) = (e : Entry) × (k ≡ keeps_type e) × (type_named (scopes_in_marked scopes) count i ≡ Some e)
+IsAliased scopes (core_type_alias count i k) = (e : CoreEntry) × (k ≡ keeps_core_type e) × (core_type_named (scopes_in_marked scopes) count i ≡ Some e)
+IsAliased scopes (import_decl name n r) = ⊥
+IsAliased scopes (export_decl name n r) = ⊥
+
+-- The mark is that of the type in these scopes, where marks are kept.
+abbrev pub IsMarkOf : List Contents → FullEntry → Mark → Type 0
+IsMarkOf scopes e m = (own_marked scopes).keeps ≡ true → m ≡ mark e (own_marked scopes) (outer_marked scopes)
 
 -- There are at most so many types and core types.
-pub record HasAtMost (n : ℕ) (own : Scope) : Type 0 where
+pub record HasAtMost (n : ℕ) (own : Marked) : Type 0 where
   pub types : length own.types ≤ n
   pub core_types : length own.core_types ≤ n
 
@@ -137,20 +132,21 @@ HoldsNames (Instance exports defs) so_far = HoldsExterns exports so_far.exports
 pub record AddsDeclaration (config : Config) (scopes next : List Contents) (so_far : SoFar) (old new : TypeBody) (bytes : List ℕ) (fuel : ℕ) (rest : List ℕ)
     (left : ℕ) : Type 0 where
   pub added : FullDecl
-  pub made : MadeDeclaration config (is_importing old) (outer_scopes scopes) so_far bytes fuel added rest left
+  pub made : MadeDeclaration config (is_importing old) (outer_marked scopes) so_far bytes fuel added rest left
   pub declares : Declares scopes next added
-  pub names : HoldsNames new (after_one (outer_scopes scopes) so_far added)
+  pub names : HoldsNames new (after_one (outer_marked scopes) so_far added)
   pub defs : defs_in new ≡ defs_in old ++ added ∷ []
   pub of : is_importing new ≡ is_importing old
 
 -- A loop of declarations after so many turns: what completes the declarations from here completes all of them.
-pub record Progress (config : Config) (importing : Bool) (outer : List Scope) (start : List ℕ) (first_fuel done : ℕ) (scopes : List Contents)
+pub record Progress (config : Config) (importing : Bool) (outer : List Marked) (start : List ℕ) (first_fuel done : ℕ) (scopes : List Contents)
     (declared : TypeBody) (bytes : List ℕ) (fuel : ℕ) : Type 0 where
   pub so_far : SoFar
   pub of : is_importing declared ≡ importing
-  pub own_is : own_scope scopes ≡ so_far.own
-  pub outer_is : outer_scopes scopes ≡ outer
+  pub own_is : own_marked scopes ≡ so_far.own
+  pub outer_is : outer_marked scopes ≡ outer
   pub names : HoldsNames declared so_far
   pub few : HasAtMost done so_far.own
+  pub closed : so_far.own ≡ marked_after_all (in_order (defs_in declared)) outer (nothing_so_far outer).own
   pub onward : (ds : FullDecls) (rest : List ℕ) (left : ℕ) → MadeDeclarations config importing outer done so_far bytes fuel ds rest left
-      → MadeDeclarations config importing outer 0 nothing_so_far start first_fuel (onto (defs_in declared) ds) rest left
+      → MadeDeclarations config importing outer 0 (nothing_so_far outer) start first_fuel (onto (defs_in declared) ds) rest left

@@ -6,7 +6,8 @@ use Rattle.smith_format.specs.declared.config.Config.{Config}
 use Rattle.smith_syntax.specs.Entries.{DefValType, primitive_type, record_type, variant_type, list_type, tuple_type, flags_type, enum_type, option_type}
 use Rattle.smith_syntax.specs.Entries.{result_type, Entry, defined, function, component_type, instance_type}
 use Rattle.smith_syntax.specs.Entries.{Decl, Decls, core_type_decl, type_decl, type_alias, core_type_alias, import_decl, export_decl, no_decls, then_decls}
-use Rattle.smith_syntax.specs.Scope.{Scope}
+use Rattle.smith_syntax.specs.Marked.{Marked, scope_in, scopes_in_marked}
+use Rattle.smith_syntax.specs.Usable.{OfferedEntry}
 use Rattle.smith_syntax.specs.TypeLimits.{EntryLimits}
 use Rattle.smith_syntax.specs.WellFormed.{FormedEntry, size}
 use Rattle.smith_tree.specs.TypeNeeds.{decl_cost}
@@ -45,14 +46,15 @@ abbrev mutual
   LastsDecls (then_decls d ds) config scopes fuel = (2 ≤ fuel) × LastsDecl d config scopes (fuel - 1) × LastsDecls ds config scopes (fuel - 1 - decl_cost d)
 
 -- A choice among the scopes can be spelled, and one among what stands in each.
-pub record Fit (scopes : List Scope) : Type 0 where
+pub record Fit (scopes : List Marked) : Type 0 where
   pub many : length scopes ≤ 2 ^ 64
   pub each : AllByRecursion (λ s. length s.types + length s.core_types ≤ 2 ^ 64) scopes
 
--- What a script can say of a type where these scopes stand and so much fuel is left: it is well formed in them and within the limits, its
--- names can be read, the fuel lasts for it, and each choice in it can be spelled.
-pub record IsSayable (config : Config) (own : Scope) (outer : List Scope) (fuel : ℕ) (e : Entry) : Type 0 where
-  pub formed : FormedEntry e own outer
+-- What a script can say of a type where these scopes stand and so much fuel is left: it is well formed in them, all that it names is
+-- offered, it is within the limits, its names can be read, the fuel lasts for it, and each choice in it can be spelled.
+pub record IsSayable (config : Config) (own : Marked) (outer : List Marked) (fuel : ℕ) (e : Entry) : Type 0 where
+  pub formed : FormedEntry e (scope_in own) (scopes_in_marked outer)
+  pub offered : OfferedEntry e own outer
   pub limits : EntryLimits config e
   pub readable : IsReadableType e
   pub lasts : Lasts e config (length (own ∷ outer)) fuel

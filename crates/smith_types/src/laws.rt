@@ -5,16 +5,16 @@ ghost use Rattle.std.specs.Prelude.{nat_eq};
 ghost use Rattle.smith_format.specs.declared.config.Config.{Config};
 ghost use Rattle.smith_input.specs.Reading.{IsDecided, IsReadAs};
 ghost use Rattle.smith_input.specs.Script.{AreBytes, script_among};
-ghost use Rattle.smith_tree.specs.CoreTypeNeeds.{core_need};
-ghost use Rattle.smith_syntax.specs.Entries.{CoreEntry, Entry, FullEntry, plain};
-ghost use Rattle.smith_syntax.specs.Scope.{Scope, is_component, is_core_module, is_func, is_instance};
-ghost use Rattle.smith_syntax.specs.Places.{places};
+ghost use Rattle.smith_syntax.specs.Entries.{Entry, FullEntry, plain};
+ghost use Rattle.smith_syntax.specs.Marked.{Marked, scope_in, scopes_in_marked};
+ghost use Rattle.smith_syntax.specs.Usable.{OfferedEntry, OfferedRef};
 ghost use Rattle.smith_syntax.specs.TypeLimits.{EntryLimits};
-ghost use Rattle.smith_syntax.specs.WellFormed.{FormedEntry, FormedRef, core_size, size};
+ghost use Rattle.smith_syntax.specs.WellFormed.{FormedEntry, FormedRef};
 ghost use Rattle.smith_syntax.specs.declared.deftype.ComponentTypeRef.TheVariants.{Func};
 ghost use Rattle.smith_types.specs.Made.{Made, MadeWith};
 ghost use Rattle.smith_tree.specs.TypeNeeds.{declaring, need};
-ghost use Rattle.smith_tree.specs.TypeOffers.{IsAllowed};
+ghost use Rattle.smith_tree.specs.TypeOffers.{IsAllowed, has_room, ref_places};
+ghost use Rattle.smith_tree.specs.declared.choices.RefKind.TheVariants as ref;
 ghost use Rattle.smith_tree.specs.ReadableTypes.{IsReadableType};
 ghost use Rattle.smith_types.specs.Sayable.{Fit, IsSayable};
 ghost use Rattle.smith_tree.specs.TypeScript.{script_ref, script_type};
@@ -29,39 +29,39 @@ pub use smith_tree::laws::sizes_are_needed;
 /// The limits, the scopes, the bytes and the fuel alone decide which type is made, with its URLs and what its aliases
 /// keep, and what is left of both.
 pub fn types_are_decided()
-    ensures { (config : Config) (own : Scope) (outer : List Scope) (fuel : ℕ)
+    ensures { (config : Config) (own : Marked) (outer : List Marked) (fuel : ℕ)
         → IsDecided (λ bytes (made : FullEntry × ℕ) rest. Made config own outer bytes fuel made.0 rest made.1) }
 {}
 
 /// The script of a type that is well formed in its scopes and within the limits, whose names can be read, and for which
 /// the fuel lasts, is read as that type.
 pub fn scripts_are_read()
-    ensures { (config : Config) (own : Scope) (outer : List Scope) (fuel : ℕ) (e : Entry)
+    ensures { (config : Config) (own : Marked) (outer : List Marked) (fuel : ℕ) (e : Entry)
         → config.max_nesting_depth ≤ 1000 → IsSayable config own outer fuel e
         → IsReadAs (MadeWith config own outer fuel) (script_type e config fuel own outer) e }
 {}
 
 /// The script of such a type is bytes.
 pub fn type_scripts_are_bytes()
-    ensures { (config : Config) (own : Scope) (outer : List Scope) (fuel : ℕ) (e : Entry)
+    ensures { (config : Config) (own : Marked) (outer : List Marked) (fuel : ℕ) (e : Entry)
         → config.max_nesting_depth ≤ 1000 → IsSayable config own outer fuel e
         → AreBytes (script_type e config fuel own outer) }
 {}
 
-/// Where no type of a component, of an instance or of a core module stands in a scope, the script of what an import
-/// of a component is of has no byte for its kind: it is a choice among the function types.
+/// Where no type of a component, of an instance or of a core module can be imported, the script of what an import
+/// of a component is of has no byte for its kind: it is a choice among the function types that can be.
 pub fn function_imports_choose_no_kind()
-    ensures { (config : Config) (own : Scope) (totals : RefTotals) (i : ℕ)
-        → places is_core_module 0 own.core_types ≡ [] → places is_component 0 own.types ≡ []
-        → places is_instance 0 own.types ≡ [] → FormedRef own (Func i)
-        → IsAllowed config own totals true false (Func i)
-        → script_ref config own totals true false (Func i) ≡ script_among nat_eq (places is_func 0 own.types) i }
+    ensures { (config : Config) (own : Marked) (totals : RefTotals) (i : ℕ)
+        → ref_places own true ref.Module ≡ [] → ref_places own true ref.Component ≡ []
+        → ref_places own true ref.Instance ≡ [] → FormedRef (scope_in own) (Func i) → OfferedRef own true (Func i)
+        → has_room own false ≡ true → IsAllowed config own totals true false (Func i)
+        → script_ref config own totals true false (Func i) ≡ script_among nat_eq (ref_places own true ref.Func) i }
 {}
 
 /// A type that is read, on any input, needs no more fuel than there was, and declares types only where one more scope
 /// may nest. All names within it can be read.
 pub fn answers_need_no_more()
-    ensures { (config : Config) (own : Scope) (outer : List Scope) (bytes : List ℕ) (fuel : ℕ) (made : FullEntry)
+    ensures { (config : Config) (own : Marked) (outer : List Marked) (bytes : List ℕ) (fuel : ℕ) (made : FullEntry)
         (rest : List ℕ) (left : ℕ)
         → Made config own outer bytes fuel made rest left
         → (need (plain made) ≤ fuel)
@@ -69,12 +69,20 @@ pub fn answers_need_no_more()
         × IsReadableType (plain made) }
 {}
 
-/// A type is read on some input exactly if it is well formed in its scopes and within the limits, its names can be
-/// read, there is fuel for it, and it declares types only where one more scope may nest.
+/// All that a type names that is read, on any input, was offered.
+pub fn answers_are_offered()
+    ensures { (config : Config) (own : Marked) (outer : List Marked) (bytes : List ℕ) (fuel : ℕ) (made : FullEntry)
+        (rest : List ℕ) (left : ℕ)
+        → Made config own outer bytes fuel made rest left → OfferedEntry (plain made) own outer }
+{}
+
+/// A type is read on some input exactly if it is well formed in its scopes, all that it names is offered, it is within
+/// the limits, its names can be read, there is fuel for it, and it declares types only where one more scope may nest.
 pub fn types_are_exact()
-    ensures { (config : Config) (own : Scope) (outer : List Scope) (fuel : ℕ) (e : Entry)
+    ensures { (config : Config) (own : Marked) (outer : List Marked) (fuel : ℕ) (e : Entry)
         → config.max_nesting_depth ≤ 1000 → Fit (own ∷ outer) → length (own ∷ outer) ≤ 1000
         → ((bytes rest : List ℕ) × AreBytes bytes × MadeWith config own outer fuel bytes e rest)
-        ↔ (FormedEntry e own outer × EntryLimits config e × IsReadableType e × (need e ≤ fuel)
+        ↔ (FormedEntry e (scope_in own) (scopes_in_marked outer) × OfferedEntry e own outer
+        × EntryLimits config e × IsReadableType e × (need e ≤ fuel)
         × (length (own ∷ outer) + declaring e ≤ max (length (own ∷ outer)) config.max_nesting_depth)) }
 {}

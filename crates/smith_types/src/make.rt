@@ -12,17 +12,19 @@ mod references;
 mod scoped;
 mod values;
 
-ghost use Rattle.std.specs.Prelude.{◌≡◌, ◌+◌, ◌≤◌, ◌++◌, ℕ, List, length, max, IfOk, IfErr};
+ghost use Rattle.std.specs.Prelude.{◌≡◌, ◌+◌, ◌≤◌, ◌++◌, ℕ, List, length, max, true, IfOk, IfErr};
 ghost use Rattle.smith_input.specs.Reading.{IsTail};
 ghost use Rattle.smith_format.specs.Limits.{configured};
 ghost use Rattle.smith_format.specs.Consistency.{IsConsistent};
 ghost use Rattle.smith_types.specs.Made.{Made};
 ghost use Rattle.smith_types.specs.Sayable.{IsSayable};
 ghost use Rattle.smith_tree.specs.TypeScript.{script_type};
-ghost use Rattle.smith_scopes.specs.Scopes.{own_scope, outer_scopes};
+ghost use Rattle.smith_scopes.specs.Scopes.{own_marked, own_scope, outer_marked, outer_scopes};
 ghost use Rattle.smith_syntax.specs.Entries.{Entry};
 ghost use Rattle.smith_syntax.specs.Shown.{full_type, shown_shared};
 ghost use Rattle.smith_syntax.specs.TypeLimits.{EntryLimits};
+ghost use Rattle.smith_syntax.specs.Marked.{mark};
+ghost use Rattle.smith_syntax.specs.Usable.{OfferedEntry};
 ghost use Rattle.smith_syntax.specs.Nesting.{nesting};
 ghost use Rattle.smith_syntax.specs.WellFormed.{FormedEntry, size};
 
@@ -33,7 +35,7 @@ pub use references::arbitrary_type_ref;
 use smith_format::{Config, ValType};
 use smith_input::{Error, Unstructured};
 use smith_scopes::Scopes;
-use smith_syntax::DefType;
+use smith_syntax::{DefType, Mark};
 use std::alloc::Global;
 use std::rc::Rc;
 
@@ -45,8 +47,9 @@ use std::rc::Rc;
 /// would have none; a function has at most 16 parameters; types of components and instances have at most 100
 /// declarations. Names within one type are in kebab case and distinct, and so are the names of its imports and those of
 /// its exports. Each outer alias keeps what it names. The type is well formed in the scopes, within the limits, and no
-/// larger than the fuel that it took. Its own scopes nest one deeper than the last scope, or to `max_nesting_depth`
-/// where that is more. It refuses for want of memory alone. The scopes stay as they are, also after a refusal.
+/// larger than the fuel that it took; all that it names was offered. Its mark is answered beside it, which says
+/// something where marks are kept. Its own scopes nest one deeper than the last scope, or to `max_nesting_depth` where
+/// that is more. It refuses for want of memory alone. The scopes stay as they are, also after a refusal.
 pub fn arbitrary_type(
     alloc: Global,
     u: &mut Unstructured,
@@ -54,22 +57,27 @@ pub fn arbitrary_type(
     valtypes: &[ValType],
     scopes: &mut Scopes,
     fuel: &mut u32,
-) -> Result<Rc<DefType>, Error>
+) -> Result<(Rc<DefType>, Mark), Error>
     requires valtypes { valtypes.now ≡ configured config.now }
     requires consistent { IsConsistent config.now }
     requires shallow { length scopes.old ≤ 1001 }
-    ensures made { IfOk result (λ t. Made config.now (own_scope scopes.old) (outer_scopes scopes.old) u.old fuel.old
-        (full_type t.value) u.new fuel.new) }
-    ensures formed { IfOk result (λ t. FormedEntry (shown_shared t) (own_scope scopes.old) (outer_scopes scopes.old)) }
-    ensures limits { IfOk result (λ t. EntryLimits config.now (shown_shared t)) }
-    ensures nesting { IfOk result (λ t. length scopes.old + nesting (shown_shared t)
+    ensures made { IfOk result (λ t. Made config.now (own_marked scopes.old) (outer_marked scopes.old) u.old fuel.old
+        (full_type t.0.value) u.new fuel.new) }
+    ensures formed { IfOk result (λ t. FormedEntry (shown_shared t.0) (own_scope scopes.old)
+        (outer_scopes scopes.old)) }
+    ensures offered { IfOk result (λ t. OfferedEntry (shown_shared t.0) (own_marked scopes.old)
+        (outer_marked scopes.old)) }
+    ensures mark { IfOk result (λ t. (own_marked scopes.old).keeps ≡ true
+        → t.1 ≡ mark (shown_shared t.0) (own_marked scopes.old) (outer_marked scopes.old)) }
+    ensures limits { IfOk result (λ t. EntryLimits config.now (shown_shared t.0)) }
+    ensures nesting { IfOk result (λ t. length scopes.old + nesting (shown_shared t.0)
         ≤ max (length scopes.old + 1) config.now.max_nesting_depth) }
-    ensures size { IfOk result (λ t. size (shown_shared t) + fuel.new ≤ fuel.old) }
+    ensures size { IfOk result (λ t. size (shown_shared t.0) + fuel.new ≤ fuel.old) }
     // The script of a type gives that type.
     ensures script { (e : Entry) (rest : List ℕ)
-        → IsSayable config.now (own_scope scopes.old) (outer_scopes scopes.old) fuel.old e
-        → u.old ≡ script_type e config.now fuel.old (own_scope scopes.old) (outer_scopes scopes.old) ++ rest
-        → IfOk result (λ t. (shown_shared t ≡ e) × (u.new ≡ rest)) }
+        → IsSayable config.now (own_marked scopes.old) (outer_marked scopes.old) fuel.old e
+        → u.old ≡ script_type e config.now fuel.old (own_marked scopes.old) (outer_marked scopes.old) ++ rest
+        → IfOk result (λ t. (shown_shared t.0 ≡ e) × (u.new ≡ rest)) }
     ensures scopes { scopes.new ≡ scopes.old }
     ensures memory { IfErr result (λ e. e ≡ Error.OutOfMemory) }
     ensures tail { IsTail u.new u.old }

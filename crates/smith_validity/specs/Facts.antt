@@ -1,10 +1,9 @@
 -- What is known of the types before a place (Explainer.md, index spaces, import and export definitions): which types they refer to.
-use Rattle.std.specs.Prelude.{ℕ, Bool, true, false, List, [], ◌∷◌, ◌++◌, map, length, slice_get, if◌then◌else◌}
+use Rattle.std.specs.Prelude.{ℕ, Bool, List, [], ◌∷◌, map, length, slice_get, if◌then◌else◌}
 use Rattle.std.specs.List.{flat_map}
 use Rattle.std.specs.Option.{option_to_list}
 use Rattle.smith_syntax.specs.Entries.{CoreEntry}
-use Rattle.smith_syntax.specs.Entries.{DefValType, primitive_type, record_type, variant_type, list_type}
-use Rattle.smith_syntax.specs.Entries.{tuple_type, flags_type, enum_type, option_type, result_type}
+pub use Rattle.smith_syntax.specs.Members.{is_nominal, members}
 use Rattle.smith_syntax.specs.Scope.{ScopeOf}
 use Rattle.smith_syntax.specs.declared.types.ComponentValType.{ComponentValType}
 use Rattle.smith_syntax.specs.declared.types.ComponentValType.TheVariants.{Primitive, Indexed}
@@ -50,27 +49,3 @@ needs f = if f.nominal then f.id ∷ [] else f.refers
 abbrev pub value_needs : List Facts → ComponentValType → List Id
 value_needs types (Primitive p) = []
 value_needs types (Indexed i) = flat_map needs (option_to_list (slice_get types i))
-
--- the value types that a type of values is made of
-abbrev pub members : DefValType → List ComponentValType
-members (primitive_type p) = []
-members (record_type fs) = map (λ f. f.1) fs
-members (variant_type cs) = flat_map (λ c. option_to_list c.1) cs
-members (list_type v) = v ∷ []
-members (tuple_type vs) = vs
-members (flags_type ns) = []
-members (enum_type ns) = []
-members (option_type v) = v ∷ []
-members (result_type ok err) = option_to_list ok ++ option_to_list err
-
--- Has it to be named (Explainer.md, type checking)?
-abbrev pub is_nominal : DefValType → Bool
-is_nominal (primitive_type p) = false
-is_nominal (record_type fs) = true
-is_nominal (variant_type cs) = true
-is_nominal (list_type v) = false
-is_nominal (tuple_type vs) = false
-is_nominal (flags_type ns) = true
-is_nominal (enum_type ns) = true
-is_nominal (option_type v) = false
-is_nominal (result_type ok err) = false

@@ -96,8 +96,9 @@ impl<'a> CanonicalDraft<'a> {
         ensures drafts { OnOk result (DraftsOn self.old self.new) }
         ensures memory { IfErr result (λ e. e ≡ Error.OutOfMemory) }
     {
+        let mark = self.scopes.function_mark(&ty);
         let shared = Rc::new(self.alloc, DefType::Func(Rc::new(self.alloc, ty)?))?;
-        let func_ty = self.scopes.push_type(shared.clone()?)?;
+        let func_ty = self.scopes.push_marked(shared.clone()?, mark)?;
         let mut types = Vec::new(self.alloc);
         types.push(shared)?;
         let ended = mem::replace(self.funcs, Vec::new(self.alloc));

@@ -5,8 +5,8 @@ ghost use Rattle.smith_input.specs.Loops.{Loop, Never};
 ghost use Rattle.smith_input.specs.Reading.{IsTail};
 ghost use Rattle.smith_format.specs.Consistency.{max_u32};
 ghost use Rattle.smith_format.specs.declared.config.Config.{Config};
-ghost use Rattle.smith_scopes.specs.Scopes.{own_scope, outer_scopes};
-ghost use Rattle.smith_syntax.specs.Scope.{Scope};
+ghost use Rattle.smith_scopes.specs.Scopes.{own_marked, outer_marked};
+ghost use Rattle.smith_syntax.specs.Marked.{Marked};
 ghost use Rattle.smith_component.specs.BuilderView.{IsSound};
 ghost use Rattle.smith_component.specs.EntriesState.{CanReadTypes, GrowsScope};
 ghost use Rattle.smith_component.specs.SectionValues.{ReadsTypeValue, ReadsCoreTypeValue};
@@ -20,9 +20,9 @@ use std::rc::Rc;
 
 // What a section holds. An entry is read with fresh fuel, and is the next of its sort in the last scope.
 pub(super) trait SectionEntry: Drop {
-    ghost count: { Scope → ℕ };
+    ghost count: { Marked → ℕ };
 
-    ghost reads: { Config → List Scope → Scope → List ℕ → Self → List ℕ → Scope → Type 0 };
+    ghost reads: { Config → List Marked → Marked → List ℕ → Self → List ℕ → Marked → Type 0 };
 
     fn read(
         alloc: Global,
@@ -31,12 +31,12 @@ pub(super) trait SectionEntry: Drop {
         scopes: &mut Scopes,
         u: &mut Unstructured,
     ) -> Result<Self, Error>
-        requires room { count (own_scope scopes.old) < max_u32 }
+        requires room { count (own_marked scopes.old) < max_u32 }
         requires ready { CanReadTypes config.now valtypes.now scopes.old }
-        ensures read { IfOk result (λ e. reads config.now (outer_scopes scopes.old) (own_scope scopes.old)
-            u.old e u.new (own_scope scopes.new)) }
-        ensures count { IfOk result (λ _. count (own_scope scopes.new) ≡ count (own_scope scopes.old) + 1) }
-        ensures outer { IfOk result (λ _. outer_scopes scopes.new ≡ outer_scopes scopes.old) }
+        ensures read { IfOk result (λ e. reads config.now (outer_marked scopes.old) (own_marked scopes.old)
+            u.old e u.new (own_marked scopes.new)) }
+        ensures count { IfOk result (λ _. count (own_marked scopes.new) ≡ count (own_marked scopes.old) + 1) }
+        ensures outer { IfOk result (λ _. outer_marked scopes.new ≡ outer_marked scopes.old) }
         ensures depth { IfOk result (λ _. length scopes.new ≡ length scopes.old) }
         ensures memory { IfErr result (λ e. e ≡ Error.OutOfMemory) }
         ensures tail { IsTail u.new u.old };
@@ -52,9 +52,9 @@ impl Progress {
     ) -> Result<Vec<E>, Error>
         requires sound { IsSound self.old }
         requires ordered { min ≤ max }
-        requires room { E.count (own_scope self.old.scopes) + max ≤ max_u32 }
-        ensures entries { IfOk result (λ v. Loop Never (E.reads self.old.config (outer_scopes self.old.scopes)) min max 0
-            (own_scope self.old.scopes) u.old v.items u.new (own_scope self.new.scopes)) }
+        requires room { E.count (own_marked self.old.scopes) + max ≤ max_u32 }
+        ensures entries { IfOk result (λ v. Loop Never (E.reads self.old.config (outer_marked self.old.scopes))
+            min max 0 (own_marked self.old.scopes) u.old v.items u.new (own_marked self.new.scopes)) }
         ensures scopes { OnOk result (GrowsScope self.old self.new) }
         ensures memory { IfErr result (λ e. e ≡ Error.OutOfMemory) }
         ensures tail { IsTail u.new u.old }
@@ -85,8 +85,8 @@ impl SectionEntry for Rc<DefType> {
         u: &mut Unstructured,
     ) -> Result<Rc<DefType>, Error> {
         let mut fuel = config.max_type_size;
-        let made = arbitrary_type(alloc, u, config, valtypes, scopes, &mut fuel)?;
-        scopes.push_type(made.clone()?)?;
+        let (made, mark) = arbitrary_type(alloc, u, config, valtypes, scopes, &mut fuel)?;
+        scopes.push_marked(made.clone()?, mark)?;
         Ok(made)
     }
 }
@@ -105,7 +105,8 @@ impl SectionEntry for Rc<CoreType> {
     ) -> Result<Rc<CoreType>, Error> {
         let mut fuel = config.max_type_size;
         let made = arbitrary_core_type(alloc, u, config, valtypes, scopes, &mut fuel)?;
-        scopes.push_core_type(made.clone()?)?;
+        let size = scopes.core_size_of(&*made)?;
+        scopes.push_sized(made.clone()?, size)?;
         Ok(made)
     }
 }

@@ -4,7 +4,8 @@ ghost use Rattle.std.specs.Prelude.{◌≡◌, ◌+◌, ◌<◌, ◌≤◌, [], 
 ghost use Rattle.smith_input.specs.Reading.{IsTail};
 ghost use Rattle.smith_input.specs.Loops.{Loop};
 ghost use Rattle.smith_format.specs.Consistency.{max_u32};
-ghost use Rattle.smith_scopes.specs.Scopes.{own_scope};
+ghost use Rattle.smith_format.specs.declared.config.Config.{Config};
+ghost use Rattle.smith_scopes.specs.Scopes.{outer_marked, own_marked, own_scope};
 ghost use Rattle.smith_component.specs.Exports.{NoExport, ReadsExport};
 ghost use Rattle.smith_component.specs.ExportsState.{ExportsOne, ExportsState};
 ghost use Rattle.smith_component.specs.Shown.{shown_export};
@@ -14,52 +15,63 @@ ghost use Rattle.smith_tree.specs.Tree.{ExportEntry, Tree};
 use crate::builder::tables::Tables;
 use crate::component::Export;
 use smith_input::{Error, Unstructured, unique_kebab_string};
-use smith_types::Scopes;
+use smith_types::{ComponentTypeRef, Scopes};
 use std::alloc::Global;
 
-// An export, or none where there is no component function. It is one itself then.
+// An export, or none where there is no component function or no room for one more. It is one itself then.
 fn read_export(
     alloc: Global,
-    scopes: &Scopes,
+    scopes: &mut Scopes,
     tables: &mut Tables,
     u: &mut Unstructured,
 ) -> Result<Option<Export>, Error>
-    requires known { IsKnown (own_scope scopes.now) tables.old }
+    requires known { IsKnown (own_scope scopes.old) tables.old }
     requires room { length tables.old.functions.items < max_u32 }
-    ensures known { OnOk result (IsKnown (own_scope scopes.now) tables.new) }
+    ensures known { OnOk result (IsKnown (own_scope scopes.new) tables.new) }
+    ensures around { outer_marked scopes.new ≡ outer_marked scopes.old }
+    ensures depth { length scopes.new ≡ length scopes.old }
     ensures imports { OnOk result (tables.new.imports ≡ tables.old.imports) }
     ensures most { OnOk result (length tables.new.functions.items ≤ length tables.old.functions.items + 1) }
-    ensures exports { (t : Tree) (es : List ExportEntry) → ExportsState t es (own_scope scopes.now) tables.old
-        → IfOk result (λ e. ExportsOne t es (own_scope scopes.now) tables.new u.old e u.new) }
+    ensures exports { (config : Config) (outer : List Tree) (t : Tree) (es : List ExportEntry)
+        → ExportsState config outer t es (own_marked scopes.old) tables.old
+        → IfOk result (λ e. ExportsOne config outer t es (own_marked scopes.new) tables.new u.old e u.new) }
     ensures memory { IfErr result (λ e. e ≡ Error.OutOfMemory) }
     ensures tail { IsTail u.new u.old }
 {
     if tables.functions.is_empty() {
         return Ok(None);
     }
+    if !scopes.has_room() {
+        return Ok(None);
+    }
     let func_index = u.choose_index(tables.functions.len()) as u32;
     let name = unique_kebab_string(alloc, 100, &mut tables.exports, u)?;
     let ty = tables.functions[func_index as usize];
     tables.add_exported(scopes, ty)?;
+    scopes.note_export(ComponentTypeRef::Func(ty));
     Ok(Some(Export { name, func_index }))
 }
 
-// The exports of a section, at most so many, unless there is no component function.
+// The exports of a section, at most so many, until there is no component function or no room for one more.
 pub(super) fn read_exports(
     alloc: Global,
-    scopes: &Scopes,
+    scopes: &mut Scopes,
     tables: &mut Tables,
     max: usize,
     u: &mut Unstructured,
 ) -> Result<Vec<Export>, Error>
-    requires known { IsKnown (own_scope scopes.now) tables.old }
+    requires known { IsKnown (own_scope scopes.old) tables.old }
     requires room { length tables.old.functions.items + max ≤ max_u32 }
-    ensures reads { (t : Tree) → ExportsState t [] (own_scope scopes.now) tables.old
-        → IfOk result (λ v. Loop (NoExport t) (ReadsExport t) 0 max 0 [] u.old (map shown_export v.items) u.new
-        (map shown_export v.items)) }
+    ensures reads { (config : Config) (outer : List Tree) (t : Tree)
+        → ExportsState config outer t [] (own_marked scopes.old) tables.old
+        → IfOk result (λ v. Loop (NoExport config outer t) (ReadsExport config outer t) 0 max 0 [] u.old
+        (map shown_export v.items) u.new (map shown_export v.items)) }
+    ensures around { outer_marked scopes.new ≡ outer_marked scopes.old }
+    ensures depth { length scopes.new ≡ length scopes.old }
     ensures imports { OnOk result (tables.new.imports ≡ tables.old.imports) }
-    ensures holds { (t : Tree) → ExportsState t [] (own_scope scopes.now) tables.old
-        → IfOk result (λ v. ExportsState t (map shown_export v.items) (own_scope scopes.now) tables.new) }
+    ensures holds { (config : Config) (outer : List Tree) (t : Tree)
+        → ExportsState config outer t [] (own_marked scopes.old) tables.old
+        → IfOk result (λ v. ExportsState config outer t (map shown_export v.items) (own_marked scopes.new) tables.new) }
     ensures memory { IfErr result (λ e. e ≡ Error.OutOfMemory) }
     ensures tail { IsTail u.new u.old }
 {

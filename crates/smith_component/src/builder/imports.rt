@@ -5,7 +5,7 @@ ghost use Rattle.smith_input.specs.Reading.{IsTail};
 ghost use Rattle.smith_input.specs.Loops.{Loop};
 ghost use Rattle.smith_format.specs.Consistency.{IsConsistent};
 ghost use Rattle.smith_types.specs.Declarations.{NamedExtern};
-ghost use Rattle.smith_scopes.specs.Scopes.{own_scope};
+ghost use Rattle.smith_scopes.specs.Scopes.{outer_marked, own_marked};
 ghost use Rattle.smith_component.specs.BuilderView.{stack_of, IsSound};
 ghost use Rattle.smith_component.specs.ImportsState.{Imported, ImportsOne, ImportsState};
 ghost use Rattle.smith_component.specs.SectionValues.{NoImportValue, ReadsImportValue, externs_of};
@@ -21,7 +21,7 @@ use smith_types::{ComponentTypeRef, Import, Scopes, arbitrary_type_ref, named_ex
 // An import, or none where nothing can be imported. It is counted.
 fn read_import(
     config: &Config,
-    scopes: &Scopes,
+    scopes: &mut Scopes,
     totals: &mut TreeTotals,
     tables: &mut Tables,
     u: &mut Unstructured,
@@ -30,9 +30,11 @@ fn read_import(
     requires within { length tables.old.functions.items ≤ tables.old.counted + config.now.max_exports }
     ensures within { OnOk result (length tables.new.functions.items ≤ tables.new.counted + config.now.max_exports) }
     ensures imports { (stack : Open) (before : List NamedExtern) (is : List _)
-        → ImportsState stack before is (own_scope scopes.now) totals.old tables.old
+        → ImportsState config.now stack before is (own_marked scopes.old) totals.old tables.old
         → IfOk result (λ i.
-        ImportsOne config.now stack before is (own_scope scopes.now) totals.new tables.new u.old i u.new) }
+        ImportsOne config.now stack before is (own_marked scopes.new) totals.new tables.new u.old i u.new) }
+    ensures around { outer_marked scopes.new ≡ outer_marked scopes.old }
+    ensures depth { length scopes.new ≡ length scopes.old }
     ensures memory { IfErr result (λ e. e ≡ Error.OutOfMemory) }
     ensures tail { IsTail u.new u.old }
 {
@@ -42,6 +44,7 @@ fn read_import(
     };
     let (name, url) = named_extern(tables.alloc, u, &mut tables.imports)?;
     totals.count(ty);
+    scopes.note_import(ty);
     if let ComponentTypeRef::Func(i) = ty {
         tables.add_function(scopes, i)?;
     }
@@ -65,6 +68,7 @@ impl Progress {
         ensures memory { IfErr result (λ e. e ≡ Error.OutOfMemory) }
         ensures tail { IsTail u.new u.old }
     {
+        let scopes = &mut self.scopes;
         let totals = &mut self.totals;
         let tables = &mut self.inner.tables;
         let mut imports = Vec::new(self.alloc);
@@ -72,7 +76,7 @@ impl Progress {
             if !u.more(done, min, max) {
                 return Ok(imports);
             }
-            let Some(import) = read_import(&self.config, &self.scopes, totals, tables, u)? else {
+            let Some(import) = read_import(&self.config, scopes, totals, tables, u)? else {
                 return Ok(imports);
             };
             imports.push(import)?;

@@ -86,7 +86,13 @@ impl Progress {
         ensures tail { IsTail u.new u.old }
     {
         let room = self.config.max_exports - self.inner.tables.exports.len();
-        let exports = read_exports(self.alloc, &self.scopes, &mut self.inner.tables, room, u)?;
+        let exports = read_exports(
+            self.alloc,
+            &mut self.scopes,
+            &mut self.inner.tables,
+            room,
+            u,
+        )?;
         self.inner
             .push(Section::Exports(ExportSection { exports }))?;
         Ok(())

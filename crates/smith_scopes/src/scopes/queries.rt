@@ -1,13 +1,17 @@
 //! What stands in scopes: how much, and at which index.
 
-ghost use Rattle.std.specs.Prelude.{◌≡◌, ◌<◌, ◌≤◌, length, Some, slice_get};
+ghost use Rattle.std.specs.Prelude.{◌≡◌, ◌<◌, ◌≤◌, get_or, length, true, Some, slice_get};
 ghost use Rattle.smith_format.specs.Consistency.{max_u32};
 ghost use Rattle.smith_syntax.specs.Places.{places};
+ghost use Rattle.smith_scopes.specs.Kept.{offered_places};
+ghost use Rattle.smith_syntax.specs.Marks.{no_mark};
 ghost use Rattle.smith_syntax.specs.HasSignature.{has_signature};
-ghost use Rattle.smith_scopes.specs.Scopes.{own_scope, kind_places, last_of, scope_at};
+ghost use Rattle.smith_scopes.specs.Scopes.{own_marked, own_scope, kind_places, last_of, scope_at};
 
-use crate::scopes::{Kind, Scope, Scopes};
-use smith_syntax::{CoreType, DefType, FuncType};
+use super::marked::Marked;
+use super::offers::Offer;
+use crate::scopes::{Kind, Scopes};
+use smith_syntax::{CoreType, DefType, FuncType, Mark};
 use std::rc::Rc;
 
 impl Scopes {
@@ -20,7 +24,7 @@ impl Scopes {
     }
 
     // The scope of that count, where 0 is the last.
-    fn scope(&self, count: u32) -> &Scope
+    fn scope(&self, count: u32) -> &Marked
         requires { count < length self.now }
         ensures { result.now ≡ scope_at self.now count }
     {
@@ -37,7 +41,7 @@ impl Scopes {
         ensures count { result ≡ length (scope_at self.now count).types }
         ensures few { result ≤ max_u32 }
     {
-        self.scope(count).types.len()
+        self.scope(count).scope.types.len()
     }
 
     /// How many core types the scope of that count has, where 0 is the last.
@@ -46,7 +50,7 @@ impl Scopes {
         ensures count { result ≡ length (scope_at self.now count).core_types }
         ensures few { result ≤ max_u32 }
     {
-        self.scope(count).core_types.len()
+        self.scope(count).scope.core_types.len()
     }
 
     /// The type with the index `i` in the scope of that count, where 0 is the last.
@@ -55,7 +59,7 @@ impl Scopes {
         requires entry { i < length (scope_at self.now count).types }
         ensures { slice_get (scope_at self.now count).types i ≡ Some result.now.value }
     {
-        &self.scope(count).types[i as usize]
+        &self.scope(count).scope.types[i as usize]
     }
 
     /// The core type with the index `i` in the scope of that count, where 0 is the last.
@@ -64,7 +68,7 @@ impl Scopes {
         requires entry { i < length (scope_at self.now count).core_types }
         ensures { slice_get (scope_at self.now count).core_types i ≡ Some result.now.value }
     {
-        &self.scope(count).core_types[i as usize]
+        &self.scope(count).scope.core_types[i as usize]
     }
 
     /// How many types the last scope has.
@@ -72,7 +76,7 @@ impl Scopes {
         ensures count { result ≡ length (own_scope self.now).types }
         ensures few { result ≤ max_u32 }
     {
-        self.inner.types.len()
+        self.inner.scope.types.len()
     }
 
     /// How many entries of the last scope are of that kind.
@@ -105,5 +109,56 @@ impl Scopes {
         ensures { slice_get (places (has_signature func.now) 0 (last_of self.now).types) k ≡ Some result }
     {
         self.inner.equals(func)[k]
+    }
+
+    /// Are marks kept?
+    pub fn keeps(&self) -> bool
+        ensures { result ≡ (last_of self.now).keeps }
+    {
+        self.inner.keeps()
+    }
+
+    /// The mark of the type with the index `i` in the scope of that count, where 0 is the last: `Mark::NONE` where none
+    /// is kept.
+    pub fn mark_at(&self, count: u32, i: u32) -> Mark
+        requires { count < length self.now }
+        ensures value { result ≡ get_or (scope_at self.now count).marks i no_mark }
+        ensures known { (scope_at self.now count).keeps ≡ true → i < length (scope_at self.now count).types
+            → slice_get (scope_at self.now count).marks i ≡ Some result }
+    {
+        self.scope(count).mark_at(i)
+    }
+
+    /// The size of the core type with the index `i` in the scope of that count, where 0 is the last: 0 where none is
+    /// kept.
+    pub fn core_size_at(&self, count: u32, i: u32) -> u32
+        requires { count < length self.now }
+        ensures value { result ≡ get_or (scope_at self.now count).core_sizes i 0 }
+        ensures known { (scope_at self.now count).keeps ≡ true → i < length (scope_at self.now count).core_types
+            → slice_get (scope_at self.now count).core_sizes i ≡ Some result }
+    {
+        self.scope(count).core_size_at(i)
+    }
+
+    /// How many types of the last scope may be used for it: all that can be, where no marks are kept.
+    pub fn offered_len(&self, offer: Offer) -> usize
+        ensures count { result ≡ length (offered_places offer (own_marked self.now)) }
+        ensures few { result ≤ max_u32 }
+    {
+        match self.inner.offered(offer) {
+            Some(row) => row.len(),
+            None => self.inner.len(),
+        }
+    }
+
+    /// The index of the type of the last scope that may be used for it and has `k` earlier such ones.
+    pub fn offered_at(&self, offer: Offer, k: usize) -> u32
+        requires { k < length (offered_places offer (own_marked self.now)) }
+        ensures { slice_get (offered_places offer (own_marked self.now)) k ≡ Some result }
+    {
+        match self.inner.offered(offer) {
+            Some(row) => row[k],
+            None => k as u32,
+        }
     }
 }

@@ -7,22 +7,23 @@ ghost use Rattle.smith_input.specs.Reading.{IsTail};
 ghost use Rattle.smith_syntax.specs.ShownDecls.{full_alias, full_instance_decl};
 ghost use Rattle.smith_syntax.specs.WellFormed.{export_of, import_of, FormedRef};
 ghost use Rattle.smith_types.specs.Declarations.{NamedExtern, ReadsAlias, ReadsExportDecl};
-ghost use Rattle.smith_tree.specs.TypeOffers.{declaration_items, has_reference, occupied};
+ghost use Rattle.smith_tree.specs.TypeOffers.{declaration_items, has_export, has_reference, occupied};
 ghost use Rattle.smith_types.specs.MakingTypes.{Declares, HasTarget, HoldsExterns, IsNameless};
 ghost use Rattle.smith_types.specs.MakingTypes.{MadeItem, MaybeImport, SameOuter};
-ghost use Rattle.smith_types.specs.MakingTypes.{imported_by, shown_import_decl, with_aliased, with_exported};
-ghost use Rattle.smith_scopes.specs.Scopes.{inward, own_scope, outer_scopes};
+ghost use Rattle.smith_types.specs.MakingTypes.{IsAliased, imported_by, shown_import_decl};
+ghost use Rattle.smith_syntax.specs.Marked.{scope_in, with_exported};
+ghost use Rattle.smith_scopes.specs.Scopes.{inward_marked, own_marked, outer_marked};
 ghost use Rattle.smith_tree.specs.declared.choices.DeclarationItem.TheVariants as item;
 
 use super::externs::{ExternNames, named_extern};
 use super::making::Making;
-use super::references::arbitrary_type_ref;
+use super::references::{arbitrary_type_ref, has_place};
 use smith_core_types::arbitrary_core_type;
 use smith_format::Config;
 use smith_input::{Error, Unstructured, choose_offered};
 use smith_scopes::{Kind, Scopes};
 use smith_syntax::{Alias, ComponentTypeRef, Import, InstanceTypeDecl, OuterAliasKind};
-use smith_tree::{DeclarationItem, RefTotals, declaration_offers};
+use smith_tree::{DeclarationItem, RefKind, RefTotals, declaration_offers};
 use std::alloc::Global;
 
 // Nothing is counted within types.
@@ -33,17 +34,27 @@ const UNCOUNTED: RefTotals = RefTotals {
     instances: 0,
 };
 
-// Has the last scope something that an import or an export may be of?
+// Has the last scope something that an import may be of, whatever is offered?
 fn has_reference(scopes: &Scopes) -> bool
-    ensures { result ≡ has_reference (own_scope scopes.now) }
+    ensures { result ≡ has_reference (own_marked scopes.now) }
 {
     scopes.own_len() > 0 || scopes.kind_len(Kind::CoreModule) > 0
+}
+
+// Has it something that an export may be of?
+fn has_export(scopes: &Scopes) -> bool
+    ensures { result ≡ has_export (own_marked scopes.now) }
+{
+    has_place(scopes, RefKind::Module, false)
+        || has_place(scopes, RefKind::TypeEq, false)
+        || has_place(scopes, RefKind::Component, false)
+        || has_place(scopes, RefKind::Instance, false)
 }
 
 // The counts of the scopes that have an entry, innermost first.
 fn occupied_scopes(alloc: Global, scopes: &Scopes) -> Result<Vec<u32>, Error>
     requires { length scopes.now ≤ 1002 }
-    ensures counts { IfOk result (λ v. v.items ≡ occupied (inward scopes.now)) }
+    ensures counts { IfOk result (λ v. v.items ≡ occupied (inward_marked scopes.now)) }
     ensures memory { IfErr result (λ e. e ≡ Error.OutOfMemory) }
 {
     let mut counts = Vec::with_capacity(alloc, scopes.depth())?;
@@ -58,7 +69,7 @@ fn occupied_scopes(alloc: Global, scopes: &Scopes) -> Result<Vec<u32>, Error>
 // Has one of the scopes an entry?
 fn has_entry(scopes: &Scopes) -> bool
     requires { length scopes.now ≤ 1002 }
-    ensures { result ≡ nat_lt 0 (length (occupied (own_scope scopes.now ∷ outer_scopes scopes.now))) }
+    ensures { result ≡ nat_lt 0 (length (occupied (own_marked scopes.now ∷ outer_marked scopes.now))) }
 {
     for count in 0..scopes.depth() as u32 {
         if scopes.len(count) + scopes.len_core(count) > 0 {
@@ -70,7 +81,7 @@ fn has_entry(scopes: &Scopes) -> bool
 
 // May one more scope nest?
 fn may_nest(config: &Config, scopes: &Scopes) -> bool
-    ensures { result ≡ nat_lt (length (own_scope scopes.now ∷ outer_scopes scopes.now)) config.now.max_nesting_depth }
+    ensures { result ≡ nat_lt (length (own_marked scopes.now ∷ outer_marked scopes.now)) config.now.max_nesting_depth }
 {
     scopes.depth() < config.max_nesting_depth
 }
@@ -82,11 +93,11 @@ pub(super) fn declaration_item(
     scopes: &Scopes,
 ) -> DeclarationItem
     requires { length scopes.now ≤ 1002 }
-    ensures reads { ReadsAmong (declaration_items config.now (outer_scopes scopes.now) (own_scope scopes.now))
+    ensures reads { ReadsAmong (declaration_items config.now (outer_marked scopes.now) (own_marked scopes.now))
         u.old result u.new }
-    ensures possible { HasTarget config.now (own_scope scopes.now) (outer_scopes scopes.now) result }
+    ensures possible { HasTarget config.now (own_marked scopes.now) (outer_marked scopes.now) result }
 {
-    let with_export = has_reference(scopes);
+    let with_export = has_export(scopes);
     let with_alias = has_entry(scopes);
     let with_type = may_nest(config, scopes);
     let offers = declaration_offers(with_export, with_alias, with_type);
@@ -101,7 +112,7 @@ pub(super) fn import(
     imports: &mut ExternNames,
 ) -> Result<Option<Import>, Error>
     ensures reads { (so_far : List NamedExtern) → HoldsExterns imports.old so_far
-        → IfOk result (λ i. MaybeImport making.now.config.now (own_scope scopes.now) so_far u.old
+        → IfOk result (λ i. MaybeImport making.now.config.now (own_marked scopes.now) so_far u.old
         (shown_import_decl i) u.new) }
     ensures names { (so_far : List NamedExtern) → HoldsExterns imports.old so_far
         → IfOk result (λ i. HoldsExterns imports.new (so_far ++ imported_by (shown_import_decl i))) }
@@ -118,18 +129,20 @@ pub(super) fn import(
     Ok(Some(Import { name, url, ty }))
 }
 
-// The type that an export is equal to stands in the last scope once more.
+// What an export adds to the last scope: the type that it is equal to stands there once more.
 fn add_exported(scopes: &mut Scopes, ty: ComponentTypeRef) -> Result<(), Error>
-    requires formed { FormedRef (own_scope scopes.old) ty }
-    requires room { length (own_scope scopes.old).types ≤ 100 }
-    ensures own { OnOk result (own_scope scopes.new ≡ with_exported (own_scope scopes.old) ty) }
-    ensures around { OnOk result (outer_scopes scopes.new ≡ outer_scopes scopes.old) }
+    requires formed { FormedRef (scope_in (own_marked scopes.old)) ty }
+    requires room { length (own_marked scopes.old).types ≤ 100 }
+    ensures own { OnOk result (own_marked scopes.new ≡ with_exported (own_marked scopes.old) ty) }
+    ensures around { OnOk result (outer_marked scopes.new ≡ outer_marked scopes.old) }
     ensures outer { SameOuter scopes.old scopes.new }
     ensures memory { IfErr result (λ e. e ≡ Error.OutOfMemory) }
 {
+    scopes.note_export(ty);
     if let ComponentTypeRef::TypeEq(i) = ty {
+        let mark = scopes.equal_mark(i);
         let entry = scopes.get(0, i).clone()?;
-        scopes.push_type(entry)?;
+        scopes.push_marked(entry, mark)?;
     }
     Ok(())
 }
@@ -141,10 +154,10 @@ pub(super) fn export(
     scopes: &mut Scopes,
     exports: &mut ExternNames,
 ) -> Result<InstanceTypeDecl, Error>
-    requires possible { has_reference (own_scope scopes.old) ≡ true }
-    requires room { length (own_scope scopes.old).types ≤ 100 }
+    requires possible { has_export (own_marked scopes.old) ≡ true }
+    requires room { length (own_marked scopes.old).types ≤ 100 }
     ensures reads { (so_far : List NamedExtern) → HoldsExterns exports.old so_far
-        → IfOk result (λ d. ReadsExportDecl making.now.config.now (own_scope scopes.old) so_far u.old
+        → IfOk result (λ d. ReadsExportDecl making.now.config.now (own_marked scopes.old) so_far u.old
         (full_instance_decl d) u.new) }
     ensures names { (so_far : List NamedExtern) → HoldsExterns exports.old so_far
         → IfOk result (λ d. HoldsExterns exports.new (so_far ++ export_of (full_instance_decl d))) }
@@ -164,9 +177,10 @@ pub(super) fn export(
 
 // An outer alias of an entry of one of these scopes.
 fn alias_choice(u: &mut Unstructured, scopes: &Scopes, counts: &[u32]) -> Result<Alias, Error>
-    requires places { counts.now ≡ occupied (inward scopes.now) }
+    requires places { counts.now ≡ occupied (inward_marked scopes.now) }
     requires some { 0 < length counts.now }
-    ensures reads { IfOk result (λ a. ReadsAlias (inward scopes.now) u.old (full_alias a) u.new) }
+    ensures reads { IfOk result (λ a. ReadsAlias (inward_marked scopes.now) u.old (full_alias a) u.new) }
+    ensures scope { IfOk result (λ a. a.count < length scopes.now) }
     ensures memory { IfErr result (λ e. e ≡ Error.OutOfMemory) }
     ensures tail { IsTail u.new u.old }
 {
@@ -185,21 +199,24 @@ fn alias_choice(u: &mut Unstructured, scopes: &Scopes, counts: &[u32]) -> Result
 
 // What an alias names stands in the last scope too.
 fn add_aliased(scopes: &mut Scopes, alias: &Alias) -> Result<(), Error>
-    requires types { length (own_scope scopes.old).types ≤ 100 }
-    requires core_types { length (own_scope scopes.old).core_types ≤ 100 }
-    ensures own { OnOk result (own_scope scopes.new ≡ with_aliased (own_scope scopes.old) (full_alias alias.now)) }
-    ensures around { OnOk result (outer_scopes scopes.new ≡ outer_scopes scopes.old) }
+    requires types { length (own_marked scopes.old).types ≤ 100 }
+    requires core_types { length (own_marked scopes.old).core_types ≤ 100 }
+    requires scope { alias.now.count < length scopes.old }
+    requires named { IsAliased (inward_marked scopes.old) (full_alias alias.now) }
+    ensures declares { OnOk result (Declares scopes.old scopes.new (full_alias alias.now)) }
     ensures outer { SameOuter scopes.old scopes.new }
     ensures memory { IfErr result (λ e. e ≡ Error.OutOfMemory) }
 {
     match &alias.kind {
         OuterAliasKind::OfType(ty) => {
             let entry = ty.clone()?;
-            scopes.push_type(entry)?;
+            let mark = scopes.aliased_mark(alias.count, alias.i);
+            scopes.push_marked(entry, mark)?;
         }
         OuterAliasKind::OfCoreType(ty) => {
             let entry = ty.clone()?;
-            scopes.push_core_type(entry)?;
+            let size = scopes.core_size_at(alias.count, alias.i);
+            scopes.push_sized(entry, size)?;
         }
     }
     Ok(())
@@ -212,10 +229,10 @@ pub(super) fn outer_alias(
     scopes: &mut Scopes,
 ) -> Result<InstanceTypeDecl, Error>
     requires shallow { length scopes.old ≤ 1002 }
-    requires some { 0 < length (occupied (own_scope scopes.old ∷ outer_scopes scopes.old)) }
-    requires types { length (own_scope scopes.old).types ≤ 100 }
-    requires core_types { length (own_scope scopes.old).core_types ≤ 100 }
-    ensures reads { IfOk result (λ d. ReadsAlias (inward scopes.old) u.old (full_instance_decl d) u.new) }
+    requires some { 0 < length (occupied (own_marked scopes.old ∷ outer_marked scopes.old)) }
+    requires types { length (own_marked scopes.old).types ≤ 100 }
+    requires core_types { length (own_marked scopes.old).core_types ≤ 100 }
+    ensures reads { IfOk result (λ d. ReadsAlias (inward_marked scopes.old) u.old (full_instance_decl d) u.new) }
     ensures nameless { IfOk result (λ d. IsNameless (full_instance_decl d)) }
     ensures declares { IfOk result (λ d. Declares scopes.old scopes.new (full_instance_decl d)) }
     ensures outer { SameOuter scopes.old scopes.new }
@@ -235,9 +252,9 @@ pub(super) fn core_type_decl(
     scopes: &mut Scopes,
     fuel: &mut u32,
 ) -> Result<InstanceTypeDecl, Error>
-    requires room { length (own_scope scopes.old).core_types ≤ 100 }
+    requires room { length (own_marked scopes.old).core_types ≤ 100 }
     ensures made { (exports : List NamedExtern) → IfOk result (λ d. MadeItem making.now.config.now
-        (own_scope scopes.old) (outer_scopes scopes.old) exports item.CoreType u.old fuel.old
+        (own_marked scopes.old) (outer_marked scopes.old) exports item.CoreType u.old fuel.old
         (full_instance_decl d) u.new fuel.new) }
     ensures nameless { IfOk result (λ d. IsNameless (full_instance_decl d)) }
     ensures declares { IfOk result (λ d. Declares scopes.old scopes.new (full_instance_decl d)) }
@@ -253,7 +270,8 @@ pub(super) fn core_type_decl(
         scopes,
         fuel,
     )?;
+    let size = scopes.core_size_of(&*ty)?;
     let entry = ty.clone()?;
-    scopes.push_core_type(entry)?;
+    scopes.push_sized(entry, size)?;
     Ok(InstanceTypeDecl::CoreTypeDecl(ty))
 }

@@ -5,7 +5,7 @@ ghost use Rattle.smith_input.specs.Reading.{IsTail};
 ghost use Rattle.smith_syntax.specs.Entries.{primitive_type, record_type, variant_type};
 ghost use Rattle.smith_syntax.specs.Entries.{tuple_type, flags_type, enum_type};
 ghost use Rattle.smith_types.specs.Made.{MadeAs, MadeDefined, ReadsMaybe, or_bool};
-ghost use Rattle.smith_scopes.specs.Scopes.{own_scope};
+ghost use Rattle.smith_scopes.specs.Scopes.{own_marked};
 ghost use Rattle.smith_syntax.specs.Shown.{shown_defined};
 ghost use Rattle.smith_syntax.specs.Signature.{named};
 ghost use Rattle.smith_syntax.specs.declared.types.PrimitiveValType.TheVariants as prim;
@@ -80,8 +80,8 @@ fn enum_type(members: Vec<String>) -> DefinedType
 
 // A result, whose two types are read one after the other.
 fn result_type(u: &mut Unstructured, scopes: &Scopes) -> ResultType
-    ensures reads { (mid : List ℕ) × ReadsMaybe (own_scope scopes.now) u.old result.ok_ty mid
-        × ReadsMaybe (own_scope scopes.now) mid result.err_ty u.new }
+    ensures reads { (mid : List ℕ) × ReadsMaybe (own_marked scopes.now) u.old result.ok_ty mid
+        × ReadsMaybe (own_marked scopes.now) mid result.err_ty u.new }
     ensures tail { IsTail u.new u.old }
 {
     let ok_ty = maybe_value_type(u, scopes);
@@ -98,7 +98,7 @@ fn type_of_kind(
     kind: DefinedKind,
 ) -> Result<DefinedType, Error>
     ensures made { IfOk result (λ t.
-        MadeAs (own_scope scopes.now) kind u.old fuel.old (shown_defined t) u.new fuel.new) }
+        MadeAs (own_marked scopes.now) kind u.old fuel.old (shown_defined t) u.new fuel.new) }
     ensures memory { IfErr result (λ e. e ≡ Error.OutOfMemory) }
     ensures tail { IsTail u.new u.old }
 {
@@ -127,7 +127,7 @@ pub(super) fn defined_type(
     fuel: &mut u32,
 ) -> Result<DefinedType, Error>
     ensures made { IfOk result (λ t.
-        MadeDefined (own_scope scopes.now) u.old fuel.old (shown_defined t) u.new fuel.new) }
+        MadeDefined (own_marked scopes.now) u.old fuel.old (shown_defined t) u.new fuel.new) }
     ensures memory { IfErr result (λ e. e ≡ Error.OutOfMemory) }
     ensures tail { IsTail u.new u.old }
 {

@@ -3,7 +3,7 @@
 ghost use Rattle.std.specs.Prelude.{◌≡◌, List, [], ◌∷◌, ◌++◌, length, string_bytes, IfOk, IfErr, OnErr};
 ghost use Rattle.smith_input.specs.Reading.{IsTail};
 ghost use Rattle.smith_syntax.specs.Shown.{shown_url};
-ghost use Rattle.smith_types.specs.Declarations.{NamedExtern, ReadsMaybeUrl, ReadsNamedExtern, url_name, url_names};
+ghost use Rattle.smith_types.specs.Declarations.{NamedExtern, ReadsMaybeUrl, ReadsNamedExtern, url_name};
 ghost use Rattle.smith_types.specs.MakingTypes.{HoldsExterns};
 ghost use Rattle.smith_input.specs.Names.{Holds};
 

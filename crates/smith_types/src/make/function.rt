@@ -3,7 +3,7 @@
 ghost use Rattle.std.specs.Prelude.{◌≡◌, [], IfOk, IfErr};
 ghost use Rattle.smith_input.specs.Reading.{IsTail};
 ghost use Rattle.smith_types.specs.Made.{MadeFunction, ReadsResult};
-ghost use Rattle.smith_scopes.specs.Scopes.{own_scope};
+ghost use Rattle.smith_scopes.specs.Scopes.{own_marked};
 
 use super::members::members;
 use super::values::value_type;
@@ -15,7 +15,7 @@ use std::alloc::Global;
 
 // The result of a function, or none: a loop of at most one turn.
 fn result_of(u: &mut Unstructured, scopes: &Scopes, fuel: &mut u32) -> Option<ComponentValType>
-    ensures reads { ReadsResult (own_scope scopes.now) u.old fuel.old result u.new fuel.new }
+    ensures reads { ReadsResult (own_marked scopes.now) u.old fuel.old result u.new fuel.new }
     ensures tail { IsTail u.new u.old }
 {
     if !u.more(0, 0, 1) {
@@ -35,7 +35,7 @@ pub(super) fn function_type(
     scopes: &Scopes,
     fuel: &mut u32,
 ) -> Result<FuncType, Error>
-    ensures made { IfOk result (λ f. MadeFunction (own_scope scopes.now) u.old fuel.old f u.new fuel.new) }
+    ensures made { IfOk result (λ f. MadeFunction (own_marked scopes.now) u.old fuel.old f u.new fuel.new) }
     ensures memory { IfErr result (λ e. e ≡ Error.OutOfMemory) }
     ensures tail { IsTail u.new u.old }
 {

@@ -9,7 +9,7 @@ ghost use Rattle.smith_types.specs.Declarations.{NamedExtern, NoImportDecl};
 ghost use Rattle.smith_types.specs.Made.{MadeDeclaration};
 ghost use Rattle.smith_types.specs.MakingTypes.{Declares, HasAtMost, HasTarget, HoldsExterns, IsNameless};
 ghost use Rattle.smith_types.specs.MakingTypes.{MadeItem, SameOuter};
-ghost use Rattle.smith_scopes.specs.Scopes.{own_scope, outer_scopes};
+ghost use Rattle.smith_scopes.specs.Scopes.{own_marked, outer_marked};
 ghost use Rattle.smith_tree.specs.declared.choices.DeclarationItem.TheVariants as item;
 
 use super::declarations::{core_type_decl, declaration_item, export, import, outer_alias};
@@ -30,9 +30,9 @@ fn type_decl(
     fuel: &mut u32,
 ) -> Result<InstanceTypeDecl, Error>
     requires shallow { length scopes.old < making.now.config.now.max_nesting_depth }
-    requires room { length (own_scope scopes.old).types ≤ 100 }
+    requires room { length (own_marked scopes.old).types ≤ 100 }
     ensures made { (exports : List NamedExtern) → IfOk result (λ d. MadeItem making.now.config.now
-        (own_scope scopes.old) (outer_scopes scopes.old) exports item.«Type» u.old fuel.old
+        (own_marked scopes.old) (outer_marked scopes.old) exports item.«Type» u.old fuel.old
         (full_instance_decl d) u.new fuel.new) }
     ensures declares { IfOk result (λ d. Declares scopes.old scopes.new (full_instance_decl d)) }
     ensures nameless { IfOk result (λ d. IsNameless (full_instance_decl d)) }
@@ -40,9 +40,9 @@ fn type_decl(
     ensures memory { IfErr result (λ e. e ≡ Error.OutOfMemory) }
     ensures tail { IsTail u.new u.old }
 {
-    let ty = made_type(making, u, scopes, fuel)?;
+    let (ty, mark) = made_type(making, u, scopes, fuel)?;
     let entry = ty.clone()?;
-    scopes.push_type(entry)?;
+    scopes.push_marked(entry, mark)?;
     Ok(InstanceTypeDecl::TypeDecl(ty))
 }
 
@@ -57,10 +57,10 @@ fn declaration_of(
     item: DeclarationItem,
 ) -> Result<InstanceTypeDecl, Error>
     requires shallow { length scopes.old ≤ 1002 }
-    requires few { HasAtMost 100 (own_scope scopes.old) }
-    requires possible { HasTarget making.now.config.now (own_scope scopes.old) (outer_scopes scopes.old) item }
+    requires few { HasAtMost 100 (own_marked scopes.old) }
+    requires possible { HasTarget making.now.config.now (own_marked scopes.old) (outer_marked scopes.old) item }
     ensures made { (so_far : List NamedExtern) → HoldsExterns exports.old so_far → IfOk result (λ d.
-        MadeItem making.now.config.now (own_scope scopes.old) (outer_scopes scopes.old) so_far item u.old fuel.old
+        MadeItem making.now.config.now (own_marked scopes.old) (outer_marked scopes.old) so_far item u.old fuel.old
         (full_instance_decl d) u.new fuel.new) }
     ensures names { (so_far : List NamedExtern) → HoldsExterns exports.old so_far
         → IfOk result (λ d. HoldsExterns exports.new (so_far ++ export_of (full_instance_decl d))) }
@@ -88,12 +88,12 @@ pub(super) fn declaration(
     exports: &mut ExternNames,
 ) -> Result<InstanceTypeDecl, Error>
     requires shallow { length scopes.old ≤ 1002 }
-    requires few { HasAtMost 100 (own_scope scopes.old) }
+    requires few { HasAtMost 100 (own_marked scopes.old) }
     ensures made { (importing : _) (so_far imports : List NamedExtern) (start : List _)
         → HoldsExterns exports.old so_far
-        → NoImportDecl making.now.config.now importing (own_scope scopes.old) start u.old
-        → IfOk result (λ d. MadeDeclaration making.now.config.now importing (outer_scopes scopes.old)
-        (record { own = own_scope scopes.old; imports = imports; exports = so_far }) start fuel.old
+        → NoImportDecl making.now.config.now importing (own_marked scopes.old) start u.old
+        → IfOk result (λ d. MadeDeclaration making.now.config.now importing (outer_marked scopes.old)
+        (record { own = own_marked scopes.old; imports = imports; exports = so_far }) start fuel.old
         (full_instance_decl d) u.new fuel.new) }
     ensures names { (so_far : List NamedExtern) → HoldsExterns exports.old so_far
         → IfOk result (λ d. HoldsExterns exports.new (so_far ++ export_of (full_instance_decl d))) }
@@ -118,10 +118,10 @@ pub(super) fn component_declaration(
     exports: &mut ExternNames,
 ) -> Result<ComponentTypeDef, Error>
     requires shallow { length scopes.old ≤ 1002 }
-    requires few { HasAtMost 100 (own_scope scopes.old) }
+    requires few { HasAtMost 100 (own_marked scopes.old) }
     ensures made { (imported exported : List NamedExtern) → HoldsExterns imports.old imported
         → HoldsExterns exports.old exported → IfOk result (λ d. MadeDeclaration making.now.config.now true
-        (outer_scopes scopes.old) (record { own = own_scope scopes.old; imports = imported; exports = exported })
+        (outer_marked scopes.old) (record { own = own_marked scopes.old; imports = imported; exports = exported })
         u.old fuel.old (full_component_decl d) u.new fuel.new) }
     ensures imports { (imported : List NamedExtern) → HoldsExterns imports.old imported
         → IfOk result (λ d. HoldsExterns imports.new (imported ++ import_of (full_component_decl d))) }
@@ -133,6 +133,7 @@ pub(super) fn component_declaration(
     ensures tail { IsTail u.new u.old }
 {
     if let Some(import) = import(making, u, scopes, imports)? {
+        scopes.note_import(import.ty);
         return Ok(ComponentTypeDef::Import(import));
     }
     let decl = declaration(making, u, scopes, fuel, exports)?;

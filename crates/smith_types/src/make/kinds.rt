@@ -6,9 +6,9 @@ ghost use Rattle.smith_input.specs.Choices.{ReadsAmong};
 ghost use Rattle.smith_input.specs.Reading.{IsTail};
 ghost use Rattle.smith_syntax.specs.Shown.{full_type};
 ghost use Rattle.smith_types.specs.Made.{Made};
-ghost use Rattle.smith_types.specs.MakingTypes.{MadeKind};
+ghost use Rattle.smith_types.specs.MakingTypes.{IsMarkOf, MadeKind};
 ghost use Rattle.smith_tree.specs.TypeOffers.{type_kinds};
-ghost use Rattle.smith_scopes.specs.Scopes.{own_scope, outer_scopes};
+ghost use Rattle.smith_scopes.specs.Scopes.{own_marked, outer_marked};
 ghost use Rattle.smith_tree.specs.declared.choices.TypeKind.TheVariants as kind;
 
 use super::defined::defined_type;
@@ -18,7 +18,7 @@ use super::scoped::scoped_type;
 use smith_format::burn;
 use smith_input::{Error, Unstructured};
 use smith_scopes::Scopes;
-use smith_syntax::DefType;
+use smith_syntax::{DefType, Mark};
 use smith_tree::{TypeKind, type_kinds};
 use std::rc::Rc;
 
@@ -42,43 +42,50 @@ fn type_of(
     scopes: &mut Scopes,
     fuel: &mut u32,
     kind: TypeKind,
-) -> Result<DefType, Error>
+) -> Result<(DefType, Mark), Error>
     requires shallow { length scopes.old ≤ 1001 }
-    ensures made { IfOk result (λ t. MadeKind making.now.config.now (own_scope scopes.old) (outer_scopes scopes.old)
-        kind u.old fuel.old (full_type t) u.new fuel.new) }
+    ensures made { IfOk result (λ t. MadeKind making.now.config.now (own_marked scopes.old) (outer_marked scopes.old)
+        kind u.old fuel.old (full_type t.0) u.new fuel.new) }
+    ensures mark { IfOk result (λ t. IsMarkOf scopes.old (full_type t.0) t.1) }
     ensures scopes { scopes.new ≡ scopes.old }
     ensures memory { IfErr result (λ e. e ≡ Error.OutOfMemory) }
     ensures tail { IsTail u.new u.old }
 {
     match kind {
-        TypeKind::Defined => Ok(DefType::Defined(defined_type(making.alloc, u, scopes, fuel)?)),
+        TypeKind::Defined => {
+            let ty = defined_type(making.alloc, u, scopes, fuel)?;
+            let mark = scopes.defined_mark(&ty);
+            Ok((DefType::Defined(ty), mark))
+        }
         TypeKind::Function => {
             let func = function_type(making.alloc, u, scopes, fuel)?;
-            Ok(DefType::Func(Rc::new(making.alloc, func)?))
+            let mark = scopes.function_mark(&func);
+            Ok((DefType::Func(Rc::new(making.alloc, func)?), mark))
         }
         TypeKind::Component => scoped_type(making, u, scopes, fuel, true),
         TypeKind::Instance => scoped_type(making, u, scopes, fuel, false),
     }
 }
 
-// A type, by the rules of `arbitrary_type`.
+// A type, by the rules of `arbitrary_type`, and its mark.
 #[cycle(making)]
 pub(super) fn made_type(
     making: &Making,
     u: &mut Unstructured,
     scopes: &mut Scopes,
     fuel: &mut u32,
-) -> Result<Rc<DefType>, Error>
+) -> Result<(Rc<DefType>, Mark), Error>
     requires shallow { length scopes.old ≤ 1001 }
-    ensures made { IfOk result (λ t. Made making.now.config.now (own_scope scopes.old) (outer_scopes scopes.old)
-        u.old fuel.old (full_type t.value) u.new fuel.new) }
+    ensures made { IfOk result (λ t. Made making.now.config.now (own_marked scopes.old) (outer_marked scopes.old)
+        u.old fuel.old (full_type t.0.value) u.new fuel.new) }
+    ensures mark { IfOk result (λ t. IsMarkOf scopes.old (full_type t.0.value) t.1) }
     ensures scopes { scopes.new ≡ scopes.old }
     ensures memory { IfErr result (λ e. e ≡ Error.OutOfMemory) }
     ensures tail { IsTail u.new u.old }
 {
     burn(fuel);
     let kind = type_kind(u, *fuel);
-    let made = type_of(making, u, scopes, fuel, kind)?;
+    let (made, mark) = type_of(making, u, scopes, fuel, kind)?;
     let shared = Rc::new(making.alloc, made)?;
-    Ok(shared)
+    Ok((shared, mark))
 }

@@ -5,8 +5,8 @@ ghost use Rattle.smith_input.specs.Names.{ReadsNew};
 ghost use Rattle.smith_input.specs.Reading.{IsTail};
 ghost use Rattle.smith_syntax.specs.Entries.{Field, Case};
 ghost use Rattle.smith_types.specs.Made.{ReadsVal, ReadsMaybe, ReadsNamed, ReadsMembers};
-ghost use Rattle.smith_syntax.specs.Scope.{Scope};
-ghost use Rattle.smith_scopes.specs.Scopes.{own_scope};
+ghost use Rattle.smith_syntax.specs.Marked.{Marked};
+ghost use Rattle.smith_scopes.specs.Scopes.{own_marked};
 ghost use Rattle.smith_syntax.specs.Signature.{named};
 ghost use Rattle.smith_syntax.specs.declared.types.ComponentValType.{ComponentValType as Val};
 
@@ -23,7 +23,7 @@ pub(super) trait Member: Drop {
 
     ghost shown: { Self → Shown };
 
-    ghost reads_member: { Scope → List Shown → List ℕ → Shown → List ℕ → Type 0 };
+    ghost reads_member: { Marked → List Shown → List ℕ → Shown → List ℕ → Type 0 };
 
     // A member after those so far.
     fn read(
@@ -33,7 +33,7 @@ pub(super) trait Member: Drop {
         so_far: &[Self],
     ) -> Result<Self, Error>
         ensures read { IfOk result
-            (λ m. reads_member (own_scope scopes.now) (map shown so_far.now) u.old (shown m) u.new) }
+            (λ m. reads_member (own_marked scopes.now) (map shown so_far.now) u.old (shown m) u.new) }
         ensures memory { IfErr result (λ e. e ≡ Error.OutOfMemory) }
         ensures tail { IsTail u.new u.old };
 }
@@ -48,7 +48,7 @@ pub(super) fn members<M: Member>(
     max: usize,
 ) -> Result<Vec<M>, Error>
     requires { min ≤ max }
-    ensures reads { IfOk result (λ v. ReadsMembers (M.reads_member (own_scope scopes.now)) min max u.old fuel.old
+    ensures reads { IfOk result (λ v. ReadsMembers (M.reads_member (own_marked scopes.now)) min max u.old fuel.old
         (map M.shown v.items) u.new fuel.new) }
     ensures memory { IfErr result (λ e. e ≡ Error.OutOfMemory) }
     ensures tail { IsTail u.new u.old }

@@ -1,16 +1,16 @@
 //! Types of components and of instances, from the input.
 
-ghost use Rattle.std.specs.Prelude.{◌≡◌, ◌+◌, ◌≤◌, [], ◌∷◌, ◌++◌, true, false};
+ghost use Rattle.std.specs.Prelude.{◌≡◌, ◌+◌, ◌≤◌, [], ◌∷◌, ◌++◌, List, true, false};
 ghost use Rattle.std.specs.Prelude.{length, IfOk, IfErr, OnOk, OnErr};
 ghost use Rattle.smith_input.specs.Reading.{IsTail};
 ghost use Rattle.smith_syntax.specs.Entries.{in_order};
 ghost use Rattle.smith_syntax.specs.Shown.{full_type};
-ghost use Rattle.smith_syntax.specs.Scope.{empty_scope};
+ghost use Rattle.smith_syntax.specs.Marked.{Marked, empty_marked, marked_after_all};
 ghost use Rattle.smith_types.specs.Declarations.{SoFar, nothing_so_far};
 ghost use Rattle.smith_types.specs.Made.{MadeDeclarations};
-ghost use Rattle.smith_types.specs.MakingTypes.{AddsDeclaration, HasAtMost, HoldsNames};
+ghost use Rattle.smith_types.specs.MakingTypes.{AddsDeclaration, HasAtMost, HoldsNames, IsMarkOf};
 ghost use Rattle.smith_types.specs.MakingTypes.{MadeScoped, SameOuter, declaring, defs_in, is_importing};
-ghost use Rattle.smith_scopes.specs.Scopes.{own_scope, outer_scopes};
+ghost use Rattle.smith_scopes.specs.Scopes.{last_of, own_marked, outer_marked};
 
 use super::externs::ExternNames;
 use super::items::{component_declaration, declaration};
@@ -18,17 +18,19 @@ use super::making::Making;
 use smith_format::burn;
 use smith_input::{Error, Unstructured};
 use smith_scopes::Scopes;
-use smith_syntax::{ComponentType, ComponentTypeDef, DefType, InstanceType, InstanceTypeDecl};
+use smith_syntax::{
+    ComponentType, ComponentTypeDef, DefType, InstanceType, InstanceTypeDecl, Mark,
+};
 use std::alloc::Global;
 use std::rc::Rc;
 
 // An empty scope is opened in the last one.
 fn open_inner(scopes: &mut Scopes) -> Result<(), Error>
-    ensures opened { OnOk result (scopes.new ≡ scopes.old ++ empty_scope ∷ []) }
+    ensures opened { OnOk result (scopes.new ≡ scopes.old ++ empty_marked (last_of scopes.old).keeps ∷ []) }
     ensures deep { OnOk result (2 ≤ length scopes.new) }
     ensures depth { OnOk result (length scopes.new ≡ length scopes.old + 1) }
-    ensures fresh { OnOk result (own_scope scopes.new ≡ empty_scope) }
-    ensures around { OnOk result (outer_scopes scopes.new ≡ own_scope scopes.old ∷ outer_scopes scopes.old) }
+    ensures fresh { OnOk result (own_marked scopes.new ≡ empty_marked (own_marked scopes.old).keeps) }
+    ensures around { OnOk result (outer_marked scopes.new ≡ own_marked scopes.old ∷ outer_marked scopes.old) }
     ensures err { OnErr result (scopes.new ≡ scopes.old) }
     ensures memory { IfErr result (λ e. e ≡ Error.OutOfMemory) }
 {
@@ -53,7 +55,7 @@ impl TypeBody {
     // What a component type (true) or an instance type (false) declares before its first declaration.
     fn new(alloc: Global, importing: bool) -> TypeBody
         ensures importing { is_importing result ≡ importing }
-        ensures names { HoldsNames result nothing_so_far }
+        ensures names { (outer : List Marked) → HoldsNames result (nothing_so_far outer) }
         ensures defs { defs_in result ≡ [] }
     {
         let exports = ExternNames::new(alloc);
@@ -96,8 +98,8 @@ fn declare(
     declared: &mut TypeBody,
 ) -> Result<(), Error>
     requires shallow { length scopes.old ≤ 1002 }
-    requires few { HasAtMost 100 (own_scope scopes.old) }
-    ensures made { (so_far : SoFar) → own_scope scopes.old ≡ so_far.own → HoldsNames declared.old so_far
+    requires few { HasAtMost 100 (own_marked scopes.old) }
+    ensures made { (so_far : SoFar) → own_marked scopes.old ≡ so_far.own → HoldsNames declared.old so_far
         → OnOk result (AddsDeclaration making.now.config.now scopes.old scopes.new so_far declared.old declared.new
         u.old fuel.old u.new fuel.new) }
     ensures outer { SameOuter scopes.old scopes.new }
@@ -131,9 +133,11 @@ fn declarations(
     importing: bool,
 ) -> Result<TypeBody, Error>
     requires shallow { length scopes.old ≤ 1002 }
-    requires fresh { own_scope scopes.old ≡ empty_scope }
-    ensures made { IfOk result (λ d. MadeDeclarations making.now.config.now importing (outer_scopes scopes.old)
-        0 nothing_so_far u.old fuel.old (in_order (defs_in d)) u.new fuel.new) }
+    requires fresh { own_marked scopes.old ≡ (nothing_so_far (outer_marked scopes.old)).own }
+    ensures made { IfOk result (λ d. MadeDeclarations making.now.config.now importing (outer_marked scopes.old)
+        0 (nothing_so_far (outer_marked scopes.old)) u.old fuel.old (in_order (defs_in d)) u.new fuel.new) }
+    ensures closed { IfOk result (λ d. own_marked scopes.new
+        ≡ marked_after_all (in_order (defs_in d)) (outer_marked scopes.old) (own_marked scopes.old)) }
     ensures importing { IfOk result (λ d. is_importing d ≡ importing) }
     ensures outer { SameOuter scopes.old scopes.new }
     ensures memory { IfErr result (λ e. e ≡ Error.OutOfMemory) }
@@ -161,16 +165,19 @@ pub(super) fn scoped_type(
     scopes: &mut Scopes,
     fuel: &mut u32,
     importing: bool,
-) -> Result<DefType, Error>
+) -> Result<(DefType, Mark), Error>
     requires shallow { length scopes.old ≤ 1001 }
-    ensures made { IfOk result (λ t. MadeScoped making.now.config.now (own_scope scopes.old) (outer_scopes scopes.old)
-        importing u.old fuel.old (full_type t) u.new fuel.new) }
+    ensures made { IfOk result (λ t. MadeScoped making.now.config.now (own_marked scopes.old) (outer_marked scopes.old)
+        importing u.old fuel.old (full_type t.0) u.new fuel.new) }
+    ensures mark { IfOk result (λ t. IsMarkOf scopes.old (full_type t.0) t.1) }
     ensures scopes { scopes.new ≡ scopes.old }
     ensures memory { IfErr result (λ e. e ≡ Error.OutOfMemory) }
     ensures tail { IsTail u.new u.old }
 {
     open_inner(scopes)?;
     let made = declarations(making, u, scopes, fuel, importing);
+    let mark = scopes.closed_mark(!importing);
     scopes.close_scope();
-    made?.finish(making.alloc)
+    let ty = made?.finish(making.alloc)?;
+    Ok((ty, mark))
 }

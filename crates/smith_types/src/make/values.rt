@@ -5,10 +5,10 @@ ghost use Rattle.smith_input.specs.Reading.{IsTail};
 ghost use Rattle.smith_input.specs.Choices.{ReadsAmong};
 ghost use Rattle.smith_tree.specs.TypeOffers.{primitives};
 ghost use Rattle.smith_types.specs.Made.{ReadsVal, ReadsMaybe};
-ghost use Rattle.smith_scopes.specs.Scopes.{own_scope};
+ghost use Rattle.smith_scopes.specs.Scopes.{own_marked};
 
 use smith_input::Unstructured;
-use smith_scopes::{Kind, Scopes};
+use smith_scopes::{Offer, Scopes};
 use smith_syntax::{ComponentValType, PrimitiveValType};
 use smith_tree::primitives;
 
@@ -20,22 +20,22 @@ pub(super) fn primitive_type(u: &mut Unstructured) -> PrimitiveValType
     *u.choose(primitives())
 }
 
-// A value type: primitive, or one of the defined types of the last scope.
+// A value type: primitive, or one of the defined types of the last scope that may be used.
 pub(super) fn value_type(u: &mut Unstructured, scopes: &Scopes) -> ComponentValType
-    ensures reads { ReadsVal (own_scope scopes.now) u.old result u.new }
+    ensures reads { ReadsVal (own_marked scopes.now) u.old result u.new }
     ensures tail { IsTail u.new u.old }
 {
-    let defined = scopes.kind_len(Kind::Defined);
-    if defined > 0 && u.choose_index(2) == 1 {
-        let rank = u.choose_index(defined);
-        return ComponentValType::Indexed(scopes.kind_at(Kind::Defined, rank));
+    let usable = scopes.offered_len(Offer::Value);
+    if usable > 0 && u.choose_index(2) == 1 {
+        let rank = u.choose_index(usable);
+        return ComponentValType::Indexed(scopes.offered_at(Offer::Value, rank));
     }
     ComponentValType::Primitive(primitive_type(u))
 }
 
 // A boolean, and a value type where it is true.
 pub(super) fn maybe_value_type(u: &mut Unstructured, scopes: &Scopes) -> Option<ComponentValType>
-    ensures reads { ReadsMaybe (own_scope scopes.now) u.old result u.new }
+    ensures reads { ReadsMaybe (own_marked scopes.now) u.old result u.new }
     ensures tail { IsTail u.new u.old }
 {
     if u.arbitrary_bool() {

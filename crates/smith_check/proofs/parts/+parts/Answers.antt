@@ -20,7 +20,7 @@ check_part-returns-in_ok-check_parts-in-Component-clause-added t c = λ before k
     rw (c.in-Component.is, shown_nested c.in-Component.parts)
     (after_nested before _ _ k _ _
     (head_same _ _ _ _
-    (sym c.leave.ensures ∙ ((c.in_ok-check_parts-in-Component.ensures {u = tt}).outer ∙ (c.in_ok-enter-in-Component.ensures {u = tt}).outer))))
+    (sym c.leave.ensures.plain ∙ ((c.in_ok-check_parts-in-Component.ensures {u = tt}).outer ∙ (c.in_ok-enter-in-Component.ensures {u = tt}).outer))))
 
 pub check_part-returns-in-Types-clause-added : goal.check_part-returns-in-Types-clause-added
 check_part-returns-in-Types-clause-added t c = λ before k.

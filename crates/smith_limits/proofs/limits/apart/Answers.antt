@@ -1,4 +1,4 @@
-use Rattle.std.proofs.Common.{arith}
+use Rattle.std.proofs.Common.{◌≡◌, true, false, arith, sym, ◌∙◌}
 use Rattle.smith_limits.proofs.limits.apart.Goals as goal
 
 pub returns-clause-fits : goal.returns-clause-fits
@@ -13,4 +13,5 @@ returns-clause-fits c bounded _ = record {
   components = bounded.components;
   instances = bounded.instances;
   nesting = bounded.nesting;
+  valid = λ on. absurd (let z : false ≡ true = sym c.if-config-4.false ∙ on in cc);
 }

@@ -5,10 +5,8 @@ use Rattle.smith_script.proofs.parts.put_tree.Goals as goal
 pub returns-in_err-put_parts : goal.returns-in_err-put_parts
 returns-in_err-put_parts c formed =
     gives_up _ _ _ _ c.from_residual.ensures.1
-    ((rw c.deref.ensures.value at c.in_err-put_parts.ensures.said) [] (record { scopes = c.new-scopes.ensures.outer; here = refl; known = tt })
-    (rw c.new-scopes.ensures.outer formed))
+    ((rw c.deref.ensures.value at c.in_err-put_parts.ensures.said) [] (record { scopes = c.with_marks-scopes.ensures.outer; here = refl; known = tt }) formed)
 
 pub returns : goal.returns
 returns c formed =
-    (rw c.deref.ensures.value at c.in_ok-put_parts.ensures.said) [] (record { scopes = c.new-scopes.ensures.outer; here = refl; known = tt })
-    (rw c.new-scopes.ensures.outer formed)
+    (rw c.deref.ensures.value at c.in_ok-put_parts.ensures.said) [] (record { scopes = c.with_marks-scopes.ensures.outer; here = refl; known = tt }) formed

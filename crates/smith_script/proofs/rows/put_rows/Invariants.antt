@@ -1,6 +1,6 @@
 use Rattle.std.proofs.Common.{◌≡◌, drop, fold, map}
 use Rattle.smith_input.specs.Script.{script_loop}
-use Rattle.smith_read_scopes.specs.Scopes.{outer_in, own_in}
+use Rattle.smith_read_scopes.specs.Scopes.{outer_marked_in, own_marked_in}
 use Rattle.smith_script_core.proofs.Saying.{Towards}
 use Rattle.smith_script.specs.Saying.{rows_say}
 use Rattle.smith_script.specs.Preceding.{preceding}
@@ -9,14 +9,14 @@ use Rattle.smith_script.proofs.rows.put_rows.Given as goal
 abbrev pub invariant-loop-row : goal.invariant-loop-row
 invariant-loop-row g l = record {
   counted : l.done ≡ l.row-index;
-  outer : outer_in l.scopes ≡ outer_in l.initial.scopes;
+  outer : outer_marked_in l.scopes ≡ outer_marked_in l.initial.scopes;
   said : Towards l.initial.out l.out (
-      rows_say (g.T.Row.says l.given.config.now (outer_in l.initial.scopes)) g.T.Row.after l.max (preceding (own_in l.initial.scopes) l.initial.here)
+      rows_say (g.T.Row.says l.given.config.now (outer_marked_in l.initial.scopes)) (g.T.Row.after (outer_marked_in l.initial.scopes)) l.max (preceding (own_marked_in l.initial.scopes) l.initial.here)
       (map g.T.Row.shown l.rows)
       ) (
-      script_loop (g.T.Row.says l.given.config.now (outer_in l.initial.scopes)) g.T.Row.after 0 l.max l.done (preceding (own_in l.scopes) l.here)
+      script_loop (g.T.Row.says l.given.config.now (outer_marked_in l.initial.scopes)) (g.T.Row.after (outer_marked_in l.initial.scopes)) 0 l.max l.done (preceding (own_marked_in l.scopes) l.here)
       (map g.T.Row.shown (drop l.row-index l.rows))
       );
-  added : fold g.T.Row.after (preceding (own_in l.scopes) l.here) (map g.T.Row.shown (drop l.row-index l.rows))
-      ≡ fold g.T.Row.after (preceding (own_in l.initial.scopes) l.initial.here) (map g.T.Row.shown l.rows);
+  added : fold (g.T.Row.after (outer_marked_in l.initial.scopes)) (preceding (own_marked_in l.scopes) l.here) (map g.T.Row.shown (drop l.row-index l.rows))
+      ≡ fold (g.T.Row.after (outer_marked_in l.initial.scopes)) (preceding (own_marked_in l.initial.scopes) l.initial.here) (map g.T.Row.shown l.rows);
 }

@@ -1,5 +1,5 @@
 use Rattle.std.proofs.Common.{arith}
-use Rattle.smith_read_scopes.specs.Scope.{shown_scope}
+use Rattle.smith_read_scopes.specs.Scope.{shown_marked}
 use Rattle.smith_tree.proofs.Aliases.{length-aliases}
 use Rattle.smith_script_types.proofs.declarations.entries_in.Goals as goal
 
@@ -12,7 +12,7 @@ returns c count =
       arith,
       c.types_len.ensures.count,
       c.core_types_len.ensures.count,
-      length-aliases count (shown_scope c.args.scope.now),
+      length-aliases count (shown_marked c.args.scope.now),
       c.types_len.ensures.small,
       c.core_types_len.ensures.small,
     )

@@ -5,7 +5,7 @@ use Rattle.smith_read_types.specs.Nodes.{shown_module_node}
 use Rattle.smith_script_core.proofs.Saying.{Towards, adds_then, gives_up, memory_unsaid, towards_end, towards_exit, towards_start, towards_step, unsaid_left, unsaid_right}
 use Rattle.smith_script_types.proofs.ModuleTurns.{after_within, module_at, module_over, module_start}
 use Rattle.smith_script_types.proofs.TableSteps.{shown_more}
-use Rattle.smith_script_types.specs.Places.{own_at}
+use Rattle.smith_script_types.specs.Places.{plain_at}
 use Rattle.smith_script_types.proofs.modules.put_module.Goals as goal
 
 pub returns-in_err-put_front : goal.returns-in_err-put_front
@@ -34,7 +34,7 @@ loop-index-init c =
       decls = ap (λ s. s.decls) (c.in_ok-declared.ensures {u = tt}).front;
       left = λ fuel.
           subst (Towards c.args.out.now c.put_front.new.out _)
-          (module_start c.args.place.config.now (own_at c.args.place) xs fuel _ _ front (c.in_ok-declared.ensures {u = tt}).front)
+          (module_start c.args.place.config.now (plain_at c.args.place) xs fuel _ _ front (c.in_ok-declared.ensures {u = tt}).front)
           (towards_step _ _ (towards_start _ _) refl (c.in_ok-put_front.ensures {u = tt} fuel));
     }
 
@@ -49,7 +49,7 @@ loop-index-preserved c =
           ∙ shown_more xs c.loop-index.index x c.loop-index-test.true c.index-decls-index.is;
       left = λ fuel.
           towards_step _ _ (c.loop-index.invariant.left fuel)
-          (module_at c.args.place.config.now (own_at c.args.place) xs _ _ _ _ x c.loop-index.invariant.from c.loop-index-test.true c.index-decls-index.is more)
+          (module_at c.args.place.config.now (plain_at c.args.place) xs _ _ _ _ x c.loop-index.invariant.from c.loop-index-test.true c.index-decls-index.is more)
           (adds_then (c.in_ok-put_more.ensures {u = tt}) (c.in_ok-put_decl.ensures {u = tt}));
     }
 
@@ -57,7 +57,7 @@ pub returns-in_err-put_more : goal.returns-in_err-put_more
 returns-in_err-put_more c fuel =
     gives_up _ _ _ _ c.from_residual-in_err-put_more.ensures.1
     (towards_exit _ _ (c.loop-index.invariant.left fuel)
-    (module_at c.args.place.config.now (own_at c.args.place) c.args.decls.now _ _ _ _ c.index-decls-index.result c.loop-index.invariant.from
+    (module_at c.args.place.config.now (plain_at c.args.place) c.args.decls.now _ _ _ _ c.index-decls-index.result c.loop-index.invariant.from
     c.loop-index-test.true c.index-decls-index.is refl)
     (unsaid_left _ (c.in_err-put_more.ensures {u = tt})))
 
@@ -65,7 +65,7 @@ pub returns-in_err-put_decl : goal.returns-in_err-put_decl
 returns-in_err-put_decl c fuel =
     gives_up _ _ _ _ c.from_residual-in_err-put_decl.ensures.1
     (towards_exit _ _ (c.loop-index.invariant.left fuel)
-    (module_at c.args.place.config.now (own_at c.args.place) c.args.decls.now _ _ _ _ c.index-decls-index.result c.loop-index.invariant.from
+    (module_at c.args.place.config.now (plain_at c.args.place) c.args.decls.now _ _ _ _ c.index-decls-index.result c.loop-index.invariant.from
     c.loop-index-test.true c.index-decls-index.is refl)
     (unsaid_right _ (c.in_err-put_decl.ensures {u = tt})))
 
@@ -76,4 +76,4 @@ pub returns : goal.returns
 returns c fuel =
     let all : c.loop-index.index ≡ length c.args.decls.now = omega (arith, c.loop-index-test.false, c.loop-index.auto.index-end) in
     towards_end c.put_end.result _ (c.loop-index.invariant.left fuel)
-    (rw (module_over c.args.place.config.now (own_at c.args.place) c.args.decls.now _ _ _ c.loop-index-test.false, all) c.put_end.ensures)
+    (rw (module_over c.args.place.config.now (plain_at c.args.place) c.args.decls.now _ _ _ c.loop-index-test.false, all) c.put_end.ensures)

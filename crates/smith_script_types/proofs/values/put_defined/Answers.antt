@@ -2,17 +2,17 @@ use Rattle.std.specs.Prelude.{string_bytes}
 use Rattle.smith_syntax.specs.Signature.{named}
 use Rattle.smith_tree.specs.TypeScript.{script_case, script_field, script_label}
 use Rattle.smith_script_types.proofs.Turns.{members_map}
-use Rattle.smith_read_scopes.specs.Scope.{shown_scope}
+use Rattle.smith_read_scopes.specs.Scope.{shown_marked}
 use Rattle.smith_script_types.proofs.values.put_defined.Goals as goal
 
 pub returns-in-Record : goal.returns-in-Record
 returns-in-Record c =
-    rw (c.in-Record.is, members_map (script_field (shown_scope c.args.own.now)) named 1 100 c.in-Record.ty.fields.items)
+    rw (c.in-Record.is, members_map (script_field (shown_marked c.args.own.now)) named 1 100 c.in-Record.ty.fields.items)
     (rw c.deref.ensures.value at c.put_list.ensures)
 
 pub returns-in-Variant : goal.returns-in-Variant
 returns-in-Variant c =
-    rw (c.in-Variant.is, members_map (script_case (shown_scope c.args.own.now)) named 1 100 c.in-Variant.ty.cases.items)
+    rw (c.in-Variant.is, members_map (script_case (shown_marked c.args.own.now)) named 1 100 c.in-Variant.ty.cases.items)
     (rw c.deref-in-Variant.ensures.value at c.put_list-in-Variant.ensures)
 
 pub returns-in-Flags : goal.returns-in-Flags

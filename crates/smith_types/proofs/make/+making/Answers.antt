@@ -1,30 +1,31 @@
-use Rattle.std.proofs.Common.{refl, sym, ap, ◌∙◌, subst, arith, true, false, append-nil, length}
+use Rattle.std.proofs.Common.{◌≡◌, refl, sym, ap, ◌∙◌, subst, arith, true, false, append-nil, length}
 use Rattle.std.proofs.lemmas.Result.{IfOk-weaker}
 use Rattle.smith_input.proofs.Reading.{tail_trans, more_tail}
-use Rattle.smith_syntax.specs.Entries.{FullDecl}
-use Rattle.smith_syntax.specs.Scope.{after_decl, with_type}
-use Rattle.smith_syntax.specs.Shown.{full_type, shown_type}
+use Rattle.smith_syntax.specs.Entries.{FullDecl, function, in_order}
+use Rattle.smith_syntax.specs.Marked.{mark}
+use Rattle.smith_syntax.specs.Shown.{full_type}
 use Rattle.smith_syntax.specs.WellFormed.{import_of}
 use Rattle.smith_syntax.specs.declared.deftype.DefType.{DefType}
-use Rattle.smith_syntax.proofs.Shown.{component_import, instance_type_decl}
+use Rattle.smith_syntax.specs.declared.deftype.DefType.TheVariants.{Func}
+use Rattle.smith_syntax.proofs.Shown.{component_import, full_defined, full_func, instance_type_decl}
 use Rattle.smith_types.specs.Declarations.{in_instance}
 use Rattle.smith_types.specs.Made.{Made, MadeDeclaration, made_import}
-use Rattle.smith_scopes.specs.Scopes.{own_scope, outer_scopes}
-use Rattle.smith_types.specs.MakingTypes.{AddsDeclaration, HoldsNames}
+use Rattle.smith_scopes.specs.Scopes.{AddsMarked, own_marked, outer_marked}
+use Rattle.smith_types.specs.MakingTypes.{AddsDeclaration, Declares, HoldsNames, IsMarkOf, declaring, defs_in}
 use Rattle.smith_types.specs.declared.make.scoped.TypeBody.{TypeBody}
 use Rattle.smith_types.specs.declared.make.scoped.TypeBody.TheVariants.{Component, Instance}
-use Rattle.smith_types.proofs.Declaring.{declares, same_trans, closed_again}
+use Rattle.smith_types.proofs.Declaring.{closed_again, import_declared, length-last_types, same_trans, type_declared}
 use Rattle.smith_types.proofs.MadeTypes.{declaration_size}
-use Rattle.smith_types.proofs.MakingTypes.{item_made, type_made, names_stay}
-use Rattle.smith_types.proofs.Progressing.{adds_to_component, adds_to_instance, stops, spends, is_full, goes_on}
-use Rattle.smith_scopes.proofs.Stack.{length-last, grown}
+use Rattle.smith_types.proofs.MakingTypes.{item_made, scoped_marked, type_made, names_stay}
+use Rattle.smith_types.proofs.Progressing.{adds_to_component, adds_to_instance, closes, stops, spends, is_full, goes_on}
+use Rattle.smith_scopes.proofs.Stack.{keeps_last}
 use Rattle.smith_types.proofs.make.+making.Goals as goal
 
 pub items::component_declaration-returns-in-Some-clause-made : goal.items::component_declaration-returns-in-Some-clause-made
 items::component_declaration-returns-in-Some-clause-made t c = λ imported exported held other.
     let reads = rw c.in-Some.is at (c.in_ok-import.ensures.reads imported held) in
-    let P : FullDecl → Type 0 = λ d. MadeDeclaration c.args.making.now.config.now true (outer_scopes c.args.scopes.now)
-    (record { own = own_scope c.args.scopes.now; imports = imported; exports = exported }) c.args.u.now c.args.fuel.now d c.import.new.u c.args.fuel.now in
+    let P : FullDecl → Type 0 = λ d. MadeDeclaration c.args.making.now.config.now true (outer_marked c.args.scopes.now)
+    (record { own = own_marked c.args.scopes.now; imports = imported; exports = exported }) c.args.u.now c.args.fuel.now d c.import.new.u c.args.fuel.now in
     subst P (sym (component_import c.in-Some.import)) (made_import refl reads refl)
 
 pub items::component_declaration-returns-clause-imports : goal.items::component_declaration-returns-clause-imports
@@ -35,8 +36,8 @@ items::component_declaration-returns-clause-imports t c = λ imported held.
 pub items::declaration-returns-clause-made : goal.items::declaration-returns-clause-made
 items::declaration-returns-clause-made t c = λ importing so_far imports start held none.
     IfOk-weaker c.declaration_of.result _ _
-    (λ d m. item_made c.args.making.now.config.now importing (record { own = own_scope c.args.scopes.now; imports = imports; exports = so_far })
-    (outer_scopes c.args.scopes.now) start _ _ _ _ _ _ _ none c.declaration_item-item.ensures.reads m)
+    (λ d m. item_made c.args.making.now.config.now importing (record { own = own_marked c.args.scopes.now; imports = imports; exports = so_far })
+    (outer_marked c.args.scopes.now) start _ _ _ _ _ _ _ none c.declaration_item-item.ensures.reads m)
     (c.declaration_of.ensures.made so_far held)
 
 pub items::declaration_of-returns-in-Alias-clause-names : goal.items::declaration_of-returns-in-Alias-clause-names
@@ -65,30 +66,26 @@ kinds::made_type-returns-clause-tail t c = tail_trans c.in_ok-made.ensures.tail 
 
 pub kinds::made_type-returns-clause-made : goal.kinds::made_type-returns-clause-made
 kinds::made_type-returns-clause-made t c =
-    let P : DefType → Type 0 = λ ty. Made c.args.making.now.config.now (own_scope c.args.scopes.now) (outer_scopes c.args.scopes.now) c.args.u.now
+    let P : DefType → Type 0 = λ ty. Made c.args.making.now.config.now (own_marked c.args.scopes.now) (outer_marked c.args.scopes.now) c.args.u.now
     c.args.fuel.now (full_type ty) c.type_of.new.u c.type_of.new.fuel in
     subst P (sym c.in_ok-shared.ensures.ok)
-    (type_made c.args.making.now.config.now (own_scope c.args.scopes.now) (outer_scopes c.args.scopes.now) _ _ _ c.type_kind-kind.result c.args.fuel.now
+    (type_made c.args.making.now.config.now (own_marked c.args.scopes.now) (outer_marked c.args.scopes.now) _ _ _ c.type_kind-kind.result c.args.fuel.now
     c.burn.new.fuel _ _ c.burn.ensures c.type_kind-kind.ensures.spent c.type_kind-kind.ensures.chosen c.in_ok-made.ensures.made)
 
-pub items::type_decl-push_type-requires : goal.items::type_decl-push_type-requires
-items::type_decl-push_type-requires t c = omega (
+pub items::type_decl-push_marked-requires : goal.items::type_decl-push_marked-requires
+items::type_decl-push_marked-requires t c = omega (
   arith,
-  length-last c.made_type.new.scopes,
-  ap (λ s. length (own_scope s).types) c.in_ok-ty.ensures.scopes,
+  length-last_types c.made_type.new.scopes,
+  ap (λ s. length (own_marked s).types) c.in_ok-ty.ensures.scopes,
   c.requires.room,
 )
 
 pub items::type_decl-returns-clause-declares : goal.items::type_decl-returns-clause-declares
 items::type_decl-returns-clause-declares t c =
-    let old = c.args.scopes.now in
-    let g = grown _ _ _ c.in_ok-push_type.ensures.ok in
     let same = c.in_ok-ty.ensures.scopes in
-    declares _ _ _
-    (g.own ∙ (ap (λ s. with_type (own_scope s) (shown_type c.in_ok-entry.entry.value)) same
-    ∙ (ap (λ ty. with_type (own_scope old) (shown_type ty)) c.in_ok-entry.ensures.cases
-    ∙ ap (after_decl (outer_scopes old) (own_scope old)) (sym (instance_type_decl c.in_ok-ty.ty)))))
-    (g.outer ∙ ap outer_scopes same)
+    type_declared c.args.scopes.now c.push_marked.new.self _ c.in_ok-ty.ty.value c.in_ok-ty.mark _
+    (subst (λ s. AddsMarked s c.in_ok-entry.entry.value c.in_ok-ty.mark c.push_marked.new.self) same c.in_ok-push_marked.ensures.ok)
+    c.in_ok-entry.ensures.cases (instance_type_decl c.in_ok-ty.ty) c.in_ok-ty.ensures.mark
 
 pub scoped::declarations-returns-then-not-more-clause-made : goal.scoped::declarations-returns-then-not-more-clause-made
 scoped::declarations-returns-then-not-more-clause-made t c = stops c.loop-done.invariant.progress _ c.more.result c.more.ensures c.if-not-more.true
@@ -98,7 +95,8 @@ scoped::declarations-returns-then-fuel-eq0-clause-made t c =
     spends c.loop-done.invariant.progress _ c.more.result c.burn.new.fuel c.more.ensures c.if-not-more.false c.burn.ensures c.if-fuel-eq0.true
 
 pub scoped::declarations-returns-in_err-declare-clause-tail : goal.scoped::declarations-returns-in_err-declare-clause-tail
-scoped::declarations-returns-in_err-declare-clause-tail t c = tail_trans c.declare.ensures.tail (tail_trans (more_tail c.more.ensures) c.loop-done.invariant.tail)
+scoped::declarations-returns-in_err-declare-clause-tail t c = tail_trans c.declare.ensures.tail
+    (tail_trans (more_tail c.more.ensures) c.loop-done.invariant.tail)
 
 pub scoped::declarations-loop-done-preserved : goal.scoped::declarations-loop-done-preserved
 scoped::declarations-loop-done-preserved t c =
@@ -143,3 +141,46 @@ scoped::scoped_type-returns-in_err-made-clause-scopes t c = closed_again c.args.
 pub scoped::scoped_type-returns-clause-scopes : goal.scoped::scoped_type-returns-clause-scopes
 scoped::scoped_type-returns-clause-scopes t c = closed_again c.args.scopes.now c.open_inner.new.scopes c.declarations-made.new.scopes
     c.close_scope.new.self _ _ c.in_ok-open_inner.ensures.opened c.declarations-made.ensures.outer c.close_scope.ensures
+
+pub scoped::declarations-returns-then-not-more-clause-closed : goal.scoped::declarations-returns-then-not-more-clause-closed
+scoped::declarations-returns-then-not-more-clause-closed t c = closes c.loop-done.invariant.progress c.requires.fresh
+
+pub scoped::declarations-returns-then-fuel-eq0-clause-closed : goal.scoped::declarations-returns-then-fuel-eq0-clause-closed
+scoped::declarations-returns-then-fuel-eq0-clause-closed t c = closes c.loop-done.invariant.progress c.requires.fresh
+
+pub scoped::declarations-returns-clause-closed : goal.scoped::declarations-returns-clause-closed
+scoped::declarations-returns-clause-closed t c = closes c.loop-done.invariant.progress c.requires.fresh
+
+pub items::component_declaration-returns-in-Some-clause-declares : goal.items::component_declaration-returns-in-Some-clause-declares
+items::component_declaration-returns-in-Some-clause-declares t c =
+    let P : FullDecl → Type 0 = λ d. Declares c.args.scopes.now c.note_import.new.self d in
+    subst P (sym (component_import c.in-Some.import)) (import_declared _ _ _ _ c.in-Some.import.ty c.note_import.ensures)
+
+pub kinds::type_of-returns-in_ok-ty-in-Defined-clause-mark : goal.kinds::type_of-returns-in_ok-ty-in-Defined-clause-mark
+kinds::type_of-returns-in_ok-ty-in-Defined-clause-mark t c = λ keeps.
+    let scopes = c.args.scopes.now in
+    c.defined_mark-mark.ensures (keeps_last scopes ∙ keeps)
+    ∙ ap (λ e. mark e (own_marked scopes) (outer_marked scopes)) (sym (full_defined c.in_ok-ty-in-Defined.ty))
+
+pub kinds::type_of-returns-in_ok-new-in-Function-clause-mark : goal.kinds::type_of-returns-in_ok-new-in-Function-clause-mark
+kinds::type_of-returns-in_ok-new-in-Function-clause-mark t c = λ keeps.
+    let scopes = c.args.scopes.now in
+    let func : full_type (Func c.in_ok-new-in-Function.field-0) ≡ function c.in_ok-func-in-Function.func =
+    full_func c.in_ok-new-in-Function.field-0 ∙ ap function c.in_ok-new-in-Function.ensures.ok in
+    c.function_mark-mark.ensures (keeps_last scopes ∙ keeps) ∙ ap (λ e. mark e (own_marked scopes) (outer_marked scopes)) (sym func)
+
+pub kinds::made_type-returns-clause-mark : goal.kinds::made_type-returns-clause-mark
+kinds::made_type-returns-clause-mark t c =
+    let P : DefType → Type 0 = λ ty. IsMarkOf c.args.scopes.now (full_type ty) c.in_ok-made.mark in
+    subst P (sym c.in_ok-shared.ensures.ok) c.in_ok-made.ensures.mark
+
+pub scoped::scoped_type-returns-in_err-ty-clause-scopes : goal.scoped::scoped_type-returns-in_err-ty-clause-scopes
+scoped::scoped_type-returns-in_err-ty-clause-scopes t c = closed_again c.args.scopes.now c.open_inner.new.scopes c.declarations-made.new.scopes
+    c.close_scope.new.self _ _ c.in_ok-open_inner.ensures.opened c.declarations-made.ensures.outer c.close_scope.ensures
+
+pub scoped::scoped_type-returns-clause-mark : goal.scoped::scoped_type-returns-clause-mark
+scoped::scoped_type-returns-clause-mark t c =
+    let made = c.in_ok-made.ensures in
+    scoped_marked c.args.importing c.args.scopes.now c.open_inner.new.scopes c.declarations-made.new.scopes _ _ _ c.in_ok-open_inner.ensures.fresh
+    c.in_ok-open_inner.ensures.around made.closed c.closed_mark-mark.ensures
+    (c.in_ok-ty.ensures.finished ∙ ap (λ b. declaring b (in_order (defs_in c.in_ok-made.field-0))) made.importing)

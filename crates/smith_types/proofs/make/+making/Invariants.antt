@@ -1,7 +1,7 @@
 use Rattle.std.proofs.Common.{◌+◌, ◌*◌, ◌≤◌}
 use Rattle.smith_input.specs.Reading.{IsTail}
 use Rattle.smith_types.specs.MakingTypes.{Progress, SameOuter}
-use Rattle.smith_scopes.specs.Scopes.{outer_scopes}
+use Rattle.smith_scopes.specs.Scopes.{outer_marked}
 use Rattle.smith_types.proofs.make.+making.Given as goal
 
 abbrev pub decreases-kinds::made_type : goal.decreases-kinds::made_type
@@ -34,7 +34,7 @@ decreases-kinds::type_of l = 9 * l.fuel.now + 7
 -- what completes the declarations so far completes all of them
 abbrev pub invariant-scoped::declarations-loop-done : goal.invariant-scoped::declarations-loop-done
 invariant-scoped::declarations-loop-done l = record {
-  progress : Progress l.making.config.now l.importing (outer_scopes l.fn.scopes) l.fn.u l.fn.fuel l.done l.scopes l.declared l.u l.fuel;
+  progress : Progress l.making.config.now l.importing (outer_marked l.fn.scopes) l.fn.u l.fn.fuel l.done l.scopes l.declared l.u l.fuel;
   outer : SameOuter l.fn.scopes l.scopes;
   fuel : l.fuel ≤ l.fn.fuel;
   tail : IsTail l.u l.fn.u;

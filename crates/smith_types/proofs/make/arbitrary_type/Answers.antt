@@ -1,24 +1,41 @@
-use Rattle.std.proofs.Common.{ℕ, ◌+◌, ◌≤◌, subst}
+use Rattle.std.proofs.Common.{ℕ, ◌+◌, ◌≤◌, List, sym, subst, ◌∙◌}
 use Rattle.std.specs.Prelude.{max}
-use Rattle.smith_syntax.specs.Shown.{shown_shared}
+use Rattle.smith_syntax.specs.Marked.{scope_in}
 use Rattle.smith_syntax.specs.Nesting.{nesting}
-use Rattle.smith_scopes.specs.Scopes.{inward}
-use Rattle.smith_types.proofs.MadeFormed.{made_formed}
+use Rattle.smith_syntax.specs.Scope.{Scope}
+use Rattle.smith_syntax.specs.Shown.{full_type, shown_shared}
+use Rattle.smith_syntax.specs.WellFormed.{FormedEntry}
+use Rattle.smith_scopes.specs.Scopes.{inward_marked, outer_marked, outer_scopes, own_marked}
+use Rattle.smith_scopes.proofs.Stack.{length-inward_marked, outer_scopes_are, own_scope_is}
+use Rattle.smith_types.proofs.MadeFormed.{made_formed, made_offered}
 use Rattle.smith_types.proofs.MadeTypes.{made_limits, made_size, stack_nesting}
-use Rattle.smith_scopes.proofs.Stack.{length-inward}
+use Rattle.smith_types.proofs.MarkedPlain.{mark_plain}
 use Rattle.smith_types.proofs.ScopedScript.{type_scripted}
 use Rattle.smith_types.proofs.make.arbitrary_type.Goals as goal
 
 pub returns-clause-formed : goal.returns-clause-formed
-returns-clause-formed c = made_formed _ _ _ _ _ _ _ _ c.in_ok-made.ensures.made
+returns-clause-formed c =
+    let scopes = c.args.scopes.now in
+    let e = shown_shared c.in_ok-made.made.0 in
+    let Own : Scope → Type 0 = λ s. FormedEntry e s (outer_scopes scopes) in
+    let Outer : List Scope → Type 0 = λ ss. FormedEntry e (scope_in (own_marked scopes)) ss in
+    subst Own (sym (own_scope_is scopes)) (subst Outer (sym (outer_scopes_are scopes)) (made_formed _ _ _ _ _ _ _ _ c.in_ok-made.ensures.made))
+
+pub returns-clause-offered : goal.returns-clause-offered
+returns-clause-offered c = made_offered _ _ _ _ _ _ _ _ c.in_ok-made.ensures.made
+
+pub returns-clause-mark : goal.returns-clause-mark
+returns-clause-mark c = λ keeps.
+    c.in_ok-made.ensures.mark keeps
+    ∙ sym (mark_plain (full_type c.in_ok-made.made.0.value) (own_marked c.args.scopes.now) (outer_marked c.args.scopes.now))
 
 pub returns-clause-limits : goal.returns-clause-limits
 returns-clause-limits c = made_limits _ _ _ _ _ _ _ _ c.in_ok-made.ensures.made
 
 pub returns-clause-nesting : goal.returns-clause-nesting
 returns-clause-nesting c =
-    let P : ℕ → Type 0 = λ n. n + nesting (shown_shared c.in_ok-made.made) ≤ max (n + 1) c.args.config.now.max_nesting_depth in
-    subst P (length-inward c.args.scopes.now) (stack_nesting c.args.config.now (inward c.args.scopes.now) _ _ _ _ _ c.in_ok-made.ensures.made)
+    let P : ℕ → Type 0 = λ n. n + nesting (shown_shared c.in_ok-made.made.0) ≤ max (n + 1) c.args.config.now.max_nesting_depth in
+    subst P (length-inward_marked c.args.scopes.now) (stack_nesting c.args.config.now (inward_marked c.args.scopes.now) _ _ _ _ _ c.in_ok-made.ensures.made)
 
 pub returns-clause-size : goal.returns-clause-size
 returns-clause-size c = made_size _ _ _ _ _ _ _ _ c.in_ok-made.ensures.made

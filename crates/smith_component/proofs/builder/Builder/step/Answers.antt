@@ -23,9 +23,9 @@ pub returns-in_err-done-clause-fills : goal.returns-in_err-done-clause-fills
 returns-in_err-done-clause-fills c can =
     let b = c.self.inside.progress in
     let i = c.self.invariant in
-    let C : Building → Type 0 = λ v. CanFill v.config (open_of v).inner in
+    let C : Building → Type 0 = λ v. CanFill v.config (open_of v).outer (open_of v).inner in
     refused _ _ (λ e. e ≡ MinimumNotMet → ⊥) c.from_residual.ensures.1
-    (never_minimum b.config (stack_of b) c.args.u.now c.turn.new.u i.0.sound.consistent i.1.0.tabled.grounded (subst C (sym c.self.view_is) can) _
+    (never_minimum b.config (stack_of b) c.args.u.now c.turn.new.u i.0.sound i.1.0.tabled.grounded (subst C (sym c.self.view_is) can) _
     c.in_err-done.ensures.refuses)
 
 pub returns-in-None-clause-steps : goal.returns-in-None-clause-steps

@@ -10,7 +10,7 @@ pub add_section-requires : goal.add_section-requires
 add_section-requires c =
     record {
       sound = c.requires.sound;
-      quiet = record { spaces = λ s. refl; imports = refl; canons = refl; exports = refl };
+      quiet = record { spaces = λ s. refl; marked = λ s outer own. refl; imports = refl; canons = refl; exports = refl };
       addable = addable_module _ _ _ (module_offered_is c.args.self.now.config (stack_of c.args.self.now) c.requires.offered);
     }
 

@@ -1,12 +1,12 @@
 use Rattle.std.proofs.Common.{[], ◌∷◌, sym, subst, ap, ◌∙◌, refl, arith, length}
-use Rattle.smith_syntax.specs.Places.{own_of}
+use Rattle.smith_syntax.specs.Marked.{first_marked}
 use Rattle.smith_component.specs.BuilderView.{stack_of}
 use Rattle.smith_tree.specs.Open.{with_inner}
 use Rattle.smith_component.specs.Shown.{shown_section}
 use Rattle.smith_component.specs.Sound.{Sound}
 use Rattle.smith_tree.specs.Spaces.{spaces_of}
-use Rattle.smith_tree.specs.WellFormed.{scope_of}
-use Rattle.smith_component.proofs.Growth.{scope-add, scope_at}
+use Rattle.smith_tree.specs.Marking.{marked_in, marked_inner}
+use Rattle.smith_tree.proofs.Marking.{marked_add}
 use Rattle.smith_component.proofs.Items.{grows}
 use Rattle.smith_component.proofs.Sound.{part_sound, totalled_part}
 use Rattle.smith_component.proofs.SectionValues.{is_tabled_added}
@@ -34,7 +34,9 @@ returns c =
     let new = c.in_ok-push.ensures.ok in
     let same = q.spaces (spaces_of stack.inner) in
     let none = none_imported p q.imports in
-    let own = ap own_of i.0.scopes_are ∙ sym (ap scope_of new ∙ (scope-add stack.inner p ∙ ap scope_at same)) in
+    let around = marked_in b.config stack.outer in
+    let own = ap first_marked i.0.scopes_are ∙ sym (ap (marked_inner b.config stack.outer) new ∙ (marked_add b.config around stack.inner p
+    ∙ q.marked (spaces_of stack.inner) around (marked_inner b.config stack.outer stack.inner))) in
     let sound = subst (λ t. Sound b.config (with_inner stack t)) (sym new) (part_sound b.config stack p a i.0.sound) in
     let totalled = totalled_part b.config stack.outer stack.inner _ b.totals _ p a.no_component new
     (omega (arith, c.module_count-modules.ensures, ap length none.0)) (omega (arith, ap length none.1)) (omega (arith, ap length none.2)) i.0.totalled in

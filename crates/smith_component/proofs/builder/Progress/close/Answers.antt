@@ -2,20 +2,19 @@ use Rattle.std.proofs.Common.{◌≡◌, ◌++◌, ◌∷◌, [], List, map, sym
 use Rattle.std.proofs.lemmas.List.{map-append}
 use Rattle.std.specs.List.{AllByRecursion}
 use Rattle.smith_scopes.specs.Scopes.{last_of}
-use Rattle.smith_scopes.proofs.Stack.{length-inward, closed_scope}
+use Rattle.smith_scopes.proofs.Stack.{length-inward_marked, closed_marked}
 use Rattle.smith_component.specs.Tables.{IsTabled}
-use Rattle.smith_tree.specs.Open.{scopes_in}
+use Rattle.smith_tree.specs.Marking.{marked_in, marked_inner}
+use Rattle.smith_tree.proofs.Marking.{marked_add}
 use Rattle.smith_component.specs.Shown.{shown_sections}
 use Rattle.smith_component.specs.Sound.{Sound}
 use Rattle.smith_component.specs.Turn.{answered}
 use Rattle.smith_tree.specs.Tree.{Tree, add, component}
-use Rattle.smith_tree.specs.WellFormed.{scope_of}
 use Rattle.smith_component.specs.declared.builder.open.OpenComponent.{OpenComponent}
 use Rattle.smith_component.specs.declared.component.Section.{Section}
 use Rattle.smith_component.specs.declared.component.Section.TheVariants.{Component as inner_section}
 use Rattle.smith_component.proofs.Shown.{none_open, outer_popped, trees_of}
-use Rattle.smith_component.proofs.Growth.{scope-add}
-use Rattle.smith_component.proofs.Sound.{root_kept, sound_close, totalled_close, closes, scopes_from-snoc, length-scopes_from, same_tail}
+use Rattle.smith_component.proofs.Sound.{root_kept, sound_close, totalled_close, closes, marked_in-snoc, length-marked_from, same_tail}
 use Rattle.smith_component.proofs.SectionValues.{is_tabled_added}
 use Rattle.smith_scopes.proofs.Plain.{all_back, all_front}
 use Rattle.smith_component.proofs.builder.Progress.close.Goals as goal
@@ -37,9 +36,9 @@ close_scope-requires c =
     let some = outer_popped _ _ _ c.in-Some.ensures.items in
     omega (
       arith,
-      length-inward b.scopes,
+      length-inward_marked b.scopes,
       ap length c.requires.sound.0.scopes_are,
-      length-scopes_from outer [],
+      length-marked_from b.config outer [],
       ap length some,
       length-append (trees_of c.pop.new.self.items) (shown_sections c.in-Some.parent.sections.items ∷ []),
     )
@@ -55,8 +54,8 @@ returns-in_ok-push-in-Some-clause-closes c =
     let finished : c.of-component.result ≡ inner = c.of-component.ensures
     ∙ ap (λ (o : OpenComponent). shown_sections o.sections.items) c.replace-finished.ensures.value in
     let new = around_grown _ _ _ _ c.replace-finished.ensures.after c.in_ok-push-in-Some.ensures.ok ∙ ap (λ t. add parent (component t)) finished in
-    let before = closed_scope b.scopes c.close_scope.new.self (last_of b.scopes) c.close_scope.ensures in
-    let rest = same_tail _ _ _ _ (sym before ∙ (i.0.scopes_are ∙ ap (λ us. scope_of inner ∷ scopes_in us) around)) in
+    let before = closed_marked b.scopes c.close_scope.new.self (last_of b.scopes) c.close_scope.ensures in
+    let rest = same_tail _ _ _ _ (sym before ∙ (i.0.scopes_are ∙ ap (λ us. marked_inner b.config us inner ∷ marked_in b.config us) around)) in
     let enough = c.requires.minima in
     let all = subst (AllByRecursion IsTabled) c.in-Some.ensures.items i.1.1 in
     let last = all_back IsTabled c.pop.new.self.items (c.in-Some.parent ∷ []) all in
@@ -73,7 +72,10 @@ returns-in_ok-push-in-Some-clause-closes c =
           sound = subst (λ t. Sound b.config (record { outer = outers; inner = t })) (sym new)
               (sound_close b.config outers parent inner enough (subst (λ us. Sound b.config (record { outer = us; inner = inner })) around i.0.sound));
           valtypes_are = i.0.valtypes_are;
-          scopes_are = rest ∙ (scopes_from-snoc outers parent [] ∙ ap (λ s. s ∷ scopes_in outers) (sym (ap scope_of new ∙ scope-add parent (component inner))));
+          scopes_are = rest
+              ∙ (marked_in-snoc b.config outers parent
+              ∙ ap (λ s. s ∷ marked_in b.config outers)
+              (sym (ap (marked_inner b.config outers) new ∙ marked_add b.config (marked_in b.config outers) parent (component inner))));
           totalled = totalled_close outers _ parent inner _ b.totals around new i.0.totalled;
         },
         (

@@ -1,5 +1,5 @@
 use Rattle.std.proofs.Common.{length, sym, ap, ◌∙◌}
-use Rattle.smith_syntax.specs.Places.{own_of}
+use Rattle.smith_component.proofs.TracksStack.{tracked_own}
 use Rattle.smith_component.specs.Counted.{count_of}
 use Rattle.smith_component.specs.SectionValues.{externs_of}
 use Rattle.smith_component.specs.Shown.{shown_sections}
@@ -15,7 +15,7 @@ returns-in-Imports c =
 
 pub returns-in-Types : goal.returns-in-Types
 returns-in-Types c =
-    let n = c.own_len.ensures.count ∙ ap (λ ss. length (own_of ss).types) c.requires.0.scopes_are in
+    let n = c.own_len.ensures.count ∙ ap (λ s. length s.types) (tracked_own c.args.self.now.scopes c.requires.0) in
     n ∙ sym (ap (λ (what : Counted). count_of what (shown_sections c.args.self.now.inner.sections.items)) c.in-Types.is)
 
 pub returns-in-Functions : goal.returns-in-Functions

@@ -1,19 +1,20 @@
 use Rattle.std.proofs.Common.{sym, ap, subst, refl, ◌∙◌, ◌++◌, ◌∷◌, [], List, map, arith, inl, inr}
 use Rattle.std.proofs.lemmas.List.{map-append}
 use Rattle.std.specs.List.{AllByRecursion}
-use Rattle.smith_syntax.specs.Scope.{empty_scope}
-use Rattle.smith_scopes.proofs.Stack.{opened_scope}
+use Rattle.smith_syntax.specs.Marked.{empty_marked, first_marked}
+use Rattle.smith_scopes.specs.Scopes.{inward_marked, last_of}
+use Rattle.smith_scopes.proofs.Stack.{keeps_last, opened_marked}
 use Rattle.smith_component.specs.BuilderView.{stack_of}
-use Rattle.smith_tree.specs.Open.{scopes_in}
+use Rattle.smith_tree.specs.Marking.{marked_in, marked_inner}
+use Rattle.smith_tree.proofs.Marking.{marked_keeps}
 use Rattle.smith_component.specs.Shown.{shown_sections}
 use Rattle.smith_component.specs.Sound.{Sound}
 use Rattle.smith_component.specs.Tables.{IsTabled}
 use Rattle.smith_component.specs.Turn.{building}
-use Rattle.smith_tree.specs.WellFormed.{scope_of}
 use Rattle.smith_component.specs.declared.builder.open.OpenComponent.{OpenComponent}
 use Rattle.smith_component.specs.declared.component.Section.{Section}
 use Rattle.smith_component.proofs.Shown.{outer_popped, trees_of}
-use Rattle.smith_component.proofs.Sound.{sound_open, totalled_open, component_offered_is, scopes_from-snoc}
+use Rattle.smith_component.proofs.Sound.{sound_open, totalled_open, component_offered_is, marked_in-snoc}
 use Rattle.smith_scopes.proofs.Plain.{all_both}
 use Rattle.smith_component.proofs.builder.Progress.open_component.Goals as goal
 
@@ -39,6 +40,8 @@ returns-clause-does c bytes =
     let sections : OpenComponent → List Section = λ x. x.sections.items in
     let below = ap (map sections) around ∙ map-append sections b.outer.items (b.inner ∷ []) in
     let tables : IsTabled new = c.new-opened.ensures.tabled in
+    let keeps = keeps_last b.scopes
+    ∙ (ap (λ ss. (first_marked ss).keeps) i.0.scopes_are ∙ marked_keeps b.config (marked_in b.config stack.outer) stack.inner) in
     record {
       does = (refl, λ j. building (record { outer = outer j; inner = inner j }));
       values = tt;
@@ -49,9 +52,11 @@ returns-clause-does c bytes =
               (sound_open b.config stack.outer stack.inner o.0 o.1 i.0.sound));
           valtypes_are = i.0.valtypes_are;
           scopes_are =
-              opened_scope _ _ c.in_ok-open_scope.ensures.ok
-              ∙ (ap (λ ss. empty_scope ∷ ss) (i.0.scopes_are ∙ (sym (scopes_from-snoc stack.outer stack.inner []) ∙ ap scopes_in (sym outer)))
-              ∙ ap (λ s. s ∷ scopes_in (trees_of c.push.new.self.items)) (sym (ap scope_of inner)));
+              opened_marked b.scopes _ (last_of b.scopes).keeps c.in_ok-open_scope.ensures.ok
+              ∙ (ap (λ k. empty_marked k ∷ inward_marked b.scopes) keeps
+              ∙ (ap (λ ss. empty_marked b.config.must_validate ∷ ss) (i.0.scopes_are ∙ (sym (marked_in-snoc b.config stack.outer stack.inner)
+              ∙ ap (marked_in b.config) (sym outer)))
+              ∙ ap (λ t. marked_inner b.config (trees_of c.push.new.self.items) t ∷ marked_in b.config (trees_of c.push.new.self.items)) (sym inner)));
           totalled = totalled_open stack.outer _ stack.inner _ b.totals _ outer inner refl refl refl i.0.totalled;
         },
         (

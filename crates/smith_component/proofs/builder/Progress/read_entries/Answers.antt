@@ -1,9 +1,9 @@
 use Rattle.std.proofs.Common.{List, subst, ◌∙◌, refl, arith}
 use Rattle.smith_input.proofs.Loops.{begins, stops, ends_full, goes_on}
 use Rattle.smith_input.proofs.Reading.{tail_same, tail_trans, more_tail}
-use Rattle.smith_syntax.specs.Scope.{Scope}
-use Rattle.smith_scopes.specs.Scopes.{own_scope}
-use Rattle.smith_scopes.proofs.Stack.{length-inward}
+use Rattle.smith_syntax.specs.Marked.{Marked}
+use Rattle.smith_scopes.specs.Scopes.{own_marked}
+use Rattle.smith_scopes.proofs.Stack.{length-inward_marked}
 use Rattle.smith_component.proofs.Sound.{scopes_few}
 use Rattle.smith_component.proofs.builder.Progress.read_entries.Goals as goal
 
@@ -40,7 +40,7 @@ read-requires g c =
       ready = record {
         configured = c.deref.ensures.value ∙ i.valtypes_are;
         consistent = i.sound.consistent;
-        shallow = omega (arith, c.loop-done.invariant.depth, length-inward b.scopes, scopes_few _ _ _ i.sound i.scopes_are);
+        shallow = omega (arith, c.loop-done.invariant.depth, length-inward_marked b.scopes, scopes_few _ _ _ i.sound i.scopes_are);
       };
     }
 
@@ -50,8 +50,8 @@ loop-done-preserved g c =
     let entry = c.in_ok-entry.entry in
     let i = c.loop-done.invariant in
     let e = c.in_ok-entry.ensures in
-    let R : List Scope → Type 0 = λ o. E.reads c.args.self.now.config o (own_scope c.loop-done.scopes) c.more.new.self entry c.read.new.u
-    (own_scope c.read.new.scopes) in
+    let R : List Marked → Type 0 = λ o. E.reads c.args.self.now.config o (own_marked c.loop-done.scopes) c.more.new.self entry c.read.new.u
+    (own_marked c.read.new.scopes) in
     record {
       tail = tail_trans c.read.ensures.tail (tail_trans (more_tail c.more.ensures) i.tail);
       count = omega (arith, e.count, i.count);

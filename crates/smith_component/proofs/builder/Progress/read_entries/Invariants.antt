@@ -2,7 +2,7 @@ use Rattle.std.proofs.Common.{◌≡◌, ◌+◌, length}
 use Rattle.smith_input.specs.Loops.{Never}
 use Rattle.smith_input.specs.Reading.{IsTail}
 use Rattle.smith_input.proofs.Loops.{Onward}
-use Rattle.smith_scopes.specs.Scopes.{own_scope, outer_scopes}
+use Rattle.smith_scopes.specs.Scopes.{own_marked, outer_marked}
 use Rattle.smith_component.proofs.builder.Progress.read_entries.Given as goal
 
 -- The last scope has as many more as were read.
@@ -12,8 +12,9 @@ invariant-loop-done g l =
     let b = l.fn.self in
     record {
       tail : IsTail l.u l.fn.u;
-      count : E.count (own_scope l.scopes) ≡ E.count (own_scope b.scopes) + l.done;
-      outer : outer_scopes l.scopes ≡ outer_scopes b.scopes;
+      count : E.count (own_marked l.scopes) ≡ E.count (own_marked b.scopes) + l.done;
+      outer : outer_marked l.scopes ≡ outer_marked b.scopes;
       depth : length l.scopes ≡ length b.scopes;
-      onward : Onward Never (E.reads b.config (outer_scopes b.scopes)) l.min l.max (own_scope b.scopes) l.fn.u l.entries.items l.done (own_scope l.scopes) l.u;
+      onward : Onward Never (E.reads b.config (outer_marked b.scopes)) l.min l.max (own_marked b.scopes) l.fn.u l.entries.items l.done
+          (own_marked l.scopes) l.u;
     }

@@ -1,9 +1,11 @@
-use Rattle.std.proofs.Common.{List, [], length, refl, sym, subst, ap, arith, append-nil}
+use Rattle.std.proofs.Common.{◌∙◌, List, [], length, refl, sym, subst, ap, arith, append-nil}
 use Rattle.std.specs.Prelude.{Option}
 use Rattle.smith_input.proofs.Loops.{Onward, begins, ends_early, ends_full, goes_on, stops}
 use Rattle.smith_input.proofs.Reading.{more_tail, tail_same, tail_trans}
-use Rattle.smith_scopes.specs.Scopes.{own_scope}
-use Rattle.smith_syntax.specs.Places.{own_of}
+use Rattle.smith_scopes.specs.Scopes.{own_marked}
+use Rattle.smith_syntax.specs.Marked.{first_marked}
+use Rattle.smith_tree.proofs.Marking.{marked_add}
+use Rattle.smith_tree.specs.Marking.{marked_in}
 use Rattle.smith_syntax.specs.declared.deftype.Import.{Import}
 use Rattle.smith_types.specs.MakingTypes.{HoldsExterns}
 use Rattle.smith_component.specs.BuilderView.{IsSound, stack_of}
@@ -18,11 +20,12 @@ use Rattle.smith_component.proofs.TracksStack.{tabled_added}
 use Rattle.smith_component.proofs.builder.Progress.read_imports.Goals as goal
 
 -- before the first import
-first : (b : Progress) (i : IsSound b) → ImportsState (stack_of b) (externs_of b.inner.sections.items) [] (own_scope b.scopes) b.totals b.inner.tables
+first : (b : Progress) (i : IsSound b)
+    → ImportsState b.config (stack_of b) (externs_of b.inner.sections.items) [] (own_marked b.scopes) b.totals b.inner.tables
 first b i =
     let stack : Open = stack_of b in
     record {
-      scope_is = ap own_of i.0.scopes_are;
+      scope_is = ap first_marked i.0.scopes_are ∙ sym (marked_add b.config (marked_in b.config stack.outer) stack.inner (imports []));
       totalled = totalled_part b.config stack.outer stack.inner _ b.totals b.totals (imports []) refl refl (omega arith) (omega arith) (omega arith)
           i.0.totalled;
       tabled = tabled_added stack.inner _ (imports []) refl refl refl refl refl i.1.0.tabled;
@@ -38,13 +41,15 @@ loop-done-init c =
     let spaces = functions_counted (stack_of b).inner in
     let tabled = i.1.0.tabled in
     let before = externs_of b.inner.sections.items in
-    let S : List Import → Type 0 = λ is. ImportsState (stack_of b) before is (own_scope b.scopes) b.totals b.inner.tables in
+    let S : List Import → Type 0 = λ is. ImportsState b.config (stack_of b) before is (own_marked b.scopes) b.totals b.inner.tables in
     let O : List Import → Type 0 = λ is. Onward (NoImportValue b.config (stack_of b)) (ReadsImportValue b.config (stack_of b) before) c.args.min c.args.max []
     c.args.u.now is 0 is c.args.u.now in
     record {
       tail = tail_same c.args.u.now;
       within = omega (arith, spaces.most, o.exports, tabled.counts, ap length tabled.functions);
       onward = subst O (sym none) (begins _ _ _ _ _ _ [] refl);
+      around = refl;
+      depth = refl;
       importing = subst S (sym none) (first b i);
     }
 
@@ -55,25 +60,35 @@ pub returns-then-not-more-clause-reads : goal.returns-then-not-more-clause-reads
 returns-then-not-more-clause-reads c = stops _ _ _ _ _ _ _ _ _ _ _ _ c.if-not-more.true c.more.ensures c.loop-done.invariant.onward
 
 pub returns-then-not-more-clause-counts : goal.returns-then-not-more-clause-counts
-returns-then-not-more-clause-counts c = record { only = refl; counted = c.loop-done.invariant.importing }
+returns-then-not-more-clause-counts c = record
+    { only = refl; outer = c.loop-done.invariant.around; depth = c.loop-done.invariant.depth; counted = c.loop-done.invariant.importing }
 
 pub returns-in_default-clause-reads : goal.returns-in_default-clause-reads
 returns-in_default-clause-reads c =
     let b = c.args.self.now in
     let l = c.loop-done in
-    let P : Option Import → Type 0 = λ i. ImportsOne b.config (stack_of b) (externs_of b.inner.sections.items) l.imports.items (own_scope b.scopes)
+    let P : Option Import → Type 0 =
+    λ i. ImportsOne b.config (stack_of b) (externs_of b.inner.sections.items) l.imports.items (own_marked c.read_import.new.scopes)
     c.read_import.new.totals c.read_import.new.tables c.more.new.self i c.read_import.new.u in
-    let none = subst P c.in_default.is (c.in_ok-import.ensures.imports (stack_of b) (externs_of b.inner.sections.items) l.imports.items l.invariant.importing) in
+    let none = subst P c.in_default.is
+    (c.in_ok-import.ensures.imports (stack_of b) (externs_of b.inner.sections.items) l.imports.items l.invariant.importing) in
     ends_early _ _ _ _ _ _ _ _ _ _ _ _ _ _ c.if-not-more.false c.more.ensures none.0 l.invariant.onward
 
 pub returns-in_default-clause-counts : goal.returns-in_default-clause-counts
 returns-in_default-clause-counts c =
     let b = c.args.self.now in
     let l = c.loop-done in
-    let P : Option Import → Type 0 = λ i. ImportsOne b.config (stack_of b) (externs_of b.inner.sections.items) l.imports.items (own_scope b.scopes)
+    let P : Option Import → Type 0 =
+    λ i. ImportsOne b.config (stack_of b) (externs_of b.inner.sections.items) l.imports.items (own_marked c.read_import.new.scopes)
     c.read_import.new.totals c.read_import.new.tables c.more.new.self i c.read_import.new.u in
-    let none = subst P c.in_default.is (c.in_ok-import.ensures.imports (stack_of b) (externs_of b.inner.sections.items) l.imports.items l.invariant.importing) in
-    record { only = refl; counted = none.1 }
+    let none = subst P c.in_default.is
+    (c.in_ok-import.ensures.imports (stack_of b) (externs_of b.inner.sections.items) l.imports.items l.invariant.importing) in
+    record {
+      only = refl;
+      outer = c.in_ok-import.ensures.around ∙ l.invariant.around;
+      depth = c.in_ok-import.ensures.depth ∙ l.invariant.depth;
+      counted = none.1;
+    }
 
 pub returns-in_err-push-clause-tail : goal.returns-in_err-push-clause-tail
 returns-in_err-push-clause-tail c = tail_trans c.in_ok-import.ensures.tail (tail_trans (more_tail c.more.ensures) c.loop-done.invariant.tail)
@@ -82,7 +97,8 @@ pub returns-clause-reads : goal.returns-clause-reads
 returns-clause-reads c = ends_full _ _ _ _ _ _ _ _ _ _ c.loop-done-test.false c.loop-done.invariant.onward
 
 pub returns-clause-counts : goal.returns-clause-counts
-returns-clause-counts c = record { only = refl; counted = c.loop-done.invariant.importing }
+returns-clause-counts c = record
+    { only = refl; outer = c.loop-done.invariant.around; depth = c.loop-done.invariant.depth; counted = c.loop-done.invariant.importing }
 
 pub loop-done-preserved : goal.loop-done-preserved
 loop-done-preserved c =
@@ -92,7 +108,8 @@ loop-done-preserved c =
     let before = externs_of b.inner.sections.items in
     let so_far : List Import = l.imports.items in
     let all = c.in_ok-push.ensures.items in
-    let P : Option Import → Type 0 = λ i. ImportsOne b.config stack before so_far (own_scope b.scopes) c.read_import.new.totals c.read_import.new.tables
+    let P : Option Import → Type 0 =
+    λ i. ImportsOne b.config stack before so_far (own_marked c.read_import.new.scopes) c.read_import.new.totals c.read_import.new.tables
     c.more.new.self i c.read_import.new.u in
     let one = subst P c.in-Some.is (c.in_ok-import.ensures.imports stack before so_far l.invariant.importing) in
     let R : List Import → Type 0 = λ z. ReadsImportValue b.config stack before so_far c.more.new.self c.in-Some.import c.read_import.new.u z in
@@ -100,7 +117,10 @@ loop-done-preserved c =
       tail = tail_trans c.in_ok-import.ensures.tail (tail_trans (more_tail c.more.ensures) l.invariant.tail);
       within = c.in_ok-import.ensures.within;
       onward = goes_on _ _ _ _ _ _ _ _ _ _ _ _ _ _ _ _ c.if-not-more.false c.more.ensures (subst R (sym all) one.0) all l.invariant.onward;
-      importing = subst (λ z. ImportsState stack before z (own_scope b.scopes) c.read_import.new.totals c.read_import.new.tables) (sym all) one.1;
+      around = c.in_ok-import.ensures.around ∙ l.invariant.around;
+      depth = c.in_ok-import.ensures.depth ∙ l.invariant.depth;
+      importing = subst (λ z. ImportsState b.config stack before z (own_marked c.read_import.new.scopes) c.read_import.new.totals c.read_import.new.tables)
+          (sym all) one.1;
     }
 
 pub returns-then-not-more-clause-tail : goal.returns-then-not-more-clause-tail

@@ -1,7 +1,7 @@
-use Rattle.std.proofs.Common.{◌+◌, ◌≤◌, [], length}
+use Rattle.std.proofs.Common.{◌≡◌, ◌+◌, ◌≤◌, [], length}
 use Rattle.smith_input.specs.Reading.{IsTail}
 use Rattle.smith_input.proofs.Loops.{Onward}
-use Rattle.smith_scopes.specs.Scopes.{own_scope}
+use Rattle.smith_scopes.specs.Scopes.{outer_marked, own_marked}
 use Rattle.smith_component.specs.BuilderView.{stack_of}
 use Rattle.smith_component.specs.ImportsState.{ImportsState}
 use Rattle.smith_component.specs.SectionValues.{NoImportValue, ReadsImportValue, externs_of}
@@ -17,5 +17,7 @@ invariant-loop-done l =
       tail : IsTail l.u l.fn.u;
       within : length l.tables.functions.items ≤ l.tables.counted + b.config.max_exports;
       onward : Onward (NoImportValue b.config stack) (ReadsImportValue b.config stack before) l.min l.max [] l.fn.u l.imports.items l.done l.imports.items l.u;
-      importing : ImportsState stack before l.imports.items (own_scope b.scopes) l.totals l.tables;
+      around : outer_marked l.scopes ≡ outer_marked b.scopes;
+      depth : length l.scopes ≡ length b.scopes;
+      importing : ImportsState b.config stack before l.imports.items (own_marked l.scopes) l.totals l.tables;
     }

@@ -3,7 +3,8 @@ use Rattle.std.proofs.lemmas.List.{map-append}
 use Rattle.std.specs.Prelude.{Option}
 use Rattle.smith_input.proofs.Loops.{Onward, begins, ends_early, ends_full, goes_on, stops}
 use Rattle.smith_input.proofs.Reading.{more_tail, tail_same, tail_trans}
-use Rattle.smith_scopes.specs.Scopes.{own_scope}
+use Rattle.smith_format.specs.declared.config.Config.{Config}
+use Rattle.smith_scopes.specs.Scopes.{own_marked}
 use Rattle.smith_component.specs.Exports.{NoExport, ReadsExport}
 use Rattle.smith_component.specs.ExportsState.{ExportsOne, ExportsState}
 use Rattle.smith_component.specs.Shown.{shown_export}
@@ -20,58 +21,69 @@ loop-done-init c =
       imports = refl;
       known = c.requires.known;
       room = omega (arith, c.requires.room);
-      onward = λ t h.
-          let O : List ExportEntry → Type 0 = λ z. Onward (NoExport t) (ReadsExport t) 0 c.args.max [] c.args.u.now z 0 z c.args.u.now in
+      around = refl;
+      depth = refl;
+      onward = λ config outer t h.
+          let O : List ExportEntry → Type 0 =
+          λ z. Onward (NoExport config outer t) (ReadsExport config outer t) 0 c.args.max [] c.args.u.now z 0 z c.args.u.now in
           subst O (sym none) (begins _ _ _ _ _ _ [] refl);
-      exporting = λ t h. subst (λ z. ExportsState t z (own_scope c.args.scopes.now) c.args.tables.now) (sym none) h;
+      exporting = λ config outer t h. subst (λ z. ExportsState config outer t z (own_marked c.args.scopes.now) c.args.tables.now) (sym none) h;
     }
 
 pub returns-then-not-more-clause-reads : goal.returns-then-not-more-clause-reads
-returns-then-not-more-clause-reads c t h = stops _ _ _ _ _ _ _ _ _ _ _ _ c.if-not-more.true c.more.ensures (c.loop-done.invariant.onward t h)
+returns-then-not-more-clause-reads c config outer t h =
+    stops _ _ _ _ _ _ _ _ _ _ _ _ c.if-not-more.true c.more.ensures (c.loop-done.invariant.onward config outer t h)
 
 pub returns-in_default-clause-reads : goal.returns-in_default-clause-reads
-returns-in_default-clause-reads c t h =
+returns-in_default-clause-reads c config outer t h =
     let l = c.loop-done in
     let es : List ExportEntry = map shown_export l.exports.items in
-    let P : Option Export → Type 0 = λ e. ExportsOne t es (own_scope c.args.scopes.now) c.read_export.new.tables c.more.new.self e c.read_export.new.u in
-    let none = subst P c.in_default.is (c.in_ok-export.ensures.exports t es (l.invariant.exporting t h)) in
-    ends_early _ _ _ _ _ _ _ _ _ _ _ _ _ _ c.if-not-more.false c.more.ensures none.0 (l.invariant.onward t h)
+    let P : Option Export → Type 0 =
+    λ e. ExportsOne config outer t es (own_marked c.read_export.new.scopes) c.read_export.new.tables c.more.new.self e c.read_export.new.u in
+    let none = subst P c.in_default.is (c.in_ok-export.ensures.exports config outer t es (l.invariant.exporting config outer t h)) in
+    ends_early _ _ _ _ _ _ _ _ _ _ _ _ _ _ c.if-not-more.false c.more.ensures none.0 (l.invariant.onward config outer t h)
 
 pub returns-in_default-clause-holds : goal.returns-in_default-clause-holds
-returns-in_default-clause-holds c t h =
+returns-in_default-clause-holds c config outer t h =
     let l = c.loop-done in
     let es : List ExportEntry = map shown_export l.exports.items in
-    let P : Option Export → Type 0 = λ e. ExportsOne t es (own_scope c.args.scopes.now) c.read_export.new.tables c.more.new.self e c.read_export.new.u in
-    (subst P c.in_default.is (c.in_ok-export.ensures.exports t es (l.invariant.exporting t h))).1
+    let P : Option Export → Type 0 =
+    λ e. ExportsOne config outer t es (own_marked c.read_export.new.scopes) c.read_export.new.tables c.more.new.self e c.read_export.new.u in
+    (subst P c.in_default.is (c.in_ok-export.ensures.exports config outer t es (l.invariant.exporting config outer t h))).1
 
 pub returns-in_err-push-clause-tail : goal.returns-in_err-push-clause-tail
 returns-in_err-push-clause-tail c = tail_trans c.in_ok-export.ensures.tail (tail_trans (more_tail c.more.ensures) c.loop-done.invariant.tail)
 
 pub returns-clause-reads : goal.returns-clause-reads
-returns-clause-reads c t h = ends_full _ _ _ _ _ _ _ _ _ _ c.loop-done-test.false (c.loop-done.invariant.onward t h)
+returns-clause-reads c config outer t h = ends_full _ _ _ _ _ _ _ _ _ _ c.loop-done-test.false (c.loop-done.invariant.onward config outer t h)
 
 pub loop-done-preserved : goal.loop-done-preserved
 loop-done-preserved c =
     let l = c.loop-done in
-    let own = own_scope c.args.scopes.now in
+    let own = own_marked c.read_export.new.scopes in
     let x : Export = c.in-Some.export in
     let es : List ExportEntry = map shown_export l.exports.items in
     let items = c.in_ok-push.ensures.items in
     let all : map shown_export c.push.new.self.items ≡ es ++ shown_export x ∷ [] =
     ap (map shown_export) items ∙ map-append shown_export l.exports.items (x ∷ []) in
-    let P : Tree → Option Export → Type 0 = λ t e. ExportsOne t es own c.read_export.new.tables c.more.new.self e c.read_export.new.u in
-    let one = λ (t : Tree) (h : ExportsState t [] own c.args.tables.now). subst (P t) c.in-Some.is
-    (c.in_ok-export.ensures.exports t es (l.invariant.exporting t h)) in
+    let P : Config → List Tree → Tree → Option Export → Type 0 =
+    λ config outer t e. ExportsOne config outer t es own c.read_export.new.tables c.more.new.self e c.read_export.new.u in
+    let one = λ (config : Config) (outer : List Tree) (t : Tree) (h : ExportsState config outer t [] (own_marked c.args.scopes.now) c.args.tables.now).
+    subst (P config outer t) c.in-Some.is
+    (c.in_ok-export.ensures.exports config outer t es (l.invariant.exporting config outer t h)) in
     record {
       tail = tail_trans c.in_ok-export.ensures.tail (tail_trans (more_tail c.more.ensures) l.invariant.tail);
       few = omega (arith, ap length items, length-append l.exports.items (x ∷ []), l.invariant.few);
       imports = c.in_ok-export.ensures.imports ∙ l.invariant.imports;
       known = c.in_ok-export.ensures.known;
       room = omega (arith, c.in_ok-export.ensures.most, l.invariant.room, c.loop-done-test.true);
-      onward = λ t h.
-          let R : List ExportEntry → Type 0 = λ z. ReadsExport t es c.more.new.self (shown_export x) c.read_export.new.u z in
-          goes_on _ _ _ _ _ _ _ _ _ _ _ _ _ _ _ _ c.if-not-more.false c.more.ensures (subst R (sym all) (one t h).0) all (l.invariant.onward t h);
-      exporting = λ t h. subst (λ z. ExportsState t z own c.read_export.new.tables) (sym all) (one t h).1;
+      around = c.in_ok-export.ensures.around ∙ l.invariant.around;
+      depth = c.in_ok-export.ensures.depth ∙ l.invariant.depth;
+      onward = λ config outer t h.
+          let R : List ExportEntry → Type 0 = λ z. ReadsExport config outer t es c.more.new.self (shown_export x) c.read_export.new.u z in
+          goes_on _ _ _ _ _ _ _ _ _ _ _ _ _ _ _ _ c.if-not-more.false c.more.ensures (subst R (sym all) (one config outer t h).0) all
+          (l.invariant.onward config outer t h);
+      exporting = λ config outer t h. subst (λ z. ExportsState config outer t z own c.read_export.new.tables) (sym all) (one config outer t h).1;
     }
 
 pub returns-then-not-more-clause-tail : goal.returns-then-not-more-clause-tail

@@ -18,11 +18,14 @@ use Rattle.smith_syntax.specs.declared.deftype.Import.{Import}
 use Rattle.smith_types.specs.Declarations.{NamedExtern, ReadsNamedExtern}
 use Rattle.smith_types.specs.MakingTypes.{HoldsExterns}
 use Rattle.smith_types.specs.References.{ReadsRef}
-use Rattle.smith_scopes.specs.Scopes.{own_scope}
+use Rattle.smith_scopes.specs.Scopes.{Changes, Contents, own_marked, own_scope}
+use Rattle.smith_scopes.proofs.Marking.{grown_import, length-changed, same_import}
+use Rattle.smith_scopes.proofs.Stack.{own_scope_is}
+use Rattle.smith_syntax.specs.Marked.{Marked, scope_in, with_import}
 use Rattle.smith_types.specs.declared.make.externs.ExternNames.{ExternNames}
 use Rattle.smith_tree.specs.declared.totals.RefTotals.{RefTotals}
 use Rattle.smith_types.proofs.References.{ref_formed}
-use Rattle.smith_tree.specs.Offers.{is_scalar_type, totals_of, with_imports}
+use Rattle.smith_tree.specs.Offers.{is_scalar_type, marked_with_imports, totals_of, with_imports}
 use Rattle.smith_component.specs.ImportsState.{ImportsState}
 use Rattle.smith_component.specs.Sound.{Totalled}
 use Rattle.smith_tree.specs.Open.{Open}
@@ -34,7 +37,8 @@ use Rattle.smith_tree.specs.WellFormed.{scope_of}
 use Rattle.smith_component.specs.declared.builder.tables.Tables.{Tables}
 use Rattle.smith_component.specs.declared.builder.totals.TreeTotals.{TreeTotals}
 use Rattle.smith_component.proofs.Growth.{imports_keep, scope_bare, spaces_import}
-use Rattle.smith_component.proofs.ImportsState.{components_more, funcs_more, import_room, instances_more, modules_more}
+use Rattle.smith_component.proofs.ImportsState.{components_more, funcs_more, import_room, imports_marked_more, imports_scope}
+use Rattle.smith_component.proofs.ImportsState.{instances_more, modules_more}
 use Rattle.smith_component.proofs.Tables.{held_exports, own_bare, same_more, tabled_more}
 use Rattle.smith_component.proofs.builder.imports.read_import.Goals as goal
 use Rattle.smith_component.proofs.builder.imports.read_import.Goals.{in-Func+in_ok-add_function, in_default-ty}
@@ -92,8 +96,8 @@ function_within own (to.TypeEq i) f = tt
 function_within own (to.Component i) f = tt
 function_within own (to.Instance i) f = tt
 
-module _ (config : Config) (stack : Open) (before : List NamedExtern) (is : List Import) (own : Scope) (totals : TreeTotals) (tables : Tables)
-    (importing : ImportsState stack before is own totals tables) where
+module _ (config : Config) (stack : Open) (before : List NamedExtern) (is : List Import) (own : Marked) (totals : TreeTotals) (tables : Tables)
+    (importing : ImportsState config stack before is own totals tables) where
   abbrev entries : List ImportEntry
   entries = map import_shown is
 
@@ -116,7 +120,7 @@ module _ (config : Config) (stack : Open) (before : List NamedExtern) (is : List
         → ReadsImportValue config stack before is b x rest (is ++ x ∷ [])
     import_is_read counts e of named = record {
       mid = mid;
-      of = subst (λ z. ReadsRef config (scope_of stack.inner) z true false b x.ty mid) e
+      of = subst (λ z. ReadsRef config (marked_with_imports config stack entries) z true false b x.ty mid) e
           (subst (λ z. ReadsRef config z counts true false b x.ty mid) importing.scope_is of);
       named = named (before ++ map extern_of is) importing.externs;
       next_is = refl;
@@ -128,29 +132,31 @@ module _ (config : Config) (stack : Open) (before : List NamedExtern) (is : List
     abbrev new_tree : Tree
     new_tree = add stack.inner (imports (entries ++ entry ∷ []))
 
-    import_is_kept : (externs : ExternNames) (new : Tables) → FormedRef own x.ty → Takes own tables x.ty externs new → Tabled new new_tree
+    import_is_kept : (externs : ExternNames) (new : Tables) → FormedRef (scope_in own) x.ty → Takes (scope_in own) tables x.ty externs new → Tabled new new_tree
     import_is_kept externs new formed takes =
         let tabled : Tabled tables old_tree = importing.tabled in
         let behind = spaces_import stack.inner entries entry in
         let exports = own_bare exports_in stack.inner (imports (entries ++ entry ∷ [])) refl ∙ sym (own_bare exports_in stack.inner (imports entries) refl) in
         let scope = scope_bare stack.inner (imports (entries ++ entry ∷ [])) (imports_keep (spaces_of stack.inner) (entries ++ entry ∷ [])) in
-        let same : own.types ≡ types_of new_tree = ap (λ s. s.types) importing.scope_is ∙ sym (ap (λ s. s.types) scope) in
+        let plain : scope_in own ≡ scope_of stack.inner = ap (λ m. scope_in m) importing.scope_is ∙ imports_scope config stack entries in
+        let same : own.types ≡ types_of new_tree = ap (λ (s : Scope). s.types) plain ∙ sym (ap (λ s. s.types) scope) in
         tabled_more tables new old_tree new_tree [] (function_of x.ty) [] tabled
         (same_more _ _ (ap (λ s. s.types) behind))
         (ap (λ s. s.functions) behind)
         (same_more _ _ (ap (λ s. s.core_functions) behind))
         (length (function_of x.ty)) (funcs_more stack entries entry) takes.counted (held_exports tables new old_tree new_tree tabled exports takes.exports)
-        (subst (λ ts. AllByRecursion (λ ty. ty < length ts) (function_of x.ty)) same (function_within own x.ty formed))
+        (subst (λ ts. AllByRecursion (λ ty. ty < length ts) (function_of x.ty)) same (function_within (scope_in own) x.ty formed))
         tt
         takes.functions
         (takes.core_functions ∙ sym (append-nil tables.core_functions.items))
         (takes.scalars ∙ ap (λ ts. tables.scalars.items ++ places (is_scalar_type ts) (length tables.functions.items) (function_of x.ty)) same)
 
-    import_goes_on : (totals2 : TreeTotals) (new : Tables) → totals2.modules ≡ totals.modules + length (module_of x.ty)
+    import_goes_on : (totals2 : TreeTotals) (new : Tables) (own2 : Marked) → own2 ≡ with_import own x.ty
+        → totals2.modules ≡ totals.modules + length (module_of x.ty)
         → totals2.components ≡ totals.components + length (component_of x.ty) → totals2.instances ≡ totals.instances + length (instance_of x.ty)
         → Tabled new new_tree → HoldsExterns new.imports ((before ++ map extern_of is) ++ extern_of x ∷ [])
-        → ImportsState stack before (is ++ x ∷ []) own totals2 new
-    import_goes_on totals2 new ms cs ns tabled holds =
+        → ImportsState config stack before (is ++ x ∷ []) own2 totals2 new
+    import_goes_on totals2 new own2 noted ms cs ns tabled holds =
         let all : map import_shown (is ++ x ∷ []) ≡ entries ++ entry ∷ [] = map-append import_shown is (x ∷ []) in
         let named : (before ++ map extern_of is) ++ extern_of x ∷ [] ≡ before ++ map extern_of (is ++ x ∷ []) =
         append_assoc before (map extern_of is) (extern_of x ∷ []) ∙ ap (λ xs. before ++ xs) (sym (map-append extern_of is (x ∷ []))) in
@@ -160,7 +166,8 @@ module _ (config : Config) (stack : Open) (before : List NamedExtern) (is : List
           instances = omega (arith, ns, importing.totalled.instances, instances_more stack entries entry);
         } in
         record {
-          scope_is = importing.scope_is;
+          scope_is = noted ∙ (ap (λ m. with_import m x.ty) importing.scope_is ∙ (sym (imports_marked_more config stack entries entry)
+              ∙ ap (λ es. marked_with_imports config stack es) (sym all)));
           totalled = subst (λ es. Totalled totals2 (with_imports stack es)) (sym all) totalled;
           tabled = subst (λ es. Tabled new (add stack.inner (imports es))) (sym all) tabled;
           externs = subst (HoldsExterns new.imports) named holds;
@@ -173,7 +180,7 @@ counts_fit old more count most e room few some = omega (arith, e, room, few, som
 pub count-requires-clause-modules : goal.count-requires-clause-modules
 count-requires-clause-modules c some =
     let counts = c.with_functions-counts in
-    let room = import_room c.args.config.now (own_scope c.args.scopes.now) counts.result c.args.u.now c.in-Some.ty c.arbitrary_type_ref.new.u
+    let room = import_room c.args.config.now (own_marked c.args.scopes.now) counts.result c.args.u.now c.in-Some.ty c.arbitrary_type_ref.new.u
     c.in-Some.ensures.reads in
     counts_fit c.args.totals.now.modules (length (module_of c.in-Some.ty)) counts.result.modules c.args.config.now.max_modules counts.ensures.modules
     room.modules c.requires.consistent.modules some
@@ -181,7 +188,7 @@ count-requires-clause-modules c some =
 pub count-requires-clause-components : goal.count-requires-clause-components
 count-requires-clause-components c some =
     let counts = c.with_functions-counts in
-    let room = import_room c.args.config.now (own_scope c.args.scopes.now) counts.result c.args.u.now c.in-Some.ty c.arbitrary_type_ref.new.u
+    let room = import_room c.args.config.now (own_marked c.args.scopes.now) counts.result c.args.u.now c.in-Some.ty c.arbitrary_type_ref.new.u
     c.in-Some.ensures.reads in
     counts_fit c.args.totals.now.components (length (component_of c.in-Some.ty)) counts.result.components c.args.config.now.max_components
     counts.ensures.components room.components c.requires.consistent.components some
@@ -189,47 +196,53 @@ count-requires-clause-components c some =
 pub count-requires-clause-instances : goal.count-requires-clause-instances
 count-requires-clause-instances c some =
     let counts = c.with_functions-counts in
-    let room = import_room c.args.config.now (own_scope c.args.scopes.now) counts.result c.args.u.now c.in-Some.ty c.arbitrary_type_ref.new.u
+    let room = import_room c.args.config.now (own_marked c.args.scopes.now) counts.result c.args.u.now c.in-Some.ty c.arbitrary_type_ref.new.u
     c.in-Some.ensures.reads in
     counts_fit c.args.totals.now.instances (length (instance_of c.in-Some.ty)) counts.result.instances c.args.config.now.max_instances counts.ensures.instances
     room.instances c.requires.consistent.instances some
+
+-- The scope by itself stays.
+same_scope : (old new : List Contents) (r : ComponentTypeRef) → Changes (λ d. with_import d r) old new → own_scope new ≡ scope_in (own_marked old)
+same_scope old new r noted = (same_import old new r noted).own ∙ own_scope_is old
 
 func_within : (own : Scope) (r : ComponentTypeRef) (i : ℕ) → r ≡ to.Func i → FormedRef own r → i < length own.types
 func_within own r i e f = let g : FormedRef own (to.Func i) = subst (FormedRef own) e f in slice_get_within own.types i g.0 g.1
 
 pub add_function-requires-clause-known : goal.add_function-requires-clause-known
 add_function-requires-clause-known c =
-    let own = own_scope c.args.scopes.now in
+    let own = own_marked c.args.scopes.now in
     let counts = c.with_functions-counts.result in
-    func_within own c.in-Some.ty c.in-Func.i c.in-Func.is (ref_formed c.args.config.now own counts true false c.args.u.now c.in-Some.ty
-    c.arbitrary_type_ref.new.u c.in-Some.ensures.reads)
+    let known = func_within (scope_in own) c.in-Some.ty c.in-Func.i c.in-Func.is (ref_formed c.args.config.now own counts true false c.args.u.now
+    c.in-Some.ty c.arbitrary_type_ref.new.u c.in-Some.ensures.reads) in
+    omega (arith, known, ap (λ (s : Scope). length s.types) (same_scope c.args.scopes.now c.note_import.new.self c.in-Some.ty c.note_import.ensures))
 
 pub add_function-requires-clause-room : goal.add_function-requires-clause-room
 add_function-requires-clause-room c =
     let counts = c.with_functions-counts in
-    let room = import_room c.args.config.now (own_scope c.args.scopes.now) counts.result c.args.u.now c.in-Some.ty c.arbitrary_type_ref.new.u
+    let room = import_room c.args.config.now (own_marked c.args.scopes.now) counts.result c.args.u.now c.in-Some.ty c.arbitrary_type_ref.new.u
     c.in-Some.ensures.reads in
     omega (arith, room.funcs, ap (λ r. length (function_of r)) c.in-Func.is, counts.ensures.funcs, c.requires.within, c.requires.consistent.funcs)
 
 pub add_function-requires-clause-few : goal.add_function-requires-clause-few
 add_function-requires-clause-few c =
     let counts = c.with_functions-counts in
-    let room = import_room c.args.config.now (own_scope c.args.scopes.now) counts.result c.args.u.now c.in-Some.ty c.arbitrary_type_ref.new.u
+    let room = import_room c.args.config.now (own_marked c.args.scopes.now) counts.result c.args.u.now c.in-Some.ty c.arbitrary_type_ref.new.u
     c.in-Some.ensures.reads in
     omega (arith, room.funcs, ap (λ r. length (function_of r)) c.in-Func.is, counts.ensures.funcs, c.requires.consistent.funcs)
 
 -- The import is read and counted, whatever it is of.
 imported : (c : goal.Joined-ty) (new : Tables) (ty : ComponentTypeRef) → ty ≡ c.in-Some.ty
-    → Takes (own_scope c.args.scopes.now) c.args.tables.now c.in-Some.ty c.named_extern.new.externs new
+    → Takes (scope_in (own_marked c.args.scopes.now)) c.args.tables.now c.in-Some.ty c.named_extern.new.externs new
     → (stack : Open) (before : List NamedExtern) (is : List Import)
-    → ImportsState stack before is (own_scope c.args.scopes.now) c.args.totals.now c.args.tables.now
+    → ImportsState c.args.config.now stack before is (own_marked c.args.scopes.now) c.args.totals.now c.args.tables.now
     → ReadsImportValue c.args.config.now stack before is c.args.u.now (record { name = c.in_ok-name.name; url = c.in_ok-name.url; ty = ty })
     c.named_extern.new.u (is ++ (record { name = c.in_ok-name.name; url = c.in_ok-name.url; ty = ty }) ∷ [])
-    × ImportsState stack before (is ++ (record { name = c.in_ok-name.name; url = c.in_ok-name.url; ty = ty }) ∷ []) (own_scope c.args.scopes.now)
-    c.count.new.self new
+    × ImportsState c.args.config.now stack before (is ++ (record { name = c.in_ok-name.name; url = c.in_ok-name.url; ty = ty }) ∷ [])
+    (own_marked c.note_import.new.self) c.count.new.self new
 imported c new ty same takes stack before is importing =
     let config = c.args.config.now in
-    let own = own_scope c.args.scopes.now in
+    let own = own_marked c.args.scopes.now in
+    let noted = (grown_import c.args.scopes.now c.note_import.new.self c.in-Some.ty c.note_import.ensures).own in
     let r : ComponentTypeRef = c.in-Some.ty in
     let i : Import = record { name = c.in_ok-name.name; url = c.in_ok-name.url; ty = r } in
     let counts = c.with_functions-counts in
@@ -243,26 +256,29 @@ imported c new ty same takes stack before is importing =
     let so_far : List NamedExtern = before ++ map extern_of is in
     let holds = subst (λ z. HoldsExterns z (so_far ++ extern_of i ∷ [])) (sym takes.imports) (c.in_ok-name.ensures.names so_far importing.externs) in
     let goes_on = import_goes_on config stack before is own c.args.totals.now c.args.tables.now importing c.args.u.now c.arbitrary_type_ref.new.u
-    c.named_extern.new.u i c.count.new.self new c.count.ensures.modules c.count.ensures.components c.count.ensures.instances kept holds in
+    c.named_extern.new.u i c.count.new.self new (own_marked c.note_import.new.self) noted c.count.ensures.modules c.count.ensures.components
+    c.count.ensures.instances kept holds in
     let Made : ComponentTypeRef → Import = λ t. record { name = c.in_ok-name.name; url = c.in_ok-name.url; ty = t } in
     let P : ComponentTypeRef → Type 0 = λ t. ReadsImportValue config stack before is c.args.u.now (Made t) c.named_extern.new.u (is ++ Made t ∷ [])
-    × ImportsState stack before (is ++ Made t ∷ []) own c.count.new.self new in
+    × ImportsState config stack before (is ++ Made t ∷ []) (own_marked c.note_import.new.self) c.count.new.self new in
     subst P (sym same) (reads, goes_on)
 
 pub returns-clause-imports : goal.returns-clause-imports
 returns-clause-imports c =
-    let own = own_scope c.args.scopes.now in
+    let plain : Scope = scope_in (own_marked c.args.scopes.now) in
+    let own : Scope = own_scope c.note_import.new.self in
+    let same : own ≡ plain = same_scope c.args.scopes.now c.note_import.new.self c.in-Some.ty c.note_import.ensures in
     let old : Tables = c.args.tables.now in
     let mid : Tables = record old { imports = c.named_extern.new.externs } in
-    let Kept : Tables → Type 0 = λ new. Takes own old c.in-Some.ty c.named_extern.new.externs new in
+    let Kept : Tables → Type 0 = λ new. Takes plain old c.in-Some.ty c.named_extern.new.externs new in
     elim c.match-ty.branch [
       | in-Func+in_ok-add_function w ↦
           imported c c.match-ty.tables c.match-ty.ty (w.ty-is ∙ sym w.in-Func.is)
-          (subst Kept (sym w.tables-is) (takes_function own old mid w.add_function.new.self c.in-Some.ty w.in-Func.i w.in-Func.is refl refl refl
-          refl refl w.in_ok-add_function.ensures.ok))
+          (subst Kept (sym w.tables-is) (takes_function plain old mid w.add_function.new.self c.in-Some.ty w.in-Func.i w.in-Func.is refl refl refl
+          refl refl (subst (λ s. AddsFunction s 1 mid w.in-Func.i w.add_function.new.self) same w.in_ok-add_function.ensures.ok)))
       | in_default-ty w ↦
           imported c c.match-ty.tables c.match-ty.ty w.ty-is
-          (subst Kept (sym w.tables-is) (takes_none own old mid c.in-Some.ty c.named_extern.new.externs (no_function c.in-Some.ty w.in_default-ty.not-Func)
+          (subst Kept (sym w.tables-is) (takes_none plain old mid c.in-Some.ty c.named_extern.new.externs (no_function c.in-Some.ty w.in_default-ty.not-Func)
           refl refl refl refl refl refl))
     ]
 
@@ -277,3 +293,17 @@ returns-in_err-name-clause-tail c = tail_trans c.named_extern.ensures.tail c.arb
 
 pub returns-in_err-add_function-clause-tail : goal.returns-in_err-add_function-clause-tail
 returns-in_err-add_function-clause-tail c = tail_trans c.named_extern.ensures.tail c.arbitrary_type_ref.ensures.tail
+
+-- The scopes around stay, and their number.
+
+pub returns-clause-around : goal.returns-clause-around
+returns-clause-around c = (grown_import c.args.scopes.now c.note_import.new.self c.in-Some.ty c.note_import.ensures).outer
+
+pub returns-clause-depth : goal.returns-clause-depth
+returns-clause-depth c = length-changed (λ d. with_import d c.in-Some.ty) c.args.scopes.now c.note_import.new.self c.note_import.ensures
+
+pub returns-in_err-add_function-clause-around : goal.returns-in_err-add_function-clause-around
+returns-in_err-add_function-clause-around c = (grown_import c.args.scopes.now c.note_import.new.self c.in-Some.ty c.note_import.ensures).outer
+
+pub returns-in_err-add_function-clause-depth : goal.returns-in_err-add_function-clause-depth
+returns-in_err-add_function-clause-depth c = length-changed (λ d. with_import d c.in-Some.ty) c.args.scopes.now c.note_import.new.self c.note_import.ensures

@@ -1,7 +1,6 @@
 use Rattle.std.proofs.Common.{◌≡◌, ◌+◌, ◌≤◌, arith, ap, ◌∙◌, subst, sym}
 use Rattle.smith_input.proofs.Reading.{tail_same, tail_trans}
 use Rattle.smith_format.specs.Consistency.{IsConsistent}
-use Rattle.smith_format.specs.declared.config.Config.{Config}
 use Rattle.smith_component.specs.BuilderView.{stack_of}
 use Rattle.smith_tree.specs.Open.{Open}
 use Rattle.smith_component.specs.Refusals.{IsRefusal}

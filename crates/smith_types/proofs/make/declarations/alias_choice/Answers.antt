@@ -2,7 +2,7 @@ use Rattle.std.proofs.Common.{ℕ, ◌-◌, ap, arith, refl, subst, sym, Some, �
 use Rattle.smith_input.specs.Reading.{Reads}
 use Rattle.smith_syntax.specs.Entries.{FullDecl}
 use Rattle.smith_types.specs.Declarations.{ReadsAlias}
-use Rattle.smith_scopes.specs.Scopes.{inward}
+use Rattle.smith_scopes.specs.Scopes.{inward_marked}
 use Rattle.smith_syntax.proofs.Shown.{alias_of_type, alias_of_core_type}
 use Rattle.smith_types.proofs.Declaring.{among_occupied, scope_chosen, type_alias_read, core_type_alias_read}
 use Rattle.smith_types.proofs.make.declarations.alias_choice.Goals as goal
@@ -32,7 +32,7 @@ returns-then-place-types-clause-reads c =
     let r = scope_chosen scopes c.args.counts.now c.args.u.now c.choose-count.new.self c.choose-count.result.now c.requires.places c.choose-count.ensures in
     let a = among_occupied scopes c.choose-count.result.now r.place r.named in
     let R : ℕ → Type 0 = λ n. Reads n c.choose-count.new.self c.choose_index-place.result c.choose_index-place.new.self in
-    let P : FullDecl → Type 0 = λ d. ReadsAlias (inward scopes) c.args.u.now d c.choose_index-place.new.self in
+    let P : FullDecl → Type 0 = λ d. ReadsAlias (inward_marked scopes) c.args.u.now d c.choose_index-place.new.self in
     subst P (sym (alias_of_type _ c.in_ok-clone.field-0 refl)) (
     type_alias_read scopes c.args.u.now c.choose-count.new.self c.choose_index-place.new.self c.choose-count.result.now c.choose_index-place.result r a.within
     (subst R (omega (arith, c.len-types.ensures.count, c.len_core.ensures.count)) c.choose_index-place.ensures)
@@ -46,7 +46,7 @@ returns-clause-reads c =
     let r = scope_chosen scopes c.args.counts.now c.args.u.now c.choose-count.new.self c.choose-count.result.now c.requires.places c.choose-count.ensures in
     let a = among_occupied scopes c.choose-count.result.now r.place r.named in
     let R : ℕ → Type 0 = λ n. Reads n c.choose-count.new.self c.choose_index-place.result c.choose_index-place.new.self in
-    let P : FullDecl → Type 0 = λ d. ReadsAlias (inward scopes) c.args.u.now d c.choose_index-place.new.self in
+    let P : FullDecl → Type 0 = λ d. ReadsAlias (inward_marked scopes) c.args.u.now d c.choose_index-place.new.self in
     subst P (sym (alias_of_core_type _ c.in_ok-clone-2.field-0 refl)) (
     core_type_alias_read scopes c.args.u.now c.choose-count.new.self c.choose_index-place.new.self c.choose-count.result.now c.choose_index-place.result r
     a.within
@@ -56,3 +56,15 @@ returns-clause-reads c =
     (omega (arith, c.len-types.ensures.count, c.if-place-types.false))
     (c.get_core.ensures ∙ ap Some (sym c.in_ok-clone-2.ensures.cases))
     )
+
+pub returns-then-place-types-clause-scope : goal.returns-then-place-types-clause-scope
+returns-then-place-types-clause-scope c =
+    let r = scope_chosen c.args.scopes.now c.args.counts.now c.args.u.now c.choose-count.new.self c.choose-count.result.now c.requires.places
+    c.choose-count.ensures in
+    (among_occupied c.args.scopes.now c.choose-count.result.now r.place r.named).within
+
+pub returns-clause-scope : goal.returns-clause-scope
+returns-clause-scope c =
+    let r = scope_chosen c.args.scopes.now c.args.counts.now c.args.u.now c.choose-count.new.self c.choose-count.result.now c.requires.places
+    c.choose-count.ensures in
+    (among_occupied c.args.scopes.now c.choose-count.result.now r.place r.named).within

@@ -1,31 +1,35 @@
-use Rattle.std.proofs.Common.{arith, ap, sym, ◌∙◌}
-use Rattle.smith_syntax.specs.Scope.{after_decl, with_core_type}
-use Rattle.smith_syntax.specs.Places.{own_of, outer_of}
+use Rattle.std.proofs.Common.{◌≡◌, arith, ap, map, ◌∙◌, subst}
 use Rattle.smith_syntax.specs.Entries.{core_type_decl, keeps_functions}
+use Rattle.smith_syntax.specs.Scope.{Scope}
 use Rattle.smith_syntax.specs.Shown.{shown_core}
+use Rattle.smith_syntax.specs.Sizes.{capped, module_type_size}
+use Rattle.smith_scopes.specs.Scopes.{last_of}
 use Rattle.smith_syntax.proofs.Shown.{instance_core_decl}
-use Rattle.smith_scopes.specs.Scopes.{inward}
-use Rattle.smith_types.proofs.Declaring.{declares}
+use Rattle.smith_core_types.specs.MadeCore.{MadeCore}
+use Rattle.smith_core_types.specs.MakingCore.{KeepsAliased}
 use Rattle.smith_core_types.proofs.KeptAliases.{kept_core_named}
-use Rattle.smith_scopes.proofs.Stack.{length-last-core, grown_core}
+use Rattle.smith_scopes.proofs.Stack.{own_scope_is}
+use Rattle.smith_types.proofs.Declaring.{core_type_declared, length-last_core_types}
 use Rattle.smith_types.proofs.make.declarations.core_type_decl.Goals as goal
 
-pub push_core_type-requires : goal.push_core_type-requires
-push_core_type-requires c = omega (arith, length-last-core c.args.scopes.now, c.requires.room)
+pub push_sized-requires : goal.push_sized-requires
+push_sized-requires c = omega (arith, length-last_core_types c.args.scopes.now, c.requires.room)
 
 pub returns-clause-made : goal.returns-clause-made
-returns-clause-made c = λ exports. (
-  shown_core c.in_ok-ty.ty.value,
-  c.in_ok-ty.ensures.made,
-  instance_core_decl c.in_ok-ty.ty ∙ ap (λ fs. core_type_decl (shown_core c.in_ok-ty.ty.value) (keeps_functions fs))
-      (kept_core_named _ c.in_ok-ty.ty.value c.in_ok-ty.ensures.kept),
-)
+returns-clause-made c = λ exports.
+    let ty = c.in_ok-ty.ty.value in
+    let own = own_scope_is c.args.scopes.now in
+    let Made : Scope → Type 0 = λ s. MadeCore c.args.making.now.config.now s c.args.u.now c.args.fuel.now (shown_core ty) c.arbitrary_core_type.new.u
+    c.arbitrary_core_type.new.fuel in (
+      shown_core ty,
+      subst Made own c.in_ok-ty.ensures.made,
+      instance_core_decl c.in_ok-ty.ty ∙ ap (λ fs. core_type_decl (shown_core ty) (keeps_functions fs))
+          (kept_core_named _ ty (subst (λ s. KeepsAliased s.core_types ty) own c.in_ok-ty.ensures.kept)),
+    )
 
 pub returns-clause-declares : goal.returns-clause-declares
 returns-clause-declares c =
-    let scopes = inward c.args.scopes.now in
-    let g = grown_core _ _ _ c.in_ok-push_core_type.ensures.ok in
-    declares _ _ _
-    (g.own ∙ (ap (λ t. with_core_type (own_of scopes) (shown_core t)) c.in_ok-entry.ensures.cases
-    ∙ ap (after_decl (outer_of scopes) (own_of scopes)) (sym (instance_core_decl c.in_ok-ty.ty))))
-    g.outer
+    let own = (last_of c.args.scopes.now).core_types in
+    let there : c.deref.result.now ≡ c.in_ok-ty.ty.value = cc in
+    core_type_declared _ _ _ c.in_ok-ty.ty.value _ _ _ c.in_ok-push_sized.ensures.ok c.in_ok-entry.ensures.cases (instance_core_decl c.in_ok-ty.ty)
+    (λ keeps. c.in_ok-size.ensures keeps ∙ ap (λ t. capped (module_type_size (map shown_core own) (shown_core t))) there)

@@ -4,17 +4,17 @@ use Rattle.smith_syntax.specs.Entries.{FullDecl}
 use Rattle.smith_syntax.specs.WellFormed.{export_of}
 use Rattle.smith_syntax.proofs.Shown.{instance_export}
 use Rattle.smith_types.specs.MakingTypes.{HoldsExterns}
-use Rattle.smith_scopes.specs.Scopes.{own_scope}
+use Rattle.smith_scopes.specs.Scopes.{own_marked}
 use Rattle.smith_types.proofs.Importing.{export_possible, export_read}
 use Rattle.smith_types.proofs.References.{ref_formed}
 use Rattle.smith_types.proofs.make.declarations.export.Goals as goal
 
 pub unreachable-requires : goal.unreachable-requires
-unreachable-requires c = export_possible c.args.making.now.config.now (own_scope c.args.scopes.now) c.requires.possible
+unreachable-requires c = export_possible c.args.making.now.config.now (own_marked c.args.scopes.now) c.requires.possible
     (rw c.in_default.is at c.arbitrary_type_ref.ensures.reads).0
 
 pub add_exported-requires-clause-formed : goal.add_exported-requires-clause-formed
-add_exported-requires-clause-formed c = ref_formed c.args.making.now.config.now (own_scope c.args.scopes.now) _ _ _ _ c.in-Some.ty _
+add_exported-requires-clause-formed c = ref_formed c.args.making.now.config.now (own_marked c.args.scopes.now) _ _ _ _ c.in-Some.ty _
     (rw c.in-Some.is at c.arbitrary_type_ref.ensures.reads)
 
 pub returns-in_err-name-clause-tail : goal.returns-in_err-name-clause-tail
@@ -22,7 +22,8 @@ returns-in_err-name-clause-tail c = tail_trans c.in_err-name.ensures.tail c.arbi
 
 pub returns-clause-reads : goal.returns-clause-reads
 returns-clause-reads c = λ so_far held.
-    export_read c.args.making.now.config.now (own_scope c.args.scopes.now) so_far c.in-Some.ty _ _ _ _ _ (rw c.in-Some.is at c.arbitrary_type_ref.ensures.reads)
+    export_read c.args.making.now.config.now (own_marked c.args.scopes.now) so_far c.in-Some.ty _ _ _ _ _
+    (rw c.in-Some.is at c.arbitrary_type_ref.ensures.reads)
     (c.in_ok-name.ensures.reads so_far held) (instance_export _ _ _)
 
 pub returns-clause-names : goal.returns-clause-names

@@ -2,7 +2,8 @@ use Rattle.std.proofs.Common.{◌∷◌, ◌++◌, [], map, subst, ap, ◌∙◌
 use Rattle.smith_syntax.specs.Entries.{function}
 use Rattle.smith_syntax.specs.Shown.{shown_type}
 use Rattle.smith_scopes.specs.Scopes.{own_scope}
-use Rattle.smith_scopes.proofs.Stack.{grown as scopes_grown, length-last}
+use Rattle.smith_scopes.proofs.Marking.{length-changed}
+use Rattle.smith_scopes.proofs.Stack.{grown_marked, length-last}
 use Rattle.smith_types.specs.declared.make.externs.ExternNames.{ExternNames}
 use Rattle.smith_component.specs.Canonicals.{grown}
 use Rattle.smith_component.specs.CanonicalsState.{draft_of, growing}
@@ -12,17 +13,17 @@ use Rattle.smith_component.specs.declared.builder.open.OpenComponent.{OpenCompon
 use Rattle.smith_component.specs.declared.builder.tables.Tables.{Tables}
 use Rattle.smith_component.specs.declared.component.Func.{Func}
 use Rattle.smith_component.specs.declared.component.Func.TheVariants.{CanonLift}
-use Rattle.smith_component.proofs.CanonicalsState.{define_draft, defines, front_push, front_same, length-changed, shown_function, type_index}
+use Rattle.smith_component.proofs.CanonicalsState.{define_draft, defines, front_push, front_same, shown_function, type_index}
 use Rattle.smith_component.proofs.Growth.{functions_counted}
 use Rattle.smith_component.proofs.builder.canonicals.CanonicalDraft.define.Goals as goal
 
-pub push_type-requires : goal.push_type-requires
-push_type-requires c = omega (arith, length-last c.args.self.now.scopes.now, c.requires.types)
+pub push_marked-requires : goal.push_marked-requires
+push_marked-requires c = omega (arith, length-last c.args.self.now.scopes.now, c.requires.types)
 
 pub add_function-requires-clause-few : goal.add_function-requires-clause-few
 add_function-requires-clause-few c =
     let same = ap (λ (t : Tables). t.counted) (c.in_ok-push-3.ensures.tables ∙ c.in_ok-push-2.ensures.tables) in
-    omega (arith, same, c.requires.draft.tabled.counts, (functions_counted (grown (draft_of c.args.self.now))).least, c.requires.room)
+    omega (arith, same, c.requires.draft.1.tabled.counts, (functions_counted (grown (draft_of c.args.self.now))).least, c.requires.room)
 
 pub returns-clause-defines : goal.returns-clause-defines
 returns-clause-defines c =
@@ -32,7 +33,7 @@ returns-clause-defines c =
     let entries = c.in_ok-push.ensures.items ∙ ap (λ xs. xs ++ c.in_ok-shared.shared ∷ []) c.new-types.ensures.items in
     let empty = ap (λ v. v.items) c.replace-ended.ensures.after ∙ c.new-3.ensures.items in
     let made = c.in_ok-push-4.ensures.items ∙ ap (λ xs. xs ++ lift ∷ []) empty in
-    let index = type_index c.args.self.now c.requires.draft t c.in_ok-func_ty.ensures.index in
+    let index = type_index c.args.self.now c.requires.draft.0 c.requires.draft.1 t c.in_ok-func_ty.ensures.index in
     defines (growing c.args.self.now.component.now c.args.self.now.funcs.now.items) c.args.core_func_index t c.args.ty
     (shown_sections c.push-2.new.self.sections.items) (shown_sections c.push-3.new.self.sections.items) c.replace-ended.result.items c.push-4.new.self.items
     c.push.new.self.items c.in_ok-shared.shared
@@ -44,19 +45,19 @@ returns-clause-drafts c =
     let old : OpenComponent = d.component.now in
     let mid : OpenComponent = c.push-2.new.self in
     let new : OpenComponent = record { sections = c.push-3.new.self.sections; tables = c.add_function.new.self } in
-    let T : Tables → Type 0 = λ z. AddsFunction (own_scope c.push_type.new.self) 1 z c.in_ok-func_ty.func_ty c.add_function.new.self in
+    let T : Tables → Type 0 = λ z. AddsFunction (own_scope c.push_marked.new.self) 1 z c.in_ok-func_ty.func_ty c.add_function.new.self in
     let names : Tables → ExternNames = λ t. t.imports in
     let shows = ap shown_type (c.in_ok-clone.ensures.cases ∙ c.in_ok-shared.ensures.ok)
     ∙ (shown_function c.in_ok-new.field-0 ∙ ap function c.in_ok-new.ensures.ok) in
     let adds = subst T (c.push-3.ensures.tables ∙ c.push-2.ensures.tables) c.in_ok-add_function.ensures.ok in
     let ended = front_push old old mid _ (front_same old old refl refl) c.in_ok-push-2.ensures.items refl (ap names c.push-2.ensures.tables) in
     record {
-      draft = define_draft d c.requires.draft c.push_type.new.self new c.push-4.new.self.items
-          c.args.core_func_index c.in_ok-func_ty.func_ty c.args.ty c.in_ok-clone.field-0.value
-          shows c.in_ok-func_ty.ensures.ok (returns-clause-defines c) c.in_ok-func_ty.ensures.index
+      draft = λ around held. define_draft d around held c.push_marked.new.self new c.push-4.new.self.items
+          c.args.core_func_index c.in_ok-func_ty.func_ty c.args.ty c.in_ok-clone.field-0.value c.function_mark-mark.result
+          shows c.in_ok-func_ty.ensures.ok c.function_mark-mark.ensures (returns-clause-defines c) c.in_ok-func_ty.ensures.index
           adds;
       front = front_push old mid new _ ended c.in_ok-push-3.ensures.items refl
           (c.in_ok-add_function.ensures.ok.imports ∙ ap names c.push-3.ensures.tables);
-      outer = (scopes_grown d.scopes.now c.push_type.new.self c.in_ok-clone.field-0.value c.in_ok-func_ty.ensures.ok).outer;
+      outer = (grown_marked d.scopes.now c.push_marked.new.self c.in_ok-clone.field-0.value c.in_ok-func_ty.ensures.ok).outer;
       depth = length-changed _ _ _ c.in_ok-func_ty.ensures.ok;
     }

@@ -12,24 +12,24 @@ use Rattle.smith_component.proofs.builder.canonicals.CanonicalDraft.lift.Goals a
 
 pub lifted_type-requires : goal.lifted_type-requires
 lifted_type-requires c = record {
-  known = draft_lowered c.args.self.now c.requires.draft c.choose_index-core_func_index.result
+  known = draft_lowered c.args.self.now c.requires.draft.0 c.requires.draft.1 c.choose_index-core_func_index.result
       (omega (arith, c.choose_index-core_func_index.ensures.below, c.len.ensures));
 }
 
 pub add_function-requires-clause-known : goal.add_function-requires-clause-known
 add_function-requires-clause-known c =
-    equal_within c.args.self.now c.requires.draft c.in_ok-ty.ty c.choose_index.result c.equal_at-func_ty.result
+    equal_within c.args.self.now c.requires.draft.0 c.requires.draft.1 c.in_ok-ty.ty c.choose_index.result c.equal_at-func_ty.result
     c.equal_at-func_ty.ensures
 
 pub add_function-requires-clause-few : goal.add_function-requires-clause-few
 add_function-requires-clause-few c =
-    omega (arith, c.requires.draft.tabled.counts, (functions_counted (grown (draft_of c.args.self.now))).least, c.requires.room)
+    omega (arith, c.requires.draft.1.tabled.counts, (functions_counted (grown (draft_of c.args.self.now))).least, c.requires.room)
 
 pub returns-then-equal-gt0-clause-reads : goal.returns-then-equal-gt0-clause-reads
 returns-then-equal-gt0-clause-reads c =
     let old : OpenComponent = c.args.self.now.component.now in
     let new : OpenComponent = record { sections = old.sections; tables = c.add_function.new.self } in
-    lift_equal c.args.self.now c.requires.draft c.args.self.now.config.now c.len.result c.choose_index-core_func_index.result c.in_ok-ty.ty
+    lift_equal c.args.self.now c.requires.draft.0 c.requires.draft.1 c.args.self.now.config.now c.len.result c.choose_index-core_func_index.result c.in_ok-ty.ty
     c.args.u.now c.choose_index-core_func_index.new.self c.lifted_type.new.u c.choose_index.new.self _ (omega (arith, c.len.ensures))
     c.choose_index-core_func_index.ensures c.in_ok-ty.ensures.reads
     c.equal_len-equal.result c.choose_index.result c.equal_at-func_ty.result c.equal_len-equal.ensures c.choose_index.ensures c.equal_at-func_ty.ensures
@@ -43,8 +43,8 @@ returns-then-equal-gt0-clause-drafts c =
     let new : OpenComponent = record { sections = old.sections; tables = c.add_function.new.self } in
     let t = c.equal_at-func_ty.result in
     record {
-      draft = lift_draft d c.requires.draft new c.push.new.self.items c.choose_index-core_func_index.result t
-          (equal_within d c.requires.draft c.in_ok-ty.ty c.choose_index.result t c.equal_at-func_ty.ensures)
+      draft = λ around held. lift_draft d around held new c.push.new.self.items c.choose_index-core_func_index.result t
+          (equal_within d around held c.in_ok-ty.ty c.choose_index.result t c.equal_at-func_ty.ensures)
           c.in_ok-add_function.ensures.ok
           (growing_more old new d.funcs.now.items c.push.new.self.items (CanonLift t c.choose_index-core_func_index.result) refl
           c.in_ok-push.ensures.items);
@@ -54,12 +54,12 @@ returns-then-equal-gt0-clause-drafts c =
     }
 
 pub returns-clause-drafts : goal.returns-clause-drafts
-returns-clause-drafts c = drafts_none c.args.self.now c.requires.draft
+returns-clause-drafts c = drafts_none c.args.self.now
 
 pub returns-then-own_len-self-clause-reads : goal.returns-then-own_len-self-clause-reads
 returns-then-own_len-self-clause-reads c =
     on_ok_weaker c.define.result
-    (λ e. lift_defined c.args.self.now c.requires.draft c.args.self.now.config.now c.len.result
+    (λ e. lift_defined c.args.self.now c.requires.draft.0 c.requires.draft.1 c.args.self.now.config.now c.len.result
     c.choose_index-core_func_index.result c.in_ok-ty.ty
     c.args.u.now c.choose_index-core_func_index.new.self c.lifted_type.new.u c.lifted_type.new.u _ (omega (arith, c.len.ensures))
     c.choose_index-core_func_index.ensures c.in_ok-ty.ensures.reads
@@ -68,7 +68,7 @@ returns-then-own_len-self-clause-reads c =
 
 pub returns-clause-reads : goal.returns-clause-reads
 returns-clause-reads c =
-    lift_given_up c.args.self.now c.requires.draft c.args.self.now.config.now c.len.result
+    lift_given_up c.args.self.now c.requires.draft.0 c.requires.draft.1 c.args.self.now.config.now c.len.result
     c.choose_index-core_func_index.result c.in_ok-ty.ty
     c.args.u.now c.choose_index-core_func_index.new.self c.lifted_type.new.u c.lifted_type.new.u _ (omega (arith, c.len.ensures))
     c.choose_index-core_func_index.ensures c.in_ok-ty.ensures.reads
@@ -84,10 +84,13 @@ pub returns-clause-tail : goal.returns-clause-tail
 returns-clause-tail c = tail_trans c.lifted_type.ensures.tail (reads_tail c.choose_index-core_func_index.ensures)
 
 pub returns-in_err-add_function-clause-tail : goal.returns-in_err-add_function-clause-tail
-returns-in_err-add_function-clause-tail c = tail_trans (reads_tail c.choose_index.ensures) (tail_trans c.lifted_type.ensures.tail (reads_tail c.choose_index-core_func_index.ensures))
+returns-in_err-add_function-clause-tail c = tail_trans (reads_tail c.choose_index.ensures)
+    (tail_trans c.lifted_type.ensures.tail (reads_tail c.choose_index-core_func_index.ensures))
 
 pub returns-in_err-push-clause-tail : goal.returns-in_err-push-clause-tail
-returns-in_err-push-clause-tail c = tail_trans (reads_tail c.choose_index.ensures) (tail_trans c.lifted_type.ensures.tail (reads_tail c.choose_index-core_func_index.ensures))
+returns-in_err-push-clause-tail c = tail_trans (reads_tail c.choose_index.ensures)
+    (tail_trans c.lifted_type.ensures.tail (reads_tail c.choose_index-core_func_index.ensures))
 
 pub returns-then-equal-gt0-clause-tail : goal.returns-then-equal-gt0-clause-tail
-returns-then-equal-gt0-clause-tail c = tail_trans (reads_tail c.choose_index.ensures) (tail_trans c.lifted_type.ensures.tail (reads_tail c.choose_index-core_func_index.ensures))
+returns-then-equal-gt0-clause-tail c = tail_trans (reads_tail c.choose_index.ensures)
+    (tail_trans c.lifted_type.ensures.tail (reads_tail c.choose_index-core_func_index.ensures))

@@ -9,7 +9,7 @@ use Rattle.smith_component.proofs.builder.canonicals.CanonicalDraft.lower.Goals 
 
 pub add_core_function-requires : goal.add_core_function-requires
 add_core_function-requires c = record {
-  few = omega (arith, c.requires.draft.tabled.counts, (functions_counted (grown (draft_of c.args.self.now))).least, c.requires.room);
+  few = omega (arith, c.requires.draft.1.tabled.counts, (functions_counted (grown (draft_of c.args.self.now))).least, c.requires.room);
 }
 
 pub returns-clause-reads : goal.returns-clause-reads
@@ -18,7 +18,7 @@ returns-clause-reads c =
     let new : OpenComponent = record { sections = d.component.now.sections; tables = c.add_core_function.new.self } in
     on_ok_weaker c.add_core_function.result
     (λ adds. lower_reads d.component.now new d.funcs.now.items c.push.new.self.items c.deref.result.now c.args.u.now c.choose-func_index.new.self
-    c.choose-func_index.result.now c.requires.draft.tabled c.deref.ensures.value c.choose-func_index.ensures refl c.in_ok-push.ensures.items)
+    c.choose-func_index.result.now c.requires.draft.1.tabled c.deref.ensures.value c.choose-func_index.ensures refl c.in_ok-push.ensures.items)
     c.add_core_function.ensures.ok
 
 pub returns-clause-drafts : goal.returns-clause-drafts
@@ -27,9 +27,9 @@ returns-clause-drafts c =
     let new : OpenComponent = record { sections = d.component.now.sections; tables = c.add_core_function.new.self } in
     on_ok_weaker c.add_core_function.result
     (λ adds. record {
-      draft = lower_draft d.component.now new d.funcs.now.items c.push.new.self.items c.deref.result.now c.args.u.now c.choose-func_index.new.self
-          c.choose-func_index.result.now c.requires.draft.tabled c.deref.ensures.value c.choose-func_index.ensures refl c.in_ok-push.ensures.items
-          d.scopes.now c.requires.draft adds;
+      draft = λ around held. lower_draft d.component.now new d.funcs.now.items c.push.new.self.items c.deref.result.now c.args.u.now
+          c.choose-func_index.new.self c.choose-func_index.result.now held.tabled c.deref.ensures.value c.choose-func_index.ensures refl
+          c.in_ok-push.ensures.items d.scopes.now held adds;
       front = front_same d.component.now new refl adds.imports;
       outer = refl;
       depth = refl;

@@ -11,7 +11,7 @@ pub loop-done-init : goal.loop-done-init
 loop-done-init c = record {
   tail = tail_same c.args.u.now;
   loans = record { config = refl; scopes = refl; component = refl; funcs = refl };
-  drafts = drafts_none c.args.self.now c.requires.draft;
+  drafts = drafts_none c.args.self.now;
   few = omega arith;
   onward = ([], begins _ _ _ _ _ _ [] refl);
 }
@@ -31,7 +31,7 @@ returns-then-not-more-clause-tail c = tail_trans (more_tail c.more.ensures) c.lo
 
 pub turn-requires : goal.turn-requires
 turn-requires c = record {
-  draft = c.loop-done.invariant.drafts.draft;
+  draft = (c.requires.draft.0, c.loop-done.invariant.drafts.draft c.requires.draft.0 c.requires.draft.1);
   room = omega (arith, c.loop-done.invariant.few, c.requires.room, c.loop-done-test.true);
 }
 

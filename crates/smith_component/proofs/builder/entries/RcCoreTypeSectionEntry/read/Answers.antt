@@ -1,51 +1,65 @@
-use Rattle.std.proofs.Common.{◌∷◌, [], length, length-append, ap, ◌∙◌, arith}
-use Rattle.smith_scopes.specs.Scopes.{own_scope}
-use Rattle.smith_syntax.specs.Scope.{with_core_type}
+use Rattle.std.proofs.Common.{◌∷◌, [], ℕ, length, length-append, map, ap, subst, ◌∙◌, arith}
+use Rattle.smith_scopes.specs.Scopes.{AddsSized, last_of, own_marked}
+use Rattle.smith_syntax.specs.Scope.{Scope}
 use Rattle.smith_syntax.specs.Shown.{shown_core, shown_shared_core}
-use Rattle.smith_scopes.proofs.Stack.{length-last-core, length-inward, Grown, grown_core}
+use Rattle.smith_syntax.specs.Sizes.{capped, module_type_size}
+use Rattle.smith_syntax.specs.declared.core_types.CoreType.{CoreType}
+use Rattle.smith_core_types.specs.MadeCore.{MadeCore}
+use Rattle.smith_core_types.specs.MakingCore.{KeepsAliased}
+use Rattle.smith_tree.specs.Marking.{with_core_entry}
+use Rattle.smith_scopes.proofs.Marking.{length-changed}
+use Rattle.smith_scopes.proofs.Stack.{GrownMarked, length-last-core, own_scope_is}
+use Rattle.smith_component.proofs.EntriesState.{core_type_added}
 use Rattle.smith_component.proofs.builder.entries.RcCoreTypeSectionEntry.read.Goals as goal
 
-pub push_core_type-requires : goal.push_core_type-requires
-push_core_type-requires c = omega (arith, length-last-core c.args.scopes.now, c.requires.room)
+pub push_sized-requires : goal.push_sized-requires
+push_sized-requires c =
+    omega (arith, length-last-core c.args.scopes.now, ap (λ s. length s.core_types) (own_scope_is c.args.scopes.now), c.requires.room)
+
+pushed : (c : goal.In_ok-push_sized) → AddsSized c.args.scopes.now c.in_ok-made.made.value c.in_ok-size.size c.push_sized.new.self
+pushed c =
+    let T : CoreType → Type 0 = λ t. AddsSized c.args.scopes.now t c.in_ok-size.size c.push_sized.new.self in
+    subst T c.in_ok-clone.ensures.cases c.in_ok-push_sized.ensures.ok
 
 -- the scopes have one more
-grows : (c : goal.In_ok-push_core_type) → Grown (λ s. with_core_type s (shown_shared_core c.in_ok-made.made)) c.args.scopes.now c.push_core_type.new.self
+grows : (c : goal.In_ok-push_sized) → GrownMarked (λ s. with_core_entry s (shown_shared_core c.in_ok-made.made)) c.args.scopes.now c.push_sized.new.self
 grows c =
-    let g = grown_core c.args.scopes.now c.push_core_type.new.self c.in_ok-clone.field-0.value c.in_ok-push_core_type.ensures.ok in
-    record {
-      own = g.own ∙ ap (λ t. with_core_type (own_scope c.args.scopes.now) (shown_core t)) c.in_ok-clone.ensures.cases;
-      outer = g.outer;
-      whole = g.whole;
-      was = g.was;
-    }
+    let size : CoreType → ℕ = λ t. capped (module_type_size (map shown_core (last_of c.args.scopes.now).core_types) (shown_core t)) in
+    core_type_added c.args.scopes.now c.push_sized.new.self c.in_ok-made.made.value c.in_ok-size.size (pushed c)
+    (λ keeps. c.in_ok-size.ensures keeps ∙ ap size c.deref.ensures)
 
 pub returns-clause-read : goal.returns-clause-read
-returns-clause-read c = ((c.arbitrary_core_type.new.fuel, c.in_ok-made.ensures.made, (grows c).own), c.in_ok-made.ensures.kept)
+returns-clause-read c =
+    let own = own_scope_is c.args.scopes.now in
+    let M : Scope → Type 0 = λ s. MadeCore c.args.config.now s c.args.u.now c.args.config.now.max_type_size (shown_shared_core c.in_ok-made.made)
+    c.arbitrary_core_type.new.u c.arbitrary_core_type.new.fuel in
+    let K : Scope → Type 0 = λ s. KeepsAliased s.core_types c.in_ok-made.made.value in
+    ((c.arbitrary_core_type.new.fuel, subst M own c.in_ok-made.ensures.made, (grows c).own), subst K own c.in_ok-made.ensures.kept)
 
 pub returns-clause-count : goal.returns-clause-count
-returns-clause-count c =
-    omega (
-      arith,
-      ap (λ s. length s.core_types) (grows c).own,
-      length-append (own_scope c.args.scopes.now).core_types (shown_shared_core c.in_ok-made.made ∷ []),
-    )
+returns-clause-count c = omega (
+  arith,
+  ap (λ s. length s.core_types) (grows c).own,
+  length-append (own_marked c.args.scopes.now).core_types (shown_shared_core c.in_ok-made.made ∷ []),
+)
 
 pub returns-clause-outer : goal.returns-clause-outer
 returns-clause-outer c = (grows c).outer
 
 pub returns-clause-depth : goal.returns-clause-depth
-returns-clause-depth c =
-    let g = grows c in
-    omega (arith, length-inward c.args.scopes.now, length-inward c.push_core_type.new.self, ap length g.whole, ap length g.was, ap length g.outer)
+returns-clause-depth c = length-changed _ _ _ (pushed c)
 
 pub returns-in_err-made-clause-tail : goal.returns-in_err-made-clause-tail
 returns-in_err-made-clause-tail c = c.arbitrary_core_type.ensures.tail
 
+pub returns-in_err-size-clause-tail : goal.returns-in_err-size-clause-tail
+returns-in_err-size-clause-tail c = c.arbitrary_core_type.ensures.tail
+
 pub returns-in_err-clone-clause-tail : goal.returns-in_err-clone-clause-tail
 returns-in_err-clone-clause-tail c = c.arbitrary_core_type.ensures.tail
 
-pub returns-in_err-push_core_type-clause-tail : goal.returns-in_err-push_core_type-clause-tail
-returns-in_err-push_core_type-clause-tail c = c.arbitrary_core_type.ensures.tail
+pub returns-in_err-push_sized-clause-tail : goal.returns-in_err-push_sized-clause-tail
+returns-in_err-push_sized-clause-tail c = c.arbitrary_core_type.ensures.tail
 
 pub returns-clause-tail : goal.returns-clause-tail
 returns-clause-tail c = c.arbitrary_core_type.ensures.tail

@@ -1,26 +1,33 @@
-use Rattle.std.proofs.Common.{◌∷◌, [], length, length-append, sym, ap, ◌∙◌, arith}
-use Rattle.smith_scopes.specs.Scopes.{inward, own_scope}
-use Rattle.smith_syntax.specs.Scope.{with_type}
-use Rattle.smith_syntax.specs.Places.{own_of, outer_of}
-use Rattle.smith_syntax.specs.Shown.{shown_type, shown_shared}
-use Rattle.smith_scopes.proofs.Stack.{length-last, length-inward, Grown, grown}
+use Rattle.std.proofs.Common.{◌∷◌, [], List, length, length-append, ap, subst, arith}
+use Rattle.smith_scopes.specs.Scopes.{AddsMarked, Contents, outer_marked, own_marked}
+use Rattle.smith_syntax.specs.Shown.{shown_shared}
+use Rattle.smith_syntax.specs.declared.deftype.DefType.{DefType}
+use Rattle.smith_tree.specs.Marking.{with_type_entry}
+use Rattle.smith_scopes.proofs.Marking.{length-changed}
+use Rattle.smith_scopes.proofs.Stack.{GrownMarked, length-last, own_scope_is}
+use Rattle.smith_component.proofs.EntriesState.{type_added}
 use Rattle.smith_component.proofs.builder.entries.RcDefTypeSectionEntry.read.Goals as goal
 
-pub push_type-requires : goal.push_type-requires
-push_type-requires c = omega (arith, length-last c.arbitrary_type.new.scopes, ap (λ s. length (own_scope s).types) c.in_ok-made.ensures.scopes, c.requires.room)
+pub push_marked-requires : goal.push_marked-requires
+push_marked-requires c = omega (
+  arith,
+  length-last c.arbitrary_type.new.scopes,
+  ap (λ s. length s.types) (own_scope_is c.arbitrary_type.new.scopes),
+  ap (λ s. length (own_marked s).types) c.in_ok-made.ensures.scopes,
+  c.requires.room,
+)
+
+pushed : (c : goal.In_ok-push_marked) → AddsMarked c.args.scopes.now c.in_ok-made.made.value c.in_ok-made.mark c.push_marked.new.self
+pushed c =
+    let T : DefType → Type 0 = λ t. AddsMarked c.arbitrary_type.new.scopes t c.in_ok-made.mark c.push_marked.new.self in
+    let S : List Contents → Type 0 = λ s. AddsMarked s c.in_ok-made.made.value c.in_ok-made.mark c.push_marked.new.self in
+    subst S c.in_ok-made.ensures.scopes (subst T c.in_ok-clone.ensures.cases c.in_ok-push_marked.ensures.ok)
 
 -- the scopes have one more
-grows : (c : goal.In_ok-push_type) → Grown (λ s. with_type s (shown_shared c.in_ok-made.made)) c.args.scopes.now c.push_type.new.self
+grows : (c : goal.In_ok-push_marked)
+    → GrownMarked (λ s. with_type_entry (outer_marked c.args.scopes.now) s (shown_shared c.in_ok-made.made)) c.args.scopes.now c.push_marked.new.self
 grows c =
-    let kept = c.in_ok-made.ensures.scopes in
-    let g = grown c.arbitrary_type.new.scopes c.push_type.new.self c.in_ok-clone.field-0.value c.in_ok-push_type.ensures.ok in
-    record {
-      own = g.own ∙ (ap (λ s. with_type (own_scope s) (shown_type c.in_ok-clone.field-0.value)) kept
-          ∙ ap (λ t. with_type (own_scope c.args.scopes.now) (shown_type t)) c.in_ok-clone.ensures.cases);
-      outer = g.outer ∙ ap (λ s. outer_of (inward s)) kept;
-      whole = g.whole;
-      was = ap inward (sym kept) ∙ (g.was ∙ ap (λ s. own_of (inward s) ∷ outer_of (inward s)) kept);
-    }
+    type_added c.args.scopes.now c.push_marked.new.self c.in_ok-made.made.value c.in_ok-made.mark (pushed c) c.in_ok-made.ensures.mark
 
 pub returns-clause-read : goal.returns-clause-read
 returns-clause-read c = (c.arbitrary_type.new.fuel, c.in_ok-made.ensures.made, (grows c).own)
@@ -29,16 +36,14 @@ pub returns-clause-count : goal.returns-clause-count
 returns-clause-count c = omega (
   arith,
   ap (λ s. length s.types) (grows c).own,
-  length-append (own_scope c.args.scopes.now).types (shown_shared c.in_ok-made.made ∷ []),
+  length-append (own_marked c.args.scopes.now).types (shown_shared c.in_ok-made.made ∷ []),
 )
 
 pub returns-clause-outer : goal.returns-clause-outer
 returns-clause-outer c = (grows c).outer
 
 pub returns-clause-depth : goal.returns-clause-depth
-returns-clause-depth c =
-    let g = grows c in
-    omega (arith, length-inward c.args.scopes.now, length-inward c.push_type.new.self, ap length g.whole, ap length g.was, ap length g.outer)
+returns-clause-depth c = length-changed _ _ _ (pushed c)
 
 pub returns-in_err-made-clause-tail : goal.returns-in_err-made-clause-tail
 returns-in_err-made-clause-tail c = c.arbitrary_type.ensures.tail
@@ -46,8 +51,8 @@ returns-in_err-made-clause-tail c = c.arbitrary_type.ensures.tail
 pub returns-in_err-clone-clause-tail : goal.returns-in_err-clone-clause-tail
 returns-in_err-clone-clause-tail c = c.arbitrary_type.ensures.tail
 
-pub returns-in_err-push_type-clause-tail : goal.returns-in_err-push_type-clause-tail
-returns-in_err-push_type-clause-tail c = c.arbitrary_type.ensures.tail
+pub returns-in_err-push_marked-clause-tail : goal.returns-in_err-push_marked-clause-tail
+returns-in_err-push_marked-clause-tail c = c.arbitrary_type.ensures.tail
 
 pub returns-clause-tail : goal.returns-clause-tail
 returns-clause-tail c = c.arbitrary_type.ensures.tail

@@ -1,0 +1,82 @@
+-- What the types of a scope may be used for, with one type more.
+use Rattle.std.proofs.Common.{◌≡◌, ℕ, ◌+◌, ◌<◌, Bool, true, false, cond, List, [], ◌∷◌, ◌++◌, length, map, refl, sym, ap, ◌∙◌, arith, append-nil}
+use Rattle.std.proofs.Common.{length-append}
+use Rattle.std.proofs.lemmas.List.{length-map, map-append}
+use Rattle.smith_format.specs.Consistency.{max_u32}
+use Rattle.smith_syntax.specs.Entries.{Entry}
+use Rattle.smith_syntax.specs.Usable.{marked_places}
+use Rattle.smith_syntax.specs.Scope.{with_type}
+use Rattle.smith_syntax.specs.Shown.{shown_type}
+use Rattle.smith_syntax.specs.declared.deftype.DefType.{DefType}
+use Rattle.smith_syntax.specs.declared.marks.Mark.{Mark}
+use Rattle.smith_scopes.specs.Kept.{AreOffers, AreUses, IsKept, Notes, SameOffers, is_offered, noted}
+use Rattle.smith_scopes.specs.Scopes.{Types}
+use Rattle.smith_scopes.specs.declared.scopes.offers.Offer.TheVariants as offer
+use Rattle.smith_scopes.specs.declared.scopes.offers.Offers.{Offers}
+use Rattle.smith_scopes.specs.declared.scopes.offers.Uses.{Uses}
+use Rattle.smith_scopes.proofs.Stack.{push_front}
+
+module _ {T : Type 0} (p : T → Mark → Bool) where
+  marked_places-push : (i : ℕ) (ts : List T) (ms : List Mark) (t : T) (m : Mark) → length ms ≡ length ts
+      → marked_places p i (ts ++ t ∷ []) (ms ++ m ∷ []) ≡ marked_places p i ts ms ++ cond (p t m) ((i + length ts) ∷ []) []
+  marked_places-push i [] [] t m e = ap (λ n. cond (p t m) (n ∷ []) []) (let z : i ≡ i + 0 = omega arith in z)
+  marked_places-push i [] (n ∷ ms) t m e = absurd (omega (arith, e))
+  marked_places-push i (x ∷ ts) [] t m e = absurd (omega (arith, e))
+  marked_places-push i (x ∷ ts) (n ∷ ms) t m e =
+      let rest = marked_places-push (i + 1) ts ms t m (omega (arith, e)) in
+      let at : i + 1 + length ts ≡ i + length (x ∷ ts) = omega arith in
+      ap (λ ws. cond (p x n) (i ∷ ws) ws) (rest ∙ ap (λ k. marked_places p (i + 1) ts ms ++ cond (p t m) (k ∷ []) []) at)
+      ∙ push_front (p x n) i (marked_places p (i + 1) ts ms) (cond (p t m) ((i + length (x ∷ ts)) ∷ []) [])
+
+noted_end : (row : List ℕ) (b : Bool) (i : ℕ) → noted row b i ≡ row ++ cond b (i ∷ []) []
+noted_end row true i = refl
+noted_end row false i = sym (append-nil row)
+
+-- one row
+module _ (p : Entry → Mark → Bool) (types : List Entry) (marks : List Mark) (e : Entry) (m : Mark) (i : ℕ) (many : length marks ≡ length types)
+    (at : i ≡ length types) where
+  row_noted : {was old new : List ℕ} {b : Bool} → was ≡ marked_places p 0 types marks → old ≡ was → b ≡ p e m → new ≡ noted old b i
+      → new ≡ marked_places p 0 (types ++ e ∷ []) (marks ++ m ∷ [])
+  row_noted {was} {old} {new} {b} is same uses to =
+      to ∙ noted_end old b i
+      ∙ ap (λ row. row ++ cond b (i ∷ []) []) (same ∙ is)
+      ∙ ap (λ c. marked_places p 0 types marks ++ cond c (i ∷ []) []) uses
+      ∙ ap (λ n. marked_places p 0 types marks ++ cond (p e m) (n ∷ []) []) (let z : i ≡ 0 + length types = omega (arith, at) in z)
+      ∙ sym (marked_places-push p 0 types marks e m many)
+
+pub offers_noted : (types : List Entry) (marks : List Mark) (e : Entry) (m : Mark) (i : ℕ) → length marks ≡ length types → i ≡ length types
+    → {was old new : Offers ℕ} {u : Uses} → AreOffers was types marks → SameOffers was old → AreUses u e m → Notes old new u i
+    → AreOffers new (types ++ e ∷ []) (marks ++ m ∷ [])
+offers_noted types marks e m i many at a s u n = record {
+  values = row_noted (is_offered offer.Value) types marks e m i many at a.values s.values u.value n.values;
+  imports = row_noted (is_offered offer.Import) types marks e m i many at a.imports s.imports u.import n.imports;
+  exports = row_noted (is_offered offer.Export) types marks e m i many at a.exports s.exports u.export n.exports;
+  equals = row_noted (is_offered offer.Equal) types marks e m i many at a.equals s.equals u.equal n.equals;
+  components = row_noted (is_offered offer.Component) types marks e m i many at a.components s.components u.component n.components;
+  instances = row_noted (is_offered offer.Instance) types marks e m i many at a.instances s.instances u.instance n.instances;
+}
+
+-- What is kept with one type more.
+module _ (s : Types) (keeps : Bool) (marks : List Mark) (core_sizes : List ℕ) (o : Offers ℕ) (kept : IsKept s keeps marks core_sizes o) where
+  pub kept_more : (entry : DefType) (m : Mark) (i : ℕ) → i ≡ length s.types → length s.types < max_u32 → {t : Types}
+      → t ≡ with_type s entry → {old new : Offers ℕ} {u : Uses} → SameOffers o old → AreUses u (shown_type entry) m
+      → Notes old new u i → {ms : List Mark} → ms ≡ marks ++ m ∷ [] → keeps ≡ true
+      → IsKept t keeps ms core_sizes new
+  kept_more entry m i at small {t} grown {old} {new} {u} same uses notes {ms} to on =
+      let many : length marks ≡ length (map shown_type s.types) = kept.as_many on ∙ sym (length-map s.types shown_type) in
+      let place : i ≡ length (map shown_type s.types) = at ∙ sym (length-map s.types shown_type) in
+      let types : map shown_type t.types ≡ map shown_type s.types ++ shown_type entry ∷ [] =
+      ap (λ d. map shown_type d.types) grown ∙ map-append shown_type s.types (entry ∷ []) in
+      record {
+        offers_are = λ h. rw (types, to) (offers_noted (map shown_type s.types) marks (shown_type entry) m i many place (kept.offers_are on) same uses notes);
+        as_many = λ h.
+            let l : length ms ≡ length marks + 1 = ap length to ∙ length-append marks (m ∷ []) in
+            let k : length t.types ≡ length s.types + 1 = ap (λ d. length d.types) grown ∙ length-append s.types (entry ∷ []) in
+            omega (arith, l, k, kept.as_many on);
+        no_marks = λ h. absurd (let z : true ≡ false = sym on ∙ h in cc);
+        few =
+            let k : length t.types ≡ length s.types + 1 = ap (λ d. length d.types) grown ∙ length-append s.types (entry ∷ []) in
+            omega (arith, k, small);
+        as_many_core = λ h. kept.as_many_core h ∙ sym (ap (λ d. length d.core_types) grown);
+        no_core_sizes = kept.no_core_sizes;
+      }

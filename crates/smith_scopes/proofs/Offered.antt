@@ -1,0 +1,95 @@
+-- How many types may be used for what, and which they are where no marks are kept.
+use Rattle.std.proofs.Common.{◌≡◌, ℕ, zero, suc, ◌+◌, ◌<◌, ◌≤◌, Bool, true, false, ◌&&◌, cond, List, [], ◌∷◌, length, map, refl, sym, ap, ◌∙◌, subst, arith}
+use Rattle.std.proofs.Common.{Some}
+use Rattle.std.proofs.lemmas.List.{length-map}
+use Rattle.std.specs.Prelude.{slice_get, IfSome}
+use Rattle.smith_format.specs.Consistency.{max_u32}
+use Rattle.smith_syntax.specs.Entries.{Entry}
+use Rattle.smith_syntax.specs.Usable.{first_mark, later_marks, marked_places}
+use Rattle.smith_syntax.specs.Marks.{no_mark}
+use Rattle.smith_syntax.specs.Places.{places}
+use Rattle.smith_syntax.specs.Scope.{Scope, is_component, is_defined, is_func, is_instance}
+use Rattle.smith_syntax.specs.Shown.{shown_type}
+use Rattle.smith_syntax.specs.declared.deftype.DefType.{DefType}
+use Rattle.smith_syntax.specs.declared.marks.Mark.{Mark}
+use Rattle.smith_scopes.specs.Kept.{AreOffers, is_offered, kind_for, offered_places, row_for}
+use Rattle.smith_scopes.specs.Scopes.{Contents, kind_places, shown_marked, shown_scope}
+use Rattle.smith_scopes.specs.declared.scopes.Kind.{Kind}
+use Rattle.smith_scopes.specs.declared.scopes.offers.Offer.{Offer}
+use Rattle.smith_scopes.specs.declared.scopes.offers.Offer.TheVariants as offer
+use Rattle.smith_scopes.specs.declared.scopes.offers.Offers.{Offers}
+use Rattle.smith_scopes.proofs.Stack.{longer}
+
+module _ {T : Type 0} (p : T → Mark → Bool) where
+  pub length-marked_places : (i : ℕ) (ts : List T) (ms : List Mark) → length (marked_places p i ts ms) ≤ length ts
+  length-marked_places i [] ms = omega arith
+  length-marked_places i (t ∷ ts) ms =
+      let h = longer (p t (first_mark ms)) i (marked_places p (i + 1) ts (later_marks ms)) (length ts) (length-marked_places (i + 1) ts (later_marks ms)) in
+      omega (arith, h)
+
+  -- without marks the test of a type is that of the type alone
+  pub unmarked_places : (q : T → Bool) → ((t : T) → p t no_mark ≡ q t) → (i : ℕ) (ts : List T) → marked_places p i ts [] ≡ places q i ts
+  unmarked_places q is i [] = refl
+  unmarked_places q is i (t ∷ ts) =
+      ap (λ b. cond b (i ∷ marked_places p (i + 1) ts []) (marked_places p (i + 1) ts [])) (is t)
+      ∙ ap (λ ws. cond (q t) (i ∷ ws) ws) (unmarked_places q is (i + 1) ts)
+
+module _ {T : Type 0} where
+  pub length-every_place : (i : ℕ) (ts : List T) → length (places (λ t. true) i ts) ≡ length ts
+  length-every_place i [] = refl
+  length-every_place i (t ∷ ts) = let rest = length-every_place (i + 1) ts in omega (arith, rest)
+
+  pub every_place_at : (i : ℕ) (ts : List T) (k : ℕ) → k < length ts → slice_get (places (λ t. true) i ts) k ≡ Some (i + k)
+  every_place_at i [] k h = absurd (omega (arith, h))
+  every_place_at i (t ∷ ts) zero h = ap Some (let z : i ≡ i + 0 = omega arith in z)
+  every_place_at i (t ∷ ts) (suc k) h =
+      every_place_at (i + 1) ts k (omega (arith, h)) ∙ ap Some (let z : i + 1 + k ≡ i + suc k = omega arith in z)
+
+and_true : (b : Bool) → (b && true) ≡ b
+and_true true = refl
+and_true false = refl
+
+-- where no marks are kept, what may be used for something is what is of its kind
+pub unmarked : (o : Offer) (s : Scope) → IfSome (kind_for o) (λ k. kind_places k s ≡ marked_places (is_offered o) 0 s.types [])
+unmarked offer.Value s = sym (unmarked_places (is_offered offer.Value) is_defined (λ t. and_true (is_defined t)) 0 s.types)
+unmarked offer.Import s = sym (unmarked_places (is_offered offer.Import) is_func (λ t. and_true (is_func t && true) ∙ and_true (is_func t)) 0 s.types)
+unmarked offer.Export s = sym (unmarked_places (is_offered offer.Export) is_func (λ t. and_true (is_func t && true) ∙ and_true (is_func t)) 0 s.types)
+unmarked offer.Equal s = tt
+unmarked offer.Component s = sym (unmarked_places (is_offered offer.Component) is_component (λ t. and_true (is_component t)) 0 s.types)
+unmarked offer.Instance s = sym (unmarked_places (is_offered offer.Instance) is_instance (λ t. and_true (is_instance t)) 0 s.types)
+
+pub offered_by_kind : (o : Offer) (k : Kind) → kind_for o ≡ Some k → (d : Contents) → d.marks ≡ []
+    → kind_places k (shown_scope d) ≡ offered_places o (shown_marked d)
+offered_by_kind o k is d none =
+    subst (λ r. IfSome r (λ k. kind_places k (shown_scope d) ≡ marked_places (is_offered o) 0 (map shown_type d.types) [])) is (unmarked o (shown_scope d))
+    ∙ ap (marked_places (is_offered o) 0 (map shown_type d.types)) (sym none)
+
+-- and any type may be equal to another
+pub all_offered : (d : Contents) → d.marks ≡ [] → offered_places offer.Equal (shown_marked d) ≡ places (λ t. true) 0 (map shown_type d.types)
+all_offered d none =
+    ap (marked_places (is_offered offer.Equal) 0 (map shown_type d.types)) none
+    ∙ unmarked_places (is_offered offer.Equal) (λ t. true) (λ t. refl) 0 (map shown_type d.types)
+
+pub row_offered : (o : Offer) {rows : Offers ℕ} {types : List Entry} {marks : List Mark} → AreOffers rows types marks
+    → row_for o rows ≡ marked_places (is_offered o) 0 types marks
+row_offered offer.Value a = a.values
+row_offered offer.Import a = a.imports
+row_offered offer.Export a = a.exports
+row_offered offer.Equal a = a.equals
+row_offered offer.Component a = a.components
+row_offered offer.Instance a = a.instances
+
+pub length-offered : (o : Offer) (d : Contents) → length (offered_places o (shown_marked d)) ≤ length d.types
+length-offered o d =
+    omega (arith, length-marked_places (is_offered o) 0 (map shown_type d.types) d.marks, length-map d.types shown_type)
+
+pub few_in_row : (o : Offer) (types : List DefType) {rows : Offers ℕ} {marks : List Mark} → AreOffers rows (map shown_type types) marks → length types ≤ max_u32
+    → length (row_for o rows) ≤ max_u32
+few_in_row o types {rows} {marks} a few =
+    omega (
+      arith,
+      ap length (row_offered o a),
+      length-marked_places (is_offered o) 0 (map shown_type types) marks,
+      length-map types shown_type,
+      few,
+    )

@@ -1,0 +1,120 @@
+-- What types of values and of functions are made of, member by member.
+use Rattle.std.proofs.Common.{◌≡◌, ℕ, ◌+◌, ◌<◌, ◌≤◌, List, [], ◌∷◌, ◌++◌, length, map, get_or, take, refl, sym, ap, ◌∙◌, sum, append-nil, arith, Some, Option}
+use Rattle.std.specs.List.{flat_map}
+use Rattle.std.specs.Option.{option_to_list}
+use Rattle.std.specs.Prelude.{String, slice_get}
+use Rattle.std.specs.declared.alloc.Global.{Global}
+use Rattle.std.proofs.Common.{zero, suc, true, false, ◌⊎◌, inl, inr}
+use Rattle.std.proofs.lemmas.Grind.{flat_map-append}
+use Rattle.std.proofs.lemmas.List.{map-append, take_all, take_more}
+use Rattle.std.proofs.lemmas.List.Concat.{flat_map-cons, flat_map_single}
+use Rattle.std.proofs.lemmas.List.Sums.{sum_by-append}
+use Rattle.smith_syntax.specs.Marked.{reference_reach}
+use Rattle.smith_syntax.specs.declared.deftype.ComponentTypeRef.{ComponentTypeRef}
+use Rattle.smith_syntax.specs.declared.deftype.ComponentTypeRef.TheVariants as to
+use Rattle.smith_scopes.specs.Scopes.{Contents}
+use Rattle.smith_syntax.specs.Marks.{declared_mark, narrower, narrowest, no_mark, parts_of, sizes, value_reach}
+use Rattle.smith_syntax.specs.Signature.{named}
+use Rattle.smith_syntax.specs.Sizes.{capped, summed}
+use Rattle.smith_syntax.specs.declared.marks.Mark.{Mark}
+use Rattle.smith_syntax.specs.declared.marks.Reach.{Reach}
+use Rattle.smith_syntax.specs.declared.marks.Reach.TheVariants.{Everywhere, Here, Nowhere}
+use Rattle.smith_syntax.specs.declared.types.ComponentValType.{ComponentValType}
+
+-- The narrower of several.
+
+pub narrower_end : (r : Reach) → narrower r Everywhere ≡ r
+narrower_end Everywhere = refl
+narrower_end Here = refl
+narrower_end Nowhere = refl
+
+narrower_assoc : (r s t : Reach) → narrower r (narrower s t) ≡ narrower (narrower r s) t
+narrower_assoc Everywhere s t = refl
+narrower_assoc Here Everywhere t = refl
+narrower_assoc Here Here Everywhere = refl
+narrower_assoc Here Here Here = refl
+narrower_assoc Here Here Nowhere = refl
+narrower_assoc Here Nowhere t = refl
+narrower_assoc Nowhere s t = refl
+
+pub narrowest-append : (rs ss : List Reach) → narrowest (rs ++ ss) ≡ narrower (narrowest rs) (narrowest ss)
+narrowest-append [] ss = refl
+narrowest-append (r ∷ rs) ss = ap (narrower r) (narrowest-append rs ss) ∙ narrower_assoc r (narrowest rs) (narrowest ss)
+
+module _ {A B : Type 0} (f : A → List B) (xs : List A) (i : ℕ) where
+  pub items_more : (x : A) → i < length xs → x ≡ get_or xs i x → flat_map f (take (i + 1) xs) ≡ flat_map f (take i xs) ++ f x
+  items_more x h e =
+      ap (flat_map f) (take_more xs i x h ∙ ap (λ y. take i xs ++ y ∷ []) (sym e))
+      ∙ (flat_map-append f (take i xs) (x ∷ []) ∙ ap (λ ys. flat_map f (take i xs) ++ ys) (flat_map-cons f x [] ∙ append-nil (f x)))
+
+  pub items_all : length xs ≤ i → flat_map f (take i xs) ≡ flat_map f xs
+  items_all h = ap (flat_map f) (take_all i xs h)
+
+module _ {B : Type 0} (reach : B → Reach) (old new more : List B) where
+  pub reach_more : (kept grown : Reach) → new ≡ old ++ more → kept ≡ narrowest (map reach old) → grown ≡ narrower kept (narrowest (map reach more))
+      → grown ≡ narrowest (map reach new)
+  reach_more kept grown n k g =
+      g ∙ (ap (λ r. narrower r (narrowest (map reach more))) k
+      ∙ sym (ap (λ bs. narrowest (map reach bs)) n ∙ (ap narrowest (map-append reach old more) ∙ narrowest-append (map reach old) (map reach more))))
+
+module _ {B : Type 0} (size : B → ℕ) (old new more : List B) where
+  pub size_more : (kept grown : ℕ) → new ≡ old ++ more → kept ≡ capped (sum (map size old) + 1)
+      → (capped kept ≡ kept → grown ≡ capped (kept + sum (map size more))) → grown ≡ capped (sum (map size new) + 1)
+  size_more kept grown n k g =
+      let c : capped kept ≡ kept = omega (arith, k) in
+      let m : grown ≡ capped (kept + sum (map size more)) = g c in
+      let s : sum (map size new) ≡ sum (map size old) + sum (map size more) =
+      ap (λ bs. sum (map size bs)) n ∙ (ap sum (map-append size old more) ∙ sum_by-append (λ n. n) (map size old) (map size more)) in
+      omega (arith, k, m, s)
+
+-- the value types of members
+
+types_named : {B : Type 0} (ps : List (String Global × B)) → map (λ p. p.1) (map named ps) ≡ map (λ p. p.1) ps
+types_named [] = refl
+types_named (p ∷ ps) = ap (λ ys. p.1 ∷ ys) (types_named ps)
+
+same_map : {A : Type 0} (xs : List A) → map (λ x. x) xs ≡ xs
+same_map [] = refl
+same_map (x ∷ xs) = ap (λ ys. x ∷ ys) (same_map xs)
+
+pub field_types : (ps : List (String Global × ComponentValType)) → flat_map (λ p. option_to_list (Some p.1)) ps ≡ map (λ p. p.1) (map named ps)
+field_types ps = flat_map_single (λ p. p.1) ps ∙ sym (types_named ps)
+
+pub case_types : (ps : List (String Global × Option ComponentValType))
+    → flat_map (λ p. option_to_list p.1) ps ≡ flat_map (λ c. option_to_list c.1) (map named ps)
+case_types [] = refl
+case_types (p ∷ ps) =
+    flat_map-cons (λ q. option_to_list q.1) p ps
+    ∙ (ap (λ ys. option_to_list p.1 ++ ys) (case_types ps) ∙ sym (flat_map-cons (λ c. option_to_list c.1) (named p) (map named ps)))
+
+pub tuple_types : (vs : List ComponentValType) → flat_map (λ v. option_to_list (Some v)) vs ≡ vs
+tuple_types vs = flat_map_single (λ v. v) vs ∙ same_map vs
+
+-- a mark that may be missing
+pub parts_at : (marks : List Mark) (i : ℕ) → (get_or marks i no_mark).parts ≡ parts_of (slice_get marks i)
+parts_at [] i = refl
+parts_at (m ∷ ms) zero = refl
+parts_at (m ∷ ms) (suc i) = parts_at ms i
+
+pub reach_at : (d : Contents) (r : ComponentTypeRef) (i : ℕ) → (r ≡ to.Func i) ⊎ ((r ≡ to.TypeEq i) ⊎ (r ≡ to.Instance i))
+    → (get_or d.marks i no_mark).parts ≡ reference_reach d r
+reach_at d r i (inl e) = parts_at d.marks i ∙ sym (ap (reference_reach d) e)
+reach_at d r i (inr (inl e)) = parts_at d.marks i ∙ sym (ap (reference_reach d) e)
+reach_at d r i (inr (inr e)) = parts_at d.marks i ∙ sym (ap (reference_reach d) e)
+
+-- the marks of types that are made of these, which are others that are the same
+module _ (marks : List Mark) (vs ws : List ComponentValType) (same : vs ≡ ws) (reach : Reach) (size : ℕ)
+    (reach_is : reach ≡ narrowest (map (value_reach marks) vs)) (size_is : size ≡ capped (summed (sizes marks) vs)) where
+  pub plain_is : {m : Mark} → m ≡ record { nominal = false; parts = reach; used = reach; size = size }
+      → m ≡ declared_mark false (map (value_reach marks) ws) (capped (summed (sizes marks) ws))
+  plain_is e =
+      e ∙ ap (λ r. record { nominal = false; parts = r; used = r; size = size }) reach_is
+      ∙ ap (λ n. declared_mark false (map (value_reach marks) vs) n) size_is
+      ∙ ap (λ us. declared_mark false (map (value_reach marks) us) (capped (summed (sizes marks) us))) same
+
+  pub nominal_is : {m : Mark} → m ≡ record { nominal = true; parts = reach; used = Nowhere; size = size }
+      → m ≡ declared_mark true (map (value_reach marks) ws) (capped (summed (sizes marks) ws))
+  nominal_is e =
+      e ∙ ap (λ r. record { nominal = true; parts = r; used = Nowhere; size = size }) reach_is
+      ∙ ap (λ n. declared_mark true (map (value_reach marks) vs) n) size_is
+      ∙ ap (λ us. declared_mark true (map (value_reach marks) us) (capped (summed (sizes marks) us))) same

@@ -1,0 +1,25 @@
+use Rattle.std.proofs.Common.{map}
+use Rattle.smith_syntax.specs.Shown.{shown_core, shown_decl}
+use Rattle.smith_scopes.specs.Scopes.{values_of}
+use Rattle.smith_scopes.proofs.ModuleSteps.{left_all, left_at, left_end, left_more, left_small, size_none}
+use Rattle.smith_scopes.proofs.scopes.module_sizes.module_size.Goals as goal
+
+pub loop-decl-init : goal.loop-decl-init
+loop-decl-init c =
+    left_all (map shown_core (values_of c.args.around.now)) (map shown_decl c.args.decls.now) c.new-module.result c.new-module.ensures.own
+    c.new-module.ensures.size
+
+pub loop-decl-preserved : goal.loop-decl-preserved
+loop-decl-preserved c =
+    let around = map shown_core (values_of c.args.around.now) in
+    let ds = c.args.decls.now in
+    let i = c.loop-decl.decl-index in
+    let l = left_at around ds c.loop-decl.module i c.decl-item.result c.loop-decl-test.true c.decl-item.is c.loop-decl.invariant in
+    let done = c.in_ok-add.ensures {u = tt} in
+    left_more around _ _ _ _ l c.add.new.self (done.size l.fs l.own_is (left_small around _ _ _ _ l)) (done.own l.fs l.own_is)
+
+pub returns : goal.returns
+returns c =
+    size_none (map shown_core (values_of c.args.around.now)) _ _
+    (left_end (map shown_core (values_of c.args.around.now)) c.args.decls.now c.loop-decl.module c.loop-decl.decl-index c.loop-decl-test.false
+    c.loop-decl.invariant)

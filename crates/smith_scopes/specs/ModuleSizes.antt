@@ -1,0 +1,13 @@
+-- Module types as far as they were read.
+use Rattle.std.specs.Prelude.{ℕ, List, map, sum}
+use Rattle.smith_format.specs.CoreTypes.{Function}
+use Rattle.smith_syntax.specs.Entries.{ModuleDecl}
+use Rattle.smith_syntax.specs.ModuleTypes.{entities_in}
+use Rattle.smith_syntax.specs.Sizes.{capped, entity_size, function_size}
+
+abbrev pub sizes_in : List Function → List ℕ
+sizes_in fs = map (λ f. capped (function_size f)) fs
+
+-- the sizes of what a declaration imports or exports
+abbrev pub added_size : List Function → ModuleDecl → ℕ
+added_size fs d = sum (map (entity_size fs) (entities_in d))
