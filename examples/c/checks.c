@@ -63,6 +63,7 @@ static int defaults_are_written(void) {
     WANT(limits.simd_enabled == 1);
     WANT(limits.allow_floats == 1);
     WANT(limits.bulk_memory_enabled == 1);
+    WANT(limits.must_validate == 0);
     WANT(limits.finish_after == 0);
     return 1;
 }
@@ -413,6 +414,9 @@ typedef struct Arriving {
 #define MODULE BYTES(0x06, 0x00, 0x01)
 #define TYPE BYTES(0x03, 0x01, 0x00, 0x00, 0x06)
 
+/* An enum, a function type with a parameter of it, and an import. */
+#define UNNAMED BYTES(0x03, 0x01, 0x00, 0x06, 0x00, 0x00, 0x01, 0x01, 0x01, 0x00, 0x01, 0x00, 0x00, 0x00, 0x04, 0x01)
+
 static const Arriving arriving[] = {
     REFUSED(min_types, 101, TYPE, LUPINANON_INCONSISTENT_LIMITS),
     REFUSED(min_imports, 101, TYPE, LUPINANON_INCONSISTENT_LIMITS),
@@ -443,6 +447,10 @@ static const Arriving arriving[] = {
     REFUSED(simd_enabled, 2, TYPE, LUPINANON_BAD_FLAG),
     REFUSED(allow_floats, 2, TYPE, LUPINANON_BAD_FLAG),
     REFUSED(bulk_memory_enabled, 2, TYPE, LUPINANON_BAD_FLAG),
+    /* a function of an enum that nothing names is not imported */
+    MADE(must_validate, 1, UNNAMED,
+         BYTES(PREAMBLE, 0x07, 0x0c, 0x02, 0x6d, 0x01, 0x01, 0x61, 0x40, 0x01, 0x01, 0x61, 0x00, 0x01, 0x00, 0x0a, 0x01,
+               0x00)),
     /* the byte that would finish the component is the choice of a custom section */
     MADE(finish_after, 1, BYTES(0x00), BYTES(PREAMBLE, 0x00, 0x01, 0x00)),
 };

@@ -5,7 +5,7 @@ use crate::texts::{defaults, misfit, texts, unwritten};
 use smith_component::{Config, Error, Unstructured, generate};
 use smith_read::{ReadError, read};
 use smith_script::{ScriptError, script};
-use smith_verdict::{Verdict, check, validate};
+use smith_verdict::{Validity, Verdict, check, validate};
 use std::alloc::{AllocError, Global};
 use std::fmt;
 
@@ -46,8 +46,16 @@ const RESTS: [&[u8]; 3] = [b"", b"\xff\x07", b"\x00\x03\x01"];
 struct Generated {
     bytes: Result<Vec<u8>, Error>,
     left: Vec<u8>,
-    // Whether the component is measured and read back as what was generated, and found well formed.
+    // Whether the component is measured and read back as what was generated, and found well formed, and valid where it has to be.
     agrees: bool,
+}
+
+// Are they found to be a well-formed component, and to validate where they have to?
+fn is_well_judged(alloc: Global, limits: &Config, bytes: &[u8]) -> Result<bool, AllocError> {
+    if limits.must_validate {
+        return Ok(validate(alloc, bytes)? == Validity::Valid);
+    }
+    Ok(check(alloc, bytes)? == Verdict::WellFormed)
 }
 
 fn generate_from(alloc: Global, limits: Config, input: &[u8]) -> Result<Generated, AllocError> {
@@ -62,11 +70,11 @@ fn generate_from(alloc: Global, limits: Config, input: &[u8]) -> Result<Generate
                 Ok(tree) => tree.parts.len() == sections,
                 Err(_) => false,
             };
-            let is_well_formed = check(alloc, &made.bytes)? == Verdict::WellFormed;
+            let is_judged = is_well_judged(alloc, &limits, &made.bytes)?;
             Ok(Generated {
                 bytes: Ok(made.bytes),
                 left,
-                agrees: is_measured && is_read && is_well_formed,
+                agrees: is_measured && is_read && is_judged,
             })
         }
         Err(error) => Ok(Generated {

@@ -18,7 +18,7 @@ const ERRORS: [Error; 6] = [
 ];
 
 // Limits that are not kept, and where that is seen.
-const UNKEPT: [(Option<Unkept>, Option<usize>); 4] = [
+const UNKEPT: [(Option<Unkept>, Option<usize>); 5] = [
     (None, None),
     (None, Some(12)),
     (
@@ -33,6 +33,12 @@ const UNKEPT: [(Option<Unkept>, Option<usize>); 4] = [
             name: "simd_enabled",
         }),
         None,
+    ),
+    (
+        Some(Unkept::On {
+            name: "must_validate",
+        }),
+        Some(24),
     ),
 ];
 

@@ -49,7 +49,7 @@ fn made<R: Abort + AllocGlobal>(rt: &R, input: &[u8], fuel_left: u32) -> Result<
     assert!(rt; depth == 1);
     let mut fuel = 10;
     let mut u = Unstructured::new(input);
-    let ty = arbitrary_type(
+    let (ty, _mark) = arbitrary_type(
         rt.alloc(),
         &mut u,
         &config,

@@ -49,6 +49,7 @@ enum Limit {
     MaxComponents,
     MaxInstances,
     MaxExports,
+    MaxMemories,
 }
 
 // These limits, but for one of them.
@@ -65,6 +66,7 @@ fn with(mut config: Config, limit: Limit, value: usize) -> Config {
         Limit::MaxComponents => config.max_components = value,
         Limit::MaxInstances => config.max_instances = value,
         Limit::MaxExports => config.max_exports = value,
+        Limit::MaxMemories => config.max_memories = value,
     }
     config
 }
@@ -83,6 +85,10 @@ fn are_refused<R: Abort + AllocGlobal>(rt: &R, name: &str, config: Config, input
 fn limits_that_do_not_fit_together_are_refused_before_a_byte_is_read(rt: HostRuntime) {
     let small = small_limits();
     let great = greatest_limits();
+    let valid = Config {
+        must_validate: true,
+        ..small
+    };
     let past = PAST_32_BITS;
     let rows = [
         ("min_types past max_types", small, Limit::MinTypes, 11),
@@ -98,6 +104,28 @@ fn limits_that_do_not_fit_together_are_refused_before_a_byte_is_read(rt: HostRun
         ("components past 32 bits", great, Limit::MaxComponents, past),
         ("instances, else great", great, Limit::MaxInstances, past),
         ("exports too", most_functions(), Limit::MaxExports, 1),
+        ("types of a validator", valid, Limit::MaxTypes, 500_001),
+        (
+            "functions of a validator",
+            valid,
+            Limit::MaxFuncs,
+            1_000_001,
+        ),
+        ("functions and exports", valid, Limit::MaxExports, 999_991),
+        ("modules of a validator", valid, Limit::MaxModules, 1_001),
+        (
+            "components of a validator",
+            valid,
+            Limit::MaxComponents,
+            1_001,
+        ),
+        (
+            "instances of a validator",
+            valid,
+            Limit::MaxInstances,
+            1_001,
+        ),
+        ("memories of a validator", valid, Limit::MaxMemories, 101),
     ];
     for (name, config, limit, value) in rows {
         let config = with(config, limit, value);

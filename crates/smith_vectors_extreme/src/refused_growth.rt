@@ -275,7 +275,8 @@ fn component_type<R: Abort + AllocGlobal>(
     assert!(rt; depth == 1);
     let mut fuel = 10;
     let mut u = Unstructured::new(COMPONENT_TYPE);
-    arbitrary_type(rt.alloc(), &mut u, &config, &valtypes, scopes, &mut fuel)
+    let (ty, _mark) = arbitrary_type(rt.alloc(), &mut u, &config, &valtypes, scopes, &mut fuel)?;
+    Ok(ty)
 }
 
 #[test]

@@ -51,6 +51,9 @@ pub struct Limits {
     pub allow_floats: bool,
     /// Whether core modules count their data segments in a section.
     pub bulk_memory_enabled: bool,
+    /// Whether a validator accepts each component: what it imports and exports is of types that it names, and effective
+    /// sizes and counts are below the bounds of wasmparser.
+    pub must_validate: bool,
     /// How many sections a component has at least when the input finishes it. Where no input is left, it is finished
     /// whatever it has.
     pub finish_after: usize,

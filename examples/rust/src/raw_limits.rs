@@ -30,7 +30,8 @@ pub struct RawLimits {
     simd_enabled: bool,
     allow_floats: bool,
     bulk_memory_enabled: bool,
-    reserved: [u8; 6],
+    must_validate: bool,
+    reserved: [u8; 5],
     finish_after: usize,
 }
 
@@ -62,7 +63,8 @@ impl RawLimits {
             simd_enabled: limits.simd_enabled,
             allow_floats: limits.allow_floats,
             bulk_memory_enabled: limits.bulk_memory_enabled,
-            reserved: [0; 6],
+            must_validate: limits.must_validate,
+            reserved: [0; 5],
             finish_after: limits.finish_after,
         }
     }
@@ -93,6 +95,7 @@ impl RawLimits {
             simd_enabled: self.simd_enabled,
             allow_floats: self.allow_floats,
             bulk_memory_enabled: self.bulk_memory_enabled,
+            must_validate: self.must_validate,
             finish_after: self.finish_after,
         }
     }
