@@ -1,7 +1,7 @@
 """Prints what a reader has to believe, with its lines, and checks where it is.
 
 It starts from the clauses of `generate` in crates/smith_component/src/generation.rt, and of the view of a component, and follows
-the imports of the definitions that they cite. It checks that the first two groups are in the specs/ folders of crates that have no
+the imports of the definitions that they cite. It checks that the first three groups are in the specs/ folders of crates that have no
 builder and no maker of types, except for the view itself, that these folders import nothing else, and that each definition that the
 contract cites is in a group. Then it prints what the clauses on runs and refusals add, which know the builder, and the files of the
 program whose types the definitions speak of. It exits with 1 where a check fails.
@@ -15,7 +15,7 @@ import sys
 
 CRATES = "crates"
 CONTRACT = "smith_component/src/generation.rt"
-BELOW_THE_MAKERS = {"smith_input", "smith_format", "smith_core", "smith_syntax", "smith_tree"}
+BELOW_THE_MAKERS = {"smith_input", "smith_format", "smith_core", "smith_syntax", "smith_tree", "smith_validity"}
 VIEW = "smith_component/specs/Shown.antt"
 HEADLINE = [
     ("One reading, well formed, within the limits", ["smith_tree/specs/Generates.antt", VIEW]),
@@ -23,6 +23,7 @@ HEADLINE = [
         "Scripts, plans, and which components can be generated",
         ["smith_tree/specs/Script.antt", "smith_tree/specs/Readable.antt", "smith_input/specs/Reading.antt"],
     ),
+    ("What validates", ["smith_validity/specs/Validates.antt"]),
 ]
 BUILDER = ("Runs and refusals", ["smith_component/specs/Runs.antt", "smith_component/specs/Refusals.antt"])
 IMPORT = re.compile(r"\s*(?:pub |ghost )?use Rattle\.(\w+)\.(specs|proofs)\.([\w.]+?)(?:\.\{.*| as .*)?;?$")

@@ -4,7 +4,7 @@ use Rattle.smith_format.specs.Consistency.{max_u32}
 use Rattle.smith_scopes.specs.Scopes.{last_of}
 use Rattle.smith_scopes.specs.Scopes.{Contents}
 use Rattle.smith_scopes.proofs.Stack.{last_of-snoc}
-use Rattle.smith_scopes.proofs.scopes.Scopes.push_core_type.Goals as goal
+use Rattle.smith_scopes.proofs.scopes.Scopes.push_sized.Goals as goal
 
 pub push_core_type-requires : goal.push_core_type-requires
 push_core_type-requires c =

@@ -5,7 +5,7 @@ use Rattle.smith_read_types.specs.Nodes.{shown_core_node}
 use Rattle.smith_read_types.specs.TypeNodes.{shown_type_node}
 use Rattle.smith_read_scopes.specs.Scope.{nodes_of}
 use Rattle.smith_read_scopes.proofs.Tied.{ascend_as}
-use Rattle.smith_read_scopes.proofs.scope.Scope.places.Goals as goal
+use Rattle.smith_read_scopes.proofs.nodes.Plain.places.Goals as goal
 
 pub returns-in-Defined-clause-ascending : goal.returns-in-Defined-clause-ascending
 returns-in-Defined-clause-ascending c =
