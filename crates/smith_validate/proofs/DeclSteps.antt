@@ -81,7 +81,7 @@ outer_sizes old os e =
     ap (λ xs. reverse (map kept_in xs)) e
     ∙ (ap reverse (map-append kept_in old.outer.items (old.own ∷ [])) ∙ reverse-append (map kept_in old.outer.items) (kept_in old.own ∷ []))
 
-outer_kept : (old : Known) (os : List Scope) → os ≡ old.outer.items ++ old.own ∷ [] → reverse (map (λ o. o.types.items) os) ≡ types_in old
+pub outer_kept : (old : Known) (os : List Scope) → os ≡ old.outer.items ++ old.own ∷ [] → reverse (map (λ o. o.types.items) os) ≡ types_in old
 outer_kept old os e =
     ap (λ xs. reverse (map (λ o. o.types.items) xs)) e
     ∙ (ap reverse (map-append (λ o. o.types.items) old.outer.items (old.own ∷ []))

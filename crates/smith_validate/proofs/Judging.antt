@@ -2,7 +2,7 @@
 use Rattle.std.proofs.Common.{◌≡◌, ℕ, ◌+◌, ◌<◌, Bool, true, false, List, length, map, get_or, sym, subst, Result, Ok, Err, IsErrAnd}
 use Rattle.std.proofs.Math.ListN.{drop}
 use Rattle.smith_input.proofs.Rests.{rest_at}
-use Rattle.std.specs.Prelude.{IfOk, OnOk, ◌∷◌}
+use Rattle.std.specs.Prelude.{IfErr, IfOk, OnOk, ◌∷◌}
 use Rattle.smith_syntax.specs.Entries.{export_decl}
 use Rattle.smith_syntax.specs.declared.deftype.ComponentTypeRef.{ComponentTypeRef}
 use Rattle.smith_validity.specs.Bodies.{Body, IsSmall, after_export, externs_at}
@@ -10,7 +10,7 @@ use Rattle.smith_validity.specs.Facts.{Extern, FactScope, Id}
 use Rattle.smith_validity.specs.Validates.{RefersTo, ValidDecl, exported}
 use Rattle.smith_validate.specs.Bodies.{demanded}
 use Rattle.smith_validate.specs.Externs.{IsAsked, IsAskedFor}
-use Rattle.smith_validate.specs.Judges.{Judges, Refutes}
+use Rattle.smith_validate.specs.Judges.{IsNamed, Judges, Refutes}
 use Rattle.smith_validate.specs.declared.error.Stop.{Stop}
 use Rattle.smith_validate.specs.declared.error.Stop.TheVariants.{OutOfMemory}
 
@@ -61,6 +61,10 @@ pub on_both : {A : Type 0} (r : Result A Stop) {P Q R : Type 0} → (P → Q →
 on_both (Ok x) {P} {Q} {R} f p q = f p q
 on_both (Err e) {P} {Q} {R} f p q = tt
 
+pub on_all : {A : Type 0} (r : Result A Stop) {P Q R S : Type 0} → (P → Q → R → S) → OnOk r P → OnOk r Q → OnOk r R → OnOk r S
+on_all (Ok x) {P} {Q} {R} {S} f p q s = f p q s
+on_all (Err e) {P} {Q} {R} {S} f p q s = tt
+
 module _ {A B : Type 0} (shown : A → B) (xs : List A) (i : ℕ) where
   -- a fact of what is left of a list, by its first item
   pub left_from : (F : List B → Type 0) (x : A) → i < length xs → x ≡ get_or xs i x
@@ -90,3 +94,20 @@ export_judged r d false name to outer b j = j
 pub ok_by : {A : Type 0} (r : Result A Stop) {P Q : A → Type 0} → ((x : A) → P x → Q x) → IfOk r P → IfOk r Q
 ok_by (Ok x) {P} {Q} f p = f x p
 ok_by (Err e) {P} {Q} f p = tt
+
+pub err_by : {A : Type 0} (r : Result A Stop) {P Q : Stop → Type 0} → ((e : Stop) → P e → Q e) → IfErr r P → IfErr r Q
+err_by (Ok x) {P} {Q} f p = tt
+err_by (Err e) {P} {Q} f p = f e p
+
+pub refuse : {A : Type 0} (r : Result A Stop) {P : Type 0} → ¬ P → IfErr r (λ e. IsNamed e → ¬ P)
+refuse (Ok x) {P} n = tt
+refuse (Err e) {P} n = λ h. n
+
+pub on_any : {A : Type 0} (r : Result A Stop) {P : Type 0} → P → OnOk r P
+on_any (Ok x) {P} p = p
+on_any (Err e) {P} p = tt
+
+-- an error that is passed on
+pub refused_on : {A : Type 0} (r : Result A Stop) (e : Stop) {P : Type 0} → IsErrAnd r (λ y. y ≡ e) → (IsNamed e → ¬ P) → IfErr r (λ y. IsNamed y → ¬ P)
+refused_on (Ok x) e {P} is d = tt
+refused_on (Err y) e {P} is d = subst (λ (z : Stop). IsNamed z → ¬ P) (sym is) d

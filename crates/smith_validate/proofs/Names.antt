@@ -101,3 +101,6 @@ sub_within a (x ∷ ids) w = λ id h.
 
 pub among_itself : (id : Id) (ids : List Id) → is_among (id ∷ ids) id ≡ true
 among_itself id ids = or_left (bytes_eq id id) (is_among ids id) ((bytes_eq-Decides id id).1 refl)
+
+pub among_one : (x id : Id) → is_among (x ∷ []) id ≡ true → x ≡ id
+among_one x id h = elim (or_cases (bytes_eq x id) false h) [ inl e ↦ (bytes_eq-Decides x id).0 e | inr n ↦ absurd (let z : false ≡ true = n in cc) ]

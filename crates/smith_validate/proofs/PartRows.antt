@@ -9,7 +9,9 @@ use Rattle.smith_syntax.specs.declared.deftype.ComponentTypeRef.{ComponentTypeRe
 use Rattle.smith_syntax.specs.declared.deftype.ComponentTypeRef.TheVariants as to
 use Rattle.smith_tree.specs.Spaces.{Spaces, after_canon as spaces_after_canon, after_export as spaces_after_export, after_import as spaces_after_import}
 use Rattle.smith_tree.specs.Spaces.{after_part as spaces_after, no_spaces}
-use Rattle.smith_tree.specs.Tree.{Canon, ExportEntry, Part, tree_of}
+use Rattle.smith_tree.specs.Tree.{Canon, ExportEntry, Part, Tree, tree_of}
+use Rattle.smith_tree.specs.WellFormed.{WellFormed}
+use Rattle.smith_validity.specs.Validates.{IsBounded, Validates}
 use Rattle.smith_validity.specs.Bodies.{Body, IsSmall, after_export, after_import, core_facts, empty_body, externs_at, facts, with_core_facts}
 use Rattle.smith_validity.specs.Bodies.{with_facts}
 use Rattle.smith_validity.specs.Facts.{FactScope, Id}
@@ -19,7 +21,7 @@ use Rattle.smith_validity.specs.Validates.{ValidPart, ValidParts, after_entries,
 use Rattle.smith_validity.specs.Validates.{exported_references, imported, imported_references}
 use Rattle.smith_validate.specs.Bodies.{IsBody, IsBodyNow, IsEmpty, IsFresh, IsIn, demanded}
 use Rattle.smith_validate.specs.Instances.{Exports}
-use Rattle.smith_validate.specs.Judges.{Refutes}
+use Rattle.smith_validate.specs.Judges.{IsNamed, Refutes}
 use Rattle.smith_validate.specs.Modules.{entries_in}
 use Rattle.smith_validate.specs.Outcome.{Lacks}
 use Rattle.smith_validate.specs.Parts.{IsOpen, IsOpenNow}
@@ -168,9 +170,9 @@ pub one_function : (s : Spaces) (e : ExportEntry) (t : ℕ) → slice_get s.func
 one_function s e t h = ap (λ o. s.functions ++ option_to_list o) h
 
 -- what a demand that is not met says
-pub lacking : (d : Demand) (P : Type 0) → Refutes (Invalid d) P → Lacks d P
-lacking demand.Named P r = tt
-lacking demand.Size P r = r.is tt
-lacking demand.Count P r = r.is tt
-lacking demand.Memories P r = r.is tt
-lacking demand.Tables P r = r.is tt
+pub unmet : (d : Demand) (t : Tree) → Refutes (Invalid d) (IsBounded t) → (IsNamed (Invalid d) → WellFormed t → ¬ (Validates t)) → Lacks d t
+unmet demand.Named t r n = n tt
+unmet demand.Size t r n = r.is tt
+unmet demand.Count t r n = r.is tt
+unmet demand.Memories t r n = r.is tt
+unmet demand.Tables t r n = r.is tt

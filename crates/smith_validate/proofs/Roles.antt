@@ -61,6 +61,7 @@ role_more table more names asks (Exporting x) b h = (
     follow = follow_more table more h.1.outside h.1.pieces h.1.follow;
     covered = h.1.covered;
     rest = λ a. rest_more table more h.1.outside h.1.pieces (h.1.rest a);
+    none = h.1.none;
   },
 )
 
@@ -68,7 +69,7 @@ pub role_fresh : (table : List Exports) (names : List (List Id)) (asks : Bool) (
 role_fresh table names asks (Names s) h = (h.0, record { imported_are = (h.1 table []).0; exported_are = (h.1 table []).1 })
 role_fresh table names asks (Exporting x) h = (
   h.0,
-  record { outside = []; pieces = []; externs_are = refl; uses_are = h.2; follow = tt; covered = tt; rest = λ a. tt },
+  record { outside = []; pieces = []; externs_are = refl; uses_are = h.2; follow = tt; covered = tt; rest = λ a. tt; none = λ a. refl },
 )
 
 -- Pieces behind others.
@@ -100,7 +101,7 @@ module _ (table : List Exports) where
   rest_append named [] qs f g = g
   rest_append named (p ∷ ps) qs f g = (f.0, f.1, rest_append named ps qs f.2 g)
 
-uses_append : (ps qs : List Piece) → uses_in (ps ++ qs) ≡ uses_in ps ++ uses_in qs
+pub uses_append : (ps qs : List Piece) → uses_in (ps ++ qs) ≡ uses_in ps ++ uses_in qs
 uses_append [] qs = refl
 uses_append (single x ∷ ps) qs = uses_append ps qs
 uses_append (whole n ∷ ps) qs = ap (λ us. Instance n ∷ us) (uses_append ps qs)
@@ -109,8 +110,8 @@ uses_append (equal n ns ∷ ps) qs = ap (λ us. Equal n ∷ us) (uses_append ps 
 -- one more export of an instance type
 module _ (table : List Exports) (names : List (List Id)) (e f : Exported) (xs ys : List Extern) (k : KeptExtern) where
   pub exports_push : AreExports table names e xs → IsPiece table (names_of xs ∷ names) k ys → f.refers ≡ both e.refers k.refers
-      → f.uses.items ≡ e.uses.items ++ option_to_list k.used → AreExports table names f (xs ++ ys)
-  exports_push a i refers uses =
+      → f.uses.items ≡ e.uses.items ++ option_to_list k.used → f.any ≡ true → AreExports table names f (xs ++ ys)
+  exports_push a i refers uses any =
       let s = split (names_of xs) names k.refers (reach table i.piece) i.covered in
       let out = a.outside ++ s.outside in
       let one = i.piece ∷ [] in
@@ -138,6 +139,7 @@ module _ (table : List Exports) (names : List (List Id)) (e f : Exported) (xs ys
                   (s.all (above_right e.refers.innermost k.refers.innermost (length names) up)),
               tt,
             );
+        none = λ h. absurd (let z : true ≡ false = sym any ∙ h in cc);
       }
 
 -- An instance type is closed.
@@ -153,7 +155,7 @@ module _ (table : List Exports) (here : List Id) (names : List (List Id)) (e : E
       → number ≡ length old.instances.items → new.instances.items ≡ old.instances.items ++ t ∷ []
       → IsDeclared table (here ∷ names) new (instance_facts refers size number) (instance_plain id b)
   instance_closed old new id size number a d refs uses own ts n pushed =
-      let x : Exports = record { externs = b.exports; outside = a.outside } in
+      let x : Exports = record { externs = b.exports; outside = a.outside; place = id } in
       let long : length table ≡ number = AllZip-long (IsInstanceType table) old.instances.items table ts ∙ sym n in
       let at : get_or (table ++ x ∷ []) number no_exports ≡ x =
       ap (λ k. get_or (table ++ x ∷ []) k no_exports) (sym long) ∙ get_or-append_seam table x [] no_exports in

@@ -8,7 +8,7 @@ use Rattle.smith_validity.specs.Validates.{names_of}
 use Rattle.smith_validate.specs.Exposing.{IsSettled}
 use Rattle.smith_validate.specs.Instances.{AreKept, Exports, Follow, IsInstanceType, IsKept, IsKnown, IsNumbered, IsTable}
 use Rattle.smith_validate.specs.Instances.{Piece, Rest, ScopesKept, equal, externs_in}
-use Rattle.smith_validate.specs.Instances.{externs_of, named_by, no_exports, outside_of, reach, reach_of, refers_of, single, whole}
+use Rattle.smith_validate.specs.Instances.{externs_of, named_by, no_exports, outside_of, place_of, reach, reach_of, refers_of, single, whole}
 use Rattle.smith_validate.specs.Marks.{Covers, Within}
 use Rattle.smith_validate.specs.declared.facts.Facts.{Facts as KeptFacts}
 use Rattle.smith_validate.specs.declared.instances.Exposed.{Exposed}
@@ -24,6 +24,9 @@ module _ (table more : List Exports) where
 
   pub outside_more : (n : ℕ) → n < length table → outside_of (table ++ more) n ≡ outside_of table n
   outside_more n h = ap (λ e. e.outside) (at_more n h)
+
+  pub place_more : (n : ℕ) → n < length table → place_of (table ++ more) n ≡ place_of table n
+  place_more n h = ap (λ e. e.place) (at_more n h)
 
   pub longer : (n : ℕ) → n < length table → n < length (table ++ more)
   longer n h = omega (arith, h, length-append table more)

@@ -3,6 +3,7 @@ use Rattle.std.proofs.Common.{◌≡◌, ℕ, zero, suc, ◌+◌, ◌<◌, ◌�
 use Rattle.std.proofs.Common.{None, Some}
 use Rattle.std.proofs.lemmas.Grind.{flat_map-append}
 use Rattle.std.proofs.lemmas.List.{take_all, take_more}
+use Rattle.std.proofs.lemmas.List.Sums.{fold-append}
 use Rattle.std.specs.List.{AllZip, flat_map}
 use Rattle.std.specs.Option.{option_to_list}
 use Rattle.std.specs.Prelude.{slice_get, if◌then◌else◌}
@@ -10,8 +11,8 @@ use Rattle.smith_syntax.specs.declared.types.ComponentValType.{ComponentValType}
 use Rattle.smith_syntax.specs.declared.types.ComponentValType.TheVariants.{Indexed}
 use Rattle.smith_validity.specs.Facts.{Facts, Id, needs, value_needs}
 use Rattle.smith_validate.specs.Instances.{AreKept, Exports, IsKept}
-use Rattle.smith_validate.specs.Marks.{Covers, both, nominal_facts, plain_facts}
-use Rattle.smith_validate.specs.Values.{CoversValues}
+use Rattle.smith_validate.specs.Marks.{Covers, both, no_needs, nominal_facts, plain_facts}
+use Rattle.smith_validate.specs.Values.{CoversValues, HasMarks, marks_from, value_marks}
 use Rattle.smith_validate.specs.declared.facts.Facts.{Facts as KeptFacts}
 use Rattle.smith_validate.specs.declared.facts.Needs.{Needs}
 use Rattle.smith_validate.proofs.Covering.{covers_both, covers_unnamed}
@@ -90,3 +91,28 @@ module _ (table : List Exports) (names : List (List Id)) (n : Needs) (size : ℕ
     refers_are = c;
     instance_is = exports;
   }
+
+-- what is kept of what members need, one by one
+pub marks_more : {A : Type 0} (kept : List KeptFacts) (f : A → List ComponentValType) (xs : List A) (i : ℕ) (x : A) (n m : Needs) → i < length xs
+    → x ≡ get_or xs i x → n ≡ marks_from kept no_needs (flat_map f (take i xs)) → m ≡ marks_from kept n (f x)
+    → m ≡ marks_from kept no_needs (flat_map f (take (i + 1) xs))
+marks_more kept f xs i x n m h e before after =
+    let step : take (i + 1) xs ≡ take i xs ++ x ∷ [] = take_more xs i x h ∙ ap (λ y. take i xs ++ y ∷ []) (sym e) in
+    let all : flat_map f (take (i + 1) xs) ≡ flat_map f (take i xs) ++ f x =
+    ap (flat_map f) step ∙ (flat_map-append f (take i xs) (x ∷ []) ∙ ap (λ ys. flat_map f (take i xs) ++ ys) (append-nil (f x))) in
+    after
+    ∙ (ap (λ k. marks_from kept k (f x)) before
+    ∙ (sym (fold-append (λ needs v. both needs (value_marks kept v)) no_needs (flat_map f (take i xs)) (f x)) ∙ ap (marks_from kept no_needs) (sym all)))
+
+pub marks_append : (kept : List KeptFacts) (n m : Needs) (xs ys : List ComponentValType) → n ≡ marks_from kept no_needs xs → m ≡ marks_from kept n ys
+    → m ≡ marks_from kept no_needs (xs ++ ys)
+marks_append kept n m xs ys before after =
+    after
+    ∙ (ap (λ k. marks_from kept k ys) before
+    ∙ sym (fold-append (λ needs v. both needs (value_marks kept v)) no_needs xs ys))
+
+pub plain_marks : (n : Needs) (size : ℕ) (m : Needs) → n ≡ m → HasMarks (plain_facts n size) false m
+plain_marks n size m e = record { refers_are = e; needs_are = e; nominal_is = refl; instance_is = refl }
+
+pub nominal_marks : (n : Needs) (size : ℕ) (m : Needs) → n ≡ m → HasMarks (nominal_facts n size) true m
+nominal_marks n size m e = record { refers_are = e; needs_are = refl; nominal_is = refl; instance_is = refl }

@@ -5,6 +5,7 @@ use Rattle.smith_validity.specs.Counts.{no_counts}
 use Rattle.smith_validity.specs.Facts.{Extern, FactScope, Id}
 use Rattle.smith_validity.specs.Validates.{NoDemand, RefersTo, exported, imported, names_of}
 use Rattle.smith_validate.specs.Counted.{counted}
+use Rattle.smith_validate.specs.Exposure.{IsExposed}
 use Rattle.smith_validate.specs.Exposing.{IsSettled}
 use Rattle.smith_validate.specs.Instances.{Exports, Follow, IsTable, Piece, Rest, ScopesKept, externs_in, uses_in}
 use Rattle.smith_validate.specs.Judges.{IsPassed}
@@ -49,6 +50,7 @@ pub record AreExports (table : List Exports) (names : List (List Id)) (e : Expor
   pub follow : Follow table outside pieces
   pub covered : Covers names e.refers outside
   pub rest : IsAbove e.refers.innermost (length names) → Rest table outside pieces
+  pub none : e.any ≡ false → xs ≡ []
 
 -- What is kept of imports and exports is of that. Names are asked but in an instance type.
 abbrev pub IsRole : List Exports → List (List Id) → Bool → Role → Body → Type 0
@@ -58,7 +60,8 @@ IsRole table names asks (Exporting e) b = (asks ≡ false) × AreExports table n
 -- Nothing is imported or exported.
 abbrev pub IsFresh : Bool → Role → Type 0
 IsFresh asks (Names s) = (asks ≡ true) × ((table : List Exports) (named : List Id) → IsSettled table s.imported named × IsSettled table s.exported named)
-IsFresh asks (Exporting e) = (asks ≡ false) × (e.refers ≡ no_needs) × (e.uses.items ≡ [])
+    × ((table : List Exports) → IsExposed table s.imported [] [] × IsExposed table s.exported [] [])
+IsFresh asks (Exporting e) = (asks ≡ false) × (e.refers ≡ no_needs) × (e.uses.items ≡ []) × (e.any ≡ false)
 
 -- What is kept is of that, which is below the bounds.
 pub record IsBody (asks : Bool) (k : Known) (o : Kept) (b : Body) (outer : List FactScope) (names : List (List Id)) (table : List Exports) : Type 0 where

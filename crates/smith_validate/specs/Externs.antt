@@ -1,11 +1,13 @@
 -- What is imported or exported, and what is kept of it.
-use Rattle.std.specs.Prelude.{◌≡◌, Bool, true, false, List, [], ◌∷◌, ◌++◌, Option, None, Some}
+use Rattle.std.specs.Prelude.{◌≡◌, ℕ, Bool, true, false, List, [], ◌∷◌, ◌++◌, Option, None, Some, map, slice_get}
 use Rattle.std.specs.Option.{option_map, option_to_list}
+use Rattle.smith_syntax.specs.declared.deftype.ComponentTypeRef.{ComponentTypeRef}
+use Rattle.smith_syntax.specs.declared.deftype.ComponentTypeRef.TheVariants as to
 use Rattle.smith_validity.specs.Bodies.{Body}
 use Rattle.smith_validity.specs.Facts.{Extern, Id}
 use Rattle.smith_validate.specs.Bodies.{demanded}
 use Rattle.smith_validate.specs.Instances.{Exports, IsKnown, Piece, externs_in, reach, uses_in}
-use Rattle.smith_validate.specs.Marks.{Covers}
+use Rattle.smith_validate.specs.Marks.{Covers, named_facts}
 use Rattle.smith_validate.specs.declared.body.Extern.{Extern as KeptExtern}
 use Rattle.smith_validate.specs.declared.facts.Facts.{Facts as KeptFacts}
 use Rattle.smith_validate.specs.declared.instances.Use.TheVariants.{Instance, Equal}
@@ -17,6 +19,26 @@ kept_extern f = record { refers = f.refers; used = option_map (λ n. Equal n) f.
 -- of an instance of that type
 abbrev pub kept_instance : KeptFacts → Option KeptExtern
 kept_instance f = option_map (λ n. record { refers = f.refers; used = Some (Instance n) }) f.instance
+
+-- what is kept of an instance, among types of which these are kept
+abbrev pub instance_of : List KeptFacts → ℕ → Option KeptExtern
+instance_of kept i = elim (slice_get kept i) [ None ↦ None | Some k ↦ kept_instance k ]
+
+-- what is kept of what is imported or exported, among types of which these are kept
+abbrev pub extern_of : List KeptFacts → ComponentTypeRef → Option KeptExtern
+extern_of kept (to.Module i) = None
+extern_of kept (to.Func i) = option_map kept_extern (slice_get kept i)
+extern_of kept (to.TypeEq i) = option_map kept_extern (slice_get kept i)
+extern_of kept (to.Component i) = None
+extern_of kept (to.Instance i) = instance_of kept i
+
+-- what is kept of the type that an export adds, in a scope with so many around it
+abbrev pub exported_of : List KeptFacts → ℕ → ComponentTypeRef → List KeptFacts
+exported_of kept depth (to.Module i) = []
+exported_of kept depth (to.Func i) = []
+exported_of kept depth (to.TypeEq i) = map (λ k. named_facts k depth) (option_to_list (slice_get kept i))
+exported_of kept depth (to.Component i) = []
+exported_of kept depth (to.Instance i) = []
 
 -- What is kept is of an export of that sort.
 pub record IsPiece (table : List Exports) (names : List (List Id)) (k : KeptExtern) (xs : List Extern) : Type 0 where

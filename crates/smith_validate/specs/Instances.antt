@@ -9,19 +9,24 @@ use Rattle.smith_validate.specs.declared.instances.InstanceType.{InstanceType}
 use Rattle.smith_validate.specs.declared.instances.Use.{Use}
 use Rattle.smith_validate.specs.declared.instances.Use.TheVariants.{Instance, Equal}
 
--- What a type of instances exports, and what it refers to that is named neither by it nor by another type of instances.
+-- What a type of instances exports; what it refers to that is named neither by it nor by another type of instances; and where it was
+-- added.
 pub record Exports : Type 0 where
   pub externs : List Extern
   pub outside : List Id
+  pub place : Id
 
 abbrev pub no_exports : Exports
-no_exports = record { externs = []; outside = [] }
+no_exports = record { externs = []; outside = []; place = [] }
 
 abbrev pub externs_of : List Exports → ℕ → List Extern
 externs_of table n = (get_or table n no_exports).externs
 
 abbrev pub outside_of : List Exports → ℕ → List Id
 outside_of table n = (get_or table n no_exports).outside
+
+abbrev pub place_of : List Exports → ℕ → Id
+place_of table n = (get_or table n no_exports).place
 
 abbrev pub refers_of : List Extern → List Id
 refers_of xs = flat_map (λ x. x.refers) xs

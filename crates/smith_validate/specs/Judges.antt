@@ -21,3 +21,16 @@ pub record Refutes (e : Stop) (P : Type 0) : Type 0 where
 abbrev pub Judges : {A : Type 0} → Result A Stop → Type 0 → Type 0
 Judges (Ok x) P = P
 Judges (Err e) P = Refutes e P
+
+-- It is that something has to be named.
+abbrev pub IsNamed : Stop → Type 0
+IsNamed OutOfMemory = ⊥
+IsNamed (Invalid Named) = Unit {0}
+IsNamed (Invalid Size) = ⊥
+IsNamed (Invalid Count) = ⊥
+IsNamed (Invalid Memories) = ⊥
+IsNamed (Invalid Tables) = ⊥
+
+-- It is another reason.
+abbrev pub IsUnnamed : Stop → Type 0
+IsUnnamed e = ¬ (IsNamed e)

@@ -11,3 +11,10 @@ pub mod Modules
 pub mod Outcome
 pub mod Parts
 pub mod Values
+pub mod Attained
+pub mod Places
+pub mod Tables
+pub mod Exact
+pub mod Opening
+pub mod Usual
+pub mod Exposure

@@ -1,11 +1,13 @@
 -- Types of values and of functions, and what has to be named where they are used.
-use Rattle.std.specs.Prelude.{false, List, []}
+use Rattle.std.specs.Prelude.{◌≡◌, Bool, false, List, [], None, Some, fold, slice_get, if◌then◌else◌}
 use Rattle.std.specs.List.{flat_map}
 use Rattle.smith_syntax.specs.Entries.{DefValType, Signature}
 use Rattle.smith_syntax.specs.declared.types.ComponentValType.{ComponentValType}
+use Rattle.smith_syntax.specs.declared.types.ComponentValType.TheVariants.{Primitive, Indexed}
 use Rattle.smith_validity.specs.Facts.{Facts, Id, is_nominal, members, sizes, value_needs}
 use Rattle.smith_validity.specs.Sizes.{defined_size, signature_members, signature_size}
-use Rattle.smith_validate.specs.Marks.{Covers}
+use Rattle.smith_validate.specs.Marks.{Covers, both, no_needs, unnamed_needs}
+use Rattle.smith_validate.specs.declared.facts.Facts.{Facts as KeptFacts}
 use Rattle.smith_validate.specs.declared.facts.Needs.{Needs}
 
 -- What is kept says where what these need is named.
@@ -31,3 +33,19 @@ function_plain id types s = record {
   size = signature_size (sizes types) s;
   exports = [];
 }
+
+-- what is kept of what value types need, among types of which these are kept
+
+abbrev pub value_marks : List KeptFacts → ComponentValType → Needs
+value_marks kept (Primitive p) = no_needs
+value_marks kept (Indexed i) = elim (slice_get kept i) [ None ↦ no_needs | Some k ↦ k.needs ]
+
+abbrev pub marks_from : List KeptFacts → Needs → List ComponentValType → Needs
+marks_from kept from vs = fold (λ needs v. both needs (value_marks kept v)) from vs
+
+-- That is kept of a type of values or of functions.
+pub record HasMarks (f : KeptFacts) (nominal : Bool) (marks : Needs) : Type 0 where
+  pub refers_are : f.refers ≡ marks
+  pub needs_are : f.needs ≡ (if nominal then unnamed_needs else marks)
+  pub nominal_is : f.nominal ≡ nominal
+  pub instance_is : f.instance ≡ None

@@ -1,15 +1,17 @@
 //! A component, a component type or an instance type as far as it was judged.
 
-ghost use Rattle.std.specs.Prelude.{◌≡◌, ◌+◌, ◌++◌, ◌<◌, ℕ, [], List, IfErr, OnOk};
+ghost use Rattle.std.specs.Prelude.{◌≡◌, ◌+◌, ◌++◌, ◌<◌, ℕ, [], List, false, true, IfErr, OnOk};
 ghost use Rattle.std.specs.Option.{option_to_list};
 ghost use Rattle.smith_validity.specs.Facts.{Id};
 ghost use Rattle.smith_validity.specs.Sizes.{size_bound};
 ghost use Rattle.smith_validate.specs.Bodies.{IsEmpty, IsOther};
+ghost use Rattle.smith_validate.specs.Exact.{IsExposed};
 ghost use Rattle.smith_validate.specs.Exposing.{IsSettled};
 ghost use Rattle.smith_validate.specs.Instances.{Exports};
-ghost use Rattle.smith_validate.specs.Judges.{Judges};
+ghost use Rattle.smith_validate.specs.Judges.{IsUnnamed, Judges};
 ghost use Rattle.smith_validate.specs.Kept.{capped};
 ghost use Rattle.smith_validate.specs.Marks.{both, closed_needs, is_below, no_needs, not_below};
+ghost use Rattle.smith_validate.specs.declared.error.Stop.TheVariants.{OutOfMemory};
 
 use crate::counts::Counts;
 use crate::error::{Demand, Stop};
@@ -28,6 +30,8 @@ impl Sets {
     pub(crate) fn new(alloc: Global) -> Sets
         ensures imported { (table : List Exports) (named : List Id) → IsSettled table result.imported named }
         ensures exported { (table : List Exports) (named : List Id) → IsSettled table result.exported named }
+        ensures exposed { (table : List Exports)
+            → IsExposed table result.imported [] [] × IsExposed table result.exported [] [] }
     {
         Sets {
             imported: Exposed::new(alloc),
@@ -48,16 +52,20 @@ pub(crate) struct Extern {
 /// What an instance type exports so far.
 #[derive(Drop)]
 pub(crate) struct Exported {
+    /// Whether there is an export of a function, a type or an instance.
+    pub(crate) any: bool,
     pub(crate) refers: Needs,
     pub(crate) uses: Vec<Use>,
 }
 
 impl Exported {
     pub(crate) fn new(alloc: Global) -> Exported
+        ensures any { result.any ≡ false }
         ensures refers { result.refers ≡ no_needs }
         ensures uses { result.uses.items ≡ [] }
     {
         Exported {
+            any: false,
             refers: Needs::nothing(),
             uses: Vec::new(alloc),
         }
@@ -66,9 +74,12 @@ impl Exported {
     /// Adds an export of a function, of a type that is equal to one, or of an instance.
     pub(crate) fn export(&mut self, what: Extern) -> Result<(), Stop>
         ensures other { IfErr result IsOther }
+        ensures memory { IfErr result (λ e. e ≡ OutOfMemory) }
+        ensures any { OnOk result (self.new.any ≡ true) }
         ensures refers { OnOk result (self.new.refers ≡ both self.old.refers what.refers) }
         ensures uses { OnOk result (self.new.uses.items ≡ self.old.uses.items ++ option_to_list what.used) }
     {
+        self.any = true;
         self.refers = self.refers.with(what.refers);
         if let Some(used) = what.used {
             self.uses.push(used)?;
@@ -149,6 +160,7 @@ impl Body {
 
     /// Adds the size of an import or an export.
     pub(crate) fn add_size(&mut self, size: u32) -> Result<(), Stop>
+        ensures bound { IfErr result IsUnnamed }
         ensures judged { (n : ℕ) → size ≡ capped n → Judges result (self.old.size + n < size_bound) }
         ensures size { (n : ℕ) → size ≡ capped n → OnOk result (self.new.size ≡ self.old.size + n) }
         ensures counts { self.new.counts ≡ self.old.counts }

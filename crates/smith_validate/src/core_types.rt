@@ -1,6 +1,7 @@
 //! Core types.
 
-ghost use Rattle.std.specs.Prelude.{◌≡◌, ◌+◌, ◌≤◌, ◌<◌, ◌++◌, [], List, map, option_map, slice_get, IfOk, OnOk};
+ghost use Rattle.std.specs.Prelude.{◌≡◌, ◌+◌, ◌≤◌, ◌<◌, ◌++◌, [], List, map, option_map, slice_get, IfErr, IfOk};
+ghost use Rattle.std.specs.Prelude.{OnOk};
 ghost use Rattle.std.specs.Option.{option_to_list};
 ghost use Rattle.smith_format.specs.CoreTypes.{Function};
 ghost use Rattle.smith_format.specs.Shown.{shown_func};
@@ -11,8 +12,9 @@ ghost use Rattle.smith_validity.specs.Bodies.{core_facts};
 ghost use Rattle.smith_validity.specs.Facts.{FactScope};
 ghost use Rattle.smith_validity.specs.Sizes.{ValidCore, core_size, entity_size, function_size, function_size_at};
 ghost use Rattle.smith_read_types.specs.Nodes.{shown_core_node, shown_module_node};
-ghost use Rattle.smith_validate.specs.Judges.{Judges};
+ghost use Rattle.smith_validate.specs.Judges.{IsUnnamed, Judges};
 ghost use Rattle.smith_validate.specs.Kept.{capped, kept_core, kept_in, kept_of};
+ghost use Rattle.smith_validate.specs.declared.error.Stop.TheVariants.{Invalid};
 ghost use Rattle.smith_validate.specs.Modules.{Fits, Grows, IsSmallModule, added_size, entries_in, memories_in};
 ghost use Rattle.smith_validate.specs.Modules.{one_of_kind, sizes_in, tables_in};
 
@@ -43,6 +45,8 @@ fn function_size(ty: &FuncType) -> u32
 
 // One more, of as many as a module type may import.
 fn one_imported(count: usize, demand: Demand) -> Result<usize, Stop>
+    requires { IsUnnamed (Invalid demand) }
+    ensures bound { IfErr result IsUnnamed }
     ensures judged { Judges result (count + 1 ≤ 100) }
     ensures value { IfOk result (λ n. n ≡ count + 1) }
 {
@@ -102,6 +106,7 @@ impl Module {
 
     // Adds what is imported or exported.
     fn add_entity(&mut self, entity: EntityType) -> Result<(), Stop>
+        ensures bound { IfErr result IsUnnamed }
         ensures judged { (fs : List Function) → self.old.own.items ≡ sizes_in fs → IsSmallModule self.old
             → Judges result (Fits self.old (entity_size fs entity) 0 0) }
         ensures grown { (fs : List Function) → self.old.own.items ≡ sizes_in fs
@@ -118,6 +123,7 @@ impl Module {
 
     // Adds an import to how many there are.
     fn count_import(&mut self, entity: EntityType) -> Result<(), Stop>
+        ensures bound { IfErr result IsUnnamed }
         ensures judged { IsSmallModule self.old → Judges result
             (Fits self.old 0 (one_of_kind kind.Memory entity) (one_of_kind kind.Table entity)) }
         ensures grown { OnOk result
@@ -139,6 +145,7 @@ impl Module {
 
     // Adds an import.
     fn add_import(&mut self, entity: EntityType) -> Result<(), Stop>
+        ensures bound { IfErr result IsUnnamed }
         ensures judged { (fs : List Function) → self.old.own.items ≡ sizes_in fs → IsSmallModule self.old
             → Judges result
             (Fits self.old (entity_size fs entity) (one_of_kind kind.Memory entity) (one_of_kind kind.Table entity)) }
@@ -169,6 +176,7 @@ impl Module {
 
     // Adds a function type of that size, if there is one.
     fn push(&mut self, size: Option<u32>) -> Result<(), Stop>
+        ensures bound { IfErr result IsUnnamed }
         ensures judged { IsSmallModule self.old → Judges result (Fits self.old 0 0 0) }
         ensures grown { OnOk result (Grows self.old self.new 0 0 0) }
         ensures own { OnOk result (self.new.own.items ≡ self.old.own.items ++ option_to_list size) }
@@ -181,6 +189,7 @@ impl Module {
 
     // Adds a declaration, in the scope around.
     fn add(&mut self, around: &Scope, decl: &ModuleNode) -> Result<(), Stop>
+        ensures bound { IfErr result IsUnnamed }
         ensures judged { (fs : List Function) → self.old.own.items ≡ sizes_in fs → IsSmallModule self.old
             → Judges result
             (Fits self.old (added_size fs (shown_module_node decl.now)) (memories_in (shown_module_node decl.now))
@@ -206,6 +215,7 @@ impl Module {
 
 // A module type in that scope.
 fn module_of(alloc: Global, around: &Scope, decls: &[ModuleNode]) -> Result<Module, Stop>
+    ensures bound { IfErr result IsUnnamed }
     ensures judged { (own : FactScope) → kept_in around.now ≡ kept_of own
         → Judges result (ValidCore (entries_in own) (core_module (map shown_module_node decls.now))) }
     ensures size { (own : FactScope) → kept_in around.now ≡ kept_of own → IfOk result
@@ -220,6 +230,7 @@ fn module_of(alloc: Global, around: &Scope, decls: &[ModuleNode]) -> Result<Modu
 
 /// A core type in that scope.
 pub(crate) fn core_facts(alloc: Global, around: &Scope, ty: &CoreNode) -> Result<CoreFacts, Stop>
+    ensures bound { IfErr result IsUnnamed }
     ensures judged { (own : FactScope) → kept_in around.now ≡ kept_of own
         → Judges result (ValidCore (entries_in own) (shown_core_node ty.now)) }
     ensures kept { (own : FactScope) → kept_in around.now ≡ kept_of own

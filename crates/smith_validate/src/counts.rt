@@ -1,10 +1,10 @@
 //! How many entries there are, by their sort.
 
-ghost use Rattle.std.specs.Prelude.{◌≡◌, ◌+◌, ◌≤◌, IfOk, OnOk};
+ghost use Rattle.std.specs.Prelude.{◌≡◌, ◌+◌, ◌≤◌, IfErr, IfOk, OnOk};
 ghost use Rattle.smith_validity.specs.Counts.{ValidCounts, no_counts, with_component, with_export, with_function};
 ghost use Rattle.smith_validity.specs.Counts.{with_import, with_module, with_reference, with_type_count};
 ghost use Rattle.smith_validate.specs.Counted.{counted};
-ghost use Rattle.smith_validate.specs.Judges.{Judges};
+ghost use Rattle.smith_validate.specs.Judges.{IsUnnamed, Judges};
 
 use crate::error::{Demand, Stop};
 use smith_syntax::ComponentTypeRef;
@@ -30,6 +30,7 @@ pub(crate) struct Counts {
 
 // One more, of at most so many.
 fn one_more(count: usize, most: usize) -> Result<usize, Stop>
+    ensures bound { IfErr result IsUnnamed }
     ensures judged { Judges result (count + 1 ≤ most) }
     ensures value { IfOk result (λ n. n ≡ count + 1) }
 {
@@ -56,6 +57,7 @@ impl Counts {
     }
 
     pub(crate) fn add_type(&mut self) -> Result<(), Stop>
+        ensures bound { IfErr result IsUnnamed }
         ensures judged { ValidCounts (counted self.old)
             → Judges result (ValidCounts (with_type_count (counted self.old) 1)) }
         ensures added { OnOk result (counted self.new ≡ with_type_count (counted self.old) 1) }
@@ -65,6 +67,7 @@ impl Counts {
     }
 
     pub(crate) fn add_function(&mut self) -> Result<(), Stop>
+        ensures bound { IfErr result IsUnnamed }
         ensures judged { ValidCounts (counted self.old)
             → Judges result (ValidCounts (with_function (counted self.old))) }
         ensures added { OnOk result (counted self.new ≡ with_function (counted self.old)) }
@@ -74,6 +77,7 @@ impl Counts {
     }
 
     pub(crate) fn add_module(&mut self) -> Result<(), Stop>
+        ensures bound { IfErr result IsUnnamed }
         ensures judged { ValidCounts (counted self.old) → Judges result (ValidCounts (with_module (counted self.old))) }
         ensures added { OnOk result (counted self.new ≡ with_module (counted self.old)) }
     {
@@ -82,6 +86,7 @@ impl Counts {
     }
 
     pub(crate) fn add_component(&mut self) -> Result<(), Stop>
+        ensures bound { IfErr result IsUnnamed }
         ensures judged { ValidCounts (counted self.old)
             → Judges result (ValidCounts (with_component (counted self.old))) }
         ensures added { OnOk result (counted self.new ≡ with_component (counted self.old)) }
@@ -92,6 +97,7 @@ impl Counts {
 
     // Adds what is imported or exported.
     fn add(&mut self, to: ComponentTypeRef) -> Result<(), Stop>
+        ensures bound { IfErr result IsUnnamed }
         ensures judged { ValidCounts (counted self.old)
             → Judges result (ValidCounts (with_reference (counted self.old) to)) }
         ensures added { OnOk result (counted self.new ≡ with_reference (counted self.old) to) }
@@ -110,6 +116,7 @@ impl Counts {
 
     /// Adds an import.
     pub(crate) fn add_import(&mut self, to: ComponentTypeRef) -> Result<(), Stop>
+        ensures bound { IfErr result IsUnnamed }
         ensures judged { ValidCounts (counted self.old)
             → Judges result (ValidCounts (with_import (counted self.old) to)) }
         ensures added { OnOk result (counted self.new ≡ with_import (counted self.old) to) }
@@ -120,6 +127,7 @@ impl Counts {
 
     /// Adds an export. That of a type also adds the type.
     pub(crate) fn add_export(&mut self, to: ComponentTypeRef) -> Result<(), Stop>
+        ensures bound { IfErr result IsUnnamed }
         ensures judged { ValidCounts (counted self.old)
             → Judges result (ValidCounts (with_export (counted self.old) to)) }
         ensures added { OnOk result (counted self.new ≡ with_export (counted self.old) to) }

@@ -1,11 +1,14 @@
 //! What instances export that refers to types which other instances name.
 
-ghost use Rattle.std.specs.Prelude.{◌≡◌, ◌∷◌, ◌+◌, ◌<◌, List, length, option_map, reverse, slice_get, true, IfOk};
+ghost use Rattle.std.specs.Prelude.{◌≡◌, ◌∷◌, ◌+◌, ◌<◌, [], List, length, option_map, reverse, slice_get, true, IfOk};
 ghost use Rattle.smith_validity.specs.Facts.{Id};
+ghost use Rattle.smith_validate.specs.Exact.{IsExposed};
 ghost use Rattle.smith_validate.specs.Exposing.{IsGoal, IsMet, IsOnTheWay, IsPending, IsSettled, Meets, is_settled};
 ghost use Rattle.smith_validate.specs.Exposing.{named_after, number_of, refers_own, use_in, uses_of};
 ghost use Rattle.smith_validate.specs.Instances.{Exports, IsTable, outside_of};
 ghost use Rattle.smith_validate.specs.Marks.{Within};
+ghost use Rattle.smith_validate.specs.Opening.{AreHalf, IsFound, IsMidway, IsOpenable, IsStep};
+ghost use Rattle.smith_validate.specs.Tables.{AreDistinct, AreExact};
 
 use std::alloc::{AllocError, Global};
 use std::collections::BTreeSet;
@@ -56,7 +59,8 @@ pub(crate) struct Exposed {
 
 impl Exposed {
     pub(crate) fn new(alloc: Global) -> Exposed
-        ensures { (table : List Exports) (named : List Id) → IsSettled table result named }
+        ensures settled { (table : List Exports) (named : List Id) → IsSettled table result named }
+        ensures exposed { (table : List Exports) → IsExposed table result [] [] }
     {
         Exposed {
             named: BTreeSet::new(alloc),
@@ -82,9 +86,12 @@ impl Exposed {
         all: &[InstanceType],
         used: Use,
     ) -> Result<bool, AllocError>
-        ensures { (table : List Exports) (named : List Id) → IsTable all.now table → IsSettled table self.old named
+        ensures met { (table : List Exports) (named : List Id) → IsTable all.now table → IsSettled table self.old named
             → number_of used < length table → Within named (outside_of table (number_of used))
             → IfOk result (λ is. is ≡ true → Meets table used self.new named) }
+        ensures exact { (table : List Exports) (named : List Id) → AreExact all.now table → AreDistinct table
+            → IsExposed table self.old [] named → IsOpenable table self.old [] used
+            → IfOk result (IsFound table used self.new named) }
     {
         let mut rest = Vec::new(alloc);
         if !self.opens(all, &mut rest, used)? {
@@ -108,12 +115,18 @@ impl Exposed {
         rest: &mut Vec<(Use, usize)>,
         used: Use,
     ) -> Result<bool, AllocError>
-        ensures { (table : List Exports) (named : List Id) (last : Use) (before : List Id) → IsTable all.now table
+        ensures met { (table : List Exports) (named : List Id) (last : Use) (before : List Id) → IsTable all.now table
             → IsSettled table self.now named → number_of used < length table
             → Within named (outside_of table (number_of used))
             → (IsMet table used named → IsPending table all.now (IsGoal table last before) (reverse rest.old.items)
             (named_after table used named)) → IfOk result (λ is. is ≡ true
             → IsOnTheWay table all.now last before self.now (reverse rest.new.items)) }
+        ensures exact { (table : List Exports) (named : List Id) (last : Use) (before : List Id)
+            → AreExact all.now table → IsExposed table self.now (reverse rest.old.items) named
+            → IsOpenable table self.now (reverse rest.old.items) used
+            → (IsMet table last before → IsMet table used named)
+            → AreHalf table all.now last before self.now (reverse rest.old.items) (named_after table used named)
+            → IfOk result (IsStep table all.now last before self.now (reverse rest.new.items)) }
     {
         match used {
             Use::Instance(number) => {
@@ -143,10 +156,13 @@ impl Exposed {
         used: Use,
         done: usize,
     ) -> Result<bool, AllocError>
-        ensures { (table : List Exports) (last : Use) (before : List Id) → IsTable all.now table
+        ensures met { (table : List Exports) (last : Use) (before : List Id) → IsTable all.now table
             → IsOnTheWay table all.now last before self.old ((used, done) ∷ reverse rest.old.items)
             → IfOk result (λ is. is ≡ true
             → IsOnTheWay table all.now last before self.new (reverse rest.new.items)) }
+        ensures exact { (table : List Exports) (last : Use) (before : List Id) → AreExact all.now table
+            → AreDistinct table → IsMidway table all.now last before self.old ((used, done) ∷ reverse rest.old.items)
+            → IfOk result (IsStep table all.now last before self.new (reverse rest.new.items)) }
     {
         if let Some((next, more)) = use_at(all, used.of(), done) {
             rest.push((used, more))?;

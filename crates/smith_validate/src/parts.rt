@@ -1,6 +1,8 @@
 //! Components.
 
-ghost use Rattle.std.specs.Prelude.{◌≡◌, ◌∷◌, [], Bool, true, List, fold, map, slice_get, IfOk, OnOk};
+ghost use Rattle.std.specs.Prelude.{◌≡◌, ◌∷◌, [], Bool, true, List, fold, map, slice_get, IfErr, IfOk};
+ghost use Rattle.std.specs.Prelude.{OnOk, length};
+ghost use Rattle.std.specs.List.{AllByRecursion};
 ghost use Rattle.smith_syntax.specs.Scope.{empty_scope};
 ghost use Rattle.smith_tree.specs.Spaces.{Spaces};
 ghost use Rattle.smith_tree.specs.Spaces.{after_canon as spaces_after_canon, after_export as spaces_after_export};
@@ -10,7 +12,7 @@ ghost use Rattle.smith_validity.specs.Bodies.{Body as PlainBody, IsSmall, after_
 ghost use Rattle.smith_validity.specs.Bodies.{empty_body, externs_at, facts, with_core_facts, with_facts};
 ghost use Rattle.smith_validity.specs.Facts.{FactScope, Id};
 ghost use Rattle.smith_validity.specs.Sizes.{ValidCore};
-ghost use Rattle.smith_validity.specs.Validates.{IsBounded, Validates, ValidCanons, imported};
+ghost use Rattle.smith_validity.specs.Validates.{RefersTo, ValidCanons, imported};
 ghost use Rattle.smith_validity.specs.Validates.{ValidCores, ValidEntries, ValidEntry};
 ghost use Rattle.smith_validity.specs.Validates.{ValidExports, ValidImports, ValidPart, ValidParts, after_canon};
 ghost use Rattle.smith_validity.specs.Validates.{after_cores, after_entries, after_part, exported_reference};
@@ -20,11 +22,15 @@ ghost use Rattle.smith_read_types.specs.TypeNodes.{shown_type_node};
 ghost use Rattle.smith_read.specs.PartNodes.{shown_canon_node, shown_export_node, shown_import_node};
 ghost use Rattle.smith_read.specs.PartNodes.{shown_part_node, shown_tree};
 ghost use Rattle.smith_validate.specs.Bodies.{IsBody, IsBodyNow, IsEmpty, IsFresh, IsIn, demanded};
+ghost use Rattle.smith_validate.specs.Exact.{AreKnown, IsBodyExactly, IsBodyExactlyAfter};
 ghost use Rattle.smith_validate.specs.Instances.{Exports, IsTableNow};
-ghost use Rattle.smith_validate.specs.Judges.{Judges};
+ghost use Rattle.smith_validate.specs.Judges.{IsNamed, IsUnnamed, Judges};
 ghost use Rattle.smith_validate.specs.Modules.{entries_in};
 ghost use Rattle.smith_validate.specs.Outcome.{IsOutcome};
 ghost use Rattle.smith_validate.specs.Parts.{IsOpen, IsOpenNow};
+ghost use Rattle.smith_validate.specs.Kept.{types_in};
+ghost use Rattle.smith_validate.specs.Tables.{AreExactNow};
+ghost use Rattle.smith_validate.specs.Usual.{AreUsualEntries, AreUsualParts, IsUsualEntry, IsUsualImport, IsUsualPart};
 ghost use Rattle.smith_validate.specs.declared.known.Known.{Known as KnownValue};
 
 use crate::body::{Body, Role, Sets};
@@ -72,6 +78,10 @@ fn declare_core_type(
     body: &mut Body,
     ty: &CoreNode,
 ) -> Result<(), Stop>
+    ensures role { body.new.role ≡ body.old.role }
+    ensures instances { known.new.instances.items ≡ known.old.instances.items }
+    ensures types { OnOk result (known.new.own.types.items ≡ known.old.own.types.items) }
+    ensures bound { IfErr result IsUnnamed }
     ensures judged { (b : PlainBody) (outer : List FactScope) (names : List (List Id)) (table : List Exports)
         → IsBody true known.old body.old b outer names table
         → Judges result (ValidCore (entries_in b.own) (shown_core_node ty.now)
@@ -93,6 +103,10 @@ fn add_core_types(
     body: &mut Body,
     types: &[CoreNode],
 ) -> Result<(), Stop>
+    ensures role { body.new.role ≡ body.old.role }
+    ensures instances { known.new.instances.items ≡ known.old.instances.items }
+    ensures types { OnOk result (known.new.own.types.items ≡ known.old.own.types.items) }
+    ensures bound { IfErr result IsUnnamed }
     ensures judged { (b : PlainBody) (outer : List FactScope) (names : List (List Id)) (table : List Exports)
         → IsBody true known.old body.old b outer names table
         → Judges result (ValidCores (map shown_core_node types.now) b) }
@@ -122,6 +136,14 @@ fn declare_type(
     ensures added { (b : PlainBody) (outer : List FactScope) (names : List (List Id)) (table : List Exports)
         → IsBody true known.old body.old b outer names table → OnOk result (IsBodyNow true known.new body.new
         (with_facts b (facts (shown_type_node ty.now) b.own outer ∷ [])) outer names table) }
+    ensures exact { (b : PlainBody) (outer : List FactScope) (named : List Id) (table : List Exports)
+        → IsBodyExactly true known.old body.old b outer named table
+        → IsUsualEntry (shown_type_node ty.now) b.own outer → OnOk result (IsBodyExactlyAfter true known.new body.new
+        (with_facts b (facts (shown_type_node ty.now) b.own outer ∷ [])) outer named table) }
+    ensures refused { (b : PlainBody) (outer : List FactScope) (named : List Id) (table : List Exports)
+        → IsBodyExactly true known.old body.old b outer named table
+        → IsUsualEntry (shown_type_node ty.now) b.own outer
+        → IfErr result (λ e. IsNamed e → ¬ (ValidEntry RefersTo (shown_type_node ty.now) b.own outer)) }
     ensures outer { OnOk result (known.new.outer.items ≡ known.old.outer.items) }
 {
     let facts = type_facts(alloc, known, ty)?;
@@ -142,6 +164,14 @@ fn add_types(
     ensures added { (b : PlainBody) (outer : List FactScope) (names : List (List Id)) (table : List Exports)
         → IsBody true known.old body.old b outer names table → OnOk result (IsBodyNow true known.new body.new
         (after_entries (map shown_type_node types.now) outer b) outer names table) }
+    ensures exact { (b : PlainBody) (outer : List FactScope) (named : List Id) (table : List Exports)
+        → IsBodyExactly true known.old body.old b outer named table
+        → AreUsualEntries (map shown_type_node types.now) outer b → OnOk result (IsBodyExactlyAfter true known.new
+        body.new (after_entries (map shown_type_node types.now) outer b) outer named table) }
+    ensures refused { (b : PlainBody) (outer : List FactScope) (named : List Id) (table : List Exports)
+        → IsBodyExactly true known.old body.old b outer named table
+        → AreUsualEntries (map shown_type_node types.now) outer b
+        → IfErr result (λ e. IsNamed e → ¬ (ValidEntries RefersTo (map shown_type_node types.now) outer b)) }
     ensures outer { OnOk result (known.new.outer.items ≡ known.old.outer.items) }
 {
     for ty in types {
@@ -153,6 +183,8 @@ fn add_types(
 
 // Adds a canonical function.
 fn add_canon(here: &mut Open, canon: &CanonNode) -> Result<(), Stop>
+    ensures role { here.new.body.role ≡ here.old.body.role }
+    ensures bound { IfErr result IsUnnamed }
     ensures judged { (k : KnownValue) (s : Spaces) (b : PlainBody) (outer : List FactScope)
         (names : List (List Id)) (table : List Exports) → IsOpen k here.old s b outer names table
         → Judges result (IsSmall (after_canon b (shown_canon_node canon.now))) }
@@ -171,6 +203,8 @@ fn add_canon(here: &mut Open, canon: &CanonNode) -> Result<(), Stop>
 
 // Canonical functions.
 fn add_canons(track: &mut Track, here: &mut Open, canons: &[CanonNode]) -> Result<(), Stop>
+    ensures role { OnOk result (here.new.body.role ≡ here.old.body.role) }
+    ensures bound { IfErr result IsUnnamed }
     ensures judged { (k : KnownValue) (s : Spaces) (b : PlainBody) (outer : List FactScope)
         (names : List (List Id)) (table : List Exports) → IsOpen k here.old s b outer names table
         → Judges result (ValidCanons (map shown_canon_node canons.now) b) }
@@ -201,6 +235,14 @@ fn import_one(
         (table : List Exports) → IsOpen known.now here.old s b outer names table
         → OnOk result (IsOpen known.now here.new (spaces_after_import s (shown_import_node import.now))
         (after_import outer b (shown_import_node import.now).to) outer names table) }
+    ensures exact { (b : PlainBody) (outer : List FactScope) (named : List Id) (table : List Exports)
+        → IsBodyExactly true known.now here.old.body b outer named table
+        → IsUsualImport true (shown_import_node import.now).to → OnOk result (IsBodyExactly true known.now
+        here.new.body (after_import outer b (shown_import_node import.now).to) outer named table) }
+    ensures refused { (b : PlainBody) (outer : List FactScope) (named : List Id) (table : List Exports)
+        → IsBodyExactly true known.now here.old.body b outer named table
+        → IsUsualImport true (shown_import_node import.now).to → IfErr result (λ e. IsNamed e
+        → ¬ (RefersTo (imported b) (externs_at b.own outer (shown_import_node import.now).to))) }
 {
     add_import(alloc, known, &mut here.body, import.to)?;
     match import.to {
@@ -228,6 +270,16 @@ fn add_imports(
         (table : List Exports) → IsOpen known.now here.old s b outer names table → OnOk result
         (IsOpen known.now here.new (fold spaces_after_import s (map shown_import_node imports.now))
         (fold (after_import outer) b (imported_references (map shown_import_node imports.now))) outer names table) }
+    ensures exact { (b : PlainBody) (outer : List FactScope) (named : List Id) (table : List Exports)
+        → IsBodyExactly true known.now here.old.body b outer named table
+        → AllByRecursion (IsUsualImport true) (imported_references (map shown_import_node imports.now))
+        → OnOk result (IsBodyExactly true known.now here.new.body
+        (fold (after_import outer) b (imported_references (map shown_import_node imports.now))) outer named table) }
+    ensures refused { (b : PlainBody) (outer : List FactScope) (named : List Id) (table : List Exports)
+        → IsBodyExactly true known.now here.old.body b outer named table
+        → AllByRecursion (IsUsualImport true) (imported_references (map shown_import_node imports.now))
+        → IfErr result (λ e. IsNamed e
+        → ¬ (ValidImports RefersTo (imported_references (map shown_import_node imports.now)) outer b)) }
 {
     for import in imports {
         import_one(alloc, known, here, import)?;
@@ -250,6 +302,16 @@ fn export_one(
         (table : List Exports) → IsOpen known.old here.old s b outer names table
         → OnOk result (IsOpen known.new here.new (spaces_after_export s (shown_export_node export.now))
         (fold (after_export outer) b (exported_reference s (shown_export_node export.now))) outer names table) }
+    ensures exact { (s : Spaces) (b : PlainBody) (outer : List FactScope) (named : List Id) (table : List Exports)
+        → IsBodyExactly true known.old here.old.body b outer named table → here.old.functions.items ≡ s.functions
+        → OnOk result (IsBodyExactly true known.new here.new.body
+        (fold (after_export outer) b (exported_reference s (shown_export_node export.now))) outer named table) }
+    ensures refused { (s : Spaces) (b : PlainBody) (outer : List FactScope) (named : List Id) (table : List Exports)
+        → IsBodyExactly true known.old here.old.body b outer named table → here.old.functions.items ≡ s.functions
+        → IfErr result (λ e. IsNamed e
+        → ¬ (ValidExports RefersTo (exported_reference s (shown_export_node export.now)) outer b)) }
+    ensures functions { (s : Spaces) → here.old.functions.items ≡ s.functions → OnOk result
+        (here.new.functions.items ≡ (spaces_after_export s (shown_export_node export.now)).functions) }
     ensures outer { OnOk result (known.new.outer.items ≡ known.old.outer.items) }
 {
     let Some(ty) = here.function_at(export.func) else {
@@ -275,6 +337,14 @@ fn add_exports(
         (table : List Exports) → IsOpen known.old here.old s b outer names table → OnOk result
         (IsOpen known.new here.new (fold spaces_after_export s (map shown_export_node exports.now))
         (fold (after_export outer) b (exported_references s (map shown_export_node exports.now))) outer names table) }
+    ensures exact { (s : Spaces) (b : PlainBody) (outer : List FactScope) (named : List Id) (table : List Exports)
+        → IsBodyExactly true known.old here.old.body b outer named table → here.old.functions.items ≡ s.functions
+        → OnOk result (IsBodyExactly true known.new here.new.body
+        (fold (after_export outer) b (exported_references s (map shown_export_node exports.now))) outer named table) }
+    ensures refused { (s : Spaces) (b : PlainBody) (outer : List FactScope) (named : List Id) (table : List Exports)
+        → IsBodyExactly true known.old here.old.body b outer named table → here.old.functions.items ≡ s.functions
+        → IfErr result (λ e. IsNamed e
+        → ¬ (ValidExports RefersTo (exported_references s (map shown_export_node exports.now)) outer b)) }
     ensures outer { OnOk result (known.new.outer.items ≡ known.old.outer.items) }
 {
     for export in exports {
@@ -300,6 +370,16 @@ fn add_part(
         (table : List Exports) → IsOpen known.old here.old s b outer names table → OnOk result
         (IsOpenNow known.new here.new (spaces_after s (shown_part_node part.now))
         (after_part (shown_part_node part.now) s outer b) outer names table) }
+    ensures exact { (s : Spaces) (b : PlainBody) (outer : List FactScope) (names : List (List Id)) (named : List Id)
+        (covered table : List Exports) → IsOpen known.old here.old s b outer names covered
+        → IsBodyExactly true known.old here.old.body b outer named table
+        → IsUsualPart (shown_part_node part.now) s outer b → OnOk result (IsBodyExactlyAfter true known.new
+        here.new.body (after_part (shown_part_node part.now) s outer b) outer named table) }
+    ensures refused { (s : Spaces) (b : PlainBody) (outer : List FactScope) (names : List (List Id))
+        (named : List Id) (covered table : List Exports) → IsOpen known.old here.old s b outer names covered
+        → IsBodyExactly true known.old here.old.body b outer named table
+        → IsUsualPart (shown_part_node part.now) s outer b
+        → IfErr result (λ e. IsNamed e → ¬ (ValidPart RefersTo (shown_part_node part.now) s outer b)) }
     ensures outer { OnOk result (known.new.outer.items ≡ known.old.outer.items) }
 {
     match part {
@@ -334,6 +414,19 @@ fn add_parts(
     ensures instances { (outer : List FactScope) (names : List (List Id)) (table : List Exports)
         → IsIn known.old empty_scope outer [] names table → OnOk result
         (IsTableNow known.new.instances.items table) }
+    ensures exact { (outer : List FactScope) (names : List (List Id)) (named : List Id)
+        (covered table : List Exports) → IsIn known.old empty_scope outer [] names covered
+        → AreKnown (types_in known.old) known.old.instances.items (empty_scope ∷ outer) named table
+        → length outer ≡ length known.old.outer.items
+        → AreUsualParts (tree_of (map shown_part_node parts.now)) no_spaces outer empty_body
+        → OnOk result (AreExactNow known.new.instances.items table) }
+    ensures refused { (outer : List FactScope) (names : List (List Id)) (named : List Id)
+        (covered table : List Exports) → IsIn known.old empty_scope outer [] names covered
+        → AreKnown (types_in known.old) known.old.instances.items (empty_scope ∷ outer) named table
+        → length outer ≡ length known.old.outer.items
+        → AreUsualParts (tree_of (map shown_part_node parts.now)) no_spaces outer empty_body
+        → IfErr result (λ e. IsNamed e
+        → ¬ (ValidParts RefersTo (tree_of (map shown_part_node parts.now)) no_spaces outer empty_body)) }
     ensures outer { OnOk result (known.new.outer.items ≡ known.old.outer.items) }
 {
     track.enter()?;
@@ -350,12 +443,12 @@ fn add_parts(
 /// with the first demand that it does not meet and the place. An error is returned only where a growth was refused, and
 /// says nothing of the component.
 ///
-/// It is proved that what is `Valid` meets all demands, and that what is `Invalid` for a bound does not keep all
-/// bounds. That what is `Invalid` for a name lacks one is not proved.
+/// It is proved that what is `Valid` meets all demands, that what is `Invalid` for a bound does not keep all bounds,
+/// and that a well formed component that is `Invalid` for a name does not meet all demands.
 ///
 /// The stack is bounded by how deep components and types nest.
 pub fn validated(alloc: Global, component: &ComponentTree) -> Result<Validity, AllocError>
-    ensures { IfOk result (IsOutcome (Validates (shown_tree component.now)) (IsBounded (shown_tree component.now))) }
+    ensures { IfOk result (IsOutcome (shown_tree component.now)) }
 {
     let mut track = Track::new(alloc);
     let mut known = Known::new(alloc);

@@ -1,9 +1,9 @@
 //! Imports and exports.
 
-ghost use Rattle.std.specs.Prelude.{◌≡◌, ◌∷◌, ◌++◌, Bool, true, List, Some, get_or, length, map, slice_get, IfErr};
-ghost use Rattle.std.specs.Prelude.{OnOk};
+ghost use Rattle.std.specs.Prelude.{◌≡◌, ◌∷◌, ◌+◌, ◌++◌, Bool, false, true, List, Some, get_or, length, map, slice_get};
+ghost use Rattle.std.specs.Prelude.{IfErr, OnOk};
 ghost use Rattle.std.specs.List.{flat_map};
-ghost use Rattle.std.specs.Option.{option_to_list};
+ghost use Rattle.std.specs.Option.{option_map, option_to_list};
 ghost use Rattle.smith_syntax.specs.Scope.{with_types};
 ghost use Rattle.smith_validity.specs.Bodies.{Body as PlainBody, IsSmall, after_export, after_import, exported_facts};
 ghost use Rattle.smith_validity.specs.Bodies.{externs_at, module_size_at, reference_size};
@@ -12,11 +12,15 @@ ghost use Rattle.smith_validity.specs.Facts.{Extern as PlainExtern, FactScope, F
 ghost use Rattle.smith_validity.specs.Validates.{RefersTo, exported, imported, names_of};
 ghost use Rattle.smith_validate.specs.Bodies.{AreSets, IsBody, IsIn, IsOther, IsRole, demanded};
 ghost use Rattle.smith_validate.specs.Counted.{counted};
-ghost use Rattle.smith_validate.specs.Externs.{IsAsked, IsAskedFor, IsExtern, kept_extern, kept_instance};
-ghost use Rattle.smith_validate.specs.Externs.{with_exports, with_imports};
+ghost use Rattle.smith_validate.specs.Exact.{AreNamedFor, AreSetsExactly, IsBodyExactly, IsPieceExactly};
+ghost use Rattle.smith_validate.specs.Exact.{IsRoleExactly, IsRoleExported, IsKeptBody};
+ghost use Rattle.smith_validate.specs.Externs.{IsAsked, IsAskedFor, IsExtern, extern_of, instance_of};
+ghost use Rattle.smith_validate.specs.Externs.{exported_of, kept_extern, kept_instance, with_exports, with_imports};
 ghost use Rattle.smith_validate.specs.Instances.{AreKept, Exports, IsTable};
-ghost use Rattle.smith_validate.specs.Judges.{Judges};
+ghost use Rattle.smith_validate.specs.Judges.{IsNamed, IsUnnamed, Judges};
 ghost use Rattle.smith_validate.specs.Kept.{capped, kept_of, own_in};
+ghost use Rattle.smith_validate.specs.Tables.{AreAdded, AreExact};
+ghost use Rattle.smith_validate.specs.Usual.{IsUsualImport};
 
 use crate::body::{Body, Extern, Role, Sets};
 use crate::counts::Counts;
@@ -65,9 +69,10 @@ fn size_of_reference(known: &Known, to: ComponentTypeRef) -> u32
 
 // What has to be named of what is imported or exported, if anything.
 fn extern_at(known: &Known, to: ComponentTypeRef) -> Option<Extern>
-    ensures { (own : FactScope) (outer : List FactScope) (names : List (List Id)) (table : List Exports)
+    ensures found { (own : FactScope) (outer : List FactScope) (names : List (List Id)) (table : List Exports)
         → AreKept table names known.now.own.types.items own.types
         → IsExtern table names result (externs_at own outer to) }
+    ensures marks { result ≡ extern_of known.now.own.types.items to }
 {
     match to {
         ComponentTypeRef::Func(index) => equal_at(known, index),
@@ -79,7 +84,8 @@ fn extern_at(known: &Known, to: ComponentTypeRef) -> Option<Extern>
 
 // A function of the type with that index, or a type that is equal to it.
 fn equal_at(known: &Known, index: u32) -> Option<Extern>
-    ensures { (types : List PlainFacts) (names : List (List Id)) (table : List Exports) (ids : List Id)
+    ensures marks { result ≡ option_map kept_extern (slice_get known.now.own.types.items index) }
+    ensures found { (types : List PlainFacts) (names : List (List Id)) (table : List Exports) (ids : List Id)
         → AreKept table names known.now.own.types.items types → IsExtern table names result
         (map (λ f. record { refers = f.refers; names = ids }) (option_to_list (slice_get types index))) }
 {
@@ -91,7 +97,8 @@ fn equal_at(known: &Known, index: u32) -> Option<Extern>
 
 // An instance of the type with that index.
 fn instance_at(known: &Known, index: u32) -> Option<Extern>
-    ensures { (types : List PlainFacts) (names : List (List Id)) (table : List Exports)
+    ensures marks { result ≡ instance_of known.now.own.types.items index }
+    ensures found { (types : List PlainFacts) (names : List (List Id)) (table : List Exports)
         → AreKept table names known.now.own.types.items types → IsExtern table names result
         (flat_map (λ f. f.exports) (option_to_list (slice_get types index))) }
 {
@@ -131,6 +138,7 @@ fn equal_extern(facts: Facts) -> Extern
 fn check(holds: bool) -> Result<(), Stop>
     ensures other { IfErr result IsOther }
     ensures holds { OnOk result (holds ≡ true) }
+    ensures named { IfErr result (λ e. holds ≡ false) }
 {
     if holds {
         Ok(())
@@ -146,6 +154,14 @@ impl Sets {
         ensures named { (table : List Exports) (names : List (List Id)) (b : PlainBody) (xs : List PlainExtern)
             → IsTable all.now table → IsExtern table names (Some what) xs → AreSets table self.old b
             → OnOk result (RefersTo (imported b) xs × AreSets table self.new (with_imports b xs)) }
+        ensures exact { (table : List Exports) (place around : Id) (full : List Id) (b : PlainBody)
+            (xs : List PlainExtern) → AreExact all.now table → AreAdded place table
+            → IsPieceExactly table place around full what xs → AreSetsExactly table self.old b
+            → OnOk result (AreSetsExactly table self.new (with_imports b xs)) }
+        ensures refused { (table : List Exports) (place around : Id) (full : List Id) (b : PlainBody)
+            (xs : List PlainExtern) → AreExact all.now table → AreAdded place table
+            → IsPieceExactly table place around full what xs → AreSetsExactly table self.old b
+            → AreNamedFor table place full b → IfErr result (λ e. IsNamed e → ¬ (RefersTo (imported b) xs)) }
     {
         check(what.refers.outermost.is_nothing())?;
         let Some(used) = what.used else {
@@ -168,6 +184,15 @@ impl Sets {
             → IsTable all.now table → IsExtern table (names_of b.exports ∷ names) (Some what) xs
             → length names ≡ depth → AreSets table self.old b
             → OnOk result (RefersTo (exported b) xs × AreSets table self.new (with_exports b xs)) }
+        ensures exact { (table : List Exports) (place around : Id) (full : List Id) (b : PlainBody)
+            (xs : List PlainExtern) → AreExact all.now table → AreAdded place table
+            → IsPieceExactly table place around full what xs → AreSetsExactly table self.old b
+            → OnOk result (AreSetsExactly table self.new (with_exports b xs)) }
+        ensures refused { (table : List Exports) (place around : Id) (full : List Id) (b : PlainBody)
+            (xs : List PlainExtern) → AreExact all.now table → AreAdded place table
+            → IsPieceExactly table place around full what xs → AreSetsExactly table self.old b
+            → AreNamedFor table place full b → length place ≡ depth + 1
+            → IfErr result (λ e. IsNamed e → ¬ (RefersTo (exported b) xs)) }
     {
         check(what.refers.outermost.is_within(depth))?;
         let Some(used) = what.used else {
@@ -189,6 +214,12 @@ fn name_import(
         (table : List Exports) → IsIn known.now b.own outer (names_of b.exports) names table
         → IsRole table names asks role.old b → OnOk result (RefersTo (imported b) (externs_at b.own outer to)
         × IsRole table names asks role.new (after_import outer b to)) }
+    ensures exact { (asks : Bool) (b : PlainBody) (outer : List FactScope) (named : List Id) (table : List Exports)
+        → IsKeptBody asks known.now role.old b outer named table → IsUsualImport asks to
+        → OnOk result (IsRoleExactly table outer named asks role.new (after_import outer b to)) }
+    ensures refused { (asks : Bool) (b : PlainBody) (outer : List FactScope) (named : List Id)
+        (table : List Exports) → IsKeptBody asks known.now role.old b outer named table → IsUsualImport asks to
+        → IfErr result (λ e. IsNamed e → ¬ (RefersTo (imported b) (externs_at b.own outer to))) }
 {
     let Some(what) = extern_at(known, to) else {
         return Ok(());
@@ -211,6 +242,12 @@ fn name_export(
         (table : List Exports) → IsIn known.now b.own outer (names_of b.exports) names table
         → IsRole table names asks role.old b → OnOk result (IsAsked asks (exported b) (externs_at b.own outer to)
         × IsRole table names asks role.new (after_export outer b to)) }
+    ensures exact { (asks : Bool) (b : PlainBody) (outer : List FactScope) (named : List Id) (table : List Exports)
+        → IsKeptBody asks known.now role.old b outer named table
+        → OnOk result (IsRoleExported table outer named asks role.new b (externs_at b.own outer to)) }
+    ensures refused { (asks : Bool) (b : PlainBody) (outer : List FactScope) (named : List Id)
+        (table : List Exports) → IsKeptBody asks known.now role.old b outer named table
+        → IfErr result (λ e. IsNamed e → ¬ (IsAsked asks (exported b) (externs_at b.own outer to))) }
 {
     let Some(what) = extern_at(known, to) else {
         return Ok(());
@@ -234,6 +271,12 @@ pub(crate) fn add_import(
     ensures added { (asks : Bool) (b : PlainBody) (outer : List FactScope) (names : List (List Id))
         (table : List Exports) → IsBody asks known.now body.old b outer names table
         → OnOk result (IsBody asks known.now body.new (after_import outer b to) outer names table) }
+    ensures exact { (asks : Bool) (b : PlainBody) (outer : List FactScope) (named : List Id) (table : List Exports)
+        → IsBodyExactly asks known.now body.old b outer named table → IsUsualImport asks to
+        → OnOk result (IsBodyExactly asks known.now body.new (after_import outer b to) outer named table) }
+    ensures refused { (asks : Bool) (b : PlainBody) (outer : List FactScope) (named : List Id)
+        (table : List Exports) → IsBodyExactly asks known.now body.old b outer named table → IsUsualImport asks to
+        → IfErr result (λ e. IsNamed e → ¬ (RefersTo (imported b) (externs_at b.own outer to))) }
 {
     name_import(alloc, known, &mut body.role, to)?;
     body.counts.add_import(to)?;
@@ -242,6 +285,10 @@ pub(crate) fn add_import(
 
 // The type that an export adds.
 fn add_exported(known: &mut Known, counts: &mut Counts, to: ComponentTypeRef) -> Result<(), Stop>
+    ensures bound { IfErr result IsUnnamed }
+    ensures types { OnOk result (known.new.own.types.items ≡ known.old.own.types.items
+        ++ exported_of known.old.own.types.items (length known.old.outer.items) to) }
+    ensures instances { known.new.instances.items ≡ known.old.instances.items }
     ensures judged { (own : FactScope) (outer : List FactScope) (here : List Id) (names : List (List Id))
         (table : List Exports) → IsIn known.old own outer here names table → ValidCounts (counted counts.old)
         → Judges result (ValidCounts (with_type_count (counted counts.old) (length (exported_facts own outer to)))) }
@@ -279,6 +326,12 @@ pub(crate) fn add_export(
     ensures added { (asks : Bool) (b : PlainBody) (outer : List FactScope) (names : List (List Id))
         (table : List Exports) → IsBody asks known.old body.old b outer names table
         → OnOk result (IsBody asks known.new body.new (after_export outer b to) outer names table) }
+    ensures exact { (asks : Bool) (b : PlainBody) (outer : List FactScope) (named : List Id) (table : List Exports)
+        → IsBodyExactly asks known.old body.old b outer named table
+        → OnOk result (IsBodyExactly asks known.new body.new (after_export outer b to) outer named table) }
+    ensures refused { (asks : Bool) (b : PlainBody) (outer : List FactScope) (named : List Id)
+        (table : List Exports) → IsBodyExactly asks known.old body.old b outer named table
+        → IfErr result (λ e. IsNamed e → ¬ (IsAsked asks (exported b) (externs_at b.own outer to))) }
     ensures outer { known.new.outer.items ≡ known.old.outer.items }
 {
     name_export(alloc, known, &mut body.role, to)?;

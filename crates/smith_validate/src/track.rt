@@ -2,6 +2,7 @@
 
 ghost use Rattle.std.specs.Prelude.{IfErr};
 ghost use Rattle.smith_validate.specs.Bodies.{IsOther};
+ghost use Rattle.smith_validate.specs.Judges.{IsUnnamed};
 
 use crate::error::Stop;
 use smith_check::Place;
@@ -24,7 +25,8 @@ impl Track {
 
     /// At the first section of a component.
     pub(crate) fn enter(&mut self) -> Result<(), Stop>
-        ensures { IfErr result IsOther }
+        ensures other { IfErr result IsOther }
+        ensures bound { IfErr result IsUnnamed }
     {
         self.place.sections.push(0)?;
         self.place.entry = 0;

@@ -1,19 +1,22 @@
 //! Types of all sorts, those of components and of instances among them.
 
-ghost use Rattle.std.specs.Prelude.{◌≡◌, ◌<◌, ◌∷◌, [], Bool, false, List, Option, length, map, option_map, IfErr, IfOk};
-ghost use Rattle.std.specs.Prelude.{OnOk};
+ghost use Rattle.std.specs.Prelude.{◌≡◌, ◌<◌, ◌∷◌, ◌++◌, [], Bool, false, List, Option, length, map, option_map};
+ghost use Rattle.std.specs.Prelude.{IfErr, IfOk, OnOk};
 ghost use Rattle.std.specs.Option.{option_to_list};
 ghost use Rattle.smith_syntax.specs.Entries.{in_order};
 ghost use Rattle.smith_validity.specs.Bodies.{Body as PlainBody, IsSmall, after_decl, after_decls, empty_body, facts};
 ghost use Rattle.smith_validity.specs.Bodies.{with_core_facts, with_facts};
-ghost use Rattle.smith_validity.specs.Facts.{CoreFacts as PlainCoreFacts, FactScope, Facts as PlainFacts, Id};
-ghost use Rattle.smith_validity.specs.Validates.{ValidDecl, ValidDecls, ValidEntry, names_of};
+ghost use Rattle.smith_validity.specs.Facts.{CoreFacts as PlainCoreFacts, FactScope, Facts as PlainFacts, Id, id_at};
+ghost use Rattle.smith_validity.specs.Validates.{RefersTo, ValidDecl, ValidDecls, ValidEntry, names_of};
 ghost use Rattle.smith_read_types.specs.TypeNodes.{shown_decl_node, shown_type_node};
 ghost use Rattle.smith_validate.specs.Bodies.{IsBody, IsBodyNow, IsEmpty, IsFresh, IsIn, IsOther, IsRole, demanded};
+ghost use Rattle.smith_validate.specs.Exact.{AreKnown, IsBodyExactly, IsBodyExactlyNow, IsDeclaredExactly};
+ghost use Rattle.smith_validate.specs.Exact.{IsJudgedExactly};
 ghost use Rattle.smith_validate.specs.Nested.{IsDeclared, IsJudged, instance_plain};
 ghost use Rattle.smith_validate.specs.Instances.{AreKept, Exports, IsKept, IsTable};
-ghost use Rattle.smith_validate.specs.Judges.{Judges};
-ghost use Rattle.smith_validate.specs.Kept.{capped, kept_core};
+ghost use Rattle.smith_validate.specs.Judges.{IsNamed, IsUnnamed, Judges};
+ghost use Rattle.smith_validate.specs.Kept.{capped, kept_core, types_in};
+ghost use Rattle.smith_validate.specs.Usual.{AreUsualDecls, IsUsualDecl, IsUsualEntry};
 
 use crate::body::{Body, Exported, Role, Sets};
 use crate::core_types::core_facts;
@@ -27,6 +30,10 @@ use std::alloc::Global;
 
 /// Adds a type.
 pub(crate) fn add_type(known: &mut Known, body: &mut Body, ty: Facts) -> Result<(), Stop>
+    ensures role { body.new.role ≡ body.old.role }
+    ensures instances { known.new.instances.items ≡ known.old.instances.items }
+    ensures types { OnOk result (known.new.own.types.items ≡ known.old.own.types.items ++ ty ∷ []) }
+    ensures bound { IfErr result IsUnnamed }
     ensures judged { (asks : Bool) (b : PlainBody) (outer : List FactScope) (names : List (List Id))
         (table : List Exports) (f : PlainFacts) → IsBody asks known.old body.old b outer names table
         → Judges result (IsSmall (with_facts b (f ∷ []))) }
@@ -42,6 +49,10 @@ pub(crate) fn add_type(known: &mut Known, body: &mut Body, ty: Facts) -> Result<
 
 /// Adds a core type.
 pub(crate) fn add_core_type(known: &mut Known, body: &mut Body, ty: CoreFacts) -> Result<(), Stop>
+    ensures role { body.new.role ≡ body.old.role }
+    ensures instances { known.new.instances.items ≡ known.old.instances.items }
+    ensures types { OnOk result (known.new.own.types.items ≡ known.old.own.types.items) }
+    ensures bound { IfErr result IsUnnamed }
     ensures judged { (asks : Bool) (b : PlainBody) (outer : List FactScope) (names : List (List Id))
         (table : List Exports) (f : PlainCoreFacts) → IsBody asks known.old body.old b outer names table
         → Judges result (IsSmall (with_core_facts b (f ∷ []))) }
@@ -57,6 +68,10 @@ pub(crate) fn add_core_type(known: &mut Known, body: &mut Body, ty: CoreFacts) -
 
 // Adds a type, if there is one.
 fn add_named(known: &mut Known, body: &mut Body, ty: Option<Facts>) -> Result<(), Stop>
+    ensures role { body.new.role ≡ body.old.role }
+    ensures instances { known.new.instances.items ≡ known.old.instances.items }
+    ensures types { OnOk result (known.new.own.types.items ≡ known.old.own.types.items ++ option_to_list ty) }
+    ensures bound { IfErr result IsUnnamed }
     ensures judged { (asks : Bool) (b : PlainBody) (outer : List FactScope) (names : List (List Id))
         (table : List Exports) (f : Option PlainFacts) → IsBody asks known.old body.old b outer names table
         → option_map (λ t. t.size) ty ≡ option_map (λ t. capped t.size) f
@@ -76,6 +91,10 @@ fn add_named(known: &mut Known, body: &mut Body, ty: Option<Facts>) -> Result<()
 
 // Adds a core type, if there is one.
 fn add_core_named(known: &mut Known, body: &mut Body, ty: Option<CoreFacts>) -> Result<(), Stop>
+    ensures role { body.new.role ≡ body.old.role }
+    ensures instances { known.new.instances.items ≡ known.old.instances.items }
+    ensures types { OnOk result (known.new.own.types.items ≡ known.old.own.types.items) }
+    ensures bound { IfErr result IsUnnamed }
     ensures judged { (asks : Bool) (b : PlainBody) (outer : List FactScope) (names : List (List Id))
         (table : List Exports) (f : Option PlainCoreFacts) → IsBody asks known.old body.old b outer names table
         → ty ≡ option_map kept_core f → Judges result (IsSmall (with_core_facts b (option_to_list f))) }
@@ -93,6 +112,7 @@ fn add_core_named(known: &mut Known, body: &mut Body, ty: Option<CoreFacts>) -> 
 
 // A type of instances that was declared, where nothing asks for names.
 fn instance_type(known: &mut Known, body: Body) -> Result<Facts, Stop>
+    ensures bound { IfErr result IsUnnamed }
     ensures size { IfOk result (λ f. f.size ≡ body.size) }
     ensures other { IfErr result IsOther }
     ensures own { known.new.own ≡ known.old.own }
@@ -101,11 +121,18 @@ fn instance_type(known: &mut Known, body: Body) -> Result<Facts, Stop>
         → IsTable known.old.instances.items table → length names ≡ length known.old.outer.items
         → IsRole table (here ∷ names) false body.role b → IfOk result (λ f.
         IsDeclared table (here ∷ names) known.new f (instance_plain id b)) }
+    ensures exact { (b : PlainBody) (own : FactScope) (outer : List FactScope) (named : List Id)
+        (table : List Exports) → IsJudgedExactly false known.old body b (own ∷ outer) named table
+        → length outer ≡ length known.old.outer.items → IfOk result (λ f.
+        IsDeclaredExactly own outer named table known.new f (instance_plain (id_at (own ∷ outer)) b)) }
 {
     let Body { size, role, .. } = body;
     let Role::Exports(exported) = role else {
         return Ok(Facts::new(Needs::nothing(), size));
     };
+    if !exported.any {
+        return Ok(Facts::new(Needs::nothing(), size));
+    }
     let (refers, ty) = exported.close(known.depth());
     let number = known.instances.len();
     known.instances.push(ty)?;
@@ -125,6 +152,14 @@ pub(crate) fn type_facts(alloc: Global, known: &mut Known, ty: &TypeNode) -> Res
     ensures kept { (own : FactScope) (outer : List FactScope) (here : List Id)
         (names : List (List Id)) (table : List Exports) → IsIn known.old own outer here names table
         → IfOk result (λ f. IsDeclared table (here ∷ names) known.new f (facts (shown_type_node ty.now) own outer)) }
+    ensures exact { (own : FactScope) (outer : List FactScope) (named : List Id) (table : List Exports)
+        → AreKnown (types_in known.old) known.old.instances.items (own ∷ outer) named table
+        → length outer ≡ length known.old.outer.items → IsUsualEntry (shown_type_node ty.now) own outer → IfOk result
+        (λ f. IsDeclaredExactly own outer named table known.new f (facts (shown_type_node ty.now) own outer)) }
+    ensures refused { (own : FactScope) (outer : List FactScope) (named : List Id) (table : List Exports)
+        → AreKnown (types_in known.old) known.old.instances.items (own ∷ outer) named table
+        → length outer ≡ length known.old.outer.items → IsUsualEntry (shown_type_node ty.now) own outer
+        → IfErr result (λ e. IsNamed e → ¬ (ValidEntry RefersTo (shown_type_node ty.now) own outer)) }
     ensures own { OnOk result (known.new.own ≡ known.old.own) }
     ensures outer { OnOk result (known.new.outer.items ≡ known.old.outer.items) }
 {
@@ -155,6 +190,14 @@ fn add_decl(alloc: Global, known: &mut Known, body: &mut Body, decl: &DeclNode) 
     ensures added { (asks : Bool) (b : PlainBody) (outer : List FactScope) (names : List (List Id))
         (table : List Exports) → IsBody asks known.old body.old b outer names table → OnOk result
         (IsBodyNow asks known.new body.new (after_decl (shown_decl_node decl.now) outer b) outer names table) }
+    ensures exact { (asks : Bool) (b : PlainBody) (outer : List FactScope) (named : List Id) (table : List Exports)
+        → IsBodyExactly asks known.old body.old b outer named table
+        → IsUsualDecl asks (shown_decl_node decl.now) outer b → OnOk result (IsBodyExactlyNow asks known.new body.new
+        (after_decl (shown_decl_node decl.now) outer b) outer named (id_at (b.own ∷ outer)) table) }
+    ensures refused { (asks : Bool) (b : PlainBody) (outer : List FactScope) (named : List Id)
+        (table : List Exports) → IsBodyExactly asks known.old body.old b outer named table
+        → IsUsualDecl asks (shown_decl_node decl.now) outer b
+        → IfErr result (λ e. IsNamed e → ¬ (ValidDecl RefersTo asks (shown_decl_node decl.now) outer b)) }
     ensures outer { OnOk result (known.new.outer.items ≡ known.old.outer.items) }
 {
     match decl {
@@ -197,6 +240,18 @@ fn add_decls(
         → IsEmpty body.old → IsFresh asks body.old.role → OnOk result
         (IsJudged asks known.new body.new (after_decls (in_order (map shown_decl_node decls.now)) (own ∷ outer)
         empty_body) (here ∷ names) table) }
+    ensures exact { (asks : Bool) (own : FactScope) (outer : List FactScope) (named : List Id)
+        (table : List Exports) → AreKnown (types_in known.old) known.old.instances.items (own ∷ outer) named table
+        → length outer ≡ length known.old.outer.items → IsFresh asks body.old.role
+        → AreUsualDecls asks (in_order (map shown_decl_node decls.now)) (own ∷ outer) empty_body
+        → OnOk result (IsJudgedExactly asks known.new body.new
+        (after_decls (in_order (map shown_decl_node decls.now)) (own ∷ outer) empty_body) (own ∷ outer) named table) }
+    ensures refused { (asks : Bool) (own : FactScope) (outer : List FactScope) (named : List Id)
+        (table : List Exports) → AreKnown (types_in known.old) known.old.instances.items (own ∷ outer) named table
+        → length outer ≡ length known.old.outer.items → IsFresh asks body.old.role
+        → AreUsualDecls asks (in_order (map shown_decl_node decls.now)) (own ∷ outer) empty_body
+        → IfErr result (λ e. IsNamed e
+        → ¬ (ValidDecls RefersTo asks (in_order (map shown_decl_node decls.now)) (own ∷ outer) empty_body)) }
     ensures own { OnOk result (known.new.own ≡ known.old.own) }
     ensures outer { OnOk result (known.new.outer.items ≡ known.old.outer.items) }
 {

@@ -1,18 +1,22 @@
 //! Types of values and of functions.
 
-ghost use Rattle.std.specs.Prelude.{◌≡◌, ◌+◌, ◌<◌, ◌++◌, ◌∷◌, [], List, Option, None, Some, map, sum, IfOk};
+ghost use Rattle.std.specs.Prelude.{◌≡◌, ◌+◌, ◌<◌, ◌++◌, ◌∷◌, [], false, List, Option, None, Some, map, sum, IfErr};
+ghost use Rattle.std.specs.Prelude.{IfOk};
 ghost use Rattle.std.specs.List.{flat_map};
 ghost use Rattle.std.specs.Option.{option_to_list};
 ghost use Rattle.smith_syntax.specs.Shown.{shown_defined};
 ghost use Rattle.smith_syntax.specs.declared.types.ComponentValType.{ComponentValType};
-ghost use Rattle.smith_validity.specs.Facts.{FactScope, Facts as PlainFacts, Id, sizes, value_needs};
-ghost use Rattle.smith_validity.specs.Sizes.{SmallDefined, defined_size, maybe_size, signature_size, size_bound};
+ghost use Rattle.smith_validity.specs.Facts.{FactScope, Facts as PlainFacts, Id, is_nominal, members, sizes};
+ghost use Rattle.smith_validity.specs.Facts.{value_needs};
+ghost use Rattle.smith_validity.specs.Sizes.{SmallDefined, defined_size, maybe_size, signature_members};
+ghost use Rattle.smith_validity.specs.Sizes.{signature_size, size_bound};
 ghost use Rattle.smith_validity.specs.Sizes.{summed, value_size};
 ghost use Rattle.smith_validate.specs.Instances.{AreKept, Exports, IsKept};
-ghost use Rattle.smith_validate.specs.Judges.{Judges};
+ghost use Rattle.smith_validate.specs.Judges.{IsUnnamed, Judges};
 ghost use Rattle.smith_validate.specs.Kept.{capped, kept_in, kept_of};
-ghost use Rattle.smith_validate.specs.Marks.{Covers, no_needs, nominal_facts, plain_facts};
-ghost use Rattle.smith_validate.specs.Values.{CoversValues, defined_plain, function_plain};
+ghost use Rattle.smith_validate.specs.Marks.{Covers, both, no_needs, nominal_facts, plain_facts};
+ghost use Rattle.smith_validate.specs.Values.{CoversValues, HasMarks, defined_plain, function_plain, marks_from};
+ghost use Rattle.smith_validate.specs.Values.{value_marks};
 
 use crate::error::{Demand, Stop};
 use crate::facts::{Facts, Needs, SIZE_BOUND, size_sum};
@@ -78,6 +82,7 @@ impl Values {
             (before : List ComponentValType) → AreKept table names scope.now.types.items types
             → CoversValues types names self.needs before
             → CoversValues types names result.needs (before ++ ty ∷ []) }
+        ensures marks { result.needs ≡ both self.needs (value_marks scope.now.types.items ty) }
     {
         let (needs, size) = value_of(scope, ty);
         Values {
@@ -95,6 +100,7 @@ impl Values {
             (before : List ComponentValType) → AreKept table names scope.now.types.items types
             → CoversValues types names self.needs before
             → CoversValues types names result.needs (before ++ option_to_list ty) }
+        ensures marks { result.needs ≡ marks_from scope.now.types.items self.needs (option_to_list ty) }
     {
         match ty {
             Some(ty) => self.add(scope, ty),
@@ -110,6 +116,7 @@ impl Values {
             (before : List ComponentValType) → AreKept table names scope.now.types.items types
             → CoversValues types names self.needs before
             → CoversValues types names result.needs (before ++ option_to_list ty) }
+        ensures marks { result.needs ≡ marks_from scope.now.types.items self.needs (option_to_list ty) }
     {
         match ty {
             Some(ty) => self.add(scope, ty),
@@ -127,6 +134,7 @@ fn value_of(scope: &Scope, ty: ComponentValType) -> (Needs, u32)
         → result.1 ≡ capped (value_size (sizes own.types) ty) }
     ensures needs { (types : List PlainFacts) (names : List (List Id)) (table : List Exports)
         → AreKept table names scope.now.types.items types → Covers names result.0 (value_needs types ty) }
+    ensures marks { result.0 ≡ value_marks scope.now.types.items ty }
 {
     match ty {
         ComponentValType::Primitive(_) => (Needs::nothing(), 1),
@@ -144,6 +152,8 @@ fn values_of<T: Valued>(scope: &Scope, items: &[T]) -> Values
     ensures needs { (types : List PlainFacts) (names : List (List Id)) (table : List Exports)
         → AreKept table names scope.now.types.items types
         → CoversValues types names result.needs (flat_map (λ i. option_to_list (T.value i)) items.now) }
+    ensures marks { result.needs
+        ≡ marks_from scope.now.types.items no_needs (flat_map (λ i. option_to_list (T.value i)) items.now) }
 {
     let mut values = Values::new(1);
     for item in items {
@@ -154,6 +164,7 @@ fn values_of<T: Valued>(scope: &Scope, items: &[T]) -> Values
 
 // Checks a sum.
 fn check_size(values: Values) -> Result<Values, Stop>
+    ensures bound { IfErr result IsUnnamed }
     ensures judged { Judges result (values.size < size_bound) }
     ensures same { IfOk result (λ v. v ≡ values) }
 {
@@ -170,6 +181,7 @@ fn small_values<T: Valued>(
     items: &[T],
     last: Option<ComponentValType>,
 ) -> Result<Values, Stop>
+    ensures bound { IfErr result IsUnnamed }
     ensures judged { (own : FactScope) → kept_in scope.now ≡ kept_of own
         → Judges result (summed (sizes own.types)
         (flat_map (λ i. option_to_list (T.value i)) items.now ++ option_to_list last) < size_bound) }
@@ -177,6 +189,8 @@ fn small_values<T: Valued>(
         (summed (sizes own.types) (flat_map (λ i. option_to_list (T.value i)) items.now ++ option_to_list last))) }
     ensures needs { (types : List PlainFacts) (names : List (List Id)) (table : List Exports)
         → AreKept table names scope.now.types.items types → IfOk result (λ v. CoversValues types names v.needs
+        (flat_map (λ i. option_to_list (T.value i)) items.now ++ option_to_list last)) }
+    ensures marks { IfOk result (λ v. v.needs ≡ marks_from scope.now.types.items no_needs
         (flat_map (λ i. option_to_list (T.value i)) items.now ++ option_to_list last)) }
 {
     let values = values_of(scope, items);
@@ -197,6 +211,7 @@ fn nominal_type(values: Values) -> Facts
 
 /// A type of values.
 pub(crate) fn defined_facts(scope: &Scope, ty: &DefinedType) -> Result<Facts, Stop>
+    ensures bound { IfErr result IsUnnamed }
     ensures judged { (own : FactScope) → kept_in scope.now ≡ kept_of own
         → Judges result (SmallDefined (sizes own.types) (shown_defined ty.now)) }
     ensures size { (own : FactScope) → kept_in scope.now ≡ kept_of own
@@ -204,6 +219,8 @@ pub(crate) fn defined_facts(scope: &Scope, ty: &DefinedType) -> Result<Facts, St
     ensures kept { (id : Id) (types : List PlainFacts) (names : List (List Id)) (table : List Exports)
         → AreKept table names scope.now.types.items types
         → IfOk result (λ f. IsKept table names f (defined_plain id types (shown_defined ty.now))) }
+    ensures marks { IfOk result (λ f. HasMarks f (is_nominal (shown_defined ty.now))
+        (marks_from scope.now.types.items no_needs (members (shown_defined ty.now)))) }
 {
     match ty {
         DefinedType::Primitive(_) => Ok(plain_type(Values::new(1))),
@@ -231,6 +248,7 @@ pub(crate) fn defined_facts(scope: &Scope, ty: &DefinedType) -> Result<Facts, St
 
 /// A type of functions.
 pub(crate) fn function_facts(scope: &Scope, ty: &FuncType) -> Result<Facts, Stop>
+    ensures bound { IfErr result IsUnnamed }
     ensures judged { (own : FactScope) → kept_in scope.now ≡ kept_of own
         → Judges result (signature_size (sizes own.types) ty.now < size_bound) }
     ensures size { (own : FactScope) → kept_in scope.now ≡ kept_of own
@@ -238,6 +256,8 @@ pub(crate) fn function_facts(scope: &Scope, ty: &FuncType) -> Result<Facts, Stop
     ensures kept { (id : Id) (types : List PlainFacts) (names : List (List Id)) (table : List Exports)
         → AreKept table names scope.now.types.items types
         → IfOk result (λ f. IsKept table names f (function_plain id types ty.now)) }
+    ensures marks { IfOk result (λ f. HasMarks f false
+        (marks_from scope.now.types.items no_needs (signature_members ty.now))) }
 {
     let values = small_values(scope, &ty.params, ty.result)?;
     Ok(plain_type(values))

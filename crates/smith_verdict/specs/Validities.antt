@@ -3,16 +3,16 @@ use Rattle.std.specs.Prelude.{◌≡◌, ℕ, List, IfSome}
 use Rattle.smith_tree.specs.Grammar.{Spells}
 use Rattle.smith_tree.specs.Tree.{Tree}
 use Rattle.smith_tree.specs.WellFormed.{WellFormed}
-use Rattle.smith_validity.specs.Validates.{IsBounded, Validates}
-use Rattle.smith_validate.specs.Outcome.{Lacks}
+use Rattle.smith_validity.specs.Validates.{Validates}
+use Rattle.smith_validate.specs.Outcome.{IsUnmet}
 use Rattle.smith_verdict.specs.Verdicts.{IsOffset, IsVerdict}
 use Rattle.smith_verdict.specs.declared.validity.Validity.{Validity}
 use Rattle.smith_verdict.specs.declared.validity.Validity.TheVariants as validity
 use Rattle.smith_verdict.specs.declared.verdict.Verdict.TheVariants.{WellFormed as found_well_formed}
 
--- They spell a component that is well formed and validates; or one that is well formed and does not keep all bounds, if a bound is what it is said not
--- to keep, with the offset of an entry; or else they are what they are found to be, no well formed component.
+-- They spell a component that is well formed and validates; or one that is well formed and does not meet that demand, with the offset of an entry; or
+-- else they are what they are found to be, no well formed component.
 abbrev pub IsValidity : List ℕ → Validity → Type 0
 IsValidity bytes validity.Valid = (t : Tree) × Spells t bytes × WellFormed t × Validates t
-IsValidity bytes (validity.Invalid demand offset) = (t : Tree) × Spells t bytes × WellFormed t × Lacks demand (IsBounded t) × IfSome offset (IsOffset t)
+IsValidity bytes (validity.Invalid demand offset) = (t : Tree) × Spells t bytes × WellFormed t × IsUnmet demand t × IfSome offset (IsOffset t)
 IsValidity bytes (validity.Other verdict) = IsVerdict bytes verdict × (¬ (verdict ≡ found_well_formed))

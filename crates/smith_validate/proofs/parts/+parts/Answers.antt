@@ -1,14 +1,23 @@
-use Rattle.std.proofs.Common.{◌+◌, ◌∷◌, ◌++◌, map, ◌∙◌, refl, sym, ap, subst, true}
+use Rattle.std.proofs.Common.{◌+◌, ◌∷◌, ◌++◌, fold, length, map, ◌∙◌, refl, sym, ap, subst, true}
 use Rattle.std.proofs.Math.ListN.{drop}
 use Rattle.smith_tree.specs.Spaces.{no_spaces}
-use Rattle.smith_validity.specs.Bodies.{empty_body}
+use Rattle.smith_validity.specs.Bodies.{after_export, after_import, empty_body}
 use Rattle.smith_validity.specs.Counts.{ValidCounts, with_component, with_module}
 use Rattle.smith_validity.specs.Validates.{names_of}
 use Rattle.smith_read.specs.PartNodes.{shown_part_node}
 use Rattle.smith_read.proofs.PartNodes.{shown_canons, shown_core_types, shown_custom, shown_exports, shown_imports, shown_module, shown_nested, shown_types}
 use Rattle.smith_validate.specs.Instances.{IsTable}
 use Rattle.smith_validate.proofs.DeclSteps.{in_again, in_entered, last_same}
-use Rattle.smith_validate.proofs.Judging.{on_by, on_judged, passed_on, refute_by}
+use Rattle.smith_read_types.specs.Nodes.{shown_core_node}
+use Rattle.smith_read.specs.PartNodes.{shown_canon_node, shown_export_node, shown_import_node}
+use Rattle.smith_validity.specs.Facts.{id_at}
+use Rattle.smith_validity.specs.Validates.{after_canon, after_cores, exported_references, imported_references}
+use Rattle.smith_validate.specs.Tables.{AreExact}
+use Rattle.smith_validate.proofs.Judging.{on_any, on_both, on_by, on_judged, passed_on, refused_on, refute_by}
+use Rattle.smith_validate.proofs.PartsExactly.{BothNow, after_more, after_none, body_after_component, canons_exports, canons_imports, canons_types}
+use Rattle.smith_validate.proofs.PartsExactly.{cores_exports, cores_imports, cores_types, entered_known, entered_long, now_after, open_exactly, usual_parts}
+use Rattle.smith_validate.proofs.RowsExactly.{exact_all, exact_at, exact_exit, exact_next}
+use Rattle.smith_validate.proofs.BodySteps.{body_as}
 use Rattle.smith_validate.proofs.PartRows.{OpenNow, open_begin, open_more, open_now, parts_row}
 use Rattle.smith_validate.proofs.Roles.{role_more, role_of}
 use Rattle.smith_validate.proofs.Rows.{row_all, row_at, row_exit, row_last, row_more, row_valid}
@@ -134,6 +143,14 @@ add_parts-loop-part-init t c = record {
   left = λ outer names table s.
       row_all (parts_row outer) (no_spaces, empty_body) (map shown_part_node c.args.parts.now) (OpenNow outer names table c.args.known.now c.new-here.result)
       (open_begin _ _ outer names table s c.new-here.ensures.functions c.new-here.ensures.body c.new-here.ensures.role);
+  exact = λ outer names named covered table s h d u.
+      let k = c.args.known.now in
+      let o = c.new-here.result in
+      exact_all (parts_row outer) (usual_parts outer) (no_spaces, empty_body) (map shown_part_node c.args.parts.now)
+      (BothNow outer names named covered table k o) (
+        open_begin _ _ outer names covered s c.new-here.ensures.functions c.new-here.ensures.body c.new-here.ensures.role,
+        after_none true k o.body empty_body outer named table (open_exactly k o.body outer named table h d c.new-here.ensures.role),
+      ) u;
 }
 
 pub add_parts-loop-part-preserved : goal.add_parts-loop-part-preserved
@@ -152,6 +169,17 @@ add_parts-loop-part-preserved t c =
           (OpenNow outer names table c.add_part.new.known c.add_part.new.here)
           (λ d. done.judged d l.at.0 l.at.1 outer names (table ++ l.is.0) l.is.1)
           (open_more _ _ _ _ outer names table l.is.0 (done.added l.at.0 l.at.1 outer names (table ++ l.is.0) l.is.1));
+      exact = λ outer names named covered table s h d u.
+          let T = BothNow outer names named covered table c.loop-part.known c.loop-part.here in
+          let l = exact_at (parts_row outer) (usual_parts outer) shown_part_node (no_spaces, empty_body) ps T i p c.loop-part-test.true c.part-item.is
+          (c.loop-part.invariant.exact outer names named covered table s h d u) in
+          exact_next (parts_row outer) (usual_parts outer) (no_spaces, empty_body) (map shown_part_node ps) T (shown_part_node p)
+          (map shown_part_node (drop (i + 1) ps)) l
+          (BothNow outer names named covered table c.add_part.new.known c.add_part.new.here) (
+            open_more _ _ _ _ outer names covered l.is.0.0 (done.added l.at.0 l.at.1 outer names (covered ++ l.is.0.0) l.is.0.1),
+            after_more true c.add_part.new.known c.add_part.new.here.body _ outer named table l.is.1.0
+                (done.exact l.at.0 l.at.1 outer names named (covered ++ l.is.0.0) (table ++ l.is.1.0) l.is.0.1 l.is.1.1 l.usual_is.0),
+          ) l.usual_is.1;
     }
 
 pub add_parts-returns-in_err-add_part-clause-judged : goal.add_parts-returns-in_err-add_part-clause-judged
@@ -179,3 +207,110 @@ pub add_parts-returns-clause-instances : goal.add_parts-returns-clause-instances
 add_parts-returns-clause-instances t c = λ outer names table s.
     let l = c.loop-part.invariant.left outer names table s in
     (l.is.0, l.is.1.body.scopes.instances_are)
+
+pub add_parts-returns-in_err-add_part-clause-refused : goal.add_parts-returns-in_err-add_part-clause-refused
+add_parts-returns-in_err-add_part-clause-refused t c = λ outer names named covered table s h d u.
+    let ps = c.args.parts.now in
+    let i = c.loop-part.part-index in
+    let p = c.part-item.result in
+    let T = BothNow outer names named covered table c.loop-part.known c.loop-part.here in
+    let l = exact_at (parts_row outer) (usual_parts outer) shown_part_node (no_spaces, empty_body) ps T i p c.loop-part-test.true c.part-item.is
+    (c.loop-part.invariant.exact outer names named covered table s h d u) in
+    refused_on _ _ c.from_residual-in_err-add_part.ensures.1
+    (λ e. exact_exit (parts_row outer) (usual_parts outer) (no_spaces, empty_body) (map shown_part_node ps) T (shown_part_node p)
+    (map shown_part_node (drop (i + 1) ps)) l
+    ((c.in_err-add_part.ensures {u = tt}).refused l.at.0 l.at.1 outer names named (covered ++ l.is.0.0) (table ++ l.is.1.0) l.is.0.1 l.is.1.1 l.usual_is.0 e))
+
+pub add_parts-returns-clause-exact : goal.add_parts-returns-clause-exact
+add_parts-returns-clause-exact t c = λ outer names named covered table s h d u.
+    let l = c.loop-part.invariant.exact outer names named covered table s h d u in
+    (l.is.1.0, l.is.1.1.known.instances_are, l.is.1.1.known.long)
+
+pub add_part-returns-in_err-add_parts-in-Component-clause-refused : goal.add_part-returns-in_err-add_parts-in-Component-clause-refused
+add_part-returns-in_err-add_parts-in-Component-clause-refused t c = λ s b outer names named covered table o h usual.
+    let entered = c.in_ok-enter-in-Component.ensures {u = tt} in
+    let here = names_of b.exports in
+    let k = c.args.known.now in
+    let inner = in_entered k c.enter.new.self b.own outer here names covered o.body.scopes entered.own entered.types entered.outer entered.instances in
+    let known = entered_known k c.enter.new.self b.own outer (here ++ named) table h.known entered.types entered.outer entered.instances in
+    let long = entered_long k c.enter.new.self b.own outer h.depth_is entered.outer in
+    let u = rw (c.in-Component.is, shown_nested c.in-Component.parts) at usual in
+    rw (c.in-Component.is, shown_nested c.in-Component.parts)
+    (refused_on _ _ c.from_residual-in_err-add_parts-in-Component.ensures.1
+    (λ e q.
+    (rw c.deref-in-Component.ensures.value at
+    ((c.in_err-add_parts-in-Component.ensures {u = tt}).refused (b.own ∷ outer) (here ∷ names) (here ++ named) covered table inner known long)) u e q.1))
+
+pub add_part-returns-in_ok-add_parts-in-Component-clause-exact : goal.add_part-returns-in_ok-add_parts-in-Component-clause-exact
+add_part-returns-in_ok-add_parts-in-Component-clause-exact t c = λ s b outer names named covered table o h usual.
+    let entered = c.in_ok-enter-in-Component.ensures {u = tt} in
+    let done = c.in_ok-add_parts-in-Component.ensures {u = tt} in
+    let here = names_of b.exports in
+    let k = c.args.known.now in
+    let inner = in_entered k c.enter.new.self b.own outer here names covered o.body.scopes entered.own entered.types entered.outer entered.instances in
+    let known = entered_known k c.enter.new.self b.own outer (here ++ named) table h.known entered.types entered.outer entered.instances in
+    let long = entered_long k c.enter.new.self b.own outer h.depth_is entered.outer in
+    let u = rw (c.in-Component.is, shown_nested c.in-Component.parts) at usual in
+    let grown = (rw c.deref-in-Component.ensures.value at
+    (done.exact (b.own ∷ outer) (here ∷ names) (here ++ named) covered table inner known long)) u in
+    let back = last_same c.leave.new.self.outer.items k.outer.items c.leave.new.self.own k.own
+    (sym c.leave.ensures.outer ∙ (done.outer ∙ entered.outer)) in
+    rw (c.in-Component.is, shown_nested c.in-Component.parts)
+    (body_after_component true k c.args.here.now.body b outer named table h c.leave.new.self c.args.here.now.body
+    (record b { counts = with_component b.counts }) grown.0 back.0 back.1
+    (subst (λ is. AreExact is (table ++ grown.0)) (sym c.leave.ensures.instances) grown.1)
+    (ap (λ is. length is) c.leave.ensures.instances ∙ grown.2) refl refl refl refl)
+
+pub add_part-returns-in-CoreModule-clause-exact : goal.add_part-returns-in-CoreModule-clause-exact
+add_part-returns-in-CoreModule-clause-exact t c = λ s b outer names named covered table o h usual.
+    let k = c.args.known.now in
+    rw (c.in-CoreModule.is, shown_module c.in-CoreModule.field-0)
+    (on_any c.add_module.result
+    (now_after true k c.args.here.now.body (record b { counts = with_module b.counts }) outer named (id_at (b.own ∷ outer)) table
+    (body_as true k c.args.here.now.body b outer named table h k c.args.here.now.body refl refl (record b { counts = with_module b.counts }) refl refl refl
+    refl refl)))
+
+pub add_part-returns-in-CoreTypes-clause-exact : goal.add_part-returns-in-CoreTypes-clause-exact
+add_part-returns-in-CoreTypes-clause-exact t c = λ s b outer names named covered table o h usual.
+    let k = c.args.known.now in
+    let es = map shown_core_node c.in-CoreTypes.types.items in
+    rw (c.in-CoreTypes.is, shown_core_types c.in-CoreTypes.types)
+    (on_both c.add_core_types.result
+    (λ types outers. now_after true c.add_core_types.new.known c.add_core_types.new.body (after_cores es b) outer named (id_at (b.own ∷ outer)) table
+    (body_as true k c.args.here.now.body b outer named table h c.add_core_types.new.known c.add_core_types.new.body outers
+    c.add_core_types.ensures.role (after_cores es b) types
+    c.add_core_types.ensures.instances (cores_types es b) (cores_imports es b) (cores_exports es b)))
+    c.add_core_types.ensures.types c.add_core_types.ensures.outer)
+
+pub add_part-returns-in-Canons-clause-exact : goal.add_part-returns-in-Canons-clause-exact
+add_part-returns-in-Canons-clause-exact t c = λ s b outer names named covered table o h usual.
+    let k = c.args.known.now in
+    let fs = map shown_canon_node c.in-Canons.canons.items in
+    rw (c.in-Canons.is, shown_canons c.in-Canons.canons)
+    (on_by c.add_canons.result
+    (λ role. now_after true k c.add_canons.new.here.body (fold after_canon b fs) outer named (id_at (b.own ∷ outer)) table
+    (body_as true k c.args.here.now.body b outer named table h k c.add_canons.new.here.body refl role (fold after_canon b fs) refl refl
+    (canons_types fs b) (canons_imports fs b) (canons_exports fs b)))
+    c.add_canons.ensures.role)
+
+pub add_part-returns-in-Imports-clause-exact : goal.add_part-returns-in-Imports-clause-exact
+add_part-returns-in-Imports-clause-exact t c = λ s b outer names named covered table o h usual.
+    let u = rw (c.in-Imports.is, shown_imports c.in-Imports.imports) at usual in
+    rw (c.in-Imports.is, shown_imports c.in-Imports.imports)
+    (on_by c.add_imports.result
+    (λ n. after_none true c.args.known.now c.add_imports.new.here.body
+    (fold (after_import outer) b (imported_references (map shown_import_node c.in-Imports.imports.items))) outer named table n)
+    ((rw c.deref-in-Imports.ensures.value at (c.add_imports.ensures.exact b outer named table h)) u))
+
+pub add_part-returns-in-Exports-clause-exact : goal.add_part-returns-in-Exports-clause-exact
+add_part-returns-in-Exports-clause-exact t c = λ s b outer names named covered table o h usual.
+    rw (c.in-Exports.is, shown_exports c.in-Exports.exports)
+    (on_by c.add_exports.result
+    (λ n. after_none true c.add_exports.new.known c.add_exports.new.here.body
+    (fold (after_export outer) b (exported_references s (map shown_export_node c.in-Exports.exports.items))) outer named table n)
+    (rw c.deref-in-Exports.ensures.value at (c.add_exports.ensures.exact s b outer named table h o.functions_are)))
+
+pub add_part-returns-in-Exports-clause-refused : goal.add_part-returns-in-Exports-clause-refused
+add_part-returns-in-Exports-clause-refused t c = λ s b outer names named covered table o h usual.
+    rw (c.in-Exports.is, shown_exports c.in-Exports.exports)
+    (rw c.deref-in-Exports.ensures.value at (c.add_exports.ensures.refused s b outer named table h o.functions_are))

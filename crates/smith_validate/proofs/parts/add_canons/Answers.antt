@@ -1,4 +1,4 @@
-use Rattle.std.proofs.Common.{true, ◌≡◌, ◌+◌, map, refl, get_or}
+use Rattle.std.proofs.Common.{true, ◌≡◌, ◌+◌, map, refl, get_or, ◌∙◌}
 use Rattle.std.proofs.Math.ListN.{drop}
 use Rattle.smith_read.specs.PartNodes.{shown_canon_node}
 use Rattle.smith_read.specs.declared.nodes.CanonNode.TheVariants as canon
@@ -9,23 +9,29 @@ use Rattle.smith_validate.proofs.Rows.{row_after, row_all, row_at, row_exit, row
 use Rattle.smith_validate.proofs.parts.add_canons.Goals as goal
 
 pub loop-canon-init : goal.loop-canon-init
-loop-canon-init c = λ k s b outer names table h. row_all canons_row (s, b) (map shown_canon_node c.args.canons.now)
-    (OpenAt outer names table k c.args.here.now) h
+loop-canon-init c = record {
+  role = refl;
+  left = λ k s b outer names table h. row_all canons_row (s, b) (map shown_canon_node c.args.canons.now)
+      (OpenAt outer names table k c.args.here.now) h;
+}
 
 pub loop-canon-preserved : goal.loop-canon-preserved
 loop-canon-preserved c =
     let done = c.in_ok-add_canon.ensures {u = tt} in
-    (λ k s b outer names table h.
-    let xs = c.args.canons.now in
-    let i = c.loop-canon.canon-index in
-    let x = get_or xs i (canon.Lift 0 0) in
-    let is : x ≡ get_or xs i x = some_item xs i (canon.Lift 0 0) x c.loop-canon-test.true in
-    let l = row_at canons_row shown_canon_node (s, b) xs (OpenAt outer names table k c.loop-canon.here) i x c.loop-canon-test.true is
-    (c.loop-canon.invariant k s b outer names table h) in
-    row_more canons_row (s, b) (map shown_canon_node xs) (OpenAt outer names table k c.loop-canon.here) (shown_canon_node x)
-    (map shown_canon_node (drop (i + 1) xs)) l
-    (OpenAt outer names table k c.add_canon.new.here) (λ d. done.judged k l.at.0 l.at.1 outer names table l.is)
-    (done.added k l.at.0 l.at.1 outer names table l.is))
+    record {
+      role = done.role ∙ c.loop-canon.invariant.role;
+      left = λ k s b outer names table h.
+          let xs = c.args.canons.now in
+          let i = c.loop-canon.canon-index in
+          let x = get_or xs i (canon.Lift 0 0) in
+          let is : x ≡ get_or xs i x = some_item xs i (canon.Lift 0 0) x c.loop-canon-test.true in
+          let l = row_at canons_row shown_canon_node (s, b) xs (OpenAt outer names table k c.loop-canon.here) i x c.loop-canon-test.true is
+          (c.loop-canon.invariant.left k s b outer names table h) in
+          row_more canons_row (s, b) (map shown_canon_node xs) (OpenAt outer names table k c.loop-canon.here) (shown_canon_node x)
+          (map shown_canon_node (drop (i + 1) xs)) l
+          (OpenAt outer names table k c.add_canon.new.here) (λ d. done.judged k l.at.0 l.at.1 outer names table l.is)
+          (done.added k l.at.0 l.at.1 outer names table l.is);
+    }
 
 pub returns-in_err-add_canon-clause-judged : goal.returns-in_err-add_canon-clause-judged
 returns-in_err-add_canon-clause-judged c = λ k s b outer names table h.
@@ -34,7 +40,7 @@ returns-in_err-add_canon-clause-judged c = λ k s b outer names table h.
     let x = get_or xs i (canon.Lift 0 0) in
     let is : x ≡ get_or xs i x = some_item xs i (canon.Lift 0 0) x c.loop-canon-test.true in
     let l = row_at canons_row shown_canon_node (s, b) xs (OpenAt outer names table k c.loop-canon.here) i x c.loop-canon-test.true is
-    (c.loop-canon.invariant k s b outer names table h) in
+    (c.loop-canon.invariant.left k s b outer names table h) in
     passed_on _ _ c.from_residual.ensures.1
     (row_exit canons_row (s, b) (map shown_canon_node xs) (OpenAt outer names table k c.loop-canon.here) (shown_canon_node x)
     (map shown_canon_node (drop (i + 1) xs)) l true
@@ -45,11 +51,11 @@ returns-clause-judged c = λ k s b outer names table h.
     row_valid canons_row (s, b) (map shown_canon_node c.args.canons.now) (OpenAt outer names table k c.loop-canon.here)
     (row_last canons_row shown_canon_node (s, b) c.args.canons.now
     (OpenAt outer names table k c.loop-canon.here) c.loop-canon.canon-index c.loop-canon-test.false
-    (c.loop-canon.invariant k s b outer names table h)) true
+    (c.loop-canon.invariant.left k s b outer names table h)) true
 
 pub returns-clause-added : goal.returns-clause-added
 returns-clause-added c = λ k s b outer names table h.
     row_after canons_row (s, b) (map shown_canon_node c.args.canons.now) (OpenAt outer names table k c.loop-canon.here)
     (row_last canons_row shown_canon_node (s, b) c.args.canons.now
     (OpenAt outer names table k c.loop-canon.here) c.loop-canon.canon-index c.loop-canon-test.false
-    (c.loop-canon.invariant k s b outer names table h)) refl
+    (c.loop-canon.invariant.left k s b outer names table h)) refl

@@ -1,4 +1,4 @@
-use Rattle.std.proofs.Common.{List}
+use Rattle.std.proofs.Common.{◌≡◌, List}
 use Rattle.smith_validity.specs.Bodies.{Body}
 use Rattle.smith_validity.specs.Facts.{FactScope, Id}
 use Rattle.smith_read.specs.PartNodes.{shown_canon_node}
@@ -11,6 +11,9 @@ use Rattle.smith_validate.proofs.Rows.{RowFrom}
 use Rattle.smith_validate.proofs.parts.add_canons.Given as goal
 
 abbrev pub invariant-loop-canon : goal.invariant-loop-canon
-invariant-loop-canon l =
-    (k : Known) (s : Spaces) (b : Body) (outer : List FactScope) (names : List (List Id)) (table : List Exports) → IsOpen k l.initial.here s b outer names table
-    → RowFrom canons_row shown_canon_node (s, b) l.canons (OpenAt outer names table k l.here) l.canon-index
+invariant-loop-canon l = record {
+  role : l.here.body.role ≡ l.initial.here.body.role;
+  left : (k : Known) (s : Spaces) (b : Body) (outer : List FactScope) (names : List (List Id)) (table : List Exports)
+      → IsOpen k l.initial.here s b outer names table
+      → RowFrom canons_row shown_canon_node (s, b) l.canons (OpenAt outer names table k l.here) l.canon-index;
+}

@@ -9,6 +9,9 @@ use Rattle.smith_validate.proofs.parts.add_core_types.Goals as goal
 pub loop-ty-init : goal.loop-ty-init
 loop-ty-init c = record {
   outer = refl;
+  types = refl;
+  instances = refl;
+  role = refl;
   left = λ b outer names table h. row_all cores_row b (map shown_core_node c.args.types.now)
       (BodyAt outer names table c.args.known.now c.args.body.now) h;
 }
@@ -18,6 +21,9 @@ loop-ty-preserved c =
     let done = c.in_ok-declare_core_type.ensures {u = tt} in
     record {
       outer = done.outer ∙ c.loop-ty.invariant.outer;
+      types = done.types ∙ c.loop-ty.invariant.types;
+      instances = done.instances ∙ c.loop-ty.invariant.instances;
+      role = done.role ∙ c.loop-ty.invariant.role;
       left = λ b outer names table h.
           let xs = c.args.types.now in
           let i = c.loop-ty.ty-index in

@@ -11,6 +11,9 @@ use Rattle.smith_validate.proofs.parts.add_core_types.Given as goal
 abbrev pub invariant-loop-ty : goal.invariant-loop-ty
 invariant-loop-ty l = record {
   outer : l.known.outer.items ≡ l.initial.known.outer.items;
+  types : l.known.own.types.items ≡ l.initial.known.own.types.items;
+  instances : l.known.instances.items ≡ l.initial.known.instances.items;
+  role : l.body.role ≡ l.initial.body.role;
   left : (b : Body) (outer : List FactScope) (names : List (List Id)) (table : List Exports)
       → IsBody true l.initial.known l.initial.body b outer names table
       → RowFrom cores_row shown_core_node b l.types (BodyAt outer names table l.known l.body) l.ty-index;

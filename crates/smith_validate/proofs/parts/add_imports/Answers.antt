@@ -1,29 +1,51 @@
-use Rattle.std.proofs.Common.{◌+◌, map, refl}
+use Rattle.std.proofs.Common.{◌+◌, map, refl, true}
 use Rattle.std.proofs.Math.ListN.{drop}
 use Rattle.smith_read.specs.PartNodes.{shown_import_node}
 use Rattle.smith_validate.proofs.Judging.{passed_on}
 use Rattle.smith_validate.proofs.PartRows.{OpenAt, imports_row}
 use Rattle.smith_validate.proofs.Rows.{row_after, row_all, row_at, row_exit, row_last, row_more, row_valid}
+use Rattle.smith_tree.specs.Spaces.{no_spaces}
+use Rattle.smith_validate.specs.Exact.{IsBodyExactly}
+use Rattle.smith_validate.proofs.Judging.{refused_on}
+use Rattle.smith_validate.proofs.PartRows.{At}
+use Rattle.smith_validate.proofs.PartsExactly.{usual_imports}
+use Rattle.smith_validate.proofs.RowsExactly.{exact_after, exact_all, exact_at, exact_exit, exact_last, exact_next}
 use Rattle.smith_validate.proofs.parts.add_imports.Goals as goal
 
 pub loop-import-init : goal.loop-import-init
-loop-import-init c = λ s b outer names table h. row_all (imports_row outer) (s, b) (map shown_import_node c.args.imports.now)
-    (OpenAt outer names table c.args.known.now c.args.here.now) h
+loop-import-init c = record {
+  left = λ s b outer names table h. row_all (imports_row outer) (s, b) (map shown_import_node c.args.imports.now)
+      (OpenAt outer names table c.args.known.now c.args.here.now) h;
+  exact = λ b outer named table h u. exact_all (imports_row outer) usual_imports (no_spaces, b) (map shown_import_node c.args.imports.now)
+      (λ at. IsBodyExactly true c.args.known.now c.args.here.now.body at.1 outer named table) h u;
+}
 
 pub loop-import-preserved : goal.loop-import-preserved
 loop-import-preserved c =
     let done = c.in_ok-import_one.ensures {u = tt} in
-    (λ s b outer names table h.
-    let xs = c.args.imports.now in
-    let i = c.loop-import.import-index in
-    let x = c.import-item.result in
-    let l = row_at (imports_row outer) shown_import_node (s, b) xs (OpenAt outer names table c.args.known.now c.loop-import.here) i x c.loop-import-test.true
-    c.import-item.is
-    (c.loop-import.invariant s b outer names table h) in
-    row_more (imports_row outer) (s, b) (map shown_import_node xs) (OpenAt outer names table c.args.known.now c.loop-import.here) (shown_import_node x)
-    (map shown_import_node (drop (i + 1) xs)) l
-    (OpenAt outer names table c.args.known.now c.import_one.new.here) (λ d. done.judged d l.at.0 l.at.1 outer names table l.is)
-    (done.added l.at.0 l.at.1 outer names table l.is))
+    record {
+      left = λ s b outer names table h.
+          let xs = c.args.imports.now in
+          let i = c.loop-import.import-index in
+          let x = c.import-item.result in
+          let l = row_at (imports_row outer) shown_import_node (s, b) xs (OpenAt outer names table c.args.known.now c.loop-import.here) i x
+          c.loop-import-test.true c.import-item.is
+          (c.loop-import.invariant.left s b outer names table h) in
+          row_more (imports_row outer) (s, b) (map shown_import_node xs) (OpenAt outer names table c.args.known.now c.loop-import.here) (shown_import_node x)
+          (map shown_import_node (drop (i + 1) xs)) l
+          (OpenAt outer names table c.args.known.now c.import_one.new.here) (λ d. done.judged d l.at.0 l.at.1 outer names table l.is)
+          (done.added l.at.0 l.at.1 outer names table l.is);
+      exact = λ b outer named table h u.
+          let xs = c.args.imports.now in
+          let x = c.import-item.result in
+          let T : At → Type 0 = λ at. IsBodyExactly true c.args.known.now c.loop-import.here.body at.1 outer named table in
+          let l = exact_at (imports_row outer) usual_imports shown_import_node (no_spaces, b) xs T c.loop-import.import-index x c.loop-import-test.true
+          c.import-item.is (c.loop-import.invariant.exact b outer named table h u) in
+          exact_next (imports_row outer) usual_imports (no_spaces, b) (map shown_import_node xs) T (shown_import_node x)
+          (map shown_import_node (drop (c.loop-import.import-index + 1) xs)) l
+          (λ at. IsBodyExactly true c.args.known.now c.import_one.new.here.body at.1 outer named table)
+          (done.exact l.at.1 outer named table l.is l.usual_is.0) l.usual_is.1;
+    }
 
 pub returns-in_err-import_one-clause-judged : goal.returns-in_err-import_one-clause-judged
 returns-in_err-import_one-clause-judged c = λ d s b outer names table h.
@@ -32,7 +54,7 @@ returns-in_err-import_one-clause-judged c = λ d s b outer names table h.
     let x = c.import-item.result in
     let l = row_at (imports_row outer) shown_import_node (s, b) xs (OpenAt outer names table c.args.known.now c.loop-import.here) i x c.loop-import-test.true
     c.import-item.is
-    (c.loop-import.invariant s b outer names table h) in
+    (c.loop-import.invariant.left s b outer names table h) in
     passed_on _ _ c.from_residual.ensures.1
     (row_exit (imports_row outer) (s, b) (map shown_import_node xs) (OpenAt outer names table c.args.known.now c.loop-import.here) (shown_import_node x)
     (map shown_import_node (drop (i + 1) xs)) l d
@@ -44,7 +66,7 @@ returns-clause-judged c = λ d s b outer names table h.
     (row_last (imports_row outer) shown_import_node (s, b) c.args.imports.now
     (OpenAt outer names table c.args.known.now c.loop-import.here) c.loop-import.import-index
     c.loop-import-test.false
-    (c.loop-import.invariant s b outer names table h)) d
+    (c.loop-import.invariant.left s b outer names table h)) d
 
 pub returns-clause-added : goal.returns-clause-added
 returns-clause-added c = λ s b outer names table h.
@@ -52,4 +74,24 @@ returns-clause-added c = λ s b outer names table h.
     (row_last (imports_row outer) shown_import_node (s, b) c.args.imports.now
     (OpenAt outer names table c.args.known.now c.loop-import.here) c.loop-import.import-index
     c.loop-import-test.false
-    (c.loop-import.invariant s b outer names table h)) refl
+    (c.loop-import.invariant.left s b outer names table h)) refl
+
+pub returns-in_err-import_one-clause-refused : goal.returns-in_err-import_one-clause-refused
+returns-in_err-import_one-clause-refused c = λ b outer named table h u.
+    let xs = c.args.imports.now in
+    let x = c.import-item.result in
+    let T : At → Type 0 = λ at. IsBodyExactly true c.args.known.now c.loop-import.here.body at.1 outer named table in
+    let l = exact_at (imports_row outer) usual_imports shown_import_node (no_spaces, b) xs T c.loop-import.import-index x c.loop-import-test.true
+    c.import-item.is (c.loop-import.invariant.exact b outer named table h u) in
+    refused_on _ _ c.from_residual.ensures.1
+    (λ e. exact_exit (imports_row outer) usual_imports (no_spaces, b) (map shown_import_node xs) T (shown_import_node x)
+    (map shown_import_node (drop (c.loop-import.import-index + 1) xs)) l
+    (λ q. (c.in_err-import_one.ensures {u = tt}).refused l.at.1 outer named table l.is l.usual_is.0 e q.0))
+
+pub returns-clause-exact : goal.returns-clause-exact
+returns-clause-exact c = λ b outer named table h u.
+    let xs = c.args.imports.now in
+    let T : At → Type 0 = λ at. IsBodyExactly true c.args.known.now c.loop-import.here.body at.1 outer named table in
+    exact_after (imports_row outer) usual_imports (no_spaces, b) (map shown_import_node xs) T
+    (exact_last (imports_row outer) usual_imports shown_import_node (no_spaces, b) xs T c.loop-import.import-index c.loop-import-test.false
+    (c.loop-import.invariant.exact b outer named table h u)) refl

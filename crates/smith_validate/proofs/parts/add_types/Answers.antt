@@ -5,6 +5,11 @@ use Rattle.smith_validate.proofs.DeclSteps.{body_more, body_now}
 use Rattle.smith_validate.proofs.Judging.{passed_on}
 use Rattle.smith_validate.proofs.PartRows.{BodyNow, types_row}
 use Rattle.smith_validate.proofs.Rows.{row_after, row_all, row_at, row_exit, row_last, row_more, row_valid}
+use Rattle.smith_validity.specs.Bodies.{Body}
+use Rattle.smith_validate.specs.Exact.{IsBodyExactlyAfter}
+use Rattle.smith_validate.proofs.Judging.{refused_on}
+use Rattle.smith_validate.proofs.PartsExactly.{after_more, after_none, usual_types}
+use Rattle.smith_validate.proofs.RowsExactly.{exact_after, exact_all, exact_at, exact_exit, exact_last, exact_next}
 use Rattle.smith_validate.proofs.parts.add_types.Goals as goal
 
 pub loop-ty-init : goal.loop-ty-init
@@ -12,6 +17,9 @@ loop-ty-init c = record {
   outer = refl;
   left = λ b outer names table h. row_all (types_row outer) b (map shown_type_node c.args.types.now)
       (BodyNow outer names table c.args.known.now c.args.body.now) (body_now true c.args.known.now c.args.body.now b outer names table h);
+  exact = λ b outer named table h u. exact_all (types_row outer) (usual_types outer) b (map shown_type_node c.args.types.now)
+      (λ d. IsBodyExactlyAfter true c.args.known.now c.args.body.now d outer named table)
+      (after_none true c.args.known.now c.args.body.now b outer named table h) u;
 }
 
 pub loop-ty-preserved : goal.loop-ty-preserved
@@ -29,6 +37,17 @@ loop-ty-preserved c =
           (map shown_type_node (drop (i + 1) xs)) l
           (BodyNow outer names table c.declare_type.new.known c.declare_type.new.body) (λ d. done.judged d l.at outer names (table ++ l.is.0) l.is.1)
           (body_more true c.declare_type.new.known c.declare_type.new.body _ outer names table l.is.0 (done.added l.at outer names (table ++ l.is.0) l.is.1));
+      exact = λ b outer named table h u.
+          let xs = c.args.types.now in
+          let x = c.ty-item.result in
+          let T : Body → Type 0 = λ d. IsBodyExactlyAfter true c.loop-ty.known c.loop-ty.body d outer named table in
+          let l = exact_at (types_row outer) (usual_types outer) shown_type_node b xs T c.loop-ty.ty-index x c.loop-ty-test.true c.ty-item.is
+          (c.loop-ty.invariant.exact b outer named table h u) in
+          exact_next (types_row outer) (usual_types outer) b (map shown_type_node xs) T (shown_type_node x)
+          (map shown_type_node (drop (c.loop-ty.ty-index + 1) xs)) l
+          (λ d. IsBodyExactlyAfter true c.declare_type.new.known c.declare_type.new.body d outer named table)
+          (after_more true c.declare_type.new.known c.declare_type.new.body _ outer named table l.is.0
+          (done.exact l.at outer named (table ++ l.is.0) l.is.1 l.usual_is.0)) l.usual_is.1;
     }
 
 pub returns-in_err-declare_type-clause-judged : goal.returns-in_err-declare_type-clause-judged
@@ -59,3 +78,23 @@ returns-clause-added c = λ b outer names table h.
 
 pub returns-clause-outer : goal.returns-clause-outer
 returns-clause-outer c = c.loop-ty.invariant.outer
+
+pub returns-in_err-declare_type-clause-refused : goal.returns-in_err-declare_type-clause-refused
+returns-in_err-declare_type-clause-refused c = λ b outer named table h u.
+    let xs = c.args.types.now in
+    let x = c.ty-item.result in
+    let T : Body → Type 0 = λ d. IsBodyExactlyAfter true c.loop-ty.known c.loop-ty.body d outer named table in
+    let l = exact_at (types_row outer) (usual_types outer) shown_type_node b xs T c.loop-ty.ty-index x c.loop-ty-test.true c.ty-item.is
+    (c.loop-ty.invariant.exact b outer named table h u) in
+    refused_on _ _ c.from_residual.ensures.1
+    (λ e. exact_exit (types_row outer) (usual_types outer) b (map shown_type_node xs) T (shown_type_node x)
+    (map shown_type_node (drop (c.loop-ty.ty-index + 1) xs)) l
+    (λ q. (c.in_err-declare_type.ensures {u = tt}).refused l.at outer named (table ++ l.is.0) l.is.1 l.usual_is.0 e q.0))
+
+pub returns-clause-exact : goal.returns-clause-exact
+returns-clause-exact c = λ b outer named table h u.
+    let xs = c.args.types.now in
+    let T : Body → Type 0 = λ d. IsBodyExactlyAfter true c.loop-ty.known c.loop-ty.body d outer named table in
+    exact_after (types_row outer) (usual_types outer) b (map shown_type_node xs) T
+    (exact_last (types_row outer) (usual_types outer) shown_type_node b xs T c.loop-ty.ty-index c.loop-ty-test.false
+    (c.loop-ty.invariant.exact b outer named table h u)) refl

@@ -1,8 +1,11 @@
-use Rattle.std.proofs.Common.{◌∷◌, refl, ◌∙◌, sym, subst}
+use Rattle.std.proofs.Common.{◌∷◌, ◌++◌, ◌+◌, ap, refl, ◌∙◌, sym, subst}
 use Rattle.smith_validity.specs.Bodies.{after_export, externs_at}
 use Rattle.smith_validity.specs.Validates.{exported, names_of}
 use Rattle.smith_validate.specs.Externs.{IsAsked, with_exports}
-use Rattle.smith_validate.proofs.Judging.{on_both, on_by}
+use Rattle.smith_validity.specs.Facts.{id_at}
+use Rattle.smith_validate.specs.Tables.{names_in}
+use Rattle.smith_validate.proofs.Exporting.{exports_push_exactly, named_for, piece_none, piece_some, place_long, role_exported_none}
+use Rattle.smith_validate.proofs.Judging.{err_by, on_all, on_by}
 use Rattle.smith_validate.proofs.Roles.{exports_push, sets_of}
 use Rattle.smith_validate.proofs.references.name_export.Goals as goal
 
@@ -10,7 +13,7 @@ pub returns-in-Names-clause-named : goal.returns-in-Names-clause-named
 returns-in-Names-clause-named c = λ asks b outer names table s r.
     let xs = externs_at b.own outer c.args.to in
     let role = rw c.in-Names.is at r in
-    let found = c.in-Some.ensures b.own outer (names_of b.exports ∷ names) table s.types_are.0 in
+    let found = c.in-Some.ensures.found b.own outer (names_of b.exports ∷ names) table s.types_are.0 in
     on_by c.export.result
     (λ h. (
       subst (λ a. IsAsked a (exported b) xs) (sym role.0) h.0,
@@ -22,10 +25,60 @@ pub returns-in-Exports-clause-named : goal.returns-in-Exports-clause-named
 returns-in-Exports-clause-named c = λ asks b outer names table s r.
     let xs = externs_at b.own outer c.args.to in
     let role = rw c.in-Exports.is at r in
-    let found = c.in-Some.ensures b.own outer (names_of b.exports ∷ names) table s.types_are.0 in
-    on_both c.export-in-Exports.result
-    (λ refers uses. (
+    let found = c.in-Some.ensures.found b.own outer (names_of b.exports ∷ names) table s.types_are.0 in
+    on_all c.export-in-Exports.result
+    (λ refers uses any. (
       subst (λ a. IsAsked a (exported b) xs) (sym role.0) tt,
-      (role.0, exports_push table names c.in-Exports.exported c.export-in-Exports.new.self b.exports xs c.in-Some.what role.1 found refers uses),
+      (role.0, exports_push table names c.in-Exports.exported c.export-in-Exports.new.self b.exports xs c.in-Some.what role.1 found refers uses any),
     ))
-    c.export-in-Exports.ensures.refers c.export-in-Exports.ensures.uses
+    c.export-in-Exports.ensures.refers c.export-in-Exports.ensures.uses c.export-in-Exports.ensures.any
+
+pub returns-in_default-clause-exact : goal.returns-in_default-clause-exact
+returns-in_default-clause-exact c = λ asks b outer named table h.
+    role_exported_none asks c.args.known.now c.args.role.now b outer named table h c.args.to
+    (piece_none asks c.args.known.now c.args.role.now b outer named table h c.args.to c.in_default.ensures.marks)
+
+pub returns-in-Names-clause-exact : goal.returns-in-Names-clause-exact
+returns-in-Names-clause-exact c = λ asks b outer named table h.
+    let k = c.args.known.now in
+    let r = c.args.role.now in
+    let xs = externs_at b.own outer c.args.to in
+    let role = rw c.in-Names.is at h.role_is in
+    let i = piece_some asks k r b outer named table h c.args.to c.in-Some.what c.in-Some.ensures.marks in
+    let place = id_at (b.own ∷ outer) in
+    let full = (names_of b.exports ++ named) ++ names_in table in
+    on_by c.export.result
+    (λ n. (role.0, n))
+    ((rw c.deref.ensures.value at (c.export.ensures.exact table place (id_at outer) full b xs)) h.known.instances_are h.known.added i role.1)
+
+pub returns-in-Names-clause-refused : goal.returns-in-Names-clause-refused
+returns-in-Names-clause-refused c = λ asks b outer named table h.
+    let k = c.args.known.now in
+    let r = c.args.role.now in
+    let xs = externs_at b.own outer c.args.to in
+    let role = rw c.in-Names.is at h.role_is in
+    let i = piece_some asks k r b outer named table h c.args.to c.in-Some.what c.in-Some.ensures.marks in
+    let place = id_at (b.own ∷ outer) in
+    let full = (names_of b.exports ++ named) ++ names_in table in
+    let depth = place_long asks k r b outer named table h ∙ ap (λ n. n + 1) (h.depth_is ∙ sym c.depth.ensures) in
+    err_by c.export.result
+    (λ e f n a. f n (subst (λ x. IsAsked x (exported b) xs) role.0 a))
+    ((rw c.deref.ensures.value at (c.export.ensures.refused table place (id_at outer) full b xs)) h.known.instances_are h.known.added i role.1
+    (named_for asks k r b outer named table h) depth)
+
+pub returns-in-Exports-clause-exact : goal.returns-in-Exports-clause-exact
+returns-in-Exports-clause-exact c = λ asks b outer named table h.
+    let k = c.args.known.now in
+    let r = c.args.role.now in
+    let xs = externs_at b.own outer c.args.to in
+    let role = rw c.in-Exports.is at h.role_is in
+    let i = piece_some asks k r b outer named table h c.args.to c.in-Some.what c.in-Some.ensures.marks in
+    let place = id_at (b.own ∷ outer) in
+    let full = (names_of b.exports ++ named) ++ names_in table in
+    on_all c.export-in-Exports.result
+    (λ refers uses any. (
+      role.0,
+      exports_push_exactly table place (id_at outer) full c.in-Exports.exported c.export-in-Exports.new.self b.exports xs c.in-Some.what role.1 i
+          refers uses any,
+    ))
+    c.export-in-Exports.ensures.refers c.export-in-Exports.ensures.uses c.export-in-Exports.ensures.any

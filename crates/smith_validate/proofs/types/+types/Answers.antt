@@ -7,15 +7,24 @@ use Rattle.smith_read_types.specs.TypeNodes.{shown_decl_node, shown_type_node}
 use Rattle.smith_read_types.proofs.ShownNodes.{shown_alias, shown_component, shown_core, shown_core_alias, shown_declared, shown_export, shown_function}
 use Rattle.smith_read_types.proofs.ShownNodes.{shown_import, shown_instance, shown_values}
 use Rattle.smith_validity.specs.Bodies.{after_decls, core_facts, empty_body, facts, named_in, with_core_facts, with_facts}
-use Rattle.smith_validity.specs.Facts.{id_at}
+use Rattle.smith_syntax.specs.Shown.{shown_defined}
+use Rattle.smith_validity.specs.Facts.{id_at, members}
+use Rattle.smith_validity.specs.Sizes.{signature_members}
 use Rattle.smith_validity.specs.Validates.{names_of}
-use Rattle.smith_syntax.specs.Entries.{component_type, instance_type}
+use Rattle.smith_syntax.specs.Entries.{component_type, defined, function, instance_type}
+use Rattle.smith_validate.specs.Exact.{IsKeptExactly}
+use Rattle.smith_validate.specs.Tables.{names_in}
+use Rattle.std.specs.List.{AllZip}
 use Rattle.smith_validate.specs.Bodies.{IsFresh}
 use Rattle.smith_validate.specs.Instances.{AreKept}
 use Rattle.smith_validate.specs.Kept.{named_at, types_in}
 use Rattle.smith_validate.proofs.DeclSteps.{body_now, core_kept, decls_at, decls_begin, decls_end, decls_exit, decls_judged, decls_last, decls_more}
 use Rattle.smith_validate.proofs.DeclSteps.{last_same, scopes_kept, type_kept}
-use Rattle.smith_validate.proofs.Judging.{export_judged, judged_by, ok_by, on_by, passed_on, refute_by}
+use Rattle.smith_validate.proofs.Declaring.{body_alias, body_declared_exactly, declared_component, declared_values, exactly_at, exactly_begin}
+use Rattle.smith_validate.proofs.Declaring.{exactly_judged, exactly_last, exactly_more, exactly_refused, exactly_now}
+use Rattle.smith_validate.proofs.Judging.{export_judged, judged_by, ok_by, on_by, passed_on, refused_on, refute_by}
+use Rattle.smith_validate.proofs.BodySteps.{body_as}
+use Rattle.smith_validate.proofs.Typing.{alias_zip}
 use Rattle.smith_validate.proofs.TypeSteps.{alias_kept, body_declared, declared_more, declared_now}
 use Rattle.smith_validate.proofs.Valued.{plain_kept}
 use Rattle.smith_validate.proofs.types.+types.Goals as goal
@@ -142,6 +151,8 @@ add_decls-loop-decl-init t c =
       outer = entered.outer;
       left = λ asks own outer here names table s e f.
           decls_begin asks own outer _ here names table c.args.known.now _ c.args.body.now s e f entered.own entered.types entered.outer entered.instances;
+      exact = λ asks own outer named table h d f u.
+          exactly_begin asks own outer named table _ c.args.known.now _ c.args.body.now h d f u entered.types entered.outer entered.instances;
     }
 
 pub add_decls-loop-decl-preserved : goal.add_decls-loop-decl-preserved
@@ -156,6 +167,11 @@ add_decls-loop-decl-preserved t c =
           decls_more asks own outer _ ns table _ _ _ _ l c.add_decl.new.known c.add_decl.new.body
           (λ d. done.judged d asks l.b (own ∷ outer) ns (table ++ l.more) l.is)
           (done.added asks l.b (own ∷ outer) ns (table ++ l.more) l.is);
+      exact = λ asks own outer named table h d f u.
+          let l = exactly_at asks own outer named table c.args.decls.now c.loop-decl.known c.loop-decl.body c.loop-decl.decl-index c.decl-item.result
+          c.loop-decl-test.true c.decl-item.is (c.loop-decl.invariant.exact asks own outer named table h d f u) in
+          exactly_more asks own outer named table _ _ _ _ _ l c.add_decl.new.known c.add_decl.new.body
+          (done.exact asks l.b (own ∷ outer) named l.new l.is l.usual.0);
     }
 
 pub add_decls-returns-in_err-add_decl-clause-judged : goal.add_decls-returns-in_err-add_decl-clause-judged
@@ -193,7 +209,7 @@ add_decls-returns-clause-outer t c =
 pub type_facts-returns-in_err-add_decls-in-Component-clause-judged : goal.type_facts-returns-in_err-add_decls-in-Component-clause-judged
 type_facts-returns-in_err-add_decls-in-Component-clause-judged t c = λ d own outer here names table s.
     let fresh = subst (λ r. IsFresh true r) (sym c.new-body.ensures.role)
-    (refl, λ es ids. (c.new.ensures.imported es ids, c.new.ensures.exported es ids)) in
+    (refl, λ es ids. (c.new.ensures.imported es ids, c.new.ensures.exported es ids), c.new.ensures.exposed) in
     rw (c.in-Component.is, shown_component c.in-Component.decls)
     (passed_on _ _ c.from_residual.ensures.1
     (rw c.deref.ensures.value at
@@ -214,7 +230,7 @@ type_facts-returns-in-Func-clause-kept t c = λ own outer here names table s.
 pub type_facts-returns-in_ok-add_decls-in-Component-clause-judged : goal.type_facts-returns-in_ok-add_decls-in-Component-clause-judged
 type_facts-returns-in_ok-add_decls-in-Component-clause-judged t c = λ d own outer here names table s.
     let fresh = subst (λ r. IsFresh true r) (sym c.new-body.ensures.role)
-    (refl, λ es ids. (c.new.ensures.imported es ids, c.new.ensures.exported es ids)) in
+    (refl, λ es ids. (c.new.ensures.imported es ids, c.new.ensures.exported es ids), c.new.ensures.exposed) in
     rw (c.in-Component.is, shown_component c.in-Component.decls)
     (rw c.deref.ensures.value at
     ((c.in_ok-add_decls-in-Component.ensures {u = tt}).judged d true own outer here names table s c.new-body.ensures.empty fresh))
@@ -222,7 +238,7 @@ type_facts-returns-in_ok-add_decls-in-Component-clause-judged t c = λ d own out
 pub type_facts-returns-in_ok-add_decls-in-Component-clause-size : goal.type_facts-returns-in_ok-add_decls-in-Component-clause-size
 type_facts-returns-in_ok-add_decls-in-Component-clause-size t c = λ own outer here names table s.
     let fresh = subst (λ r. IsFresh true r) (sym c.new-body.ensures.role)
-    (refl, λ es ids. (c.new.ensures.imported es ids, c.new.ensures.exported es ids)) in
+    (refl, λ es ids. (c.new.ensures.imported es ids, c.new.ensures.exported es ids), c.new.ensures.exposed) in
     rw (c.in-Component.is, shown_component c.in-Component.decls)
     (ap (λ g. g.size) c.new-in-Component.ensures
     ∙ (rw c.deref.ensures.value at
@@ -231,7 +247,7 @@ type_facts-returns-in_ok-add_decls-in-Component-clause-size t c = λ own outer h
 pub type_facts-returns-in_ok-add_decls-in-Component-clause-kept : goal.type_facts-returns-in_ok-add_decls-in-Component-clause-kept
 type_facts-returns-in_ok-add_decls-in-Component-clause-kept t c = λ own outer here names table s.
     let fresh = subst (λ r. IsFresh true r) (sym c.new-body.ensures.role)
-    (refl, λ es ids. (c.new.ensures.imported es ids, c.new.ensures.exported es ids)) in
+    (refl, λ es ids. (c.new.ensures.imported es ids, c.new.ensures.exported es ids), c.new.ensures.exposed) in
     let j = rw c.deref.ensures.value at
     ((c.in_ok-add_decls-in-Component.ensures {u = tt}).added true own outer here names table s c.new-body.ensures.empty fresh) in
     let ds = in_order (map shown_decl_node c.in-Component.decls.items) in
@@ -245,7 +261,7 @@ type_facts-returns-in_ok-add_decls-in-Component-clause-kept t c = λ own outer h
 pub type_facts-returns-in_ok-add_decls-in-Instance-clause-size : goal.type_facts-returns-in_ok-add_decls-in-Instance-clause-size
 type_facts-returns-in_ok-add_decls-in-Instance-clause-size t c = λ own outer here names table s.
     let fresh = subst (λ r. IsFresh false r) (sym c.new-body-in-Instance.ensures.role)
-    (refl, c.new-in-Instance.ensures.refers, c.new-in-Instance.ensures.uses) in
+    (refl, c.new-in-Instance.ensures.refers, c.new-in-Instance.ensures.uses, c.new-in-Instance.ensures.any) in
     let j = rw c.deref-in-Instance.ensures.value at
     ((c.in_ok-add_decls-in-Instance.ensures {u = tt}).added false own outer here names table s c.new-body-in-Instance.ensures.empty fresh) in
     rw (c.in-Instance.is, shown_instance c.in-Instance.decls)
@@ -254,7 +270,7 @@ type_facts-returns-in_ok-add_decls-in-Instance-clause-size t c = λ own outer he
 pub type_facts-returns-in_ok-add_decls-in-Instance-clause-kept : goal.type_facts-returns-in_ok-add_decls-in-Instance-clause-kept
 type_facts-returns-in_ok-add_decls-in-Instance-clause-kept t c = λ own outer here names table s.
     let fresh = subst (λ r. IsFresh false r) (sym c.new-body-in-Instance.ensures.role)
-    (refl, c.new-in-Instance.ensures.refers, c.new-in-Instance.ensures.uses) in
+    (refl, c.new-in-Instance.ensures.refers, c.new-in-Instance.ensures.uses, c.new-in-Instance.ensures.any) in
     let done = c.in_ok-add_decls-in-Instance.ensures {u = tt} in
     let j = rw c.deref-in-Instance.ensures.value at (done.added false own outer here names table s c.new-body-in-Instance.ensures.empty fresh) in
     let ds = in_order (map shown_decl_node c.in-Instance.decls.items) in
@@ -262,3 +278,122 @@ type_facts-returns-in_ok-add_decls-in-Instance-clause-kept t c = λ own outer he
     (ok_by c.instance_type.result (λ g k. declared_more table (here ∷ names) c.instance_type.new.known g (facts (instance_type ds) own outer) j.more k)
     (c.instance_type.ensures.kept (id_at (own ∷ outer)) (after_decls ds (own ∷ outer) empty_body) here names (table ++ j.more) j.instances_are
     (s.depth_is ∙ ap length (sym done.outer)) j.role_is))
+
+pub add_decls-returns-in_err-add_decl-clause-refused : goal.add_decls-returns-in_err-add_decl-clause-refused
+add_decls-returns-in_err-add_decl-clause-refused t c = λ asks own outer named table h d f u.
+    let l = exactly_at asks own outer named table c.args.decls.now c.loop-decl.known c.loop-decl.body c.loop-decl.decl-index c.decl-item.result
+    c.loop-decl-test.true c.decl-item.is (c.loop-decl.invariant.exact asks own outer named table h d f u) in
+    refused_on _ _ c.from_residual-in_err-add_decl.ensures.1
+    (λ e. exactly_refused asks own outer named table _ _ _ _ _ l
+    ((c.in_err-add_decl.ensures {u = tt}).refused asks l.b (own ∷ outer) named l.new l.is l.usual.0 e))
+
+pub add_decls-returns-clause-exact : goal.add_decls-returns-clause-exact
+add_decls-returns-clause-exact t c = λ asks own outer named table h d f u.
+    exactly_judged asks own outer named table _ _ _
+    (exactly_last asks own outer named table c.args.decls.now c.loop-decl.known c.loop-decl.body c.loop-decl.decl-index c.loop-decl-test.false
+    (c.loop-decl.invariant.exact asks own outer named table h d f u))
+    c.leave.new.self c.leave.ensures.instances
+
+pub add_decl-returns-in_ok-facts-in-Core-clause-exact : goal.add_decl-returns-in_ok-facts-in-Core-clause-exact
+add_decl-returns-in_ok-facts-in-Core-clause-exact t c = λ asks b outer named table h usual.
+    let k = c.args.known.now in
+    let o = c.args.body.now in
+    rw (c.in-Core.is, shown_core c.in-Core.ty)
+    (on_by c.add_core_type.result
+    (λ types. body_as asks k o b outer named table h c.add_core_type.new.known c.add_core_type.new.body c.add_core_type.ensures.outer
+    c.add_core_type.ensures.role
+    (with_core_facts b (core_facts (shown_core_node c.in-Core.ty) b.own ∷ [])) types c.add_core_type.ensures.instances refl refl refl)
+    c.add_core_type.ensures.types)
+
+pub add_decl-returns-in_ok-facts-in-Type-clause-exact : goal.add_decl-returns-in_ok-facts-in-Type-clause-exact
+add_decl-returns-in_ok-facts-in-Type-clause-exact t c = λ asks b outer named table h usual.
+    let done = c.in_ok-facts-in-Type.ensures {u = tt} in
+    let f = facts (shown_type_node c.in-Type.ty) b.own outer in
+    rw (c.in-Type.is, shown_declared c.in-Type.ty)
+    (let d = done.exact b.own outer (names_of b.exports ++ named) table h.known h.depth_is (rw (c.in-Type.is, shown_declared c.in-Type.ty) at usual) in
+    on_by c.add_type.result
+    (λ types. body_declared_exactly asks c.args.known.now c.args.body.now b outer named table h _ c.add_type.new.known c.add_type.new.body _ f d done.own
+    done.outer types c.add_type.ensures.outer c.add_type.ensures.instances c.add_type.ensures.role)
+    c.add_type.ensures.types)
+
+pub add_decl-returns-in-TypeAlias-clause-exact : goal.add_decl-returns-in-TypeAlias-clause-exact
+add_decl-returns-in-TypeAlias-clause-exact t c = λ asks b outer named table h usual.
+    let count = c.in-TypeAlias.count in
+    let i = c.in-TypeAlias.index in
+    let k = c.args.known.now in
+    let f = named_in (λ o. o.types) (b.own ∷ outer) count i in
+    let R = IsKeptExactly table (id_at (b.own ∷ outer)) ((names_of b.exports ++ named) ++ names_in table) in
+    let zip : AllZip R (option_to_list c.type_named-facts.result) (option_to_list f) =
+    subst (λ o. AllZip R (option_to_list o) (option_to_list f)) (sym c.type_named-facts.ensures.facts)
+    (alias_zip R (types_in k) (b.own ∷ outer) count i h.known.types_are) in
+    rw (c.in-TypeAlias.is, shown_alias count i)
+    (on_by c.add_named.result
+    (λ types. body_alias asks k c.args.body.now b outer named table h c.add_named.new.known c.add_named.new.body c.add_named.ensures.outer
+    c.add_named.ensures.instances c.add_named.ensures.role c.type_named-facts.result f zip types)
+    c.add_named.ensures.types)
+
+pub add_decl-returns-in-CoreTypeAlias-clause-exact : goal.add_decl-returns-in-CoreTypeAlias-clause-exact
+add_decl-returns-in-CoreTypeAlias-clause-exact t c = λ asks b outer named table h usual.
+    let count = c.in-CoreTypeAlias.count in
+    let i = c.in-CoreTypeAlias.index in
+    rw (c.in-CoreTypeAlias.is, shown_core_alias count i)
+    (on_by c.add_core_named.result
+    (λ types. body_as asks c.args.known.now c.args.body.now b outer named table h c.add_core_named.new.known c.add_core_named.new.body
+    c.add_core_named.ensures.outer c.add_core_named.ensures.role
+    (with_core_facts b (option_to_list (named_in (λ o. o.core_types) (b.own ∷ outer) count i))) types c.add_core_named.ensures.instances refl refl refl)
+    c.add_core_named.ensures.types)
+
+pub add_decl-returns-in-Import-clause-exact : goal.add_decl-returns-in-Import-clause-exact
+add_decl-returns-in-Import-clause-exact t c = λ asks b outer named table h usual.
+    let name = string_bytes c.in-Import.name in
+    let to = c.in-Import.to in
+    rw (c.in-Import.is, shown_import c.in-Import.name c.in-Import.to)
+    (on_by c.add_import.result
+    (λ n. exactly_now asks c.args.known.now c.add_import.new.body _ outer named (id_at (b.own ∷ outer)) table n)
+    (c.add_import.ensures.exact asks b outer named table h (rw (c.in-Import.is, shown_import c.in-Import.name c.in-Import.to) at usual)))
+
+pub add_decl-returns-in-Export-clause-exact : goal.add_decl-returns-in-Export-clause-exact
+add_decl-returns-in-Export-clause-exact t c = λ asks b outer named table h usual.
+    rw (c.in-Export.is, shown_export c.in-Export.name c.in-Export.to)
+    (on_by c.add_export.result
+    (λ n. exactly_now asks c.add_export.new.known c.add_export.new.body _ outer named (id_at (b.own ∷ outer)) table n)
+    (c.add_export.ensures.exact asks b outer named table h))
+
+pub type_facts-returns-in-Defined-clause-exact : goal.type_facts-returns-in-Defined-clause-exact
+type_facts-returns-in-Defined-clause-exact t c = λ own outer named table h d usual.
+    let u = rw (c.in-Defined.is, shown_values c.in-Defined.ty) at usual in
+    let f = facts (defined (shown_defined c.in-Defined.ty)) own outer in
+    rw (c.in-Defined.is, shown_values c.in-Defined.ty)
+    (ok_by c.defined_facts.result
+    (λ g m. declared_values c.args.known.now own outer named table h g f (members (shown_defined c.in-Defined.ty)) u m refl refl refl)
+    c.defined_facts.ensures.marks)
+
+pub type_facts-returns-in-Func-clause-exact : goal.type_facts-returns-in-Func-clause-exact
+type_facts-returns-in-Func-clause-exact t c = λ own outer named table h d usual.
+    let u = rw (c.in-Func.is, shown_function c.in-Func.ty) at usual in
+    let f = facts (function c.in-Func.ty) own outer in
+    rw (c.in-Func.is, shown_function c.in-Func.ty)
+    (ok_by c.function_facts.result
+    (λ g m. declared_values c.args.known.now own outer named table h g f (signature_members c.in-Func.ty) u m refl refl refl)
+    c.function_facts.ensures.marks)
+
+pub type_facts-returns-in_ok-add_decls-in-Component-clause-exact : goal.type_facts-returns-in_ok-add_decls-in-Component-clause-exact
+type_facts-returns-in_ok-add_decls-in-Component-clause-exact t c = λ own outer named table h d usual.
+    let u = rw (c.in-Component.is, shown_component c.in-Component.decls) at usual in
+    let fresh = subst (λ r. IsFresh true r) (sym c.new-body.ensures.role)
+    (refl, λ es ids. (c.new.ensures.imported es ids, c.new.ensures.exported es ids), c.new.ensures.exposed) in
+    let ds = in_order (map shown_decl_node c.in-Component.decls.items) in
+    let j = (rw c.deref.ensures.value at
+    ((c.in_ok-add_decls-in-Component.ensures {u = tt}).exact true own outer named table h d fresh)) u in
+    rw (c.in-Component.is, shown_component c.in-Component.decls, c.new-in-Component.ensures, c.nothing.ensures)
+    (declared_component true _ _ (after_decls ds (own ∷ outer) empty_body) own outer named table _ (facts (component_type ds) own outer) j refl refl refl refl)
+
+pub type_facts-returns-in_err-add_decls-in-Component-clause-refused : goal.type_facts-returns-in_err-add_decls-in-Component-clause-refused
+type_facts-returns-in_err-add_decls-in-Component-clause-refused t c = λ own outer named table h d usual.
+    let u = rw (c.in-Component.is, shown_component c.in-Component.decls) at usual in
+    let fresh = subst (λ r. IsFresh true r) (sym c.new-body.ensures.role)
+    (refl, λ es ids. (c.new.ensures.imported es ids, c.new.ensures.exported es ids), c.new.ensures.exposed) in
+    rw (c.in-Component.is, shown_component c.in-Component.decls)
+    (refused_on _ _ c.from_residual.ensures.1
+    ((rw c.deref.ensures.value at
+    ((c.in_err-add_decls-in-Component.ensures {u = tt}).refused true own outer named table h d fresh)) u))

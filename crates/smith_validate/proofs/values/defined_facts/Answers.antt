@@ -7,10 +7,11 @@ use Rattle.smith_validity.specs.Sizes.{size_bound, summed}
 use Rattle.smith_syntax.specs.Shown.{shown_defined}
 use Rattle.smith_syntax.specs.declared.types.DefinedType.TheVariants as defined
 use Rattle.smith_validate.specs.Kept.{capped}
-use Rattle.smith_validate.specs.Values.{CoversValues, defined_plain}
+use Rattle.smith_validate.specs.Marks.{both, no_needs}
+use Rattle.smith_validate.specs.Values.{CoversValues, defined_plain, marks_from, value_marks}
 use Rattle.smith_validate.proofs.Judging.{passed_on, refuted_at}
 use Rattle.smith_validate.proofs.Sums.{case_types, field_types, tuple_types}
-use Rattle.smith_validate.proofs.Valued.{nominal_kept, plain_kept}
+use Rattle.smith_validate.proofs.Valued.{marks_append, nominal_kept, nominal_marks, plain_kept, plain_marks}
 use Rattle.smith_validate.proofs.values.defined_facts.Goals as goal
 
 pub returns-in_err-values-in-Record-clause-judged : goal.returns-in_err-values-in-Record-clause-judged
@@ -133,3 +134,53 @@ returns-in-Result-clause-kept c = λ id types names table are.
     rw (c.in-Result.is, c.plain_type-in-Result.ensures)
     (plain_kept table names v.needs v.size (defined_plain id types (shown_defined (defined.Result c.in-Result.ty))) refl
     (c.add_maybe.ensures.needs types names table (option_to_list c.in-Result.ty.ok_ty) are ok) refl)
+
+pub returns-in_ok-values-in-Record-clause-marks : goal.returns-in_ok-values-in-Record-clause-marks
+returns-in_ok-values-in-Record-clause-marks c =
+    let xs = c.in-Record.ty.fields.items in
+    let v = c.in_ok-values-in-Record.values in
+    rw (c.in-Record.is, c.nominal_type.ensures)
+    (nominal_marks v.needs v.size _
+    (subst (λ ts. v.needs ≡ marks_from c.args.scope.now.types.items no_needs ts) (append-nil (flat_map (λ p. option_to_list (Some p.1)) xs) ∙ field_types xs)
+    (rw c.deref.ensures.value at (c.in_ok-values-in-Record.ensures {u = tt}).marks)))
+
+pub returns-in_ok-values-in-Variant-clause-marks : goal.returns-in_ok-values-in-Variant-clause-marks
+returns-in_ok-values-in-Variant-clause-marks c =
+    let xs = c.in-Variant.ty.cases.items in
+    let v = c.in_ok-values-in-Variant.values in
+    rw (c.in-Variant.is, c.nominal_type-in-Variant.ensures)
+    (nominal_marks v.needs v.size _
+    (subst (λ ts. v.needs ≡ marks_from c.args.scope.now.types.items no_needs ts) (append-nil (flat_map (λ p. option_to_list p.1) xs) ∙ case_types xs)
+    (rw c.deref-in-Variant.ensures.value at (c.in_ok-values-in-Variant.ensures {u = tt}).marks)))
+
+pub returns-in_ok-values-in-Tuple-clause-marks : goal.returns-in_ok-values-in-Tuple-clause-marks
+returns-in_ok-values-in-Tuple-clause-marks c =
+    let xs = c.in-Tuple.ty.fields.items in
+    let v = c.in_ok-values-in-Tuple.values in
+    rw (c.in-Tuple.is, c.plain_type-in-Tuple.ensures)
+    (plain_marks v.needs v.size _
+    (subst (λ ts. v.needs ≡ marks_from c.args.scope.now.types.items no_needs ts) (append-nil (flat_map (λ v. option_to_list (Some v)) xs) ∙ tuple_types xs)
+    (rw c.deref-in-Tuple.ensures.value at (c.in_ok-values-in-Tuple.ensures {u = tt}).marks)))
+
+pub returns-in-List-clause-marks : goal.returns-in-List-clause-marks
+returns-in-List-clause-marks c =
+    let v = c.add.result in
+    rw (c.in-List.is, c.plain_type-in-List.ensures)
+    (plain_marks v.needs v.size _
+    (c.add.ensures.marks ∙ ap (λ n. both n (value_marks c.args.scope.now.types.items c.in-List.ty.elem_ty)) c.new-in-List.ensures.needs))
+
+pub returns-in-Option-clause-marks : goal.returns-in-Option-clause-marks
+returns-in-Option-clause-marks c =
+    let v = c.add-in-Option.result in
+    rw (c.in-Option.is, c.plain_type-in-Option.ensures)
+    (plain_marks v.needs v.size _
+    (c.add-in-Option.ensures.marks ∙ ap (λ n. both n (value_marks c.args.scope.now.types.items c.in-Option.ty.inner_ty)) c.new-in-Option.ensures.needs))
+
+pub returns-in-Result-clause-marks : goal.returns-in-Result-clause-marks
+returns-in-Result-clause-marks c =
+    let v = c.add_maybe.result in
+    let kept = c.args.scope.now.types.items in
+    rw (c.in-Result.is, c.plain_type-in-Result.ensures)
+    (plain_marks v.needs v.size _
+    (marks_append kept c.add_maybe-ok.result.needs v.needs (option_to_list c.in-Result.ty.ok_ty) (option_to_list c.in-Result.ty.err_ty)
+    (c.add_maybe-ok.ensures.marks ∙ ap (λ n. marks_from kept n (option_to_list c.in-Result.ty.ok_ty)) c.new-in-Result.ensures.needs) c.add_maybe.ensures.marks))

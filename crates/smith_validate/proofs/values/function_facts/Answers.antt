@@ -5,10 +5,11 @@ use Rattle.smith_syntax.specs.Signature.{named}
 use Rattle.smith_validity.specs.Facts.{sizes}
 use Rattle.smith_validity.specs.Sizes.{size_bound, summed}
 use Rattle.smith_validate.specs.Kept.{capped}
-use Rattle.smith_validate.specs.Values.{CoversValues, function_plain}
+use Rattle.smith_validate.specs.Marks.{no_needs}
+use Rattle.smith_validate.specs.Values.{CoversValues, function_plain, marks_from}
 use Rattle.smith_validate.proofs.Judging.{passed_on, refuted_at}
 use Rattle.smith_validate.proofs.Sums.{field_types}
-use Rattle.smith_validate.proofs.Valued.{plain_kept}
+use Rattle.smith_validate.proofs.Valued.{plain_kept, plain_marks}
 use Rattle.smith_validate.proofs.values.function_facts.Goals as goal
 
 pub returns-in_err-values-clause-judged : goal.returns-in_err-values-clause-judged
@@ -42,3 +43,12 @@ returns-clause-kept c = λ id types names table are.
     (plain_kept table names v.needs v.size (function_plain id types (record { params = map named ps; result = c.ty.inside.result })) refl
     (subst (λ ts. CoversValues types names v.needs (ts ++ option_to_list c.ty.inside.result)) (field_types ps)
     (rw c.deref.ensures.value at ((c.in_ok-values.ensures {u = tt}).needs types names table are))) refl)
+
+pub returns-clause-marks : goal.returns-clause-marks
+returns-clause-marks c =
+    let ps = c.ty.inside.params.items in
+    let v = c.in_ok-values.values in
+    rw (← c.ty.view_is, c.plain_type.ensures)
+    (plain_marks v.needs v.size _
+    (subst (λ ts. v.needs ≡ marks_from c.args.scope.now.types.items no_needs (ts ++ option_to_list c.ty.inside.result)) (field_types ps)
+    (rw c.deref.ensures.value at (c.in_ok-values.ensures {u = tt}).marks)))

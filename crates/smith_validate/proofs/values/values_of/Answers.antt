@@ -1,11 +1,14 @@
-use Rattle.std.proofs.Common.{◌+◌, map, sum, take}
+use Rattle.std.proofs.Common.{◌+◌, ◌∙◌, ap, map, sum, take}
+use Rattle.std.proofs.lemmas.List.{take_all}
 use Rattle.std.specs.List.{flat_map}
 use Rattle.std.specs.Option.{option_to_list}
 use Rattle.smith_validity.specs.Facts.{sizes}
 use Rattle.smith_validity.specs.Sizes.{value_size}
+use Rattle.smith_validate.specs.Marks.{no_needs}
+use Rattle.smith_validate.specs.Values.{marks_from}
 use Rattle.smith_validate.proofs.Sizes.{capped_more}
 use Rattle.smith_validate.proofs.Sums.{sum_all, sum_for, sum_more}
-use Rattle.smith_validate.proofs.Valued.{members_all, members_more}
+use Rattle.smith_validate.proofs.Valued.{marks_more, members_all, members_more}
 use Rattle.smith_validate.proofs.values.values_of.Goals as goal
 
 pub loop-item-preserved : goal.loop-item-preserved
@@ -27,6 +30,9 @@ loop-item-preserved g c =
           (rw (← c.value.ensures)
           (c.add_some-values.ensures.needs types names table (flat_map (λ y. option_to_list (g.T.Valued.value y)) (take i xs)) are
           (c.loop-item.invariant.needs types names table are)));
+      marks = marks_more c.args.scope.now.types.items (λ y. option_to_list (g.T.Valued.value y)) xs i x c.loop-item.values.needs
+          c.add_some-values.result.needs c.loop-item-test.true c.item-item.is c.loop-item.invariant.marks
+          (c.add_some-values.ensures.marks ∙ ap (λ o. marks_from c.args.scope.now.types.items c.loop-item.values.needs (option_to_list o)) c.value.ensures);
     }
 
 pub returns-clause-size : goal.returns-clause-size
@@ -38,3 +44,9 @@ pub returns-clause-needs : goal.returns-clause-needs
 returns-clause-needs g c = λ types names table are.
     members_all types names (λ y. option_to_list (g.T.Valued.value y)) c.args.items.now c.loop-item.item-index c.loop-item.values.needs c.loop-item-test.false
     (c.loop-item.invariant.needs types names table are)
+
+pub returns-clause-marks : goal.returns-clause-marks
+returns-clause-marks g c =
+    c.loop-item.invariant.marks
+    ∙ ap (λ ys. marks_from c.args.scope.now.types.items no_needs (flat_map (λ y. option_to_list (g.T.Valued.value y)) ys))
+    (take_all c.loop-item.item-index c.args.items.now c.loop-item-test.false)

@@ -5,7 +5,8 @@ use Rattle.smith_validity.specs.Facts.{FactScope, Facts, Id, sizes}
 use Rattle.smith_validity.specs.Sizes.{summed}
 use Rattle.smith_validate.specs.Instances.{AreKept, Exports}
 use Rattle.smith_validate.specs.Kept.{capped, kept_in, kept_of}
-use Rattle.smith_validate.specs.Values.{CoversValues}
+use Rattle.smith_validate.specs.Marks.{no_needs}
+use Rattle.smith_validate.specs.Values.{CoversValues, marks_from}
 use Rattle.smith_validate.proofs.values.values_of.Given as goal
 
 abbrev pub invariant-loop-item : goal.invariant-loop-item
@@ -14,4 +15,6 @@ invariant-loop-item g l = record {
       → l.values.size ≡ capped (summed (sizes own.types) (flat_map (λ i. option_to_list (g.T.Valued.value i)) (take l.item-index l.items)));
   needs : (types : List Facts) (names : List (List Id)) (table : List Exports) → AreKept table names l.scope.types.items types
       → CoversValues types names l.values.needs (flat_map (λ i. option_to_list (g.T.Valued.value i)) (take l.item-index l.items));
+  marks : l.values.needs
+      ≡ marks_from l.scope.types.items no_needs (flat_map (λ i. option_to_list (g.T.Valued.value i)) (take l.item-index l.items));
 }

@@ -1,15 +1,18 @@
 use Rattle.std.proofs.Common.{◌∷◌, ap, sym, ◌∙◌, subst, refl, reverse}
 use Rattle.std.specs.Prelude.{slice_get}
+use Rattle.smith_validate.specs.Exact.{IsExposed}
+use Rattle.smith_validate.specs.Opening.{AreHalf, IsOpenable}
 use Rattle.smith_validate.specs.Exposing.{IsGoal, IsPending, named_after, number_of, use_in, uses_of}
 use Rattle.smith_validate.specs.declared.instances.Exposed.{Exposed}
 use Rattle.smith_validate.specs.declared.instances.Use.{Use}
 use Rattle.smith_validate.specs.declared.instances.Use.TheVariants.{Instance, Equal}
 use Rattle.smith_validate.proofs.Exposed.{named_one, next_use, reverse_push, settled_gains, settled_one, use_ended, use_found, use_missing}
+use Rattle.smith_validate.proofs.Opened.{equal_done, instance_done, next_opens, set_has, set_more, set_only}
 use Rattle.smith_validate.proofs.Tables.{settled_sub}
 use Rattle.smith_validate.proofs.instances.Exposed.goes_on.Goals as goal
 
-pub returns-in-Some : goal.returns-in-Some
-returns-in-Some c = λ table last before ts on.
+pub returns-in-Some-clause-met : goal.returns-in-Some-clause-met
+returns-in-Some-clause-met c = λ table last before ts on.
     let all = c.args.all.now in
     let G = IsGoal table last before in
     let us = reverse c.args.rest.now.items in
@@ -18,13 +21,13 @@ returns-in-Some c = λ table last before ts on.
     let next = next_use table all G c.args.used c.in-Some.next c.args.done us on.named found.0 on.pending in
     let pushed = reverse_push c.args.rest.now.items c.push.new.self.items (c.args.used, c.in-Some.more) (c.in_ok-push.ensures {u = tt}).items
     ∙ ap (λ k. (c.args.used, k) ∷ us) found.1 in
-    c.opens.ensures table next.then last before ts (settled_sub table c.args.self.now on.named next.then next.grows on.settled)
+    c.opens.ensures.met table next.then last before ts (settled_sub table c.args.self.now on.named next.then next.grows on.settled)
     (rw c.within.ensures next.known) (rw c.within.ensures next.within)
     (rw c.within.ensures (λ met. subst (λ vs. IsPending table all G vs (named_after table (use_in c.args.used c.in-Some.next) next.then))
     (sym pushed) (next.goes_on met)))
 
-pub returns-in_ok-insert-in-Instance : goal.returns-in_ok-insert-in-Instance
-returns-in_ok-insert-in-Instance c = λ table last before ts on _.
+pub returns-in_ok-insert-in-Instance-clause-met : goal.returns-in_ok-insert-in-Instance-clause-met
+returns-in_ok-insert-in-Instance-clause-met c = λ table last before ts on _.
     let all = c.args.all.now in
     let G = IsGoal table last before in
     let n = c.in-Instance.number in
@@ -40,8 +43,8 @@ returns-in_ok-insert-in-Instance c = λ table last before ts on _.
       pending = end.pending;
     }
 
-pub returns-in_ok-insert-in-Equal : goal.returns-in_ok-insert-in-Equal
-returns-in_ok-insert-in-Equal c = λ table last before ts on _.
+pub returns-in_ok-insert-in-Equal-clause-met : goal.returns-in_ok-insert-in-Equal-clause-met
+returns-in_ok-insert-in-Equal-clause-met c = λ table last before ts on _.
     let all = c.args.all.now in
     let G = IsGoal table last before in
     let n = c.in-Equal.number in
@@ -56,3 +59,40 @@ returns-in_ok-insert-in-Equal c = λ table last before ts on _.
           (settled_sub table c.args.self.now on.named end.then end.grows on.settled) end.known end.within;
       pending = end.pending;
     }
+
+pub returns-in-Some-clause-exact : goal.returns-in-Some-clause-exact
+returns-in-Some-clause-exact c = λ table last before exact distinct on.
+    let all = c.args.all.now in
+    let us = reverse c.args.rest.now.items in
+    let found = use_found (slice_get (uses_of all (number_of c.args.used)) c.args.done) c.args.done c.in-Some.next c.in-Some.more
+    (c.in-Some.next, c.in-Some.more) refl (rw c.of.ensures at c.in-Some.ensures) in
+    let next = next_opens table all exact last before c.args.self.now distinct c.args.used c.in-Some.next c.args.done us on.named found.0 on.exposed on.half in
+    let pushed = reverse_push c.args.rest.now.items c.push.new.self.items (c.args.used, c.in-Some.more) (c.in_ok-push.ensures {u = tt}).items
+    ∙ ap (λ k. (c.args.used, k) ∷ us) found.1 in
+    let v = use_in c.args.used c.in-Some.next in
+    c.opens.ensures.exact table next.named last before exact
+    (subst (λ vs. IsExposed table c.args.self.now vs next.named) (sym pushed) next.exposed)
+    (rw c.within.ensures (subst (λ vs. IsOpenable table c.args.self.now vs v) (sym pushed) next.openable)) (rw c.within.ensures next.met)
+    (rw c.within.ensures (subst (λ vs. AreHalf table all last before c.args.self.now vs (named_after table v next.named)) (sym pushed) next.half))
+
+pub returns-in_ok-insert-in-Instance-clause-exact : goal.returns-in_ok-insert-in-Instance-clause-exact
+returns-in_ok-insert-in-Instance-clause-exact c = λ table last before exact distinct on.
+    let all = c.args.all.now in
+    let n = c.in-Instance.number in
+    let us = reverse c.args.rest.now.items in
+    let none = use_missing (slice_get (uses_of all (number_of c.args.used)) c.args.done) c.args.done (rw c.of.ensures at c.in_default.ensures) in
+    let new : Exposed = record { named = c.insert.new.self; settled = c.args.self.now.settled } in
+    let up = (c.in_ok-insert-in-Instance.ensures {u = tt}).updates in
+    let old = c.args.self.now.named in
+    instance_done table all exact last before c.args.self.now new (set_more old new.named n up) n c.args.done us on.named
+    (rw c.in-Instance.is at none) (set_has old new.named n up) (set_only old new.named n up)
+    (rw c.in-Instance.is at on.exposed) (rw c.in-Instance.is at on.half)
+
+pub returns-in_ok-insert-in-Equal-clause-exact : goal.returns-in_ok-insert-in-Equal-clause-exact
+returns-in_ok-insert-in-Equal-clause-exact c = λ table last before exact distinct on.
+    let all = c.args.all.now in
+    let n = c.in-Equal.number in
+    let us = reverse c.args.rest.now.items in
+    let new : Exposed = record { named = c.args.self.now.named; settled = c.insert-in-Equal.new.self } in
+    equal_done table all exact last before c.args.self.now new (λ m h. h) n c.args.done us on.named (λ m h. h)
+    (rw c.in-Equal.is at on.exposed) (rw c.in-Equal.is at on.half)

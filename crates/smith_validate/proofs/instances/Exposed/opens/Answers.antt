@@ -1,14 +1,16 @@
 use Rattle.std.proofs.Common.{sym, ◌∙◌, subst, reverse}
 use Rattle.smith_validate.specs.Exposing.{IsGoal, IsPending, named_after}
+use Rattle.smith_validate.specs.Opening.{IsMidway}
 use Rattle.smith_validate.specs.declared.instances.Use.{Use}
 use Rattle.smith_validate.specs.declared.instances.Use.TheVariants.{Instance, Equal}
 use Rattle.smith_validate.proofs.Exposed.{after_sub, equal_opened, instance_opened, reverse_push, within_met}
 use Rattle.smith_validate.proofs.Names.{or_left}
+use Rattle.smith_validate.proofs.Opened.{equal_half, equal_known, equal_not, instance_half, instance_known}
 use Rattle.smith_validate.proofs.Tables.{settled_sub}
 use Rattle.smith_validate.proofs.instances.Exposed.opens.Goals as goal
 
-pub returns-in_ok-push-in-Instance : goal.returns-in_ok-push-in-Instance
-returns-in_ok-push-in-Instance c =
+pub returns-in_ok-push-in-Instance-clause-met : goal.returns-in_ok-push-in-Instance-clause-met
+returns-in_ok-push-in-Instance-clause-met c =
     rw (c.in-Instance.is)
     (λ table named last before ts s h w go _.
     let n = c.in-Instance.number in
@@ -21,8 +23,8 @@ returns-in_ok-push-in-Instance c =
           (instance_opened table all (IsGoal table last before) n named (reverse c.args.rest.now.items) ts h w go);
     })
 
-pub returns-else-not-contains : goal.returns-else-not-contains
-returns-else-not-contains c =
+pub returns-else-not-contains-clause-met : goal.returns-else-not-contains-clause-met
+returns-else-not-contains-clause-met c =
     rw (c.in-Instance.is)
     (λ table named last before ts s h w go _.
     let n = c.in-Instance.number in
@@ -34,8 +36,8 @@ returns-else-not-contains c =
       pending = go (within_met table u named is.1);
     })
 
-pub returns-in_ok-push-in-Equal : goal.returns-in_ok-push-in-Equal
-returns-in_ok-push-in-Equal c =
+pub returns-in_ok-push-in-Equal-clause-met : goal.returns-in_ok-push-in-Equal-clause-met
+returns-in_ok-push-in-Equal-clause-met c =
     rw (c.in-Equal.is)
     (λ table named last before ts s h w go _.
     let n = c.in-Equal.number in
@@ -48,3 +50,43 @@ returns-in_ok-push-in-Equal c =
           (equal_opened table all (IsGoal table last before) n named (reverse c.args.rest.now.items) ts h w
           (sym c.refers_to_own.ensures ∙ c.if-refers_to_own.false) go);
     })
+
+pub returns-in_ok-push-in-Instance-clause-exact : goal.returns-in_ok-push-in-Instance-clause-exact
+returns-in_ok-push-in-Instance-clause-exact c =
+    rw (c.in-Instance.is)
+    (λ table named last before exact x o met h.
+    let n = c.in-Instance.number in
+    let all = c.args.all.now in
+    let pushed = reverse_push c.args.rest.now.items c.push.new.self.items (Instance n, 0) (c.in_ok-push-in-Instance.ensures {u = tt}).items in
+    subst (λ us. IsMidway table all last before c.args.self.now us) (sym pushed)
+    (instance_half table all exact last before c.args.self.now (reverse c.args.rest.now.items) named x n o met h))
+
+pub returns-else-not-contains-clause-exact : goal.returns-else-not-contains-clause-exact
+returns-else-not-contains-clause-exact c =
+    rw (c.in-Instance.is)
+    (λ table named last before exact x o met h.
+    instance_known table c.args.all.now exact last before c.args.self.now (reverse c.args.rest.now.items) named x c.in-Instance.number
+    (sym (c.if-not-contains.ensures {u = tt})) h)
+
+pub returns-then-is_settled-clause-exact : goal.returns-then-is_settled-clause-exact
+returns-then-is_settled-clause-exact c =
+    rw (c.in-Equal.is)
+    (λ table named last before exact x o met h.
+    equal_known table c.args.all.now exact last before c.args.self.now (reverse c.args.rest.now.items) named x c.in-Equal.number h)
+
+pub returns-then-refers_to_own-clause-exact : goal.returns-then-refers_to_own-clause-exact
+returns-then-refers_to_own-clause-exact c =
+    rw (c.in-Equal.is)
+    (λ table named last before exact x o met h.
+    equal_not table c.args.all.now exact last before c.args.self.now (reverse c.args.rest.now.items) named x c.in-Equal.number o
+    (sym c.is_settled.ensures ∙ c.if-is_settled.false) (sym c.refers_to_own.ensures ∙ c.if-refers_to_own.true) met)
+
+pub returns-in_ok-push-in-Equal-clause-exact : goal.returns-in_ok-push-in-Equal-clause-exact
+returns-in_ok-push-in-Equal-clause-exact c =
+    rw (c.in-Equal.is)
+    (λ table named last before exact x o met h.
+    let n = c.in-Equal.number in
+    let all = c.args.all.now in
+    let pushed = reverse_push c.args.rest.now.items c.push-in-Equal.new.self.items (Equal n, 0) (c.in_ok-push-in-Equal.ensures {u = tt}).items in
+    subst (λ us. IsMidway table all last before c.args.self.now us) (sym pushed)
+    (equal_half table all exact last before c.args.self.now (reverse c.args.rest.now.items) named x n o met h))

@@ -1,0 +1,45 @@
+-- Entries of a section one by one, where what is kept is exact.
+use Rattle.std.proofs.Common.{◌≡◌, ℕ, ◌+◌, ◌<◌, ◌≤◌, true, List, [], ◌∷◌, map, length, get_or, sym, ◌∙◌, subst, refl}
+use Rattle.std.proofs.Math.ListN.{drop}
+use Rattle.smith_input.proofs.Rests.{drop_past, rest_at}
+use Rattle.smith_validate.proofs.Rows.{Row}
+
+-- What was judged, and what is left, with `at` before what is left.
+pub record RowExactly {B St : Type 0} (r : Row B St) (usual : List B → St → Type 0) (start : St) (all : List B) (T : St → Type 0) (rest : List B) : Type 0 where
+  pub at : St
+  pub is : T at
+  pub left : r.valid true all start → r.valid true rest at
+  pub usual_is : usual rest at
+  pub after_is : r.after all start ≡ r.after rest at
+
+module _ {B St : Type 0} (r : Row B St) (usual : List B → St → Type 0) (start : St) (all : List B) where
+  pub exact_all : (T : St → Type 0) → T start → usual all start → RowExactly r usual start all T all
+  exact_all T h u = record { at = start; is = h; left = λ p. p; usual_is = u; after_is = refl }
+
+  module _ (T : St → Type 0) (x : B) (rest : List B) (l : RowExactly r usual start all T (x ∷ rest)) where
+    pub exact_next : (U : St → Type 0) → U (r.next x l.at) → usual rest (r.next x l.at) → RowExactly r usual start all U rest
+    exact_next U u v = record {
+      at = r.next x l.at;
+      is = u;
+      left = λ q. ((r.same true x rest l.at).to (l.left q)).1;
+      usual_is = v;
+      after_is = l.after_is ∙ r.step x rest l.at;
+    }
+
+    pub exact_exit : ¬ (r.one true x l.at) → ¬ (r.valid true all start)
+    exact_exit n = λ q. n ((r.same true x rest l.at).to (l.left q)).0
+
+  pub exact_after : (T : St → Type 0) (l : RowExactly r usual start all T []) → r.after [] l.at ≡ l.at → T (r.after all start)
+  exact_after T l e = subst T (sym (l.after_is ∙ e)) l.is
+
+-- of a node
+module _ {A B St : Type 0} (r : Row B St) (usual : List B → St → Type 0) (shown : A → B) (start : St) (xs : List A) (T : St → Type 0) (i : ℕ) where
+  abbrev pub ExactFrom : Type 0
+  ExactFrom = RowExactly r usual start (map shown xs) T (map shown (drop i xs))
+
+  pub exact_at : (x : A) → i < length xs → x ≡ get_or xs i x → ExactFrom
+      → RowExactly r usual start (map shown xs) T (shown x ∷ map shown (drop (i + 1) xs))
+  exact_at x h e l = subst (λ ys. RowExactly r usual start (map shown xs) T (map shown ys)) (rest_at xs i x h e) l
+
+  pub exact_last : length xs ≤ i → ExactFrom → RowExactly r usual start (map shown xs) T []
+  exact_last h l = subst (λ ys. RowExactly r usual start (map shown xs) T (map shown ys)) (drop_past xs i h) l
