@@ -1,0 +1,142 @@
+-- Index spaces, and those that they become.
+use Rattle.std.proofs.Common.{◌≡◌, ℕ, zero, suc, List, [], ◌∷◌, ◌++◌, Option, None, Some, length, length-append, ap, sym, refl, subst, ◌∙◌, arith}
+use Rattle.std.proofs.Common.{⊎_elim, append-nil}
+use Rattle.std.proofs.lemmas.Option.{slice_get_within}
+use Rattle.std.specs.Prelude.{slice_get}
+use Rattle.smith_edit.specs.Renumbering.{Renumbering, entry_at, kept_index, new_index, with_entry}
+use Rattle.smith_edit.specs.declared.renumbering.Fate.{Fate}
+use Rattle.smith_edit.specs.declared.renumbering.Fate.TheVariants.{Kept, Changed, Removed}
+use Rattle.smith_edit.specs.declared.renumbering.Renumbered.{Renumbered}
+use Rattle.smith_edit.proofs.LowIndexes.{entry_or, get_more}
+
+pub get_still : {A : Type 0} (xs ys : List A) (i : ℕ) (x : A) → slice_get xs i ≡ Some x → slice_get (xs ++ ys) i ≡ Some x
+get_still [] ys zero x h = absurd cc
+get_still [] ys (suc i) x h = absurd cc
+get_still (z ∷ zs) ys zero x h = h
+get_still (z ∷ zs) ys (suc i) x h = get_still zs ys i x h
+
+pub get_last : {A : Type 0} (xs : List A) (x : A) → slice_get (xs ++ x ∷ []) (length xs) ≡ Some x
+get_last [] x = refl
+get_last (y ∷ ys) x = get_last ys x
+
+-- as long a list has as many items
+pub get_other : {A B : Type 0} (xs : List A) (ys : List B) (i : ℕ) (x : A) → length ys ≡ length xs → slice_get xs i ≡ Some x
+    → (y : B) × (slice_get ys i ≡ Some y)
+get_other [] ys zero x e h = absurd cc
+get_other [] ys (suc i) x e h = absurd cc
+get_other (z ∷ zs) [] i x e h = absurd (omega (arith, e))
+get_other (z ∷ zs) (y ∷ ys) zero x e h = (y, refl)
+get_other (z ∷ zs) (y ∷ ys) (suc i) x e h = get_other zs ys i x (omega (arith, e)) h
+
+-- the record of an entry that is there
+pub entry_there : (s : Renumbering) (i : ℕ) (r : Renumbered) → slice_get s.entries i ≡ Some r → entry_at s i ≡ r
+entry_there s i r h = ap (λ (o : Option Renumbered). entry_or o i) h
+
+no_item : {A B : Type 0} (i : ℕ) (x : A) → slice_get [] i ≡ Some x → B
+no_item zero x h = absurd cc
+no_item (suc i) x h = absurd cc
+
+module _ {A : Type 0} (Rel : Fate → A → A → Type 0) where
+  -- what an entry is in the new space
+  abbrev pub Stays : Fate → ℕ → A → List A → Type 0
+  Stays Kept i x new = (y : A) × (slice_get new i ≡ Some y) × Rel Kept x y
+  Stays Changed i x new = (y : A) × (slice_get new i ≡ Some y) × Rel Changed x y
+  Stays Removed i x new = Unit {0}
+
+  pub stays_more : (f : Fate) (i : ℕ) (x : A) (new more : List A) → Stays f i x new → Stays f i x (new ++ more)
+  stays_more Kept i x new more h = (h.0, get_still new more i h.0 h.1, h.2)
+  stays_more Changed i x new more h = (h.0, get_still new more i h.0 h.1, h.2)
+  stays_more Removed i x new more h = tt
+
+  -- the entries of the old space, as they became those of the new one
+  pub record Follows (s : Renumbering) (old new : List A) : Type 0 where
+    pub count : length s.entries ≡ length old
+    pub next : s.next ≡ length new
+    pub found : (i : ℕ) (x : A) (r : Renumbered) → slice_get old i ≡ Some x → slice_get s.entries i ≡ Some r → Stays r.fate r.index x new
+
+  -- an index of what is there
+
+  index_by : (f : Fate) (i j : ℕ) (x : A) (new : List A) → Stays f i x new → elim f [ Kept ↦ Some i | Changed ↦ Some i | Removed ↦ None ] ≡ Some j
+      → (g : Fate) × (y : A) × (slice_get new j ≡ Some y) × Rel g x y
+  index_by Kept i j x new h e = let is : i ≡ j = cc in (Kept, h.0, subst (λ k. slice_get new k ≡ Some h.0) is h.1, h.2)
+  index_by Changed i j x new h e = let is : i ≡ j = cc in (Changed, h.0, subst (λ k. slice_get new k ≡ Some h.0) is h.1, h.2)
+  index_by Removed i j x new h e = absurd cc
+
+  kept_by : (f : Fate) (i j : ℕ) (x : A) (new : List A) → Stays f i x new → elim f [ Kept ↦ Some i | Changed ↦ None | Removed ↦ None ] ≡ Some j
+      → (y : A) × (slice_get new j ≡ Some y) × Rel Kept x y
+  kept_by Kept i j x new h e = let is : i ≡ j = cc in (h.0, subst (λ k. slice_get new k ≡ Some h.0) is h.1, h.2)
+  kept_by Changed i j x new h e = absurd cc
+  kept_by Removed i j x new h e = absurd cc
+
+  pub index_follows : (s : Renumbering) (old new : List A) → Follows s old new → (i j : ℕ) (x : A) → slice_get old i ≡ Some x → new_index s i ≡ Some j
+      → (g : Fate) × (y : A) × (slice_get new j ≡ Some y) × Rel g x y
+  index_follows s old new f i j x at e =
+      let (r, is) = get_other old s.entries i x f.count at in
+      let same : elim r.fate [ Kept ↦ Some r.index | Changed ↦ Some r.index | Removed ↦ None ] ≡ Some j =
+      ap (λ (q : Renumbered). elim q.fate [ Kept ↦ Some q.index | Changed ↦ Some q.index | Removed ↦ None ]) (sym (entry_there s i r is)) ∙ e in
+      index_by r.fate r.index j x new (f.found i x r at is) same
+
+  pub kept_follows : (s : Renumbering) (old new : List A) → Follows s old new → (i j : ℕ) (x : A) → slice_get old i ≡ Some x → kept_index s i ≡ Some j
+      → (y : A) × (slice_get new j ≡ Some y) × Rel Kept x y
+  kept_follows s old new f i j x at e =
+      let (r, is) = get_other old s.entries i x f.count at in
+      let same : elim r.fate [ Kept ↦ Some r.index | Changed ↦ None | Removed ↦ None ] ≡ Some j =
+      ap (λ (q : Renumbered). elim q.fate [ Kept ↦ Some q.index | Changed ↦ None | Removed ↦ None ]) (sym (entry_there s i r is)) ∙ e in
+      kept_by r.fate r.index j x new (f.found i x r at is) same
+
+  -- one more entry
+
+  pub none_yet : (n : ℕ) (new : List A) → n ≡ length new → Follows (record { next = n; entries = [] }) [] new
+  none_yet n new e = record { count = refl; next = e; found = λ i x r at is. no_item i x at }
+
+  old_found : (s : Renumbering) (f : Fate) (old new more : List A) (x : A) → Follows s old new → (i : ℕ) (z : A) (r : Renumbered)
+      → slice_get (old ++ x ∷ []) i ≡ Some z → slice_get s.entries i ≡ Some r → Stays r.fate r.index z (new ++ more)
+  old_found s f old new more x h i z r at is =
+      ⊎_elim
+      (λ inner. stays_more r.fate r.index z new more (h.found i z r inner is))
+      (λ last. absurd (omega (arith, last.0, h.count, slice_get_within s.entries i r is)))
+      (get_more old x z i at)
+
+  last_found : (s : Renumbering) (f : Fate) (old new more : List A) (x : A) → Follows s old new → Stays f s.next x (new ++ more)
+      → (i : ℕ) (z : A) (r : Renumbered)
+      → slice_get (old ++ x ∷ []) i ≡ Some z → i ≡ length s.entries → record { index = s.next; fate = f } ≡ r → Stays r.fate r.index z (new ++ more)
+  last_found s f old new more x h stays i z r at last is =
+      ⊎_elim
+      (λ inner. absurd (omega (arith, last, h.count, slice_get_within old i z inner)))
+      (λ at_end. subst (λ (q : Renumbered). Stays q.fate q.index z (new ++ more)) is (subst (λ y. Stays f s.next y (new ++ more)) at_end.1 stays))
+      (get_more old x z i at)
+
+  more_found : (s : Renumbering) (f : Fate) (old new more : List A) (x : A) → Follows s old new → Stays f s.next x (new ++ more)
+      → (i : ℕ) (z : A) (r : Renumbered) → slice_get (old ++ x ∷ []) i ≡ Some z → slice_get (with_entry s f).entries i ≡ Some r
+      → Stays r.fate r.index z (new ++ more)
+  more_found s f old new more x h stays i z r at is =
+      ⊎_elim
+      (λ inside. old_found s f old new more x h i z r at inside)
+      (λ last. last_found s f old new more x h stays i z r at last.0 last.1)
+      (get_more s.entries (record { index = s.next; fate = f }) r i is)
+
+  push_count : (s : Renumbering) (f : Fate) (old : List A) (x : A) → length s.entries ≡ length old → length (with_entry s f).entries ≡ length (old ++ x ∷ [])
+  push_count s f old x e = omega (arith, e, length-append s.entries (record { index = s.next; fate = f } ∷ []), length-append old (x ∷ []))
+
+  pub follows_removed : (s : Renumbering) (old new : List A) (x : A) → Follows s old new → Follows (with_entry s Removed) (old ++ x ∷ []) new
+  follows_removed s old new x h = record {
+    count = push_count s Removed old x h.count;
+    next = h.next;
+    found = λ i z r at is. subst (Stays r.fate r.index z) (append-nil new) (more_found s Removed old new [] x h tt i z r at is);
+  }
+
+  pub follows_kept : (s : Renumbering) (old new : List A) (x y : A) → Follows s old new → Rel Kept x y
+      → Follows (with_entry s Kept) (old ++ x ∷ []) (new ++ y ∷ [])
+  follows_kept s old new x y h rel = record {
+    count = push_count s Kept old x h.count;
+    next = omega (arith, h.next, length-append new (y ∷ []));
+    found = more_found s Kept old new (y ∷ []) x h (y, subst (λ n. slice_get (new ++ y ∷ []) n ≡ Some y) (sym h.next) (get_last new y), rel);
+  }
+
+  pub follows_changed : (s : Renumbering) (old new : List A) (x y : A) → Follows s old new → Rel Changed x y
+      → Follows (with_entry s Changed) (old ++ x ∷ []) (new ++ y ∷ [])
+  follows_changed s old new x y h rel = record {
+    count = push_count s Changed old x h.count;
+    next = omega (arith, h.next, length-append new (y ∷ []));
+    found = more_found s Changed old new (y ∷ []) x h (y, subst (λ n. slice_get (new ++ y ∷ []) n ≡ Some y) (sym h.next) (get_last new y), rel);
+  }

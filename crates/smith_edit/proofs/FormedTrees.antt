@@ -1,0 +1,302 @@
+-- Components that remain well formed.
+use Rattle.std.proofs.Common.{◌≡◌, ℕ, Bool, true, false, List, [], ◌∷◌, ◌++◌, Option, None, Some, append-nil, append_assoc, fold, map, ap, sym, refl, subst}
+use Rattle.std.proofs.Common.{◌∙◌, nat_lt}
+use Rattle.std.proofs.lemmas.Grind.{flat_map-append}
+use Rattle.std.proofs.lemmas.List.{map-append}
+use Rattle.std.proofs.lemmas.List.Sums.{fold-append}
+use Rattle.std.specs.Prelude.{if◌then◌else◌}
+use Rattle.std.specs.List.{AllByRecursion, flat_map}
+use Rattle.std.specs.Option.{option_to_list}
+use Rattle.smith_syntax.specs.Entries.{CoreEntry, Entry, ImportEntry}
+use Rattle.smith_syntax.specs.Scope.{Scope}
+use Rattle.smith_syntax.specs.WellFormed.{FormedCores, FormedTypes}
+use Rattle.smith_tree.specs.Spaces.{Spaces, after_canon, after_export, after_import, after_part as spaces_after, no_spaces, spaces_of}
+use Rattle.smith_tree.specs.Tree.{Canon, ExportEntry, Part, Tree, add, ends, exports_in, exports_of, first, imports_in, imports_of, own, parts_of}
+use Rattle.smith_tree.specs.Tree as part
+use Rattle.smith_tree.specs.WellFormed.{Formed, FormedCanons, FormedExports, FormedImport, FormedPart, WellFormed, export_names, import_names, scope_of}
+use Rattle.smith_edit.specs.Edited.{after_canon as edit_canon, after_core, after_export as edit_export, after_import as edit_import, after_one, after_part}
+use Rattle.smith_edit.specs.Edited.{after_section, after_type, and_part}
+use Rattle.smith_edit.specs.Edited.{canon_edited, core_row, export_edited, import_edited, one, part_edited, ref_edited, rows, tree_edited, type_row, within}
+use Rattle.smith_edit.specs.Edits.{without}
+use Rattle.smith_edit.specs.Items.{core_items, entry_items, none_inside, tree_items}
+use Rattle.smith_edit.specs.Removal.{inside, past, removes}
+use Rattle.smith_edit.specs.Renumbering.{new_index}
+use Rattle.smith_edit.specs.Walk.{Walk, entered, new_scope, skipped}
+use Rattle.smith_edit.specs.declared.removal.Removal.TheVariants.{Everything, Item}
+use Rattle.smith_edit.specs.declared.scope.Scope.{Scope as Indexes}
+use Rattle.smith_edit.proofs.AfterRows.{part_outer}
+use Rattle.smith_edit.proofs.Alike.{from_map}
+use Rattle.smith_edit.proofs.Fewer.{some_same}
+use Rattle.smith_edit.proofs.FormedCores.{one_is}
+use Rattle.smith_edit.proofs.FormedDecls.{nothing_of}
+use Rattle.smith_edit.proofs.FormedRows.{AllFormed, CanonOk, CoreOk, ExportOk, ImportOk, TypeOk, adds_core, adds_type, canon_gone, canon_stays, core_gone}
+use Rattle.smith_edit.proofs.FormedRows.{core_stays}
+use Rattle.smith_edit.proofs.FormedRows.{export_gone, export_stays, import_gone, import_stays, rows_formed, rows_nothing, type_gone, type_stays}
+use Rattle.smith_edit.proofs.FormedTypes.{ScopesFollow, no_scopes, then_scopes}
+use Rattle.smith_edit.proofs.Places.{PlaceFollows, nothing_yet, scope}
+use Rattle.smith_edit.proofs.Sublists.{Sub, keep, named_sub, none, skip, sub_append}
+
+-- entries in order, as sections judge them
+
+cores_to : (ts : List CoreEntry) (s : Spaces) (outer : List Scope) → FormedCores ts (scope s) → AllFormed CoreOk adds_core ts s outer
+cores_to [] s outer h = tt
+cores_to (t ∷ ts) s outer h = (h.0, cores_to ts (adds_core s t) outer h.1)
+
+cores_from : (ts : List CoreEntry) (s : Spaces) (outer : List Scope) → AllFormed CoreOk adds_core ts s outer → FormedCores ts (scope s)
+cores_from [] s outer h = tt
+cores_from (t ∷ ts) s outer h = (h.0, cores_from ts (adds_core s t) outer h.1)
+
+types_to : (es : List Entry) (s : Spaces) (outer : List Scope) → FormedTypes es (scope s) outer → AllFormed TypeOk adds_type es s outer
+types_to [] s outer h = tt
+types_to (e ∷ es) s outer h = (h.0, types_to es (adds_type s e) outer h.1)
+
+types_from : (es : List Entry) (s : Spaces) (outer : List Scope) → AllFormed TypeOk adds_type es s outer → FormedTypes es (scope s) outer
+types_from [] s outer h = tt
+types_from (e ∷ es) s outer h = (h.0, types_from es (adds_type s e) outer h.1)
+
+canons_to : (cs : List Canon) (s : Spaces) (outer : List Scope) → FormedCanons cs s → AllFormed CanonOk after_canon cs s outer
+canons_to [] s outer h = tt
+canons_to (c ∷ cs) s outer h = (h.0, canons_to cs (after_canon s c) outer h.1)
+
+canons_from : (cs : List Canon) (s : Spaces) (outer : List Scope) → AllFormed CanonOk after_canon cs s outer → FormedCanons cs s
+canons_from [] s outer h = tt
+canons_from (c ∷ cs) s outer h = (h.0, canons_from cs (after_canon s c) outer h.1)
+
+imports_to : (is : List ImportEntry) (s : Spaces) (outer : List Scope) → AllByRecursion (FormedImport (scope s)) is → AllFormed ImportOk after_import is s outer
+imports_to [] s outer h = tt
+imports_to (i ∷ is) s outer h = (h.0, imports_to is (after_import s i) outer h.1)
+
+imports_from : (is : List ImportEntry) (s : Spaces) (outer : List Scope) → AllFormed ImportOk after_import is s outer
+    → AllByRecursion (FormedImport (scope s)) is
+imports_from [] s outer h = tt
+imports_from (i ∷ is) s outer h = (h.0, imports_from is (after_import s i) outer h.1)
+
+exports_to : (es : List ExportEntry) (s : Spaces) (outer : List Scope) → FormedExports es s → AllFormed ExportOk after_export es s outer
+exports_to [] s outer h = tt
+exports_to (e ∷ es) s outer h = (h.0, exports_to es (after_export s e) outer h.1)
+
+exports_from : (es : List ExportEntry) (s : Spaces) (outer : List Scope) → AllFormed ExportOk after_export es s outer → FormedExports es s
+exports_from [] s outer h = tt
+exports_from (e ∷ es) s outer h = (h.0, exports_from es (after_export s e) outer h.1)
+
+-- spaces after a section
+
+cores_added : (ts : List CoreEntry) (s : Spaces) → fold adds_core s ts ≡ record s { core_types = s.core_types ++ ts }
+cores_added [] s = ap (λ xs. record s { core_types = xs }) (sym (append-nil s.core_types))
+cores_added (t ∷ ts) s = cores_added ts (adds_core s t) ∙ ap (λ xs. record s { core_types = xs }) (append_assoc s.core_types (t ∷ []) ts)
+
+types_added : (es : List Entry) (s : Spaces) → fold adds_type s es ≡ record s { types = s.types ++ es }
+types_added [] s = ap (λ xs. record s { types = xs }) (sym (append-nil s.types))
+types_added (e ∷ es) s = types_added es (adds_type s e) ∙ ap (λ xs. record s { types = xs }) (append_assoc s.types (e ∷ []) es)
+
+pub parts_added : (t : Tree) (p : Part) → parts_of (add t p) ≡ parts_of t ++ p ∷ []
+parts_added ends p = refl
+parts_added (first q t) p = ap (λ ps. q ∷ ps) (parts_added t p)
+
+pub spaces_added : (t : Tree) (p : Part) → spaces_of (add t p) ≡ spaces_after (spaces_of t) p
+spaces_added t p = ap (fold spaces_after no_spaces) (parts_added t p) ∙ fold-append spaces_after no_spaces (parts_of t) (p ∷ [])
+
+pub own_added : {A : Type 0} (f : Part → List A) (t : Tree) (p : Part) → own f (add t p) ≡ own f t ++ f p
+own_added f t p = ap (flat_map f) (parts_added t p) ∙ flat_map-append f (parts_of t) (p ∷ []) ∙ ap (λ xs. own f t ++ xs) (append-nil (f p))
+
+-- where everything is removed nothing is added
+nothing_added : (p : Part) (w : Walk) (s : Spaces) → w.removal ≡ Everything → spaces_after s (part_edited p w) ≡ s
+nothing_added (part.custom name contents) w s e = refl
+nothing_added (part.core_module t) w s e = refl
+nothing_added (part.core_types ts) w s e = ap (λ xs. record s { core_types = s.core_types ++ xs }) (rows_nothing core_items core_row after_core ts w e)
+    ∙ ap (λ xs. record s { core_types = xs }) (append-nil s.core_types)
+nothing_added (part.component t) w s e = refl
+nothing_added (part.types es) w s e = ap (λ xs. record s { types = s.types ++ xs }) (rows_nothing entry_items type_row after_type es w e)
+    ∙ ap (λ xs. record s { types = xs }) (append-nil s.types)
+nothing_added (part.canons fs) w s e = ap (fold after_canon s) (rows_nothing none_inside canon_edited edit_canon fs w e)
+nothing_added (part.imports is) w s e = ap (fold after_import s) (rows_nothing none_inside import_edited edit_import is w e)
+nothing_added (part.exports es) w s e = ap (fold after_export s) (rows_nothing none_inside export_edited edit_export es w e)
+
+-- names
+
+module _ {A N : Type 0} (items : A → ℕ) (edited : Walk → A → Option A) (after : Indexes → A → Option A → Indexes) (name : A → N)
+    (kept : (w : Walk) (x y : A) → edited w x ≡ Some y → name y ≡ name x) where
+  name_then : (o : Option A) (n : N) → ((y : A) → o ≡ Some y → name y ≡ n) → (ys : List A) (ns : List N) → Sub (map name ys) ns
+      → Sub (map name (option_to_list o ++ ys)) (n ∷ ns)
+  name_then None n h ys ns s = skip n (map name ys) ns s
+  name_then (Some y) n h ys ns s = subst (λ m. Sub (m ∷ map name ys) (n ∷ ns)) (sym (h y refl)) (keep n (map name ys) ns s)
+
+  rows_names : (xs : List A) (w : Walk) → Sub (map name (rows items edited after w xs)) (map name xs)
+  rows_names [] w = none
+  rows_names (x ∷ xs) w =
+      let v : Walk = after_one items edited after w x in
+      name_then (one items edited after w x) (name x) (λ y e. kept (skipped 1 w) x y (one_is (removes w.removal) (edited (skipped 1 w) x) y e))
+      (rows items edited after v xs) (map name xs) (rows_names xs v)
+
+import_name : (w : Walk) (i x : ImportEntry) → import_edited w i ≡ Some x → x.name ≡ i.name
+import_name w i x e = let (r, at, is) = from_map (λ y. record i { to = y }) (ref_edited w.own i.to) x e in ap (λ (y : ImportEntry). y.name) (sym is)
+
+export_name : (w : Walk) (i x : ExportEntry) → export_edited w i ≡ Some x → x.name ≡ i.name
+export_name w i x e = let (g, at, is) = from_map (λ f. record i { func = f }) (new_index w.own.functions i.func) x e in ap (λ (y : ExportEntry). y.name)
+    (sym is)
+
+pub record NamesFollow (before before2 : Tree) : Type 0 where
+  pub of_imports : Sub (import_names (imports_of before2)) (import_names (imports_of before))
+  pub of_exports : Sub (export_names (exports_of before2)) (export_names (exports_of before))
+
+pub part_imports : (p : Part) (w : Walk) → Sub (import_names (imports_in (part_edited p w))) (import_names (imports_in p))
+part_imports (part.custom name contents) w = none
+part_imports (part.core_module t) w = none
+part_imports (part.core_types ts) w = none
+part_imports (part.component t) w = none
+part_imports (part.types es) w = none
+part_imports (part.canons fs) w = none
+part_imports (part.imports is) w = rows_names none_inside import_edited edit_import (λ i. i.name) import_name is w
+part_imports (part.exports es) w = none
+
+pub part_exports : (p : Part) (w : Walk) → Sub (export_names (exports_in (part_edited p w))) (export_names (exports_in p))
+part_exports (part.custom name contents) w = none
+part_exports (part.core_module t) w = none
+part_exports (part.core_types ts) w = none
+part_exports (part.component t) w = none
+part_exports (part.types es) w = none
+part_exports (part.canons fs) w = none
+part_exports (part.imports is) w = none
+part_exports (part.exports es) w = rows_names none_inside export_edited edit_export (λ e. e.name) export_name es w
+
+sub_names : {A : Type 0} (name : A → List ℕ) (as2 cs2 as1 cs1 : List A) → Sub (map name as2) (map name as1) → Sub (map name cs2) (map name cs1)
+    → Sub (map name (as2 ++ cs2)) (map name (as1 ++ cs1))
+sub_names name as2 cs2 as1 cs1 s t =
+    subst (λ xs. Sub xs (map name (as1 ++ cs1))) (sym (map-append name as2 cs2))
+    (subst (Sub (map name as2 ++ map name cs2)) (sym (map-append name as1 cs1)) (sub_append (map name as2) (map name as1) (map name cs2) (map name cs1) s t))
+
+names_kept : (before before2 : Tree) (p : Part) (w : Walk) → NamesFollow before before2 → NamesFollow (add before p) (add before2 (part_edited p w))
+names_kept before before2 p w n = record {
+  of_imports = subst (λ xs. Sub (import_names xs) (import_names (imports_of (add before p)))) (sym (own_added imports_in before2 (part_edited p w)))
+      (subst (λ xs. Sub (import_names (imports_of before2 ++ imports_in (part_edited p w))) (import_names xs)) (sym (own_added imports_in before p))
+      (sub_names (λ i. i.name) (imports_of before2) (imports_in (part_edited p w)) (imports_of before) (imports_in p) n.of_imports (part_imports p w)));
+  of_exports = subst (λ xs. Sub (export_names xs) (export_names (exports_of (add before p)))) (sym (own_added exports_in before2 (part_edited p w)))
+      (subst (λ xs. Sub (export_names (exports_of before2 ++ exports_in (part_edited p w))) (export_names xs)) (sym (own_added exports_in before p))
+      (sub_names (λ e. e.name) (exports_of before2) (exports_in (part_edited p w)) (exports_of before) (exports_in p) n.of_exports (part_exports p w)));
+}
+
+more_names : {A : Type 0} (name : A → List ℕ) (as2 as1 cs : List A) → Sub (map name as2) (map name as1) → Sub (map name as2) (map name (as1 ++ cs))
+more_names name as2 as1 cs s =
+    subst (λ xs. Sub (map name xs) (map name (as1 ++ cs))) (append-nil as2) (sub_names name as2 [] as1 cs s (nothing_of (map name cs)))
+
+names_removed : (before before2 : Tree) (p : Part) → NamesFollow before before2 → NamesFollow (add before p) before2
+names_removed before before2 p n = record {
+  of_imports = subst (λ xs. Sub (import_names (imports_of before2)) (import_names xs)) (sym (own_added imports_in before p))
+      (more_names (λ i. i.name) (imports_of before2) (imports_of before) (imports_in p) n.of_imports);
+  of_exports = subst (λ xs. Sub (export_names (exports_of before2)) (export_names xs)) (sym (own_added exports_in before p))
+      (more_names (λ e. e.name) (exports_of before2) (exports_of before) (exports_in p) n.of_exports);
+}
+
+-- sections
+
+formed_and : (b : Bool) (q : Part) (rest : Tree) (outer : List Scope) (before : Tree) → (b ≡ true → Formed rest outer before)
+    → (b ≡ false → FormedPart q outer before × Formed rest outer (add before q)) → Formed (and_part b q rest) outer before
+formed_and true q rest outer before h k = h refl
+formed_and false q rest outer before h k = k refl
+
+-- what sections are without the names of imports and exports
+
+abbrev pub BarePart : Part → List Scope → Tree → Type 0
+BarePart (part.custom name contents) outer before = Unit {0}
+BarePart (part.core_module t) outer before = Unit {0}
+BarePart (part.core_types ts) outer before = FormedCores ts (scope_of before)
+BarePart (part.component t) outer before = Formed t (scope_of before ∷ outer) ends
+BarePart (part.types es) outer before = FormedTypes es (scope_of before) outer
+BarePart (part.canons fs) outer before = FormedCanons fs (spaces_of before)
+BarePart (part.imports is) outer before = AllByRecursion (FormedImport (scope_of before)) is
+BarePart (part.exports es) outer before = FormedExports es (spaces_of before)
+
+part_named : (p : Part) (w : Walk) (before before2 : Tree) (outer outer2 : List Scope) → NamesFollow before before2 → FormedPart p outer before
+    → BarePart (part_edited p w) outer2 before2 → FormedPart (part_edited p w) outer2 before2
+part_named (part.custom name contents) w before before2 outer outer2 n h b = tt
+part_named (part.core_module t) w before before2 outer outer2 n h b = tt
+part_named (part.core_types ts) w before before2 outer outer2 n h b = b
+part_named (part.component t) w before before2 outer outer2 n h b = b
+part_named (part.types es) w before before2 outer outer2 n h b = b
+part_named (part.canons fs) w before before2 outer outer2 n h b = b
+part_named (part.imports is) w before before2 outer outer2 n h b = (
+  b,
+  named_sub _ _ (sub_names (λ i. i.name) (imports_of before2) (rows none_inside import_edited edit_import w is) (imports_of before) is n.of_imports
+      (part_imports (part.imports is) w)) h.1,
+)
+part_named (part.exports es) w before before2 outer outer2 n h b = (
+  b,
+  named_sub _ _ (sub_names (λ e. e.name) (exports_of before2) (rows none_inside export_edited edit_export w es) (exports_of before) es n.of_exports
+      (part_exports (part.exports es) w)) h.1,
+)
+
+mutual
+  pub part_bare : (p : Part) (w : Walk) (before before2 : Tree) (outer outer2 : List Scope) → PlaceFollows w.own (spaces_of before) (spaces_of before2)
+      → ScopesFollow w.outer outer outer2
+      → FormedPart p outer before → BarePart (part_edited p w) outer2 before2 × PlaceFollows (after_part w p).own (spaces_after (spaces_of before) p)
+      (spaces_after (spaces_of before2) (part_edited p w))
+  part_bare (part.custom name contents) w before before2 outer outer2 f q h = (tt, f)
+  part_bare (part.core_module t) w before before2 outer outer2 f q h = (tt, f)
+  part_bare (part.core_types ts) w before before2 outer outer2 f q h =
+      let s : Spaces = spaces_of before in
+      let s2 : Spaces = spaces_of before2 in
+      let new : List CoreEntry = rows core_items core_row after_core w ts in
+      let (formed, follows) = rows_formed CoreOk adds_core core_items core_row after_core core_gone core_stays ts w s s2 outer outer2 f q
+      (cores_to ts s outer h) in (
+        cores_from new s2 outer2 formed,
+        subst (λ z. PlaceFollows (after_part w (part.core_types ts)).own (record s { core_types = s.core_types ++ ts }) z) (cores_added new s2)
+            (subst (λ z. PlaceFollows (after_part w (part.core_types ts)).own z (fold adds_core s2 new)) (cores_added ts s) follows),
+      )
+  part_bare (part.component t) w before before2 outer outer2 f q h = (
+    tree_formed t (entered w) ends ends (scope_of before ∷ outer) (scope_of before2 ∷ outer2) nothing_yet
+        (then_scopes w.own (scope_of before) (scope_of before2) w.outer outer outer2 f.kinds q) (record { of_imports = none; of_exports = none }) h,
+    f,
+  )
+  part_bare (part.types es) w before before2 outer outer2 f q h =
+      let s : Spaces = spaces_of before in
+      let s2 : Spaces = spaces_of before2 in
+      let new : List Entry = rows entry_items type_row after_type w es in
+      let (formed, follows) = rows_formed TypeOk adds_type entry_items type_row after_type type_gone type_stays es w s s2 outer outer2 f q
+      (types_to es s outer h) in (
+        types_from new s2 outer2 formed,
+        subst (λ z. PlaceFollows (after_part w (part.types es)).own (record s { types = s.types ++ es }) z) (types_added new s2)
+            (subst (λ z. PlaceFollows (after_part w (part.types es)).own z (fold adds_type s2 new)) (types_added es s) follows),
+      )
+  part_bare (part.canons fs) w before before2 outer outer2 f q h =
+      let (formed, follows) = rows_formed CanonOk after_canon none_inside canon_edited edit_canon canon_gone canon_stays fs w (spaces_of before)
+      (spaces_of before2) outer outer2 f q
+      (canons_to fs (spaces_of before) outer h) in
+      (canons_from (rows none_inside canon_edited edit_canon w fs) (spaces_of before2) outer2 formed, follows)
+  part_bare (part.imports is) w before before2 outer outer2 f q h =
+      let new : List ImportEntry = rows none_inside import_edited edit_import w is in
+      let (formed, follows) = rows_formed ImportOk after_import none_inside import_edited edit_import import_gone import_stays is w (spaces_of before)
+      (spaces_of before2) outer outer2 f q
+      (imports_to is (spaces_of before) outer h.0) in (imports_from new (spaces_of before2) outer2 formed, follows)
+  part_bare (part.exports es) w before before2 outer outer2 f q h =
+      let new : List ExportEntry = rows none_inside export_edited edit_export w es in
+      let (formed, follows) = rows_formed ExportOk after_export none_inside export_edited edit_export export_gone export_stays es w (spaces_of before)
+      (spaces_of before2) outer outer2 f q
+      (exports_to es (spaces_of before) outer h.0) in (exports_from new (spaces_of before2) outer2 formed, follows)
+
+  pub tree_formed : (t : Tree) (w : Walk) (before before2 : Tree) (outer outer2 : List Scope) → PlaceFollows w.own (spaces_of before) (spaces_of before2)
+      → ScopesFollow w.outer outer outer2 → NamesFollow before before2 → Formed t outer before → Formed (tree_edited t w) outer2 before2
+  tree_formed ends w before before2 outer outer2 f q n h = tt
+  tree_formed (first p t) w before before2 outer outer2 f q n h =
+      let v : Walk = after_section w p in
+      let x : Part = part_edited p (within w) in
+      let (formed, follows) = part_bare p (within w) before before2 outer outer2 f q h.0 in
+      let around : ScopesFollow v.outer outer outer2 = subst (λ ss. ScopesFollow ss outer outer2) (sym (part_outer (within w) p)) q in
+      let here : PlaceFollows v.own (spaces_of (add before p)) (spaces_after (spaces_of before2) x) =
+      subst (λ s. PlaceFollows v.own s (spaces_after (spaces_of before2) x)) (sym (spaces_added before p)) follows in
+      formed_and (removes w.removal) x (tree_edited t v) outer2 before2
+      (λ b.
+      let all : inside w.removal ≡ Everything = ap (λ c. if c then Everything else past 1 w.removal) b in
+      tree_formed t v (add before p) before2 outer outer2
+      (subst (PlaceFollows v.own (spaces_of (add before p))) (nothing_added p (within w) (spaces_of before2) all) here) around
+      (names_removed before before2 p n) h.1)
+      (λ b. (
+        part_named p (within w) before before2 outer outer2 n h.0 formed,
+        tree_formed t v (add before p) (add before2 x) outer outer2
+            (subst (PlaceFollows v.own (spaces_of (add before p))) (sym (spaces_added before2 x)) here) around (names_kept before before2 p (within w) n) h.1,
+      ))
+
+pub without_formed : (k : ℕ) (t less : Tree) → without k t ≡ Some less → WellFormed t → WellFormed less
+without_formed k t less e h =
+    let w : Walk = record { removal = Item k; own = new_scope; outer = [] } in
+    let (there, is) = some_same (nat_lt k (tree_items t)) (tree_edited t w) less e in
+    subst WellFormed is (tree_formed t w ends ends [] [] nothing_yet no_scopes (record { of_imports = none; of_exports = none }) h)

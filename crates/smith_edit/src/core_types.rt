@@ -1,0 +1,142 @@
+//! Core types that a component declares.
+
+ghost use Rattle.std.specs.Prelude.{◌≡◌, IfOk, OnOk};
+ghost use Rattle.std.specs.Option.{option_map};
+ghost use Rattle.smith_format.specs.Shown.{shown_func};
+ghost use Rattle.smith_syntax.specs.Entries.{ModuleDecl, exports, imports};
+ghost use Rattle.smith_read_types.specs.Nodes.{shown_core_node, shown_module_node};
+ghost use Rattle.smith_edit.specs.Edited.{after_module_decl, core_edited, entity_edited, function_edited};
+ghost use Rattle.smith_edit.specs.Edited.{module_decl_edited, rows};
+ghost use Rattle.smith_edit.specs.Items.{core_items, function_items, module_decl_items};
+ghost use Rattle.smith_edit.specs.Walk.{shown_walk, skipped};
+
+use crate::members::members;
+use crate::renumbering::{Fate, Renumbering};
+use crate::rows::{Row, rows};
+use crate::scope::Scope;
+use crate::walk::Walk;
+use smith_format::{EntityType, FuncType, TagType};
+use smith_read_types::{CoreNode, ModuleNode};
+use std::alloc::AllocError;
+
+fn function(walk: &mut Walk, ty: &FuncType) -> Result<FuncType, AllocError>
+    ensures edited { IfOk result (λ f. shown_func f ≡ function_edited walk.old.removal (shown_func ty.now)) }
+    ensures walk { OnOk result (shown_walk walk.new
+        ≡ skipped (function_items (shown_func ty.now)) (shown_walk walk.old)) }
+{
+    let params = members(walk, &ty.params)?;
+    let results = members(walk, &ty.results)?;
+    Ok(FuncType { params, results })
+}
+
+fn entity(types: &Renumbering, to: EntityType) -> Option<EntityType>
+    ensures { result ≡ entity_edited types.now to }
+{
+    match to {
+        EntityType::Func(index) => match types.new_index(index) {
+            Some(index) => Some(EntityType::Func(index)),
+            None => None,
+        },
+        EntityType::Table(ty) => Some(EntityType::Table(ty)),
+        EntityType::Memory(ty) => Some(EntityType::Memory(ty)),
+        EntityType::Global(ty) => Some(EntityType::Global(ty)),
+        EntityType::Tag(ty) => match types.new_index(ty.func_type_idx) {
+            Some(func_type_idx) => Some(EntityType::Tag(TagType { func_type_idx })),
+            None => None,
+        },
+    }
+}
+
+// What is imported by two names; none where it refers to what is removed.
+fn import(
+    walk: &Walk,
+    module_name: &str,
+    name: &str,
+    to: EntityType,
+) -> Result<Option<ModuleNode>, AllocError>
+    ensures { IfOk result (λ r. option_map shown_module_node r
+        ≡ option_map (imports module_name.now name.now) (entity_edited walk.now.own.core_types to)) }
+{
+    let Some(entity) = entity(&walk.own.core_types, to) else {
+        return Ok(None);
+    };
+    let module = String::from_str(walk.alloc, module_name)?;
+    let name = String::from_str(walk.alloc, name)?;
+    Ok(Some(ModuleNode::Import {
+        module,
+        name,
+        entity,
+    }))
+}
+
+// What is exported by a name; none where it refers to what is removed.
+fn export(walk: &Walk, name: &str, to: EntityType) -> Result<Option<ModuleNode>, AllocError>
+    ensures { IfOk result (λ r. option_map shown_module_node r
+        ≡ option_map (exports name.now) (entity_edited walk.now.own.core_types to)) }
+{
+    let Some(entity) = entity(&walk.own.core_types, to) else {
+        return Ok(None);
+    };
+    let name = String::from_str(walk.alloc, name)?;
+    Ok(Some(ModuleNode::Export { name, entity }))
+}
+
+impl Row for ModuleNode {
+    ghost Shown = { ModuleDecl };
+
+    ghost shown = { shown_module_node };
+
+    ghost items = { module_decl_items };
+
+    ghost edits = { module_decl_edited };
+
+    ghost adds = { after_module_decl };
+
+    fn edited(&self, walk: &mut Walk) -> Result<Option<ModuleNode>, AllocError> {
+        match self {
+            ModuleNode::Func(ty) => Ok(Some(ModuleNode::Func(function(walk, ty)?))),
+            ModuleNode::Import {
+                module,
+                name,
+                entity,
+            } => import(walk, module.as_str(), name.as_str(), *entity),
+            ModuleNode::OuterAlias { count, index } => {
+                match walk.aliased_core_type(*count, *index) {
+                    Some(index) => Ok(Some(ModuleNode::OuterAlias {
+                        count: *count,
+                        index,
+                    })),
+                    None => Ok(None),
+                }
+            }
+            ModuleNode::Export { name, entity } => export(walk, name.as_str(), *entity),
+        }
+    }
+
+    fn add(&self, new: &Option<ModuleNode>, own: &mut Scope) -> Result<(), AllocError> {
+        match self {
+            ModuleNode::Func(_) | ModuleNode::OuterAlias { .. } => {
+                own.core_types.add(Fate::Kept.remains_if(new.is_some()))
+            }
+            ModuleNode::Import { .. } | ModuleNode::Export { .. } => Ok(()),
+        }
+    }
+}
+
+/// A core type, which remains.
+pub(crate) fn core_type(walk: &mut Walk, node: &CoreNode) -> Result<CoreNode, AllocError>
+    ensures edited { IfOk result (λ t. shown_core_node t
+        ≡ core_edited (shown_walk walk.old) (shown_core_node node.now)) }
+    ensures walk { OnOk result (shown_walk walk.new
+        ≡ skipped (core_items (shown_core_node node.now)) (shown_walk walk.old)) }
+{
+    match node {
+        CoreNode::Func(ty) => Ok(CoreNode::Func(function(walk, ty)?)),
+        CoreNode::Module(nodes) => {
+            walk.enter()?;
+            let nodes = rows(walk, nodes)?;
+            walk.leave();
+            Ok(CoreNode::Module(nodes))
+        }
+    }
+}

@@ -1,0 +1,91 @@
+//! The two edits: a component without one of its items, and two components joined.
+
+ghost use Rattle.std.specs.Prelude.{◌≡◌, IfOk, map};
+ghost use Rattle.std.specs.Option.{option_map};
+ghost use Rattle.smith_tree.specs.Spaces.{spaces_of};
+ghost use Rattle.smith_tree.specs.Tree.{exports_of, imports_of, tree_of};
+ghost use Rattle.smith_tree.specs.WellFormed.{export_names, import_names};
+ghost use Rattle.smith_read.specs.PartNodes.{shown_part_node, shown_tree};
+ghost use Rattle.smith_edit.specs.Counts.{counts_of};
+ghost use Rattle.smith_edit.specs.Edits.{joined, without};
+ghost use Rattle.smith_edit.specs.Names.{KnowsBoth};
+
+use crate::counts::Counts;
+use crate::names::Taken;
+use crate::parts::{part, parts};
+use crate::removal::Removal;
+use crate::scope::Scope;
+use crate::walk::Walk;
+use smith_read::{ComponentTree, PartNode};
+use std::alloc::{AllocError, Global};
+
+/// The component without its `k`-th item, and without all that refers to what is removed; every other index is
+/// renumbered. There is none where there is no `k`-th item.
+///
+/// Items are counted from 0 in the order of the component's bytes: each section, each entry of a section, each
+/// declaration of a type, and each member of a type of values, of functions and of core functions. A section is removed
+/// with its entries, and a compound type with its last member. Where the type of a function loses a parameter or its
+/// result, its lowers and its lifts are removed. An index of nothing remains as it is.
+///
+/// So a component that is well formed remains so, and gets no longer in bytes. It takes time and memory in proportion
+/// to the component, and stack by its depth.
+pub fn without(
+    alloc: Global,
+    tree: &ComponentTree,
+    k: usize,
+) -> Result<Option<ComponentTree>, AllocError>
+    ensures { IfOk result (λ r. option_map shown_tree r ≡ without k (shown_tree tree.now)) }
+{
+    let mut walk = Walk::new(alloc, Removal::Item(k), Scope::new(alloc));
+    let parts = parts(&mut walk, &tree.parts)?;
+    match walk.removal {
+        Removal::Nothing => Ok(Some(ComponentTree { parts })),
+        Removal::Item(_) | Removal::Everything => Ok(None),
+    }
+}
+
+// How many entries there are in each index space.
+fn counts(parts: &[PartNode]) -> Result<Counts, AllocError>
+    ensures { IfOk result (λ c. c ≡ counts_of (spaces_of (tree_of (map shown_part_node parts.now)))) }
+{
+    let mut counts = Counts::new();
+    for part in parts {
+        counts.add(part)?;
+    }
+    Ok(counts)
+}
+
+// The names of imports and exports.
+fn names(alloc: Global, parts: &[PartNode]) -> Result<Taken, AllocError>
+    ensures { let tree = tree_of (map shown_part_node parts.now) in
+        IfOk result (λ t. KnowsBoth t (import_names (imports_of tree)) (export_names (exports_of tree))) }
+{
+    let mut taken = Taken::new(alloc);
+    for part in parts {
+        taken.add(alloc, part)?;
+    }
+    Ok(taken)
+}
+
+/// The sections of the first component, and then those of the second: its indexes follow those of the first, and names
+/// of its imports and exports that there are before are made new, with digits at their end. An index of nothing remains
+/// as it is.
+///
+/// So two components that are well formed are joined to one that is. It uses stack by the depth of the second.
+pub fn joined(
+    alloc: Global,
+    left: ComponentTree,
+    right: &ComponentTree,
+) -> Result<ComponentTree, AllocError>
+    ensures { IfOk result (λ t. shown_tree t ≡ joined (shown_tree left) (shown_tree right.now)) }
+{
+    let own = counts(&left.parts)?.following(alloc)?;
+    let mut walk = Walk::new(alloc, Removal::Nothing, own);
+    let mut taken = names(alloc, &left.parts)?;
+    let mut parts = left.parts;
+    for node in &right.parts {
+        let moved = part(&mut walk, node)?;
+        parts.push(taken.renamed(alloc, moved)?)?;
+    }
+    Ok(ComponentTree { parts })
+}

@@ -1,0 +1,275 @@
+//! Types of values and of functions, and their members.
+
+ghost use Rattle.std.specs.Prelude.{◌≡◌, ℕ, List, Option, Some, None, length, map, string_bytes, IfOk, OnOk};
+ghost use Rattle.std.specs.Option.{option_map, option_to_list};
+ghost use Rattle.smith_format.specs.declared.types.ValType.{ValType};
+ghost use Rattle.smith_syntax.specs.Entries.{Case, Field, enum_type, flags_type, list_type, option_type, record_type};
+ghost use Rattle.smith_syntax.specs.Entries.{tuple_type, variant_type};
+ghost use Rattle.smith_syntax.specs.Shown.{shown_defined};
+ghost use Rattle.smith_syntax.specs.Signature.{named};
+ghost use Rattle.smith_syntax.specs.declared.types.ComponentValType.{ComponentValType};
+ghost use Rattle.smith_edit.specs.Edited.{case_edited, defined_edited, field_edited, left_of, members, optional_edited};
+ghost use Rattle.smith_edit.specs.Edited.{signature_edited, value_edited};
+ghost use Rattle.smith_edit.specs.Items.{signature_items, value_items};
+ghost use Rattle.smith_edit.specs.Renumbering.{Renumbering as PlainRenumbering};
+ghost use Rattle.smith_edit.specs.Walk.{shown_walk, skipped};
+
+use crate::renumbering::Renumbering;
+use crate::walk::Walk;
+use smith_format::ValType;
+use smith_syntax::{
+    ComponentValType, DefinedType, EnumType, FlagsType, FuncType, ListType, OptionType, RecordType,
+    ResultType, TupleType, VariantType,
+};
+use std::alloc::{AllocError, Global};
+
+/// What is a member of a type.
+pub(crate) trait Member: Drop {
+    ghost Shown: { Type 0 };
+
+    ghost shown: { Self → Shown };
+
+    ghost edits: { PlainRenumbering → Shown → Option Shown };
+
+    /// The member with new indexes; none where it refers to what is removed.
+    fn edited(&self, alloc: Global, types: &Renumbering) -> Result<Option<Self>, AllocError>
+        ensures { IfOk result (λ r. option_map shown r ≡ edits types.now (shown self.now)) };
+}
+
+fn value(types: &Renumbering, ty: ComponentValType) -> Option<ComponentValType>
+    ensures { result ≡ value_edited types.now ty }
+{
+    match ty {
+        ComponentValType::Primitive(ty) => Some(ComponentValType::Primitive(ty)),
+        ComponentValType::Indexed(index) => match types.new_index(index) {
+            Some(index) => Some(ComponentValType::Indexed(index)),
+            None => None,
+        },
+    }
+}
+
+impl Member for ValType {
+    ghost Shown = { ValType };
+
+    ghost shown = { λ x. x };
+
+    ghost edits = { λ s x. Some x };
+
+    fn edited(&self, _alloc: Global, _types: &Renumbering) -> Result<Option<ValType>, AllocError> {
+        Ok(Some(*self))
+    }
+}
+
+impl Member for ComponentValType {
+    ghost Shown = { ComponentValType };
+
+    ghost shown = { λ x. x };
+
+    ghost edits = { value_edited };
+
+    fn edited(
+        &self,
+        _alloc: Global,
+        types: &Renumbering,
+    ) -> Result<Option<ComponentValType>, AllocError> {
+        Ok(value(types, *self))
+    }
+}
+
+impl Member for String {
+    ghost Shown = { List ℕ };
+
+    ghost shown = { string_bytes };
+
+    ghost edits = { λ s x. Some x };
+
+    fn edited(&self, alloc: Global, _types: &Renumbering) -> Result<Option<String>, AllocError> {
+        Ok(Some(String::from_str(alloc, self.as_str())?))
+    }
+}
+
+impl Member for (String, ComponentValType) {
+    ghost Shown = { Field };
+
+    ghost shown = { named };
+
+    ghost edits = { field_edited };
+
+    fn edited(
+        &self,
+        alloc: Global,
+        types: &Renumbering,
+    ) -> Result<Option<(String, ComponentValType)>, AllocError> {
+        match value(types, self.1) {
+            Some(ty) => Ok(Some((String::from_str(alloc, self.0.as_str())?, ty))),
+            None => Ok(None),
+        }
+    }
+}
+
+impl Member for (String, Option<ComponentValType>) {
+    ghost Shown = { Case };
+
+    ghost shown = { named };
+
+    ghost edits = { case_edited };
+
+    fn edited(
+        &self,
+        alloc: Global,
+        types: &Renumbering,
+    ) -> Result<Option<(String, Option<ComponentValType>)>, AllocError> {
+        let Some(ty) = self.1 else {
+            return Ok(Some((String::from_str(alloc, self.0.as_str())?, None)));
+        };
+        match value(types, ty) {
+            Some(ty) => Ok(Some((String::from_str(alloc, self.0.as_str())?, Some(ty)))),
+            None => Ok(None),
+        }
+    }
+}
+
+/// The members that are left.
+pub(crate) fn members<T: Member>(walk: &mut Walk, items: &[T]) -> Result<Vec<T>, AllocError>
+    ensures left { IfOk result (λ v. map T.shown v.items
+        ≡ members (T.edits walk.old.own.types) walk.old.removal (map T.shown items.now)) }
+    ensures walk { OnOk result (shown_walk walk.new ≡ skipped (length items.now) (shown_walk walk.old)) }
+{
+    let mut left = Vec::new(walk.alloc);
+    for item in items {
+        if !walk.step() {
+            if let Some(item) = item.edited(walk.alloc, &walk.own.types)? {
+                left.push(item)?;
+            }
+        }
+    }
+    Ok(left)
+}
+
+// The members that are left of those of a compound type; none where none is left of those that there were.
+fn left_of<T: Member>(walk: &mut Walk, items: &[T]) -> Result<Option<Vec<T>>, AllocError>
+    ensures left { IfOk result (λ r. option_map (λ v. map T.shown v.items) r ≡ left_of (map T.shown items.now)
+        (members (T.edits walk.old.own.types) walk.old.removal (map T.shown items.now))) }
+    ensures walk { OnOk result (shown_walk walk.new ≡ skipped (length items.now) (shown_walk walk.old)) }
+{
+    let left = members(walk, items)?;
+    if left.is_empty() && !items.is_empty() {
+        return Ok(None);
+    }
+    Ok(Some(left))
+}
+
+// A member that need not be there.
+fn optional(walk: &mut Walk, ty: Option<ComponentValType>) -> Option<ComponentValType>
+    ensures left { result ≡ optional_edited walk.old.own.types walk.old.removal ty }
+    ensures walk { shown_walk walk.new ≡ skipped (length (option_to_list ty)) (shown_walk walk.old) }
+{
+    match ty {
+        None => None,
+        Some(ty) => {
+            if walk.step() {
+                return None;
+            }
+            value(&walk.own.types, ty)
+        }
+    }
+}
+
+fn list(types: &Renumbering, ty: &ListType) -> Option<DefinedType>
+    ensures { option_map shown_defined result ≡ option_map list_type (value_edited types.now ty.now.elem_ty) }
+{
+    match value(types, ty.elem_ty) {
+        Some(elem_ty) => Some(DefinedType::List(ListType { elem_ty })),
+        None => None,
+    }
+}
+
+fn option(types: &Renumbering, ty: &OptionType) -> Option<DefinedType>
+    ensures { option_map shown_defined result ≡ option_map option_type (value_edited types.now ty.now.inner_ty) }
+{
+    match value(types, ty.inner_ty) {
+        Some(inner_ty) => Some(DefinedType::Option(OptionType { inner_ty })),
+        None => None,
+    }
+}
+
+fn record_of(fields: Option<Vec<(String, ComponentValType)>>) -> Option<DefinedType>
+    ensures { option_map shown_defined result ≡ option_map record_type (option_map (λ v. map named v.items) fields) }
+{
+    match fields {
+        Some(fields) => Some(DefinedType::Record(RecordType { fields })),
+        None => None,
+    }
+}
+
+fn variant_of(cases: Option<Vec<(String, Option<ComponentValType>)>>) -> Option<DefinedType>
+    ensures { option_map shown_defined result ≡ option_map variant_type (option_map (λ v. map named v.items) cases) }
+{
+    match cases {
+        Some(cases) => Some(DefinedType::Variant(VariantType { cases })),
+        None => None,
+    }
+}
+
+fn tuple_of(fields: Option<Vec<ComponentValType>>) -> Option<DefinedType>
+    ensures { option_map shown_defined result ≡ option_map tuple_type (option_map (λ v. v.items) fields) }
+{
+    match fields {
+        Some(fields) => Some(DefinedType::Tuple(TupleType { fields })),
+        None => None,
+    }
+}
+
+fn flags_of(fields: Option<Vec<String>>) -> Option<DefinedType>
+    ensures { option_map shown_defined result
+        ≡ option_map flags_type (option_map (λ v. map string_bytes v.items) fields) }
+{
+    match fields {
+        Some(fields) => Some(DefinedType::Flags(FlagsType { fields })),
+        None => None,
+    }
+}
+
+fn enum_of(variants: Option<Vec<String>>) -> Option<DefinedType>
+    ensures { option_map shown_defined result
+        ≡ option_map enum_type (option_map (λ v. map string_bytes v.items) variants) }
+{
+    match variants {
+        Some(variants) => Some(DefinedType::Enum(EnumType { variants })),
+        None => None,
+    }
+}
+
+/// A type of values; none where it refers to what is removed, or has no members left.
+pub(crate) fn defined(walk: &mut Walk, ty: &DefinedType) -> Result<Option<DefinedType>, AllocError>
+    ensures edited { IfOk result (λ r. option_map shown_defined r
+        ≡ defined_edited walk.old.own.types walk.old.removal (shown_defined ty.now)) }
+    ensures walk { OnOk result (shown_walk walk.new
+        ≡ skipped (value_items (shown_defined ty.now)) (shown_walk walk.old)) }
+{
+    match ty {
+        DefinedType::Primitive(ty) => Ok(Some(DefinedType::Primitive(*ty))),
+        DefinedType::Record(ty) => Ok(record_of(left_of(walk, &ty.fields)?)),
+        DefinedType::Variant(ty) => Ok(variant_of(left_of(walk, &ty.cases)?)),
+        DefinedType::List(ty) => Ok(list(&walk.own.types, ty)),
+        DefinedType::Tuple(ty) => Ok(tuple_of(left_of(walk, &ty.fields)?)),
+        DefinedType::Flags(ty) => Ok(flags_of(left_of(walk, &ty.fields)?)),
+        DefinedType::Enum(ty) => Ok(enum_of(left_of(walk, &ty.variants)?)),
+        DefinedType::Option(ty) => Ok(option(&walk.own.types, ty)),
+        DefinedType::Result(ty) => {
+            let ok_ty = optional(walk, ty.ok_ty);
+            let err_ty = optional(walk, ty.err_ty);
+            Ok(Some(DefinedType::Result(ResultType { ok_ty, err_ty })))
+        }
+    }
+}
+
+/// A type of functions.
+pub(crate) fn function(walk: &mut Walk, ty: &FuncType) -> Result<FuncType, AllocError>
+    ensures edited { IfOk result (λ f. f ≡ signature_edited walk.old.own.types walk.old.removal ty.now) }
+    ensures walk { OnOk result (shown_walk walk.new ≡ skipped (signature_items ty.now) (shown_walk walk.old)) }
+{
+    let params = members(walk, &ty.params)?;
+    let result = optional(walk, ty.result);
+    Ok(FuncType { params, result })
+}

@@ -1,0 +1,246 @@
+//! The sections of components.
+
+ghost use Rattle.std.specs.Prelude.{◌≡◌, None, Some, map, if◌then◌else◌, IfOk, OnOk};
+ghost use Rattle.std.specs.Option.{option_map};
+ghost use Rattle.smith_syntax.specs.Entries.{CoreEntry, Entry, ImportEntry};
+ghost use Rattle.smith_tree.specs.Tree.{Canon, ExportEntry, tree_of};
+ghost use Rattle.smith_read_types.specs.Nodes.{shown_core_node};
+ghost use Rattle.smith_read_types.specs.TypeNodes.{shown_type_node};
+ghost use Rattle.smith_read.specs.PartNodes.{shown_canon_node, shown_export_node, shown_import_node, shown_part_node};
+ghost use Rattle.smith_edit.specs.Edited.{after_canon, after_core, after_export, after_import, after_part};
+ghost use Rattle.smith_edit.specs.Edited.{after_section, after_type, canon_edited, core_row, export_edited, import_edited};
+ghost use Rattle.smith_edit.specs.Edited.{part_edited, tree_edited, type_row, within};
+ghost use Rattle.smith_edit.specs.Items.{core_items, entry_items, function_members, none_inside, tree_items};
+ghost use Rattle.smith_edit.specs.Removal.{past, removes};
+ghost use Rattle.smith_edit.specs.Walk.{shown_walk};
+
+use crate::core_types::core_type;
+use crate::removal::Removal;
+use crate::renumbering::Fate;
+use crate::rows::{Row, push_some, rows};
+use crate::scope::Scope;
+use crate::types::{reference, type_edited};
+use crate::walk::Walk;
+use smith_read::{CanonNode, CoreNode, ExportNode, ImportNode, PartNode, TypeNode};
+use smith_syntax::ComponentTypeRef;
+use std::alloc::AllocError;
+
+impl Row for CoreNode {
+    ghost Shown = { CoreEntry };
+
+    ghost shown = { shown_core_node };
+
+    ghost items = { core_items };
+
+    ghost edits = { core_row };
+
+    ghost adds = { after_core };
+
+    fn edited(&self, walk: &mut Walk) -> Result<Option<CoreNode>, AllocError> {
+        Ok(Some(core_type(walk, self)?))
+    }
+
+    fn add(&self, new: &Option<CoreNode>, own: &mut Scope) -> Result<(), AllocError> {
+        own.core_types.add(Fate::Kept.remains_if(new.is_some()))
+    }
+}
+
+// How many parameters and results a type of functions has.
+#[tactic(auto, using(smith_read_types::proofs::ShownNodes::shown_nodes))]
+fn function_members(node: &TypeNode) -> usize
+    ensures { result ≡ function_members (shown_type_node node.now) }
+{
+    match node {
+        TypeNode::Func(ty) => ty.params.len() + usize::from(ty.result.is_some()),
+        TypeNode::Defined(_) | TypeNode::Component(_) | TypeNode::Instance(_) => 0,
+    }
+}
+
+impl Row for TypeNode {
+    ghost Shown = { Entry };
+
+    ghost shown = { shown_type_node };
+
+    ghost items = { entry_items };
+
+    ghost edits = { type_row };
+
+    ghost adds = { after_type };
+
+    fn edited(&self, walk: &mut Walk) -> Result<Option<TypeNode>, AllocError> {
+        type_edited(walk, self)
+    }
+
+    fn add(&self, new: &Option<TypeNode>, own: &mut Scope) -> Result<(), AllocError> {
+        let fate = match new {
+            None => Fate::Removed,
+            Some(new) if function_members(new) == function_members(self) => Fate::Kept,
+            Some(_) => Fate::Changed,
+        };
+        own.types.add(fate)
+    }
+}
+
+impl Row for CanonNode {
+    ghost Shown = { Canon };
+
+    ghost shown = { shown_canon_node };
+
+    ghost items = { none_inside };
+
+    ghost edits = { canon_edited };
+
+    ghost adds = { after_canon };
+
+    fn edited(&self, walk: &mut Walk) -> Result<Option<CanonNode>, AllocError> {
+        match self {
+            CanonNode::Lift { core_func, ty } => {
+                let core_func = walk.own.core_functions.kept_index(*core_func);
+                match (core_func, walk.own.types.kept_index(*ty)) {
+                    (Some(core_func), Some(ty)) => Ok(Some(CanonNode::Lift { core_func, ty })),
+                    _ => Ok(None),
+                }
+            }
+            CanonNode::Lower { func } => match walk.own.functions.kept_index(*func) {
+                Some(func) => Ok(Some(CanonNode::Lower { func })),
+                None => Ok(None),
+            },
+        }
+    }
+
+    fn add(&self, new: &Option<CanonNode>, own: &mut Scope) -> Result<(), AllocError> {
+        let fate = Fate::Kept.remains_if(new.is_some());
+        match self {
+            CanonNode::Lift { .. } => own.functions.add(fate),
+            CanonNode::Lower { .. } => own.core_functions.add(fate),
+        }
+    }
+}
+
+impl Row for ImportNode {
+    ghost Shown = { ImportEntry };
+
+    ghost shown = { shown_import_node };
+
+    ghost items = { none_inside };
+
+    ghost edits = { import_edited };
+
+    ghost adds = { after_import };
+
+    fn edited(&self, walk: &mut Walk) -> Result<Option<ImportNode>, AllocError> {
+        match reference(&walk.own, self.to) {
+            Some(to) => {
+                let name = String::from_str(walk.alloc, self.name.as_str())?;
+                Ok(Some(ImportNode { name, to }))
+            }
+            None => Ok(None),
+        }
+    }
+
+    fn add(&self, new: &Option<ImportNode>, own: &mut Scope) -> Result<(), AllocError> {
+        match self.to {
+            ComponentTypeRef::Func(index) => {
+                let fate = own.types.entry_at(index).fate;
+                own.functions.add(fate.remains_if(new.is_some()))
+            }
+            ComponentTypeRef::Module(_)
+            | ComponentTypeRef::TypeEq(_)
+            | ComponentTypeRef::Component(_)
+            | ComponentTypeRef::Instance(_) => Ok(()),
+        }
+    }
+}
+
+impl Row for ExportNode {
+    ghost Shown = { ExportEntry };
+
+    ghost shown = { shown_export_node };
+
+    ghost items = { none_inside };
+
+    ghost edits = { export_edited };
+
+    ghost adds = { after_export };
+
+    fn edited(&self, walk: &mut Walk) -> Result<Option<ExportNode>, AllocError> {
+        match walk.own.functions.new_index(self.func) {
+            Some(func) => {
+                let name = String::from_str(walk.alloc, self.name.as_str())?;
+                Ok(Some(ExportNode { name, func }))
+            }
+            None => Ok(None),
+        }
+    }
+
+    fn add(&self, new: &Option<ExportNode>, own: &mut Scope) -> Result<(), AllocError> {
+        own.functions.add_like(self.func, new.is_some())
+    }
+}
+
+/// A section, with the entries that are left.
+#[cycle(parts)]
+#[tactic(auto, using(crate::proofs::PartNodes::part_nodes))]
+pub(crate) fn part(walk: &mut Walk, node: &PartNode) -> Result<PartNode, AllocError>
+    ensures edited { IfOk result (λ p. shown_part_node p
+        ≡ part_edited (shown_part_node node.now) (shown_walk walk.old)) }
+    ensures walk { OnOk result (shown_walk walk.new ≡ after_part (shown_walk walk.old) (shown_part_node node.now)) }
+{
+    match node {
+        PartNode::Custom { name, contents } => {
+            let name = String::from_str(walk.alloc, name.as_str())?;
+            let contents = Vec::from_slice(walk.alloc, contents)?;
+            Ok(PartNode::Custom { name, contents })
+        }
+        PartNode::CoreModule(text) => {
+            Ok(PartNode::CoreModule(Vec::from_slice(walk.alloc, text)?))
+        }
+        PartNode::CoreTypes(entries) => Ok(PartNode::CoreTypes(rows(walk, entries)?)),
+        PartNode::Component(nodes) => {
+            walk.enter()?;
+            let nodes = parts(walk, nodes)?;
+            walk.leave();
+            Ok(PartNode::Component(nodes))
+        }
+        PartNode::Types(entries) => Ok(PartNode::Types(rows(walk, entries)?)),
+        PartNode::Canons(entries) => Ok(PartNode::Canons(rows(walk, entries)?)),
+        PartNode::Imports(entries) => Ok(PartNode::Imports(rows(walk, entries)?)),
+        PartNode::Exports(entries) => Ok(PartNode::Exports(rows(walk, entries)?)),
+    }
+}
+
+// A section, if it is not removed; its entries are removed with it.
+#[cycle(parts)]
+fn one(walk: &mut Walk, node: &PartNode) -> Result<Option<PartNode>, AllocError>
+    ensures edited { IfOk result (λ r. option_map shown_part_node r ≡ (if removes walk.old.removal then None
+        else Some (part_edited (shown_part_node node.now) (within (shown_walk walk.old))))) }
+    ensures walk { OnOk result (shown_walk walk.new
+        ≡ after_section (shown_walk walk.old) (shown_part_node node.now)) }
+{
+    let removed = walk.removal.removes();
+    let after = walk.removal.next();
+    walk.removal = walk.removal.inside();
+    let new = part(walk, node)?;
+    if removed {
+        walk.removal = after;
+        return Ok(None);
+    }
+    Ok(Some(new))
+}
+
+/// The sections that are left.
+#[cycle(parts)]
+pub(crate) fn parts(walk: &mut Walk, nodes: &[PartNode]) -> Result<Vec<PartNode>, AllocError>
+    ensures left { IfOk result (λ v. tree_of (map shown_part_node v.items)
+        ≡ tree_edited (tree_of (map shown_part_node nodes.now)) (shown_walk walk.old)) }
+    ensures removal { OnOk result (walk.new.removal
+        ≡ past (tree_items (tree_of (map shown_part_node nodes.now))) walk.old.removal) }
+    ensures outer { OnOk result ((shown_walk walk.new).outer ≡ (shown_walk walk.old).outer) }
+{
+    let mut left = Vec::new(walk.alloc);
+    for node in nodes {
+        let new = one(walk, node)?;
+        push_some(&mut left, new)?;
+    }
+    Ok(left)
+}

@@ -1,0 +1,184 @@
+//! Types, and what types of components and instances declare.
+
+ghost use Rattle.std.specs.Prelude.{◌≡◌, ◌+◌, None, map, if◌then◌else◌, IfOk, OnOk};
+ghost use Rattle.std.specs.Option.{option_map};
+ghost use Rattle.smith_syntax.specs.Entries.{in_order};
+ghost use Rattle.smith_syntax.specs.Signature.{named};
+ghost use Rattle.smith_read_types.specs.TypeNodes.{shown_decl_node, shown_type_node};
+ghost use Rattle.smith_edit.specs.Edited.{after_decl, decl_edited, decls_edited, entry_edited, ref_edited};
+ghost use Rattle.smith_edit.specs.Items.{decl_items, decls_items, entry_items};
+ghost use Rattle.smith_edit.specs.Removal.{past, removes};
+ghost use Rattle.smith_edit.specs.Walk.{shown_walk, skipped};
+
+use crate::core_types::core_type;
+use crate::members::{defined, function};
+use crate::renumbering::Fate;
+use crate::rows::push_some;
+use crate::scope::Scope;
+use crate::walk::Walk;
+use smith_read_types::{DeclNode, TypeNode};
+use smith_syntax::ComponentTypeRef;
+use std::alloc::AllocError;
+
+/// What an import or an export is of; none where that is removed.
+pub(crate) fn reference(own: &Scope, to: ComponentTypeRef) -> Option<ComponentTypeRef>
+    ensures { result ≡ ref_edited own.now to }
+{
+    match to {
+        ComponentTypeRef::Module(index) => match own.core_types.new_index(index) {
+            Some(index) => Some(ComponentTypeRef::Module(index)),
+            None => None,
+        },
+        ComponentTypeRef::Func(index) => match own.types.new_index(index) {
+            Some(index) => Some(ComponentTypeRef::Func(index)),
+            None => None,
+        },
+        ComponentTypeRef::TypeEq(index) => match own.types.new_index(index) {
+            Some(index) => Some(ComponentTypeRef::TypeEq(index)),
+            None => None,
+        },
+        ComponentTypeRef::Component(index) => match own.types.new_index(index) {
+            Some(index) => Some(ComponentTypeRef::Component(index)),
+            None => None,
+        },
+        ComponentTypeRef::Instance(index) => match own.types.new_index(index) {
+            Some(index) => Some(ComponentTypeRef::Instance(index)),
+            None => None,
+        },
+    }
+}
+
+/// A type; none where it refers to what is removed, or has no members left.
+#[cycle(editing)]
+#[tactic(auto, using(smith_read_types::proofs::ShownNodes::shown_nodes))]
+pub(crate) fn type_edited(walk: &mut Walk, node: &TypeNode) -> Result<Option<TypeNode>, AllocError>
+    ensures edited { IfOk result (λ r. option_map shown_type_node r
+        ≡ entry_edited (shown_type_node node.now) (shown_walk walk.old)) }
+    ensures walk { OnOk result (shown_walk walk.new
+        ≡ skipped (entry_items (shown_type_node node.now)) (shown_walk walk.old)) }
+{
+    match node {
+        TypeNode::Defined(ty) => match defined(walk, ty)? {
+            Some(ty) => Ok(Some(TypeNode::Defined(ty))),
+            None => Ok(None),
+        },
+        TypeNode::Func(ty) => Ok(Some(TypeNode::Func(function(walk, ty)?))),
+        TypeNode::Component(nodes) => {
+            walk.enter()?;
+            let nodes = declarations(walk, nodes)?;
+            walk.leave();
+            Ok(Some(TypeNode::Component(nodes)))
+        }
+        TypeNode::Instance(nodes) => {
+            walk.enter()?;
+            let nodes = declarations(walk, nodes)?;
+            walk.leave();
+            Ok(Some(TypeNode::Instance(nodes)))
+        }
+    }
+}
+
+// The name and what it is of; none where that is removed.
+fn named(
+    walk: &Walk,
+    name: &str,
+    to: ComponentTypeRef,
+) -> Result<Option<(String, ComponentTypeRef)>, AllocError>
+    ensures { IfOk result (λ r. option_map named r ≡ option_map (λ t. (name.now, t)) (ref_edited walk.now.own to)) }
+{
+    match reference(&walk.own, to) {
+        Some(to) => Ok(Some((String::from_str(walk.alloc, name)?, to))),
+        None => Ok(None),
+    }
+}
+
+// A declaration; none where it refers to what is removed.
+#[cycle(editing)]
+#[tactic(auto, using(smith_read_types::proofs::ShownNodes::shown_nodes))]
+fn declaration(walk: &mut Walk, node: &DeclNode) -> Result<Option<DeclNode>, AllocError>
+    ensures edited { IfOk result (λ r. option_map shown_decl_node r
+        ≡ decl_edited (shown_decl_node node.now) (shown_walk walk.old)) }
+    ensures walk { OnOk result (shown_walk walk.new
+        ≡ skipped (decl_items (shown_decl_node node.now)) (shown_walk walk.old)) }
+{
+    match node {
+        DeclNode::Core(ty) => Ok(Some(DeclNode::Core(core_type(walk, ty)?))),
+        DeclNode::Type(ty) => match type_edited(walk, ty)? {
+            Some(ty) => Ok(Some(DeclNode::Type(ty))),
+            None => Ok(None),
+        },
+        DeclNode::TypeAlias { count, index } => match walk.aliased_type(*count, *index) {
+            Some(index) => Ok(Some(DeclNode::TypeAlias {
+                count: *count,
+                index,
+            })),
+            None => Ok(None),
+        },
+        DeclNode::CoreTypeAlias { count, index } => match walk.aliased_core_type(*count, *index) {
+            Some(index) => Ok(Some(DeclNode::CoreTypeAlias {
+                count: *count,
+                index,
+            })),
+            None => Ok(None),
+        },
+        DeclNode::Import { name, to } => match named(walk, name.as_str(), *to)? {
+            Some((name, to)) => Ok(Some(DeclNode::Import { name, to })),
+            None => Ok(None),
+        },
+        DeclNode::Export { name, to } => match named(walk, name.as_str(), *to)? {
+            Some((name, to)) => Ok(Some(DeclNode::Export { name, to })),
+            None => Ok(None),
+        },
+    }
+}
+
+// Adds a declaration to its index space, after it was edited.
+#[tactic(auto, using(smith_read_types::proofs::ShownNodes::shown_nodes))]
+fn add(node: &DeclNode, new: &Option<DeclNode>, own: &mut Scope) -> Result<(), AllocError>
+    ensures { OnOk result (own.new
+        ≡ after_decl own.old (shown_decl_node node.now) (option_map shown_decl_node new.now)) }
+{
+    let fate = Fate::Kept.remains_if(new.is_some());
+    match node {
+        DeclNode::Type(_)
+        | DeclNode::TypeAlias { .. }
+        | DeclNode::Export {
+            to: ComponentTypeRef::TypeEq(_),
+            ..
+        } => own.types.add(fate),
+        DeclNode::Core(_) | DeclNode::CoreTypeAlias { .. } => own.core_types.add(fate),
+        DeclNode::Import { .. } | DeclNode::Export { .. } => Ok(()),
+    }
+}
+
+// The declaration, if it is neither removed nor refers to what is.
+#[cycle(editing)]
+fn one(walk: &mut Walk, node: &DeclNode) -> Result<Option<DeclNode>, AllocError>
+    ensures edited { IfOk result (λ r. option_map shown_decl_node r ≡ (if removes walk.old.removal then None
+        else decl_edited (shown_decl_node node.now) (skipped 1 (shown_walk walk.old)))) }
+    ensures walk { OnOk result (shown_walk walk.new
+        ≡ skipped (decl_items (shown_decl_node node.now) + 1) (shown_walk walk.old)) }
+{
+    if walk.step() {
+        return Ok(None);
+    }
+    declaration(walk, node)
+}
+
+// The declarations that are left.
+#[cycle(editing)]
+fn declarations(walk: &mut Walk, nodes: &[DeclNode]) -> Result<Vec<DeclNode>, AllocError>
+    ensures left { IfOk result (λ v. in_order (map shown_decl_node v.items)
+        ≡ decls_edited (in_order (map shown_decl_node nodes.now)) (shown_walk walk.old)) }
+    ensures removal { OnOk result (walk.new.removal
+        ≡ past (decls_items (in_order (map shown_decl_node nodes.now))) walk.old.removal) }
+    ensures outer { OnOk result ((shown_walk walk.new).outer ≡ (shown_walk walk.old).outer) }
+{
+    let mut left = Vec::new(walk.alloc);
+    for node in nodes {
+        let new = one(walk, node)?;
+        add(node, &new, &mut walk.own)?;
+        push_some(&mut left, new)?;
+    }
+    Ok(left)
+}
