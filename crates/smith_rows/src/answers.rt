@@ -1,6 +1,7 @@
 //! The answers to a row.
 
 use crate::bytes::Printed;
+use crate::edits::{doubled, smaller};
 use crate::texts::{defaults, misfit, texts, unwritten};
 use smith_component::{Config, Error, Unstructured, generate};
 use smith_read::{ReadError, read};
@@ -28,6 +29,10 @@ pub enum Task {
     Check,
     /// Whether they are a component that a validator accepts.
     Validate,
+    /// What the component in them is without each of its items.
+    Smaller,
+    /// What the component in them is joined with itself.
+    Doubled,
     /// The texts of the errors.
     Texts,
     /// Whether the text of the default limits is the default.
@@ -239,6 +244,8 @@ pub fn answer(
         Task::Fronts => fronts(alloc, bytes),
         Task::Check => format!(in alloc; "= {}\n", check(alloc, bytes)?),
         Task::Validate => format!(in alloc; "= {}\n", validate(alloc, bytes)?),
+        Task::Smaller => smaller(alloc, bytes),
+        Task::Doubled => doubled(alloc, bytes),
         Task::Texts => texts(alloc),
         Task::Defaults => defaults(alloc),
         Task::Misfit => misfit(alloc, limits),

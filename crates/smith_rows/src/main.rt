@@ -4,6 +4,7 @@
 
 mod answers;
 mod bytes;
+mod edits;
 mod rows;
 mod texts;
 

@@ -31,6 +31,8 @@ fn task_of(word: &str) -> Option<Task> {
         "fronts" => Some(Task::Fronts),
         "check" => Some(Task::Check),
         "validate" => Some(Task::Validate),
+        "smaller" => Some(Task::Smaller),
+        "doubled" => Some(Task::Doubled),
         "texts" => Some(Task::Texts),
         "defaults" => Some(Task::Defaults),
         "misfit" => Some(Task::Misfit),
