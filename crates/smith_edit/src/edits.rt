@@ -27,8 +27,9 @@ use std::alloc::{AllocError, Global};
 /// with its entries, and a compound type with its last member. Where the type of a function loses a parameter or its
 /// result, its lowers and its lifts are removed. An index of nothing remains as it is.
 ///
-/// So a component that is well formed remains so, and gets no longer in bytes. It takes time and memory in proportion
-/// to the component, and stack by its depth.
+/// So a component that is well formed remains so, and has no more bytes. It takes time and memory in proportion to the
+/// component, and stack in proportion to its depth. `Err` is returned where a growth is refused, and where an index would
+/// exceed 4,294,967,295.
 pub fn without(
     alloc: Global,
     tree: &ComponentTree,
@@ -67,11 +68,12 @@ fn names(alloc: Global, parts: &[PartNode]) -> Result<Taken, AllocError>
     Ok(taken)
 }
 
-/// The sections of the first component, and then those of the second: its indexes follow those of the first, and names
-/// of its imports and exports that there are before are made new, with digits at their end. An index of nothing remains
-/// as it is.
+/// The sections of the first component, and then those of the second: its indexes follow those of the first, and a name
+/// of an import or an export that is taken already is made new, with digits at its end. An index of nothing remains as
+/// it is.
 ///
-/// So two components that are well formed are joined to one that is. It uses stack by the depth of the second.
+/// So two components that are well formed are joined to one that is. It uses stack in proportion to the depth of the
+/// second. `Err` is returned where a growth is refused, and where an index would exceed 4,294,967,295.
 pub fn joined(
     alloc: Global,
     left: ComponentTree,

@@ -51,7 +51,8 @@ const RESTS: [&[u8]; 3] = [b"", b"\xff\x07", b"\x00\x03\x01"];
 struct Generated {
     bytes: Result<Vec<u8>, Error>,
     left: Vec<u8>,
-    // Whether the component is measured and read back as what was generated, and found well formed, and valid where it has to be.
+    // Whether the component is measured and read back as what was generated, and found well formed, and valid where it
+    // has to be.
     agrees: bool,
 }
 
