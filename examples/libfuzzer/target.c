@@ -1,10 +1,13 @@
-/* A target of libFuzzer and of AFL++: each input gives a component, which goes to use_component of use.h.
+/* A target of libFuzzer and of AFL++: each input gives a component, which goes to use_component, a function of yours.
  *
  * The library has no coverage of its own, so that the target tells libFuzzer what sections it sees: their numbers, the
  * number of the section before, and how long they are. */
+#include "input_limits.h"
 #include "lupinanon.h"
-#include "use.h"
 #include <stdlib.h>
+
+/* What is done with a component, in another file. An answer other than 0 is a finding. */
+int use_component(const uint8_t *bytes, size_t len);
 
 #ifdef __has_attribute
 #if defined(__linux__) && defined(__clang__)
@@ -41,16 +44,16 @@ static void count_sections(const uint8_t *bytes, size_t len) {
     }
 }
 
+/* Returns -1, so that the input is not kept, where its component is too large for this target, or memory runs out. */
 int LLVMFuzzerTestOneInput(const uint8_t *data, size_t size) {
     static uint8_t output[1 << 16];
-    size_t len, left;
+    size_t len, left, front;
     LupinanonLimits limits;
     int32_t status;
-    lupinanon_default_limits(&limits, sizeof limits);
-    limits.max_exports = 10;
-    status = lupinanon_generate_into(&limits, data, size, output, sizeof output, &len, &left);
-    if (status == LUPINANON_NO_ROOM) return -1; /* larger than what this target is for: not kept in the corpus */
-    if (status != LUPINANON_ANSWERED || left > size) abort();
+    front = limits_of_input(&limits, data, size);
+    status = lupinanon_generate_into(&limits, data + front, size - front, output, sizeof output, &len, &left);
+    if (status == LUPINANON_NO_ROOM || status == LUPINANON_OUT_OF_MEMORY) return -1;
+    if (status != LUPINANON_ANSWERED || left > size - front) abort();
     count_sections(output, len);
     if (use_component(output, len)) abort();
     return 0;

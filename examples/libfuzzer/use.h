@@ -1,4 +1,4 @@
-/* What is done with a component: put a call of your own here, as of a validator. An answer other than 0 is a finding. */
+/* What is done with a component where USE names nothing else. An answer other than 0 is a finding. */
 #include <stddef.h>
 #include <stdint.h>
 #include <string.h>
