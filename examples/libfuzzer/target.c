@@ -1,7 +1,7 @@
-/* A target of libFuzzer and of AFL++: each input gives a component, which goes to use_component, a function of yours.
+/* A target of libFuzzer and of AFL++: each input makes a component, which is passed to use_component, a function of yours.
  *
- * The library has no coverage of its own, so that the target tells libFuzzer what sections it sees: their numbers, the
- * number of the section before, and how long they are. */
+ * The library has no coverage of its own. So the target counts as coverage, for libFuzzer, what sections it sees: their
+ * numbers, the number of the section before, and how long they are. */
 #include "input_limits.h"
 #include "lupinanon.h"
 #include <stdlib.h>
