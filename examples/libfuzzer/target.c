@@ -14,7 +14,7 @@ int use_component(const uint8_t *bytes, size_t len);
 __attribute__((section("__libfuzzer_extra_counters")))
 #endif
 #endif
-static uint8_t seen[16 * 16 * 16];
+static volatile uint8_t seen[16 * 16 * 16]; /* volatile, since nothing here reads it */
 
 enum { HEADER = 8, LAST_SECTION = 11 };
 
