@@ -4,5 +4,8 @@ pub mod Renumbering
 pub mod Walk
 pub mod Edited
 pub mod Edits
+pub mod ShortNames
+pub mod Simpler
+pub mod Search
 pub mod Names
 pub mod Counts

@@ -56,8 +56,8 @@ fn counts(parts: &[PartNode]) -> Result<Counts, AllocError>
     Ok(counts)
 }
 
-// The names of imports and exports.
-fn names(alloc: Global, parts: &[PartNode]) -> Result<Taken, AllocError>
+/// The names of imports and exports.
+pub(crate) fn names(alloc: Global, parts: &[PartNode]) -> Result<Taken, AllocError>
     ensures { let tree = tree_of (map shown_part_node parts.now) in
         IfOk result (λ t. KnowsBoth t (import_names (imports_of tree)) (export_names (exports_of tree))) }
 {

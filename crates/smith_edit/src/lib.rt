@@ -1,9 +1,11 @@
-//! Components without one of their items, and components joined: what reducers and mutators of components need.
+//! Components without one of their items or with a simpler one, and components joined: what reducers and mutators of
+//! components need.
 #![tactic(auto)]
 
 mod core_types;
 mod counts;
 mod edits;
+mod items;
 pub mod laws;
 mod members;
 mod names;
@@ -12,7 +14,10 @@ mod removal;
 mod renumbering;
 mod rows;
 mod scope;
+mod simpler;
 mod types;
 mod walk;
 
 pub use edits::{joined, without};
+pub use items::item_count;
+pub use simpler::simplified;

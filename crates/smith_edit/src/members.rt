@@ -193,7 +193,7 @@ fn option(types: &Renumbering, ty: &OptionType) -> Option<DefinedType>
     }
 }
 
-fn record_of(fields: Option<Vec<(String, ComponentValType)>>) -> Option<DefinedType>
+pub(crate) fn record_of(fields: Option<Vec<(String, ComponentValType)>>) -> Option<DefinedType>
     ensures { option_map shown_defined result ≡ option_map record_type (option_map (λ v. map named v.items) fields) }
 {
     match fields {
@@ -202,7 +202,9 @@ fn record_of(fields: Option<Vec<(String, ComponentValType)>>) -> Option<DefinedT
     }
 }
 
-fn variant_of(cases: Option<Vec<(String, Option<ComponentValType>)>>) -> Option<DefinedType>
+pub(crate) fn variant_of(
+    cases: Option<Vec<(String, Option<ComponentValType>)>>,
+) -> Option<DefinedType>
     ensures { option_map shown_defined result ≡ option_map variant_type (option_map (λ v. map named v.items) cases) }
 {
     match cases {
@@ -211,7 +213,7 @@ fn variant_of(cases: Option<Vec<(String, Option<ComponentValType>)>>) -> Option<
     }
 }
 
-fn tuple_of(fields: Option<Vec<ComponentValType>>) -> Option<DefinedType>
+pub(crate) fn tuple_of(fields: Option<Vec<ComponentValType>>) -> Option<DefinedType>
     ensures { option_map shown_defined result ≡ option_map tuple_type (option_map (λ v. v.items) fields) }
 {
     match fields {
@@ -220,7 +222,7 @@ fn tuple_of(fields: Option<Vec<ComponentValType>>) -> Option<DefinedType>
     }
 }
 
-fn flags_of(fields: Option<Vec<String>>) -> Option<DefinedType>
+pub(crate) fn flags_of(fields: Option<Vec<String>>) -> Option<DefinedType>
     ensures { option_map shown_defined result
         ≡ option_map flags_type (option_map (λ v. map string_bytes v.items) fields) }
 {
@@ -230,7 +232,7 @@ fn flags_of(fields: Option<Vec<String>>) -> Option<DefinedType>
     }
 }
 
-fn enum_of(variants: Option<Vec<String>>) -> Option<DefinedType>
+pub(crate) fn enum_of(variants: Option<Vec<String>>) -> Option<DefinedType>
     ensures { option_map shown_defined result
         ≡ option_map enum_type (option_map (λ v. map string_bytes v.items) variants) }
 {

@@ -6,7 +6,8 @@ ghost use Rattle.smith_tree.specs.Tree.{ExportEntry, exports_in, imports_in};
 ghost use Rattle.smith_tree.specs.WellFormed.{export_names, import_names};
 ghost use Rattle.smith_read.specs.PartNodes.{shown_export_node, shown_import_node, shown_part_node};
 ghost use Rattle.smith_edit.specs.Edits.{all_renamed, export_renamed, import_renamed, new_name, part_renamed};
-ghost use Rattle.smith_edit.specs.Names.{Knows, KnowsBoth, export_is_renamed, import_is_renamed};
+ghost use Rattle.smith_edit.specs.Names.{Knows, KnowsBoth, export_is_renamed, export_is_same};
+ghost use Rattle.smith_edit.specs.Names.{import_is_renamed, import_is_same};
 
 use crate::counts::sum;
 use smith_read::{ExportNode, ImportNode, PartNode};
@@ -24,6 +25,8 @@ pub(crate) trait Named: Drop {
     ghost rename: { Shown → List ℕ → Shown };
 
     ghost is_renamed: { (x : Shown) (text : List ℕ) → name (rename x text) ≡ text };
+
+    ghost is_same: { (x : Shown) → rename x (name x) ≡ x };
 
     fn label(&self) -> &str
         ensures { result.now ≡ name (shown self.now) };
@@ -43,6 +46,8 @@ impl Named for ImportNode {
     ghost rename = { import_renamed };
 
     ghost is_renamed = { import_is_renamed };
+
+    ghost is_same = { import_is_same };
 
     fn label(&self) -> &str {
         self.name.as_str()
@@ -66,6 +71,8 @@ impl Named for ExportNode {
     ghost rename = { export_renamed };
 
     ghost is_renamed = { export_is_renamed };
+
+    ghost is_same = { export_is_same };
 
     fn label(&self) -> &str {
         self.name.as_str()
@@ -96,8 +103,8 @@ impl Names {
         }
     }
 
-    // Adds a name.
-    fn add(&mut self, alloc: Global, name: &str) -> Result<(), AllocError>
+    /// Adds a name.
+    pub(crate) fn add(&mut self, alloc: Global, name: &str) -> Result<(), AllocError>
         ensures { (names : List (List ℕ)) → Knows self.old names
             → OnOk result (Knows self.new (names ++ name.now ∷ [])) }
     {
@@ -123,8 +130,8 @@ impl Names {
         Ok(new)
     }
 
-    // Adds all names.
-    fn add_all<T: Named>(&mut self, alloc: Global, items: &[T]) -> Result<(), AllocError>
+    /// Adds all names.
+    pub(crate) fn add_all<T: Named>(&mut self, alloc: Global, items: &[T]) -> Result<(), AllocError>
         ensures { (names : List (List ℕ)) → Knows self.old names
             → OnOk result (Knows self.new (names ++ map T.name (map T.shown items.now))) }
     {

@@ -1,7 +1,7 @@
 //! The answers to a row.
 
 use crate::bytes::Printed;
-use crate::edits::{doubled, smaller};
+use crate::edits::{doubled, simpler, smaller};
 use crate::texts::{defaults, misfit, texts, unwritten};
 use smith_component::{Config, Error, Unstructured, generate};
 use smith_read::{ReadError, read};
@@ -31,6 +31,8 @@ pub enum Task {
     Validate,
     /// What the component in them is without each of its items.
     Smaller,
+    /// What the component in them is with each of its items made simpler.
+    Simpler,
     /// What the component in them is joined with itself.
     Doubled,
     /// The texts of the errors.
@@ -246,6 +248,7 @@ pub fn answer(
         Task::Check => format!(in alloc; "= {}\n", check(alloc, bytes)?),
         Task::Validate => format!(in alloc; "= {}\n", validate(alloc, bytes)?),
         Task::Smaller => smaller(alloc, bytes),
+        Task::Simpler => simpler(alloc, bytes),
         Task::Doubled => doubled(alloc, bytes),
         Task::Texts => texts(alloc),
         Task::Defaults => defaults(alloc),

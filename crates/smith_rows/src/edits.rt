@@ -1,7 +1,7 @@
-//! Answers to rows about edits: components without one of their items, and components joined.
+//! Answers to rows about edits: components without one of their items or with a simpler one, and components joined.
 
 use crate::bytes::Printed;
-use smith_edit::{joined, without};
+use smith_edit::{item_count, joined, simplified, without};
 use smith_read::{ComponentTree, read};
 use smith_write::write;
 use std::alloc::{AllocError, Global};
@@ -25,6 +25,22 @@ pub fn smaller(alloc: Global, bytes: &[u8]) -> Result<String, AllocError> {
             return Ok(answers);
         };
         answers.push_str(&written(alloc, "without", &less)?)?;
+    }
+    Ok(answers)
+}
+
+/// The component in these bytes with each of its items made simpler, in their order.
+pub fn simpler(alloc: Global, bytes: &[u8]) -> Result<String, AllocError> {
+    let mut answers = String::new(alloc);
+    let Ok(tree) = read(alloc, bytes) else {
+        return String::from_str(alloc, "= no component\n");
+    };
+    for item in 0..item_count(&tree)? {
+        let answer = match simplified(alloc, &tree, item)? {
+            Some(simpler) => written(alloc, "simpler", &simpler)?,
+            None => String::from_str(alloc, "= simplest\n")?,
+        };
+        answers.push_str(&answer)?;
     }
     Ok(answers)
 }

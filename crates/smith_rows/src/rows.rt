@@ -32,6 +32,7 @@ fn task_of(word: &str) -> Option<Task> {
         "check" => Some(Task::Check),
         "validate" => Some(Task::Validate),
         "smaller" => Some(Task::Smaller),
+        "simpler" => Some(Task::Simpler),
         "doubled" => Some(Task::Doubled),
         "texts" => Some(Task::Texts),
         "defaults" => Some(Task::Defaults),

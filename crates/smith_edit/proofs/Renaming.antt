@@ -1,0 +1,107 @@
+-- What has a name, renamed.
+use Rattle.std.proofs.Common.{◌≡◌, ℕ, zero, suc, ◌+◌, ◌<◌, ◌≤◌, true, List, [], ◌∷◌, ◌++◌, Option, None, Some, drop, get_or, map, length, ap, sym, refl}
+use Rattle.std.proofs.Common.{◌∙◌, arith, ⊎_elim}
+use Rattle.std.specs.Prelude.{slice_set}
+use Rattle.std.proofs.lemmas.Bool.{cases_lt}
+use Rattle.std.specs.Option.{is_some, option_map, option_to_list}
+use Rattle.smith_syntax.specs.Entries.{Signature}
+use Rattle.smith_syntax.specs.declared.types.ComponentValType.{ComponentValType}
+use Rattle.smith_edit.specs.Items.{signature_items}
+use Rattle.smith_edit.specs.Search.{among, past, sought}
+use Rattle.smith_edit.specs.ShortNames.{shorter_name}
+use Rattle.smith_edit.specs.Simpler.{fields_simplified, renamed_at, signature_simplified}
+use Rattle.smith_edit.specs.declared.simpler.search.Search.{Search}
+use Rattle.smith_edit.specs.declared.simpler.search.Search.TheVariants.{Ahead, Over}
+use Rattle.smith_edit.proofs.Lists.{append_nil, map_drop, map_dropped}
+use Rattle.smith_edit.proofs.Seeking.{and_then, by_number, past_less, sought_more, sought_turn}
+
+module _ {A : Type 0} (name : A → List ℕ) (rename : A → List ℕ → A) (names : List (List ℕ)) where
+  -- there is none past the last
+  pub renamed_beyond : (k : ℕ) (xs : List A) → length xs ≤ k → renamed_at name rename names k xs ≡ None
+  renamed_beyond k [] h = refl
+  renamed_beyond zero (x ∷ xs) h = absurd (omega arith)
+  renamed_beyond (suc k) (x ∷ xs) h = ap (option_map (λ ys. x ∷ ys)) (renamed_beyond k xs (omega arith))
+
+  module _ {X : Type 0} (shown : X → A) where
+    -- where its name stays
+    pub renamed_none : (k : ℕ) (xs : List X) (x : X) → k < length xs → x ≡ get_or xs k x → shorter_name names (name (shown x)) ≡ None
+        → renamed_at name rename names k (map shown xs) ≡ None
+    renamed_none k [] x lt at none = absurd (omega arith)
+    renamed_none zero (y ∷ xs) x lt at none =
+        let same = sym at in
+        ap (λ o. option_map (λ z. z ∷ map shown xs) (option_map (rename (shown y)) o)) (ap (λ z. shorter_name names (name (shown z))) same ∙ none)
+    renamed_none (suc k) (y ∷ xs) x lt at none = ap (option_map (λ ys. shown y ∷ ys)) (renamed_none k xs x (omega arith) at none)
+
+    -- copies of all, but for the one
+    pub renamed_some : (k : ℕ) (xs : List X) (x : X) (copies : List X) (y : X) (new : List ℕ) → k < length xs → x ≡ get_or xs k x
+        → map shown copies ≡ map shown xs → shorter_name names (name (shown x)) ≡ Some new → shown y ≡ rename (shown x) new
+        → Some (map shown (slice_set copies k y)) ≡ renamed_at name rename names k (map shown xs)
+    renamed_some k [] x copies y new lt at same some is = absurd (omega arith)
+    renamed_some k (z ∷ xs) x [] y new lt at same some is = absurd cc
+    renamed_some zero (z ∷ xs) x (c ∷ copies) y new lt at same some is =
+        let here : z ≡ x = sym at in
+        let rest : map shown copies ≡ map shown xs = cc in
+        let next : shorter_name names (name (shown z)) ≡ Some new = ap (λ w. shorter_name names (name (shown w))) here ∙ some in
+        let made : shown y ≡ rename (shown z) new = is ∙ sym (ap (λ w. rename (shown w) new) here) in
+        rw (rest, made) (sym (ap (λ o. option_map (λ w. w ∷ map shown xs) (option_map (rename (shown z)) o)) next))
+    renamed_some (suc k) (z ∷ xs) x (c ∷ copies) y new lt at same some is =
+        let rest : map shown copies ≡ map shown xs = cc in
+        let first : shown c ≡ shown z = cc in
+        rw first (ap (option_map (λ ws. shown z ∷ ws)) (renamed_some k xs x copies y new (omega arith) at rest some is))
+
+-- copies, one by one
+module _ {X A : Type 0} (shown : X → A) where
+  map_push : (xs : List X) (x : X) → map shown (xs ++ x ∷ []) ≡ map shown xs ++ shown x ∷ []
+  map_push [] x = refl
+  map_push (y ∷ ys) x = ap (λ zs. shown y ∷ zs) (map_push ys x)
+
+  append_one : (xs : List A) (y : A) (ys : List A) → (xs ++ y ∷ []) ++ ys ≡ xs ++ y ∷ ys
+  append_one [] y ys = refl
+  append_one (x ∷ xs) y ys = ap (λ zs. x ∷ zs) (append_one xs y ys)
+
+  pub copied_step : (whole : List A) (xs done done2 : List X) (i : ℕ) (x y : X) → i < length xs → x ≡ get_or xs i x → shown y ≡ shown x
+      → done2 ≡ done ++ y ∷ [] → map shown done ++ map shown (drop i xs) ≡ whole → map shown done2 ++ map shown (drop (i + 1) xs) ≡ whole
+  copied_step whole xs done done2 i x y lt at is more h =
+      rw (more, map_push done y, is)
+      (append_one (map shown done) (shown x) (map shown (drop (i + 1) xs))
+      ∙ (sym (ap (λ ys. map shown done ++ ys) (map_drop shown xs i x lt at)) ∙ h))
+
+  pub copied_end : (left whole : List A) (xs : List X) (i : ℕ) → length xs ≤ i → left ++ map shown (drop i xs) ≡ whole → left ≡ whole
+  copied_end left whole xs i ge h = sym (append_nil left) ∙ (sym (ap (λ ys. left ++ ys) (map_dropped shown xs i ge)) ∙ h)
+
+-- the parameters, and then the result
+abbrev pub signed : Signature → List (List ℕ × ComponentValType) → Option ComponentValType → Signature
+signed g ps r = record { params = ps; result = r }
+
+pub signature_turn : (g : Signature) (s : Search) → sought (signature_items g) s (λ k. signature_simplified k g) g
+    ≡ and_then (sought (length g.params) s (λ k. fields_simplified k g.params) g.params)
+    (λ ps. option_map (signed g ps) (sought (length (option_to_list g.result)) (past (length g.params) s) (λ k. None) g.result))
+signature_turn g s =
+    sought_turn (signed g) (length g.params) (length (option_to_list g.result)) (λ k. fields_simplified k g.params) (λ k. None)
+    (λ k. signature_simplified k g) g.params g.result (λ k lt. refl)
+    (λ k ge. ap (option_map (λ ps. record g { params = ps })) (renamed_beyond (λ f. f.0) (λ f n. (n, f.1)) (map (λ f. f.0) g.params) k g.params ge)) s
+
+-- where the result is sought
+
+past_result : (g : Signature) (k : ℕ) → is_some (among (length (option_to_list g.result)) (past (length g.params) (Ahead k))) ≡ true → length g.params ≤ k
+past_result g k h =
+    ⊎_elim
+    (λ lt. let none : is_some (among (length (option_to_list g.result)) Over) ≡ true =
+    sym (ap (λ s. is_some (among (length (option_to_list g.result)) s)) (past_less (length g.params) k lt)) ∙ h in absurd cc)
+    (λ ge. ge)
+    (cases_lt k (length g.params))
+
+result_by : {A : Type 0} (o : Option ℕ) (x : A) → is_some o ≡ true → by_number o (λ k. None) x ≡ None
+result_by None x h = absurd cc
+result_by (Some k) x h = refl
+
+pub signature_none : (g : Signature) (s : Search) → is_some (among (length (option_to_list g.result)) (past (length g.params) s)) ≡ true
+    → None ≡ sought (signature_items g) s (λ k. signature_simplified k g) g
+signature_none g (Ahead k) h =
+    let ge : length g.params ≤ k = past_result g k h in
+    sym
+    (signature_turn g (Ahead k)
+    ∙ ap (λ o. and_then o (λ ps. option_map (signed g ps) (sought (length (option_to_list g.result)) (past (length g.params) (Ahead k)) (λ j. None) g.result)))
+    (sought_more (length g.params) k (λ j. fields_simplified j g.params) g.params ge)
+    ∙ ap (option_map (signed g g.params)) (result_by (among (length (option_to_list g.result)) (past (length g.params) (Ahead k))) g.result h))
+signature_none g Over h = absurd cc

@@ -1,0 +1,147 @@
+-- What is sought, item by item.
+use Rattle.std.proofs.Common.{◌≡◌, ℕ, zero, suc, ◌+◌, ◌-◌, ◌<◌, ◌≤◌, true, false, Option, Some, None, ap, sym, refl, ◌∙◌, arith, nat_lt, ⊎_elim, rules}
+use Rattle.std.proofs.lemmas.Bool.{cases_lt}
+use Rattle.std.proofs.lemmas.Bool.Decides.{nat_tests}
+use Rattle.std.specs.Option.{option_map}
+use Rattle.smith_edit.specs.Search.{among, is_here, past, sought}
+use Rattle.smith_edit.specs.Simpler.{itself_or}
+use Rattle.smith_edit.specs.declared.simpler.search.Search.{Search}
+use Rattle.smith_edit.specs.declared.simpler.search.Search.TheVariants.{Ahead, Over}
+
+pub past_none : (s : Search) → past 0 s ≡ s
+past_none (Ahead m) = search rules
+past_none Over = refl
+
+pub past_less : (n m : ℕ) → m < n → past n (Ahead m) ≡ Over
+past_less n m h = let t : nat_lt m n ≡ true = grind (arith, nat_tests) in rw t refl
+
+pub past_more : (n m : ℕ) → n ≤ m → past n (Ahead m) ≡ Ahead (m - n)
+past_more n m h = let t : nat_lt m n ≡ false = grind (arith, nat_tests) in rw t refl
+
+past_in : (a b m : ℕ) → b ≤ m → past a (Ahead (m - b)) ≡ past (b + a) (Ahead m)
+past_in a b m h =
+    ⊎_elim
+    (λ lt. past_less a (m - b) lt ∙ sym (past_less (b + a) m (omega arith)))
+    (λ ge. past_more a (m - b) ge ∙ (let e : m - b - a ≡ m - (b + a) = omega arith in rw e (sym (past_more (b + a) m (omega arith)))))
+    (cases_lt (m - b) a)
+
+past_by : (a b m : ℕ) → past a (past b (Ahead m)) ≡ past (b + a) (Ahead m)
+past_by a b m =
+    ⊎_elim
+    (λ lt. ap (past a) (past_less b m lt) ∙ sym (past_less (b + a) m (omega arith)))
+    (λ ge. ap (past a) (past_more b m ge) ∙ past_in a b m ge)
+    (cases_lt m b)
+
+pub past_past : (a b : ℕ) (s : Search) → past a (past b s) ≡ past (b + a) s
+past_past a b (Ahead m) = past_by a b m
+past_past a b Over = refl
+
+pub past_step : (n : ℕ) (s : Search) → past n (past 1 s) ≡ past (n + 1) s
+past_step n s = past_past n 1 s ∙ (let c : 1 + n ≡ n + 1 = omega arith in ap (λ m. past m s) c)
+
+pub past_here : (n : ℕ) (s : Search) → is_here s ≡ true → past 1 s ≡ past (n + 1) s
+past_here n (Ahead m) h = let z : m ≡ 0 = grind (arith, nat_tests) in past_less 1 m (omega arith) ∙ sym (past_less (n + 1) m (omega arith))
+past_here n Over h = refl
+
+pub ahead_one : (m : ℕ) → past 1 (Ahead (suc m)) ≡ Ahead m
+ahead_one m = past_more 1 (suc m) (omega arith) ∙ (let e : suc m - 1 ≡ m = omega arith in rw e refl)
+
+-- which it is
+
+pub among_less : (n m : ℕ) → m < n → among n (Ahead m) ≡ Some m
+among_less n m h = let t : nat_lt m n ≡ true = grind (arith, nat_tests) in rw t refl
+
+pub among_more : (n m : ℕ) → n ≤ m → among n (Ahead m) ≡ None
+among_more n m h = let t : nat_lt m n ≡ false = grind (arith, nat_tests) in rw t refl
+
+pub among_none : (s : Search) → among 0 s ≡ None
+among_none (Ahead m) = among_more 0 m (omega arith)
+among_none Over = refl
+
+module _ {A : Type 0} where
+  -- by its number, if it has one
+  abbrev pub by_number : Option ℕ → (ℕ → Option A) → A → Option A
+  by_number o g x = elim o [ None ↦ Some x | Some k ↦ g k ]
+
+  pub sought_less : (n m : ℕ) (g : ℕ → Option A) (x : A) → m < n → sought n (Ahead m) g x ≡ g m
+  sought_less n m g x h = ap (λ o. by_number o g x) (among_less n m h)
+
+  pub sought_more : (n m : ℕ) (g : ℕ → Option A) (x : A) → n ≤ m → sought n (Ahead m) g x ≡ Some x
+  sought_more n m g x h = ap (λ o. by_number o g x) (among_more n m h)
+
+  pub sought_none : (s : Search) (g : ℕ → Option A) (x : A) → sought 0 s g x ≡ Some x
+  sought_none s g x = ap (λ o. by_number o g x) (among_none s)
+
+  pub sought_here : (n : ℕ) (s : Search) (whole : Option A) (g : ℕ → Option A) (x : A) → is_here s ≡ true → sought (n + 1) s (itself_or whole g) x ≡ whole
+  sought_here n (Ahead m) whole g x h =
+      let z : m ≡ 0 = grind (arith, nat_tests) in
+      rw z (sought_less (n + 1) 0 (itself_or whole g) x (omega arith))
+  sought_here n Over whole g x h = absurd cc
+
+  inside_by : (n m : ℕ) (whole : Option A) (g : ℕ → Option A) (x : A)
+      → sought (n + 1) (Ahead (suc m)) (itself_or whole g) x ≡ sought n (Ahead m) g x
+  inside_by n m whole g x =
+      ⊎_elim
+      (λ lt. sought_less (n + 1) (suc m) (itself_or whole g) x (omega arith) ∙ sym (sought_less n m g x lt))
+      (λ ge. sought_more (n + 1) (suc m) (itself_or whole g) x (omega arith) ∙ sym (sought_more n m g x ge))
+      (cases_lt m n)
+
+  inside_of : (n m : ℕ) (whole : Option A) (g : ℕ → Option A) (x : A) → is_here (Ahead m) ≡ false
+      → sought (n + 1) (Ahead m) (itself_or whole g) x ≡ sought n (past 1 (Ahead m)) g x
+  inside_of n zero whole g x h = absurd (grind (arith, nat_tests))
+  inside_of n (suc m) whole g x h = inside_by n m whole g x ∙ sym (ap (λ s. sought n s g x) (ahead_one m))
+
+  pub sought_inside : (n : ℕ) (s : Search) (whole : Option A) (g : ℕ → Option A) (x : A) → is_here s ≡ false
+      → sought (n + 1) s (itself_or whole g) x ≡ sought n (past 1 s) g x
+  sought_inside n (Ahead m) whole g x h = inside_of n m whole g x h
+  sought_inside n Over whole g x h = refl
+
+-- what holds what is sought
+
+module _ {A B : Type 0} (f : A → B) where
+  map_by : (o : Option ℕ) (g : ℕ → Option A) (x : A) → by_number o (λ k. option_map f (g k)) (f x) ≡ option_map f (by_number o g x)
+  map_by None g x = refl
+  map_by (Some k) g x = refl
+
+  pub sought_map : (n : ℕ) (s : Search) (g : ℕ → Option A) (x : A)
+      → sought n s (λ k. option_map f (g k)) (f x) ≡ option_map f (sought n s g x)
+  sought_map n s g x = map_by (among n s) g x
+
+-- A first that has n items, and a rest that has m.
+
+abbrev pub and_then : {A B : Type 0} → Option A → (A → Option B) → Option B
+and_then None f = None
+and_then (Some x) f = f x
+
+module _ {A B C : Type 0} (cons : A → B → C) (n m : ℕ) (f : ℕ → Option A) (g : ℕ → Option B) (h : ℕ → Option C) (x : A) (xs : B)
+    (here : (k : ℕ) → k < n → h k ≡ option_map (λ y. cons y xs) (f k)) (there : (k : ℕ) → n ≤ k → h k ≡ option_map (cons x) (g (k - n))) where
+  -- the first, and then the rest
+  abbrev pub in_turn : Search → Option A → Option C
+  in_turn s o = and_then o (λ y. option_map (cons y) (sought m (past n s) g xs))
+
+  first_by : (o : Option A) → option_map (λ y. cons y xs) o ≡ and_then o (λ y. option_map (cons y) (Some xs))
+  first_by None = refl
+  first_by (Some y) = refl
+
+  first_turn : (k : ℕ) → k < n → sought (n + m) (Ahead k) h (cons x xs) ≡ in_turn (Ahead k) (sought n (Ahead k) f x)
+  first_turn k lt =
+      sought_less (n + m) k h (cons x xs) (omega arith) ∙ here k lt ∙ first_by (f k)
+      ∙ sym (ap (λ s. and_then (f k) (λ y. option_map (cons y) (sought m s g xs))) (past_less n k lt))
+      ∙ sym (ap (in_turn (Ahead k)) (sought_less n k f x lt))
+
+  rest_there : (k : ℕ) → n ≤ k → k < n + m → sought (n + m) (Ahead k) h (cons x xs) ≡ option_map (cons x) (sought m (Ahead (k - n)) g xs)
+  rest_there k ge lt =
+      sought_less (n + m) k h (cons x xs) lt ∙ there k ge ∙ sym (ap (option_map (cons x)) (sought_less m (k - n) g xs (omega arith)))
+
+  rest_later : (k : ℕ) → n + m ≤ k → sought (n + m) (Ahead k) h (cons x xs) ≡ option_map (cons x) (sought m (Ahead (k - n)) g xs)
+  rest_later k ge = sought_more (n + m) k h (cons x xs) ge ∙ sym (ap (option_map (cons x)) (sought_more m (k - n) g xs (omega arith)))
+
+  rest_turn : (k : ℕ) → n ≤ k → sought (n + m) (Ahead k) h (cons x xs) ≡ in_turn (Ahead k) (sought n (Ahead k) f x)
+  rest_turn k ge =
+      ⊎_elim (rest_there k ge) (rest_later k) (cases_lt k (n + m))
+      ∙ sym (ap (λ s. option_map (cons x) (sought m s g xs)) (past_more n k ge))
+      ∙ sym (ap (in_turn (Ahead k)) (sought_more n k f x ge))
+
+  pub sought_turn : (s : Search) → sought (n + m) s h (cons x xs) ≡ in_turn s (sought n s f x)
+  sought_turn (Ahead k) = ⊎_elim (first_turn k) (rest_turn k) (cases_lt k n)
+  sought_turn Over = refl

@@ -1,0 +1,98 @@
+-- Types, declarations and sections in a row, one of which is made simpler.
+use Rattle.std.proofs.Common.{◌≡◌, ℕ, ◌+◌, ◌-◌, ◌<◌, ◌≤◌, true, false, List, ◌∷◌, Option, refl, arith, nat_lt}
+use Rattle.std.proofs.lemmas.Bool.Decides.{nat_tests}
+use Rattle.std.specs.Option.{option_map}
+use Rattle.smith_syntax.specs.Entries.{Decl, Decls, Entry, in_order, then_decls}
+use Rattle.smith_tree.specs.Tree.{Part, Tree, first, tree_of}
+use Rattle.smith_read.specs.PartNodes.{shown_part_node}
+use Rattle.smith_read.specs.declared.nodes.PartNode.{PartNode}
+use Rattle.smith_read_types.specs.TypeNodes.{shown_decl_node, shown_type_node}
+use Rattle.smith_read_types.specs.declared.nodes.DeclNode.{DeclNode}
+use Rattle.smith_read_types.specs.declared.nodes.TypeNode.{TypeNode}
+use Rattle.smith_edit.specs.Items.{decl_items, decls_items, entry_items, part_items, row_items, tree_items}
+use Rattle.smith_edit.specs.Simpler.{decl_simplified, decls_simplified, entry_simplified, itself_or, part_simplified, sections_simplified, simpler_decl}
+use Rattle.smith_edit.specs.Simpler.{simpler_entry, simpler_part, types_simplified}
+use Rattle.smith_edit.proofs.InTurn.{InRow}
+
+-- with itself
+
+abbrev pub one_entry : ℕ → Entry → Option Entry
+one_entry k e = itself_or (simpler_entry e) (λ j. entry_simplified j e) k
+
+abbrev pub one_decl : List (List ℕ) → List (List ℕ) → ℕ → Decl → Option Decl
+one_decl is es k d = itself_or (simpler_decl is es d) (λ j. decl_simplified j d) k
+
+abbrev pub one_part : List (List ℕ) → List (List ℕ) → ℕ → Part → Option Part
+one_part is es k p = itself_or (simpler_part p) (λ j. part_simplified is es j p) k
+
+pub types_here : (k : ℕ) (e : Entry) (es : List Entry) → k < entry_items e + 1 → types_simplified k (e ∷ es) ≡ option_map (λ f. f ∷ es) (one_entry k e)
+types_here k e es h = let t : nat_lt k (entry_items e + 1) ≡ true = grind (arith, nat_tests) in rw t refl
+
+pub types_there : (k : ℕ) (e : Entry) (es : List Entry) → entry_items e + 1 ≤ k
+    → types_simplified k (e ∷ es) ≡ option_map (λ fs. e ∷ fs) (types_simplified (k - (entry_items e + 1)) es)
+types_there k e es h = let t : nat_lt k (entry_items e + 1) ≡ false = grind (arith, nat_tests) in rw t refl
+
+abbrev pub type_row : InRow TypeNode Entry (List Entry)
+type_row = record {
+  shown = shown_type_node;
+  gather = λ es. es;
+  cons = λ e es. e ∷ es;
+  size = λ e. entry_items e + 1;
+  sizes = row_items entry_items;
+  simpler = one_entry;
+  all = types_simplified;
+  first = λ e es. refl;
+  none = refl;
+  sum = λ e es. refl;
+  here = types_here;
+  there = types_there;
+}
+
+module _ (is es : List (List ℕ)) where
+  pub decls_here : (k : ℕ) (d : Decl) (ds : Decls) → k < decl_items d + 1
+      → decls_simplified is es k (then_decls d ds) ≡ option_map (λ e. then_decls e ds) (one_decl is es k d)
+  decls_here k d ds h = let t : nat_lt k (decl_items d + 1) ≡ true = grind (arith, nat_tests) in rw t refl
+
+  pub decls_there : (k : ℕ) (d : Decl) (ds : Decls) → decl_items d + 1 ≤ k
+      → decls_simplified is es k (then_decls d ds) ≡ option_map (then_decls d) (decls_simplified is es (k - (decl_items d + 1)) ds)
+  decls_there k d ds h = let t : nat_lt k (decl_items d + 1) ≡ false = grind (arith, nat_tests) in rw t refl
+
+  abbrev pub decl_row : InRow DeclNode Decl Decls
+  decl_row = record {
+    shown = shown_decl_node;
+    gather = in_order;
+    cons = then_decls;
+    size = λ d. decl_items d + 1;
+    sizes = decls_items;
+    simpler = one_decl is es;
+    all = decls_simplified is es;
+    first = λ d ds. refl;
+    none = refl;
+    sum = λ d ds. refl;
+    here = decls_here;
+    there = decls_there;
+  }
+
+  pub parts_here : (k : ℕ) (p : Part) (t : Tree) → k < part_items p + 1
+      → sections_simplified is es k (first p t) ≡ option_map (λ q. first q t) (one_part is es k p)
+  parts_here k p u h = let t : nat_lt k (part_items p + 1) ≡ true = grind (arith, nat_tests) in rw t refl
+
+  pub parts_there : (k : ℕ) (p : Part) (t : Tree) → part_items p + 1 ≤ k
+      → sections_simplified is es k (first p t) ≡ option_map (first p) (sections_simplified is es (k - (part_items p + 1)) t)
+  parts_there k p u h = let t : nat_lt k (part_items p + 1) ≡ false = grind (arith, nat_tests) in rw t refl
+
+  abbrev pub part_row : InRow PartNode Part Tree
+  part_row = record {
+    shown = shown_part_node;
+    gather = tree_of;
+    cons = first;
+    size = λ p. part_items p + 1;
+    sizes = tree_items;
+    simpler = one_part is es;
+    all = sections_simplified is es;
+    first = λ p ps. refl;
+    none = refl;
+    sum = λ p t. refl;
+    here = parts_here;
+    there = parts_there;
+  }

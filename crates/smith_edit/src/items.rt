@@ -1,0 +1,202 @@
+//! How many items there are.
+
+ghost use Rattle.std.specs.Prelude.{◌≡◌, ℕ, map, IfOk};
+ghost use Rattle.smith_format.specs.Shown.{shown_func};
+ghost use Rattle.smith_syntax.specs.Entries.{CoreEntry, Entry, ModuleDecl, in_order};
+ghost use Rattle.smith_syntax.specs.Shown.{shown_defined};
+ghost use Rattle.smith_tree.specs.Tree.{tree_of};
+ghost use Rattle.smith_read_types.specs.Nodes.{shown_core_node, shown_module_node};
+ghost use Rattle.smith_read_types.specs.TypeNodes.{shown_decl_node, shown_type_node};
+ghost use Rattle.smith_read.specs.PartNodes.{shown_part_node, shown_tree};
+ghost use Rattle.smith_edit.specs.Items.{core_items, decl_items, decls_items, entry_items, function_items};
+ghost use Rattle.smith_edit.specs.Items.{module_decl_items, part_items, row_items, signature_items, tree_items};
+ghost use Rattle.smith_edit.specs.Items.{value_items};
+
+use crate::counts::sum;
+use smith_format::FuncType as CoreFuncType;
+use smith_read::{ComponentTree, PartNode};
+use smith_read_types::{CoreNode, DeclNode, ModuleNode, TypeNode};
+use smith_syntax::{DefinedType, FuncType};
+use std::alloc::AllocError;
+
+/// What is an entry of a section, or a declaration of a module type.
+pub(crate) trait HasItems: Drop {
+    ghost Shown: { Type 0 };
+
+    ghost shown: { Self → Shown };
+
+    ghost inside: { Shown → ℕ };
+
+    /// How many items are inside.
+    fn items(&self) -> Result<usize, AllocError>
+        ensures { IfOk result (λ n. n ≡ inside (shown self.now)) };
+}
+
+impl HasItems for ModuleNode {
+    ghost Shown = { ModuleDecl };
+
+    ghost shown = { shown_module_node };
+
+    ghost inside = { module_decl_items };
+
+    fn items(&self) -> Result<usize, AllocError> {
+        match self {
+            ModuleNode::Func(ty) => function_items(ty),
+            ModuleNode::Import { .. } | ModuleNode::OuterAlias { .. } | ModuleNode::Export { .. } =>
+                { Ok(0) }
+        }
+    }
+}
+
+impl HasItems for CoreNode {
+    ghost Shown = { CoreEntry };
+
+    ghost shown = { shown_core_node };
+
+    ghost inside = { core_items };
+
+    fn items(&self) -> Result<usize, AllocError> {
+        core_items(self)
+    }
+}
+
+impl HasItems for TypeNode {
+    ghost Shown = { Entry };
+
+    ghost shown = { shown_type_node };
+
+    ghost inside = { entry_items };
+
+    fn items(&self) -> Result<usize, AllocError> {
+        type_items(self)
+    }
+}
+
+/// Those of entries in order, each with itself.
+pub(crate) fn row_items<T: HasItems>(items: &[T]) -> Result<usize, AllocError>
+    ensures { IfOk result (λ n. n ≡ row_items T.inside (map T.shown items.now)) }
+{
+    let mut count = 0;
+    for item in items {
+        let inside = sum(item.items()?, 1)?;
+        count = sum(count, inside)?;
+    }
+    Ok(count)
+}
+
+fn function_items(ty: &CoreFuncType) -> Result<usize, AllocError>
+    ensures { IfOk result (λ n. n ≡ function_items (shown_func ty.now)) }
+{
+    sum(ty.params.len(), ty.results.len())
+}
+
+/// Those of a core type.
+pub(crate) fn core_items(node: &CoreNode) -> Result<usize, AllocError>
+    ensures { IfOk result (λ n. n ≡ core_items (shown_core_node node.now)) }
+{
+    match node {
+        CoreNode::Func(ty) => function_items(ty),
+        CoreNode::Module(nodes) => row_items(nodes),
+    }
+}
+
+fn value_items(ty: &DefinedType) -> usize
+    ensures { result ≡ value_items (shown_defined ty.now) }
+{
+    match ty {
+        DefinedType::Record(ty) => ty.fields.len(),
+        DefinedType::Variant(ty) => ty.cases.len(),
+        DefinedType::Tuple(ty) => ty.fields.len(),
+        DefinedType::Flags(ty) => ty.fields.len(),
+        DefinedType::Enum(ty) => ty.variants.len(),
+        DefinedType::Result(ty) => {
+            usize::from(ty.ok_ty.is_some()) + usize::from(ty.err_ty.is_some())
+        }
+        DefinedType::Primitive(_) | DefinedType::List(_) | DefinedType::Option(_) => 0,
+    }
+}
+
+fn signature_items(ty: &FuncType) -> usize
+    ensures { result ≡ signature_items ty.now }
+{
+    ty.params.len() + usize::from(ty.result.is_some())
+}
+
+/// Those of a type.
+#[cycle(counting)]
+#[tactic(auto, using(smith_read_types::proofs::ShownNodes::shown_nodes))]
+pub(crate) fn type_items(node: &TypeNode) -> Result<usize, AllocError>
+    ensures { IfOk result (λ n. n ≡ entry_items (shown_type_node node.now)) }
+{
+    match node {
+        TypeNode::Defined(ty) => Ok(value_items(ty)),
+        TypeNode::Func(ty) => Ok(signature_items(ty)),
+        TypeNode::Component(nodes) | TypeNode::Instance(nodes) => declarations_items(nodes),
+    }
+}
+
+#[cycle(counting)]
+#[tactic(auto, using(smith_read_types::proofs::ShownNodes::shown_nodes))]
+fn declaration_items(node: &DeclNode) -> Result<usize, AllocError>
+    ensures { IfOk result (λ n. n ≡ decl_items (shown_decl_node node.now)) }
+{
+    match node {
+        DeclNode::Core(ty) => core_items(ty),
+        DeclNode::Type(ty) => type_items(ty),
+        DeclNode::TypeAlias { .. }
+        | DeclNode::CoreTypeAlias { .. }
+        | DeclNode::Import { .. }
+        | DeclNode::Export { .. } => Ok(0),
+    }
+}
+
+#[cycle(counting)]
+fn declarations_items(nodes: &[DeclNode]) -> Result<usize, AllocError>
+    ensures { IfOk result (λ n. n ≡ decls_items (in_order (map shown_decl_node nodes.now))) }
+{
+    let mut count = 0;
+    for node in nodes {
+        let inside = sum(declaration_items(node)?, 1)?;
+        count = sum(count, inside)?;
+    }
+    Ok(count)
+}
+
+/// Those of a section.
+#[cycle(counting_parts)]
+#[tactic(auto, using(crate::proofs::PartNodes::part_nodes))]
+pub(crate) fn part_items(node: &PartNode) -> Result<usize, AllocError>
+    ensures { IfOk result (λ n. n ≡ part_items (shown_part_node node.now)) }
+{
+    match node {
+        PartNode::Custom { .. } | PartNode::CoreModule(_) => Ok(0),
+        PartNode::CoreTypes(entries) => row_items(entries),
+        PartNode::Component(nodes) => parts_items(nodes),
+        PartNode::Types(entries) => row_items(entries),
+        PartNode::Canons(entries) => Ok(entries.len()),
+        PartNode::Imports(entries) => Ok(entries.len()),
+        PartNode::Exports(entries) => Ok(entries.len()),
+    }
+}
+
+#[cycle(counting_parts)]
+fn parts_items(nodes: &[PartNode]) -> Result<usize, AllocError>
+    ensures { IfOk result (λ n. n ≡ tree_items (tree_of (map shown_part_node nodes.now))) }
+{
+    let mut count = 0;
+    for node in nodes {
+        let inside = sum(part_items(node)?, 1)?;
+        count = sum(count, inside)?;
+    }
+    Ok(count)
+}
+
+/// How many items a component has: `without` takes each number below this, and no other.
+///
+/// It takes time in proportion to the component, and stack in proportion to its depth. `Err` is returned where the
+/// number would exceed what a `usize` holds.
+pub fn item_count(tree: &ComponentTree) -> Result<usize, AllocError>
+    ensures { IfOk result (λ n. n ≡ tree_items (shown_tree tree.now)) }
+{
+    parts_items(&tree.parts)
+}

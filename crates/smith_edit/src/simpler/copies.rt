@@ -1,0 +1,100 @@
+//! Copies of what has no simpler form: core types and canonical functions.
+
+ghost use Rattle.std.specs.Prelude.{◌≡◌, map, IfOk};
+ghost use Rattle.smith_format.specs.Shown.{shown_func};
+ghost use Rattle.smith_syntax.specs.Entries.{CoreEntry, ModuleDecl};
+ghost use Rattle.smith_tree.specs.Tree.{Canon};
+ghost use Rattle.smith_read_types.specs.Nodes.{shown_core_node, shown_module_node};
+ghost use Rattle.smith_read.specs.PartNodes.{shown_canon_node};
+
+use smith_format::FuncType;
+use smith_read::CanonNode;
+use smith_read_types::{CoreNode, ModuleNode};
+use std::alloc::{AllocError, Global};
+
+/// What has no simpler form.
+pub(crate) trait Simplest: Drop {
+    ghost Shown: { Type 0 };
+
+    ghost shown: { Self → Shown };
+
+    fn copied(&self, alloc: Global) -> Result<Self, AllocError>
+        ensures { IfOk result (λ x. shown x ≡ shown self.now) };
+}
+
+fn function(alloc: Global, ty: &FuncType) -> Result<FuncType, AllocError>
+    ensures { IfOk result (λ f. shown_func f ≡ shown_func ty.now) }
+{
+    let params = Vec::from_slice(alloc, &ty.params)?;
+    let results = Vec::from_slice(alloc, &ty.results)?;
+    Ok(FuncType { params, results })
+}
+
+impl Simplest for ModuleNode {
+    ghost Shown = { ModuleDecl };
+
+    ghost shown = { shown_module_node };
+
+    fn copied(&self, alloc: Global) -> Result<ModuleNode, AllocError> {
+        match self {
+            ModuleNode::Func(ty) => Ok(ModuleNode::Func(function(alloc, ty)?)),
+            ModuleNode::Import {
+                module,
+                name,
+                entity,
+            } => Ok(ModuleNode::Import {
+                module: String::from_str(alloc, module.as_str())?,
+                name: String::from_str(alloc, name.as_str())?,
+                entity: *entity,
+            }),
+            ModuleNode::OuterAlias { count, index } => Ok(ModuleNode::OuterAlias {
+                count: *count,
+                index: *index,
+            }),
+            ModuleNode::Export { name, entity } => Ok(ModuleNode::Export {
+                name: String::from_str(alloc, name.as_str())?,
+                entity: *entity,
+            }),
+        }
+    }
+}
+
+impl Simplest for CoreNode {
+    ghost Shown = { CoreEntry };
+
+    ghost shown = { shown_core_node };
+
+    fn copied(&self, alloc: Global) -> Result<CoreNode, AllocError> {
+        match self {
+            CoreNode::Func(ty) => Ok(CoreNode::Func(function(alloc, ty)?)),
+            CoreNode::Module(nodes) => Ok(CoreNode::Module(all_copied(alloc, nodes)?)),
+        }
+    }
+}
+
+impl Simplest for CanonNode {
+    ghost Shown = { Canon };
+
+    ghost shown = { shown_canon_node };
+
+    fn copied(&self, _alloc: Global) -> Result<CanonNode, AllocError> {
+        match self {
+            CanonNode::Lift { core_func, ty } => Ok(CanonNode::Lift {
+                core_func: *core_func,
+                ty: *ty,
+            }),
+            CanonNode::Lower { func } => Ok(CanonNode::Lower { func: *func }),
+        }
+    }
+}
+
+/// Copies of all.
+pub(crate) fn all_copied<T: Simplest>(alloc: Global, items: &[T]) -> Result<Vec<T>, AllocError>
+    ensures { IfOk result (λ v. map T.shown v.items ≡ map T.shown items.now) }
+{
+    let mut copies = Vec::new(alloc);
+    for item in items {
+        copies.push(item.copied(alloc)?)?;
+    }
+    Ok(copies)
+}

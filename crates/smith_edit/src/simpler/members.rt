@@ -1,0 +1,151 @@
+//! What has a name and nothing inside: members of types, imports and exports.
+
+ghost use Rattle.std.specs.Prelude.{◌≡◌, ℕ, List, None, length, map, string_bytes, IfOk, IsSome};
+ghost use Rattle.std.specs.Option.{option_map};
+ghost use Rattle.smith_syntax.specs.Entries.{Case, Field};
+ghost use Rattle.smith_syntax.specs.Signature.{named};
+ghost use Rattle.smith_edit.specs.Names.{Knows, case_is_renamed, case_is_same, field_is_renamed, field_is_same};
+ghost use Rattle.smith_edit.specs.Names.{label_is_renamed, label_is_same};
+ghost use Rattle.smith_edit.specs.Search.{past, sought};
+ghost use Rattle.smith_edit.specs.Simpler.{case_renamed, field_renamed, label_renamed, member_renamed, renamed_at};
+
+use crate::names::{Named, Names};
+use crate::simpler::search::Search;
+use smith_syntax::ComponentValType;
+use std::alloc::{AllocError, Global};
+
+impl Named for (String, ComponentValType) {
+    ghost Shown = { Field };
+
+    ghost shown = { named };
+
+    ghost name = { λ f. f.0 };
+
+    ghost rename = { field_renamed };
+
+    ghost is_renamed = { field_is_renamed };
+
+    ghost is_same = { field_is_same };
+
+    fn label(&self) -> &str {
+        self.0.as_str()
+    }
+
+    fn renamed(&self, label: String) -> (String, ComponentValType) {
+        (label, self.1)
+    }
+}
+
+impl Named for (String, Option<ComponentValType>) {
+    ghost Shown = { Case };
+
+    ghost shown = { named };
+
+    ghost name = { λ c. c.0 };
+
+    ghost rename = { case_renamed };
+
+    ghost is_renamed = { case_is_renamed };
+
+    ghost is_same = { case_is_same };
+
+    fn label(&self) -> &str {
+        self.0.as_str()
+    }
+
+    fn renamed(&self, label: String) -> (String, Option<ComponentValType>) {
+        (label, self.1)
+    }
+}
+
+impl Named for String {
+    ghost Shown = { List ℕ };
+
+    ghost shown = { string_bytes };
+
+    ghost name = { λ n. n };
+
+    ghost rename = { label_renamed };
+
+    ghost is_renamed = { label_is_renamed };
+
+    ghost is_same = { label_is_same };
+
+    fn label(&self) -> &str {
+        self.as_str()
+    }
+
+    fn renamed(&self, label: String) -> String {
+        label
+    }
+}
+
+/// Copies, each with the name that it has.
+pub(crate) fn copies<T: Named>(alloc: Global, items: &[T]) -> Result<Vec<T>, AllocError>
+    ensures { IfOk result (λ v. map T.shown v.items ≡ map T.shown items.now) }
+{
+    let mut copies = Vec::new(alloc);
+    for item in items {
+        let name = String::from_str(alloc, item.label())?;
+        copies.push(item.renamed(name))?;
+    }
+    Ok(copies)
+}
+
+/// Copies, the one at that place with a new name; none where that is not shorter, and where there is no such place.
+pub(crate) fn renamed_at<T: Named>(
+    alloc: Global,
+    known: &Names,
+    items: &[T],
+    place: usize,
+) -> Result<Option<Vec<T>>, AllocError>
+    ensures { (names : List (List ℕ)) → Knows known.now names → IfOk result (λ r.
+        option_map (λ v. map T.shown v.items) r ≡ renamed_at T.name T.rename names place (map T.shown items.now)) }
+{
+    let mut copies = copies(alloc, items)?;
+    if place >= items.len() {
+        return Ok(None);
+    }
+    let item = &items[place];
+    let Some(name) = known.shorter_name(alloc, item.label())? else {
+        return Ok(None);
+    };
+    copies[place] = item.renamed(name);
+    Ok(Some(copies))
+}
+
+/// The members of a type, the one that is sought with a new name; none where that is not shorter.
+pub(crate) fn members<T: Named>(
+    alloc: Global,
+    search: &mut Search,
+    items: &[T],
+) -> Result<Option<Vec<T>>, AllocError>
+    ensures members { IfOk result (λ r. option_map (λ v. map T.shown v.items) r ≡ sought (length items.now) search.old
+        (λ k. member_renamed T.name T.rename k (map T.shown items.now)) (map T.shown items.now)) }
+    ensures moved { IfOk result (λ r. IsSome r → search.new ≡ past (length items.now) search.old) }
+{
+    match search.pass(items.len()) {
+        None => Ok(Some(copies(alloc, items)?)),
+        Some(place) => {
+            let mut known = Names::new(alloc);
+            known.add_all(alloc, items)?;
+            renamed_at(alloc, &known, items, place)
+        }
+    }
+}
+
+/// Copies of members without names; none where the one that is sought is among them.
+pub(crate) fn unnamed<T: Copy>(
+    alloc: Global,
+    search: &mut Search,
+    items: &[T],
+) -> Result<Option<Vec<T>>, AllocError>
+    ensures members { IfOk result (λ r. option_map (λ v. v.items) r
+        ≡ sought (length items.now) search.old (λ k. None) items.now) }
+    ensures moved { IfOk result (λ r. IsSome r → search.new ≡ past (length items.now) search.old) }
+{
+    if search.pass(items.len()).is_some() {
+        return Ok(None);
+    }
+    Ok(Some(Vec::from_slice(alloc, items)?))
+}

@@ -1,0 +1,229 @@
+//! The sections of components.
+
+ghost use Rattle.std.specs.Prelude.{◌≡◌, ◌+◌, None, Some, length, map, IfOk, IsSome};
+ghost use Rattle.std.specs.Option.{option_map};
+ghost use Rattle.smith_tree.specs.Tree.{exports_of, imports_of, tree_of};
+ghost use Rattle.smith_tree.specs.WellFormed.{export_names, import_names};
+ghost use Rattle.smith_read_types.specs.Nodes.{shown_core_node};
+ghost use Rattle.smith_read.specs.PartNodes.{shown_canon_node, shown_export_node, shown_import_node, shown_part_node};
+ghost use Rattle.smith_edit.specs.Edits.{export_renamed, import_renamed};
+ghost use Rattle.smith_edit.specs.Items.{core_items, part_items, row_items, tree_items};
+ghost use Rattle.smith_edit.specs.Search.{past, sought};
+ghost use Rattle.smith_edit.specs.Simpler.{itself_or, part_simplified, renamed_at, sections_of, simpler_part};
+
+use crate::edits::names;
+use crate::items::row_items;
+use crate::simpler::copies::{Simplest, all_copied};
+use crate::simpler::members::{copies, renamed_at};
+use crate::simpler::search::Search;
+use crate::simpler::types::types;
+use smith_core::CORE_PREAMBLE;
+use smith_read::{CanonNode, CoreNode, ExportNode, ImportNode, PartNode};
+use std::alloc::{AllocError, Global};
+
+// Core types; none where what is sought is inside one of them, or is one.
+fn core_types(
+    alloc: Global,
+    search: &mut Search,
+    entries: &[CoreNode],
+) -> Result<Option<Vec<CoreNode>>, AllocError>
+    ensures types { let types = map shown_core_node entries.now in
+        IfOk result (λ r. option_map (λ v. map shown_core_node v.items) r
+        ≡ sought (row_items core_items types) search.old (λ k. None) types) }
+    ensures moved { IfOk result (λ r. IsSome r → search.new
+        ≡ past (row_items core_items (map shown_core_node entries.now)) search.old) }
+{
+    if search.pass(row_items(entries)?).is_some() {
+        return Ok(None);
+    }
+    Ok(Some(all_copied(alloc, entries)?))
+}
+
+// Canonical functions; none where what is sought is one of them.
+fn canons(
+    alloc: Global,
+    search: &mut Search,
+    entries: &[CanonNode],
+) -> Result<Option<Vec<CanonNode>>, AllocError>
+    ensures canons { let canons = map shown_canon_node entries.now in
+        IfOk result (λ r. option_map (λ v. map shown_canon_node v.items) r
+        ≡ sought (length canons) search.old (λ k. None) canons) }
+    ensures moved { IfOk result (λ r. IsSome r → search.new
+        ≡ past (length (map shown_canon_node entries.now)) search.old) }
+{
+    if search.pass(entries.len()).is_some() {
+        return Ok(None);
+    }
+    Ok(Some(all_copied(alloc, entries)?))
+}
+
+// Imports of a component with these sections, the one that is sought with a new name.
+fn imports(
+    alloc: Global,
+    search: &mut Search,
+    scope: &[PartNode],
+    entries: &[ImportNode],
+) -> Result<Option<Vec<ImportNode>>, AllocError>
+    ensures imports { let imports = map shown_import_node entries.now in
+        let taken = import_names (imports_of (tree_of (map shown_part_node scope.now))) in
+        IfOk result (λ r. option_map (λ v. map shown_import_node v.items) r ≡ sought (length imports) search.old
+        (λ k. renamed_at (λ i. i.name) import_renamed taken k imports) imports) }
+    ensures moved { IfOk result (λ r. IsSome r → search.new
+        ≡ past (length (map shown_import_node entries.now)) search.old) }
+{
+    match search.pass(entries.len()) {
+        None => Ok(Some(copies(alloc, entries)?)),
+        Some(place) => {
+            let taken = names(alloc, scope)?;
+            renamed_at(alloc, &taken.imports, entries, place)
+        }
+    }
+}
+
+// Exports of a component with these sections, the one that is sought with a new name.
+fn exports(
+    alloc: Global,
+    search: &mut Search,
+    scope: &[PartNode],
+    entries: &[ExportNode],
+) -> Result<Option<Vec<ExportNode>>, AllocError>
+    ensures exports { let exports = map shown_export_node entries.now in
+        let taken = export_names (exports_of (tree_of (map shown_part_node scope.now))) in
+        IfOk result (λ r. option_map (λ v. map shown_export_node v.items) r ≡ sought (length exports) search.old
+        (λ k. renamed_at (λ e. e.name) export_renamed taken k exports) exports) }
+    ensures moved { IfOk result (λ r. IsSome r → search.new
+        ≡ past (length (map shown_export_node entries.now)) search.old) }
+{
+    match search.pass(entries.len()) {
+        None => Ok(Some(copies(alloc, entries)?)),
+        Some(place) => {
+            let taken = names(alloc, scope)?;
+            renamed_at(alloc, &taken.exports, entries, place)
+        }
+    }
+}
+
+// The section itself made simpler.
+#[tactic(auto, using(crate::proofs::PartNodes::part_nodes))]
+fn simpler_part(alloc: Global, node: &PartNode) -> Result<Option<PartNode>, AllocError>
+    ensures { IfOk result (λ r. option_map shown_part_node r ≡ simpler_part (shown_part_node node.now)) }
+{
+    match node {
+        PartNode::Custom { name, contents } => {
+            if contents.is_empty() {
+                return Ok(None);
+            }
+            let name = String::from_str(alloc, name.as_str())?;
+            let contents = Vec::new(alloc);
+            Ok(Some(PartNode::Custom { name, contents }))
+        }
+        PartNode::CoreModule(text) => {
+            if text.as_slice() == CORE_PREAMBLE.as_slice() {
+                return Ok(None);
+            }
+            let empty = Vec::from_slice(alloc, &CORE_PREAMBLE)?;
+            Ok(Some(PartNode::CoreModule(empty)))
+        }
+        PartNode::CoreTypes(_)
+        | PartNode::Component(_)
+        | PartNode::Types(_)
+        | PartNode::Canons(_)
+        | PartNode::Imports(_)
+        | PartNode::Exports(_) => Ok(None),
+    }
+}
+
+// What is sought inside a section made simpler, in a component with these sections.
+#[cycle(simplifying_parts)]
+#[tactic(auto, using(crate::proofs::PartNodes::part_nodes))]
+fn inside_part(
+    alloc: Global,
+    search: &mut Search,
+    node: &PartNode,
+    scope: &[PartNode],
+) -> Result<Option<PartNode>, AllocError>
+    ensures part { let tree = tree_of (map shown_part_node scope.now) in let part = shown_part_node node.now in
+        IfOk result (λ r. option_map shown_part_node r ≡ sought (part_items part) search.old
+        (λ k. part_simplified (import_names (imports_of tree)) (export_names (exports_of tree)) k part) part) }
+    ensures moved { IfOk result (λ r. IsSome r → search.new
+        ≡ past (part_items (shown_part_node node.now)) search.old) }
+{
+    match node {
+        PartNode::Custom { name, contents } => {
+            let name = String::from_str(alloc, name.as_str())?;
+            let contents = Vec::from_slice(alloc, contents)?;
+            Ok(Some(PartNode::Custom { name, contents }))
+        }
+        PartNode::CoreModule(text) => {
+            Ok(Some(PartNode::CoreModule(Vec::from_slice(alloc, text)?)))
+        }
+        PartNode::CoreTypes(entries) => match core_types(alloc, search, entries)? {
+            Some(entries) => Ok(Some(PartNode::CoreTypes(entries))),
+            None => Ok(None),
+        },
+        PartNode::Component(nodes) => match parts(alloc, search, nodes)? {
+            Some(nodes) => Ok(Some(PartNode::Component(nodes))),
+            None => Ok(None),
+        },
+        PartNode::Types(entries) => match types(alloc, search, entries)? {
+            Some(entries) => Ok(Some(PartNode::Types(entries))),
+            None => Ok(None),
+        },
+        PartNode::Canons(entries) => match canons(alloc, search, entries)? {
+            Some(entries) => Ok(Some(PartNode::Canons(entries))),
+            None => Ok(None),
+        },
+        PartNode::Imports(entries) => match imports(alloc, search, scope, entries)? {
+            Some(entries) => Ok(Some(PartNode::Imports(entries))),
+            None => Ok(None),
+        },
+        PartNode::Exports(entries) => match exports(alloc, search, scope, entries)? {
+            Some(entries) => Ok(Some(PartNode::Exports(entries))),
+            None => Ok(None),
+        },
+    }
+}
+
+// A section, with what is sought made simpler, in a component with these sections.
+#[cycle(simplifying_parts)]
+fn one_part(
+    alloc: Global,
+    search: &mut Search,
+    node: &PartNode,
+    scope: &[PartNode],
+) -> Result<Option<PartNode>, AllocError>
+    ensures part { let tree = tree_of (map shown_part_node scope.now) in let part = shown_part_node node.now in
+        IfOk result (λ r. option_map shown_part_node r ≡ sought (part_items part + 1) search.old
+        (itself_or (simpler_part part)
+        (λ k. part_simplified (import_names (imports_of tree)) (export_names (exports_of tree)) k part)) part) }
+    ensures moved { IfOk result (λ r. IsSome r → search.new
+        ≡ past (part_items (shown_part_node node.now) + 1) search.old) }
+{
+    if search.step() {
+        return simpler_part(alloc, node);
+    }
+    inside_part(alloc, search, node, scope)
+}
+
+/// Sections in order, with what is sought made simpler.
+#[cycle(simplifying_parts)]
+pub(crate) fn parts(
+    alloc: Global,
+    search: &mut Search,
+    nodes: &[PartNode],
+) -> Result<Option<Vec<PartNode>>, AllocError>
+    ensures parts { let tree = tree_of (map shown_part_node nodes.now) in
+        IfOk result (λ r. option_map (λ v. tree_of (map shown_part_node v.items)) r
+        ≡ sought (tree_items tree) search.old (λ k. sections_of k tree) tree) }
+    ensures moved { IfOk result (λ r. IsSome r → search.new
+        ≡ past (tree_items (tree_of (map shown_part_node nodes.now))) search.old) }
+{
+    let mut parts = Vec::new(alloc);
+    for node in nodes {
+        let Some(part) = one_part(alloc, search, node, nodes)? else {
+            return Ok(None);
+        };
+        parts.push(part)?;
+    }
+    Ok(Some(parts))
+}

@@ -1,0 +1,273 @@
+//! Types, and what types of components and instances declare.
+
+ghost use Rattle.std.specs.Prelude.{◌≡◌, ◌+◌, ◌++◌, ℕ, List, map, IfOk, IsSome, OnOk};
+ghost use Rattle.std.specs.Option.{option_map};
+ghost use Rattle.smith_syntax.specs.Entries.{in_order};
+ghost use Rattle.smith_syntax.specs.WellFormed.{decl_exports, decl_imports, export_of, import_of, names};
+ghost use Rattle.smith_read_types.specs.Nodes.{shown_core_node};
+ghost use Rattle.smith_read_types.specs.TypeNodes.{shown_decl_node, shown_type_node};
+ghost use Rattle.smith_edit.specs.Items.{core_items, decl_items, decls_items, entry_items, row_items};
+ghost use Rattle.smith_edit.specs.Names.{KnowsBoth};
+ghost use Rattle.smith_edit.specs.Search.{past, sought};
+ghost use Rattle.smith_edit.specs.Simpler.{decl_simplified, decls_simplified, entry_simplified, itself_or};
+ghost use Rattle.smith_edit.specs.Simpler.{simpler_decl, simpler_entry, types_simplified};
+
+use crate::items::core_items;
+use crate::names::Taken;
+use crate::simpler::copies::Simplest;
+use crate::simpler::search::Search;
+use crate::simpler::values::{defined, function, simpler_value};
+use smith_read_types::{CoreNode, DeclNode, TypeNode};
+use std::alloc::{AllocError, Global};
+
+/// A core type; none where what is sought is inside it.
+pub(crate) fn core_type(
+    alloc: Global,
+    search: &mut Search,
+    node: &CoreNode,
+) -> Result<Option<CoreNode>, AllocError>
+    ensures ty { IfOk result (λ r. option_map shown_core_node r
+        ≡ sought (core_items (shown_core_node node.now)) search.old (λ k. None) (shown_core_node node.now)) }
+    ensures moved { IfOk result (λ r. IsSome r → search.new ≡ past (core_items (shown_core_node node.now)) search.old) }
+{
+    if search.pass(core_items(node)?).is_some() {
+        return Ok(None);
+    }
+    Ok(Some(node.copied(alloc)?))
+}
+
+// The type itself made simpler.
+#[tactic(auto, using(smith_read_types::proofs::ShownNodes::shown_nodes))]
+fn simpler_type(node: &TypeNode) -> Option<TypeNode>
+    ensures { option_map shown_type_node result ≡ simpler_entry (shown_type_node node.now) }
+{
+    match node {
+        TypeNode::Defined(ty) => match simpler_value(ty) {
+            Some(ty) => Some(TypeNode::Defined(ty)),
+            None => None,
+        },
+        TypeNode::Func(_) | TypeNode::Component(_) | TypeNode::Instance(_) => None,
+    }
+}
+
+// What is sought inside a type made simpler.
+#[cycle(simplifying)]
+#[tactic(auto, using(smith_read_types::proofs::ShownNodes::shown_nodes))]
+fn inside_type(
+    alloc: Global,
+    search: &mut Search,
+    node: &TypeNode,
+) -> Result<Option<TypeNode>, AllocError>
+    ensures ty { IfOk result (λ r. option_map shown_type_node r ≡ sought (entry_items (shown_type_node node.now))
+        search.old (λ k. entry_simplified k (shown_type_node node.now)) (shown_type_node node.now)) }
+    ensures moved { IfOk result (λ r. IsSome r → search.new
+        ≡ past (entry_items (shown_type_node node.now)) search.old) }
+{
+    match node {
+        TypeNode::Defined(ty) => match defined(alloc, search, ty)? {
+            Some(ty) => Ok(Some(TypeNode::Defined(ty))),
+            None => Ok(None),
+        },
+        TypeNode::Func(ty) => match function(alloc, search, ty)? {
+            Some(ty) => Ok(Some(TypeNode::Func(ty))),
+            None => Ok(None),
+        },
+        TypeNode::Component(nodes) => match declarations(alloc, search, nodes)? {
+            Some(nodes) => Ok(Some(TypeNode::Component(nodes))),
+            None => Ok(None),
+        },
+        TypeNode::Instance(nodes) => match declarations(alloc, search, nodes)? {
+            Some(nodes) => Ok(Some(TypeNode::Instance(nodes))),
+            None => Ok(None),
+        },
+    }
+}
+
+// A type, with what is sought made simpler.
+fn one_type(
+    alloc: Global,
+    search: &mut Search,
+    node: &TypeNode,
+) -> Result<Option<TypeNode>, AllocError>
+    ensures ty { let entry = shown_type_node node.now in
+        IfOk result (λ r. option_map shown_type_node r ≡ sought (entry_items entry + 1) search.old
+        (itself_or (simpler_entry entry) (λ k. entry_simplified k entry)) entry) }
+    ensures moved { IfOk result (λ r. IsSome r → search.new
+        ≡ past (entry_items (shown_type_node node.now) + 1) search.old) }
+{
+    if search.step() {
+        return Ok(simpler_type(node));
+    }
+    inside_type(alloc, search, node)
+}
+
+/// Types in order, with what is sought made simpler.
+pub(crate) fn types(
+    alloc: Global,
+    search: &mut Search,
+    nodes: &[TypeNode],
+) -> Result<Option<Vec<TypeNode>>, AllocError>
+    ensures types { let entries = map shown_type_node nodes.now in
+        IfOk result (λ r. option_map (λ v. map shown_type_node v.items) r
+        ≡ sought (row_items entry_items entries) search.old (λ k. types_simplified k entries) entries) }
+    ensures moved { IfOk result (λ r. IsSome r → search.new
+        ≡ past (row_items entry_items (map shown_type_node nodes.now)) search.old) }
+{
+    let mut types = Vec::new(alloc);
+    for node in nodes {
+        let Some(ty) = one_type(alloc, search, node)? else {
+            return Ok(None);
+        };
+        types.push(ty)?;
+    }
+    Ok(Some(types))
+}
+
+// Adds the names that a declaration imports and exports.
+#[tactic(auto, using(smith_read_types::proofs::ShownNodes::shown_nodes))]
+fn add_names(taken: &mut Taken, alloc: Global, node: &DeclNode) -> Result<(), AllocError>
+    ensures { (is es : List (List ℕ)) → KnowsBoth taken.old is es → OnOk result (KnowsBoth taken.new
+        (is ++ names (import_of (shown_decl_node node.now))) (es ++ names (export_of (shown_decl_node node.now)))) }
+{
+    match node {
+        DeclNode::Import { name, .. } => taken.imports.add(alloc, name.as_str()),
+        DeclNode::Export { name, .. } => taken.exports.add(alloc, name.as_str()),
+        DeclNode::Core(_)
+        | DeclNode::Type(_)
+        | DeclNode::TypeAlias { .. }
+        | DeclNode::CoreTypeAlias { .. } => Ok(()),
+    }
+}
+
+// The names that declarations import and export.
+fn declared_names(alloc: Global, nodes: &[DeclNode]) -> Result<Taken, AllocError>
+    ensures { let decls = in_order (map shown_decl_node nodes.now) in
+        IfOk result (λ t. KnowsBoth t (names (decl_imports decls)) (names (decl_exports decls))) }
+{
+    let mut taken = Taken::new(alloc);
+    for node in nodes {
+        add_names(&mut taken, alloc, node)?;
+    }
+    Ok(taken)
+}
+
+// The declaration itself made simpler, among these.
+#[tactic(auto, using(smith_read_types::proofs::ShownNodes::shown_nodes))]
+fn simpler_declaration(
+    alloc: Global,
+    node: &DeclNode,
+    scope: &[DeclNode],
+) -> Result<Option<DeclNode>, AllocError>
+    ensures { let decls = in_order (map shown_decl_node scope.now) in
+        IfOk result (λ r. option_map shown_decl_node r
+        ≡ simpler_decl (names (decl_imports decls)) (names (decl_exports decls)) (shown_decl_node node.now)) }
+{
+    match node {
+        DeclNode::Type(ty) => match simpler_type(ty) {
+            Some(ty) => Ok(Some(DeclNode::Type(ty))),
+            None => Ok(None),
+        },
+        DeclNode::Import { name, to } => {
+            let known = declared_names(alloc, scope)?.imports;
+            match known.shorter_name(alloc, name.as_str())? {
+                Some(name) => Ok(Some(DeclNode::Import { name, to: *to })),
+                None => Ok(None),
+            }
+        }
+        DeclNode::Export { name, to } => {
+            let known = declared_names(alloc, scope)?.exports;
+            match known.shorter_name(alloc, name.as_str())? {
+                Some(name) => Ok(Some(DeclNode::Export { name, to: *to })),
+                None => Ok(None),
+            }
+        }
+        DeclNode::Core(_) | DeclNode::TypeAlias { .. } | DeclNode::CoreTypeAlias { .. } => Ok(None),
+    }
+}
+
+// What is sought inside a declaration made simpler.
+#[cycle(simplifying)]
+#[tactic(auto, using(smith_read_types::proofs::ShownNodes::shown_nodes))]
+fn inside_declaration(
+    alloc: Global,
+    search: &mut Search,
+    node: &DeclNode,
+) -> Result<Option<DeclNode>, AllocError>
+    ensures declaration { IfOk result (λ r. option_map shown_decl_node r
+        ≡ sought (decl_items (shown_decl_node node.now)) search.old
+        (λ k. decl_simplified k (shown_decl_node node.now)) (shown_decl_node node.now)) }
+    ensures moved { IfOk result (λ r. IsSome r → search.new
+        ≡ past (decl_items (shown_decl_node node.now)) search.old) }
+{
+    match node {
+        DeclNode::Core(ty) => match core_type(alloc, search, ty)? {
+            Some(ty) => Ok(Some(DeclNode::Core(ty))),
+            None => Ok(None),
+        },
+        DeclNode::Type(ty) => match inside_type(alloc, search, ty)? {
+            Some(ty) => Ok(Some(DeclNode::Type(ty))),
+            None => Ok(None),
+        },
+        DeclNode::TypeAlias { count, index } => Ok(Some(DeclNode::TypeAlias {
+            count: *count,
+            index: *index,
+        })),
+        DeclNode::CoreTypeAlias { count, index } => Ok(Some(DeclNode::CoreTypeAlias {
+            count: *count,
+            index: *index,
+        })),
+        DeclNode::Import { name, to } => {
+            let name = String::from_str(alloc, name.as_str())?;
+            Ok(Some(DeclNode::Import { name, to: *to }))
+        }
+        DeclNode::Export { name, to } => {
+            let name = String::from_str(alloc, name.as_str())?;
+            Ok(Some(DeclNode::Export { name, to: *to }))
+        }
+    }
+}
+
+// A declaration among these, with what is sought made simpler.
+#[cycle(simplifying)]
+fn one_declaration(
+    alloc: Global,
+    search: &mut Search,
+    node: &DeclNode,
+    scope: &[DeclNode],
+) -> Result<Option<DeclNode>, AllocError>
+    ensures declaration { let decls = in_order (map shown_decl_node scope.now) in
+        let decl = shown_decl_node node.now in IfOk result (λ r. option_map shown_decl_node r
+        ≡ sought (decl_items decl + 1) search.old (itself_or (simpler_decl (names (decl_imports decls))
+        (names (decl_exports decls)) decl) (λ k. decl_simplified k decl)) decl) }
+    ensures moved { IfOk result (λ r. IsSome r → search.new
+        ≡ past (decl_items (shown_decl_node node.now) + 1) search.old) }
+{
+    if search.step() {
+        return simpler_declaration(alloc, node, scope);
+    }
+    inside_declaration(alloc, search, node)
+}
+
+// Declarations in order, with what is sought made simpler.
+#[cycle(simplifying)]
+fn declarations(
+    alloc: Global,
+    search: &mut Search,
+    nodes: &[DeclNode],
+) -> Result<Option<Vec<DeclNode>>, AllocError>
+    ensures declarations { let decls = in_order (map shown_decl_node nodes.now) in
+        IfOk result (λ r. option_map (λ v. in_order (map shown_decl_node v.items)) r
+        ≡ sought (decls_items decls) search.old
+        (λ k. decls_simplified (names (decl_imports decls)) (names (decl_exports decls)) k decls) decls) }
+    ensures moved { IfOk result (λ r. IsSome r → search.new
+        ≡ past (decls_items (in_order (map shown_decl_node nodes.now))) search.old) }
+{
+    let mut declarations = Vec::new(alloc);
+    for node in nodes {
+        let Some(declaration) = one_declaration(alloc, search, node, nodes)? else {
+            return Ok(None);
+        };
+        declarations.push(declaration)?;
+    }
+    Ok(Some(declarations))
+}
