@@ -13,8 +13,8 @@ use std::process::ExitCode;
 /// formed, or does not validate where that is asked.
 pub const REFUSED: u8 = 1;
 
-// What `check` ends with if the bytes are not in the grammar.
-const UNREAD: u8 = 3;
+/// What `check` and `smaller` end with if the bytes are not in the grammar.
+pub const UNREAD: u8 = 3;
 
 fn read_whole(rt: &HostRuntime, source: &mut Source) -> io::Result<Vec<u8>> {
     let mut bytes = Vec::new(rt.alloc());

@@ -8,6 +8,7 @@ mod limits_fault;
 mod limits_file;
 mod options;
 mod places;
+mod reducing;
 mod scripting;
 mod show;
 
@@ -44,6 +45,7 @@ fn main(rt: HostRuntime) -> ExitCode {
         Ok(Task::Validate(path)) => inspecting::check_validity(&rt, path),
         Ok(Task::Show(path)) => inspecting::show(&rt, path),
         Ok(Task::Script(options)) => scripting::script(&rt, &options),
+        Ok(Task::Smaller(options)) => reducing::smaller(&rt, &options),
         Err(error) => {
             let printed = error.print(&rt);
             if error.use_stderr() {

@@ -1,6 +1,6 @@
 //! What the words of a command line ask for.
 
-use clap::{Arg, ArgAction, ArgMatches, Command, Error};
+use clap::{Arg, ArgAction, ArgMatches, Command, Error, value_parser};
 use smith_run::Form;
 use std::alloc::{AllocError, Global};
 use std::convert::AsStr;
@@ -20,6 +20,8 @@ pub enum Task<'a> {
     Show(Option<&'a str>),
     /// Write the script of the component in a file.
     Script(ScriptOptions<'a>),
+    /// Write a component that is smaller than the one in a file.
+    Smaller(SmallerOptions<'a>),
 }
 
 /// Where limits are from: those of the file, or the default ones where there is none, and settings over them.
@@ -60,6 +62,18 @@ pub struct ScriptOptions<'a> {
     pub form: Form,
 }
 
+/// How a smaller component is written. Files that are absent are as in `Options`.
+#[derive(Drop)]
+pub struct SmallerOptions<'a> {
+    pub component: Option<&'a str>,
+    /// Which one, from 0.
+    pub number: usize,
+    pub output: Option<&'a str>,
+    pub limits: Limits<'a>,
+    /// Whether each that is well formed is wanted, whatever the limits.
+    pub is_any: bool,
+}
+
 const ABOUT: &str = "Turns a fuzzer's bytes into a WebAssembly component.";
 
 const AFTER: &str =
@@ -89,6 +103,16 @@ const AFTER_SCRIPT: &str = "Status:
   0  the script is written
   1  the bytes are no component, it has no script within the limits, or memory runs out: see standard error
   2  bad arguments, limits that are refused, or a failed read or write";
+
+const AFTER_SMALLER: &str =
+    "The smaller components are, in this order: those without one item, with all that refers to it, and
+those in which one item is simpler. They are counted from 0.
+
+Status:
+  0  the component is written
+  1  there is no smaller component of that number
+  2  bad arguments, limits that are refused, memory runs out, or a failed read or write
+  3  the bytes are not in the grammar: what is wrong, and the offset, are on standard error";
 
 const COMPONENT: &str = "The component; - is standard input [default: -]";
 
@@ -171,6 +195,28 @@ fn script_command<'a>(alloc: Global) -> Result<Command<'a>, AllocError> {
     with_files(alloc, plain, output)?.arg(switch(alloc, "hex", hex))
 }
 
+fn smaller_command<'a>(alloc: Global) -> Result<Command<'a>, AllocError> {
+    let about = "Write the component with one item less, or with a simpler one";
+    let plain = file_command(alloc, "smaller", about)?.after_help(AFTER_SMALLER);
+    let number = Arg::new(alloc, "number")
+        .short('k')
+        .long("number")
+        .value_name("K")
+        .value_parser(value_parser!(usize))
+        .required(true)
+        .help("Which one of those that can be generated within the limits, from 0");
+    let any = switch(
+        alloc,
+        "any",
+        "Count each that is well formed, whatever the limits",
+    );
+    let output =
+        "Where the component goes; - is standard output [default: -, unless it is a terminal]";
+    with_files(alloc, plain, output)?
+        .arg(number)?
+        .arg(any.conflicts_with("limits")?.conflicts_with("limit")?)
+}
+
 /// The program's command.
 pub fn command<'a>(alloc: Global) -> Result<Command<'a>, AllocError> {
     let limits = Command::new(alloc, "limits")
@@ -187,7 +233,8 @@ pub fn command<'a>(alloc: Global) -> Result<Command<'a>, AllocError> {
         .subcommand(limits)?
         .subcommand(check_command(alloc)?)?
         .subcommand(show_command(alloc)?)?
-        .subcommand(script_command(alloc)?)
+        .subcommand(script_command(alloc)?)?
+        .subcommand(smaller_command(alloc)?)
 }
 
 /// The file of that name; none is standard input or output, which `-` names.
@@ -240,6 +287,19 @@ fn script_options_of<'a>(
     })
 }
 
+fn smaller_options_of<'a>(
+    alloc: Global,
+    matches: &ArgMatches<'a>,
+) -> Result<SmallerOptions<'a>, AllocError> {
+    Ok(SmallerOptions {
+        component: file(matches, "FILE"),
+        number: matches.get_one::<usize>("number").unwrap_or(0),
+        output: file(matches, "output"),
+        limits: limits_of(alloc, matches)?,
+        is_any: matches.get_flag("any"),
+    })
+}
+
 fn check_of<'a>(matches: &ArgMatches<'a>) -> Task<'a> {
     let component = file(matches, "FILE");
     if matches.get_flag("validate") {
@@ -262,6 +322,9 @@ pub fn task_of<'a, S: AsStr>(alloc: Global, words: &'a [S]) -> Result<Task<'a>, 
     }
     if let Some(options) = matches.subcommand_matches("script") {
         return Ok(Task::Script(script_options_of(alloc, options)?));
+    }
+    if let Some(options) = matches.subcommand_matches("smaller") {
+        return Ok(Task::Smaller(smaller_options_of(alloc, options)?));
     }
     Ok(Task::PrintLimits)
 }

@@ -167,10 +167,14 @@ pub fn status_of_print(rt: &HostRuntime, printed: io::Result<()>) -> ExitCode {
     }
 }
 
+/// Whether the output is standard output, and that a terminal.
+pub fn is_terminal(rt: &HostRuntime, path: Option<&str>) -> bool {
+    path.is_none() && rt.stdout().is_terminal()
+}
+
 /// Says so where raw bytes would go to a terminal.
 pub fn refuses_terminal(rt: &HostRuntime, path: Option<&str>, form: Form) -> bool {
-    let is_shown = path.is_none() && rt.stdout().is_terminal();
-    if is_shown && form == Form::Raw {
+    if is_terminal(rt, path) && form == Form::Raw {
         let _status = print_error(rt, "standard output is a terminal: use --output or --hex");
         return true;
     }

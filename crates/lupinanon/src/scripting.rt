@@ -34,9 +34,10 @@ fn script_text(
     }
 }
 
-fn write_text(rt: &HostRuntime, path: Option<&str>, text: &[u8]) -> ExitCode {
+/// Writes bytes to the file, or to standard output where there is none, and returns the status.
+pub fn write_bytes(rt: &HostRuntime, path: Option<&str>, bytes: &[u8]) -> ExitCode {
     let mut sink = Sink::new(rt, path);
-    if sink.write_all(text).is_err() || sink.flush().is_err() {
+    if sink.write_all(bytes).is_err() || sink.flush().is_err() {
         print_fault(rt, path, STANDARD_OUTPUT, sink.fault());
         return ExitCode::from(FAULT);
     }
@@ -50,7 +51,7 @@ fn script_within(rt: &HostRuntime, options: &ScriptOptions<'_>, config: &Config)
         Err(status) => return status,
     };
     match script_text(rt.alloc(), config, &bytes, options.form) {
-        Ok(text) => write_text(rt, options.output, &text),
+        Ok(text) => write_bytes(rt, options.output, &text),
         // `check` says where.
         Err(ScriptError::IllFormed(_)) => refuse_ill_formed(rt, options.component, &bytes),
         Err(error) => refuse(rt, options.component, &error, status_of(&error)),

@@ -11,6 +11,14 @@ int32_t lupinanon_proved_generate_into(const void *limits, const uint8_t *input,
 int32_t lupinanon_proved_check(const uint8_t *bytes, size_t bytes_len, size_t *offset);
 int32_t lupinanon_proved_script_into(const void *limits, const uint8_t *bytes, size_t bytes_len, uint8_t *output,
                                      size_t output_len, size_t *script_len, size_t *offset);
+int32_t lupinanon_proved_smaller(const void *limits, const uint8_t *bytes, size_t bytes_len, size_t k, uint8_t *output,
+                                 size_t output_len, size_t *smaller_len);
+int32_t lupinanon_proved_smaller_formed(const uint8_t *bytes, size_t bytes_len, size_t k, uint8_t *output,
+                                        size_t output_len, size_t *smaller_len);
+int32_t lupinanon_proved_without(const uint8_t *bytes, size_t bytes_len, size_t k, uint8_t *output, size_t output_len,
+                                 size_t *less_len);
+int32_t lupinanon_proved_join(const uint8_t *first, size_t first_len, const uint8_t *second, size_t second_len,
+                              uint8_t *output, size_t output_len, size_t *joined_len);
 
 enum { FIRST_SIZE = 4096, MOST_LIMITS_SIZE = 4096 };
 
@@ -103,25 +111,34 @@ static int is_zero(const uint8_t *bytes, size_t len) {
     return 1;
 }
 
-static size_t smaller(size_t one, size_t other) { return one < other ? one : other; }
+static size_t lesser(size_t one, size_t other) { return one < other ? one : other; }
 
 /* Copies what a caller has of the limits over the defaults. Returns whether its other bytes are 0. */
 static int complete(LupinanonLimits *limits, Memory given) {
-    size_t known = smaller(given.len, sizeof *limits);
+    size_t known = lesser(given.len, sizeof *limits);
     set_defaults(limits);
     memcpy(limits, given.at, known);
     if (!is_zero(limits->reserved, sizeof limits->reserved)) return 0;
     return is_zero((const uint8_t *)given.at + known, given.len - known);
 }
 
-/* Whether the limits, what else is read and what is written, an output and two numbers, may be passed on. The limits
- * are then copied over the defaults. */
-static int are_good(LupinanonLimits *whole, const LupinanonLimits *limits, Memory input, const Memory written[3]) {
+/* Whether the limits, what else is read and what is written, an output and numbers, may be passed on. The limits are
+ * then copied over the defaults. */
+static int are_good(LupinanonLimits *whole, const LupinanonLimits *limits, Memory input, const Memory *written,
+                    size_t written_count) {
     Memory read[2];
     read[0] = memory_of_limits(limits);
     read[1] = input;
     if (!is_there(written[0]) || !is_there(read[0]) || !is_there(read[1])) return 0;
-    return are_apart(written, 3, read, 2) && complete(whole, read[0]);
+    return are_apart(written, written_count, read, 2) && complete(whole, read[0]);
+}
+
+/* Whether what is read and what is written, an output and a number, may be passed on. */
+static int may_pass(const Memory *read, size_t read_count, const Memory written[2]) {
+    size_t place;
+    for (place = 0; place < read_count; place++)
+        if (!is_there(read[place])) return 0;
+    return is_there(written[0]) && are_apart(written, 2, read, read_count);
 }
 
 const char *lupinanon_version(void) { return LUPINANON_VERSION; }
@@ -141,6 +158,7 @@ const char *lupinanon_status_name(int32_t status) {
     case LUPINANON_ILL_FORMED: return "ill formed";
     case LUPINANON_UNREAD: return "unread";
     case LUPINANON_NO_SCRIPT: return "no script";
+    case LUPINANON_NO_SMALLER: return "no smaller component";
     default: return "unknown status";
     }
 }
@@ -151,7 +169,7 @@ int32_t lupinanon_default_limits(LupinanonLimits *limits, size_t size) {
     set_defaults(&whole);
     whole.size = size;
     memset(limits, 0, size);
-    memcpy(limits, &whole, smaller(size, sizeof whole));
+    memcpy(limits, &whole, lesser(size, sizeof whole));
     return LUPINANON_ANSWERED;
 }
 
@@ -166,7 +184,7 @@ int32_t lupinanon_generate_into(const LupinanonLimits *limits, const uint8_t *in
     if (!bytes_len || !limits) return LUPINANON_BAD_ARGUMENT;
     {
         Memory written[] = {{output, output_len}, MEMORY_OF(bytes_len), MEMORY_OF(left)}, read = {input, input_len};
-        if (!are_good(&whole, limits, read, written)) return LUPINANON_BAD_ARGUMENT;
+        if (!are_good(&whole, limits, read, written, 3)) return LUPINANON_BAD_ARGUMENT;
     }
     return lupinanon_proved_generate_into(WITHOUT_SIZE(&whole), input ? input : &nothing, input_len,
                                           output ? output : &nothing, output_len, bytes_len, left);
@@ -230,8 +248,52 @@ int32_t lupinanon_script_into(const LupinanonLimits *limits, const uint8_t *byte
     if (!script_len || !limits) return LUPINANON_BAD_ARGUMENT;
     {
         Memory written[] = {{output, output_len}, MEMORY_OF(script_len), MEMORY_OF(offset)}, read = {bytes, bytes_len};
-        if (!are_good(&whole, limits, read, written)) return LUPINANON_BAD_ARGUMENT;
+        if (!are_good(&whole, limits, read, written, 3)) return LUPINANON_BAD_ARGUMENT;
     }
     return lupinanon_proved_script_into(WITHOUT_SIZE(&whole), bytes ? bytes : &nothing, bytes_len,
                                         output ? output : &nothing, output_len, script_len, offset);
+}
+
+int32_t lupinanon_smaller(const LupinanonLimits *limits, const uint8_t *bytes, size_t bytes_len, size_t k,
+                          uint8_t *output, size_t output_len, size_t *smaller_len) {
+    LupinanonLimits whole;
+    uint8_t nothing = 0;
+    if (smaller_len) *smaller_len = 0;
+    if (!smaller_len) return LUPINANON_BAD_ARGUMENT;
+    {
+        Memory written[] = {{output, output_len}, MEMORY_OF(smaller_len)}, read = {bytes, bytes_len};
+        int good = limits ? are_good(&whole, limits, read, written, 2) : may_pass(&read, 1, written);
+        if (!good) return LUPINANON_BAD_ARGUMENT;
+    }
+    if (!bytes) bytes = &nothing;
+    if (!output) output = &nothing;
+    if (!limits) return lupinanon_proved_smaller_formed(bytes, bytes_len, k, output, output_len, smaller_len);
+    return lupinanon_proved_smaller(WITHOUT_SIZE(&whole), bytes, bytes_len, k, output, output_len, smaller_len);
+}
+
+int32_t lupinanon_without(const uint8_t *bytes, size_t bytes_len, size_t k, uint8_t *output, size_t output_len,
+                          size_t *less_len) {
+    uint8_t nothing = 0;
+    if (less_len) *less_len = 0;
+    if (!less_len) return LUPINANON_BAD_ARGUMENT;
+    {
+        Memory written[] = {{output, output_len}, MEMORY_OF(less_len)}, read = {bytes, bytes_len};
+        if (!may_pass(&read, 1, written)) return LUPINANON_BAD_ARGUMENT;
+    }
+    return lupinanon_proved_without(bytes ? bytes : &nothing, bytes_len, k, output ? output : &nothing, output_len,
+                                    less_len);
+}
+
+int32_t lupinanon_join(const uint8_t *first, size_t first_len, const uint8_t *second, size_t second_len,
+                       uint8_t *output, size_t output_len, size_t *joined_len) {
+    uint8_t nothing = 0;
+    if (joined_len) *joined_len = 0;
+    if (!joined_len) return LUPINANON_BAD_ARGUMENT;
+    {
+        Memory written[] = {{output, output_len}, MEMORY_OF(joined_len)};
+        Memory read[] = {{first, first_len}, {second, second_len}};
+        if (!may_pass(read, 2, written)) return LUPINANON_BAD_ARGUMENT;
+    }
+    return lupinanon_proved_join(first ? first : &nothing, first_len, second ? second : &nothing, second_len,
+                                 output ? output : &nothing, output_len, joined_len);
 }

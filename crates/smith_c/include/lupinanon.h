@@ -1,7 +1,8 @@
 /* WebAssembly components from a fuzzer's bytes.
  *
- * Four functions are proved: those that lupinanon_default_limits, lupinanon_generate_into, lupinanon_check and
- * lupinanon_script_into call after a check of their arguments. That check, and all else, is the plain C of lupinanon.c.
+ * Seven functions are proved: those that lupinanon_default_limits, lupinanon_generate_into, lupinanon_check,
+ * lupinanon_script_into, lupinanon_smaller, lupinanon_without and lupinanon_join call after a check of their arguments.
+ * That check, and all else, is the plain C of lupinanon.c.
  *
  * What the caller owes, and nothing checks:
  *  - A pointer that is not NULL points to what its type says, and a length says how much lies there. Limits are as many
@@ -107,15 +108,17 @@ enum LupinanonStatus {
     LUPINANON_TOO_LONG = 4,            /* a length or a count in the bytes would pass 4,294,967,295 */
     LUPINANON_OUT_OF_MEMORY = 5,       /* malloc or realloc returned NULL */
     LUPINANON_PARTS_DISAGREE = 6,      /* no call of this library returns it */
-    LUPINANON_NO_ROOM = 7,             /* the output is too short; *bytes_len or *script_len is how long it has to be */
+    LUPINANON_NO_ROOM = 7,             /* the output is too short; *bytes_len or *script_len, or the like, is how
+                                        * long it has to be */
     LUPINANON_BAD_FLAG = 8,            /* a feature is neither 0 nor 1 */
     LUPINANON_BAD_ARGUMENT = 9,        /* NULL where there has to be memory, a length of half the memory or more, memory
                                         * to write that overlaps what else is passed, limits of a wrong size, or limits
                                         * with anything but 0 where the library has none */
     LUPINANON_ILL_FORMED = 10,         /* the bytes are a component that is not well formed */
     LUPINANON_UNREAD = 11,             /* the bytes are no component, or it nests too deep */
-    LUPINANON_NO_SCRIPT = 12           /* the bytes are a component that is well formed, but no input produces it
+    LUPINANON_NO_SCRIPT = 12,          /* the bytes are a component that is well formed, but no input produces it
                                         * within the limits */
+    LUPINANON_NO_SMALLER = 13          /* there is no k-th smaller component, or no k-th item */
 };
 
 /* How many bytes of stack a call takes at most, with a fifth to spare: within limits of that max_nesting_depth, and at
@@ -186,6 +189,47 @@ int32_t lupinanon_check(const uint8_t *bytes, size_t bytes_len, size_t *offset);
  * it is not needed. */
 int32_t lupinanon_script_into(const LupinanonLimits *limits, const uint8_t *bytes, size_t bytes_len, uint8_t *output,
                               size_t output_len, size_t *script_len, size_t *offset);
+
+/* Writes the k-th, from 0, of the components that are smaller than that of the bytes by a step and can be generated
+ * within the limits to the front of the output. NULL as limits: that are well formed, whatever the limits. The steps are, in this order: without each item, as lupinanon_without
+ * has it, and with each item made simpler, where it can be: a custom section without contents, the empty core module, a
+ * nested component in place of the whole, the type bool in place of a value type, a shorter name. docs/REDUCING.md says
+ * more.
+ *
+ * LUPINANON_ANSWERED: *smaller_len bytes are written.
+ * LUPINANON_NO_ROOM: *smaller_len is how long the component is, and otherwise it is 0. Nothing is written to the output.
+ * LUPINANON_NO_SMALLER: there are no more than k such components.
+ * LUPINANON_UNREAD: as of lupinanon_check.
+ *
+ * Bytes and output may be NULL where their length is 0. It takes the time of a script, or of a check, for each
+ * step up to the k-th. */
+int32_t lupinanon_smaller(const LupinanonLimits *limits, const uint8_t *bytes, size_t bytes_len, size_t k,
+                          uint8_t *output, size_t output_len, size_t *smaller_len);
+
+/* Writes the component of the bytes without its k-th item, from 0, to the front of the output. All that refers to what
+ * is removed is removed too, and other indexes are renumbered. Items are sections, their entries, the declarations of
+ * types, and the members of types, counted in the order of their bytes.
+ *
+ * LUPINANON_ANSWERED: *less_len bytes are written. They are well formed where the component is, and no more.
+ * LUPINANON_NO_ROOM: *less_len is how long the component is, and otherwise it is 0. Nothing is written to the output.
+ * LUPINANON_NO_SMALLER: there are no more than k items.
+ * LUPINANON_UNREAD: as of lupinanon_check.
+ *
+ * Bytes and output may be NULL where their length is 0. */
+int32_t lupinanon_without(const uint8_t *bytes, size_t bytes_len, size_t k, uint8_t *output, size_t output_len,
+                          size_t *less_len);
+
+/* Writes a component with the sections of the first and then those of the second to the front of the output. Indexes of
+ * the second are renumbered, and its imports and exports get names that are new.
+ *
+ * LUPINANON_ANSWERED: *joined_len bytes are written. They are well formed where both components are.
+ * LUPINANON_NO_ROOM: *joined_len is how long the component is, and otherwise it is 0. Nothing is written to the output.
+ * LUPINANON_TOO_LONG: a length or a count in it would pass 4,294,967,295.
+ * LUPINANON_UNREAD: as of lupinanon_check, of the first or the second.
+ *
+ * The first, the second and the output may be NULL where their length is 0. The first and the second may overlap. */
+int32_t lupinanon_join(const uint8_t *first, size_t first_len, const uint8_t *second, size_t second_len,
+                       uint8_t *output, size_t output_len, size_t *joined_len);
 
 #ifdef __cplusplus
 }

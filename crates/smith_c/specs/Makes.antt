@@ -9,7 +9,7 @@ use Rattle.smith_tree.specs.Tree.{Tree}
 use Rattle.smith_c.specs.Limits.{limits_of}
 use Rattle.smith_c.specs.declared.limits.Limits.{Limits}
 use Rattle.smith_c.specs.declared.status.Status.{Status}
-use Rattle.smith_c.specs.declared.status.Status.TheVariants.{Answered, Refused, NoRoom, BadFlag, IllFormed, Unread, NoScript}
+use Rattle.smith_c.specs.declared.status.Status.TheVariants.{Answered, Refused, NoRoom, BadFlag, IllFormed, Unread, NoScript, NoSmaller}
 
 -- These are the bytes of a component that is made of the input within the limits, and so many bytes of the input are left.
 pub record Makes (limits : Limits) (input bytes : List ℕ) (left : ℕ) : Type 0 where
@@ -32,3 +32,4 @@ Stops limits input BadFlag = (config : Config) → limits ≢ limits_of config
 Stops limits input IllFormed = ⊥
 Stops limits input Unread = ⊥
 Stops limits input NoScript = ⊥
+Stops limits input NoSmaller = ⊥

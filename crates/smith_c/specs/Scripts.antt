@@ -12,7 +12,7 @@ use Rattle.smith_c.specs.Limits.{limits_of}
 use Rattle.smith_c.specs.Status.{no_offset}
 use Rattle.smith_c.specs.declared.limits.Limits.{Limits}
 use Rattle.smith_c.specs.declared.status.Status.{Status}
-use Rattle.smith_c.specs.declared.status.Status.TheVariants.{Answered, Refused, NoRoom, BadFlag, IllFormed, Unread, NoScript}
+use Rattle.smith_c.specs.declared.status.Status.TheVariants.{Answered, Refused, NoRoom, BadFlag, IllFormed, Unread, NoScript, NoSmaller}
 
 -- This is the script, within the limits, of a component that the bytes spell.
 pub record Scripts (limits : Limits) (bytes script : List ℕ) : Type 0 where
@@ -42,6 +42,7 @@ Withholds limits bytes BadFlag = (config : Config) → limits ≢ limits_of conf
 Withholds limits bytes IllFormed = HasNoScript limits bytes
 Withholds limits bytes Unread = HasNoScript limits bytes
 Withholds limits bytes NoScript = HasNoScript limits bytes
+Withholds limits bytes NoSmaller = ⊥
 
 -- the status that a refusal of `script` becomes
 abbrev pub status_of : ScriptError → Status

@@ -2,7 +2,7 @@
 use Rattle.std.specs.Prelude.{ℕ, ℤ, pos}
 use Rattle.smith_input.specs.declared.error.Error.TheVariants.{InconsistentLimits, MinimumNotMet, ModuleRefused, TooLong, OutOfMemory, PartsDisagree}
 use Rattle.smith_c.specs.declared.status.Status.{Status}
-use Rattle.smith_c.specs.declared.status.Status.TheVariants.{Answered, Refused, NoRoom, BadFlag, IllFormed, Unread, NoScript}
+use Rattle.smith_c.specs.declared.status.Status.TheVariants.{Answered, Refused, NoRoom, BadFlag, IllFormed, Unread, NoScript, NoSmaller}
 
 -- the number in C that says how a call ended
 abbrev pub code_of : Status → ℤ
@@ -18,6 +18,7 @@ code_of BadFlag = pos 8
 code_of IllFormed = pos 10
 code_of Unread = pos 11
 code_of NoScript = pos 12
+code_of NoSmaller = pos 13
 
 -- what is written where no offset is known: 2^64 - 1
 abbrev pub no_offset : ℕ

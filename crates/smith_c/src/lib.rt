@@ -6,5 +6,7 @@ pub mod check;
 pub mod into;
 pub mod limits;
 pub mod make;
+mod put;
+pub mod reduce;
 pub mod script;
 pub mod status;

@@ -22,12 +22,15 @@ pub enum Status {
     Unread,
     /// The bytes are a component that is well formed, but no input produces it within the limits.
     NoScript,
+    /// There is no smaller component of that number.
+    NoSmaller,
 }
 
 impl Status {
     /// Its number in C: 0 where the output has it or the bytes are well formed, 1 to 6 for the refusals in the order of
     /// `Error`, 7 where there is no room, 8 for a byte that is no flag, 10 for a component that is not well formed, 11
-    /// for bytes that are none, and 12 where there is no script. The header has 9 for arguments that no call may have.
+    /// for bytes that are none, 12 where there is no script, and 13 where
+    /// there is no smaller component. The header has 9 for arguments that no call may have.
     pub fn code(&self) -> i32
         ensures { result ≡ code_of self.now }
     {
@@ -44,6 +47,7 @@ impl Status {
             Status::IllFormed => 10,
             Status::Unread => 11,
             Status::NoScript => 12,
+            Status::NoSmaller => 13,
         }
     }
 }

@@ -1,0 +1,101 @@
+-- Smaller and joined components, and why there are none.
+use Rattle.std.specs.Prelude.{◌≡◌, ◌≢◌, ◌⊎◌, ℕ, List, Option, Some, None, Result, Ok, Err}
+use Rattle.smith_format.specs.Consistency.{IsConsistent}
+use Rattle.smith_format.specs.declared.config.Config.{Config}
+use Rattle.smith_input.specs.declared.error.Error.TheVariants.{InconsistentLimits, MinimumNotMet, ModuleRefused, TooLong, OutOfMemory, PartsDisagree}
+use Rattle.smith_tree.specs.Grammar.{Spells, component_text}
+use Rattle.smith_tree.specs.Tree.{Tree}
+use Rattle.smith_reduce.specs.Bytes.{AreJoined, AreUnread, IsWithout}
+use Rattle.smith_reduce.specs.Smaller.{HasScript, IsKth}
+use Rattle.smith_reduce.specs.declared.error.JoinError.{JoinError}
+use Rattle.smith_reduce.specs.declared.error.JoinError.TheVariants as join_error
+use Rattle.smith_reduce.specs.declared.error.ReduceError.{ReduceError}
+use Rattle.smith_reduce.specs.declared.error.ReduceError.TheVariants as refusal
+use Rattle.smith_c.specs.Limits.{limits_of}
+use Rattle.smith_c.specs.declared.limits.Limits.{Limits}
+use Rattle.smith_c.specs.declared.status.Status.{Status}
+use Rattle.smith_c.specs.declared.status.Status.TheVariants.{Answered, Refused, NoRoom, BadFlag, IllFormed, Unread, NoScript, NoSmaller}
+
+-- This is the k-th of the components smaller than that of the bytes by a step that have the property; none, where there is no k-th.
+abbrev pub IsSmaller : (Tree → Type 0) → List ℕ → ℕ → Option (List ℕ) → Type 0
+IsSmaller P bytes k smaller = (t : Tree) × Spells t bytes × IsKth P t k smaller
+
+-- This is the k-th of those that can be generated within the limits.
+abbrev pub Reduces : Limits → List ℕ → ℕ → Option (List ℕ) → Type 0
+Reduces limits bytes k smaller = (config : Config) × (limits ≡ limits_of config) × IsConsistent config × IsSmaller (HasScript config) bytes k smaller
+
+-- This is the component of the bytes without its k-th item; none, where there is no k-th.
+abbrev pub Removes : List ℕ → ℕ → Option (List ℕ) → Type 0
+Removes bytes k less = (t : Tree) × Spells t bytes × IsWithout k t less
+
+-- the status that a refusal to reduce becomes
+abbrev pub status_of : ReduceError → Status
+status_of refusal.OutOfMemory = Refused OutOfMemory
+status_of refusal.InconsistentLimits = Refused InconsistentLimits
+status_of (refusal.Unread reason offset) = Unread
+
+-- what is found, or the status where there is none
+abbrev pub found : {V : Type 0} → Result (Option V) ReduceError → Result V Status
+found (Ok (Some x)) = Ok x
+found (Ok None) = Err NoSmaller
+found (Err e) = Err (status_of e)
+
+-- the status that a refusal to join becomes
+abbrev pub status_of_join : JoinError → Status
+status_of_join join_error.OutOfMemory = Refused OutOfMemory
+status_of_join join_error.TooLong = Refused TooLong
+status_of_join (join_error.FirstUnread reason offset) = Unread
+status_of_join (join_error.SecondUnread reason offset) = Unread
+
+-- the bytes are not read
+abbrev pub IsUnread : List ℕ → Type 0
+IsUnread bytes = (offset : ℕ) × AreUnread bytes offset
+
+-- No smaller component is returned: there is no k-th, or the bytes are not read, or no memory is left, or the limits are those of no
+-- configuration that fits together.
+abbrev pub Unreduced : Limits → List ℕ → ℕ → Status → Type 0
+Unreduced limits bytes k Answered = ⊥
+Unreduced limits bytes k (Refused InconsistentLimits) = (config : Config) × (limits ≡ limits_of config) × (¬ IsConsistent config)
+Unreduced limits bytes k (Refused MinimumNotMet) = ⊥
+Unreduced limits bytes k (Refused ModuleRefused) = ⊥
+Unreduced limits bytes k (Refused TooLong) = ⊥
+Unreduced limits bytes k (Refused OutOfMemory) = (config : Config) × (limits ≡ limits_of config)
+Unreduced limits bytes k (Refused PartsDisagree) = ⊥
+Unreduced limits bytes k NoRoom = ⊥
+Unreduced limits bytes k BadFlag = (config : Config) → limits ≢ limits_of config
+Unreduced limits bytes k IllFormed = ⊥
+Unreduced limits bytes k Unread = IsUnread bytes
+Unreduced limits bytes k NoScript = ⊥
+Unreduced limits bytes k NoSmaller = Reduces limits bytes k None
+
+-- No component is returned: there is none, or the bytes are not read, or no memory is left.
+abbrev pub Lacks : Type 0 → List ℕ → Status → Type 0
+Lacks none bytes Answered = ⊥
+Lacks none bytes (Refused InconsistentLimits) = ⊥
+Lacks none bytes (Refused MinimumNotMet) = ⊥
+Lacks none bytes (Refused ModuleRefused) = ⊥
+Lacks none bytes (Refused TooLong) = ⊥
+Lacks none bytes (Refused OutOfMemory) = Unit {0}
+Lacks none bytes (Refused PartsDisagree) = ⊥
+Lacks none bytes NoRoom = ⊥
+Lacks none bytes BadFlag = ⊥
+Lacks none bytes IllFormed = ⊥
+Lacks none bytes Unread = IsUnread bytes
+Lacks none bytes NoScript = ⊥
+Lacks none bytes NoSmaller = none
+
+-- No joined component is returned: it has no encoding, or the bytes of one are not read, or no memory is left.
+abbrev pub AreUnjoined : List ℕ → List ℕ → Status → Type 0
+AreUnjoined first second Answered = ⊥
+AreUnjoined first second (Refused InconsistentLimits) = ⊥
+AreUnjoined first second (Refused MinimumNotMet) = ⊥
+AreUnjoined first second (Refused ModuleRefused) = ⊥
+AreUnjoined first second (Refused TooLong) = AreJoined first second (λ t. component_text t ≡ None)
+AreUnjoined first second (Refused OutOfMemory) = Unit {0}
+AreUnjoined first second (Refused PartsDisagree) = ⊥
+AreUnjoined first second NoRoom = ⊥
+AreUnjoined first second BadFlag = ⊥
+AreUnjoined first second IllFormed = ⊥
+AreUnjoined first second Unread = IsUnread first ⊎ IsUnread second
+AreUnjoined first second NoScript = ⊥
+AreUnjoined first second NoSmaller = ⊥

@@ -1,0 +1,12 @@
+//! Components from the bytes of others: smaller ones, one without an item, and two joined.
+#![tactic(auto)]
+
+mod edits;
+mod error;
+mod steps;
+
+pub use edits::{joined, without};
+pub use error::{JoinError, ReduceError};
+pub use smith_format::Config;
+pub use smith_read::Reason;
+pub use steps::{Wanted, smaller};

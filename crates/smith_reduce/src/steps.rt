@@ -1,0 +1,183 @@
+//! Components that are smaller by a step.
+
+ghost use Rattle.std.specs.Prelude.{◌≡◌, ◌↔◌, true, false, Decides, IfOk, IfErr};
+ghost use Rattle.std.specs.Option.{option_map};
+ghost use Rattle.smith_tree.specs.Grammar.{Spells};
+ghost use Rattle.smith_tree.specs.Tree.{Tree};
+ghost use Rattle.smith_read.specs.PartNodes.{shown_tree};
+ghost use Rattle.smith_reduce.specs.Bytes.{IsReduceRefusal};
+ghost use Rattle.smith_reduce.specs.Smaller.{HasScript, IsKth, stepped};
+ghost use Rattle.smith_reduce.specs.Wanted.{AreConsistent, IsLead, IsWanted, IsWhole};
+ghost use Rattle.smith_reduce.specs.declared.error.ReduceError.TheVariants.{InconsistentLimits};
+ghost use Rattle.smith_script.specs.declared.error.ScriptError.TheVariants.{OutOfMemory};
+
+use crate::edits::spelled;
+use crate::error::ReduceError;
+use smith_check::{Judgement, judged};
+use smith_edit::{item_count, simplified, without};
+use smith_format::Config;
+use smith_read::{ComponentTree, read};
+use smith_script::{ScriptError, script};
+use std::alloc::{AllocError, Global};
+
+/// Which components are wanted.
+#[derive(Clone, Copy)]
+pub enum Wanted<'a> {
+    /// Those that have a script within the limits, so that an input produces them.
+    Generated(&'a Config),
+    /// Those that are well formed.
+    WellFormed,
+}
+
+// A component that is made smaller by steps, and how many items it has.
+#[derive(Clone, Copy)]
+struct Whole<'a> {
+    component: &'a ComponentTree,
+    items: usize,
+}
+
+// Out of memory aside, a refusal says that there is no script.
+fn refused(error: ScriptError) -> Result<bool, AllocError>
+    ensures { IfOk result (λ r. (r ≡ false) × ¬ (error ≡ OutOfMemory)) }
+{
+    match error {
+        ScriptError::OutOfMemory => Err(AllocError),
+        _ => Ok(false),
+    }
+}
+
+// Does the component with these bytes have a script within the limits?
+fn has_script(
+    alloc: Global,
+    config: &Config,
+    component: &ComponentTree,
+    bytes: &[u8],
+) -> Result<bool, AllocError>
+    requires { Spells (shown_tree component.now) bytes.now }
+    ensures { IfOk result (λ r. Decides r (HasScript config.now (shown_tree component.now))) }
+{
+    match script(alloc, config, bytes) {
+        Ok(_script) => Ok(true),
+        Err(error) => refused(error),
+    }
+}
+
+impl Wanted<'_> {
+    // Do limits fit together, if there are any?
+    fn are_consistent(&self) -> bool
+        ensures { (result ≡ true) ↔ AreConsistent self.now }
+    {
+        match self {
+            Wanted::Generated(config) => config.check().is_ok(),
+            Wanted::WellFormed => true,
+        }
+    }
+
+    // Is the component with these bytes wanted?
+    fn has(
+        &self,
+        alloc: Global,
+        component: &ComponentTree,
+        bytes: &[u8],
+    ) -> Result<bool, AllocError>
+        requires { Spells (shown_tree component.now) bytes.now }
+        ensures { IfOk result (λ r. Decides r (IsWanted self.now (shown_tree component.now))) }
+    {
+        match self {
+            Wanted::Generated(config) => has_script(alloc, config, component, bytes),
+            Wanted::WellFormed => match judged(alloc, component)? {
+                Judgement::WellFormed => Ok(true),
+                Judgement::IllFormed(_) => Ok(false),
+            },
+        }
+    }
+}
+
+impl Whole<'_> {
+    // The component after a step: the first ones remove an item each, and those after them make one simpler.
+    fn stepped(&self, alloc: Global, step: usize) -> Result<Option<ComponentTree>, AllocError>
+        requires { IsWhole self.now }
+        ensures { IfOk result (λ r. option_map shown_tree r ≡ stepped step (shown_tree self.now.component.now)) }
+    {
+        if step < self.items {
+            return without(alloc, self.component, step);
+        }
+        simplified(alloc, self.component, step - self.items)
+    }
+
+    // The bytes of the component that is wanted to which a step leads.
+    fn led_to(
+        &self,
+        alloc: Global,
+        wanted: Wanted<'_>,
+        step: usize,
+    ) -> Result<Option<Vec<u8>>, AllocError>
+        requires { IsWhole self.now }
+        ensures { IfOk result (λ r. IsLead wanted.entry (shown_tree self.now.component.now) step (option_map (λ b. b.items) r)) }
+    {
+        let Some(smaller) = self.stepped(alloc, step)? else {
+            return Ok(None);
+        };
+        let Some(bytes) = spelled(alloc, &smaller)? else {
+            return Ok(None);
+        };
+        if wanted.has(alloc, &smaller, &bytes)? {
+            return Ok(Some(bytes));
+        }
+        Ok(None)
+    }
+
+    // The bytes of the component that is wanted to which a step leads that has so many before it that lead to one.
+    #[tactic(auto, using(crate::proofs::Counting::none_passed, crate::proofs::Counting::one_passed, crate::proofs::Counting::other_passed))]
+    fn kth(
+        &self,
+        alloc: Global,
+        wanted: Wanted<'_>,
+        k: usize,
+    ) -> Result<Option<Vec<u8>>, AllocError>
+        requires { IsWhole self.now }
+        ensures { IfOk result (λ r. IsKth (IsWanted wanted.entry) (shown_tree self.now.component.now) k (option_map (λ b. b.items) r)) }
+    {
+        let steps = self.items.checked_add(self.items).ok_or(AllocError)?;
+        let mut left = k;
+        for step in 0..steps {
+            let Some(bytes) = self.led_to(alloc, wanted, step)? else {
+                continue;
+            };
+            if left == 0 {
+                return Ok(Some(bytes));
+            }
+            left -= 1;
+        }
+        Ok(None)
+    }
+}
+
+/// The `k`-th, from 0, of the components that are wanted and smaller than the one that these bytes are by a step. There
+/// is none where no more than `k` steps lead to a component that is wanted.
+///
+/// The steps are, in this order: without each item, as [`smith_edit::without`] has it, and with each item made simpler,
+/// as [`smith_edit::simplified`] has it. Each takes the time of a script of the component, or of a judgement.
+pub fn smaller(
+    alloc: Global,
+    wanted: Wanted<'_>,
+    bytes: &[u8],
+    k: usize,
+) -> Result<Option<Vec<u8>>, ReduceError>
+    ensures answered { IfOk result
+        (λ r. (t : Tree) × Spells t bytes.now × IsKth (IsWanted wanted.entry) t k (option_map (λ b. b.items) r)) }
+    ensures refuses { IfErr result (IsReduceRefusal bytes.now) }
+    // Exactly where limits do not fit together, that is the refusal.
+    ensures limits { IfErr result (λ e. (e ≡ InconsistentLimits) ↔ (¬ AreConsistent wanted.entry)) }
+    ensures accepts { IfOk result (λ _. AreConsistent wanted.entry) }
+{
+    if !wanted.are_consistent() {
+        return Err(ReduceError::InconsistentLimits);
+    }
+    let component = read(alloc, bytes)?;
+    let whole = Whole {
+        component: &component,
+        items: item_count(&component)?,
+    };
+    Ok(whole.kth(alloc, wanted, k)?)
+}
