@@ -1,32 +1,6 @@
 /* Each status once, what is written and what is not, and each allocation refused in turn.
  * To be linked with -Wl,--wrap=malloc,--wrap=realloc. */
-#include "lupinanon.h"
-#include <stdio.h>
-#include <stdlib.h>
-#include <string.h>
-
-void *__real_malloc(size_t size);
-void *__real_realloc(void *block, size_t size);
-
-static long until_refusal = -1;
-
-static int is_refused(void) { return until_refusal >= 0 && until_refusal-- == 0; }
-
-void *__wrap_malloc(size_t size) { return is_refused() ? NULL : __real_malloc(size); }
-void *__wrap_realloc(void *block, size_t size) { return is_refused() ? NULL : __real_realloc(block, size); }
-
-#define WANT(x)                                                 \
-    do {                                                        \
-        if (!(x)) {                                             \
-            printf("checks.c:%d: not so: %s\n", __LINE__, #x); \
-            return 0;                                           \
-        }                                                       \
-    } while (0)
-
-/* The first eight bytes of each component. */
-#define PREAMBLE 0x00, 0x61, 0x73, 0x6d, 0x0d, 0x00, 0x01, 0x00
-
-enum { ROOM = 256 };
+#include "checks.h"
 
 /* A type, and a byte after its script. */
 static const uint8_t plan[8] = {3, 1, 0, 0, 6, 0, 0, 0xff};
@@ -86,12 +60,6 @@ static int nothing_passes_the_room(void) {
     WANT(left == LUPINANON_NO_OFFSET && output[0] == 0xaa);
     WANT(lupinanon_script_into(&limits, wanted, 12, output, 7, &len, &left) == LUPINANON_ANSWERED && len == 7);
     WANT(left == LUPINANON_NO_OFFSET && !memcmp(output, plan, 7) && output[7] == 0xaa);
-    return 1;
-}
-
-static int is_untouched(const uint8_t output[ROOM], size_t place) {
-    for (; place < ROOM; place++)
-        if (output[place] != 0xaa) return 0;
     return 1;
 }
 
@@ -362,7 +330,8 @@ static int words_are_right(void) {
     WANT(!strcmp(lupinanon_status_name(LUPINANON_OUT_OF_MEMORY), "out of memory"));
     WANT(!strcmp(lupinanon_status_name(LUPINANON_UNREAD), "unread"));
     WANT(!strcmp(lupinanon_status_name(LUPINANON_NO_SCRIPT), "no script"));
-    WANT(!strcmp(lupinanon_status_name(LUPINANON_NO_SCRIPT + 1), "unknown status"));
+    WANT(!strcmp(lupinanon_status_name(LUPINANON_NO_SMALLER), "no smaller component"));
+    WANT(!strcmp(lupinanon_status_name(LUPINANON_NO_SMALLER + 1), "unknown status"));
     WANT(!strcmp(lupinanon_status_name(-1), "unknown status"));
     return 1;
 }
@@ -383,13 +352,6 @@ static int memory_is_refused_in_turn(void) {
     free(bytes);
     return 1;
 }
-
-typedef struct Bytes {
-    const uint8_t *at;
-    size_t len;
-} Bytes;
-
-#define BYTES(...) {(const uint8_t[]){__VA_ARGS__}, sizeof((const uint8_t[]){__VA_ARGS__})}
 
 /* A limit, a value of it that is not the default, and what an input then gives. */
 typedef struct Arriving {

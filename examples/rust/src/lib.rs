@@ -135,6 +135,34 @@ impl fmt::Display for NoScript {
 
 impl core::error::Error for NoScript {}
 
+/// Why no component is returned that is smaller than another, or that two are joined to.
+#[derive(Clone, Copy, Debug, PartialEq, Eq)]
+#[non_exhaustive]
+pub enum Unreduced {
+    /// A minimum passes its maximum, a maximum 32 bits, or the nesting depth 1000.
+    InconsistentLimits,
+    /// The bytes are no component of the grammar, or one whose scopes are nested more than 1001 deep. `check` knows
+    /// where.
+    Unread,
+    /// A length or a count in the joined component would pass 4,294,967,295.
+    TooLong,
+    /// Out of memory.
+    OutOfMemory,
+}
+
+impl fmt::Display for Unreduced {
+    fn fmt(&self, f: &mut fmt::Formatter<'_>) -> fmt::Result {
+        f.write_str(match self {
+            Unreduced::InconsistentLimits => "the limits do not fit together",
+            Unreduced::Unread => "the bytes are no component",
+            Unreduced::TooLong => "a length or a count is too large to be written",
+            Unreduced::OutOfMemory => "out of memory",
+        })
+    }
+}
+
+impl core::error::Error for Unreduced {}
+
 /// Returns the component that the input gives within the limits. Equal limits and equal input give equal bytes.
 ///
 /// # Panics
@@ -184,6 +212,74 @@ pub fn script(limits: &Limits, bytes: &[u8]) -> Result<Vec<u8>, NoScript> {
         output.clear();
         room = len;
     }
+}
+
+// Returns what a call writes to an output of that room, or of as much more as it asks for.
+fn written(
+    room: usize,
+    mut call: impl FnMut(&mut [u8]) -> Result<Option<usize>, Unreduced>,
+) -> Result<Option<Vec<u8>>, Unreduced> {
+    let mut output = Vec::new();
+    let mut room = room;
+    loop {
+        output.try_reserve_exact(room).map_err(|_| Unreduced::OutOfMemory)?;
+        output.resize(room, 0);
+        let Some(len) = call(&mut output)? else {
+            return Ok(None);
+        };
+        if len <= room {
+            output.truncate(len);
+            return Ok(Some(output));
+        }
+        output.clear();
+        room = len;
+    }
+}
+
+/// Returns the `k`-th, from 0, of the components that are smaller by a step and can be generated within the limits; or,
+/// without limits, that are well formed. There is none where there are no more than `k`.
+///
+/// The steps are, in this order: the component without each item, as `without` has it, and with each item made simpler.
+///
+/// # Panics
+///
+/// As `generate` does.
+pub fn smaller(limits: Option<&Limits>, bytes: &[u8], k: usize) -> Result<Option<Vec<u8>>, Unreduced> {
+    written(bytes.len(), |output| library::smaller_into(limits, bytes, k, output))
+}
+
+/// Returns the component without its `k`-th item, from 0, and without all that refers to it. Other indexes are
+/// renumbered. There is none where there are no more than `k` items.
+pub fn without(bytes: &[u8], k: usize) -> Result<Option<Vec<u8>>, Unreduced> {
+    written(bytes.len(), |output| library::without_into(bytes, k, output))
+}
+
+/// Returns a component of the sections of the first and then those of the second, with its indexes renumbered, and its
+/// imports and exports by names that are new.
+pub fn join(first: &[u8], second: &[u8]) -> Result<Vec<u8>, Unreduced> {
+    let room = first.len().saturating_add(second.len());
+    let joined = written(room, |output| library::join_into(first, second, output))?;
+    Ok(joined.expect("a component that is joined is one"))
+}
+
+/// Returns a component that fails and of which no single item can be removed or made simpler so that it still fails. It is
+/// found from one that fails, which is returned where no smaller one does. Only components that are well formed are tried.
+pub fn reduce(component: &[u8], mut fails: impl FnMut(&[u8]) -> bool) -> Result<Vec<u8>, Unreduced> {
+    let mut smallest = component.to_vec();
+    let mut is_new = true;
+    while is_new {
+        is_new = false;
+        let mut k = 0;
+        while let Some(next) = smaller(None, &smallest, k)? {
+            if fails(&next) {
+                smallest = next;
+                is_new = true;
+            } else {
+                k += 1;
+            }
+        }
+    }
+    Ok(smallest)
 }
 
 /// Returns the version of the static library.

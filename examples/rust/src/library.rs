@@ -1,7 +1,7 @@
 //! The static library's functions.
 
 use crate::raw_limits::RawLimits;
-use crate::{Limits, NoScript, OutOfMemory, Refusal, Verdict};
+use crate::{Limits, NoScript, OutOfMemory, Refusal, Unreduced, Verdict};
 use core::ffi::{c_char, CStr};
 use core::mem::{size_of, MaybeUninit};
 
@@ -26,6 +26,32 @@ extern "C" {
         output_len: usize,
         script_len: *mut usize,
         offset: *mut usize,
+    ) -> i32;
+    fn lupinanon_smaller(
+        limits: *const RawLimits,
+        bytes: *const u8,
+        bytes_len: usize,
+        k: usize,
+        output: *mut u8,
+        output_len: usize,
+        smaller_len: *mut usize,
+    ) -> i32;
+    fn lupinanon_without(
+        bytes: *const u8,
+        bytes_len: usize,
+        k: usize,
+        output: *mut u8,
+        output_len: usize,
+        less_len: *mut usize,
+    ) -> i32;
+    fn lupinanon_join(
+        first: *const u8,
+        first_len: usize,
+        second: *const u8,
+        second_len: usize,
+        output: *mut u8,
+        output_len: usize,
+        joined_len: *mut usize,
     ) -> i32;
 }
 
@@ -137,4 +163,71 @@ pub fn script_into(limits: &Limits, bytes: &[u8], output: &mut [u8]) -> Result<u
         12 => Err(NoScript::CannotBeGenerated { offset: known(offset) }),
         other => unexpected(other),
     }
+}
+
+// How long the component is that a call writes, where there is one.
+fn len_of(status: i32, len: usize) -> Result<Option<usize>, Unreduced> {
+    match status {
+        0 | 7 => Ok(Some(len)),
+        1 => Err(Unreduced::InconsistentLimits),
+        4 => Err(Unreduced::TooLong),
+        5 => Err(Unreduced::OutOfMemory),
+        11 => Err(Unreduced::Unread),
+        13 => Ok(None),
+        other => unexpected(other),
+    }
+}
+
+/// How long the k-th smaller component is, if there is one. It is written to the front of the output, where there is
+/// room.
+pub fn smaller_into(
+    limits: Option<&Limits>,
+    bytes: &[u8],
+    k: usize,
+    output: &mut [u8],
+) -> Result<Option<usize>, Unreduced> {
+    let limits = limits.map(RawLimits::of);
+    let limits = limits.as_ref().map_or(core::ptr::null(), |limits| limits as *const RawLimits);
+    let mut len = 0;
+    // SAFETY: only the limits may be null, the lengths are those of the slices, and nothing written overlaps anything.
+    let status = unsafe {
+        lupinanon_smaller(
+            limits,
+            bytes.as_ptr(),
+            bytes.len(),
+            k,
+            output.as_mut_ptr(),
+            output.len(),
+            &mut len,
+        )
+    };
+    len_of(status, len)
+}
+
+/// How long the component without its k-th item is, if there is one. It is written as `smaller_into` does.
+pub fn without_into(bytes: &[u8], k: usize, output: &mut [u8]) -> Result<Option<usize>, Unreduced> {
+    let mut len = 0;
+    // SAFETY: no reference is null, the lengths are those of the slices, and nothing written overlaps anything.
+    let status = unsafe {
+        lupinanon_without(bytes.as_ptr(), bytes.len(), k, output.as_mut_ptr(), output.len(), &mut len)
+    };
+    len_of(status, len)
+}
+
+/// How long the joined component is. It is written as `smaller_into` does.
+pub fn join_into(first: &[u8], second: &[u8], output: &mut [u8]) -> Result<Option<usize>, Unreduced> {
+    let mut len = 0;
+    // SAFETY: no reference is null, the lengths are those of the slices, and nothing written overlaps anything.
+    let status = unsafe {
+        lupinanon_join(
+            first.as_ptr(),
+            first.len(),
+            second.as_ptr(),
+            second.len(),
+            output.as_mut_ptr(),
+            output.len(),
+            &mut len,
+        )
+    };
+    len_of(status, len)
 }

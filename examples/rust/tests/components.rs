@@ -1,4 +1,6 @@
-use lupinanon::{check, generate, library_version, script, Limits, NoScript, Refusal, Verdict};
+use lupinanon::{
+    check, generate, join, library_version, reduce, script, smaller, without, Limits, NoScript, Refusal, Unreduced, Verdict,
+};
 
 #[test]
 fn a_component_of_one_type() {
@@ -95,4 +97,41 @@ fn what_has_no_script_is_refused() {
 #[test]
 fn the_library_is_of_this_version() {
     assert_eq!(library_version(), env!("CARGO_PKG_VERSION"));
+}
+
+#[test]
+fn smaller_components() {
+    let type_of_u32 = b"\x00asm\x0d\x00\x01\x00\x07\x02\x01\x79";
+    let limits = Limits::default();
+    let nth = |k| smaller(Some(&limits), type_of_u32, k).unwrap();
+    assert_eq!(nth(0).as_deref(), Some(&b"\x00asm\x0d\x00\x01\x00"[..]));
+    assert_eq!(nth(1).as_deref(), Some(&b"\x00asm\x0d\x00\x01\x00\x07\x01\x00"[..]));
+    assert_eq!(nth(2).as_deref(), Some(&b"\x00asm\x0d\x00\x01\x00\x07\x02\x01\x7f"[..]));
+    assert_eq!(nth(3), None);
+    assert_eq!(without(type_of_u32, 1), Ok(nth(1)));
+    assert_eq!(without(type_of_u32, 2), Ok(None));
+    assert_eq!(smaller(None, b"", 0), Err(Unreduced::Unread));
+    let deep = Limits { max_nesting_depth: 1001, ..Limits::default() };
+    assert_eq!(smaller(Some(&deep), type_of_u32, 0), Err(Unreduced::InconsistentLimits));
+}
+
+#[test]
+fn joined_components() {
+    let type_of_u32 = b"\x00asm\x0d\x00\x01\x00\x07\x02\x01\x79";
+    let two = b"\x00asm\x0d\x00\x01\x00\x07\x02\x01\x79\x07\x02\x01\x79";
+    assert_eq!(join(type_of_u32, type_of_u32).as_deref(), Ok(&two[..]));
+    assert_eq!(join(type_of_u32, b""), Err(Unreduced::Unread));
+}
+
+#[test]
+fn a_component_is_reduced() {
+    let input: Vec<u8> = (0..256u32).map(|place| (place * 7 % 251) as u8).collect();
+    let limits = Limits { finish_after: 8, ..Limits::default() };
+    let found = generate(&limits, &input).unwrap().bytes;
+    let nothing = b"\x00asm\x0d\x00\x01\x00";
+    assert_eq!(reduce(&found, |_| true).as_deref(), Ok(&nothing[..]));
+    assert_eq!(reduce(&found, |_| false), Ok(found.clone()));
+    let is_longer = |bytes: &[u8]| bytes.len() > 11;
+    let least = reduce(&found, is_longer).unwrap();
+    assert!(is_longer(&least) && least.len() < 16, "{least:?}");
 }
