@@ -1,6 +1,6 @@
 /* WebAssembly components from a fuzzer's bytes.
  *
- * Seven functions are proved: those that lupinanon_default_limits, lupinanon_generate_into, lupinanon_check,
+ * Eight functions are proved: those that lupinanon_default_limits, lupinanon_generate_into, lupinanon_check,
  * lupinanon_script_into, lupinanon_smaller, lupinanon_without and lupinanon_join call after a check of their arguments.
  * That check, and all else, is the plain C of lupinanon.c.
  *
