@@ -4,7 +4,8 @@ ghost use Rattle.std.specs.Prelude.{◌≡◌, ◌≢◌, ℕ, ◌<◌, ◌≤�
 ghost use Rattle.smith_tree.specs.Grammar.{Spells};
 ghost use Rattle.smith_tree.specs.WellFormed.{WellFormed};
 ghost use Rattle.smith_reduce.specs.Bytes.{AreJoined};
-ghost use Rattle.smith_c.specs.Reduces.{AreUnjoined, IsSmaller, Lacks, Reduces, Removes, Unreduced, found, status_of, status_of_join};
+ghost use Rattle.smith_c.specs.Reduces.{AreUnjoined, IsSmaller, Lacks, Reduces, Removes, Unreduced};
+ghost use Rattle.smith_c.specs.Reduces.{found, status_of, status_of_join};
 ghost use Rattle.smith_c.specs.Status.{code_of};
 ghost use Rattle.smith_c.specs.declared.status.Status.{Status};
 ghost use Rattle.smith_c.specs.declared.status.Status.TheVariants.{Answered, NoRoom};
@@ -65,8 +66,8 @@ fn removed(alloc: Global, bytes: &[u8], k: usize) -> Result<Vec<u8>, Status>
     found(without(alloc, bytes, k))
 }
 
-/// Writes the `k`-th, from 0, of the components that are smaller by a step and can be generated within the limits to the
-/// front of the output, as `smaller` of `smith_reduce` counts them.
+/// Writes the `k`-th, from 0, of the components that are smaller by a step and can be generated within the limits to
+/// the front of the output, as `smaller` of `smith_reduce` counts them.
 ///
 /// The answer is the code of a `Status`: `NoSmaller` where there is no `k`-th. Where the output has no room,
 /// `smaller_len` is how long the component is, as where it is written, and else it is 0. The output is as it was unless
@@ -96,8 +97,8 @@ pub extern "C" fn lupinanon_proved_smaller(
     }
 }
 
-/// Writes the `k`-th, from 0, of the components that are smaller by a step and well formed to the front of the output, as
-/// `smaller` of `smith_reduce` counts them.
+/// Writes the `k`-th, from 0, of the components that are smaller by a step and well formed to the front of the output,
+/// as `smaller` of `smith_reduce` counts them.
 ///
 /// The answer, `smaller_len` and the output are as of `lupinanon_proved_smaller`.
 #[unsafe(no_mangle)]
@@ -128,8 +129,8 @@ pub extern "C" fn lupinanon_proved_smaller_formed(
 /// as `without` of `smith_edit` has it.
 ///
 /// The answer is the code of a `Status`: `NoSmaller` where there is no `k`-th item. Where the output has no room,
-/// `less_len` is how long the component is, as where it is written, and else it is 0. The output is as it was unless the
-/// component is written, and after it in any case.
+/// `less_len` is how long the component is, as where it is written, and else it is 0. The output is as it was unless
+/// the component is written, and after it in any case.
 #[unsafe(no_mangle)]
 pub extern "C" fn lupinanon_proved_without(
     alloc: Global,
