@@ -2,6 +2,9 @@
 #![tactic(auto)]
 
 mod converting;
+mod corpus;
+mod folder_options;
+mod folders;
 mod generating;
 mod inspecting;
 mod limits_fault;
@@ -11,6 +14,7 @@ mod places;
 mod reducing;
 mod scripting;
 mod show;
+mod stats;
 
 use options::Task;
 use smith_limits::DEFAULT_LIMITS;
@@ -46,6 +50,8 @@ fn main(rt: HostRuntime) -> ExitCode {
         Ok(Task::Show(path)) => inspecting::show(&rt, path),
         Ok(Task::Script(options)) => scripting::script(&rt, &options),
         Ok(Task::Smaller(options)) => reducing::smaller(&rt, &options),
+        Ok(Task::Corpus(options)) => corpus::corpus(&rt, &options),
+        Ok(Task::Stats(options)) => stats::stats(&rt, options),
         Err(error) => {
             let printed = error.print(&rt);
             if error.use_stderr() {

@@ -1,5 +1,8 @@
 //! What the words of a command line ask for.
 
+use crate::folder_options::{
+    CorpusOptions, StatsOptions, corpus_command, corpus_options_of, stats_command, stats_options_of,
+};
 use clap::{Arg, ArgAction, ArgMatches, Command, Error, value_parser};
 use smith_run::Form;
 use std::alloc::{AllocError, Global};
@@ -22,6 +25,10 @@ pub enum Task<'a> {
     Script(ScriptOptions<'a>),
     /// Write a component that is smaller than the one in a file.
     Smaller(SmallerOptions<'a>),
+    /// Write inputs into a folder.
+    Corpus(CorpusOptions<'a>),
+    /// Count what is in the components of a folder.
+    Stats(StatsOptions<'a>),
 }
 
 /// Where limits are from: those of the file, or the default ones where there is none, and settings over them.
@@ -116,17 +123,8 @@ Status:
 
 const COMPONENT: &str = "The component; - is standard input [default: -]";
 
-// Where what is made goes, and the limits.
-fn with_files<'a>(
-    alloc: Global,
-    command: Command<'a>,
-    output: &'a str,
-) -> Result<Command<'a>, AllocError> {
-    let output = Arg::new(alloc, "output")
-        .short('o')
-        .long("output")
-        .value_name("OUT")
-        .help(output);
+/// The command with the arguments that say the limits.
+pub fn with_limits<'a>(alloc: Global, command: Command<'a>) -> Result<Command<'a>, AllocError> {
     let limits = Arg::new(alloc, "limits")
         .long("limits")
         .value_name("FILE")
@@ -138,10 +136,25 @@ fn with_files<'a>(
         .value_name("KEY=VALUE")
         .action(ArgAction::Append)
         .help("One limit, over those of --limits, such as max_types=10; can be repeated");
-    command.arg(output)?.arg(limits)?.arg(limit)
+    command.arg(limits)?.arg(limit)
 }
 
-fn switch<'a>(alloc: Global, name: &'a str, help: &'a str) -> Arg<'a> {
+// Where what is made goes, and the limits.
+fn with_files<'a>(
+    alloc: Global,
+    command: Command<'a>,
+    output: &'a str,
+) -> Result<Command<'a>, AllocError> {
+    let output = Arg::new(alloc, "output")
+        .short('o')
+        .long("output")
+        .value_name("OUT")
+        .help(output);
+    with_limits(alloc, command.arg(output)?)
+}
+
+/// An option without a value.
+pub fn switch<'a>(alloc: Global, name: &'a str, help: &'a str) -> Arg<'a> {
     Arg::new(alloc, name)
         .long(name)
         .action(ArgAction::SetTrue)
@@ -234,7 +247,9 @@ pub fn command<'a>(alloc: Global) -> Result<Command<'a>, AllocError> {
         .subcommand(check_command(alloc)?)?
         .subcommand(show_command(alloc)?)?
         .subcommand(script_command(alloc)?)?
-        .subcommand(smaller_command(alloc)?)
+        .subcommand(smaller_command(alloc)?)?
+        .subcommand(corpus_command(alloc)?)?
+        .subcommand(stats_command(alloc)?)
 }
 
 /// The file of that name; none is standard input or output, which `-` names.
@@ -257,7 +272,8 @@ fn form_of(matches: &ArgMatches<'_>) -> Form {
     Form::Raw
 }
 
-fn limits_of<'a>(alloc: Global, matches: &ArgMatches<'a>) -> Result<Limits<'a>, AllocError> {
+/// What the arguments of `with_limits` say.
+pub fn limits_of<'a>(alloc: Global, matches: &ArgMatches<'a>) -> Result<Limits<'a>, AllocError> {
     let settings = matches.get_strs("limit").unwrap_or_default();
     Ok(Limits {
         file: matches.get_str("limits"),
@@ -325,6 +341,12 @@ pub fn task_of<'a, S: AsStr>(alloc: Global, words: &'a [S]) -> Result<Task<'a>, 
     }
     if let Some(options) = matches.subcommand_matches("smaller") {
         return Ok(Task::Smaller(smaller_options_of(alloc, options)?));
+    }
+    if let Some(options) = matches.subcommand_matches("corpus") {
+        return Ok(Task::Corpus(corpus_options_of(alloc, options)?));
+    }
+    if let Some(options) = matches.subcommand_matches("stats") {
+        return Ok(Task::Stats(stats_options_of(options)));
     }
     Ok(Task::PrintLimits)
 }

@@ -1,6 +1,6 @@
 //! The builder, turn by turn.
 
-ghost use Rattle.std.specs.Prelude.{◌≡◌, ℕ, List, [], IfOk, IfErr};
+ghost use Rattle.std.specs.Prelude.{◌≡◌, ℕ, ◌+◌, List, [], length, IfOk, IfErr};
 ghost use Rattle.smith_input.specs.Reading.{IsTail};
 ghost use Rattle.smith_format.specs.Consistency.{IsConsistent};
 ghost use Rattle.smith_component.specs.Building.{open_of};
@@ -175,5 +175,20 @@ impl Builder {
             None => Ok(Step::StillBuilding(Builder { progress })),
             Some(component) => Ok(Step::Finished(component)),
         }
+    }
+
+    /// How many components are open, the root included.
+    pub fn depth(&self) -> usize
+        ensures { result ≡ length (open_of self.now).outer + 1 }
+    {
+        self.progress.outer.len() + 1
+    }
+
+    /// What a turn over this input does: the choice that begins it, and no more, is read.
+    pub fn next_item(&self, u: &mut Unstructured) -> Item
+        ensures chooses { IsChosen self.now.config (open_of self.now) u.old result u.new }
+        ensures tail { IsTail u.new u.old }
+    {
+        self.progress.choose_item(u)
     }
 }

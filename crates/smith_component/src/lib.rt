@@ -17,3 +17,4 @@ pub use component::{
 pub use generation::{Generated, generate};
 pub use smith_format::Config;
 pub use smith_input::{Error, Unstructured};
+pub use smith_tree::Item;

@@ -6,30 +6,13 @@ use super::show_extern;
 use super::walk::{Walk, next};
 use smith_format::count_len;
 use smith_read::{DeclNode, TypeNode};
-use smith_syntax::{ComponentValType, DefinedType, FuncType, PrimitiveValType};
+use smith_stats::primitive_label;
+use smith_syntax::{ComponentValType, DefinedType, FuncType};
 use std::fmt;
-
-fn name_of(ty: PrimitiveValType) -> &'static str {
-    match ty {
-        PrimitiveValType::Bool => "bool",
-        PrimitiveValType::S8 => "s8",
-        PrimitiveValType::U8 => "u8",
-        PrimitiveValType::S16 => "s16",
-        PrimitiveValType::U16 => "u16",
-        PrimitiveValType::S32 => "s32",
-        PrimitiveValType::U32 => "u32",
-        PrimitiveValType::S64 => "s64",
-        PrimitiveValType::U64 => "u64",
-        PrimitiveValType::F32 => "f32",
-        PrimitiveValType::F64 => "f64",
-        PrimitiveValType::Char => "char",
-        PrimitiveValType::String => "string",
-    }
-}
 
 fn show_val<W: fmt::Write>(f: &mut fmt::Formatter<W>, ty: &ComponentValType) -> fmt::Result {
     match ty {
-        ComponentValType::Primitive(ty) => f.write_str(name_of(*ty)),
+        ComponentValType::Primitive(ty) => f.write_str(primitive_label(*ty)),
         ComponentValType::Indexed(index) => write!(f, "type {index}"),
     }
 }
@@ -96,7 +79,7 @@ fn show_vals<W: fmt::Write>(f: &mut fmt::Formatter<W>, types: &[ComponentValType
 
 fn show_defined<W: fmt::Write>(f: &mut fmt::Formatter<W>, ty: &DefinedType) -> fmt::Result {
     match ty {
-        DefinedType::Primitive(ty) => f.write_str(name_of(*ty)),
+        DefinedType::Primitive(ty) => f.write_str(primitive_label(*ty)),
         DefinedType::Record(ty) => {
             f.write_str("record of ")?;
             show_fields(f, &ty.fields)

@@ -1,0 +1,139 @@
+//! Writing a corpus: inputs that are read to their end, as the files of a folder.
+
+use crate::folder_options::{CorpusOptions, Draw, Origin};
+use crate::folders::{COMPONENT_ENDING, components_in, make_folder, path_in, write_new};
+use crate::inspecting::{REFUSED, bytes_in, refuse, refuse_ill_formed};
+use crate::limits_file::config_of;
+use crate::places::status_of_print;
+use rand_pcg::Pcg32;
+use rand_pcg::rand_core::SeedableRng;
+use smith_component::Config;
+use smith_corpus::{Sample, draw};
+use smith_script::{ScriptError, script};
+use std::io::IsTerminal;
+use std::process::ExitCode;
+
+// How many inputs are written from one line of progress to the next.
+const STRIDE: usize = 100;
+
+// On a terminal, overwrites the line that says how many of the inputs are written, and ends it after the last.
+fn show_progress(rt: &HostRuntime, done: usize, count: usize) {
+    if !rt.stderr().is_terminal() {
+        return;
+    }
+    if done == count {
+        let _ = eprintln!(rt; "\r{done} of {count}");
+    } else if done % STRIDE == 0 {
+        let _ = eprint!(rt; "\r{done} of {count}");
+    }
+}
+
+// A sample, or the status after a message.
+fn drawn(
+    rt: &HostRuntime,
+    config: &Config,
+    random: &mut Pcg32,
+    len: usize,
+) -> Result<Sample, ExitCode> {
+    match draw(rt.alloc(), config, random, len) {
+        Ok(sample) => Ok(sample),
+        Err(error) => {
+            let _ = eprintln!(rt; "lupinanon: no input is found: {error}");
+            Err(ExitCode::from(REFUSED))
+        }
+    }
+}
+
+// Writes random inputs, and says how many bytes they and their components have.
+fn write_random(
+    rt: &HostRuntime,
+    options: &CorpusOptions<'_>,
+    config: &Config,
+    draw: Draw,
+) -> Result<ExitCode, ExitCode> {
+    let mut random = Pcg32::seed_from_u64(draw.seed);
+    let mut input_bytes: u64 = 0;
+    let mut component_bytes: u64 = 0;
+    for number in 0..draw.count {
+        let sample = drawn(rt, config, &mut random, draw.len)?;
+        write_new(rt, &path_in(rt, options.output, number, "")?, &sample.input)?;
+        if draw.with_components {
+            let path = path_in(rt, options.output, number, COMPONENT_ENDING)?;
+            write_new(rt, &path, &sample.component)?;
+        }
+        input_bytes = input_bytes.saturating_add(sample.input.len() as u64);
+        component_bytes = component_bytes.saturating_add(sample.component.len() as u64);
+        show_progress(rt, number + 1, draw.count);
+    }
+    let count = draw.count;
+    Ok(status_of_print(
+        rt,
+        println!(rt; "inputs {count}, bytes {input_bytes}, bytes of components {component_bytes}"),
+    ))
+}
+
+// Writes the script of a component, or says why there is none. Returns how many are written.
+fn write_script(
+    rt: &HostRuntime,
+    options: &CorpusOptions<'_>,
+    config: &Config,
+    path: &str,
+    name: &str,
+) -> Result<usize, ExitCode> {
+    let bytes = bytes_in(rt, Some(path))?;
+    match script(rt.alloc(), config, &bytes) {
+        Ok(input) => {
+            write_new(rt, &path_in(rt, options.output, name, "")?, &input)?;
+            Ok(1)
+        }
+        Err(ScriptError::OutOfMemory) => Err(refuse(rt, Some(path), &"out of memory", REFUSED)),
+        // `check` says where.
+        Err(ScriptError::IllFormed(_)) => {
+            let _status = refuse_ill_formed(rt, Some(path), &bytes);
+            Ok(0)
+        }
+        Err(error) => {
+            let _status = refuse(rt, Some(path), &error, REFUSED);
+            Ok(0)
+        }
+    }
+}
+
+// Writes the scripts of the components in a folder, and says how many have none.
+fn write_scripts(
+    rt: &HostRuntime,
+    options: &CorpusOptions<'_>,
+    config: &Config,
+    folder: &str,
+) -> Result<ExitCode, ExitCode> {
+    let names = components_in(rt, folder)?;
+    let count = names.len();
+    let mut written: usize = 0;
+    for (number, name) in names.iter().enumerate() {
+        let path = path_in(rt, folder, name, COMPONENT_ENDING)?;
+        let more = write_script(rt, options, config, &path, name)?;
+        written = written.saturating_add(more);
+        show_progress(rt, number + 1, count);
+    }
+    let others = count.saturating_sub(written);
+    Ok(status_of_print(
+        rt,
+        println!(rt; "inputs {written}, components without one {others}"),
+    ))
+}
+
+fn written(rt: &HostRuntime, options: &CorpusOptions<'_>) -> Result<ExitCode, ExitCode> {
+    let config = config_of(rt, &options.limits)?;
+    make_folder(rt, options.output)?;
+    match options.origin {
+        Origin::Random(draw) => write_random(rt, options, &config, draw),
+        Origin::Folder(folder) => write_scripts(rt, options, &config, folder),
+    }
+}
+
+/// Writes the inputs that are asked for.
+pub fn corpus(rt: &HostRuntime, options: &CorpusOptions<'_>) -> ExitCode {
+    match written(rt, options) {
+        Ok(status) | Err(status) => status,
+    }
+}

@@ -1,0 +1,10 @@
+//! Inputs for the corpus of a fuzzer, drawn at random and read to their end.
+#![tactic(auto)]
+
+mod drawing;
+mod samples;
+
+pub use rand_pcg::Pcg32;
+pub use samples::{Sample, SampleError, draw};
+pub use smith_format::Config;
+pub use smith_input::Error;
