@@ -28,25 +28,42 @@ size() {
     wc -c <"$1" | tr -d ' '
 }
 
-# Tries each smaller component once, the first ones first. Whether one was found.
-pass() {
-    found=1
-    k=0
-    while "$lupinanon" smaller "$room/best" -k "$k" -o "$room/next" "$@" 2>"$room/why" || { status=$?; false; }; do
+# Writes the next smaller component from `step` on, the number of which `step` becomes. Whether there is one.
+next() {
+    "$lupinanon" smaller "$room/best" --from "$step" -o "$room/next" "$@" 2>"$room/why"
+    case $? in
+    0) step=$(sed -n 's/^step //p' "$room/why") ;;
+    1) return 1 ;;
+    *)
+        cat "$room/why" >&2
+        exit 2
+        ;;
+    esac
+}
+
+# Tries the smaller components from `step` on, each once. Whether one fails, and is the best one now.
+finds() {
+    while next "$@"; do
+        test "$step" -lt "$end" || return 1
         tries=$((tries + 1))
         if fails "$room/next"; then
             mv "$room/next" "$room/best"
             echo "$(size "$room/best") bytes"
-            found=0
-        else
-            k=$((k + 1))
+            return 0
         fi
+        step=$((step + 1))
     done
-    if test "$status" != 1; then
-        cat "$room/why" >&2
-        exit 2
-    fi
-    return $found
+    return 1
+}
+
+# Whether a step from `step` on, or else one before it, leads to a component that fails.
+finds_around() {
+    start=$step
+    end=$most
+    finds "$@" && return 0
+    step=0
+    end=$start
+    test "$step" -lt "$end" && finds "$@"
 }
 
 cp "$file" "$room/best" || exit 2
@@ -55,8 +72,12 @@ if ! fails "$file"; then
     exit 2
 fi
 tries=0
+step=0
+# A number that no step has.
+most=9223372036854775807
 echo "$(size "$file") bytes"
-while pass "$@"; do :; done
+# The steps before the last one that was taken come last, since those of a larger component have been tried.
+while finds_around "$@"; do :; done
 case $file in
 *.*) smallest=${file%.*}.min.${file##*.} ;;
 *) smallest=$file.min ;;

@@ -69,12 +69,20 @@ pub struct ScriptOptions<'a> {
     pub form: Form,
 }
 
+/// Which smaller component is written.
+#[derive(Clone, Copy)]
+pub enum Choice {
+    /// That of this number, from 0, among those that are wanted.
+    Numbered(usize),
+    /// The first one that is wanted from this step on. The number of its step is printed.
+    From(usize),
+}
+
 /// How a smaller component is written. Files that are absent are as in `Options`.
 #[derive(Drop)]
 pub struct SmallerOptions<'a> {
     pub component: Option<&'a str>,
-    /// Which one, from 0.
-    pub number: usize,
+    pub choice: Choice,
     pub output: Option<&'a str>,
     pub limits: Limits<'a>,
     /// Whether each that is well formed is wanted, whatever the limits.
@@ -113,11 +121,12 @@ const AFTER_SCRIPT: &str = "Status:
 
 const AFTER_SMALLER: &str =
     "The smaller components are, in this order: those without one item, with all that refers to it, and
-those in which one item is simpler. They are counted from 0.
+those in which one item is simpler. They are counted from 0. So are the steps to them, of which some
+lead to none.
 
 Status:
   0  the component is written
-  1  there is no smaller component of that number
+  1  there is no smaller component of that number, or from that step on
   2  bad arguments, limits that are refused, memory runs out, or a failed read or write
   3  the bytes are not in the grammar: what is wrong, and the offset, are on standard error";
 
@@ -216,8 +225,16 @@ fn smaller_command<'a>(alloc: Global) -> Result<Command<'a>, AllocError> {
         .long("number")
         .value_name("K")
         .value_parser(value_parser!(usize))
-        .required(true)
-        .help("Which one of those that can be generated within the limits, from 0");
+        .help("Which one of those that can be generated within the limits, from 0")
+        .required_unless_present("from")?;
+    let from = Arg::new(alloc, "from")
+        .long("from")
+        .value_name("STEP")
+        .value_parser(value_parser!(usize))
+        .help(
+            "The first one from that step on. The number of its step is printed on standard error",
+        )
+        .conflicts_with("number")?;
     let any = switch(
         alloc,
         "any",
@@ -227,6 +244,7 @@ fn smaller_command<'a>(alloc: Global) -> Result<Command<'a>, AllocError> {
         "Where the component goes; - is standard output [default: -, unless it is a terminal]";
     with_files(alloc, plain, output)?
         .arg(number)?
+        .arg(from)?
         .arg(any.conflicts_with("limits")?.conflicts_with("limit")?)
 }
 
@@ -303,13 +321,20 @@ fn script_options_of<'a>(
     })
 }
 
+fn choice_of(matches: &ArgMatches<'_>) -> Choice {
+    match matches.get_one::<usize>("from") {
+        Some(step) => Choice::From(step),
+        None => Choice::Numbered(matches.get_one::<usize>("number").unwrap_or(0)),
+    }
+}
+
 fn smaller_options_of<'a>(
     alloc: Global,
     matches: &ArgMatches<'a>,
 ) -> Result<SmallerOptions<'a>, AllocError> {
     Ok(SmallerOptions {
         component: file(matches, "FILE"),
-        number: matches.get_one::<usize>("number").unwrap_or(0),
+        choice: choice_of(matches),
         output: file(matches, "output"),
         limits: limits_of(alloc, matches)?,
         is_any: matches.get_flag("any"),

@@ -2,32 +2,76 @@
 
 use crate::inspecting::{REFUSED, UNREAD, bytes_in, refuse};
 use crate::limits_file::{config_of, refuses_both};
-use crate::options::SmallerOptions;
+use crate::options::{Choice, SmallerOptions};
 use crate::places::is_terminal;
 use crate::scripting::write_bytes;
 use crate::{FAULT, print_error};
-use smith_reduce::{ReduceError, Wanted};
+use smith_reduce::{ReduceError, Step, Wanted};
 use std::process::ExitCode;
+
+// Prints why no smaller component is looked for, and returns the status.
+fn refuse_to_reduce(rt: &HostRuntime, path: Option<&str>, error: &ReduceError) -> ExitCode {
+    let status = match error {
+        ReduceError::Unread { .. } => UNREAD,
+        _ => FAULT,
+    };
+    refuse(rt, path, error, status)
+}
+
+// Writes the smaller component of that number.
+fn write_numbered(
+    rt: &HostRuntime,
+    options: &SmallerOptions<'_>,
+    wanted: Wanted<'_>,
+    bytes: &[u8],
+    number: usize,
+) -> ExitCode {
+    match smith_reduce::smaller(rt.alloc(), wanted, bytes, number) {
+        Ok(Some(smaller)) => write_bytes(rt, options.output, &smaller),
+        Ok(None) => {
+            let why = "there is no smaller component of that number";
+            refuse(rt, options.component, &why, REFUSED)
+        }
+        Err(error) => refuse_to_reduce(rt, options.component, &error),
+    }
+}
+
+// Writes the component to which a step leads, and prints the number of the step.
+fn write_step(rt: &HostRuntime, options: &SmallerOptions<'_>, step: &Step) -> ExitCode {
+    let status = write_bytes(rt, options.output, &step.bytes);
+    if status == ExitCode::SUCCESS {
+        let _ = eprintln!(rt; "step {}", step.number);
+    }
+    status
+}
+
+// Writes the first smaller component from that step on.
+fn write_next(
+    rt: &HostRuntime,
+    options: &SmallerOptions<'_>,
+    wanted: Wanted<'_>,
+    bytes: &[u8],
+    from: usize,
+) -> ExitCode {
+    match smith_reduce::next_smaller(rt.alloc(), wanted, bytes, from) {
+        Ok(Some(step)) => write_step(rt, options, &step),
+        Ok(None) => {
+            let why = "there is no smaller component from that step on";
+            refuse(rt, options.component, &why, REFUSED)
+        }
+        Err(error) => refuse_to_reduce(rt, options.component, &error),
+    }
+}
 
 // Writes the one of those that are wanted.
 fn write_smaller(rt: &HostRuntime, options: &SmallerOptions<'_>, wanted: Wanted<'_>) -> ExitCode {
-    let path = options.component;
-    let bytes = match bytes_in(rt, path) {
+    let bytes = match bytes_in(rt, options.component) {
         Ok(bytes) => bytes,
         Err(status) => return status,
     };
-    match smith_reduce::smaller(rt.alloc(), wanted, &bytes, options.number) {
-        Ok(Some(smaller)) => write_bytes(rt, options.output, &smaller),
-        Ok(None) => refuse(
-            rt,
-            path,
-            &"there is no smaller component of that number",
-            REFUSED,
-        ),
-        Err(ReduceError::Unread { reason, offset }) => {
-            refuse(rt, path, &ReduceError::Unread { reason, offset }, UNREAD)
-        }
-        Err(error) => refuse(rt, path, &error, FAULT),
+    match options.choice {
+        Choice::Numbered(number) => write_numbered(rt, options, wanted, &bytes, number),
+        Choice::From(step) => write_next(rt, options, wanted, &bytes, step),
     }
 }
 

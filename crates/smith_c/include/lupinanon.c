@@ -15,6 +15,10 @@ int32_t lupinanon_proved_smaller(const void *limits, const uint8_t *bytes, size_
                                  size_t output_len, size_t *smaller_len);
 int32_t lupinanon_proved_smaller_formed(const uint8_t *bytes, size_t bytes_len, size_t k, uint8_t *output,
                                         size_t output_len, size_t *smaller_len);
+int32_t lupinanon_proved_next_smaller(const void *limits, const uint8_t *bytes, size_t bytes_len, size_t *step,
+                                      uint8_t *output, size_t output_len, size_t *smaller_len);
+int32_t lupinanon_proved_next_smaller_formed(const uint8_t *bytes, size_t bytes_len, size_t *step, uint8_t *output,
+                                             size_t output_len, size_t *smaller_len);
 int32_t lupinanon_proved_without(const uint8_t *bytes, size_t bytes_len, size_t k, uint8_t *output, size_t output_len,
                                  size_t *less_len);
 int32_t lupinanon_proved_join(const uint8_t *first, size_t first_len, const uint8_t *second, size_t second_len,
@@ -133,12 +137,12 @@ static int are_good(LupinanonLimits *whole, const LupinanonLimits *limits, Memor
     return are_apart(written, written_count, read, 2) && complete(whole, read[0]);
 }
 
-/* Whether what is read and what is written, an output and a number, may be passed on. */
-static int may_pass(const Memory *read, size_t read_count, const Memory written[2]) {
+/* Whether what is read and what is written, an output and numbers, may be passed on. */
+static int may_pass(const Memory *read, size_t read_count, const Memory *written, size_t written_count) {
     size_t place;
     for (place = 0; place < read_count; place++)
         if (!is_there(read[place])) return 0;
-    return is_there(written[0]) && are_apart(written, 2, read, read_count);
+    return is_there(written[0]) && are_apart(written, written_count, read, read_count);
 }
 
 const char *lupinanon_version(void) { return LUPINANON_VERSION; }
@@ -262,13 +266,30 @@ int32_t lupinanon_smaller(const LupinanonLimits *limits, const uint8_t *bytes, s
     if (!smaller_len) return LUPINANON_BAD_ARGUMENT;
     {
         Memory written[] = {{output, output_len}, MEMORY_OF(smaller_len)}, read = {bytes, bytes_len};
-        int good = limits ? are_good(&whole, limits, read, written, 2) : may_pass(&read, 1, written);
+        int good = limits ? are_good(&whole, limits, read, written, 2) : may_pass(&read, 1, written, 2);
         if (!good) return LUPINANON_BAD_ARGUMENT;
     }
     if (!bytes) bytes = &nothing;
     if (!output) output = &nothing;
     if (!limits) return lupinanon_proved_smaller_formed(bytes, bytes_len, k, output, output_len, smaller_len);
     return lupinanon_proved_smaller(WITHOUT_SIZE(&whole), bytes, bytes_len, k, output, output_len, smaller_len);
+}
+
+int32_t lupinanon_next_smaller(const LupinanonLimits *limits, const uint8_t *bytes, size_t bytes_len, size_t *step,
+                               uint8_t *output, size_t output_len, size_t *smaller_len) {
+    LupinanonLimits whole;
+    uint8_t nothing = 0;
+    if (smaller_len) *smaller_len = 0;
+    if (!smaller_len || !step) return LUPINANON_BAD_ARGUMENT;
+    {
+        Memory written[] = {{output, output_len}, MEMORY_OF(smaller_len), MEMORY_OF(step)}, read = {bytes, bytes_len};
+        int good = limits ? are_good(&whole, limits, read, written, 3) : may_pass(&read, 1, written, 3);
+        if (!good) return LUPINANON_BAD_ARGUMENT;
+    }
+    if (!bytes) bytes = &nothing;
+    if (!output) output = &nothing;
+    if (!limits) return lupinanon_proved_next_smaller_formed(bytes, bytes_len, step, output, output_len, smaller_len);
+    return lupinanon_proved_next_smaller(WITHOUT_SIZE(&whole), bytes, bytes_len, step, output, output_len, smaller_len);
 }
 
 int32_t lupinanon_without(const uint8_t *bytes, size_t bytes_len, size_t k, uint8_t *output, size_t output_len,
@@ -278,7 +299,7 @@ int32_t lupinanon_without(const uint8_t *bytes, size_t bytes_len, size_t k, uint
     if (!less_len) return LUPINANON_BAD_ARGUMENT;
     {
         Memory written[] = {{output, output_len}, MEMORY_OF(less_len)}, read = {bytes, bytes_len};
-        if (!may_pass(&read, 1, written)) return LUPINANON_BAD_ARGUMENT;
+        if (!may_pass(&read, 1, written, 2)) return LUPINANON_BAD_ARGUMENT;
     }
     return lupinanon_proved_without(bytes ? bytes : &nothing, bytes_len, k, output ? output : &nothing, output_len,
                                     less_len);
@@ -292,7 +313,7 @@ int32_t lupinanon_join(const uint8_t *first, size_t first_len, const uint8_t *se
     {
         Memory written[] = {{output, output_len}, MEMORY_OF(joined_len)};
         Memory read[] = {{first, first_len}, {second, second_len}};
-        if (!may_pass(read, 2, written)) return LUPINANON_BAD_ARGUMENT;
+        if (!may_pass(read, 2, written, 2)) return LUPINANON_BAD_ARGUMENT;
     }
     return lupinanon_proved_join(first ? first : &nothing, first_len, second ? second : &nothing, second_len,
                                  output ? output : &nothing, output_len, joined_len);

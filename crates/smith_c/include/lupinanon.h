@@ -1,8 +1,8 @@
 /* WebAssembly components from a fuzzer's bytes.
  *
- * Eight functions are proved: those that lupinanon_default_limits, lupinanon_generate_into, lupinanon_check,
- * lupinanon_script_into, lupinanon_smaller, lupinanon_without and lupinanon_join call after a check of their arguments.
- * That check, and all else, is the plain C of lupinanon.c.
+ * Ten functions are proved: those that lupinanon_default_limits, lupinanon_generate_into, lupinanon_check,
+ * lupinanon_script_into, lupinanon_smaller, lupinanon_next_smaller, lupinanon_without and lupinanon_join call after a
+ * check of their arguments. That check, and all else, is the plain C of lupinanon.c.
  *
  * What the caller owes, and nothing checks:
  *  - A pointer that is not NULL points to what its type says, and a length says how much lies there. Limits are as many
@@ -118,7 +118,7 @@ enum LupinanonStatus {
     LUPINANON_UNREAD = 11,             /* the bytes are no component, or it nests too deep */
     LUPINANON_NO_SCRIPT = 12,          /* the bytes are a component that is well formed, but no input produces it
                                         * within the limits */
-    LUPINANON_NO_SMALLER = 13          /* there is no k-th smaller component, or no k-th item */
+    LUPINANON_NO_SMALLER = 13          /* there is no k-th smaller component, none from a step on, or no k-th item */
 };
 
 /* How many bytes of stack a call takes at most, with a fifth to spare: within limits of that max_nesting_depth, and at
@@ -191,20 +191,43 @@ int32_t lupinanon_script_into(const LupinanonLimits *limits, const uint8_t *byte
                               size_t output_len, size_t *script_len, size_t *offset);
 
 /* Writes the k-th, from 0, of the components that are smaller than that of the bytes by a step and can be generated
- * within the limits to the front of the output. NULL as limits: that are well formed, whatever the limits. The steps are, in this order: without each item, as lupinanon_without
- * has it, and with each item made simpler, where it can be: a custom section without contents, the empty core module, a
- * nested component in place of the whole, the type bool in place of a value type, a shorter name. docs/REDUCING.md says
- * more.
+ * within the limits to the front of the output. NULL as limits: that are well formed, whatever the limits. The steps
+ * are, in this order: without each item, as lupinanon_without has it, and with each item made simpler, where it can be:
+ * a custom section without contents, the empty core module, a nested component in place of the whole, the type bool in
+ * place of a value type, a shorter name. docs/REDUCING.md says more.
  *
  * LUPINANON_ANSWERED: *smaller_len bytes are written.
  * LUPINANON_NO_ROOM: *smaller_len is how long the component is, and otherwise it is 0. Nothing is written to the output.
  * LUPINANON_NO_SMALLER: there are no more than k such components.
  * LUPINANON_UNREAD: as of lupinanon_check.
  *
- * Bytes and output may be NULL where their length is 0. It takes the time of a script, or of a check, for each
- * step up to the k-th. */
+ * Bytes and output may be NULL where their length is 0. It takes the time of a script, or of a check, for each step up
+ * to the k-th. A loop over k repeats these; one over lupinanon_next_smaller does not. */
 int32_t lupinanon_smaller(const LupinanonLimits *limits, const uint8_t *bytes, size_t bytes_len, size_t k,
                           uint8_t *output, size_t output_len, size_t *smaller_len);
+
+/* Finds the first step, from number *step on, that leads to a component that can be generated within the limits; or,
+ * with NULL as limits, to one that is well formed. Writes that component to the front of the output, and the step's
+ * number to *step. The steps are those of lupinanon_smaller. All of them are numbered, from 0, also those that lead to no
+ * such component.
+ *
+ * LUPINANON_ANSWERED: *smaller_len bytes are written, and *step.
+ * LUPINANON_NO_ROOM: *smaller_len is how long the component is, and *step is written; nothing is written to the output.
+ * Otherwise *smaller_len is 0, and *step is as it was.
+ * LUPINANON_NO_SMALLER: no step from *step on leads to such a component.
+ * LUPINANON_UNREAD: as of lupinanon_check.
+ *
+ * Bytes and output may be NULL where their length is 0. It takes the time of a script, or of a check, for each step
+ * from *step to the one that is found. So a loop that goes on from there tries each step once:
+ *
+ *     while (lupinanon_next_smaller(limits, best, best_len, &step, next, sizeof next, &len) == LUPINANON_ANSWERED) {
+ *         if (still_fails(next, len))
+ *             memcpy(best, next, best_len = len);
+ *         else
+ *             step++;
+ *     } */
+int32_t lupinanon_next_smaller(const LupinanonLimits *limits, const uint8_t *bytes, size_t bytes_len, size_t *step,
+                               uint8_t *output, size_t output_len, size_t *smaller_len);
 
 /* Writes the component of the bytes without its k-th item, from 0, to the front of the output. All that refers to what
  * is removed is removed too, and other indexes are renumbered. Items are sections, their entries, the declarations of

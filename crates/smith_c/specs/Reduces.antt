@@ -6,7 +6,7 @@ use Rattle.smith_input.specs.declared.error.Error.TheVariants.{InconsistentLimit
 use Rattle.smith_tree.specs.Grammar.{Spells, component_text}
 use Rattle.smith_tree.specs.Tree.{Tree}
 use Rattle.smith_reduce.specs.Bytes.{AreJoined, AreUnread, IsWithout}
-use Rattle.smith_reduce.specs.Smaller.{HasScript, IsKth}
+use Rattle.smith_reduce.specs.Smaller.{HasScript, IsKth, IsNext}
 use Rattle.smith_reduce.specs.declared.error.JoinError.{JoinError}
 use Rattle.smith_reduce.specs.declared.error.JoinError.TheVariants as join_error
 use Rattle.smith_reduce.specs.declared.error.ReduceError.{ReduceError}
@@ -23,6 +23,16 @@ IsSmaller P bytes k smaller = (t : Tree) × Spells t bytes × IsKth P t k smalle
 -- This is the k-th of those that can be generated within the limits.
 abbrev pub Reduces : Limits → List ℕ → ℕ → Option (List ℕ) → Type 0
 Reduces limits bytes k smaller = (config : Config) × (limits ≡ limits_of config) × IsConsistent config × IsSmaller (HasScript config) bytes k smaller
+
+-- This is the first step from that number on to a component smaller than that of the bytes that has the property, and that component; none,
+-- where no step from there on leads to one.
+abbrev pub IsNextSmaller : (Tree → Type 0) → List ℕ → ℕ → Option (ℕ × List ℕ) → Type 0
+IsNextSmaller P bytes from step = (t : Tree) × Spells t bytes × IsNext P t from step
+
+-- This is the first to one that can be generated within the limits.
+abbrev pub ReducesNext : Limits → List ℕ → ℕ → Option (ℕ × List ℕ) → Type 0
+ReducesNext limits bytes from step =
+    (config : Config) × (limits ≡ limits_of config) × IsConsistent config × IsNextSmaller (HasScript config) bytes from step
 
 -- This is the component of the bytes without its k-th item; none, where there is no k-th.
 abbrev pub Removes : List ℕ → ℕ → Option (List ℕ) → Type 0
@@ -51,22 +61,26 @@ status_of_join (join_error.SecondUnread reason offset) = Unread
 abbrev pub IsUnread : List ℕ → Type 0
 IsUnread bytes = (offset : ℕ) × AreUnread bytes offset
 
--- No smaller component is returned: there is no k-th, or the bytes are not read, or no memory is left, or the limits are those of no
+-- No component within the limits is returned: there is none, or the bytes are not read, or no memory is left, or the limits are those of no
 -- configuration that fits together.
+abbrev pub LacksWithin : Type 0 → Limits → List ℕ → Status → Type 0
+LacksWithin none limits bytes Answered = ⊥
+LacksWithin none limits bytes (Refused InconsistentLimits) = (config : Config) × (limits ≡ limits_of config) × (¬ IsConsistent config)
+LacksWithin none limits bytes (Refused MinimumNotMet) = ⊥
+LacksWithin none limits bytes (Refused ModuleRefused) = ⊥
+LacksWithin none limits bytes (Refused TooLong) = ⊥
+LacksWithin none limits bytes (Refused OutOfMemory) = (config : Config) × (limits ≡ limits_of config)
+LacksWithin none limits bytes (Refused PartsDisagree) = ⊥
+LacksWithin none limits bytes NoRoom = ⊥
+LacksWithin none limits bytes BadFlag = (config : Config) → limits ≢ limits_of config
+LacksWithin none limits bytes IllFormed = ⊥
+LacksWithin none limits bytes Unread = IsUnread bytes
+LacksWithin none limits bytes NoScript = ⊥
+LacksWithin none limits bytes NoSmaller = none
+
+-- No smaller component is returned: there is no k-th.
 abbrev pub Unreduced : Limits → List ℕ → ℕ → Status → Type 0
-Unreduced limits bytes k Answered = ⊥
-Unreduced limits bytes k (Refused InconsistentLimits) = (config : Config) × (limits ≡ limits_of config) × (¬ IsConsistent config)
-Unreduced limits bytes k (Refused MinimumNotMet) = ⊥
-Unreduced limits bytes k (Refused ModuleRefused) = ⊥
-Unreduced limits bytes k (Refused TooLong) = ⊥
-Unreduced limits bytes k (Refused OutOfMemory) = (config : Config) × (limits ≡ limits_of config)
-Unreduced limits bytes k (Refused PartsDisagree) = ⊥
-Unreduced limits bytes k NoRoom = ⊥
-Unreduced limits bytes k BadFlag = (config : Config) → limits ≢ limits_of config
-Unreduced limits bytes k IllFormed = ⊥
-Unreduced limits bytes k Unread = IsUnread bytes
-Unreduced limits bytes k NoScript = ⊥
-Unreduced limits bytes k NoSmaller = Reduces limits bytes k None
+Unreduced limits bytes k status = LacksWithin (Reduces limits bytes k None) limits bytes status
 
 -- No component is returned: there is none, or the bytes are not read, or no memory is left.
 abbrev pub Lacks : Type 0 → List ℕ → Status → Type 0

@@ -4,7 +4,8 @@ ghost use Rattle.std.specs.Prelude.{◌≡◌, ◌≢◌, ℕ, ◌<◌, ◌≤�
 ghost use Rattle.smith_tree.specs.Grammar.{Spells};
 ghost use Rattle.smith_tree.specs.WellFormed.{WellFormed};
 ghost use Rattle.smith_reduce.specs.Bytes.{AreJoined};
-ghost use Rattle.smith_c.specs.Reduces.{AreUnjoined, IsSmaller, Lacks, Reduces, Removes, Unreduced};
+ghost use Rattle.smith_c.specs.Reduces.{AreUnjoined, IsNextSmaller, IsSmaller, Lacks, LacksWithin, Reduces, ReducesNext};
+ghost use Rattle.smith_c.specs.Reduces.{Removes, Unreduced};
 ghost use Rattle.smith_c.specs.Reduces.{found, status_of, status_of_join};
 ghost use Rattle.smith_c.specs.Status.{code_of};
 ghost use Rattle.smith_c.specs.declared.status.Status.{Status};
@@ -14,7 +15,7 @@ use crate::limits::Limits;
 use crate::put::put;
 use crate::status::Status;
 use smith_input::Error;
-use smith_reduce::{JoinError, ReduceError, Wanted, joined, smaller, without};
+use smith_reduce::{JoinError, ReduceError, Step, Wanted, joined, next_smaller, smaller, without};
 use std::alloc::Global;
 
 // A refusal to reduce as C has it.
@@ -29,11 +30,11 @@ fn status_of(error: &ReduceError) -> Status
 }
 
 // What is found, or the status where there is none.
-fn found(made: Result<Option<Vec<u8>>, ReduceError>) -> Result<Vec<u8>, Status>
+fn found<T>(made: Result<Option<T>, ReduceError>) -> Result<T, Status>
     ensures { result ≡ found made }
 {
     match made {
-        Ok(Some(bytes)) => Ok(bytes),
+        Ok(Some(it)) => Ok(it),
         Ok(None) => Err(Status::NoSmaller),
         Err(error) => Err(status_of(&error)),
     }
@@ -56,6 +57,25 @@ fn reduced_formed(alloc: Global, bytes: &[u8], k: usize) -> Result<Vec<u8>, Stat
     ensures refuses { IfErr result (λ s. Lacks (IsSmaller WellFormed bytes.now k None) bytes.now s) }
 {
     found(smaller(alloc, Wanted::WellFormed, bytes, k))
+}
+
+// The first step from that one on that leads to a smaller component within the limits.
+fn next_reduced(alloc: Global, limits: &Limits, bytes: &[u8], from: usize) -> Result<Step, Status>
+    ensures reduces { IfOk result (λ s. ReducesNext limits.now bytes.now from (Some (s.number, s.bytes.items))) }
+    ensures refuses { IfErr result (λ s. LacksWithin (ReducesNext limits.now bytes.now from None) limits.now bytes.now s) }
+{
+    let Some(config) = limits.config() else {
+        return Err(Status::BadFlag);
+    };
+    found(next_smaller(alloc, Wanted::Generated(&config), bytes, from))
+}
+
+// The first step from that one on that leads to a smaller component that is well formed.
+fn next_reduced_formed(alloc: Global, bytes: &[u8], from: usize) -> Result<Step, Status>
+    ensures reduces { IfOk result (λ s. IsNextSmaller WellFormed bytes.now from (Some (s.number, s.bytes.items))) }
+    ensures refuses { IfErr result (λ s. Lacks (IsNextSmaller WellFormed bytes.now from None) bytes.now s) }
+{
+    found(next_smaller(alloc, Wanted::WellFormed, bytes, from))
 }
 
 // The component without its k-th item.
@@ -121,6 +141,74 @@ pub extern "C" fn lupinanon_proved_smaller_formed(
     *smaller_len = 0;
     match reduced_formed(alloc, bytes, k) {
         Ok(smaller) => put(&smaller, output, smaller_len),
+        Err(status) => status.code(),
+    }
+}
+
+/// Finds the first step, from number `step` on, that leads to a component that can be generated within the limits, as
+/// `next_smaller` of `smith_reduce` does. It writes that component to the front of the output, and the step's number.
+///
+/// The answer is the code of a `Status`: `NoSmaller` where there is no such step. Where the output has no room,
+/// `smaller_len` is how long the component is and `step` the number of its step, as where it is written. Else
+/// `smaller_len` is 0, and `step` is as it was. The output is as it was unless the component is written, and after it in
+/// any case.
+#[unsafe(no_mangle)]
+pub extern "C" fn lupinanon_proved_next_smaller(
+    alloc: Global,
+    limits: &Limits,
+    bytes: &[u8],
+    step: &mut usize,
+    output: &mut [u8],
+    smaller_len: &mut usize,
+) -> i32
+    ensures answered { result ≡ code_of Answered → (smaller_len.new ≤ length output.old)
+        × ReducesNext limits.now bytes.now step.old (Some (step.new, take smaller_len.new output.new))
+        × (drop smaller_len.new output.new ≡ drop smaller_len.new output.old) }
+    ensures no_room { result ≡ code_of NoRoom → (length output.old < smaller_len.new) × (smaller : List ℕ)
+        × (smaller_len.new ≡ length smaller) × ReducesNext limits.now bytes.now step.old (Some (step.new, smaller)) }
+    ensures stopped { result ≢ code_of Answered → result ≢ code_of NoRoom → (smaller_len.new ≡ 0)
+        × (step.new ≡ step.old) × (status : Status) × (result ≡ code_of status)
+        × LacksWithin (ReducesNext limits.now bytes.now step.old None) limits.now bytes.now status }
+    ensures kept { result ≢ code_of Answered → output.new ≡ output.old }
+{
+    *smaller_len = 0;
+    match next_reduced(alloc, limits, bytes, *step) {
+        Ok(next) => {
+            *step = next.number;
+            put(&next.bytes, output, smaller_len)
+        }
+        Err(status) => status.code(),
+    }
+}
+
+/// Finds the first step, from number `step` on, that leads to a component that is well formed, as `next_smaller` of
+/// `smith_reduce` does. It writes that component to the front of the output, and the step's number.
+///
+/// The answer, `smaller_len`, `step` and the output are as of `lupinanon_proved_next_smaller`.
+#[unsafe(no_mangle)]
+pub extern "C" fn lupinanon_proved_next_smaller_formed(
+    alloc: Global,
+    bytes: &[u8],
+    step: &mut usize,
+    output: &mut [u8],
+    smaller_len: &mut usize,
+) -> i32
+    ensures answered { result ≡ code_of Answered → (smaller_len.new ≤ length output.old)
+        × IsNextSmaller WellFormed bytes.now step.old (Some (step.new, take smaller_len.new output.new))
+        × (drop smaller_len.new output.new ≡ drop smaller_len.new output.old) }
+    ensures no_room { result ≡ code_of NoRoom → (length output.old < smaller_len.new) × (smaller : List ℕ)
+        × (smaller_len.new ≡ length smaller) × IsNextSmaller WellFormed bytes.now step.old (Some (step.new, smaller)) }
+    ensures stopped { result ≢ code_of Answered → result ≢ code_of NoRoom → (smaller_len.new ≡ 0)
+        × (step.new ≡ step.old) × (status : Status) × (result ≡ code_of status)
+        × Lacks (IsNextSmaller WellFormed bytes.now step.old None) bytes.now status }
+    ensures kept { result ≢ code_of Answered → output.new ≡ output.old }
+{
+    *smaller_len = 0;
+    match next_reduced_formed(alloc, bytes, *step) {
+        Ok(formed) => {
+            *step = formed.number;
+            put(&formed.bytes, output, smaller_len)
+        }
         Err(status) => status.code(),
     }
 }

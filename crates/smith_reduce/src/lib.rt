@@ -9,4 +9,4 @@ pub use edits::{joined, without};
 pub use error::{JoinError, ReduceError};
 pub use smith_format::Config;
 pub use smith_read::Reason;
-pub use steps::{Wanted, smaller};
+pub use steps::{Step, Wanted, next_smaller, smaller};

@@ -6,7 +6,7 @@ ghost use Rattle.smith_tree.specs.Grammar.{Spells};
 ghost use Rattle.smith_tree.specs.Tree.{Tree};
 ghost use Rattle.smith_read.specs.PartNodes.{shown_tree};
 ghost use Rattle.smith_reduce.specs.Bytes.{IsReduceRefusal};
-ghost use Rattle.smith_reduce.specs.Smaller.{HasScript, IsKth, stepped};
+ghost use Rattle.smith_reduce.specs.Smaller.{HasScript, IsKth, IsNext, stepped, steps};
 ghost use Rattle.smith_reduce.specs.Wanted.{AreConsistent, IsLead, IsWanted, IsWhole};
 ghost use Rattle.smith_reduce.specs.declared.error.ReduceError.TheVariants.{InconsistentLimits};
 ghost use Rattle.smith_script.specs.declared.error.ScriptError.TheVariants.{OutOfMemory};
@@ -27,6 +27,15 @@ pub enum Wanted<'a> {
     Generated(&'a Config),
     /// Those that are well formed.
     WellFormed,
+}
+
+/// A step, and the component to which it leads.
+#[derive(Debug, PartialEq, Eq, Drop)]
+pub struct Step {
+    /// Its number, from 0 over all steps, those too that lead to no component that is wanted.
+    pub number: usize,
+    /// The component's bytes.
+    pub bytes: Vec<u8>,
 }
 
 // A component that is made smaller by steps, and how many items it has.
@@ -94,6 +103,14 @@ impl Wanted<'_> {
 }
 
 impl Whole<'_> {
+    // How many steps there are: as many as there are items remove one each, and as many make one simpler.
+    fn step_count(&self) -> Result<usize, AllocError>
+        requires { IsWhole self.now }
+        ensures { IfOk result (λ n. n ≡ steps (shown_tree self.now.component.now)) }
+    {
+        self.items.checked_add(self.items).ok_or(AllocError)
+    }
+
     // The component after a step: the first ones remove an item each, and those after them make one simpler.
     fn stepped(&self, alloc: Global, step: usize) -> Result<Option<ComponentTree>, AllocError>
         requires { IsWhole self.now }
@@ -138,7 +155,7 @@ impl Whole<'_> {
         requires { IsWhole self.now }
         ensures { IfOk result (λ r. IsKth (IsWanted wanted.entry) (shown_tree self.now.component.now) k (option_map (λ b. b.items) r)) }
     {
-        let steps = self.items.checked_add(self.items).ok_or(AllocError)?;
+        let steps = self.step_count()?;
         let mut left = k;
         for step in 0..steps {
             let Some(bytes) = self.led_to(alloc, wanted, step)? else {
@@ -151,6 +168,43 @@ impl Whole<'_> {
         }
         Ok(None)
     }
+
+    // The first step from that number on that leads to a component that is wanted.
+    fn next(
+        &self,
+        alloc: Global,
+        wanted: Wanted<'_>,
+        from: usize,
+    ) -> Result<Option<Step>, AllocError>
+        requires { IsWhole self.now }
+        ensures { IfOk result (λ r. IsNext (IsWanted wanted.entry) (shown_tree self.now.component.now) from
+            (option_map (λ s. (s.number, s.bytes.items)) r)) }
+    {
+        let steps = self.step_count()?;
+        for number in from..steps {
+            if let Some(bytes) = self.led_to(alloc, wanted, number)? {
+                return Ok(Some(Step { number, bytes }));
+            }
+        }
+        Ok(None)
+    }
+}
+
+// The component of the bytes, where limits fit together.
+fn component_of(
+    alloc: Global,
+    wanted: Wanted<'_>,
+    bytes: &[u8],
+) -> Result<ComponentTree, ReduceError>
+    ensures spelled { IfOk result (λ c. Spells (shown_tree c) bytes.now) }
+    ensures refuses { IfErr result (IsReduceRefusal bytes.now) }
+    ensures limits { IfErr result (λ e. (e ≡ InconsistentLimits) ↔ (¬ AreConsistent wanted.entry)) }
+    ensures accepts { IfOk result (λ _. AreConsistent wanted.entry) }
+{
+    if !wanted.are_consistent() {
+        return Err(ReduceError::InconsistentLimits);
+    }
+    Ok(read(alloc, bytes)?)
 }
 
 /// The `k`-th, from 0, of the components that are wanted and smaller than the one that these bytes are by a step. There
@@ -171,13 +225,36 @@ pub fn smaller(
     ensures limits { IfErr result (λ e. (e ≡ InconsistentLimits) ↔ (¬ AreConsistent wanted.entry)) }
     ensures accepts { IfOk result (λ _. AreConsistent wanted.entry) }
 {
-    if !wanted.are_consistent() {
-        return Err(ReduceError::InconsistentLimits);
-    }
-    let component = read(alloc, bytes)?;
+    let component = component_of(alloc, wanted, bytes)?;
     let whole = Whole {
         component: &component,
         items: item_count(&component)?,
     };
     Ok(whole.kth(alloc, wanted, k)?)
+}
+
+/// The first step from that number on that leads to a component that is wanted and smaller than the one that these bytes
+/// are. There is none where no step from there on leads to one.
+///
+/// The steps and their order are those of [`smaller`], which counts only those that lead to a component that is wanted.
+/// Each from that number up to the one that is returned takes the time of a script of the component, or of a judgement.
+pub fn next_smaller(
+    alloc: Global,
+    wanted: Wanted<'_>,
+    bytes: &[u8],
+    from: usize,
+) -> Result<Option<Step>, ReduceError>
+    ensures answered { IfOk result (λ r. (t : Tree) × Spells t bytes.now
+        × IsNext (IsWanted wanted.entry) t from (option_map (λ s. (s.number, s.bytes.items)) r)) }
+    ensures refuses { IfErr result (IsReduceRefusal bytes.now) }
+    // Exactly where limits do not fit together, that is the refusal.
+    ensures limits { IfErr result (λ e. (e ≡ InconsistentLimits) ↔ (¬ AreConsistent wanted.entry)) }
+    ensures accepts { IfOk result (λ _. AreConsistent wanted.entry) }
+{
+    let component = component_of(alloc, wanted, bytes)?;
+    let whole = Whole {
+        component: &component,
+        items: item_count(&component)?,
+    };
+    Ok(whole.next(alloc, wanted, from)?)
 }

@@ -24,6 +24,7 @@ mod raw_limits;
 
 use alloc::vec::Vec;
 use core::fmt;
+use core::ops::Range;
 
 pub use limits::Limits;
 
@@ -248,6 +249,30 @@ pub fn smaller(limits: Option<&Limits>, bytes: &[u8], k: usize) -> Result<Option
     written(bytes.len(), |output| library::smaller_into(limits, bytes, k, output))
 }
 
+/// A step, and the component to which it leads.
+#[derive(Clone, Debug, PartialEq, Eq)]
+#[non_exhaustive]
+pub struct Step {
+    /// Its number, from 0 over all steps, those too that lead to no component that is wanted.
+    pub number: usize,
+    /// The component in the binary format.
+    pub bytes: Vec<u8>,
+}
+
+/// Returns the first step from that number on that leads to a component that can be generated within the limits; or,
+/// without limits, to one that is well formed. There is none where no step from there on does.
+///
+/// The steps are those of `smaller`. A loop that goes on from the step that is returned tries each of them once.
+///
+/// # Panics
+///
+/// As `generate` does.
+pub fn next_smaller(limits: Option<&Limits>, bytes: &[u8], from: usize) -> Result<Option<Step>, Unreduced> {
+    let mut number = from;
+    let found = written(bytes.len(), |output| library::next_smaller_into(limits, bytes, &mut number, output))?;
+    Ok(found.map(|bytes| Step { number, bytes }))
+}
+
 /// Returns the component without its `k`-th item, from 0, and without all that refers to it. Other indexes are
 /// renumbered. There is none where there are no more than `k` items.
 pub fn without(bytes: &[u8], k: usize) -> Result<Option<Vec<u8>>, Unreduced> {
@@ -262,24 +287,41 @@ pub fn join(first: &[u8], second: &[u8]) -> Result<Vec<u8>, Unreduced> {
     Ok(joined.expect("a component that is joined is one"))
 }
 
+// Returns the first of these steps to a component that fails.
+fn failing(
+    component: &[u8],
+    steps: Range<usize>,
+    mut fails: impl FnMut(&[u8]) -> bool,
+) -> Result<Option<Step>, Unreduced> {
+    let mut from = steps.start;
+    while from < steps.end {
+        match next_smaller(None, component, from)? {
+            Some(step) if step.number >= steps.end => break,
+            Some(step) if fails(&step.bytes) => return Ok(Some(step)),
+            Some(step) => from = step.number + 1,
+            None => break,
+        }
+    }
+    Ok(None)
+}
+
 /// Returns a component that fails and of which no single item can be removed or made simpler so that it still fails. It is
 /// found from one that fails, which is returned where no smaller one does. Only components that are well formed are tried.
 pub fn reduce(component: &[u8], mut fails: impl FnMut(&[u8]) -> bool) -> Result<Vec<u8>, Unreduced> {
     let mut smallest = component.to_vec();
-    let mut is_new = true;
-    while is_new {
-        is_new = false;
-        let mut k = 0;
-        while let Some(next) = smaller(None, &smallest, k)? {
-            if fails(&next) {
-                smallest = next;
-                is_new = true;
-            } else {
-                k += 1;
-            }
+    let mut from = 0;
+    loop {
+        // The steps before that number come last, since those of a larger component have been tried.
+        let mut found = failing(&smallest, from..usize::MAX, &mut fails)?;
+        if found.is_none() {
+            found = failing(&smallest, 0..from, &mut fails)?;
         }
+        let Some(step) = found else {
+            return Ok(smallest);
+        };
+        smallest = step.bytes;
+        from = step.number;
     }
-    Ok(smallest)
 }
 
 /// Returns the version of the static library.

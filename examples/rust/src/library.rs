@@ -36,6 +36,15 @@ extern "C" {
         output_len: usize,
         smaller_len: *mut usize,
     ) -> i32;
+    fn lupinanon_next_smaller(
+        limits: *const RawLimits,
+        bytes: *const u8,
+        bytes_len: usize,
+        step: *mut usize,
+        output: *mut u8,
+        output_len: usize,
+        smaller_len: *mut usize,
+    ) -> i32;
     fn lupinanon_without(
         bytes: *const u8,
         bytes_len: usize,
@@ -196,6 +205,32 @@ pub fn smaller_into(
             bytes.as_ptr(),
             bytes.len(),
             k,
+            output.as_mut_ptr(),
+            output.len(),
+            &mut len,
+        )
+    };
+    len_of(status, len)
+}
+
+/// How long the smaller component is to which the first step leads, from that number on, if there is one. It is written
+/// as `smaller_into` does, and the number becomes that of the step.
+pub fn next_smaller_into(
+    limits: Option<&Limits>,
+    bytes: &[u8],
+    step: &mut usize,
+    output: &mut [u8],
+) -> Result<Option<usize>, Unreduced> {
+    let limits = limits.map(RawLimits::of);
+    let limits = limits.as_ref().map_or(core::ptr::null(), |limits| limits as *const RawLimits);
+    let mut len = 0;
+    // SAFETY: only the limits may be null, the lengths are those of the slices, and nothing written overlaps anything.
+    let status = unsafe {
+        lupinanon_next_smaller(
+            limits,
+            bytes.as_ptr(),
+            bytes.len(),
+            step,
             output.as_mut_ptr(),
             output.len(),
             &mut len,

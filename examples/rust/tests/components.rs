@@ -1,5 +1,6 @@
 use lupinanon::{
-    check, generate, join, library_version, reduce, script, smaller, without, Limits, NoScript, Refusal, Unreduced, Verdict,
+    check, generate, join, library_version, next_smaller, reduce, script, smaller, without, Limits, NoScript, Refusal,
+    Unreduced, Verdict,
 };
 
 #[test]
@@ -116,6 +117,24 @@ fn smaller_components() {
 }
 
 #[test]
+fn smaller_components_by_their_steps() {
+    let type_of_u32 = b"\x00asm\x0d\x00\x01\x00\x07\x02\x01\x79";
+    let limits = Limits::default();
+    let numbers = [0, 1, 2, 3, 4].map(|from| {
+        let step = next_smaller(Some(&limits), type_of_u32, from).unwrap();
+        step.map(|step| step.number)
+    });
+    // The section, which step 2 would make simpler, has no simpler form.
+    assert_eq!(numbers, [Some(0), Some(1), Some(3), Some(3), None]);
+    let step = next_smaller(None, type_of_u32, 2).unwrap().unwrap();
+    assert_eq!(step.bytes, b"\x00asm\x0d\x00\x01\x00\x07\x02\x01\x7f");
+    assert_eq!(next_smaller(None, b"", 0), Err(Unreduced::Unread));
+    let a_type = Limits { min_types: 1, ..limits };
+    let step = next_smaller(Some(&a_type), type_of_u32, 0).unwrap().unwrap();
+    assert_eq!(step.number, 3);
+}
+
+#[test]
 fn joined_components() {
     let type_of_u32 = b"\x00asm\x0d\x00\x01\x00\x07\x02\x01\x79";
     let two = b"\x00asm\x0d\x00\x01\x00\x07\x02\x01\x79\x07\x02\x01\x79";
@@ -125,7 +144,7 @@ fn joined_components() {
 
 #[test]
 fn a_component_is_reduced() {
-    let input: Vec<u8> = (0..256u32).map(|place| (place * 7 % 251) as u8).collect();
+    let input: Vec<u8> = (0..4096u32).map(|place| (place * 7 % 251) as u8).collect();
     let limits = Limits { finish_after: 8, ..Limits::default() };
     let found = generate(&limits, &input).unwrap().bytes;
     let nothing = b"\x00asm\x0d\x00\x01\x00";
@@ -134,4 +153,9 @@ fn a_component_is_reduced() {
     let is_longer = |bytes: &[u8]| bytes.len() > 11;
     let least = reduce(&found, is_longer).unwrap();
     assert!(is_longer(&least) && least.len() < 16, "{least:?}");
+    let mut from = 0;
+    while let Some(step) = next_smaller(None, &least, from).unwrap() {
+        assert!(!is_longer(&step.bytes), "{:?}", step.bytes);
+        from = step.number + 1;
+    }
 }
