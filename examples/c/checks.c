@@ -453,6 +453,111 @@ static int limits_arrive(void) {
     return 1;
 }
 
+/* Bytes of limits, from 128 in steps of 7, and one that follows them. */
+static const uint8_t front[21] = {128, 135, 142, 149, 156, 163, 170, 177, 184, 191, 198,
+                                  205, 212, 219, 226, 233, 240, 247, 254, 5,   3};
+
+static void set_what_stays(LupinanonLimits *limits) {
+    lupinanon_default_limits(limits, sizeof *limits);
+    limits->min_types = 7;
+    limits->min_imports = 6;
+    limits->min_funcs = 5;
+    limits->min_memories = 4;
+    limits->must_validate = 1;
+}
+
+/* The numbers of the first thirteen bytes; by hand. */
+static void set_numbers(LupinanonLimits *limits) {
+    limits->max_types = 128;
+    limits->max_imports = 135;
+    limits->max_funcs = 142;
+    limits->max_exports = 149;
+    limits->max_globals = 156;
+    limits->max_tables = 163;
+    limits->max_tags = 170;
+    limits->max_memories = 1;    /* 177 modulo 16 */
+    limits->max_modules = 24;    /* 184 modulo 32 */
+    limits->max_components = 31; /* 191 modulo 32 */
+    limits->max_instances = 6;   /* 198 modulo 32 */
+    limits->max_nesting_depth = 13; /* 205 modulo 16 */
+    limits->max_type_size = 212;
+}
+
+static int first_bytes_say_limits(void) {
+    LupinanonLimits limits, wanted_limits;
+    size_t taken = 99;
+    set_what_stays(&limits);
+    set_what_stays(&wanted_limits);
+    set_numbers(&wanted_limits);
+    wanted_limits.exceptions_enabled = wanted_limits.simd_enabled = wanted_limits.bulk_memory_enabled = 0;
+    wanted_limits.finish_after = 5;
+    WANT(lupinanon_swarm_limits(&limits, front, 21, &taken) == LUPINANON_ANSWERED && taken == 20);
+    WANT(!memcmp(&limits, &wanted_limits, sizeof limits));
+    WANT(lupinanon_swarm_limits(&limits, front, 20, &taken) == LUPINANON_ANSWERED && taken == 20);
+    WANT(!memcmp(&limits, &wanted_limits, sizeof limits));
+    /* what the input does not have counts as 0 */
+    wanted_limits.multi_value_enabled = wanted_limits.reference_types_enabled = wanted_limits.allow_floats = 0;
+    wanted_limits.finish_after = 0;
+    WANT(lupinanon_swarm_limits(&limits, front, 13, &taken) == LUPINANON_ANSWERED && taken == 13);
+    WANT(!memcmp(&limits, &wanted_limits, sizeof limits));
+    WANT(lupinanon_swarm_limits(&limits, NULL, 0, &taken) == LUPINANON_ANSWERED && taken == 0);
+    WANT(limits.max_types == 0 && limits.max_type_size == 0 && limits.min_types == 7 && limits.must_validate == 1);
+    return 1;
+}
+
+/* Of an older struct what it has is written, and nothing after it; of a newer one what follows stays 0. */
+static int first_bytes_say_limits_of_each_size(void) {
+    Overlapping memory;
+    union {
+        NewerLimits newer;
+        uint8_t bytes[ROOM];
+    } newer;
+    size_t taken, older = offsetof(LupinanonLimits, max_imports);
+    memset(&memory, 0xaa, sizeof memory);
+    lupinanon_default_limits(&memory.limits, older);
+    WANT(lupinanon_swarm_limits(&memory.limits, front, 21, &taken) == LUPINANON_ANSWERED && taken == 20);
+    WANT(memory.limits.size == older && memory.limits.max_types == 128 && is_untouched(memory.bytes, older));
+    memset(&newer, 0xaa, sizeof newer);
+    lupinanon_default_limits(&newer.newer.limits, sizeof(NewerLimits));
+    WANT(lupinanon_swarm_limits(&newer.newer.limits, front, 21, &taken) == LUPINANON_ANSWERED && taken == 20);
+    WANT(newer.newer.limits.size == sizeof(NewerLimits) && newer.newer.limits.finish_after == 5);
+    WANT(newer.newer.max_more == 0 && newer.newer.more_enabled == 0 && is_untouched(newer.bytes, sizeof(NewerLimits)));
+    return 1;
+}
+
+static int bad_arguments_say_no_limits(void) {
+    Overlapping memory;
+    LupinanonLimits limits, before;
+    uint8_t *at = memory.bytes;
+    size_t taken = 99;
+    memset(&memory, 0, sizeof memory);
+    set_what_stays(&limits);
+    before = limits;
+    WANT(lupinanon_swarm_limits(NULL, front, 21, &taken) == LUPINANON_BAD_ARGUMENT && taken == 0);
+    WANT(lupinanon_swarm_limits(&limits, front, 21, NULL) == LUPINANON_BAD_ARGUMENT);
+    WANT(lupinanon_swarm_limits(&limits, NULL, 1, &taken) == LUPINANON_BAD_ARGUMENT);
+    WANT(lupinanon_swarm_limits(&limits, front, SIZE_MAX, &taken) == LUPINANON_BAD_ARGUMENT);
+    WANT(!memcmp(&limits, &before, sizeof limits));
+    limits.simd_enabled = 2;
+    before = limits;
+    taken = 99;
+    WANT(lupinanon_swarm_limits(&limits, front, 21, &taken) == LUPINANON_BAD_FLAG && taken == 0);
+    WANT(!memcmp(&limits, &before, sizeof limits));
+    set_what_stays(&memory.limits);
+    WANT(lupinanon_swarm_limits(&memory.limits, at, 8, &taken) == LUPINANON_BAD_ARGUMENT);
+    WANT(lupinanon_swarm_limits(&memory.limits, at + sizeof limits, 8, &taken) == LUPINANON_ANSWERED && taken == 8);
+    WANT(lupinanon_swarm_limits(&memory.limits, front, 21, memory.counts + 1) == LUPINANON_BAD_ARGUMENT);
+    set_what_stays(&limits);
+    WANT(lupinanon_swarm_limits(&limits, at, 21, memory.counts + 2) == LUPINANON_BAD_ARGUMENT);
+    set_what_stays(&limits);
+    limits.reserved[0] = 1;
+    WANT(lupinanon_swarm_limits(&limits, front, 21, &taken) == LUPINANON_BAD_ARGUMENT);
+    set_what_stays(&limits);
+    limits.size--;
+    WANT(lupinanon_swarm_limits(&limits, front, 21, &taken) == LUPINANON_BAD_ARGUMENT && taken == 0);
+    return 1;
+}
+
 /* What is generated from an input, and in how many growths. */
 typedef struct Entry {
     const char *name;
@@ -725,6 +830,7 @@ int main(void) {
     if (!bad_arguments_are_refused() || !memory_is_refused_in_turn() || !growths_are_refused_in_turn()) return 1;
     if (!older_structs_are_taken() || !newer_structs_are_taken() || !wrong_sizes_are_refused()) return 1;
     if (!limits_overlap_by_their_size() || !limits_arrive()) return 1;
+    if (!first_bytes_say_limits() || !first_bytes_say_limits_of_each_size() || !bad_arguments_say_no_limits()) return 1;
     if (!left_may_be_null() || !overlaps_are_refused() || !words_are_right() || !components_are_judged()) return 1;
     if (!bad_arguments_have_no_script() || !overlaps_have_no_script() || !components_have_scripts()) return 1;
     puts("checks: all is as lupinanon.h says");

@@ -16,11 +16,20 @@ $CXX $CXXFLAGS "$WORK/target.o" "$WORK/use_component.o" "$library" $LIB_FUZZING_
 
 printf '[libfuzzer]\nmax_len = 4096\n' >"$OUT/$target.options"
 
-# Programs that run here are built without the flags of the engine.
-for name in seeds dictionary; do
-    $CC -O1 $limits $include "$libfuzzer/$name.c" "$library" -o "$WORK/$name"
-done
+# What runs here is built without the flags of the engine.
+$CC -O1 $include "$libfuzzer/dictionary.c" "$library" -o "$WORK/dictionary"
 "$WORK/dictionary" >"$OUT/$target.dict"
-mkdir -p "$WORK/corpus"
-"$WORK/seeds" "$WORK/corpus" 200
-zip -q -j "$OUT/${target}_seed_corpus.zip" "$WORK"/corpus/*
+
+# The first corpus is drawn within the limits of the target. The command needs glibc 2.34: there is none where the image has
+# an older one.
+case $limits in
+*SWARM*) drawn=--swarm ;;
+*) drawn="--limit max_exports=10" ;;
+esac
+case $limits in
+*MUST_VALIDATE=1*) drawn="$drawn --limit must_validate=true" ;;
+esac
+rm -rf "$WORK/corpus"
+if "$release/bin/lupinanon" corpus -n 200 $drawn -o "$WORK/corpus"; then
+    zip -q -j "$OUT/${target}_seed_corpus.zip" "$WORK"/corpus/*
+fi

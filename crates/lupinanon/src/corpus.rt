@@ -8,7 +8,7 @@ use crate::places::status_of_print;
 use rand_pcg::Pcg32;
 use rand_pcg::rand_core::SeedableRng;
 use smith_component::Config;
-use smith_corpus::{Sample, draw};
+use smith_corpus::{Sample, draw, draw_swarm};
 use smith_script::{ScriptError, script};
 use std::io::IsTerminal;
 use std::process::ExitCode;
@@ -33,9 +33,14 @@ fn drawn(
     rt: &HostRuntime,
     config: &Config,
     random: &mut Pcg32,
-    len: usize,
+    wanted: Draw,
 ) -> Result<Sample, ExitCode> {
-    match draw(rt.alloc(), config, random, len) {
+    let sample = if wanted.is_swarm {
+        draw_swarm(rt.alloc(), config, random, wanted.len)
+    } else {
+        draw(rt.alloc(), config, random, wanted.len)
+    };
+    match sample {
         Ok(sample) => Ok(sample),
         Err(error) => {
             let _ = eprintln!(rt; "lupinanon: no input is found: {error}");
@@ -55,7 +60,7 @@ fn write_random(
     let mut input_bytes: u64 = 0;
     let mut component_bytes: u64 = 0;
     for number in 0..draw.count {
-        let sample = drawn(rt, config, &mut random, draw.len)?;
+        let sample = drawn(rt, config, &mut random, draw)?;
         write_new(rt, &path_in(rt, options.output, number, "")?, &sample.input)?;
         if draw.with_components {
             let path = path_in(rt, options.output, number, COMPONENT_ENDING)?;

@@ -11,6 +11,8 @@ pub struct Draw {
     /// How many bytes each has.
     pub len: usize,
     pub seed: u64,
+    /// Whether the first bytes of each say limits of its own.
+    pub is_swarm: bool,
     /// Whether the component of each is written beside it.
     pub with_components: bool,
 }
@@ -68,17 +70,19 @@ fn with_draw<'a>(alloc: Global, command: Command<'a>) -> Result<Command<'a>, All
         .long("bytes")
         .value_name("N")
         .value_parser(value_parser!(usize).range(..=1_048_576))
-        .help("How many bytes each has [default: 1024]");
+        .help("How many bytes each has, those of its limits among them [default: 1024]");
     let seed = Arg::new(alloc, "seed")
         .long("seed")
         .value_name("SEED")
         .value_parser(value_parser!(u64))
         .help("Where they are drawn from: the same inputs for the same seed [default: 0]");
+    let swarm = "Begin each with the bytes of limits of its own, for `generate --swarm`";
     let components = "Write the component of each beside it, with the ending .wasm";
     command
         .arg(count)?
         .arg(bytes)?
         .arg(seed)?
+        .arg(switch(alloc, "swarm", swarm))?
         .arg(switch(alloc, "components", components))
 }
 
@@ -94,6 +98,7 @@ pub fn corpus_command<'a>(alloc: Global) -> Result<Command<'a>, AllocError> {
         .conflicts_with("count")?
         .conflicts_with("bytes")?
         .conflicts_with("seed")?
+        .conflicts_with("swarm")?
         .conflicts_with("components")?;
     let output = Arg::new(alloc, "output")
         .short('o')
@@ -123,6 +128,7 @@ fn origin_of<'a>(matches: &ArgMatches<'a>) -> Origin<'a> {
             count: matches.get_one::<usize>("count").unwrap_or(0),
             len: matches.get_one::<usize>("bytes").unwrap_or(1024),
             seed: matches.get_one::<u64>("seed").unwrap_or(0),
+            is_swarm: matches.get_flag("swarm"),
             with_components: matches.get_flag("components"),
         }),
     }

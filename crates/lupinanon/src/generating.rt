@@ -3,10 +3,10 @@
 use crate::FAULT;
 use crate::converting::{WithinError, convert_within};
 use crate::limits_fault::print_limits_fault;
-use crate::limits_file::{LimitsText, refuses_both, text_of};
+use crate::limits_file::{LimitsText, config_of, refuses_both, text_of};
 use crate::options::Options;
 use crate::places::{STANDARD_INPUT, STANDARD_OUTPUT, Sink, Source, print_fault, refuses_terminal};
-use smith_run::{LONGEST_INPUT, RunError};
+use smith_run::{LONGEST_INPUT, RunError, convert_swarm};
 use std::process::ExitCode;
 
 // Prints why a run failed, and returns its status.
@@ -31,15 +31,32 @@ fn status_of_run(
     ExitCode::from(status)
 }
 
-// Makes the component within the limits that the text spells.
-fn generate_within(rt: &HostRuntime, options: &Options<'_>, text: &LimitsText) -> ExitCode {
-    let mut source = match Source::open(rt, options.input) {
-        Ok(source) => source,
+// The input, or the status after a message.
+fn opened(rt: &HostRuntime, options: &Options<'_>) -> Result<Source, ExitCode> {
+    match Source::open(rt, options.input) {
+        Ok(source) => Ok(source),
         Err(error) => {
             print_fault(rt, options.input, STANDARD_INPUT, Some(&error));
-            return ExitCode::from(FAULT);
+            Err(ExitCode::from(FAULT))
         }
-    };
+    }
+}
+
+// The status of a run that leaves so many bytes, which are printed where that is asked for.
+fn status_of_success(rt: &HostRuntime, options: &Options<'_>, left: usize) -> ExitCode {
+    if options.prints_left {
+        let _ = eprintln!(rt; "left {left}");
+    }
+    ExitCode::SUCCESS
+}
+
+// Makes the component within the limits that the text spells.
+fn generate_within(
+    rt: &HostRuntime,
+    options: &Options<'_>,
+    text: &LimitsText,
+) -> Result<ExitCode, ExitCode> {
+    let mut source = opened(rt, options)?;
     let mut sink = Sink::new(rt, options.output);
     match convert_within(
         rt.alloc(),
@@ -48,18 +65,32 @@ fn generate_within(rt: &HostRuntime, options: &Options<'_>, text: &LimitsText) -
         &mut sink,
         options.form,
     ) {
-        Ok(left) => {
-            if options.prints_left {
-                let _ = eprintln!(rt; "left {left}");
-            }
-            ExitCode::SUCCESS
-        }
+        Ok(left) => Ok(status_of_success(rt, options, left)),
         Err(WithinError::Limits(fault)) => {
             print_limits_fault(rt, &options.limits, &text.in_file, &fault);
-            ExitCode::from(FAULT)
+            Err(ExitCode::from(FAULT))
         }
-        Err(WithinError::Run(error)) => status_of_run(rt, options, error, &source, &sink),
+        Err(WithinError::Run(error)) => Err(status_of_run(rt, options, error, &source, &sink)),
     }
+}
+
+// Makes the component within the limits that the first bytes of the input say.
+fn generate_swarm(rt: &HostRuntime, options: &Options<'_>) -> Result<ExitCode, ExitCode> {
+    let config = config_of(rt, &options.limits)?;
+    let mut source = opened(rt, options)?;
+    let mut sink = Sink::new(rt, options.output);
+    match convert_swarm(rt.alloc(), &mut source, &mut sink, config, options.form) {
+        Ok(left) => Ok(status_of_success(rt, options, left)),
+        Err(error) => Err(status_of_run(rt, options, error, &source, &sink)),
+    }
+}
+
+fn generated(rt: &HostRuntime, options: &Options<'_>) -> Result<ExitCode, ExitCode> {
+    if options.is_swarm {
+        return generate_swarm(rt, options);
+    }
+    let text = text_of(rt, &options.limits)?;
+    generate_within(rt, options, &text)
 }
 
 /// Makes the component that is asked for.
@@ -69,8 +100,7 @@ pub fn generate(rt: &HostRuntime, options: &Options<'_>) -> ExitCode {
     {
         return ExitCode::from(FAULT);
     }
-    match text_of(rt, &options.limits) {
-        Ok(text) => generate_within(rt, options, &text),
-        Err(status) => status,
+    match generated(rt, options) {
+        Ok(status) | Err(status) => status,
     }
 }

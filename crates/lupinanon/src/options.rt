@@ -56,6 +56,8 @@ pub struct Options<'a> {
     pub input: Option<&'a str>,
     pub output: Option<&'a str>,
     pub limits: Limits<'a>,
+    /// Whether the first bytes of the input say limits over these.
+    pub is_swarm: bool,
     pub form: Form,
     pub prints_left: bool,
 }
@@ -180,9 +182,11 @@ fn generate_command<'a>(alloc: Global) -> Result<Command<'a>, AllocError> {
         .arg(input)?;
     let output =
         "Where the component goes; - is standard output [default: -, unless it is a terminal]";
+    let swarm = "Take limits from the first bytes of the input, over those that are given";
     let hex = "Write the bytes as hexadecimal digits, and how many bytes are left";
     let left = "Print on standard error how many bytes of the input are left";
     with_files(alloc, plain, output)?
+        .arg(switch(alloc, "swarm", swarm))?
         .arg(switch(alloc, "hex", hex))?
         .arg(switch(alloc, "left", left))
 }
@@ -304,6 +308,7 @@ fn options_of<'a>(alloc: Global, matches: &ArgMatches<'a>) -> Result<Options<'a>
         input: file(matches, "INPUT"),
         output: file(matches, "output"),
         limits: limits_of(alloc, matches)?,
+        is_swarm: matches.get_flag("swarm"),
         form: form_of(matches),
         prints_left: matches.get_flag("left"),
     })

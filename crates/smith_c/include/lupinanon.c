@@ -6,6 +6,7 @@
 /* The proved functions. No pointer is NULL, no memory that is written overlaps any other that is passed, and no length
  * is more than PTRDIFF_MAX. Their limits are those of a whole LupinanonLimits, without the size before them. */
 void lupinanon_proved_default_limits(void *limits);
+int32_t lupinanon_proved_swarm_limits(void *limits, const uint8_t *input, size_t input_len, size_t *taken);
 int32_t lupinanon_proved_generate_into(const void *limits, const uint8_t *input, size_t input_len, uint8_t *output,
                                        size_t output_len, size_t *bytes_len, size_t *left);
 int32_t lupinanon_proved_check(const uint8_t *bytes, size_t bytes_len, size_t *offset);
@@ -175,6 +176,26 @@ int32_t lupinanon_default_limits(LupinanonLimits *limits, size_t size) {
     memset(limits, 0, size);
     memcpy(limits, &whole, lesser(size, sizeof whole));
     return LUPINANON_ANSWERED;
+}
+
+int32_t lupinanon_swarm_limits(LupinanonLimits *limits, const uint8_t *input, size_t input_len, size_t *taken) {
+    LupinanonLimits whole;
+    uint8_t nothing = 0;
+    int32_t status;
+    size_t known;
+    if (taken) *taken = 0;
+    if (!taken || !limits) return LUPINANON_BAD_ARGUMENT;
+    {
+        Memory given = memory_of_limits(limits), read = {input, input_len};
+        Memory written[] = {given, MEMORY_OF(taken)};
+        if (!is_there(given) || !is_there(read) || !are_apart(written, 2, &read, 1)) return LUPINANON_BAD_ARGUMENT;
+        if (!complete(&whole, given)) return LUPINANON_BAD_ARGUMENT;
+        known = lesser(given.len, sizeof whole);
+    }
+    status = lupinanon_proved_swarm_limits(WITHOUT_SIZE(&whole), input ? input : &nothing, input_len, taken);
+    memset(whole.reserved, 0, sizeof whole.reserved); /* the proved function may write anything there */
+    if (status == LUPINANON_ANSWERED) memcpy(limits, &whole, known);
+    return status;
 }
 
 int32_t lupinanon_generate_into(const LupinanonLimits *limits, const uint8_t *input, size_t input_len, uint8_t *output,

@@ -1,8 +1,8 @@
 /* WebAssembly components from a fuzzer's bytes.
  *
- * Ten functions are proved: those that lupinanon_default_limits, lupinanon_generate_into, lupinanon_check,
- * lupinanon_script_into, lupinanon_smaller, lupinanon_next_smaller, lupinanon_without and lupinanon_join call after a
- * check of their arguments. That check, and all else, is the plain C of lupinanon.c.
+ * Eleven functions are proved: those that lupinanon_default_limits, lupinanon_swarm_limits, lupinanon_generate_into,
+ * lupinanon_check, lupinanon_script_into, lupinanon_smaller, lupinanon_next_smaller, lupinanon_without and
+ * lupinanon_join call after a check of their arguments. That check, and all else, is the plain C of lupinanon.c.
  *
  * What the caller owes, and nothing checks:
  *  - A pointer that is not NULL points to what its type says, and a length says how much lies there. Limits are as many
@@ -142,6 +142,23 @@ const char *lupinanon_status_name(int32_t status);
  * LUPINANON_BAD_ARGUMENT: `limits` is NULL, or the size is wrong: it ends within a field, before the first limit, or
  * after 4096 bytes. Nothing is written. */
 int32_t lupinanon_default_limits(LupinanonLimits *limits, size_t size);
+
+/* Replaces limits by those that the first bytes of the input say, so that one run tries many limits (swarm testing).
+ * Twenty limits are said by one byte each, in this order, and a byte after the end of the input counts as 0:
+ *  - max_types, max_imports, max_funcs, max_exports, max_globals, max_tables, max_tags: that byte,
+ *  - max_memories modulo 16; max_modules, max_components and max_instances modulo 32; max_nesting_depth modulo 16;
+ *    max_type_size: that byte,
+ *  - multi_value_enabled, exceptions_enabled, reference_types_enabled, simd_enabled, allow_floats and
+ *    bulk_memory_enabled modulo 2; finish_after modulo 16.
+ * The minima and must_validate stay as they are, so that the limits may no longer fit together. Of limits by an older
+ * header those that it does not have are dropped.
+ *
+ * LUPINANON_ANSWERED: the limits are written, and *taken bytes of the input are theirs: 20, or all of a shorter one. What
+ * follows them is the input of a component.
+ * LUPINANON_BAD_FLAG, LUPINANON_BAD_ARGUMENT: the limits are as they were, and *taken is 0.
+ *
+ * The input may be NULL where its length is 0. */
+int32_t lupinanon_swarm_limits(LupinanonLimits *limits, const uint8_t *input, size_t input_len, size_t *taken);
 
 /* Makes the component that the input produces within the limits, and writes its bytes to the front of the output.
  *

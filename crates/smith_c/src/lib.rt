@@ -10,3 +10,4 @@ mod put;
 pub mod reduce;
 pub mod script;
 pub mod status;
+pub mod swarm;

@@ -1,10 +1,12 @@
 -- What a sample is, and why there is none.
-use Rattle.std.specs.Prelude.{◌≡◌, ℕ, ◌<◌, ◌≤◌, true, List, [], length}
+use Rattle.std.specs.Prelude.{◌≡◌, ◌⊎◌, ℕ, ◌<◌, ◌≤◌, true, List, [], length}
 use Rattle.smith_format.specs.Consistency.{IsConsistent}
 use Rattle.smith_format.specs.declared.config.Config.{Config}
 use Rattle.smith_input.specs.declared.error.Error.{Error}
+use Rattle.smith_input.specs.declared.error.Error.TheVariants.{OutOfMemory}
 use Rattle.smith_component.specs.Refusals.{IsGenerateRefusal}
 use Rattle.smith_component.specs.Runs.{IsMade}
+use Rattle.smith_swarm.specs.Swarm.{after_front, swarmed}
 use Rattle.smith_tree.specs.Generates.{Generates}
 use Rattle.smith_tree.specs.Tree.{Tree}
 use Rattle.smith_validity.specs.Validates.{Validates}
@@ -42,3 +44,15 @@ pub record HasRest (config : Config) (len : ℕ) : Type 0 where
 abbrev pub IsSampleError : Config → ℕ → SampleError → Type 0
 IsSampleError config len (Refused error) = HasRefusal config len error
 IsSampleError config len BytesLeft = HasRest config len
+
+-- The component is that of a sample within the limits that the first bytes of the input say, and the input of that sample is what follows
+-- them.
+pub record IsSwarmSample (config : Config) (s : Sample) : Type 0 where
+  pub own : Sample
+  pub follows : own.input.items ≡ after_front s.input.items
+  pub same : own.component ≡ s.component
+  pub is : IsSample (swarmed config s.input.items) own
+
+-- No memory is left, or some bytes say limits within which there is no sample.
+abbrev pub IsSwarmError : Config → ℕ → SampleError → Type 0
+IsSwarmError config len e = (e ≡ Refused OutOfMemory) ⊎ ((front : List ℕ) × IsSampleError (swarmed config front) len e)

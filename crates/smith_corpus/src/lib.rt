@@ -3,8 +3,10 @@
 
 mod drawing;
 mod samples;
+mod swarms;
 
 pub use rand_pcg::Pcg32;
 pub use samples::{Sample, SampleError, draw};
 pub use smith_format::Config;
 pub use smith_input::Error;
+pub use swarms::draw_swarm;

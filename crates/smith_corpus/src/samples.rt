@@ -50,6 +50,11 @@ impl SampleError {
             SampleError::Refused(Error::OutOfMemory | Error::InconsistentLimits)
         )
     }
+
+    // May an input within other limits be answered?
+    pub(crate) fn depends_on_limits(&self) -> bool {
+        !matches!(self, SampleError::Refused(Error::OutOfMemory))
+    }
 }
 
 // The sample of an input, if nothing of it is left.

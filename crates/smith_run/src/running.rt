@@ -8,9 +8,11 @@ ghost use Rattle.smith_input.specs.declared.error.Error.TheVariants.{OutOfMemory
 ghost use Rattle.smith_format.specs.Consistency.{IsConsistent};
 ghost use Rattle.smith_run.specs.Running.{ComesAfterReading, GivesAll, GivesTooMuch, IsRefusedOn, Writes};
 ghost use Rattle.smith_run.specs.Running.{longest_input, status_of, written_text};
+ghost use Rattle.smith_swarm.specs.Swarm.{after_front, swarmed};
 
 use crate::pages;
 use smith_component::{Config, Error, Unstructured, generate};
+use smith_swarm::swarm_limits;
 use std::alloc::{AllocError, Global};
 use std::io::{Read, Write};
 
@@ -147,6 +149,29 @@ fn formatted(alloc: Global, form: Form, bytes: Vec<u8>, left: usize) -> Result<V
     }
 }
 
+// Makes a component of the bytes within the limits, and writes it in the form. Answers how many of the bytes are left.
+fn write_made<W: Write>(
+    alloc: Global,
+    bytes: &[u8],
+    writer: &mut W,
+    config: Config,
+    form: Form,
+) -> Result<usize, RunError>
+    ensures written { IfOk result (λ count. (left : List ℕ) × (count ≡ length left)
+        × Writes config form bytes.now left (W.contents writer.old) (W.contents writer.new)) }
+    ensures accepts { OnOk result (IsConsistent config) }
+    ensures refused { IfErr result (λ e. ComesAfterReading e → IsRefusedOn config bytes.now e) }
+    ensures faults { IfErr result (λ e. e ≢ RunError.InputTooLong) }
+    ensures unwritten { IfErr result (λ e. e ≢ RunError.WriteFault → writer.new ≡ writer.old) }
+{
+    let mut unstructured = Unstructured::new(bytes);
+    let generated = generate(alloc, config, &mut unstructured)?;
+    let left = unstructured.left().len();
+    let text = formatted(alloc, form, generated.bytes, left)?;
+    write_text(writer, &text)?;
+    Ok(left)
+}
+
 /// Reads the whole input, in at most `LONGEST_INPUT + 1` reads, makes a component of it within the limits, and writes
 /// it in the form. Answers how many bytes of the input are left.
 ///
@@ -172,10 +197,29 @@ pub fn convert<R: Read, W: Write>(
         → GivesTooMuch (R.remaining reader.old) (R.remaining reader.new) }
 {
     let input = read_input(alloc, reader)?;
-    let mut unstructured = Unstructured::new(&input);
-    let generated = generate(alloc, config, &mut unstructured)?;
-    let left = unstructured.left().len();
-    let text = formatted(alloc, form, generated.bytes, left)?;
-    write_text(writer, &text)?;
-    Ok(left)
+    write_made(alloc, &input, writer, config, form)
+}
+
+/// The same, within the limits that the first bytes of the input say over those that are given, as
+/// `smith_swarm::swarm_limits` has them. The component is made of the bytes after those.
+pub fn convert_swarm<R: Read, W: Write>(
+    alloc: Global,
+    reader: &mut R,
+    writer: &mut W,
+    config: Config,
+    form: Form,
+) -> Result<usize, RunError>
+    ensures written { IfOk result (λ count. (input left : List ℕ) × (count ≡ length left)
+        × GivesAll (R.remaining reader.old) (R.remaining reader.new) input × IsConsistent (swarmed config input)
+        × Writes (swarmed config input) form (after_front input) left (W.contents writer.old) (W.contents writer.new)) }
+    ensures whole { IfErr result (λ e. ComesAfterReading e → (input : List ℕ)
+        × GivesAll (R.remaining reader.old) (R.remaining reader.new) input
+        × IsRefusedOn (swarmed config input) (after_front input) e) }
+    ensures unwritten { IfErr result (λ e. e ≢ RunError.WriteFault → writer.new ≡ writer.old) }
+    ensures too_long { IsErrOf result RunError.InputTooLong
+        → GivesTooMuch (R.remaining reader.old) (R.remaining reader.new) }
+{
+    let input = read_input(alloc, reader)?;
+    let swarm = swarm_limits(&config, &input);
+    write_made(alloc, &input[swarm.taken..], writer, swarm.config, form)
 }

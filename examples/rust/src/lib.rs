@@ -34,6 +34,16 @@ impl Default for Limits {
     }
 }
 
+/// Limits that the first bytes of an input say.
+#[derive(Clone, Copy, Debug, PartialEq, Eq)]
+#[non_exhaustive]
+pub struct SwarmLimits<'a> {
+    /// The limits. They may be such that they do not fit together.
+    pub limits: Limits,
+    /// What follows those bytes: the input of a component.
+    pub rest: &'a [u8],
+}
+
 /// A component's bytes.
 #[derive(Clone, Debug, PartialEq, Eq)]
 #[non_exhaustive]
@@ -163,6 +173,18 @@ impl fmt::Display for Unreduced {
 }
 
 impl core::error::Error for Unreduced {}
+
+/// Returns the limits with those over them that the first bytes of the input say, so that one run tries many limits (swarm
+/// testing). Twenty limits are said by one byte each, in the order and the ranges that `lupinanon.h` has, and a byte
+/// after the end counts as 0. The minima and `must_validate` stay as they are.
+///
+/// # Panics
+///
+/// As `generate` does.
+pub fn swarm_limits<'a>(limits: &Limits, input: &'a [u8]) -> SwarmLimits<'a> {
+    let (limits, taken) = library::swarm_limits(limits, input);
+    SwarmLimits { limits, rest: &input[taken..] }
+}
 
 /// Returns the component that the input gives within the limits. Equal limits and equal input give equal bytes.
 ///

@@ -8,6 +8,12 @@ use core::mem::{size_of, MaybeUninit};
 extern "C" {
     fn lupinanon_version() -> *const c_char;
     fn lupinanon_default_limits(limits: *mut RawLimits, size: usize) -> i32;
+    fn lupinanon_swarm_limits(
+        limits: *mut RawLimits,
+        input: *const u8,
+        input_len: usize,
+        taken: *mut usize,
+    ) -> i32;
     fn lupinanon_generate_into(
         limits: *const RawLimits,
         input: *const u8,
@@ -81,6 +87,20 @@ pub fn default_limits() -> Limits {
         limits.assume_init()
     };
     limits.limits()
+}
+
+/// These limits with those over them that the first bytes of the input say, and how many bytes say them.
+pub fn swarm_limits(limits: &Limits, input: &[u8]) -> (Limits, usize) {
+    let mut limits = RawLimits::of(limits);
+    let mut taken = 0;
+    // SAFETY: no reference is null, the length is that of the slice, and nothing written overlaps anything. What is written
+    // to a truth value is 0 or 1.
+    let status =
+        unsafe { lupinanon_swarm_limits(&mut limits, input.as_ptr(), input.len(), &mut taken) };
+    match status {
+        0 => (limits.limits(), taken),
+        other => unexpected(other),
+    }
 }
 
 /// What came of an output of some room.

@@ -1,6 +1,6 @@
 use lupinanon::{
-    check, generate, join, library_version, next_smaller, reduce, script, smaller, without, Limits, NoScript, Refusal,
-    Unreduced, Verdict,
+    check, generate, join, library_version, next_smaller, reduce, script, smaller, swarm_limits, without, Limits, NoScript,
+    Refusal, Unreduced, Verdict,
 };
 
 #[test]
@@ -22,6 +22,40 @@ fn limits_arrive() {
     let made = generate(&limits, b"\x03\x01\x00\x00\x06").unwrap();
     assert_eq!(made.bytes, b"\x00asm\x0d\x00\x01\x00\x07\x02\x01\x7f");
     assert!(Limits::default().bulk_memory_enabled);
+}
+
+#[test]
+fn limits_are_said_by_the_first_bytes() {
+    let given = Limits { min_types: 1, must_validate: true, ..Limits::default() };
+    let front = [2, 0, 0, 255, 0, 0, 0, 17, 33, 64, 31, 16, 200, 1, 2, 3, 4, 5, 6, 18];
+    let input = [&front[..], b"\x03\x01\x00\x00\x06\x00\x00\xff"].concat();
+    let swarm = swarm_limits(&given, &input);
+    let said = Limits {
+        max_types: 2,
+        max_imports: 0,
+        max_funcs: 0,
+        max_exports: 255,
+        max_globals: 0,
+        max_tables: 0,
+        max_tags: 0,
+        max_memories: 1,
+        max_modules: 1,
+        max_components: 0,
+        max_instances: 31,
+        max_nesting_depth: 0,
+        max_type_size: 200,
+        multi_value_enabled: true,
+        exceptions_enabled: false,
+        reference_types_enabled: true,
+        simd_enabled: false,
+        allow_floats: true,
+        bulk_memory_enabled: false,
+        finish_after: 2,
+        ..given
+    };
+    assert_eq!((swarm.limits, swarm.rest), (said, &input[20..]));
+    assert_eq!(swarm_limits(&given, &input[..1]).limits.max_types, 2);
+    assert_eq!(swarm_limits(&given, &input[..1]).rest, b"");
 }
 
 #[test]

@@ -1,36 +1,16 @@
-use Rattle.std.proofs.Common.{◌≡◌, ◌∙◌, ap, List, ℕ, length, subst}
-use Rattle.std.specs.Io.KnownBytes.{Appends}
-use Rattle.smith_input.specs.Reading.{IsTail}
-use Rattle.smith_component.specs.Runs.{IsMade}
-use Rattle.smith_run.specs.Running.{written_text}
+use Rattle.std.proofs.Common.{refl}
+use Rattle.smith_run.proofs.Made.{not_too_long, refused, written}
 use Rattle.smith_run.proofs.running.convert.Goals as goal
 
 pub returns-clause-written : goal.returns-clause-written
 returns-clause-written g c =
-    let input = c.in_ok-input.input.items in
-    let rest = c.generate.new.u in
-    let made = c.in_ok-generated.generated in
-    let tail : IsTail rest input = (
-      c.in_ok-generated.ensures.tail.0,
-      cc (c.in_ok-generated.ensures.tail.1, c.new-unstructured.ensures, c.deref.ensures.value),
-    ) in
-    let R : List ℕ → Type 0 = λ bytes. IsMade c.args.config bytes made.component rest in
-    let read = c.new-unstructured.ensures ∙ c.deref.ensures.value in
-    let ran = subst R read c.in_ok-generated.ensures.made in
-    let counted : length c.left-left.result.now ≡ length rest = ap length c.left-left.ensures in
-    let text : c.deref-2.result.now ≡ written_text c.args.form made.bytes.items (length rest) =
-    c.deref-2.ensures.value ∙ c.in_ok-text.ensures ∙ ap (written_text c.args.form made.bytes.items) counted in (
-      input,
-      rest,
-      counted,
-      c.in_ok-input.ensures.all,
-      record {
-        component = made.component;
-        bytes = made.bytes.items;
-        generated = c.in_ok-generated.ensures.generated;
-        is_left = tail;
-        made = ran;
-        reach = λ plan rest within begins. let r = c.in_ok-generated.ensures.reach plan rest within (read ∙ begins) in (r.1, r.2);
-        written = subst (Appends _ _) text c.in_ok-write_text.ensures.written;
-      },
-    )
+    written (λ _. c.args.config) (λ b. b) c.in_ok-input.input.items c.in_ok-input.ensures.all refl c.deref.ensures.value c.args.form _ _ c.write_made.result
+    c.write_made.ensures.written
+
+pub returns-clause-whole : goal.returns-clause-whole
+returns-clause-whole g c =
+    refused (λ _. c.args.config) (λ b. b) c.in_ok-input.input.items c.in_ok-input.ensures.all refl c.deref.ensures.value c.write_made.result
+    c.write_made.ensures.refused
+
+pub returns-clause-too_long : goal.returns-clause-too_long
+returns-clause-too_long g c = not_too_long c.write_made.result c.write_made.ensures.faults
