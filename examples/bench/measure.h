@@ -14,9 +14,10 @@ struct Inputs {
     size_t len, length;
 };
 
+/* How much time of a processor this process has taken. */
 static double seconds(void) {
     struct timespec now;
-    clock_gettime(CLOCK_MONOTONIC, &now);
+    clock_gettime(CLOCK_PROCESS_CPUTIME_ID, &now);
     return (double)now.tv_sec + (double)now.tv_nsec * 1e-9;
 }
 
