@@ -20,16 +20,9 @@ printf '[libfuzzer]\nmax_len = 4096\n' >"$OUT/$target.options"
 $CC -O1 $include "$libfuzzer/dictionary.c" "$library" -o "$WORK/dictionary"
 "$WORK/dictionary" >"$OUT/$target.dict"
 
-# The first corpus is drawn within the limits of the target. The command needs glibc 2.34: there is none where the image has
-# an older one.
+# The first corpus of the archive, which is drawn within the limits of the target.
 case $limits in
-*SWARM*) drawn=--swarm ;;
-*) drawn="--limit max_exports=10" ;;
+*SWARM*) corpus=corpus-swarm ;;
+*) corpus=corpus ;;
 esac
-case $limits in
-*MUST_VALIDATE=1*) drawn="$drawn --limit must_validate=true" ;;
-esac
-rm -rf "$WORK/corpus"
-if "$release/bin/lupinanon" corpus -n 200 $drawn -o "$WORK/corpus"; then
-    zip -q -j "$OUT/${target}_seed_corpus.zip" "$WORK"/corpus/*
-fi
+zip -q -j "$OUT/${target}_seed_corpus.zip" "$release/share/lupinanon/$corpus"/*
