@@ -22,7 +22,7 @@ pub enum Status {
     Unread,
     /// The bytes are a component that is well formed, but no input produces it within the limits.
     NoScript,
-    /// There is no smaller component of that number.
+    /// There is no smaller component of that number, none from that step on, or no item of that number.
     NoSmaller,
 }
 
