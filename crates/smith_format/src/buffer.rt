@@ -60,5 +60,6 @@ pub fn write_bytes(out: &mut Vec<u8>, contents: &[u8]) -> Result<(), Error>
 pub fn write_byte(out: &mut Vec<u8>, value: u8) -> Result<(), Error>
     ensures { Appends result out.old out.new (byte value) }
 {
-    write_bytes(out, &[value])
+    out.push(value)?;
+    Ok(())
 }

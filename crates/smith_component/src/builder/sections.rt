@@ -60,7 +60,8 @@ impl Progress {
         ensures tail { IsTail u.new u.old }
     {
         let module = Module::new_internal(self.alloc, self.config, u)?;
-        self.add_section(Section::CoreModule(module))?;
+        let embedded = Box::new(self.alloc, module)?;
+        self.add_section(Section::CoreModule(embedded))?;
         Ok(())
     }
 
