@@ -1,6 +1,6 @@
 -- Sections as values that a turn adds, with what a plain tree leaves out: URLs, what outer aliases keep, and the parts of a core
 -- module that leave no byte.
-use Rattle.std.specs.Prelude.{◌≡◌, ℕ, ◌-◌, true, false, List, [], ◌∷◌, ◌++◌, map, length, string_bytes, Box}
+use Rattle.std.specs.Prelude.{◌≡◌, ℕ, ◌-◌, true, false, List, [], ◌∷◌, ◌++◌, map, length, string_bytes}
 use Rattle.std.specs.List.{flat_map}
 use Rattle.std.specs.declared.alloc.Global.{Global}
 use Rattle.std.specs.declared.rc.Rc.{Rc}
@@ -99,6 +99,6 @@ pub record AddsImportSection (config : Config) (min : ℕ) (old : Building) (b :
 
 -- a core module that stands for a generated one, by its parts
 pub record AddsModule (config : Config) (old : Building) (b : List ℕ) (new : Building) (rest : List ℕ) : Type 0 where
-  pub embedded : Box ModuleParts Global
-  pub added : new.inner ≡ old.inner ++ CoreModule embedded ∷ []
-  pub reads : ReadsStandIn config b embedded.value rest
+  pub parts : ModuleParts
+  pub added : new.inner ≡ old.inner ++ CoreModule parts ∷ []
+  pub reads : ReadsStandIn config b parts rest

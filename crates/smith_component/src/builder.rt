@@ -3,7 +3,6 @@
 ghost use Rattle.std.specs.Prelude.{◌≡◌, ℕ, ◌+◌, List, [], length, IfOk, IfErr};
 ghost use Rattle.smith_input.specs.Reading.{IsTail};
 ghost use Rattle.smith_format.specs.Consistency.{IsConsistent};
-ghost use Rattle.smith_format.specs.Limits.{configured};
 ghost use Rattle.smith_component.specs.Building.{open_of};
 ghost use Rattle.smith_component.specs.BuilderView.{building_of, stack_of, IsSound};
 ghost use Rattle.smith_component.specs.Filling.{CanFill};
@@ -79,26 +78,16 @@ pub enum Step {
     Finished(Component),
 }
 
-// The value types of limits that fit together.
-pub(crate) fn checked_valtypes(alloc: Global, config: &Config) -> Result<Vec<ValType>, Error>
-    ensures list { IfOk result (λ v. v.items ≡ configured config.now) }
-    ensures accepts { IfOk result (λ _. IsConsistent config.now) }
-    ensures refuses { IfErr result (IsNewRefusal config.now) }
-{
-    config.check()?;
-    configured_valtypes(alloc, config)
-}
-
 impl Progress {
-    // One open component, empty, within limits that fit together and have these value types. It is made where it stays:
-    // in a result it would be copied twice.
-    pub(crate) fn new(alloc: Global, config: Config, valtypes: Vec<ValType>) -> Progress
-        requires consistent { IsConsistent config }
-        requires valtypes { valtypes.items ≡ configured config }
-        ensures made { (result.config ≡ config) × (stack_of result ≡ root) }
-        ensures sound { IsSound result }
+    // One open component, empty.
+    pub(crate) fn new(alloc: Global, config: Config) -> Result<Progress, Error>
+        ensures made { IfOk result (λ b. (b.config ≡ config) × (stack_of b ≡ root)) }
+        ensures sound { IfOk result IsSound }
+        ensures refuses { IfErr result (IsNewRefusal config) }
     {
-        Progress {
+        config.check()?;
+        let valtypes = configured_valtypes(alloc, &config)?;
+        Ok(Progress {
             alloc,
             config,
             valtypes,
@@ -110,7 +99,7 @@ impl Progress {
                 components: 0,
                 instances: 0,
             },
-        }
+        })
     }
 
     // One turn. It answers the component, if that is finished.
@@ -160,8 +149,7 @@ impl Builder {
         ensures accepted { IfOk result (λ _. IsConsistent config) }
         ensures refuses { IfErr result (IsNewRefusal config) }
     {
-        let valtypes = checked_valtypes(alloc, &config)?;
-        let progress = Progress::new(alloc, config, valtypes);
+        let progress = Progress::new(alloc, config)?;
         Ok(Builder { progress })
     }
 

@@ -60,6 +60,5 @@ pub fn write_bytes(out: &mut Vec<u8>, contents: &[u8]) -> Result<(), Error>
 pub fn write_byte(out: &mut Vec<u8>, value: u8) -> Result<(), Error>
     ensures { Appends result out.old out.new (byte value) }
 {
-    out.push(value)?;
-    Ok(())
+    write_bytes(out, &[value])
 }

@@ -41,9 +41,6 @@ impl Spelled<CoreFormat> for u64 {
 pub fn write_u64(out: &mut Vec<u8>, n: u64) -> Result<(), Error>
     ensures { Appends result out.old out.new (number n) }
 {
-    if n < 128 {
-        return write_byte(out, n as u8);
-    }
     write_spelled(out, &n)
 }
 

@@ -34,8 +34,7 @@ impl OpenComponent {
             ≡ add (shown_sections self.old.sections.items) (shown_section section)) }
         ensures tables { self.new.tables ≡ self.old.tables }
     {
-        self.sections.reserve(1)?;
-        self.sections.push_reserved(section);
+        self.sections.push(section)?;
         Ok(())
     }
 }

@@ -60,8 +60,7 @@ impl Progress {
         ensures tail { IsTail u.new u.old }
     {
         let module = Module::new_internal(self.alloc, self.config, u)?;
-        let embedded = Box::new(self.alloc, module)?;
-        self.add_section(Section::CoreModule(embedded))?;
+        self.add_section(Section::CoreModule(module))?;
         Ok(())
     }
 
