@@ -4,8 +4,8 @@ ghost use Rattle.std.specs.Prelude.{◌≡◌, ◌≢◌, ℕ, ◌<◌, ◌≤�
 ghost use Rattle.smith_tree.specs.Grammar.{Spells};
 ghost use Rattle.smith_tree.specs.WellFormed.{WellFormed};
 ghost use Rattle.smith_reduce.specs.Bytes.{AreJoined};
-ghost use Rattle.smith_c.specs.Reduces.{AreUnjoined, IsNextSmaller, IsSmaller, Lacks, LacksWithin, Reduces, ReducesNext};
-ghost use Rattle.smith_c.specs.Reduces.{Removes, Unreduced};
+ghost use Rattle.smith_c.specs.Reduces.{AreUnjoined, IsNextSmaller, IsSmaller, Lacks, LacksWithin, Reduces};
+ghost use Rattle.smith_c.specs.Reduces.{ReducesNext, Removes, Unreduced};
 ghost use Rattle.smith_c.specs.Reduces.{found, status_of, status_of_join};
 ghost use Rattle.smith_c.specs.Status.{code_of};
 ghost use Rattle.smith_c.specs.declared.status.Status.{Status};
@@ -62,7 +62,8 @@ fn reduced_formed(alloc: Global, bytes: &[u8], k: usize) -> Result<Vec<u8>, Stat
 // The first step from that one on that leads to a smaller component within the limits.
 fn next_reduced(alloc: Global, limits: &Limits, bytes: &[u8], from: usize) -> Result<Step, Status>
     ensures reduces { IfOk result (λ s. ReducesNext limits.now bytes.now from (Some (s.number, s.bytes.items))) }
-    ensures refuses { IfErr result (λ s. LacksWithin (ReducesNext limits.now bytes.now from None) limits.now bytes.now s) }
+    ensures refuses { IfErr result
+        (λ s. LacksWithin (ReducesNext limits.now bytes.now from None) limits.now bytes.now s) }
 {
     let Some(config) = limits.config() else {
         return Err(Status::BadFlag);
@@ -149,9 +150,9 @@ pub extern "C" fn lupinanon_proved_smaller_formed(
 /// `next_smaller` of `smith_reduce` does. It writes that component to the front of the output, and the step's number.
 ///
 /// The answer is the code of a `Status`: `NoSmaller` where there is no such step. Where the output has no room,
-/// `smaller_len` is how long the component is and `step` the number of its step, as where it is written. Else
-/// `smaller_len` is 0, and `step` is as it was. The output is as it was unless the component is written, and after it in
-/// any case.
+/// `smaller_len` is how long the component is and `step` the number of its step, as where it is written. Otherwise
+/// `smaller_len` is 0, and `step` is as it was. The output is as it was unless the component is written, and always
+/// after it.
 #[unsafe(no_mangle)]
 pub extern "C" fn lupinanon_proved_next_smaller(
     alloc: Global,
