@@ -104,7 +104,8 @@ fn report_validity(rt: &HostRuntime, path: Option<&str>, validity: &Validity) ->
     }
 }
 
-/// Says whether the file is a well-formed component that a validator accepts, and else what is wrong with it, and where.
+/// Says whether the file is a well-formed component that a validator accepts, and otherwise what is wrong with it, and
+/// where.
 pub fn check_validity(rt: &HostRuntime, path: Option<&str>) -> ExitCode {
     let bytes = match bytes_in(rt, path) {
         Ok(bytes) => bytes,
