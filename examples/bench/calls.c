@@ -1,5 +1,5 @@
-/* calls PASSES LENGTH FILE [SECTIONS]: takes the file's bytes as inputs of so many bytes each, and calls generate, check
- * and script in so many passes over all of them. For each it prints how many components it does a second, and how many of
+/* calls PASSES LENGTH FILE [SECTIONS]: takes the file's bytes as inputs of that many bytes each, and calls generate, check
+ * and script in that many passes over all of them. For each it prints how many components it does a second, and how many of
  * their bytes. SECTIONS is finish_after, 0 where it is left out. */
 #include "measure.h"
 
@@ -42,7 +42,7 @@ static int scripts(const LupinanonLimits *limits, size_t index, const uint8_t *c
     return !lupinanon_script_into(&all, component, lengths[index], output, sizeof output, &len, NULL);
 }
 
-/* Calls it for each component in so many passes, and prints how fast it is. */
+/* Calls it for each component in that many passes, and prints how fast it is. */
 static int measure(const char *name, int (*call)(const LupinanonLimits *, size_t, const uint8_t *), long passes,
                    const LupinanonLimits *limits) {
     double took, start = seconds();

@@ -1,4 +1,4 @@
-/* corpus LENGTH: writes so many bytes on standard output, the same each time. */
+/* corpus LENGTH: writes that many bytes on standard output, the same each time. */
 #include "random.h"
 #include <stdio.h>
 #include <stdlib.h>

@@ -353,7 +353,7 @@ static int memory_is_refused_in_turn(void) {
     return 1;
 }
 
-/* A limit, a value of it that is not the default, and what an input then gives. */
+/* A limit, a value of it that is not the default, and what an input then produces. */
 typedef struct Arriving {
     const char *name;
     size_t at, len;
@@ -558,7 +558,7 @@ static int bad_arguments_say_no_limits(void) {
     return 1;
 }
 
-/* What is generated from an input, and in how many growths. */
+/* What is generated from an input, and in how many allocations. */
 typedef struct Entry {
     const char *name;
     void (*set_limits)(LupinanonLimits *limits);
@@ -644,7 +644,7 @@ static int32_t answer(const Entry *entry, const LupinanonLimits *limits) {
     return memcmp(output, entry->output.at, len) || !is_untouched(output, len) ? -1 : status;
 }
 
-/* Whether the call is out of memory where its Nth growth alone is refused, and is answered where it has fewer. */
+/* Whether the call is out of memory if only its Nth allocation fails, and is answered if it has fewer. */
 static int ends_as_it_should(const Entry *entry, long nth) {
     LupinanonLimits limits;
     int is_met = nth <= entry->growths;
@@ -676,7 +676,7 @@ typedef struct Judged {
     size_t offset;
 } Judged;
 
-/* The components of examples/command/judged with these names, and bytes that are none. */
+/* The components of examples/command/judged with these names, and bytes that are not one. */
 static const Judged judged[] = {
     {"nothing", BYTES(PREAMBLE), LUPINANON_WELL_FORMED, LUPINANON_NO_OFFSET},
     {"a list of the type before it", BYTES(PREAMBLE, 0x07, 0x04, 0x02, 0x7f, 0x70, 0x00), LUPINANON_WELL_FORMED,
@@ -699,7 +699,7 @@ static const Judged judged[] = {
     {"a section without a length", BYTES(PREAMBLE, 0x07), LUPINANON_UNREAD, 9},
 };
 
-/* Whether a component is judged as it is said, and where its Nth growth is refused, out of memory. */
+/* Whether a component is judged as it is said, and if its Nth allocation fails, out of memory. */
 static int is_judged(const Judged *it) {
     int32_t status;
     size_t offset;
@@ -780,7 +780,7 @@ static const Scripted scripted[] = {
     {"a byte that is no flag", set_no_flag, BYTES(PREAMBLE), NONE(LUPINANON_BAD_FLAG, LUPINANON_NO_OFFSET)},
 };
 
-/* Whether a component has the script that is said, and where its Nth growth is refused, out of memory. */
+/* Whether a component has the script that is said, and if its Nth allocation fails, out of memory. */
 static int has_script(const Scripted *it) {
     LupinanonLimits limits;
     uint8_t output[ROOM];

@@ -55,13 +55,13 @@ static int32_t call(const Smaller *it, uint8_t *output, size_t room, size_t *len
     return lupinanon_smaller(it->sort == WELL_FORMED ? NULL : &limits, of->at, of->len, it->k, output, room, len);
 }
 
-/* Whether so many bytes are written, and no others. */
+/* Whether that many bytes are written, and no others. */
 static int is_written(const Bytes *bytes, const uint8_t output[ROOM], size_t len) {
     return len == bytes->len && (!len || !memcmp(output, bytes->at, len)) && is_untouched(output, len);
 }
 
-/* Whether what is written is as it is said, where there is room and where there is not, and where its Nth growth is
- * refused, out of memory. */
+/* Whether what is written is as it is said, where there is room and where there is not, and, if its Nth
+ * allocation fails, out of memory. */
 static int is_right(const Smaller *it) {
     uint8_t output[ROOM];
     size_t len;
@@ -132,7 +132,7 @@ static int32_t call_next(const Next *it, size_t *step, uint8_t *output, size_t r
     return lupinanon_next_smaller(it->sort == WELL_FORMED ? NULL : &limits, of->at, of->len, step, output, room, len);
 }
 
-/* The same of a smaller component from a step on. */
+/* The same for a smaller component from a step on. */
 static int is_next_right(const Next *it) {
     uint8_t output[ROOM];
     size_t len, step;

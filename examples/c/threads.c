@@ -1,4 +1,4 @@
-/* Two threads make components at once, each in an output of its own, and give the same bytes. Then the deepest
+/* Two threads make components at once, each in an output of its own, and produce the same bytes. Then the deepest
  * components are made and checked, and made again from their scripts, in a thread whose stack is as lupinanon.h says.
  * Built with -fsanitize=thread where the compiler has it. */
 #include "lupinanon.h"
@@ -44,7 +44,7 @@ static int two_threads_make_the_same(void) {
     return 1;
 }
 
-/* An input whose component nests as deep as its limits allow, and what comes of it. */
+/* An input whose component nests as deep as its limits allow, and what becomes of it. */
 struct Deep {
     size_t depth;
     uint8_t input[DEEP_INPUT];

@@ -1,7 +1,7 @@
 /* The limits that an input is read within: the same in the target, in replay and in the custom mutator, which are built
  * with the same SWARM and MUST_VALIDATE.
  *
- * With SWARM the first bytes of the input say limits, so that one run tries many of them, and components without some
+ * With SWARM the first bytes of the input encode limits, so that one run tries many of them, and components without some
  * kinds of parts (swarm testing): lupinanon_swarm_limits has which. */
 #ifndef INPUT_LIMITS_H
 #define INPUT_LIMITS_H

@@ -7,15 +7,15 @@ use Rattle.smith_run.specs.declared.running.Form.{Form}
 use Rattle.lupinanon.specs.declared.converting.WithinError.{WithinError}
 use Rattle.lupinanon.specs.declared.converting.WithinError.TheVariants.{Limits, Run}
 
--- The component that is made of the whole input within the limits that the text spells is written in the form, and so many bytes of the
+-- The component that is made of the whole input within the limits that the text spells is written in the form, and that many bytes of the
 -- input are left. The reader goes from `before` to `after`, and the writer from `old` to `new`.
 abbrev pub WritesWithin : List ℕ → Form → Option (List ℕ) → Option (List ℕ) → Option (List ℕ) → Option (List ℕ) → ℕ → Type 0
 WritesWithin text form before after old new count =
     (config : Config) × SpellsLimits text config
     × ((input left : List ℕ) × (count ≡ length left) × GivesAll before after input × Writes config form input left old new)
 
--- Why nothing is: the text spells no limits, or the run within those that it spells gives up. What comes only after reading comes after the
--- whole input, and a refusal is one of making a component of it.
+-- Why nothing is: the text spells no limits, or the run within those that it spells fails. What happens only after reading happens after
+-- the whole input is read, and a refusal is one of making a component of it.
 abbrev pub IsWithinError : List ℕ → Option (List ℕ) → Option (List ℕ) → WithinError → Type 0
 IsWithinError text before after (Limits fault) = IsTextFault text fault
 IsWithinError text before after (Run error) =

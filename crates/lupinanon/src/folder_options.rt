@@ -11,7 +11,7 @@ pub struct Draw {
     /// How many bytes each has.
     pub len: usize,
     pub seed: u64,
-    /// Whether the first bytes of each say limits of its own.
+    /// Whether the first bytes of each encode limits of its own.
     pub is_swarm: bool,
     /// Whether the component of each is written beside it.
     pub with_components: bool,
@@ -134,7 +134,7 @@ fn origin_of<'a>(matches: &ArgMatches<'a>) -> Origin<'a> {
     }
 }
 
-/// What the arguments of `corpus_command` say.
+/// What the arguments of `corpus_command` ask for.
 pub fn corpus_options_of<'a>(
     alloc: Global,
     matches: &ArgMatches<'a>,
@@ -146,7 +146,7 @@ pub fn corpus_options_of<'a>(
     })
 }
 
-/// What the arguments of `stats_command` say.
+/// What the arguments of `stats_command` ask for.
 pub fn stats_options_of<'a>(matches: &ArgMatches<'a>) -> StatsOptions<'a> {
     StatsOptions {
         folder: matches.get_str("FOLDER").unwrap_or("."),

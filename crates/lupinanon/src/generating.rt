@@ -42,7 +42,7 @@ fn opened(rt: &HostRuntime, options: &Options<'_>) -> Result<Source, ExitCode> {
     }
 }
 
-// The status of a run that leaves so many bytes, which are printed where that is asked for.
+// The status of a run that leaves that many bytes, which are printed where that is asked for.
 fn status_of_success(rt: &HostRuntime, options: &Options<'_>, left: usize) -> ExitCode {
     if options.prints_left {
         let _ = eprintln!(rt; "left {left}");
@@ -74,7 +74,7 @@ fn generate_within(
     }
 }
 
-// Makes the component within the limits that the first bytes of the input say.
+// Makes the component within the limits that the first bytes of the input encode.
 fn generate_swarm(rt: &HostRuntime, options: &Options<'_>) -> Result<ExitCode, ExitCode> {
     let config = config_of(rt, &options.limits)?;
     let mut source = opened(rt, options)?;

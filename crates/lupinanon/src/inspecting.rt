@@ -9,8 +9,8 @@ use std::fmt;
 use std::io::{self, Read};
 use std::process::ExitCode;
 
-/// What bytes that are no component end with, and a run that is out of memory; of `check`, a component that is not well
-/// formed, or does not validate where that is asked.
+/// What bytes that are not a component end with, and a run that is out of memory; of `check`, a component that is not
+/// well formed, or does not validate where that is asked.
 pub const REFUSED: u8 = 1;
 
 /// What `check` and `smaller` end with if the bytes are not in the grammar.
@@ -81,7 +81,7 @@ pub fn refuse_ill_formed(rt: &HostRuntime, path: Option<&str>, bytes: &[u8]) -> 
     }
 }
 
-/// Says whether the file is a well-formed component, and else what is wrong with it, and where.
+/// Says whether the file is a well-formed component, and otherwise what is wrong with it, and where.
 pub fn check(rt: &HostRuntime, path: Option<&str>) -> ExitCode {
     let bytes = match bytes_in(rt, path) {
         Ok(bytes) => bytes,

@@ -56,7 +56,7 @@ pub struct Options<'a> {
     pub input: Option<&'a str>,
     pub output: Option<&'a str>,
     pub limits: Limits<'a>,
-    /// Whether the first bytes of the input say limits over these.
+    /// Whether the first bytes of the input encode limits that override these.
     pub is_swarm: bool,
     pub form: Form,
     pub prints_left: bool,
@@ -87,7 +87,7 @@ pub struct SmallerOptions<'a> {
     pub choice: Choice,
     pub output: Option<&'a str>,
     pub limits: Limits<'a>,
-    /// Whether each that is well formed is wanted, whatever the limits.
+    /// Whether each that is well formed is wanted, regardless of the limits.
     pub is_any: bool,
 }
 
@@ -134,7 +134,7 @@ Status:
 
 const COMPONENT: &str = "The component; - is standard input [default: -]";
 
-/// The command with the arguments that say the limits.
+/// The command with the arguments that set the limits.
 pub fn with_limits<'a>(alloc: Global, command: Command<'a>) -> Result<Command<'a>, AllocError> {
     let limits = Arg::new(alloc, "limits")
         .long("limits")
@@ -294,7 +294,7 @@ fn form_of(matches: &ArgMatches<'_>) -> Form {
     Form::Raw
 }
 
-/// What the arguments of `with_limits` say.
+/// What the arguments of `with_limits` ask for.
 pub fn limits_of<'a>(alloc: Global, matches: &ArgMatches<'a>) -> Result<Limits<'a>, AllocError> {
     let settings = matches.get_strs("limit").unwrap_or_default();
     Ok(Limits {

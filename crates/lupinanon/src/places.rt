@@ -8,10 +8,10 @@ use std::fs::File;
 use std::io::{self, IsTerminal, Read, Stdin, Stdout, Write};
 use std::process::ExitCode;
 
-/// What the input is called that is no file.
+/// What the input is called where it is not a file.
 pub const STANDARD_INPUT: &str = "standard input";
 
-/// What the output is called that is no file.
+/// What the output is called where it is not a file.
 pub const STANDARD_OUTPUT: &str = "standard output";
 
 /// Standard input, or a file.
@@ -156,7 +156,7 @@ pub fn print_fault(
     };
 }
 
-/// The status after something was printed, or was not, which a message says.
+/// The status after something was printed, or was not, which a message reports.
 pub fn status_of_print(rt: &HostRuntime, printed: io::Result<()>) -> ExitCode {
     match printed {
         Ok(()) => ExitCode::SUCCESS,

@@ -25,7 +25,7 @@ pub struct Shown<'a> {
     pub bytes: &'a [u8],
 }
 
-/// What an import or an export of that name brings, and the line's end.
+/// What is imported or exported under that name, and the end of the line.
 pub(crate) fn show_extern<W: fmt::Write>(
     f: &mut fmt::Formatter<W>,
     walk: &mut Walk,
@@ -166,7 +166,7 @@ fn show_section<W: fmt::Write>(
     }
 }
 
-// The sections of a component, at least so deep as it goes. The bytes are all of the file's.
+// The sections of a component, at least as deep as it goes. The bytes are all of the file's.
 fn show_parts<W: fmt::Write>(
     f: &mut fmt::Formatter<W>,
     walk: &mut Walk,

@@ -11,7 +11,8 @@ use Rattle.smith_c.specs.declared.limits.Limits.{Limits}
 use Rattle.smith_c.specs.declared.status.Status.{Status}
 use Rattle.smith_c.specs.declared.status.Status.TheVariants.{Answered, Refused, NoRoom, BadFlag, IllFormed, Unread, NoScript, NoSmaller}
 
--- These are the bytes of a component that is made of the input within the limits, and so many bytes of the input are left.
+-- These are the bytes of a component that is made of the input within the limits, and that many bytes of the input are
+-- left.
 pub record Makes (limits : Limits) (input bytes : List ℕ) (left : ℕ) : Type 0 where
   pub config : Config
   pub told : limits ≡ limits_of config

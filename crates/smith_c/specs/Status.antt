@@ -1,4 +1,4 @@
--- What a call answers in C.
+-- What a call returns in C.
 use Rattle.std.specs.Prelude.{ℕ, ℤ, pos}
 use Rattle.smith_input.specs.declared.error.Error.TheVariants.{InconsistentLimits, MinimumNotMet, ModuleRefused, TooLong, OutOfMemory, PartsDisagree}
 use Rattle.smith_c.specs.declared.status.Status.{Status}

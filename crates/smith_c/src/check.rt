@@ -19,7 +19,7 @@ use std::alloc::Global;
 /// Whether the bytes are a component that is well formed, as `check` of `smith_verdict` says.
 ///
 /// Returns the code of a `Status`: `Answered`, `IllFormed`, `Unread` or that of `OutOfMemory`. `offset` is that of the
-/// entry that breaks a rule, or the one at which it was seen that the bytes are no component, and else 2^64 - 1.
+/// entry that breaks a rule, or that at which the bytes were found not to be a component, and otherwise 2^64 - 1.
 #[unsafe(no_mangle)]
 pub extern "C" fn lupinanon_proved_check(alloc: Global, bytes: &[u8], offset: &mut usize) -> i32
     ensures well_formed { result ≡ code_of Answered

@@ -21,9 +21,9 @@ use std::alloc::Global;
 /// Makes a component of the input within the limits, as `generate` does, and writes its bytes to the front of the
 /// output.
 ///
-/// The answer is the code of a `Status`. Where the output has no room, `bytes_len` is how long the bytes are, and
-/// `left` how many bytes of the input are not used, as where the bytes are written. Else both are 0. The output is as
-/// it was unless the bytes are written, and after them it is as it was in any case.
+/// Returns the code of a `Status`. Where the output has no room, `bytes_len` is how long the bytes are, and `left` how
+/// many bytes of the input are not used, as when the bytes are written. Otherwise both are 0. The output is unchanged
+/// unless the bytes are written, and always unchanged after them.
 #[unsafe(no_mangle)]
 pub extern "C" fn lupinanon_proved_generate_into(
     alloc: Global,
@@ -47,7 +47,7 @@ pub extern "C" fn lupinanon_proved_generate_into(
         → Within config plan → input.now ≡ script config plan ++ rest
         → result ≡ code_of Answered → Spells plan (take bytes_len.new output.new) × (left.new ≡ length rest) }
 
-    // It is answered, memory and room aside.
+    // It is returned, unless memory or room runs out.
     ensures answers { (config : Config) (plan : Tree) (rest : List ℕ) → limits.now ≡ limits_of config
         → IsConsistent config → Within config plan → input.now ≡ script config plan ++ rest
         → (result ≡ code_of Answered) ⊎ (result ≡ code_of NoRoom) ⊎ (result ≡ code_of (Refused OutOfMemory)) }

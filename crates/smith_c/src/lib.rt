@@ -1,5 +1,5 @@
 //! Components from a fuzzer's bytes, for callers in C. `include/lupinanon.h` declares what is exported, and says what
-//! such a caller owes.
+//! such a caller must ensure.
 #![tactic(auto)]
 
 pub mod check;

@@ -38,7 +38,7 @@ pub struct Limits {
     pub finish_after: usize,
 }
 
-// Whether a feature is on. No byte but 0 and 1 says it.
+// Whether a feature is on. Only 0 and 1 are flags.
 fn flag(byte: u8) -> Option<bool>
     ensures told { IfSome result (λ on. byte ≡ byte_of on) }
     ensures untold { result ≡ None → (on : _) → byte ≢ byte_of on }
@@ -119,7 +119,7 @@ impl Limits {
     }
 }
 
-/// Writes the limits that hold where none are given.
+/// Writes the default limits.
 #[unsafe(no_mangle)]
 pub extern "C" fn lupinanon_proved_default_limits(limits: &mut Limits)
     ensures { (config : Config) → IsDefault config → limits.new ≡ limits_of config }

@@ -23,7 +23,8 @@ pub struct Made {
     pub left: usize,
 }
 
-/// What `generate` answers of the input within the limits. It stops as `generate` refuses, and where a byte is no flag.
+/// What `generate` returns for the input within the limits. It fails as `generate` does, and where a byte is not a
+/// flag.
 pub fn make(alloc: Global, limits: &Limits, input: &[u8]) -> Result<Made, Status>
     ensures made { IfOk result (λ m. Makes limits.now input.now m.bytes.items m.left) }
     ensures stops { IfErr result (Stops limits.now input.now) }

@@ -18,7 +18,7 @@ use smith_input::Error;
 use smith_reduce::{JoinError, ReduceError, Step, Wanted, joined, next_smaller, smaller, without};
 use std::alloc::Global;
 
-// A refusal to reduce as C has it.
+// A refusal to reduce, as C sees it.
 fn status_of(error: &ReduceError) -> Status
     ensures { result ≡ status_of error.now }
 {
@@ -90,9 +90,9 @@ fn removed(alloc: Global, bytes: &[u8], k: usize) -> Result<Vec<u8>, Status>
 /// Writes the `k`-th, from 0, of the components that are smaller by a step and can be generated within the limits to
 /// the front of the output, as `smaller` of `smith_reduce` counts them.
 ///
-/// The answer is the code of a `Status`: `NoSmaller` where there is no `k`-th. Where the output has no room,
-/// `smaller_len` is how long the component is, as where it is written, and else it is 0. The output is as it was unless
-/// the component is written, and after it in any case.
+/// Returns the code of a `Status`: `NoSmaller` where there is no `k`-th. Where the output has no room, `smaller_len` is
+/// how long the component is, as when it is written, and otherwise it is 0. The output is unchanged unless the
+/// component is written, and always unchanged after it.
 #[unsafe(no_mangle)]
 pub extern "C" fn lupinanon_proved_smaller(
     alloc: Global,
@@ -121,7 +121,7 @@ pub extern "C" fn lupinanon_proved_smaller(
 /// Writes the `k`-th, from 0, of the components that are smaller by a step and well formed to the front of the output,
 /// as `smaller` of `smith_reduce` counts them.
 ///
-/// The answer, `smaller_len` and the output are as of `lupinanon_proved_smaller`.
+/// The result, `smaller_len` and the output are as for `lupinanon_proved_smaller`.
 #[unsafe(no_mangle)]
 pub extern "C" fn lupinanon_proved_smaller_formed(
     alloc: Global,
@@ -149,10 +149,9 @@ pub extern "C" fn lupinanon_proved_smaller_formed(
 /// Finds the first step, from number `step` on, that leads to a component that can be generated within the limits, as
 /// `next_smaller` of `smith_reduce` does. It writes that component to the front of the output, and the step's number.
 ///
-/// The answer is the code of a `Status`: `NoSmaller` where there is no such step. Where the output has no room,
-/// `smaller_len` is how long the component is and `step` the number of its step, as where it is written. Otherwise
-/// `smaller_len` is 0, and `step` is as it was. The output is as it was unless the component is written, and always
-/// after it.
+/// Returns the code of a `Status`: `NoSmaller` where there is no such step. Where the output has no room, `smaller_len`
+/// is how long the component is and `step` the number of its step, as when it is written. Otherwise `smaller_len` is 0,
+/// and `step` is as it was. The output is unchanged unless the component is written, and always unchanged after it.
 #[unsafe(no_mangle)]
 pub extern "C" fn lupinanon_proved_next_smaller(
     alloc: Global,
@@ -185,7 +184,7 @@ pub extern "C" fn lupinanon_proved_next_smaller(
 /// Finds the first step, from number `step` on, that leads to a component that is well formed, as `next_smaller` of
 /// `smith_reduce` does. It writes that component to the front of the output, and the step's number.
 ///
-/// The answer, `smaller_len`, `step` and the output are as of `lupinanon_proved_next_smaller`.
+/// The result, `smaller_len`, `step` and the output are as for `lupinanon_proved_next_smaller`.
 #[unsafe(no_mangle)]
 pub extern "C" fn lupinanon_proved_next_smaller_formed(
     alloc: Global,
@@ -215,11 +214,11 @@ pub extern "C" fn lupinanon_proved_next_smaller_formed(
 }
 
 /// Writes the component without its `k`-th item, from 0, and without all that refers to it, to the front of the output,
-/// as `without` of `smith_edit` has it.
+/// as `without` of `smith_edit` defines.
 ///
-/// The answer is the code of a `Status`: `NoSmaller` where there is no `k`-th item. Where the output has no room,
-/// `less_len` is how long the component is, as where it is written, and else it is 0. The output is as it was unless
-/// the component is written, and after it in any case.
+/// Returns the code of a `Status`: `NoSmaller` where there is no `k`-th item. Where the output has no room, `less_len`
+/// is how long the component is, as when it is written, and otherwise it is 0. The output is unchanged unless the
+/// component is written, and always unchanged after it.
 #[unsafe(no_mangle)]
 pub extern "C" fn lupinanon_proved_without(
     alloc: Global,
@@ -244,7 +243,7 @@ pub extern "C" fn lupinanon_proved_without(
     }
 }
 
-// A refusal to join as C has it.
+// A refusal to join, as C sees it.
 fn status_of_join(error: &JoinError) -> Status
     ensures { result ≡ status_of_join error.now }
 {
@@ -255,11 +254,11 @@ fn status_of_join(error: &JoinError) -> Status
     }
 }
 
-/// Writes the two components, joined as `joined` of `smith_edit` has it, to the front of the output.
+/// Writes the two components, joined as `joined` of `smith_edit` does, to the front of the output.
 ///
-/// The answer is the code of a `Status`. Where the output has no room, `joined_len` is how long the component is, as
-/// where it is written, and else it is 0. The output is as it was unless the component is written, and after it in any
-/// case.
+/// Returns the code of a `Status`. Where the output has no room, `joined_len` is how long the component is, as when it
+/// is written, and otherwise it is 0. The output is unchanged unless the component is written, and always unchanged
+/// after it.
 #[unsafe(no_mangle)]
 pub extern "C" fn lupinanon_proved_join(
     alloc: Global,

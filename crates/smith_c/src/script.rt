@@ -26,7 +26,7 @@ struct Refusal {
     offset: usize,
 }
 
-// A refusal of `script` as C has it.
+// A refusal of `script`, as C sees it.
 fn refusal_of(error: &ScriptError) -> Refusal
     ensures status { result.status ≡ status_of error.now }
     ensures offset { result.offset ≡ offset_of error.now }
@@ -69,10 +69,10 @@ fn scripted(alloc: Global, limits: &Limits, bytes: &[u8]) -> Result<Vec<u8>, Ref
 /// Writes the script, within the limits, of the component that the bytes are to the front of the output: the input
 /// from which `generate` produces these bytes, and of which nothing is left.
 ///
-/// The answer is the code of a `Status`. Where the output has no room, `script_len` is how long the script is, as where
-/// it is written, and else it is 0. The output is as it was unless the script is written, and after it in any case.
-/// `offset` is that at which it was seen that the bytes are no component, or of the first byte in which what their
-/// script produces differs, so far as there is one, and else 2^64 - 1.
+/// Returns the code of a `Status`. Where the output has no room, `script_len` is how long the script is, as when it is
+/// written, and otherwise it is 0. The output is unchanged unless the script is written, and always unchanged after it.
+/// `offset` is that at which the bytes were found not to be a component, or that of the first byte in which what their
+/// script produces differs, if there is one, and otherwise 2^64 - 1.
 #[unsafe(no_mangle)]
 pub extern "C" fn lupinanon_proved_script_into(
     alloc: Global,
@@ -96,7 +96,7 @@ pub extern "C" fn lupinanon_proved_script_into(
     ensures limits { (config : Config) → limits.now ≡ limits_of config → ¬ IsConsistent config
         → result ≡ code_of (Refused InconsistentLimits) }
 
-    // A plan's bytes are answered, memory and room aside.
+    // A plan's bytes have a script, unless memory or room runs out.
     ensures plans { (config : Config) (plan : Tree) → limits.now ≡ limits_of config → IsConsistent config
         → Within config plan → Spells plan bytes.now
         → (result ≡ code_of Answered) ⊎ (result ≡ code_of NoRoom) ⊎ (result ≡ code_of (Refused OutOfMemory)) }

@@ -1,4 +1,4 @@
-//! What a call answers in C.
+//! What a call returns in C.
 
 ghost use Rattle.std.specs.Prelude.{◌≡◌};
 ghost use Rattle.smith_c.specs.Status.{code_of};
@@ -10,7 +10,7 @@ use smith_input::Error;
 pub enum Status {
     /// What was asked for is in the output; or the bytes are a component that is well formed.
     Answered,
-    /// No component is made of the input, or there is no memory for what was asked for.
+    /// No component is made of the input, or there is not enough memory for what was asked for.
     Refused(Error),
     /// The output has no room for what was asked for.
     NoRoom,
@@ -18,7 +18,7 @@ pub enum Status {
     BadFlag,
     /// The bytes are a component that is not well formed.
     IllFormed,
-    /// The bytes are no component of the grammar, or one whose scopes are nested too deep to be read.
+    /// The bytes are not a component of the grammar, or are one whose scopes are nested too deep to be read.
     Unread,
     /// The bytes are a component that is well formed, but no input produces it within the limits.
     NoScript,
@@ -28,9 +28,9 @@ pub enum Status {
 
 impl Status {
     /// Its number in C: 0 where the output has it or the bytes are well formed, 1 to 6 for the refusals in the order of
-    /// `Error`, 7 where there is no room, 8 for a byte that is no flag, 10 for a component that is not well formed, 11
-    /// for bytes that are none, 12 where there is no script, and 13 where
-    /// there is no smaller component. The header has 9 for arguments that no call may have.
+    /// `Error`, 7 where there is no room, 8 for a byte that is not a flag, 10 for a component that is not well formed,
+    /// 11 for bytes that are not a component, 12 where there is no script, and 13 where there is no smaller component.
+    /// The header has 9 for arguments that no call may have.
     pub fn code(&self) -> i32
         ensures { result ≡ code_of self.now }
     {

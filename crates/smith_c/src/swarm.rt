@@ -11,10 +11,10 @@ use crate::limits::Limits;
 use crate::status::Status;
 use smith_swarm::swarm_limits;
 
-/// Replaces those of the limits that the first bytes of the input say, as `swarm_limits` of `smith_swarm` does.
+/// Replaces those of the limits that the first bytes of the input encode, as `swarm_limits` of `smith_swarm` does.
 ///
-/// The answer is the code of a `Status`. `taken` is how many bytes of the input say limits. Where a byte of the limits
-/// is no flag they are as they were, and `taken` is 0.
+/// Returns the code of a `Status`. `taken` is how many bytes of the input encode limits. Where a byte of the limits is
+/// not a flag they are left as they were, and `taken` is 0.
 #[unsafe(no_mangle)]
 pub extern "C" fn lupinanon_proved_swarm_limits(
     limits: &mut Limits,

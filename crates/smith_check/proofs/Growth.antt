@@ -1,4 +1,4 @@
--- A component with one part more.
+-- A component with one more part.
 use Rattle.std.proofs.Common.{◌≡◌, List, ◌++◌, fold, refl, sym, ap, ◌∙◌, append-nil, append_assoc}
 use Rattle.smith_tree.specs.Spaces.{Spaces, after_part, no_spaces, spaces_of}
 use Rattle.smith_tree.specs.Tree.{Part, Tree, add, ends, first, own, parts_of}

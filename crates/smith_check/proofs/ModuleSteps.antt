@@ -28,7 +28,7 @@ use Rattle.smith_check.proofs.Judging.{Same, judged_by, on_by, same_by}
 use Rattle.smith_check.proofs.NameSteps.{distinct_last, distinct_push}
 use Rattle.smith_check.proofs.NewNames.{distinct_new, new_distinct, new_front, none_before}
 
--- one declaration more
+-- one more declaration
 
 snoc_flat : {A : Type 0} (f : ModuleDecl → List A) (ds : List ModuleDecl) (d : ModuleDecl) → flat_map f (ds ++ d ∷ []) ≡ flat_map f ds ++ f d
 snoc_flat f ds d = flat_map-append f ds (d ∷ []) ∙ ap (λ xs. flat_map f ds ++ xs) (append-nil (f d))
@@ -50,7 +50,7 @@ exported_append : (ds es : List ModuleDecl) → module_export_names (ds ++ es) �
 exported_append ds es =
     ap (map (λ x. x.0)) (flat_map-append module_export_of ds es) ∙ map-append (λ x. x.0) (flat_map module_export_of ds) (flat_map module_export_of es)
 
--- an import of one name more, or of none from there
+-- an import of one more name, or of none from there
 more_from : (m n from : List ℕ) (e : EntityType) (ds : List ModuleDecl)
     → names_from from (ds ++ imports m n e ∷ []) ≡ names_from from ds ++ map (λ (i : CoreImport). i.1) (if bytes_eq m from then (m, n, e) ∷ [] else [])
 more_from m n from e ds = names_append from ds (imports m n e ∷ [])

@@ -25,7 +25,7 @@ cond_or : (b x : Bool) → cond b true x ≡ (b || x)
 cond_or true x = refl
 cond_or false x = refl
 
--- the set with one name more
+-- the set with one more name
 pub holds_more : (s n : BTreeSet (Bor (List ℕ))) (k : Bor (List ℕ)) (before : List (List ℕ)) → Holds (record { set = s }) before
     → Updates (λ x y. slice_cmp nat_cmp x.now y.now) s n k true → Holds (record { set = n }) (before ++ k.now ∷ [])
 holds_more s n k before h u = record {

@@ -19,7 +19,7 @@ use Rattle.smith_check.specs.declared.open.Open.{Open}
 use Rattle.smith_check.proofs.Growth.{own-add, spaces-add}
 use Rattle.smith_check.proofs.Judging.{Same, same_by}
 
--- lists with one part more
+-- lists with one more part
 
 import_names-add : (t : Tree) (p : Part) → import_names (imports_of (add t p)) ≡ import_names (imports_of t) ++ import_names (imports_in p)
 import_names-add t p = ap import_names (own-add imports_in t p) ∙ map-append (λ i. i.name) (imports_of t) (imports_in p)

@@ -12,7 +12,7 @@ use Rattle.smith_check.proofs.Judging.{Same, same_by}
 use Rattle.smith_read_scopes.proofs.Lists.{head_same}
 use Rattle.smith_check.proofs.TypeSteps.{named_front, names_more}
 
--- the item at an index, whatever it is without one
+-- the item at an index, whatever is used where there is none
 pub some_item : {A : Type 0} (xs : List A) (i : ℕ) (x y : A) → i < length xs → get_or xs i x ≡ get_or xs i y
 some_item xs i x y h = head_same _ _ _ _ (sym (drop_more xs i x h) ∙ drop_more xs i y h)
 

@@ -58,7 +58,7 @@ named_front xs ys n = (
 )
 
 module _ {A : Type 0} (text : A → List ℕ) (xs : List A) (i : ℕ) where
-  -- one name more of a list
+  -- one more name of a list
   pub named_upto : (x : A) → i < length xs → x ≡ get_or xs i x → Named (map text xs) → Named (map text (take i xs) ++ text x ∷ [])
   named_upto x h e n =
       let one : map text (take (i + 1) xs) ≡ map text (take i xs) ++ text x ∷ [] =
@@ -117,7 +117,7 @@ pub named_none : (xs : List (List ℕ × Unit {0})) → xs ≡ [] → Named (nam
 unfolding IsDistinct
 named_none xs e = subst (λ (ys : List (List ℕ × Unit {0})). Named (names ys)) (sym e) (tt, tt)
 
--- the names of declarations, and one declaration more
+-- the names of declarations, and one more declaration
 
 pub imports_push : (ds : List DeclNode) (d : DeclNode) → imported (ds ++ d ∷ []) ≡ imported ds ++ names (import_of (shown_decl_node d))
 imports_push [] d = ap names (append-nil (import_of (shown_decl_node d)))

@@ -101,7 +101,7 @@ pub enum Judgement {
 /// Why a check stops.
 #[derive(Clone, Copy, Debug)]
 pub(crate) enum Stop {
-    /// A growth was refused.
+    /// An allocation failed.
     OutOfMemory,
     /// A rule is broken.
     IllFormed(Rule),

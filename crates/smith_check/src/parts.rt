@@ -76,8 +76,8 @@ fn check_parts<'a>(
 }
 
 /// Judges whether a component is well formed: `WellFormed` exactly where it is, and `IllFormed` exactly where it is
-/// not, with the first rule that it breaks and the place. An error is returned only where a growth was refused, and
-/// says nothing of the component.
+/// not, with the first rule that it breaks and the place. An error is returned only where an allocation failed, and
+/// says nothing about the component.
 ///
 /// Each entry is looked at once. The stack is bounded by how deep components and types nest.
 pub fn judged(alloc: Global, component: &ComponentTree) -> Result<Judgement, AllocError>

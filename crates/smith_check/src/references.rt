@@ -42,7 +42,7 @@ pub(crate) fn check_reference(scopes: &Scopes<'_>, to: ComponentTypeRef) -> Chec
     }
 }
 
-/// Checks what an import is of, which is no type that is equal to another.
+/// Checks what an import is of, which is not a type that is equal to another.
 pub(crate) fn check_imported(scopes: &Scopes<'_>, to: ComponentTypeRef) -> Checked
     ensures { Judges result (FormedRef (own_in scopes.now) to × (is_type_eq to ≡ false)) }
 {

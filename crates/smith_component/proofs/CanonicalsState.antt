@@ -60,7 +60,7 @@ use Rattle.smith_component.proofs.Growth.{spaces-add, spaces_canon}
 use Rattle.smith_component.proofs.Spaces.{IsScalarFunction, all_at, equal_at, equal_own, exports_canons, exports_types}
 use Rattle.smith_component.proofs.Tables.{scalar_at, tabled_core_function, tabled_function, tabled_quiet, tabled_types}
 
--- one function more in the section
+-- one more function in the section
 pub funcs_more : (old new : List Func) (f : Func) → new ≡ old ++ f ∷ [] → map shown_canon new ≡ map shown_canon old ++ shown_canon f ∷ []
 funcs_more old new f e = ap (map shown_canon) e ∙ map-append shown_canon old (f ∷ [])
 
@@ -75,7 +75,7 @@ growing_more old new fs gs f e more =
 exports_canon : (s : Growing) (c : Canon) → exports_of (grown (with_canon s c)) ≡ exports_of (grown s)
 exports_canon s c = exports_canons s.before (s.funcs ++ c ∷ []) ∙ sym (exports_canons s.before s.funcs)
 
--- The tables, where the section has one function more.
+-- The tables, where the section has one more function.
 
 tabled_lower : {old new : Tables} (s : Growing) (f : ℕ) → IsScalarFunction (spaces_at s) f → Tabled old (grown s) → AddsCoreFunction old f new
     → Tabled new (grown (with_canon s (lower f)))
@@ -98,7 +98,7 @@ tabled_signature s signature tabled =
     tabled_types (grown s) (grown (with_signature s signature)) es tabled (ap (λ z. z.types) e) (ap (λ z. z.functions) e) (ap (λ z. z.core_functions) e)
     (signature_count s signature) (exports_canons (add (grown s) (types es)) [] ∙ exports_types (grown s) es)
 
--- What is kept of the component, where the section has one function more, and where a type and another section follow it.
+-- What is kept of the component, where the section has one more function, and where a type and another section follow it.
 module _ (config : Config) (around : List Tree) where
   marked_section : (s : Growing) → marked_inner config around (grown s) ≡ marked_inner config around s.before
   marked_section s = marked_add config (marked_in config around) s.before (canons s.funcs)
@@ -202,7 +202,7 @@ module _ (scopes : List Contents) (tables : Tables) (c i t : ℕ) (known : IsLow
       pub lowered_scalar : is_scalar f.value ≡ true
       lowered_scalar = ap is_scalar lowered_is ∙ known.2
 
-      -- It is read how the core function is lifted.
+      -- How the core function is lifted is read.
       pub lifts_as : (core : Function) (lowered signature : Signature) (b rest : List ℕ) → lowered ≡ f.value → Flattens lowered core
           → ReadsLiftedType core b signature rest → ReadsLiftedTypeOf (own_scope scopes) tables c b signature rest
       lifts_as core lowered signature b rest e flat reads = record {
@@ -414,7 +414,7 @@ all_read config least most t first next b rest e m (turns, l) last is =
     let Q : ℕ → Type 0 = λ n. Loop NoCanon (CanonTurn config) least n 0 (empty_section t) b turns rest next in
     (turns, next, subst Q m (subst P e l), is)
 
--- What stood in front stays in front.
+-- What was in front stays in front.
 
 pub front_same : (old new : OpenComponent) → new.sections.items ≡ old.sections.items → new.tables.imports ≡ old.tables.imports → KeepsFront old new
 front_same old new e names = record { more = []; sections = e ∙ sym (append-nil old.sections.items); no_imports = refl; names = names }
@@ -432,7 +432,7 @@ pub front_push : (old mid new : OpenComponent) (section : Section) → KeepsFron
 front_push old mid new section f e none names =
     front_then old mid new f (record { more = section ∷ []; sections = e; no_imports = ap (λ xs. xs ++ []) none; names = names })
 
--- A draft that goes on, and on again.
+-- A draft that continues, and continues again.
 
 pub drafts_none : (d : CanonicalDraft) → DraftsOn d d
 drafts_none d = record {

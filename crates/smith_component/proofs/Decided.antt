@@ -1,4 +1,4 @@
--- The input decides a run: what a turn does, and what it leaves; so that no run goes on where another is refused.
+-- The input decides a run: what a turn does, and what it leaves; so that no run continues where another is refused.
 use Rattle.std.proofs.Common.{◌≡◌, ℕ, zero, suc, List, length, sym, ap, ◌∙◌, subst, arith, inl, inr}
 use Rattle.smith_input.specs.Choices.{ReadsAmong}
 use Rattle.smith_input.proofs.Choices.{among_same}
@@ -69,7 +69,7 @@ module _ {config : Config} {stack : Open} {b : List ℕ} where
       fill_then counted.Functions config stack f.imported g.imported f.low g.low full other r q (filled_imports f.types f.imports g.types g.imports) f.functions
       g.functions
 
-  -- What can be filled lacks nothing.
+  -- Nothing is missing of what can be filled.
   pub fills_lack : {full : Tree} {r rest : List ℕ} → FillsAll config stack b full r → Lacks config stack b rest → ⊥
   fills_lack f (of_imports t i less) = let e = filled_imports t i f.types f.imports in
       omega (arith, less, f.enough_imports, ap (λ z. length (imports_of z)) e.0)
@@ -77,7 +77,7 @@ module _ {config : Config} {stack : Open} {b : List ℕ} where
       let e = fill_then counted.Functions config stack imported f.imported low f.low other full rest r (filled_imports t i f.types f.imports) g f.functions in
       omega (arith, less, f.enough_functions, ap (λ z. function_count z) e.0)
 
-  -- What lacks something is left the same.
+  -- What is missing something is left the same.
   pub lacks_same : {r q : List ℕ} → Lacks config stack b r → Lacks config stack b q → r ≡ q
   lacks_same (of_imports t i less) (of_imports s j few) = (filled_imports t i s j).1
   lacks_same (of_imports t i less) (of_functions s j enough g few) =
@@ -154,7 +154,7 @@ runs_along (suc k) config (building now) left stack left2 c r zero t s = absurd 
 runs_along (suc k) config (building now) left stack left2 c r (suc j) (mid, left1, one, more) (next, left3, other, rest) =
     runs_along k config mid left1 stack left2 c r j more (moves config next mid left3 left1 (answered c) r j (turn_same other one) rest)
 
--- Two runs to an answer lead to the same.
+-- Two runs to a result lead to the same one.
 pub runs_same : (k : ℕ) (config : Config) (now : Next) (left : List ℕ) (a c : Tree) (b r : List ℕ) (j : ℕ) → Turns config now left (answered a) b k
     → Turns config now left (answered c) r j → (a ≡ c) × (b ≡ r)
 runs_same zero config (building now) left a c b r j t s = absurd (let e : answered a ≡ building now = t.0 in cc)
@@ -168,7 +168,7 @@ runs_same (suc k) config (building now) left a c b r (suc j) (mid, left1, one, m
 pub runs_to_same : (config : Config) (input : List ℕ) (a c : Tree) (b r : List ℕ) → RunsTo config input a b → RunsTo config input c r → (a ≡ c) × (b ≡ r)
 runs_to_same config input a c b r x y = runs_same x.turns config (building root) input a c b r y.turns x.run y.run
 
--- A run goes on from nowhere that a turn is refused.
+-- No run continues from where a turn is refused.
 
 pub lacks_no_turn : {config : Config} {stack : Open} {left q : List ℕ} {next : Next} {rest : List ℕ} → LacksAt config q stack left
     → Turn config stack left next rest → ⊥

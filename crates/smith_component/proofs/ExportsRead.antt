@@ -66,7 +66,7 @@ module _ (config : Config) (outer : List Tree) (t : Tree) where
         next_is = refl;
       })
 
-  -- No more functions stand there than are counted and exported.
+  -- No more functions are there than are counted and exported.
   few_functions : (s : List ExportEntry) → function_count t + (length (exports_of t) + length s) ≤ 2 ^ 64
       → length (functions_of (with_exports t s)) ≤ 2 ^ 64
   few_functions s h =

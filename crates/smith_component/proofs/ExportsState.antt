@@ -43,7 +43,7 @@ pub known_more : {own : Scope} {more : ℕ} {old new : Tables} {ty : ℕ} → ty
 known_more {own} {more} {old} {new} {ty} known adds all =
     subst (AllByRecursion (λ t. t < length own.types)) (sym adds.functions) (all_both (λ t. t < length own.types) old.functions.items (ty ∷ []) all (known, tt))
 
--- A function that stands is of a type that is there.
+-- A function that is there is of a type that is there.
 pub known_at : (own : Scope) (tables : Tables) (f ty : ℕ) → IsKnown own tables → f < length tables.functions.items
     → ty ≡ get_or tables.functions.items f ty → ty < length own.types
 known_at own tables f ty known below at =
@@ -80,7 +80,7 @@ module _ (config : Config) (outer : List Tree) (t : Tree) (es : List ExportEntry
   pub no_room : has_room own false ≡ false → export_functions config outer t es ≡ []
   no_room full = ap (λ b. if b then functions_of now else []) (ap (λ m. has_room m false) (sym h.scope_is) ∙ full)
 
-  -- An export is read of what stands there.
+  -- An export is read of what is there.
   pub export_is_read : has_room own false ≡ true → (n : ℕ) (b mid rest : List ℕ) (set : BTreeSet (String Global)) (x : Export)
       → n ≡ length tables.functions.items
       → Reads n b x.func_index mid

@@ -1,4 +1,4 @@
--- What is filled: nothing where nothing lacks, and all that lacks where it can be.
+-- What is filled: nothing where nothing is missing, and all that is missing where it can be.
 use Rattle.std.proofs.Common.{◌≡◌, ℕ, ◌+◌, ◌-◌, ◌*◌, ◌<◌, ◌≤◌, true, List, fold, length, arith, sym, ap, ◌∙◌, subst, inl, inr}
 use Rattle.std.specs.List.{AllByRecursion}
 use Rattle.smith_format.specs.Consistency.{IsConsistent}
@@ -33,7 +33,7 @@ fill_none what config stack b t rest few (inl (h, e, l)) = (e, l)
 fill_none what config stack b t rest few (inr (lacks, a)) = absurd (omega (arith, few, lacks))
 
 module _ (config : Config) where
-  -- types and imports, where neither lack
+  -- types and imports, where neither is missing
   neither : (stack : Open) (b : List ℕ) (typed : Tree) (mid : List ℕ) (imported : Tree) (low : List ℕ) → config.min_types ≤ length (types_of stack.inner)
       → config.min_imports ≤ length (imports_of stack.inner)
       → Fills counted.Types config stack b typed mid → Fills counted.Imports config (with_inner stack typed) mid imported low
@@ -52,7 +52,7 @@ record IsTyped (config : Config) (outer : List Tree) (old new : Tree) : Type 0 w
   size : (marked_inner config outer new).size ≡ (marked_inner config outer old).size
   cores : (marked_inner config outer new).core_sizes ≡ (marked_inner config outer old).core_sizes
 
--- Imports that are filled add functions alone.
+-- Imports that are filled add only functions.
 record IsImported (old new : Tree) : Type 0 where
   imports : length (imports_of old) ≤ length (imports_of new)
   functions : function_count old ≤ function_count new
@@ -95,7 +95,7 @@ module _ (config : Config) where
       { imports = omega (arith, ap (λ t. length (imports_of t)) e); functions = omega (arith, ap (λ t. function_count t) e) }
   imported_is stack b imported low (inr (lacks, (is, reads, e))) = with_imports stack.inner imported is e
 
-  -- Imports that are enough lack nowhere.
+  -- Where there are enough imports, none is missing.
   enough_imports : (stack : Open) (b : List ℕ) (typed : Tree) (mid : List ℕ) (imported : Tree) (low : List ℕ)
       → config.min_imports ≤ length (imports_of stack.inner)
       → Fills counted.Types config stack b typed mid → Fills counted.Imports config (with_inner stack typed) mid imported low
@@ -139,7 +139,7 @@ filled_functions config stack b full rest consistent grounded some room (inr (la
     room in
     omega (arith, enough, less, ap (λ t. function_count t) e)
 
--- Nothing lacks where it can be filled.
+-- Nothing is missing where it can be filled.
 pub filled_surely : (config : Config) (stack : Open) (b rest : List ℕ) → Sound config stack → IsGrounded stack.inner
     → CanFill config stack.outer stack.inner → Lacks config stack b rest → ⊥
 filled_surely config stack b rest sound grounded (inl enough) (of_imports {typed} {imported} {mid} ts is less) =

@@ -1,4 +1,4 @@
--- What filling gives, and builders that follow one another.
+-- What filling produces, and builders that follow one another.
 use Rattle.std.proofs.Common.{◌≡◌, ℕ, ◌-◌, ◌≤◌, List, [], ◌∷◌, ◌++◌, length, map, arith, ap, sym, subst, ◌∙◌, inl, inr, append_assoc, length-append, Result}
 use Rattle.std.proofs.Common.{IfErr}
 use Rattle.std.proofs.lemmas.Result.{err_from_is_err_and}
@@ -31,7 +31,7 @@ refused r e P h p =
     let s = err_from_is_err_and r h in
     subst (λ x. IfErr x P) (sym s.1) (subst P (sym s.2) p)
 
--- Sections more, and more again.
+-- More sections, and more again.
 pub adds_trans : {a b c : Building} → AddsSections a b → AddsSections b c → AddsSections a c
 adds_trans {a} {b} {c} f g = record {
   more = f.more ++ g.more;

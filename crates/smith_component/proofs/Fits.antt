@@ -27,7 +27,7 @@ pub fits_of : (config : Config) (t : Tree) → OwnLimits config t → Fits confi
 fits_of config t o =
     record { types = o.types; core_types = o.core_types; within_types = o.within_types; within_core_types = o.within_core_types }
 
--- What stands after the last part of a component fits.
+-- What is after the last part of a component fits.
 pub fits_behind : (config : Config) (t : Tree) (p : Part) → OwnLimits config (add t p) → Fits config (after_part (spaces_of t) p)
 fits_behind config t p o = subst (Fits config) (spaces-add t p) (fits_of config (add t p) o)
 

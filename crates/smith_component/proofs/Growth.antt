@@ -1,4 +1,4 @@
--- How index spaces grow: what stands in them stays where it is.
+-- How index spaces grow: what is in them stays where it is.
 use Rattle.std.proofs.Common.{◌≡◌, ℕ, ◌+◌, ◌≤◌, List, [], ◌∷◌, ◌++◌, fold, length, refl, sym, ap, ◌∙◌, subst, arith, append-nil, append_assoc, length-append}
 use Rattle.std.specs.List.{AllByRecursion, flat_map}
 use Rattle.std.specs.Option.{option_to_list}
@@ -19,24 +19,24 @@ behind-add : (s : Spaces) (t : Tree) (p : Part) → fold after_part s (parts_of 
 behind-add s ends p = refl
 behind-add s (first q t) p = behind-add (after_part s q) t p
 
--- The spaces of a component with a part more are those after that part.
+-- The spaces of a component with one more part are those after that part.
 pub spaces-add : (t : Tree) (p : Part) → spaces_of (add t p) ≡ after_part (spaces_of t) p
 spaces-add t p = behind-add no_spaces t p
 
--- one canonical function more in its section
+-- one more canonical function in its section
 pub spaces_canon : (t : Tree) (cs : List Canon) (c : Canon) → spaces_of (add t (canons (cs ++ c ∷ []))) ≡ after_canon (spaces_of (add t (canons cs))) c
 spaces_canon t cs c =
     spaces-add t (canons (cs ++ c ∷ []))
     ∙ (fold-append after_canon (spaces_of t) cs (c ∷ []) ∙ ap (λ s. after_canon s c) (sym (spaces-add t (canons cs))))
 
--- one import more
+-- one more import
 pub spaces_import : (t : Tree) (is : List ImportEntry) (i : ImportEntry)
     → spaces_of (add t (imports (is ++ i ∷ []))) ≡ after_import (spaces_of (add t (imports is))) i
 spaces_import t is i =
     spaces-add t (imports (is ++ i ∷ []))
     ∙ (fold-append after_import (spaces_of t) is (i ∷ []) ∙ ap (λ s. after_import s i) (sym (spaces-add t (imports is))))
 
--- one export more
+-- one more export
 pub spaces_export : (t : Tree) (es : List ExportEntry) (e : ExportEntry)
     → spaces_of (add t (exports (es ++ e ∷ []))) ≡ after_export (spaces_of (add t (exports es))) e
 spaces_export t es e =
@@ -63,7 +63,7 @@ functions_imported s (i ∷ is) = omega (
   length-append (function_of i.to) (flat_map (λ (i : ImportEntry). function_of i.to) is),
 )
 
--- Between two places so many functions are counted, and so many exported.
+-- Between two places that many functions are counted, and that many exported.
 pub record Counts (s u : Spaces) (counted exported : ℕ) : Type 0 where
   pub least : functions_at s + counted ≤ functions_at u
   pub most : functions_at u ≤ functions_at s + (counted + exported)
@@ -101,7 +101,7 @@ parts_count s (first p t) =
       most = omega (arith, one.most, more.most, imported, canonical, exported);
     }
 
--- All functions that are counted stand in the index spaces, and beside them only those that are exported.
+-- All functions that are counted are in the index spaces, and beside them only those that are exported.
 pub functions_counted : (t : Tree) → Counts no_spaces (spaces_of t) (function_count t) (length (exports_of t))
 functions_counted t = parts_count no_spaces t
 
@@ -167,7 +167,7 @@ types_past P t p h new = subst (λ (s : Spaces). AllByRecursion P s.types) (sym 
     by_part (imports is) more = subst (AllByRecursion P) (sym (imports_keep (spaces_of t) is).types) h
     by_part (exports es) more = subst (AllByRecursion P) (sym (exports_keep (spaces_of t) es).types) h
 
--- Some list stands at the beginning of another.
+-- Some list is the beginning of another.
 
 abbrev pub IsPrefix : {A : Type 0} → List A → List A → Type 0
 IsPrefix {A} xs ys = (more : List A) × (ys ≡ xs ++ more)
@@ -178,7 +178,7 @@ prefix_same xs = ([], sym (append-nil xs))
 prefix_then : {A : Type 0} (xs ys zs : List A) → IsPrefix xs ys → IsPrefix ys zs → IsPrefix xs zs
 prefix_then xs ys zs (a, e) (b, f) = (a ++ b, f ∙ (ap (λ l. l ++ b) e ∙ append_assoc xs a b))
 
--- All that stands stays where it is, and more may come after it.
+-- All that is there stays where it is, and more may follow it.
 pub record Extends (s u : Spaces) : Type 0 where
   pub types : IsPrefix s.types u.types
   pub core_types : IsPrefix s.core_types u.core_types

@@ -1,4 +1,4 @@
--- The bytes decide an import section, but for its URLs, and what it leaves.
+-- The bytes decide an import section, except for its URLs, and what it leaves.
 use Rattle.std.proofs.Common.{◌≡◌, ℕ, true, false, List, [], ◌∷◌, ◌++◌, sym, ap, ◌∙◌, subst, Option}
 use Rattle.smith_input.proofs.Choices.{among_none}
 use Rattle.smith_input.specs.Names.{ReadsNew}

@@ -86,7 +86,7 @@ import_room config own totals b r rest h = subst (RefRoom config totals) (sym h.
           ),
         ) h.choice.place h.kind (offered_where (has_room own false) (kinds_offered config own totals true false) h.choice.place h.kind h.choice.named)
 
--- What is counted of imports, with one import more.
+-- What is counted of imports, with one more import.
 module _ (stack : Open) (s : List ImportEntry) (x : ImportEntry) where
   abbrev more : List ImportEntry
   more = s ++ x ∷ []
@@ -127,7 +127,7 @@ module _ (config : Config) (stack : Open) (s : List ImportEntry) where
       scope_marked config (marked_in config stack.outer) (add stack.inner (imports s))
       ∙ scope_bare stack.inner (imports s) (imports_keep (spaces_of stack.inner) s)
 
--- one import more
+-- one more import
 pub imports_marked_more : (config : Config) (stack : Open) (s : List ImportEntry) (x : ImportEntry)
     → marked_with_imports config stack (s ++ x ∷ []) ≡ with_import (marked_with_imports config stack s) x.to
 imports_marked_more config stack s x =

@@ -65,7 +65,7 @@ grows b scopes totals inner more i items sound own outer depth totalled tabled =
 pub grows_trans : {a b c : Progress} → Grows a b → Grows b c → Grows a c
 grows_trans f g = record { sound = g.sound; keeps = g.keeps ∙ f.keeps; sections = adds_trans f.sections g.sections }
 
--- a section more, as a part
+-- one more section, as a part
 pub part_added : (old new : Progress) (s : Section) → GrowsBy s old new → building (stack_of new) ≡ with_part (stack_of old) (shown_section s)
 part_added old new s g =
     still_building (building_of old) (building_of new) g.grows.sections

@@ -106,7 +106,7 @@ module _ (config : Config) where
   part_small (imports is) s outer own e k l small = all_keep SmallCores with_import_entry (λ o x h. h) own is small
   part_small (exports es) s outer own e k l small = exports_kept SmallCores (λ o r h. h) es s own small
 
-  -- what stands before parts is within the limits, if all is
+  -- what is before parts is within the limits, if all is
   front_limits : (t : Tree) (s : Spaces) → AllByRecursion (CoreLimits config) (fold after_part s (parts_of t)).core_types
       → AllByRecursion (CoreLimits config) s.core_types
   front_limits ends s h = h

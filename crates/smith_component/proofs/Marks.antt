@@ -26,7 +26,7 @@ module _ (config : Config) (outer : List Tree) (t : Tree) where
   pub marked_core_types : (marked_inner config outer t).core_types ≡ core_types_of t
   marked_core_types = ap (λ s. s.core_types) (scope_marked config (marked_in config outer) t)
 
-  -- No more stand in it than a choice can be spelled of.
+  -- It has no more entries than a choice can be spelled of.
   pub marked_few : length (types_of t) + length (core_types_of t) ≤ 2 ^ 64 → IsFew (marked_inner config outer t)
   marked_few few = omega (arith, few, ap length marked_types, ap length marked_core_types)
 
@@ -61,7 +61,7 @@ module _ (config : Config) (outer : List Tree) (t : Tree) (es : List ExportEntry
   pub exports_marked : marked_inner config outer (with_exports t es) ≡ with_export_entries es (spaces_of t) (marked_inner config outer t)
   exports_marked = marked_add config (marked_in config outer) t (exports es)
 
--- one export more
+-- one more export
 pub exports_marked_more : (config : Config) (outer : List Tree) (t : Tree) (es : List ExportEntry) (x : ExportEntry)
     → marked_inner config outer (with_exports t (es ++ x ∷ []))
     ≡ with_exports_entry (marked_inner config outer (with_exports t es)) (exported_reference (functions_of (with_exports t es)) x)
@@ -70,7 +70,7 @@ exports_marked_more config outer t es x =
     ∙ (entries_more es x (spaces_of t) (marked_inner config outer t)
     ∙ (λ i. with_exports_entry (sym (exports_marked config outer t es) i) (exported_reference (sym (spaces-add t (exports es)) i).functions x)))
 
--- What is offered of the rest of a component, where these components are open around it and these parts stand before it.
+-- What is offered of the rest of a component, where these components are open around it and these parts precede it.
 abbrev pub OfferedRest : Config → List Tree → Tree → Tree → Type 0
 OfferedRest config outer before t = OfferedParts t config (spaces_of before) (marked_in config outer) (marked_inner config outer before)
 

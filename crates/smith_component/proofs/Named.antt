@@ -31,7 +31,7 @@ named_more ns n h kebab new = (
   new_distinct [] (ns ++ n ∷ []) (new_more [] ns n (distinct_new [] ns (none_before ns) h.1) new),
 )
 
--- Entries with names, after those that stand before them.
+-- Entries with names, after those that precede them.
 module _ {A : Type 0} (name : A → List ℕ) (before : List A) where
   -- the names of them all
   abbrev pub names_with : List A → List (List ℕ)
@@ -116,7 +116,7 @@ module _ {A : Type 0} (name : A → List ℕ) (f : Part → List A) where
         let g = formed_inner stack.outer [] stack.inner s.formed in
         named_parts stack.inner g.0 ends g.1 (tt, tt)
 
--- A part keeps the names of imports in kebab case and apart from one another.
+-- A part keeps the names of imports in kebab case and distinct.
 import_names_kept : (q : Part) (outer : List Scope) (before : Tree) → FormedPart q outer before → IsNamed (λ i. i.name) imports_in before
     → IsNamed (λ i. i.name) imports_in (add before q)
 import_names_kept (custom n c) outer before g h = quiet_named _ imports_in before (custom n c) refl h
@@ -128,7 +128,7 @@ import_names_kept (canons fs) outer before g h = quiet_named _ imports_in before
 import_names_kept (imports is) outer before g h = subst (λ z. Named (import_names z)) (sym (own-add imports_in before (imports is))) g.1
 import_names_kept (exports es) outer before g h = quiet_named _ imports_in before (exports es) refl h
 
--- A part keeps the names of exports in kebab case and apart from one another.
+-- A part keeps the names of exports in kebab case and distinct.
 export_names_kept : (q : Part) (outer : List Scope) (before : Tree) → FormedPart q outer before → IsNamed (λ e. e.name) exports_in before
     → IsNamed (λ e. e.name) exports_in (add before q)
 export_names_kept (custom n c) outer before g h = quiet_named _ exports_in before (custom n c) refl h

@@ -1,4 +1,4 @@
--- The script of a part of a plan is read as that part, and a component that lacks nothing is finished as it is.
+-- The script of a part of a plan is read as that part, and a component that is missing nothing is finished as it is.
 use Rattle.std.proofs.Common.{◌≡◌, ℕ, suc, ◌+◌, ◌-◌, ◌≤◌, ◌^◌, List, [], ◌∷◌, ◌++◌, map, length, arith, refl, sym, ap, subst, inl, append_assoc}
 use Rattle.std.proofs.Common.{length-append}
 use Rattle.std.specs.List.{AllByRecursion}
@@ -51,7 +51,7 @@ use Rattle.smith_core.proofs.StandInTold.{stand_in_told}
 use Rattle.smith_component.proofs.Tree.{all_of, anywhere-add, depth-outer, function_count-add, own-add, length-own-add}
 use Rattle.smith_scopes.proofs.Plain.{all_back}
 
--- nothing is filled where nothing lacks
+-- nothing is filled where nothing is missing
 pub fills_nothing : (config : Config) (stack : Open) (b : List ℕ) → Minima config stack.inner → FillsAll config stack b stack.inner b
 fills_nothing config stack b m = record {
   typed = stack.inner;
@@ -71,7 +71,7 @@ custom_read name contents rest utf8 short =
     subst (λ z. ReadsCustom z name contents rest) (sym (append_assoc (script_text 1000 name) (script_bytes contents) rest))
     (script_bytes contents ++ rest, text_read 1000 name (script_bytes contents ++ rest) (omega arith) utf8 short, bytes_read contents rest)
 
--- No more stand in the scope of each component around a place than a choice can be spelled of, and they are few.
+-- The scope of each component around a place has no more entries than a choice can be spelled of, and they are few.
 pub record Around (config : Config) (outer : List Tree) : Type 0 where
   pub few : AllByRecursion IsFew (marked_in config outer)
   pub shallow : suc (length outer) ≤ 1000
@@ -93,7 +93,7 @@ around : (config : Config) → IsConsistent config → (outer : List Tree) (t : 
 around config consistent outer t m =
     record { few = few_around config consistent outer t [] tt m.each; shallow = omega (arith, m.depth, depth-outer no_depth outer t, consistent.nesting) }
 
--- The script of a part is read as that part, whatever follows.
+-- The script of a part is read as that part, regardless of what follows.
 module _ (config : Config) (stack : Open) (rest : List ℕ) where
   abbrev pub IsRead : Part → Type 0
   IsRead p =
@@ -146,7 +146,7 @@ module _ (config : Config) (stack : Open) (rest : List ℕ) where
       )) in
       (add stack.inner (types ts), (ts, _, read, refl), refl)
 
-  -- The text tells the module that it is of.
+  -- The text determines the module that it is of.
   pub module_part : (text : List ℕ) → IsRead (core_module text)
   module_part text readable (s, is, e) formed offered limits =
       let told : stand_in_of text ≡ s = stand_in_told config s text is e in
@@ -191,7 +191,7 @@ module _ (config : Config) (stack : Open) (rest : List ℕ) where
       (omega (arith, most, before.functions, consistent.funcs)) in
       (es, read, refl)
 
--- The types of a plan can be said after one part more.
+-- The types of a plan can be said after one more part.
 pub spoken_past : (config : Config) (p : Part) (outer : List Scope) (before : Tree) → IsReadablePart config p before → FormedPart p outer before
     → AllByRecursion Spoken (types_of before) → AllByRecursion Spoken (types_of (add before p))
 spoken_past config p outer before readable formed h =

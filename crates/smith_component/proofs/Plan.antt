@@ -1,4 +1,4 @@
--- What types and core modules of a plan have where they stand.
+-- What types and core modules of a plan have where they are.
 use Rattle.std.proofs.Common.{◌≡◌, ℕ, suc}
 use Rattle.std.specs.Prelude.{Some}
 use Rattle.std.specs.List.{AllByRecursion}
@@ -9,7 +9,8 @@ use Rattle.smith_types.specs.Sayable.{Lasts}
 use Rattle.smith_tree.specs.Limits.{SmallCoreTypes}
 use Rattle.smith_tree.specs.Tree.{Tree, ends, first, Part, custom, core_module, core_types, component, types, canons, imports, exports}
 
--- The fuel lasts for each type where so many scopes are on the stack, and each core module has bytes and stands for a generated one.
+-- The fuel lasts for each type where that many scopes are on the stack, and each core module has bytes and stands for a generated
+-- one.
 abbrev mutual
   pub Stands : Config → ℕ → Tree → Type 0
   Stands config scopes ends = Unit {0}

@@ -246,7 +246,7 @@ module _ (config : Config) (least : ℕ) (t : Tree) {b : List ℕ} {turns : List
       (imports_canons t [], ap (λ z. z.core_types) (spaces-add t (canons [])), omega (arith, ap (λ z. length z.types) (spaces-add t (canons [])))) r in
       all.2
 
--- What is true of the builder, so many turns after the section was begun.
+-- What is true of the builder, that many turns after the section was begun.
 record Going (config : Config) (stack : Open) (n : ℕ) (s : Growing) : Type 0 where
   pub sound : Sound config (with_inner stack s.before)
   pub formed : FormedCanons s.funcs (spaces_of s.before)

@@ -68,7 +68,7 @@ module _ (config : Config) where
           let m = made_core_same made other in
           (m.value, m.rest, e ∙ (ap (with_core_entry s) m.value ∙ sym f))
 
-  -- A core type may stand in a scope, and its script can say it.
+  -- A core type may be in a scope, and its script can say it.
   abbrev pub Said : Marked → CoreEntry → Type 0
   Said s x = FormedCore x s.core_types × CoreLimits config x × (core_need x ≤ config.max_type_size) × IsReadableCore x × (length s.core_types ≤ 2 ^ 63)
 

@@ -61,7 +61,7 @@ module _ (config : Config) (outer : List Tree) (t : Tree) where
     subst (FormedExports xs) (ap (λ z. spaces_of (with_exports t z)) i.next_is ∙ spaces_export t s x) rest,
   )
 
-  -- What is exported stands there.
+  -- What is exported is there.
   exports_formed : {b rest : List ℕ} {es : List ExportEntry} → ReadsExports config outer t b es rest → FormedExports es (spaces_of t)
   exports_formed {b = b} {rest = rest} {es = es} r = subst (FormedExports es) (spaces-add t (exports []))
       (loop_gives Formed_from (λ s. tt) (λ s c q u e. tt) formed_on 0 [] b es rest es r)

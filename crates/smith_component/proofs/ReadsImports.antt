@@ -92,7 +92,7 @@ module _ (config : Config) (stack : Open) where
     import_not_equal config (marked_with_imports config stack s) _ false b x.to i.mid i.of,
   )
 
-  -- What is read is of what stands in the component.
+  -- What is read is of what is in the component.
   pub imports_formed : {min : ℕ} {b rest : List ℕ} {is : List ImportEntry} → ReadsImports config min stack b is rest
       → AllByRecursion (FormedImport (scope_of stack.inner)) is
   imports_formed {b = b} {rest = rest} {is = is} r = loop_all (FormedImport (scope_of stack.inner)) formed_import 0 [] b is rest is r
@@ -237,7 +237,7 @@ module _ (config : Config) (stack : Open) where
         by_room true f = let lt : done < most = grind (arith, nat_tests) in more_past lt m
         by_room false f = let le : most ≤ done = grind (arith, nat_tests) in omega (arith, le, ordered)
 
-    -- where so many are made
+    -- where that many are made
     record Made (done : ℕ) (s : List ImportEntry) : Type 0 where
       funcs : (totals_of (with_imports stack s)).funcs ≤ function_count stack.inner + done
       size : (marked_with_imports config stack s).size ≤ (marked_inner config stack.outer stack.inner).size + done * small_size

@@ -60,7 +60,7 @@ module _ (config : Config) (outer : List Marked) where
   most_below number n [] h = omega arith
   most_below number n (x ∷ xs) h = omega (arith, h.0, most_below number n xs h.1)
 
-  -- how deep the types stand that these declare
+  -- how deep the types are that these declare
   pub types_read_declared : {min room : ℕ} {own next : Marked} {b rest : List ℕ} {xs : List Entry} → ReadsTypes config outer min room own b xs rest next
       → length outer + 1 + most declaring xs ≤ max (length outer + 1) config.max_nesting_depth
   types_read_declared {own = own} {next = next} {b = b} {rest = rest} {xs = xs} r =
@@ -102,7 +102,7 @@ module _ (config : Config) (outer : List Marked) where
           let m = made_with_same made other in
           (m.0, m.1, e ∙ (ap (λ z. with_type_entry outer s z) m.0 ∙ sym f))
 
-  -- A type may stand in a scope, and its script can say it.
+  -- A type may be in a scope, and its script can say it.
   abbrev pub Said : Marked → Entry → Type 0
   Said s x =
       FormedEntry x (scope_in s) (scopes_in_marked outer) × OfferedEntry x s outer × EntryLimits config x

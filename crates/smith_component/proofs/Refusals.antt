@@ -16,7 +16,7 @@ use Rattle.smith_component.specs.Sound.{Sound}
 use Rattle.smith_component.proofs.Filling.{filled_surely}
 
 module _ (config : Config) (stack : Open) (left rest : List ℕ) where
-  -- A component that lacks something is one whose finish was chosen.
+  -- A component that is missing something is one whose finish was chosen.
   pub finish_refused : (after : List ℕ) → ReadsAmong (items config stack left) left Finish after → (e : Error) → IsFillRefusal config stack after e rest
       → IsStepRefusal config stack left e rest
   finish_refused after choice InconsistentLimits h = absurd h
@@ -47,7 +47,7 @@ module _ (config : Config) (stack : Open) (left rest : List ℕ) where
   step_refused input consistent lacks refuses OutOfMemory h = consistent
   step_refused input consistent lacks refuses PartsDisagree h = absurd h
 
--- Where what lacks can be filled, it is no minimum that refuses a step.
+-- Where what is missing can be filled, no minimum refuses a step.
 pub never_minimum : (config : Config) (stack : Open) (left rest : List ℕ) → Sound config stack → IsGrounded stack.inner
     → CanFill config stack.outer stack.inner
     → (e : Error) → IsStepRefusal config stack left e rest → ¬ (e ≡ MinimumNotMet)

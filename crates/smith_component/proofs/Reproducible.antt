@@ -1,4 +1,5 @@
--- The limits and the input decide the answer, want of memory aside: the component, its bytes and what is left, or the refusal.
+-- The limits and the input decide the answer, allocation failure aside: the component, its bytes and what is left, or the
+-- refusal.
 use Rattle.std.proofs.Common.{◌≡◌, ℕ, zero, suc, List, refl, sym, ap, ◌∙◌, subst, None, Some}
 use Rattle.smith_input.proofs.Choices.{among_same}
 use Rattle.smith_input.specs.declared.error.Error.{Error}
@@ -39,7 +40,7 @@ stuck_same (suc j) (suc k) config (answered u) left s t b c x y p q = absurd x
 stuck_same (suc j) (suc k) config (building now) left s t b c (mid, left1, one, more) (next, left2, other, rest) p q =
     stuck_same j k config mid left1 s t b c more (moves config next mid left2 left1 (building t) c k (turn_same other one) rest) p q
 
--- Where a run lacks something, and where a core module is refused, no turn can be taken.
+-- Where a run is missing something, and where a core module is refused, no turn can be taken.
 lacks_stuck : {config : Config} {rest : List ℕ} (stack : Open) (left : List ℕ) → LacksAt config rest stack left → IsStuck config stack left
 lacks_stuck stack left lacks next rest t = lacks_no_turn lacks t
 
@@ -56,7 +57,7 @@ module _ (config : Config) (input : List ℕ) where
       (q m.stack m.left m.there) in
       subst (At m.stack) same.1 (subst (λ z. At z l.left) same.0 l.there)
 
-  -- No input both lacks something and has a core module refused.
+  -- No input both is missing something and has a core module refused.
   apart : {rest left : List ℕ} → LacksOn config input rest → RefusesModuleOn config input left → ⊥
   apart {rest} {left} l m =
       let here = at_other (LacksAt config rest) (RefusesModuleAt config left) lacks_stuck refuses_stuck l m in
@@ -74,7 +75,7 @@ module _ (config : Config) (input : List ℕ) where
   refuses_leave {rest} {left} l m =
       (among_same (at_other (RefusesModuleAt config rest) (RefusesModuleAt config left) refuses_stuck refuses_stuck l m).0 m.there.0).1
 
-  -- What is answered is not refused, want of memory aside.
+  -- What is answered is not refused, allocation failure aside.
   pub answer_or_memory : (c : Tree) (left b : List ℕ) → IsConsistent config → RunsTo config input c left → Spells c b → (e : Error) (rest : List ℕ)
       → IsGenerateRefusal config input e rest → e ≡ OutOfMemory
   answer_or_memory c left b consistent run spells InconsistentLimits rest h = absurd (h.0 consistent)
@@ -87,7 +88,7 @@ module _ (config : Config) (input : List ℕ) where
   answer_or_memory c left b consistent run spells OutOfMemory rest h = refl
   answer_or_memory c left b consistent run spells PartsDisagree rest h = absurd h
 
-  -- which refusal it is, and what it leaves, where it is not for want of memory
+  -- which refusal it is, and what it leaves, where it is not that of being out of memory
   abbrev Decided : Error → Error → List ℕ → List ℕ → Type 0
   Decided d e left rest = ¬ (d ≡ OutOfMemory) → ¬ (e ≡ OutOfMemory) → (d ≡ e) × (left ≡ rest)
 

@@ -25,7 +25,7 @@ use Rattle.smith_component.proofs.Tree.{anywhere-add}
 use Rattle.smith_component.proofs.Turn.{does_tail, finish_offered, tail_length}
 use Rattle.smith_scopes.proofs.Plain.{all_back, all_both, all_front}
 
--- What a component keeps that has a part more, but for another component.
+-- What a component keeps that has one more part, other than a component.
 abbrev Grows : (Tree → Type 0) → Type 0
 Grows P = (t : Tree) (p : Part) → anywhere_in components_in p ≡ [] → P t → P (add t p)
 

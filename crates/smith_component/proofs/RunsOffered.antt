@@ -34,7 +34,7 @@ module _ (config : Config) where
   OfferedNext (building stack) = AreOffered stack
   OfferedNext (answered t) = IsOffered config t
 
-  -- with a part more
+  -- with one more part
   with_offered : (stack : Open) (p : Part) → AreOffered stack
       → OfferedPart p config (spaces_of stack.inner) (marked_in config stack.outer) (marked_inner config stack.outer stack.inner)
       → AreOffered (with_inner stack (add stack.inner p))

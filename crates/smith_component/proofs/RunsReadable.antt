@@ -1,4 +1,4 @@
--- What a run leads to comes: it can be read, besides that it is well formed and within the limits.
+-- What a run leads to can be generated: it can be read, besides that it is well formed and within the limits.
 use Rattle.std.proofs.Common.{◌≡◌, ℕ, zero, suc, ◌<◌, List, [], ◌∷◌, ◌++◌, true, refl, sym, ap, subst, inl, inr, arith}
 use Rattle.std.specs.List.{AllByRecursion}
 use Rattle.std.proofs.lemmas.Bool.Decides.{nat_tests}
@@ -38,7 +38,7 @@ use Rattle.smith_scopes.proofs.Plain.{all_back, all_both, all_front}
 use Rattle.smith_component.proofs.Tree.{join-add, join-ends, join}
 use Rattle.smith_component.proofs.Turn.{WasOffered, chosen}
 
--- A component stays readable with a part more that can be read after it.
+-- A component stays readable with one more part that can be read after it.
 rest_add : (t : Tree) (p : Part) (config : Config) (before : Tree) → IsReadableRest config t before → IsReadablePart config p (join before t)
     → IsReadableRest config (add t p) before
 rest_add ends p config before r s = (subst (IsReadablePart config p) (join-ends before) s, tt)
@@ -146,7 +146,7 @@ module _ (config : Config) where
   turns_readable (suc k) (building stack) left next left2 (mid, left1, t, later) r =
       turns_readable k mid left1 next left2 later (turn_readable stack left mid left1 t r)
 
--- A run leads to a component that comes.
+-- A run leads to a component that can be generated.
 pub runs_come : (config : Config) (input : List ℕ) (tree : Tree) (left : List ℕ) → IsConsistent config → RunsTo config input tree left
     → CanBeGenerated config tree
 runs_come config input tree left consistent r =

@@ -1,4 +1,4 @@
--- What a run leads to is well formed and within the limits, whatever it reads.
+-- What a run leads to is well formed and within the limits, regardless of what it reads.
 use Rattle.std.proofs.Common.{ℕ, zero, suc, ◌+◌, ◌-◌, ◌≤◌, List, [], length, arith, refl, sym, subst, inl, inr}
 use Rattle.smith_input.proofs.Loops.{loop_few}
 use Rattle.smith_format.specs.Consistency.{IsConsistent}
@@ -33,7 +33,7 @@ use Rattle.smith_component.proofs.Sound.{addable_core_types, addable_custom, add
 use Rattle.smith_component.proofs.Sound.{module_offered_is, own_limits-ends, own_limits_of, part_sound, root_kept, sound_close, sound_open}
 use Rattle.smith_component.proofs.Turn.{WasOffered, chosen}
 
--- What comes next is sound: what is open, or the answer.
+-- What follows is sound: what is open, or the answer.
 abbrev pub SoundNext : Config → Next → Type 0
 SoundNext config (building stack) = Sound config stack
 SoundNext config (answered t) = Limits config t × WellFormed t × Sized config t

@@ -1,4 +1,4 @@
--- How far a run has come, and how long it is.
+-- How far a run has got, and how long it is.
 use Rattle.std.proofs.Common.{◌≡◌, ℕ, zero, suc, ◌+◌, ◌≤◌, List, [], ◌∷◌, length, arith, refl, subst}
 use Rattle.smith_input.specs.declared.error.Error.{Error}
 use Rattle.smith_format.specs.Consistency.{IsConsistent}
@@ -42,7 +42,7 @@ runs_to config input c r k t =
 pub open_few : (config : Config) (stack : Open) → Sound config stack → length stack.outer + 1 ≤ max_depth config
 open_few config stack s = omega (arith, depth-outer no_depth stack.outer stack.inner, s.maxima.depth)
 
--- From the start these open components and bytes left were reached: what goes on from there goes on from the start.
+-- From the start these open components and bytes left were reached: what continues from there continues from the start.
 pub record Reached (config : Config) (input : List ℕ) (stack : Open) (left : List ℕ) : Type 0 where
   pub onward : (next : Next) (rest : List ℕ) (k : ℕ) → Turns config (building stack) left next rest k → (j : ℕ) × Turns config (building root) input next rest j
 
@@ -59,14 +59,14 @@ reached_end config input stack c left left2 r t =
     let j = r.onward (answered c) left2 1 (answered c, left2, t, (refl, refl)) in
     runs_to config input c left2 j.0 j.1
 
--- What is true where the run has come comes to be on the input.
+-- What is true of where the run has got to is reached on the input.
 reached_there : (At : Open → List ℕ → Type 0) (config : Config) (input : List ℕ) (stack : Open) (left : List ℕ) → Reached config input stack left
     → At stack left → RunReaches config At input
 reached_there At config input stack left r there =
     let j = r.onward (building stack) left 0 (refl, refl) in
     record { stack = stack; left = left; turns = j.0; run = j.1; there = there }
 
--- The same where the config and what comes next are known by equations.
+-- The same where the config and what follows are known by equations.
 
 pub reached_step : (config same : Config) (input : List ℕ) (stack next : Open) (now : Next) (left left2 : List ℕ) → same ≡ config → now ≡ building next
     → Reached config input stack left → Turn same stack left now left2 → Reached config input next left2

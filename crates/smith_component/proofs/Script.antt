@@ -176,7 +176,7 @@ module _ (config : Config) (outer : List Tree) (before : Tree) (next : Next) (le
         ),
       )
 
--- what holds after one part more
+-- what holds after one more part
 pub limits_past : (p : Part) (t : Tree) (config : Config) (outer : List Tree) (before : Tree) → Maxima config (tree_so_far outer (join before (first p t)))
     → Maxima config (tree_so_far outer (join (add before p) t))
 limits_past p t config outer before l = subst (λ x. Maxima config (tree_so_far outer x)) (sym (join-add before p t)) l
@@ -198,7 +198,7 @@ after_past : (p : Part) (t : Tree) (config : Config) (outer : List Tree) (before
     → Closes (record { outer = outer; inner = join (add before p) t }) n → Turns config n rest next left k
 after_past p t config outer before next left k rest after n c = after n (subst (λ x. Closes (record { outer = outer; inner = x }) n) (join-add before p t) c)
 
--- the limits of a component that has one part more
+-- the limits of a component that has one more part
 part_limits : (p : Part) (t : Tree) (config : Config) (outer : List Tree) (before : Tree) → Maxima config (tree_so_far outer (join before (first p t)))
     → OwnLimits config (add before p)
 part_limits p t config outer before l = all_inner (OwnLimits config) outer (add before p)
@@ -351,7 +351,7 @@ reach config plan rest consistent c finishable stands =
 
 -- Turns of a script by themselves.
 
--- where something stands that is offered, its script and what follows is a turn
+-- where something that is offered is there, its script and what follows is a turn
 turn_of : (config : Config) (stack : Open) (item : Item) (place : ℕ) (said rest : List ℕ) (next : Next)
     → slice_get (items_with_input config stack) place ≡ Some item → Does config item stack (said ++ rest) next rest
     → Turn config stack ((script_item config stack.outer stack.inner item ++ said) ++ rest) next rest

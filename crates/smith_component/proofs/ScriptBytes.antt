@@ -88,7 +88,7 @@ small_imports config stack few s (x ∷ is) f k o =
 
 -- Exports.
 
--- no more functions stand there than are counted and exported
+-- no more functions are there than are counted and exported
 few_functions : (t : Tree) (s : List ExportEntry) → function_count t + (length (exports_of t) + length s) ≤ 2 ^ 64
     → length (functions_of (with_exports t s)) ≤ 2 ^ 64
 few_functions t s h =
@@ -144,7 +144,7 @@ small_item config outer before item =
     let few = offers_few (item_offers config stack) in
     small_few equal.eq (items_with_input config stack) item (omega (arith, few))
 
--- What has the rest of a component of a plan, where these components are open around it and these parts stand before it.
+-- What the rest of a component of a plan has, where these components are open around it and these parts precede it.
 record Said (config : Config) (outer : List Tree) (before t : Tree) : Type 0 where
   spoken : AllByRecursion Spoken (types_of before)
   readable : IsReadableRest config t before
@@ -170,7 +170,7 @@ module _ (config : Config) (consistent : IsConsistent config) (outer : List Tree
   few_here : (t : Tree) → Said config outer before t → length (types_of before) + length (core_types_of before) ≤ 2 ^ 64
   few_here t said = let o = own_front t config before said.whole in omega (arith, o.types, o.core_types, consistent.types)
 
-  -- after one part more
+  -- after one more part
   said_past : (p : Part) (t : Tree) → Said config outer before (first p t) → Said config outer (add before p) t
   said_past p t said =
       let z = parts_are (part p) (parts t) said.spelled.0 said.spelled.1 in
@@ -208,7 +208,7 @@ module _ (config : Config) (consistent : IsConsistent config) (outer : List Tree
         spelled = component_encoded u (z.left, z.p_is);
       }
 
-  -- what follows the choice of the item, where it is no component
+  -- what follows the choice of the item, where it is not a component
   small_custom : (name contents : List ℕ) (t : Tree) → Said config outer before (first (custom name contents) t)
       → Small (script_part (custom name contents) config outer before)
   small_custom name contents t said =
@@ -286,7 +286,7 @@ module _ (config : Config) (consistent : IsConsistent config) (outer : List Tree
       small_loop (script_export before) (λ u x. u ++ x ∷ []) 0 (config.max_exports - length (exports_of before)) 0 [] es
       (small_exports before [] es start behind.0 (omega (arith, most, front.functions, consistent.funcs)))
 
--- The text tells the module that it is of.
+-- The text determines the module that it is of.
 small_module : (config : Config) → IsConsistent config → (text : List ℕ) → (s : StandIn) × IsStandIn config s × (stand_in_text s ≡ Some text)
     → Small (script_stand_in config (stand_in_of text))
 small_module config consistent text (s, is, e) =

@@ -55,7 +55,7 @@ pub instance_count-so_far : (outer : List Tree) (t : Tree) (p : Part)
     → instance_count (tree_so_far outer (add t p)) ≡ instance_count (tree_so_far outer t) + length (anywhere_in imported_instances_in p)
 instance_count-so_far outer t p = length-anywhere-so_far imported_instances_in (record { same = λ a b. refl }) outer t p
 
--- What stands in a part that is no component is its own.
+-- What is in a part that is not a component is its own.
 pub in_own : {A : Type 0} (f : Part → List A) (p : Part) → anywhere_in components_in p ≡ [] → anywhere_in f p ≡ f p
 in_own f (custom n c) e = refl
 in_own f (core_module m) e = refl
@@ -320,7 +320,7 @@ pub length-marked_from : (config : Config) (us : List Tree) (outer : List Marked
 length-marked_from config [] outer = omega arith
 length-marked_from config (u ∷ us) outer = omega (arith, length-marked_from config us (marked_of config outer u ∷ outer))
 
--- As many scopes stand as components are open, at most 1000.
+-- There are as many scopes as components are open, at most 1000.
 pub scopes_few : (config : Config) (stack : Open) (scopes : List Marked) → Sound config stack
     → scopes ≡ marked_inner config stack.outer stack.inner ∷ marked_in config stack.outer → length scopes ≤ 1000
 scopes_few config stack scopes s e =
@@ -329,7 +329,7 @@ scopes_few config stack scopes s e =
 pub same_tail : (s t : Marked) (ss ts : List Marked) → s ∷ ss ≡ t ∷ ts → ss ≡ ts
 same_tail s t ss ts e = cc
 
--- What is true of a root that stands alone, when it has enough.
+-- What is true of a root that is alone, when it has enough.
 pub root_kept : (config : Config) (outer : List Tree) (inner t : Tree) → outer ≡ [] → inner ≡ t → Minima config inner
     → Sound config (record { outer = outer; inner = inner }) → Limits config t × WellFormed t × Sized config t
 root_kept config outer inner t none is enough s =

@@ -1,4 +1,4 @@
--- What stands in index spaces, and stays where they grow.
+-- What is in index spaces, and stays where they grow.
 use Rattle.std.proofs.Common.{◌≡◌, ℕ, ◌+◌, ◌<◌, ◌≤◌, Bool, true, false, cond, List, [], ◌∷◌, ◌++◌, fold, map, length, refl, sym, ap, ◌∙◌}
 use Rattle.std.proofs.Common.{arith, append-nil, length-append, Some, None}
 use Rattle.std.proofs.lemmas.Bool.{false≢true}
@@ -38,7 +38,7 @@ scope_canons t cs = scope_bare t (canons cs) (canons_keep (spaces_of t) cs)
 pub imports_canons : (t : Tree) (cs : List Canon) → imports_of (add t (canons cs)) ≡ imports_of t
 imports_canons t cs = own-add imports_in t (canons cs) ∙ append-nil (imports_of t)
 
--- the spaces with types more
+-- the spaces with more types
 abbrev pub with_entries : Spaces → List Entry → Spaces
 with_entries s es = record { types = s.types ++ es; core_types = s.core_types; functions = s.functions; core_functions = s.core_functions }
 
@@ -80,7 +80,7 @@ grounded_entries s es g = record {
   lowered = all_weaker (IsScalarFunction s) (IsScalarFunction (with_entries s es)) (scalar_stays (extends_part s (types es))) s.core_functions g.lowered;
 }
 
--- A canonical function names what stands there.
+-- A canonical function names what is there.
 abbrev pub Names : Spaces → Canon → Type 0
 Names s (lift c t) = t < length s.types
 Names s (lower f) = IsScalarFunction s f
@@ -112,7 +112,7 @@ scalars_entries s es g =
     (all_weaker (λ ty. ty < length s.types) (λ ty. is_scalar_type (s.types ++ es) ty ≡ is_scalar_type s.types ty)
     (λ ty h. ap (λ o. elim o as (λ _. Bool) [ None ↦ false | Some e ↦ is_scalar_entry e ]) (get_left s.types es ty h)) s.functions g.known)
 
--- A function more stands after them where its type flattens.
+-- One more function follows them where its type flattens.
 pub scalars_lift : (s : Spaces) (c t : ℕ) → scalar_functions (after_canon s (lift c t)) ≡ scalar_functions s ++ cond (is_scalar_type s.types t)
     (length s.functions ∷ []) []
 scalars_lift s c t =

@@ -23,15 +23,15 @@ use Rattle.smith_component.specs.declared.builder.tables.Tables.{Tables}
 use Rattle.smith_component.proofs.Tree.{own-add}
 use Rattle.smith_scopes.proofs.Plain.{all_both}
 
--- the same of a part that adds nothing
+-- the same for a part that adds nothing
 pub own_bare : {A : Type 0} (f : Part → List A) (t : Tree) (p : Part) → f p ≡ [] → own f (add t p) ≡ own f t
 own_bare f t p e = own-add f t p ∙ (ap (λ z. own f t ++ z) e ∙ append-nil (own f t))
 
--- one entry more in a part that is a list of entries
+-- one more entry in a part that is a list of entries
 pub flat_map_more : {X A : Type 0} (f : X → List A) (xs : List X) (x : X) → flat_map f (xs ++ x ∷ []) ≡ flat_map f xs ++ f x
 flat_map_more f xs x = flat_map-append f xs (x ∷ []) ∙ ap (λ z. flat_map f xs ++ z) (append-nil (f x))
 
--- a fact of each that gives another of each
+-- a fact of each that implies another of each
 pub all_weaker : {A : Type 0} (P Q : A → Type 0) → ((x : A) → P x → Q x) → (xs : List A) → AllByRecursion P xs → AllByRecursion Q xs
 all_weaker P Q h [] all = tt
 all_weaker P Q h (x ∷ xs) all = (h x all.0, all_weaker P Q h xs all.1)
@@ -43,7 +43,7 @@ places_agree p q i (x ∷ xs) all =
     let rest = places_agree p q (i + 1) xs all.1 in
     ap (λ b. if b then i ∷ places p (i + 1) xs else places p (i + 1) xs) all.0 ∙ ap (λ ks. if q x then i ∷ ks else ks) rest
 
--- what stands in a list stands in a longer one
+-- what is in a list is in a longer one
 pub get_longer : {A : Type 0} (xs more ys : List A) (k : ℕ) (x : A) → ys ≡ xs ++ more → slice_get xs k ≡ Some x → slice_get ys k ≡ Some x
 get_longer xs more ys k x e h = ap (λ z. slice_get z k) e ∙ (get_left xs more k (slice_get_within xs k x h) ∙ h)
 
@@ -119,7 +119,7 @@ module _ (old new : Tables) (t u : Tree) (es : List Entry) (fs cs : List ℕ) (t
 pub same_more : {A : Type 0} (xs ys : List A) → ys ≡ xs → ys ≡ xs ++ []
 same_more xs ys e = e ∙ sym (append-nil xs)
 
--- A component function more, of a type that is there.
+-- One more component function, of a type that is there.
 pub tabled_function : {own : Scope} {old new : Tables} {ty : ℕ} (t u : Tree) → own ≡ scope_of t → ty < length (types_of t) → Tabled old t
     → AddsFunction own 1 old ty new
     → types_of u ≡ types_of t → functions_of u ≡ functions_of t ++ ty ∷ [] → core_functions_of u ≡ core_functions_of t
@@ -131,7 +131,7 @@ tabled_function {own} {old} {new} {ty} t u scope known tabled adds types functio
     adds.functions (same_more _ _ adds.core_functions)
     (adds.scalars ∙ ap (λ ts. old.scalars.items ++ (if is_scalar_type ts ty then length old.functions.items ∷ [] else [])) same)
 
--- A core function more, which lowers one that can be lowered.
+-- One more core function, which lowers one that can be lowered.
 pub tabled_core_function : {old new : Tables} {f : ℕ} (t u : Tree) → IsLowerable t f → Tabled old t → AddsCoreFunction old f new
     → types_of u ≡ types_of t → functions_of u ≡ functions_of t → core_functions_of u ≡ core_functions_of t ++ f ∷ []
     → function_count u ≡ function_count t + 1 → exports_of u ≡ exports_of t → Tabled new u
@@ -141,7 +141,7 @@ tabled_core_function {old} {new} {f} t u lowerable tabled adds types functions c
     (lowerable_more t u [] [] (same_more _ _ types) (same_more _ _ functions) f lowerable, tt)
     (same_more _ _ adds.functions) adds.core_functions (same_more _ _ adds.scalars)
 
--- Types more leave the tables as they are.
+-- More types leave the tables as they are.
 pub tabled_types : {tables : Tables} (t u : Tree) (es : List Entry) → Tabled tables t → types_of u ≡ types_of t ++ es → functions_of u ≡ functions_of t
     → core_functions_of u ≡ core_functions_of t → function_count u ≡ function_count t → exports_of u ≡ exports_of t → Tabled tables u
 tabled_types {tables} t u es tabled types functions core_functions count exports =

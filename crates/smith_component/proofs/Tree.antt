@@ -40,7 +40,7 @@ module _ (below : List Entry → ℕ) where
     depth-add u (component (tree_so_far outer (add t p))),
   )
 
-  -- The inner component stands as deep as components are open.
+  -- The inner component is as deep as components are open.
   pub depth-outer : (outer : List Tree) (t : Tree) → length outer + 1 ≤ depth_by below (tree_so_far outer t)
   depth-outer [] ends = omega arith
   depth-outer [] (first p t) = omega (arith, depth-outer [] t)
@@ -61,7 +61,7 @@ module _ {A : Type 0} (f : Part → List A) where
   pub length-anywhere-add : (t : Tree) (p : Part) → length (anywhere f (add t p)) ≡ length (anywhere f t) + length (anywhere_in f p)
   length-anywhere-add t p = ap length (anywhere-add t p) ∙ length-append (anywhere f t) (anywhere_in f p)
 
-  -- Whichever component stands in a part, it counts alike.
+  -- Whichever component is in a part, it counts alike.
   pub record IsSteady : Type 0 where
     pub same : (a b : Tree) → length (f (component a)) ≡ length (f (component b))
 
@@ -96,7 +96,7 @@ function_count-add t p = omega (arith, length-own-add imported_functions_in t p,
 abbrev pub all_of : Tree → List Tree
 all_of t = t ∷ inside t
 
--- Which component stands inside does not matter to P.
+-- Which component is inside does not matter to P.
 abbrev pub Swaps : (Tree → Type 0) → Type 0
 Swaps P = (u a b : Tree) → P (add u (component a)) → P (add u (component b))
 

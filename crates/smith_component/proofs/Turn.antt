@@ -45,7 +45,7 @@ pub items_some : (config : Config) (stack : Open) → (5 ≤ length (items_with_
 items_some config stack =
     items_some_by (is_finish_offered config stack.inner) (is_module_offered config stack) (is_component_offered config stack) (is_export_offered config)
 
--- One byte tells from 2 to 256 things apart.
+-- One byte distinguishes from 2 to 256 things.
 pub one_byte : (n : ℕ) → 2 ≤ n → n ≤ 256 → IsWidth n 1
 one_byte n two few = record { enough = omega arith; least = least_of }
   where
@@ -53,7 +53,7 @@ one_byte n two few = record { enough = omega arith; least = least_of }
     least_of zero e = absurd (omega arith)
     least_of (suc v) e = omega arith
 
--- A choice among so many reads one byte.
+-- A choice among that many reads one byte.
 pub after_one : (n x : ℕ) (xs : List ℕ) (k : ℕ) (rest : List ℕ) → 2 ≤ n → n ≤ 256 → Reads n (x ∷ xs) k rest → rest ≡ xs
 after_one n x xs k rest two few r = r.left ∙ ap (λ w. drop w (x ∷ xs)) (width_unique r.is_width (one_byte n two few))
 

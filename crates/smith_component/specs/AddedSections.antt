@@ -21,24 +21,25 @@ use Rattle.smith_component.specs.declared.item.Counted.TheVariants as counted
 abbrev pub ReadsCustom : List ℕ → List ℕ → List ℕ → List ℕ → Type 0
 ReadsCustom b name contents rest = (mid : List ℕ) × ReadsText 1000 b name mid × ReadsBytes mid contents rest
 
--- A type of a type section, with fresh fuel. It stands in the scopes that the types before it leave.
+-- A type of a type section, with fresh fuel. It is in the scopes that the types before it leave.
 abbrev pub ReadsType : Config → List Marked → Marked → List ℕ → Entry → List ℕ → Marked → Type 0
 ReadsType config outer own b x rest next = MadeWith config own outer config.max_type_size b x rest × (next ≡ with_type_entry outer own x)
 
--- at least and at most so many types, which lead from one scope to another
+-- at least and at most that many types, which lead from one scope to another
 abbrev pub ReadsTypes : Config → List Marked → ℕ → ℕ → Marked → List ℕ → List Entry → List ℕ → Marked → Type 0
 ReadsTypes config outer min max own b xs rest next = Loop Never (ReadsType config outer) min max 0 own b xs rest next
 
--- A core type of a core type section, with fresh fuel. It stands in the scope that the core types before it leave.
+-- A core type of a core type section, with fresh fuel. It is in the scope that the core types before it leave.
 abbrev pub ReadsCoreType : Config → Marked → List ℕ → CoreEntry → List ℕ → Marked → Type 0
 ReadsCoreType config own b x rest next =
     (left : ℕ) × MadeCore config (scope_in own) b config.max_type_size x rest left × (next ≡ with_core_entry own x)
 
--- at most so many core types, which lead from one scope to another
+-- at most that many core types, which lead from one scope to another
 abbrev pub ReadsCoreTypes : Config → ℕ → Marked → List ℕ → List CoreEntry → List ℕ → Marked → Type 0
 ReadsCoreTypes config max own b xs rest next = Loop Never (ReadsCoreType config) 0 max 0 own b xs rest next
 
--- What the sections with a minimum do on the bytes b, where at least so many are to be added: they lead to the inner component t.
+-- What the sections with a minimum do on the bytes b, where at least that many are to be added: they lead to the inner component
+-- t.
 
 -- a type section, with at most as many types as the component may still have
 abbrev pub AddsTypes : Config → ℕ → Open → List ℕ → Tree → List ℕ → Type 0

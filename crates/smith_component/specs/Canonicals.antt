@@ -29,7 +29,7 @@ grown s = add s.before (canons s.funcs)
 abbrev pub spaces_at : Growing → Spaces
 spaces_at s = spaces_of (grown s)
 
--- the section with one function more
+-- the section with one more function
 abbrev pub with_canon : Growing → Canon → Growing
 with_canon s c = record { before = s.before; funcs = s.funcs ++ c ∷ [] }
 
@@ -46,7 +46,7 @@ abbrev pub with_defined : Growing → ℕ → Signature → Growing
 with_defined s c signature = record { before = add (grown s) (types (function signature ∷ [])); funcs = lift c (length (spaces_at s).types) ∷ [] }
 
 -- A lift is to a type that is equal, by a choice among these. Where there is none, it defines the type, if the component may have one
--- more; else it is given up.
+-- more; otherwise it is abandoned.
 pub data LiftsTo (config : Config) (s : Growing) (c : ℕ) (signature : Signature) (bytes rest : List ℕ) (next : Growing) : Type 0 where
   to_equal : {t : ℕ} → ReadsAmong (equal_types s signature) bytes t rest → next ≡ with_canon s (lift c t) → LiftsTo config s c signature bytes rest next
   to_defined : equal_types s signature ≡ [] → length (spaces_at s).types < config.max_types → rest ≡ bytes → next ≡ with_defined s c signature
@@ -86,7 +86,7 @@ NoCanon s bytes rest next = (canon_items (spaces_at s) ≡ []) × (rest ≡ byte
 abbrev pub empty_section : Tree → Growing
 empty_section t = record { before = t; funcs = [] }
 
--- at least so many turns, and at most as many as the component may still have functions
+-- at least that many turns, and at most as many as the component may still have functions
 abbrev pub ReadsCanons : Config → ℕ → Tree → List ℕ → List CanonItem → List ℕ → Growing → Type 0
 ReadsCanons config min t bytes turns rest next = Loop NoCanon (CanonTurn config) min (config.max_funcs - function_count t) 0 (empty_section t) bytes turns rest
     next

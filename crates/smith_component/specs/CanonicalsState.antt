@@ -33,14 +33,14 @@ pub record CanonicalsState (config : Config) (around : List Tree) (scopes : List
   pub scope_is : own_marked scopes ≡ marked_inner config around (grown (growing component funcs))
   pub tabled : Tabled component.tables (grown (growing component funcs))
 
--- The sections that stood before stay in front, and nothing is imported.
+-- The sections that were there before stay in front, and nothing is imported.
 pub record KeepsFront (old new : OpenComponent) : Type 0 where
   pub more : List Section
   pub sections : new.sections.items ≡ old.sections.items ++ more
   pub no_imports : externs_of more ≡ []
   pub names : new.tables.imports ≡ old.tables.imports
 
--- the same of what the program has under construction
+-- the same for what the program has under construction
 abbrev pub draft_of : CanonicalDraft → Growing
 draft_of d = growing d.component.now d.funcs.now.items
 
@@ -57,7 +57,7 @@ pub record SameLoans (old new : CanonicalDraft) : Type 0 where
   pub component : new.component.ghost_name ≡ old.component.ghost_name
   pub funcs : new.funcs.ghost_name ≡ old.funcs.ghost_name
 
--- It goes on after what stood before, in the same scopes.
+-- It continues after what was there before, in the same scopes.
 pub record DraftsOn (old new : CanonicalDraft) : Type 0 where
   pub draft : (around : List Tree) → IsDraftIn around old → IsDraftIn around new
   pub front : KeepsFront old.component.now new.component.now

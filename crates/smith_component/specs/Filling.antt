@@ -1,4 +1,4 @@
--- Where what lacks of the minima can be filled, whatever the input.
+-- Where what is missing of the minima can be filled, regardless of the input.
 use Rattle.std.specs.Prelude.{◌≡◌, ℕ, ◌+◌, ◌-◌, ◌*◌, ◌<◌, ◌≤◌, ◌⊎◌, true, List, length}
 use Rattle.smith_format.specs.declared.config.Config.{Config}
 use Rattle.smith_syntax.specs.Marks.{room_size, small_size}
@@ -9,27 +9,28 @@ use Rattle.smith_tree.specs.declared.choices.RefKind.TheVariants.{Func}
 use Rattle.smith_tree.specs.Spaces.{spaces_of, types_of}
 use Rattle.smith_tree.specs.Tree.{Tree, imports_of, function_count}
 
--- how many imports lack
+-- how many imports are missing
 abbrev pub missing_imports : Config → Tree → ℕ
 missing_imports config t = config.min_imports - length (imports_of t)
 
--- how many functions lack
+-- how many functions are missing
 abbrev pub missing_functions : Config → Tree → ℕ
 missing_functions config t = config.min_funcs - function_count t
 
--- Nothing lacks.
+-- Nothing is missing.
 pub record HasEnough (config : Config) (t : Tree) : Type 0 where
   pub imports : config.min_imports ≤ length (imports_of t)
   pub functions : config.min_funcs ≤ function_count t
 
--- Imports alone lack, and functions may be imported for all of them: the component has room for them too, if its size is kept.
+-- Only imports are missing, and functions may be imported for all of them: the component has room for them too, if its size is
+-- kept.
 pub record CanImport (config : Config) (outer : List Tree) (t : Tree) : Type 0 where
   pub functions : config.min_funcs ≤ function_count t
   pub has_type : 0 < length (ref_places (marked_inner config outer t) true Func)
   pub room : function_count t + missing_imports config t ≤ config.max_funcs
   pub lasting : config.must_validate ≡ true → (marked_inner config outer t).size + missing_imports config t * small_size ≤ room_size + small_size
 
--- Functions alone lack, one can be lowered, and there is room for the types that lifts define.
+-- Only functions are missing, one can be lowered, and there is room for the types that lifts define.
 pub record CanLower (config : Config) (t : Tree) : Type 0 where
   pub imports : config.min_imports ≤ length (imports_of t)
   pub types : config.min_types ≤ length (types_of t)

@@ -1,4 +1,4 @@
--- How what lacks of a minimum is filled where a component is finished.
+-- How what is missing of a minimum is filled where a component is finished.
 use Rattle.std.specs.Prelude.{◌≡◌, ℕ, ◌-◌, ◌<◌, ◌≤◌, List, length, ◌⊎◌}
 use Rattle.smith_format.specs.declared.config.Config.{Config}
 use Rattle.smith_tree.specs.Tree.{Tree, imports_of, function_count}
@@ -8,13 +8,13 @@ use Rattle.smith_component.specs.declared.item.Counted.{Counted}
 use Rattle.smith_component.specs.declared.item.Counted.TheVariants as counted
 use Rattle.smith_component.specs.AddedSections.{Adds}
 
--- What lacks of a minimum is filled, and where nothing lacks nothing is done.
+-- What is missing of a minimum is filled, and where nothing is missing nothing is done.
 abbrev pub Fills : Counted → Config → Open → List ℕ → Tree → List ℕ → Type 0
 Fills what config stack b t rest =
     ((minimum_of what config ≤ count_of what stack.inner) × (t ≡ stack.inner) × (rest ≡ b))
     ⊎ ((count_of what stack.inner < minimum_of what config) × Adds what config (minimum_of what config - count_of what stack.inner) stack b t rest)
 
--- Types are filled first, then imports, and then functions, each counted anew, and no import or function lacks then.
+-- Types are filled first, then imports, and then functions, each counted anew, and no import or function is missing then.
 pub record FillsAll (config : Config) (stack : Open) (b : List ℕ) (full : Tree) (rest : List ℕ) : Type 0 where
   pub typed : Tree
   pub mid : List ℕ

@@ -27,7 +27,7 @@ pub record ReadsImport (config : Config) (stack : Open) (is : List ImportEntry) 
 abbrev pub NoImport : Config → Open → List ImportEntry → List ℕ → List ℕ → List ImportEntry → Type 0
 NoImport config stack is bytes rest next = (import_kinds config stack is ≡ []) × (rest ≡ bytes) × (next ≡ is)
 
--- a section of at least so many imports, and of at most as many as the component may still have
+-- a section of at least that many imports, and of at most as many as the component may still have
 abbrev pub ReadsImports : Config → ℕ → Open → List ℕ → List ImportEntry → List ℕ → Type 0
 ReadsImports config min stack bytes is rest =
     Loop (NoImport config stack) (ReadsImport config stack) min (config.max_imports - length (imports_of stack.inner)) 0 [] bytes is rest is

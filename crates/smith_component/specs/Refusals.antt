@@ -1,4 +1,4 @@
--- Which refusal comes.
+-- Which refusal is returned.
 use Rattle.std.specs.Prelude.{◌≡◌, ℕ, ◌<◌, ◌≤◌, List, [], None, Result, IfErr, MatchResult}
 use Rattle.smith_input.specs.Choices.{ReadsAmong}
 use Rattle.smith_format.specs.Consistency.{IsConsistent}
@@ -14,7 +14,7 @@ use Rattle.smith_component.specs.Turn.{LacksAt, RefusesModuleAt, building}
 use Rattle.smith_component.specs.Fills.{Lacks}
 use Rattle.smith_component.specs.Runs.{RunsTo, Turns}
 
--- A builder is refused where limits do not fit together, and else only for want of memory.
+-- A builder is refused where limits do not fit together, and otherwise only when out of memory.
 abbrev pub IsNewRefusal : Config → Error → Type 0
 IsNewRefusal config InconsistentLimits = ¬ IsConsistent config
 IsNewRefusal config MinimumNotMet = ⊥
@@ -23,8 +23,8 @@ IsNewRefusal config TooLong = ⊥
 IsNewRefusal config OutOfMemory = IsConsistent config
 IsNewRefusal config PartsDisagree = ⊥
 
--- A component that is to be finished is refused where imports or functions are missing, and else only for want of memory. Of the bytes
--- the last ones are left.
+-- A component that is to be finished is refused where imports or functions are missing, and otherwise only when out of memory. The last
+-- of the bytes are left.
 abbrev pub IsFillRefusal : Config → Open → List ℕ → Error → List ℕ → Type 0
 IsFillRefusal config stack b InconsistentLimits rest = ⊥
 IsFillRefusal config stack b MinimumNotMet rest = Lacks config stack b rest
@@ -33,12 +33,12 @@ IsFillRefusal config stack b TooLong rest = ⊥
 IsFillRefusal config stack b OutOfMemory rest = Unit {0}
 IsFillRefusal config stack b PartsDisagree rest = ⊥
 
--- There are at least so many, or a minimum is not met.
+-- There are at least that many, or a minimum is not met.
 abbrev pub IsMinimum : {T : Type 0} → Result T Error → ℕ → ℕ → Type 0
 IsMinimum result min count = MatchResult result (λ _. min ≤ count) (λ e. (e ≡ MinimumNotMet) × (count < min))
 
 -- A turn is refused where the inner component is to be finished and imports or functions are missing, where a core module is chosen that
--- the limits on memories do not leave, and else only for want of memory.
+-- the limits on memories do not leave, and otherwise only when out of memory.
 abbrev pub IsStepRefusal : Config → Open → List ℕ → Error → List ℕ → Type 0
 IsStepRefusal config stack left InconsistentLimits rest = ⊥
 IsStepRefusal config stack left MinimumNotMet rest = LacksAt config rest stack left
@@ -64,7 +64,7 @@ abbrev pub RefusesModuleOn : Config → List ℕ → List ℕ → Type 0
 RefusesModuleOn config input rest = RunReaches config (RefusesModuleAt config rest) input
 
 -- Limits that do not fit together are refused as such, before a byte is read; a component is refused of which something of a minimum is
--- missing, or that is to have a core module that the limits do not leave, and all else only for want of memory.
+-- missing, or that is to have a core module that the limits do not leave, and all else only when out of memory.
 abbrev pub IsRefusal : Config → List ℕ → Error → List ℕ → Type 0
 IsRefusal config input InconsistentLimits rest = ¬ IsConsistent config × (rest ≡ input)
 IsRefusal config input MinimumNotMet rest = IsConsistent config × LacksOn config input rest
@@ -86,7 +86,7 @@ IsGenerateRefusal config input PartsDisagree rest = ⊥
 abbrev pub IsChosen : Config → Open → List ℕ → Item → List ℕ → Type 0
 IsChosen config stack left chosen after = ReadsAmong (items config stack left) left chosen after
 
--- No input is left, and the root alone is open and lacks nothing.
+-- No input is left, and the root alone is open and is missing nothing.
 pub record IsReady (config : Config) (stack : Open) (left : List ℕ) : Type 0 where
   pub empty : left ≡ []
   pub alone : stack.outer ≡ []

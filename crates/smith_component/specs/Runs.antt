@@ -40,7 +40,7 @@ abbrev pub todo : Config → List ℕ → Open → ℕ
 todo config [] stack = length stack.outer + 1
 todo config (x ∷ xs) stack = length (x ∷ xs) + max_depth config
 
--- a turn that goes on lowers it
+-- a turn that continues lowers it
 abbrev pub Falls : Config → List ℕ → Open → List ℕ → Next → Type 0
 Falls config left stack left2 (building next) = todo config left2 next + 1 ≤ todo config left stack
 Falls config left stack left2 (answered t) = Unit {0}

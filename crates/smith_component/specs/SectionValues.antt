@@ -1,6 +1,6 @@
 -- Sections as values that a turn adds, with what a plain tree leaves out: URLs, what outer aliases keep, and the parts of a core
 -- module that leave no byte.
-use Rattle.std.specs.Prelude.{◌≡◌, ℕ, ◌-◌, true, false, List, [], ◌∷◌, ◌++◌, map, length, string_bytes}
+use Rattle.std.specs.Prelude.{◌≡◌, ℕ, ◌-◌, true, false, List, [], ◌∷◌, ◌++◌, map, length, string_bytes, Box}
 use Rattle.std.specs.List.{flat_map}
 use Rattle.std.specs.declared.alloc.Global.{Global}
 use Rattle.std.specs.declared.rc.Rc.{Rc}
@@ -74,7 +74,7 @@ NoImportValue config stack is bytes rest next = (import_kinds config stack (map 
 
 -- What a turn that begins with the bytes b adds to the inner component, and what it leaves of them.
 
--- a type section of at least so many types
+-- a type section of at least that many types
 pub record AddsTypeSection (config : Config) (min : ℕ) (old : Building) (b : List ℕ) (new : Building) (rest : List ℕ) : Type 0 where
   pub section : TypeSection
   pub scope : Marked
@@ -90,7 +90,7 @@ pub record AddsCoreTypeSection (config : Config) (old : Building) (b : List ℕ)
   pub reads : Loop Never (ReadsCoreTypeValue config) 0 (config.max_types - length (core_types_of (open_of old).inner)) 0
       (marked_inner config (open_of old).outer (open_of old).inner) b section.types.items rest scope
 
--- an import section of at least so many imports, unless nothing can be imported
+-- an import section of at least that many imports, unless nothing can be imported
 pub record AddsImportSection (config : Config) (min : ℕ) (old : Building) (b : List ℕ) (new : Building) (rest : List ℕ) : Type 0 where
   pub section : ImportSection
   pub added : new.inner ≡ old.inner ++ Imports section ∷ []
@@ -99,6 +99,6 @@ pub record AddsImportSection (config : Config) (min : ℕ) (old : Building) (b :
 
 -- a core module that stands for a generated one, by its parts
 pub record AddsModule (config : Config) (old : Building) (b : List ℕ) (new : Building) (rest : List ℕ) : Type 0 where
-  pub parts : ModuleParts
-  pub added : new.inner ≡ old.inner ++ CoreModule parts ∷ []
-  pub reads : ReadsStandIn config b parts rest
+  pub embedded : Box ModuleParts Global
+  pub added : new.inner ≡ old.inner ++ CoreModule embedded ∷ []
+  pub reads : ReadsStandIn config b embedded.value rest

@@ -43,7 +43,7 @@ pub record TracksStack (config : Config) (valtypes : List ValType) (scopes : Lis
   pub scopes_are : scopes ≡ marked_inner config stack.outer stack.inner ∷ marked_in config stack.outer
   pub totalled : Totalled totals stack
 
--- A part that may be added to the inner component: it is well formed there, no component, and within the limits where what stands
+-- A part that may be added to the inner component: it is well formed there, not a component, and within the limits where what is
 -- there is.
 pub record IsAddable (config : Config) (stack : Open) (p : Part) : Type 0 where
   pub formed : FormedPart p (scopes_in stack.outer) stack.inner

@@ -29,7 +29,7 @@ pub record AddsSections (old new : Building) : Type 0 where
   pub outer : new.outer ≡ old.outer
   pub inner : new.inner ≡ old.inner ++ more
 
--- An empty component stands in the one that was the inner one.
+-- An empty component is in the one that was the inner one.
 pub record OpensComponent (old new : Building) : Type 0 where
   pub outer : new.outer ≡ old.outer ++ old.inner ∷ []
   pub inner : new.inner ≡ []
@@ -46,7 +46,7 @@ abbrev pub ClosesSections : Building → Step → Type 0
 ClosesSections old (StillBuilding new) = ClosesComponent old new
 ClosesSections old (Finished c) = (old.outer ≡ []) × (more : List Section) × (c ≡ shown_sections (old.inner ++ more))
 
--- The sections that stood before a turn stay in front, unchanged.
+-- The sections that were there before a turn stay in front, unchanged.
 abbrev pub KeepsSections : Building → Step → Type 0
 KeepsSections old (StillBuilding new) = AddsSections old new ⊎ OpensComponent old new ⊎ ClosesComponent old new
 KeepsSections old (Finished c) = ClosesSections old (Finished c)
@@ -63,15 +63,15 @@ AddsValues config item.Module old b step rest = (new : Building) × (step ≡ St
 AddsValues config item.Component old b step rest = Unit {0}
 AddsValues config item.Exports old b step rest = Unit {0}
 
--- One turn by the sections that it adds: a choice names an item, and what that adds is what the bytes after the choice give, URLs, what
--- outer aliases keep, and the parts of a core module included.
+-- One turn by the sections that it adds: a choice names an item, and what that adds is what the bytes after the choice produce,
+-- including URLs, what outer aliases keep, and the parts of a core module.
 pub record TurnAdds (config : Config) (old : Building) (left : List ℕ) (step : Step) (left2 : List ℕ) : Type 0 where
   pub item : Item
   pub after : List ℕ
   pub chooses : ReadsAmong (items config (open_of old) left) left item after
   pub adds : AddsValues config item old after step left2
 
--- A builder that goes on has the same config, and an answer is well formed and within the limits, and its types within their fuel.
+-- A builder that continues has the same config, and an answer is well formed and within the limits, and its types within their fuel.
 abbrev pub StaysSound : Config → Step → Type 0
 StaysSound config (StillBuilding b) = b.config ≡ config
 StaysSound config (Finished c) = Limits config c × WellFormed c × Sized config c

@@ -25,7 +25,7 @@ pub record IsGrounded (t : Tree) : Type 0 where
   pub known : AllByRecursion (λ ty. ty < length (types_of t)) (functions_of t)
   pub lowered : AllByRecursion (IsLowerable t) (core_functions_of t)
 
--- The tables are those of the component, but for the names of its imports.
+-- The tables are those of the component, except for the names of its imports.
 pub record Tabled (tables : Tables) (t : Tree) : Type 0 where
   pub functions : tables.functions.items ≡ functions_of t
   pub core_functions : tables.core_functions.items ≡ core_functions_of t
@@ -39,7 +39,7 @@ pub record IsTabled (c : OpenComponent) : Type 0 where
   pub tabled : Tabled c.tables (shown_sections c.sections.items)
   pub externs : HoldsExterns c.tables.imports (externs_of c.sections.items)
 
--- how many functions stand in index spaces
+-- how many functions are in index spaces
 abbrev pub functions_at : Spaces → ℕ
 functions_at s = length s.functions + length s.core_functions
 
@@ -47,7 +47,7 @@ functions_at s = length s.functions + length s.core_functions
 abbrev pub IsKnown : Scope → Tables → Type 0
 IsKnown own tables = AllByRecursion (λ ty. ty < length own.types) tables.functions.items
 
--- new is old with a component function of the type with that index, and counts so many more
+-- new is old with a component function of the type with that index, and counts that many more
 pub record AddsFunction (own : Scope) (more : ℕ) (old : Tables) (ty : ℕ) (new : Tables) : Type 0 where
   pub functions : new.functions.items ≡ old.functions.items ++ ty ∷ []
   pub scalars : new.scalars.items ≡ old.scalars.items ++ (if is_scalar_type own.types ty then length old.functions.items ∷ [] else [])

@@ -25,7 +25,7 @@ pub data Next : Type 0 where
   building : Open → Next
   answered : Tree → Next
 
--- the inner component with one part more
+-- the inner component with one more part
 abbrev pub with_part : Open → Part → Next
 with_part stack p = building (record { outer = stack.outer; inner = add stack.inner p })
 
@@ -33,7 +33,7 @@ with_part stack p = building (record { outer = stack.outer; inner = add stack.in
 abbrev pub with_open : Open → Next
 with_open stack = building (record { outer = stack.outer ++ stack.inner ∷ []; inner = ends })
 
--- The root is answered, or the inner component becomes a part of the one around it.
+-- The root is returned, or the inner component becomes a part of the one around it.
 abbrev pub Closes : Open → Next → Type 0
 Closes stack next =
     ((stack.outer ≡ []) × (next ≡ answered stack.inner))
@@ -59,7 +59,7 @@ Does config Module stack b next rest = (m : ModuleParts) × ReadsStandIn config 
 Does config Component stack b next rest = (rest ≡ b) × (next ≡ with_open stack)
 Does config Exports stack b next rest = (es : List ExportEntry) × ReadsExports config stack.outer stack.inner b es rest × (next ≡ with_part stack (exports es))
 
--- One turn leads from the open components and the bytes left to what comes next and the bytes left then: a choice names an item, and
+-- One turn leads from the open components and the bytes left to what follows and the bytes left then: a choice names an item, and
 -- that is done.
 pub record Turn (config : Config) (stack : Open) (left : List ℕ) (next : Next) (left2 : List ℕ) : Type 0 where
   pub item : Item

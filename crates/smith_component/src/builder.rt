@@ -3,6 +3,7 @@
 ghost use Rattle.std.specs.Prelude.{◌≡◌, ℕ, ◌+◌, List, [], length, IfOk, IfErr};
 ghost use Rattle.smith_input.specs.Reading.{IsTail};
 ghost use Rattle.smith_format.specs.Consistency.{IsConsistent};
+ghost use Rattle.smith_format.specs.Limits.{configured};
 ghost use Rattle.smith_component.specs.Building.{open_of};
 ghost use Rattle.smith_component.specs.BuilderView.{building_of, stack_of, IsSound};
 ghost use Rattle.smith_component.specs.Filling.{CanFill};
@@ -78,16 +79,26 @@ pub enum Step {
     Finished(Component),
 }
 
+// The value types of limits that fit together.
+pub(crate) fn checked_valtypes(alloc: Global, config: &Config) -> Result<Vec<ValType>, Error>
+    ensures list { IfOk result (λ v. v.items ≡ configured config.now) }
+    ensures accepts { IfOk result (λ _. IsConsistent config.now) }
+    ensures refuses { IfErr result (IsNewRefusal config.now) }
+{
+    config.check()?;
+    configured_valtypes(alloc, config)
+}
+
 impl Progress {
-    // One open component, empty.
-    pub(crate) fn new(alloc: Global, config: Config) -> Result<Progress, Error>
-        ensures made { IfOk result (λ b. (b.config ≡ config) × (stack_of b ≡ root)) }
-        ensures sound { IfOk result IsSound }
-        ensures refuses { IfErr result (IsNewRefusal config) }
+    // One open component, empty, within limits that fit together and have these value types. It is made where it stays:
+    // in a result it would be copied twice.
+    pub(crate) fn new(alloc: Global, config: Config, valtypes: Vec<ValType>) -> Progress
+        requires consistent { IsConsistent config }
+        requires valtypes { valtypes.items ≡ configured config }
+        ensures made { (result.config ≡ config) × (stack_of result ≡ root) }
+        ensures sound { IsSound result }
     {
-        config.check()?;
-        let valtypes = configured_valtypes(alloc, &config)?;
-        Ok(Progress {
+        Progress {
             alloc,
             config,
             valtypes,
@@ -99,10 +110,10 @@ impl Progress {
                 components: 0,
                 instances: 0,
             },
-        })
+        }
     }
 
-    // One turn. It answers the component, if that is finished.
+    // One turn. It returns the component, if that is finished.
     pub(crate) fn turn(&mut self, u: &mut Unstructured) -> Result<Option<Component>, Error>
         requires sound { IsSound self.old }
         ensures steps { IfOk result (λ c. IsStep (building_of self.old) u.old (step_of self.new c) u.new) }
@@ -115,7 +126,7 @@ impl Progress {
         self.do_item(item, u)
     }
 
-    // What was chosen is done. It answers the component, if that is finished.
+    // What was chosen is done. It returns the component, if that is finished.
     fn do_item(&mut self, item: Item, u: &mut Unstructured) -> Result<Option<Component>, Error>
         requires sound { IsSound self.old }
         requires offered { IsOffered self.old.config (stack_of self.old) item }
@@ -142,28 +153,30 @@ impl Progress {
 }
 
 impl Builder {
-    /// A builder with one open component, empty. Limits that do not fit together are refused with
-    /// `InconsistentLimits`, and nothing else but for want of memory.
+    /// A builder with one open component, empty. Limits that do not fit together are refused with `InconsistentLimits`,
+    /// and otherwise it fails only when out of memory.
     pub fn new(alloc: Global, config: Config) -> Result<Builder, Error>
         ensures made { IfOk result (λ b. (b.config ≡ config) × (open_of b ≡ root)) }
         ensures accepted { IfOk result (λ _. IsConsistent config) }
         ensures refuses { IfErr result (IsNewRefusal config) }
     {
-        let progress = Progress::new(alloc, config)?;
+        let valtypes = checked_valtypes(alloc, &config)?;
+        let progress = Progress::new(alloc, config, valtypes);
         Ok(Builder { progress })
     }
 
-    /// One turn: a choice among what may be done, and that. Where the choice is to finish a component, what it lacks of
-    /// the minima is added first: types, then imports, then functions. Where imports or functions lack after that, no
-    /// component is finished, and `MinimumNotMet` is answered only there. Where the choice is a core module, and the
-    /// limits on memories leave none, it is `ModuleRefused`. Nothing else is refused but for want of memory.
+    /// One turn: a choice among what may be done, which is then done. Where the choice is to finish a component, what
+    /// it is missing of the minima is added first: types, then imports, then functions. Where imports or functions are
+    /// missing after that, no component is finished, and `MinimumNotMet` is returned only there. Where the choice is a
+    /// core module, and the limits on memories leave none, it is `ModuleRefused`. Otherwise it fails only when out of
+    /// memory.
     pub fn step(self, u: &mut Unstructured) -> Result<Step, Error>
         ensures steps { IfOk result (λ s. IsStep self u.old s u.new) }
         ensures falls { IfOk result (λ s. Falls self.config u.old (open_of self) u.new (next_of s)) }
         ensures accepted { IsConsistent self.config }
-        // A refusal leaves what is decided too, want of memory aside.
+        // A refusal leaves what is decided too, allocation failure aside.
         ensures refuses { IfErr result (λ e. IsStepRefusal self.config (open_of self) u.old e u.new) }
-        // The root is finished without memory where no input is left and it lacks nothing.
+        // No memory is needed to finish the root where no input is left and nothing is missing.
         ensures alone { IsReady self.config (open_of self) u.old → IsAnswered result }
         ensures fills { CanFill self.config (open_of self).outer (open_of self).inner
             → IfErr result (λ e. ¬ (e ≡ Error.MinimumNotMet)) }

@@ -23,26 +23,25 @@ pub struct Generated {
     pub bytes: Vec<u8>,
 }
 
-/// The component that the input gives, and its bytes.
+/// The component that the input produces, and its bytes.
 ///
 /// Limits that do not fit together are refused with `InconsistentLimits` before a byte is read. A component that is to
-/// be finished and lacks imports or functions of a minimum, though what can be filled is, is refused with
+/// be finished and is missing imports or functions of a minimum, though what can be filled is, is refused with
 /// `MinimumNotMet`; one that is to have a core module where the limits on memories leave none with `ModuleRefused`; one
-/// of which a written length or count exceeds 4,294,967,295 with `TooLong`. Nothing else is refused but for want of
-/// memory.
+/// of which a written length or count exceeds 4,294,967,295 with `TooLong`. Otherwise it fails only when out of memory.
 pub fn generate(alloc: Global, config: Config, u: &mut Unstructured) -> Result<Generated, Error>
     // The bytes have one reading, the component, which is well formed and within the limits.
     ensures generated { IfOk result (λ g. Generates config g.component g.bytes.items) }
 
     // The component is that of a run of turns over the input, which leaves what is left, and one of those that can be
-    // generated. With `reach` and `answers`, exactly those of these that have bytes are.
+    // generated. By `reach` and `answers`, exactly those of them that have bytes are generated.
     ensures made { IfOk result (λ g. IsMade config u.old g.component u.new) }
 
-    // An input that begins with the script of a plan gives the plan's bytes, and leaves what is after it.
+    // An input that begins with the script of a plan produces the plan's bytes, and leaves what is after it.
     ensures reach { (plan : Tree) (rest : List ℕ) → Within config plan → u.old ≡ script config plan ++ rest
         → IfOk result (λ g. (g.component ≡ plan) × Spells plan g.bytes.items × (u.new ≡ rest)) }
 
-    // It is answered, want of memory aside.
+    // It is returned, unless memory runs out.
     ensures answers { (plan : Tree) (rest : List ℕ) → IsConsistent config → Within config plan
         → u.old ≡ script config plan ++ rest → IfErr result (λ e. e ≡ Error.OutOfMemory) }
 

@@ -1,6 +1,6 @@
 //! What a component has a minimum of.
 
-/// What a component has a minimum of. Public since contracts speak of it.
+/// What a component has a minimum of. Public because contracts refer to it.
 #[derive(Debug, Clone, Copy)]
 pub enum Counted {
     Types,

@@ -72,14 +72,14 @@ pub fn components_are_exact()
         ↔ (CanBeGenerated config tree × AreFinishable config tree) }
 {}
 
-/// Where a run leads to a component that has bytes, nothing is refused but for want of memory.
+/// Where a run leads to a component that has bytes, nothing is refused, except when out of memory.
 pub fn answers_are_not_refused()
     ensures { (config : Config) (input : List ℕ) (tree : Tree) (left b : List ℕ) → IsConsistent config
         → RunsTo config input tree left → Spells tree b
         → (e : Error) (rest : List ℕ) → IsGenerateRefusal config input e rest → e ≡ OutOfMemory }
 {}
 
-/// The limits and the input alone decide what is refused, and what is left then, want of memory aside.
+/// The limits and the input alone decide what is refused, and what is left then, allocation failure aside.
 pub fn refusals_are_decided()
     ensures { (config : Config) (input : List ℕ) (d e : Error) (left rest : List ℕ)
         → IsGenerateRefusal config input d left → IsGenerateRefusal config input e rest
@@ -97,7 +97,8 @@ pub fn turns_leave_a_tail()
         → (turn : Turn config stack left next rest) → IsTail rest turn.after }
 {}
 
-/// The script of a part of a plan, but of a component, is a turn that adds this part, for who builds turn by turn.
+/// The script of a part of a plan, other than a component, is a turn that adds this part, for those who build turn by
+/// turn.
 pub fn scripted_parts_are_added()
     ensures { (config : Config) (stack : Open) (p : Part) → IsConsistent config → ¬ (item_of p ≡ ItemComponent)
         → Continues config stack p

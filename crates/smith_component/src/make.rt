@@ -11,35 +11,36 @@ ghost use Rattle.smith_tree.specs.Tree.{Tree};
 ghost use Rattle.smith_tree.specs.WellFormed.{WellFormed};
 ghost use Rattle.smith_format.specs.declared.config.Config.{Config};
 
-use crate::builder::Progress;
+use crate::builder::{Progress, checked_valtypes};
 use crate::component::Component;
 use smith_format::Config;
 use smith_input::{Error, Unstructured};
 use std::alloc::Global;
 
 impl Component {
-    /// The component that the input gives, turn by turn: a run of turns from one empty open component, of at
-    /// most as many as the input has bytes and components may nest. Limits that do not fit together are refused
-    /// with `InconsistentLimits` before a byte is read, and a component that is to be finished and lacks imports or
+    /// The component that the input produces, turn by turn: a run of turns from one empty open component, of at most as
+    /// many as the input has bytes and components may nest. Limits that do not fit together are refused with
+    /// `InconsistentLimits` before a byte is read, and a component that is to be finished and is missing imports or
     /// functions of a minimum with `MinimumNotMet`. Where a core module is chosen, and the limits on memories leave
-    /// none, that is `ModuleRefused`. Nothing else is refused but for want of memory.
+    /// none, that is `ModuleRefused`. Otherwise it fails only when out of memory.
     pub fn new(alloc: Global, config: Config, u: &mut Unstructured) -> Result<Component, Error>
         ensures made { IfOk result (λ c. IsMade config u.old c u.new) }
         ensures reach { (plan : Tree) (rest : List ℕ) → Within config plan → u.old ≡ script config plan ++ rest
             → IfOk result (λ c. (c ≡ plan) × (u.new ≡ rest)) }
-        // It is answered, want of memory aside.
+        // It is returned, unless memory runs out.
         ensures answers { (plan : Tree) (rest : List ℕ) → IsConsistent config → Within config plan
             → u.old ≡ script config plan ++ rest → IfErr result (λ e. e ≡ Error.OutOfMemory) }
         ensures accepts { OnOk result (IsConsistent config) }
         ensures refuses { IfErr result (λ e. IsRefusal config u.old e u.new) }
-        // Where no import and no function is owed, and the limits on memories do not cross, it refuses for want of
-        // memory alone.
+        // Where no import and no function is required, and the limits on memories do not cross, it fails only when out
+        // of memory.
         ensures acceptance { IsConsistent config → config.min_imports ≡ 0 → config.min_funcs ≡ 0
             → config.min_memories ≤ config.max_memories → IfErr result (λ e. e ≡ Error.OutOfMemory) }
         ensures unread { ¬ IsConsistent config → u.new ≡ u.old }
         ensures tail { IsTail u.new u.old }
     {
-        let mut progress = Progress::new(alloc, config)?;
+        let valtypes = checked_valtypes(alloc, &config)?;
+        let mut progress = Progress::new(alloc, config, valtypes);
         loop {
             let done = progress.turn(u)?;
             match done {
@@ -49,7 +50,7 @@ impl Component {
         }
     }
 
-    /// The component that the input gives within the default limits. It refuses for want of memory alone.
+    /// The component that the input produces within the default limits. It fails only when out of memory.
     pub fn arbitrary(alloc: Global, u: &mut Unstructured) -> Result<Component, Error>
         ensures limits { IfOk result (λ c. (config : Config) → IsDefault config → Limits config c) }
         ensures formed { IfOk result (λ c. WellFormed c) }

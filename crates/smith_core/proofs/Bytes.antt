@@ -104,7 +104,7 @@ are_kind_byte export_kind.Tag = are_byte 0x04 (omega arith)
 are_export : (e : String Global × ExportKind × ℕ) → AreBytes (export e)
 are_export e = are_join (are_text (string_bytes e.0)) (are_join (are_kind_byte e.1) (are_u e.2))
 
--- what stands between an instruction's first byte and its end
+-- what is between an instruction's first byte and its end
 are_ended : (n : ℕ) {p : Piece} → n < 256 → AreBytes p → AreBytes (byte n ⊕ p ⊕ byte 0x0b)
 are_ended n h f = are_after n h (are_join f (are_byte 0x0b (omega arith)))
 

@@ -57,7 +57,7 @@ are_tested : (x : Bool) (b : List ℕ) → (x ≡ true → AreSmall b) → AreBy
 are_tested true b f = are_some b (f refl)
 are_tested false b f = are_none
 
--- a byte, and what stands after it
+-- a byte, and what follows it
 pub are_after : (n : ℕ) {p : Piece} → n < 256 → AreBytes p → AreBytes (byte n ⊕ p)
 are_after n h f = are_join (are_byte n h) f
 
@@ -109,7 +109,7 @@ pub are_text : (t : List ℕ) → AreBytes (text t)
 unfolding text
 are_text t = are_join (are_u (length t)) (are_utf8 t)
 
--- what stands after its length or its count
+-- what follows its length or its count
 pub are_framed : {p : Piece} → AreBytes p → AreBytes (framed p)
 unfolding framed
 are_framed {p = None} f = are_none

@@ -1,4 +1,4 @@
--- Tables and globals, whose parts stand in two lists, and data segments.
+-- Tables and globals, whose parts are in two lists, and data segments.
 use Rattle.std.proofs.Common.{◌≡◌, ◌≢◌, ℕ, zero, suc, ◌+◌, ◌<◌, Bool, true, false, cond, nat_lt, List, [], ◌∷◌, length, get_or, Some, None, refl, ap, sym, ◌∙◌}
 use Rattle.std.proofs.Common.{subst, arith}
 use Rattle.std.specs.List.{AllByRecursion, list_all, slice_get, zip}

@@ -56,4 +56,5 @@ small_stand_in config s h =
     small_join
     (small_turns (λ (u : Unit {0}) f. script_function (configured config) (max_results config) f) (λ u f. u) 0 (min config.max_types 20) 0 tt s.types
     (all_of (λ f. (u : Unit {0}) → Small (script_function (configured config) (max_results config) f)) (λ f u. small_function config f) s.types))
-    (small_turns (λ (u : Unit {0}) m. script_memory m) (λ u m. u) config.min_memories config.max_memories 0 tt s.memories (small_memories s.memories h.memories))
+    (small_turns (λ (u : Unit {0}) m. script_memory m) (λ u m. u) config.min_memories config.max_memories
+    0 tt s.memories (small_memories s.memories h.memories))

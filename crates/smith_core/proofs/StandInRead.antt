@@ -1,5 +1,6 @@
 -- A module of the bytes of function types and memories within the limits is read from their script.
-use Rattle.std.proofs.Common.{◌≡◌, ℕ, suc, ◌+◌, ◌<◌, ◌≤◌, ◌^◌, Bool, true, false, List, [], ◌∷◌, ◌++◌, map, length, refl, sym, ap, ◌∙◌, subst, arith, min, None, append_assoc}
+use Rattle.std.proofs.Common.{◌≡◌, ℕ, suc, ◌+◌, ◌<◌, ◌≤◌, ◌^◌, Bool, true, false, List, [], ◌∷◌, ◌++◌, map, length}
+use Rattle.std.proofs.Common.{refl, sym, ap, ◌∙◌, subst, arith, min, None, append_assoc}
 use denote.RawPtr.{null_ptr}
 use Rattle.std.specs.Global.{Vec}
 use Rattle.std.specs.List.{AllByRecursion}
@@ -26,14 +27,23 @@ use Rattle.smith_core.proofs.StandInSame.{function_at, is_plain, text_is, IsPlai
 
 -- a list of the program with these items
 abbrev vec_of : {A : Type 0} (xs : List A) → length xs < 2 ^ 63 → Vec A
-vec_of xs h = record { ptr = null_ptr; len = length xs; cap = length xs; alloc = record { memory = record { seal = tt } }; items = xs; ok = (refl, omega arith); small = h }
+vec_of xs h = record {
+  ptr = null_ptr;
+  len = length xs;
+  cap = length xs;
+  alloc = record { memory = record { seal = tt } };
+  items = xs;
+  ok = (refl, omega arith);
+  small = h;
+}
 
 abbrev empty_vec : {A : Type 0} → Vec A
 empty_vec = vec_of [] (omega arith)
 
 -- a script of what items show
 script_shown : {A B : Type 0} (script : B → List ℕ) (f : A → B) (min max done : ℕ) (s : Unit {0}) (xs : List A)
-    → script_loop (λ (u : Unit {0}) x. script (f x)) (λ u x. u) min max done s xs ≡ script_loop (λ (u : Unit {0}) y. script y) (λ u y. u) min max done s (map f xs)
+    → script_loop (λ (u : Unit {0}) x. script (f x)) (λ u x. u) min max done s xs
+    ≡ script_loop (λ (u : Unit {0}) y. script y) (λ u y. u) min max done s (map f xs)
 script_shown script f min max done s [] = refl
 script_shown script f min max done s (x ∷ xs) = ap (λ z. script_more min done ++ script (f x) ++ z) (script_shown script f min max (done + 1) s xs)
 
@@ -100,7 +110,8 @@ module _ (config : Config) where
   sub_types [] all = []
   sub_types (f ∷ fs) all = sub_of f all.0 ∷ sub_types fs all.1
 
-  types_shown : (fs : List Function) (all : AllByRecursion (FormedFunction (configured config) (max_results config)) fs) → map function_at (sub_types fs all) ≡ fs
+  types_shown : (fs : List Function) (all : AllByRecursion (FormedFunction (configured config) (max_results config)) fs)
+      → map function_at (sub_types fs all) ≡ fs
   types_shown [] all = refl
   types_shown (f ∷ fs) all = ap (λ gs. f ∷ gs) (types_shown fs all.1)
 
@@ -114,7 +125,8 @@ module _ (config : Config) where
       FormedFunction (configured config) (max_results config) (function_at t) × (t.is_final ≡ true) × (t.supertype ≡ None)
       × IsFunction t.composite_type (function_at t)
 
-  types_readable : (fs : List Function) (all : AllByRecursion (FormedFunction (configured config) (max_results config)) fs) → AllByRecursion IsReadable (sub_types fs all)
+  types_readable : (fs : List Function) (all : AllByRecursion (FormedFunction (configured config) (max_results config)) fs)
+      → AllByRecursion IsReadable (sub_types fs all)
   types_readable [] all = tt
   types_readable (f ∷ fs) all = ((all.0, refl, refl, refl), types_readable fs all.1)
 
@@ -132,7 +144,8 @@ module _ (config : Config) where
 
   types_read : (most : ℕ) (ts : List SubType) (rest : List ℕ) → AllByRecursion IsReadable ts → length ts ≤ most
       → Loop Never (ReadsSubType config) 0 most 0 tt
-      (script_loop (λ (u : Unit {0}) f. script_function (configured config) (max_results config) f) (λ u f. u) 0 most 0 tt (map function_at ts) ++ rest) ts rest tt
+      (script_loop (λ (u : Unit {0}) f. script_function (configured config) (max_results config) f) (λ u f. u) 0 most 0 tt (map function_at ts) ++ rest)
+      ts rest tt
   types_read most ts rest all few =
       let script : Function → List ℕ = λ f. script_function (configured config) (max_results config) f in
       let said = loop_read {Ends = Never} {Item = ReadsSubType config} {min = 0} {max = most} (λ (u : Unit {0}) t. script (function_at t)) (λ u t. u)

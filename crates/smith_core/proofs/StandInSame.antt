@@ -180,5 +180,6 @@ stand_in_same {config} {b} {m} {n} {r} {q} x y =
     (subst M types.1 x.memories) y.memories in
     let plain_m = loop_all IsPlain (is_plain config) 0 tt b m.types.items x.mid tt x.types in
     let plain_n = loop_all IsPlain (is_plain config) 0 tt b n.types.items y.mid tt y.types in
-    let same : stand_in_text (shown_stand_in m) ≡ stand_in_text (shown_stand_in n) = λ i. stand_in_text (record { types = types.0 i; memories = memories.0 i }) in
+    let same : stand_in_text (shown_stand_in m) ≡ stand_in_text (shown_stand_in n) =
+    λ i. stand_in_text (record { types = types.0 i; memories = memories.0 i }) in
     (text_is m x.parts plain_m ∙ (same ∙ sym (text_is n y.parts plain_n)), memories.1)

@@ -1,5 +1,6 @@
 -- Function types and memories are found again from the bytes of the module that they are.
-use Rattle.std.proofs.Common.{◌≡◌, ◌⊎◌, inl, inr, ℕ, zero, suc, ◌+◌, ◌/◌, ◌%◌, ◌<◌, ◌≤◌, ◌^◌, Bool, true, false, nat_le, nat_lt, if◌then◌else◌, List, [], ◌∷◌, ◌++◌}
+use Rattle.std.proofs.Common.{◌≡◌, ◌⊎◌, inl, inr, ℕ, zero, suc, ◌+◌, ◌/◌, ◌%◌, ◌<◌, ◌≤◌, ◌^◌, Bool, true}
+use Rattle.std.proofs.Common.{false, nat_le, nat_lt, if◌then◌else◌, List, [], ◌∷◌, ◌++◌}
 use Rattle.std.proofs.Common.{IfSome, map, take, drop, length, refl, sym, ap, ◌∙◌, subst, arith, Option, Some, None, append_assoc}
 use Rattle.std.proofs.Math.Seq.{take-append_seam, drop-append_seam}
 use Rattle.std.proofs.lemmas.Bool.Decides.{nat_tests}
@@ -155,10 +156,12 @@ module _ (config : Config) where
         found = λ rest.
             let params : values_of ((p.are ++ r.are) ++ rest) ≡ (f.0, r.are ++ rest) = ap values_of (append_assoc p.are r.are rest) ∙ p.found (r.are ++ rest) in
             let results : values_of (r.are ++ rest) ≡ (f.1, rest) = r.found rest in
-            ap (λ (z : List ValType × List ℕ). let o = values_of z.1 in ((z.0, o.0), o.1)) params ∙ ap (λ (o : List ValType × List ℕ). ((f.0, o.0), o.1)) results;
+            ap (λ (z : List ValType × List ℕ). let o = values_of z.1 in ((z.0, o.0), o.1)) params
+            ∙ ap (λ (o : List ValType × List ℕ). ((f.0, o.0), o.1)) results;
       }
 
-  functions_told : (fs : List Function) → AllByRecursion (FormedFunction (configured config) (max_results config)) fs → Told (each core_function fs) (functions_from (length fs)) fs
+  functions_told : (fs : List Function) → AllByRecursion (FormedFunction (configured config) (max_results config)) fs
+      → Told (each core_function fs) (functions_from (length fs)) fs
   functions_told [] all = record { are = []; is = refl; found = λ rest. refl }
   functions_told (f ∷ fs) all =
       let one = function_told f all.0 in
@@ -173,7 +176,8 @@ module _ (config : Config) where
             ∙ ap (λ (o : List Function × List ℕ). (f ∷ o.0, o.1)) (more.found rest);
       }
 
-  counted_told : (fs : List Function) → AllByRecursion (FormedFunction (configured config) (max_results config)) fs → length fs ≤ 20 → Told (many core_function fs) counted_functions fs
+  counted_told : (fs : List Function) → AllByRecursion (FormedFunction (configured config) (max_results config)) fs
+      → length fs ≤ 20 → Told (many core_function fs) counted_functions fs
   counted_told fs all few =
       let t = functions_told fs all in
       record {
@@ -267,7 +271,8 @@ few_listed : (ms : List MemoryType) (m : List ℕ) → listed 5 memory_type ms �
 few_listed [] m e = omega arith
 few_listed (x ∷ xs) m e = by_count (u_cases (length (x ∷ xs)))
   where
-    by_count : ((u (length (x ∷ xs)) ≡ Some (unsigned (length (x ∷ xs)))) × (length (x ∷ xs) < 2 ^ 32)) ⊎ ((u (length (x ∷ xs)) ≡ None) × (2 ^ 32 ≤ length (x ∷ xs)))
+    by_count : ((u (length (x ∷ xs)) ≡ Some (unsigned (length (x ∷ xs)))) × (length (x ∷ xs) < 2 ^ 32))
+        ⊎ ((u (length (x ∷ xs)) ≡ None) × (2 ^ 32 ≤ length (x ∷ xs)))
         → length (x ∷ xs) < 2 ^ 32
     by_count (inl h) = h.1
     by_count (inr h) =

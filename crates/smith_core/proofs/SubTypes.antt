@@ -1,4 +1,4 @@
--- The lengths of what stands before a composite type.
+-- The lengths of what precedes a composite type.
 use Rattle.std.proofs.Common.{◌≡◌, ℕ, ◌+◌, ◌<◌, ◌^◌, Bool, true, false, length, [], ◌∷◌, Some, None, refl, subst, arith}
 use Rattle.smith_format.specs.Numbers.{unsigned, digits}
 use Rattle.smith_format.specs.Piece.{u, byte, many}

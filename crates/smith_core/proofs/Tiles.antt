@@ -1,4 +1,4 @@
--- Groups that tile: where each of them stands, and how they are tested one after another.
+-- Groups that tile: where each of them is, and how they are tested one after another.
 use Rattle.std.proofs.Common.{◌≡◌, ℕ, zero, suc, ◌<◌, ◌≤◌, ◌↔◌, List, [], ◌∷◌, length, drop, get_or, arith}
 use Rattle.std.proofs.lemmas.List.{get_or_default}
 use Rattle.smith_core.specs.Parts.{Tiles}
@@ -14,7 +14,7 @@ tiles_within [] low high i d t h = absurd (omega (arith, h))
 tiles_within (g ∷ gs) low high zero d t h = (t.1, tiles_le gs g.1 high t.2)
 tiles_within (g ∷ gs) low high (suc i) d t h = tiles_within gs g.1 high i d t.2 (omega (arith, h))
 
--- a member, whatever stands for one that is not there
+-- a member, whatever is used for one that is not there
 pub member_is : {A : Type 0} (xs : List A) (i : ℕ) (d : A) → i < length xs
     → get_or xs i d ≡ get_or xs i (get_or xs i d)
 member_is xs i d h = get_or_default xs i d _ h

@@ -69,7 +69,7 @@ is_written m DataCount = m.bulk_memory_enabled && has_any m.data_segments.items
 is_written m Code = has_any m.code.items
 is_written m Data = has_any m.data_segments.items
 
--- the last so many: what is defined stands after what is imported
+-- that many items from the end: what is defined follows what is imported
 abbrev pub last : {A : Type 0} → ℕ → List A → List A
 last n xs = drop (length xs - n) xs
 

@@ -1,4 +1,4 @@
--- What stands in a core module besides its types, and its bytes (core specification, Binary Format, Modules).
+-- What is in a core module besides its types, and its bytes (core specification, Binary Format, Modules).
 use Rattle.std.specs.Prelude.{ℕ, zero, suc, [], ◌∷◌, Option, Some, None, string_bytes}
 use Rattle.std.specs.declared.vec.Vec.{Vec}
 use Rattle.std.specs.declared.alloc.Global.{Global}
@@ -43,13 +43,13 @@ named_type (Some g) = global_type g
 abbrev pub export : String Global × ExportKind × ℕ → Piece
 export e = text (string_bytes e.0) ⊕ byte (kind_byte e.1) ⊕ u e.2
 
--- the offset of a segment: the instruction that gives it, and its end (Instructions, Numeric Instructions, Variable Instructions)
+-- the offset of a segment: the instruction that produces it, and its end (Instructions, Numeric Instructions, Variable Instructions)
 abbrev pub offset : Offset → Piece
 offset (Const32 n) = byte 0x41 ⊕ s n ⊕ byte 0x0b
 offset (Const64 n) = byte 0x42 ⊕ s n ⊕ byte 0x0b
 offset (GlobalOffset g) = byte 0x23 ⊕ u g ⊕ byte 0x0b
 
--- an element segment (Modules, Element Section): what stands before its functions or its expressions, one line for each of the eight
+-- an element segment (Modules, Element Section): what precedes its functions or its expressions, one line for each of the eight
 -- forms, and then those
 
 abbrev pub functions_front : ElementKind → Piece
@@ -75,7 +75,7 @@ element e = element_of e.kind e.ty e.items
 abbrev pub local : ValType → Piece
 local t = byte 0x01 ⊕ core_val t
 
--- Generated instructions are without their end, and arbitrary ones stand as they are.
+-- Generated instructions are without their end, and arbitrary ones are taken as they are.
 abbrev pub instructions : Instructions → Piece
 instructions (Generated e) = expression e
 instructions (Arbitrary e) = raw e.items

@@ -21,6 +21,6 @@ Splits b xs = bytes core_preamble ⊕ each core_section xs ≡ Some b
 abbrev pub sections_of : ModuleParts → List (ℕ × Piece)
 sections_of m = map (λ k. (section_id k, contents m k)) (filter (is_written m) binary_order)
 
--- the same of sections of bytes
+-- the same for sections of bytes
 abbrev pub present_section : CoreSection → ℕ × Piece
 present_section x = (x.0, Some x.1)

@@ -63,7 +63,7 @@ pub record ReadsStandIn (config : Config) (bytes : List ℕ) (m : ModuleParts) (
   pub bulk_memory : m.bulk_memory_enabled ≡ config.bulk_memory_enabled
   pub parts : HasTypesAndMemories m
 
--- A module is refused where the limits on memories cross, and else only for want of memory.
+-- A module is refused where the limits on memories cross, and otherwise only when out of memory.
 abbrev pub IsStandInRefusal : Config → Error → Type 0
 IsStandInRefusal config InconsistentLimits = ⊥
 IsStandInRefusal config MinimumNotMet = ⊥

@@ -47,7 +47,7 @@ abbrev pub past_number : List ℕ → List ℕ
 past_number [] = []
 past_number (b ∷ bs) = if nat_le 128 b then past_number bs else bs
 
--- a byte that counts value types, so many of them, and what is after
+-- a byte that counts value types, that many of them, and what is after
 abbrev pub values_of : List ℕ → List ValType × List ℕ
 values_of [] = ([], [])
 values_of (count ∷ bs) = (map value_of (take count bs), drop count bs)
@@ -56,12 +56,12 @@ values_of (count ∷ bs) = (map value_of (take count bs), drop count bs)
 abbrev pub function_of : List ℕ → Function × List ℕ
 function_of bs = let params = values_of (drop 1 bs) in let results = values_of params.1 in ((params.0, results.0), results.1)
 
--- so many function types, and what is after
+-- that many function types, and what is after
 abbrev pub functions_from : ℕ → List ℕ → List Function × List ℕ
 functions_from zero bs = ([], bs)
 functions_from (suc more) bs = let first = function_of bs in let others = functions_from more first.1 in (first.0 ∷ others.0, others.1)
 
--- a byte that counts function types, so many of them, and what is after
+-- a byte that counts function types, that many of them, and what is after
 abbrev pub counted_functions : List ℕ → List Function × List ℕ
 counted_functions [] = ([], [])
 counted_functions (count ∷ bs) = functions_from count bs

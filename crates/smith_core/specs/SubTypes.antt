@@ -27,7 +27,7 @@ composite (Func f) = core_function (shown_func f)
 composite (Array f) = byte 0x5e ⊕ field f
 composite (Struct fs) = byte 0x5f ⊕ many field fs.items
 
--- what stands before the composite type of a sub type: nothing where it is final and has no supertype, and else which it is, and the
+-- what precedes the composite type of a sub type: nothing where it is final and has no supertype, and otherwise which it is, and the
 -- list of its supertypes
 abbrev pub sub_prefix : Bool → Option ℕ → Piece
 sub_prefix true None = bytes []

@@ -1,6 +1,6 @@
--- Which core modules have no encoding, since a count, an index or the length of a name, of a body, of a data segment
--- or of a section in them exceeds 4,294,967,295. Names that are no UTF-8, bytes that are no bytes, and bounds of limits
--- of more than 64 bits stand in no module of the program.
+-- Which core modules have no encoding, since a count, an index or the length of a name, of a body, of a data segment or
+-- of a section in them exceeds 4,294,967,295. Names that are not UTF-8, numbers that are not bytes, and bounds of
+-- limits of more than 64 bits occur in no module of the program.
 use Rattle.std.specs.Prelude.{◌≡◌, ◌⊎◌, ℕ, true, length, Option, Some, None, string_bytes}
 use Rattle.std.specs.List.{Any, slice_get, slice_range, zip}
 use Rattle.std.specs.declared.vec.Vec.{Vec}

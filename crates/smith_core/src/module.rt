@@ -80,7 +80,7 @@ impl Module {
         settled(out, start, given)
     }
 
-    // Puts the module's bytes into a buffer that has room for them, so that no memory is asked for.
+    // Puts the module's bytes into a buffer that has room for them, so that no memory is allocated.
     fn fill(&self, out: &mut Vec<u8>) -> Result<(), Error>
         requires spelled { ¬ (module_text self.now ≡ None) }
         requires room { vec_len out.old + piece_length (module_text self.now) ≤ vec_capacity out.old }
@@ -90,7 +90,7 @@ impl Module {
         self.parts.put(out)
     }
 
-    /// The module's bytes. Memory is asked for once, after they were measured.
+    /// The module's bytes. Memory is allocated once, after they were measured.
     pub fn to_bytes(&self, alloc: Global) -> Result<Vec<u8>, Error>
         ensures written { IfOk result (λ v. module_text self.now ≡ Some v.items) }
         // A module is too long exactly where it has no bytes.

@@ -1,4 +1,4 @@
--- Core types are read where their scripts stand.
+-- Core types are read where their scripts are.
 use Rattle.std.proofs.Common.{◌≡◌, ℕ, ◌+◌, ◌-◌, ◌<◌, ◌≤◌, ◌^◌, Bool, true, false, List, [], ◌∷◌, ◌++◌, length, refl, sym, ap, ◌∙◌, subst, arith, append_assoc}
 use Rattle.std.proofs.Common.{append-nil, length-append}
 use Rattle.std.proofs.lemmas.Bool.Decides.{nat_tests}
@@ -41,7 +41,7 @@ module _ (config : Config) (around : Scope) where
       let r = after_decls (with_decl around.core_types s d) ds in
       (r.0 ∙ append_assoc s.decls (d ∷ []) ds, omega (arith, r.1))
 
-  -- What stands after what the canonical ABI asks can be said.
+  -- What follows what the canonical ABI asks can be said.
   pub behind_sayable : (fuel : ℕ) (ds : List ModuleDecl) → FormedCore (core_module ds) around.core_types → ModuleLimits config ds
       → AreReadableModuleDecls [] ds → core_size (core_module ds) < fuel → length around.core_types ≤ 2 ^ 63
       → let x = fronted ds in Along (IsSayable config around) (with_decl around.core_types) (front_state fuel x.memory x.reallocs x.frees) (after_front ds)
@@ -63,7 +63,7 @@ module _ (config : Config) (around : Scope) where
       front_before fuel ds (after_front ds) ≡ front_state fuel x.memory x.reallocs x.frees
   begun fuel ds = let x = fronted ds in front_before_is fuel x.memory x.reallocs x.frees ds (after_front ds) (whole_front x)
 
-  -- a module type with so much fuel left for its declarations
+  -- a module type with that much fuel left for its declarations
   declared_read : (fuel : ℕ) (ds : List ModuleDecl) (rest : List ℕ) → FormedCore (core_module ds) around.core_types → ModuleLimits config ds
       → AreReadableModuleDecls [] ds → core_size (core_module ds) < fuel → length around.core_types ≤ 2 ^ 63
       → MadeModule config around (script_module config around fuel ds ++ rest) fuel ds rest (fuel - core_size (core_module ds))

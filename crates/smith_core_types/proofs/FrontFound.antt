@@ -1,4 +1,4 @@
--- What declarations begin with for the canonical ABI, and what stands after it.
+-- What declarations begin with for the canonical ABI, and what follows it.
 use Rattle.std.proofs.Common.{◌≡◌, ℕ, ◌<◌, Bool, true, false, ◌&&◌, ◌||◌, List, [], ◌∷◌, ◌++◌, length, refl, sym, ap, ◌∙◌}
 use Rattle.std.proofs.Common.{arith, nat_lt, bytes_eq}
 use Rattle.std.proofs.lemmas.Bool.{false≢true, and_parts, lt-ltb}
@@ -17,7 +17,7 @@ use Rattle.smith_syntax.specs.ModuleTypes.{after_free, after_front, after_functi
 use Rattle.smith_syntax.specs.ModuleTypes.{is_function_of, is_i32, is_of_kind, is_type, realloc, same_i32s}
 use Rattle.smith_core_types.proofs.ModuleFronts.{free_decls, front_decls, memory_decls, realloc_decls}
 
--- what stands in front
+-- what is in front
 
 either_false : (a : Bool) → (a || false) ≡ true → a ≡ true
 either_false true e = refl
@@ -115,7 +115,7 @@ realloc_before : (r : Bool) (ds behind : List ModuleDecl) → ds ≡ realloc_dec
 realloc_before true ds behind e = let long = ap length e in let lt : length behind < length ds = omega (arith, long) in lt-ltb (length behind) (length ds) lt
 realloc_before false ds behind e = let long : length ds ≡ length behind = ap length e in grind (arith, nat_tests)
 
--- What declarations begin with for the canonical ABI, and what stands after it.
+-- What declarations begin with for the canonical ABI, and what follows it.
 pub record Fronted (ds no_memory no_realloc no_free : List ModuleDecl) : Type 0 where
   pub memory : Option MemoryType
   pub reallocs : Bool

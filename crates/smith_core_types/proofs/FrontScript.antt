@@ -1,4 +1,4 @@
--- What a module type begins with for the canonical ABI is read where its script stands.
+-- What a module type begins with for the canonical ABI is read where its script is.
 use Rattle.std.proofs.Common.{◌≡◌, ℕ, ◌-◌, ◌<◌, ◌≤◌, Bool, true, false, List, [], ◌∷◌, ◌++◌, length, take, refl, sym, ap, ◌∙◌, subst}
 use Rattle.std.proofs.Common.{arith, append_assoc, append-nil, length-append, nat_lt}
 use Rattle.std.proofs.lemmas.Bool.{false≢true, lt-ltb, and_from}
@@ -145,7 +145,7 @@ module _ (config : Config) (fuel : ℕ) where
   own_length true = refl
   own_length false = refl
 
-  -- What the canonical ABI asks is read where its script stands.
+  -- What the canonical ABI asks is read where its script is.
   pub front_read : {ds no_memory no_realloc no_free : List ModuleDecl} (x : Fronted ds no_memory no_realloc no_free) (rest : List ℕ)
       → IfSome x.memory (λ m. FormedMemory m × (0 < config.max_memories))
       → (x.reallocs ≡ true → (0 < config.max_funcs) × (0 < config.max_types))
@@ -187,7 +187,7 @@ module _ (config : Config) (fuel : ℕ) where
         frees = subst (λ z. ReadsFunctionLine config (codes "canonical_abi_free") free t (c ++ rest) z rest) (after_free_line m r f) frees;
       })
 
--- what stands in front is well formed and within the limits
+-- what is in front is well formed and within the limits
 
 pub front_few : (m : Option MemoryType) (r f : Bool) → length (front_decls m r f) ≤ 5
 front_few None false false = omega arith

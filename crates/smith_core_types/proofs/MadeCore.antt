@@ -37,7 +37,8 @@ use Rattle.smith_tree.specs.CoreTypeOffers.{Declared, undeclared, with_decl, wit
 use Rattle.smith_core_types.specs.MadeCore.{ReadsEntity, ReadsImportNames, ReadsExportName, ReadsDeclOf}
 use Rattle.smith_tree.specs.CoreTypeOffers.{alias_choices, item_offers, module_items}
 use Rattle.smith_core_types.specs.MadeCore.{ReadsDecl}
-use Rattle.smith_core_types.specs.MadeCore.{EndsModuleType, no_fuel, no_import, no_export, ReadsLine, not_allowed, declined, taken, MemoryLine, ReadsFunctionLine}
+use Rattle.smith_core_types.specs.MadeCore.{EndsModuleType, no_fuel, no_import, no_export, ReadsLine, not_allowed}
+use Rattle.smith_core_types.specs.MadeCore.{declined, taken, MemoryLine, ReadsFunctionLine}
 use Rattle.smith_core_types.specs.MadeCore.{ReadsFront, MadeModule, MadeCore, spent_core, of_function, of_module}
 use Rattle.smith_syntax.specs.ModuleTypes.{func_in, aliased, is_tag_type, count_of_kind, names_from, realloc, free}
 use Rattle.smith_syntax.specs.Scope.{Scope}
@@ -121,7 +122,7 @@ made_core_tail {config} {around} {rest = rest} {fuel = fuel} (of_module {mid = m
 -- no larger than the fuel
 
 module _ (config : Config) (around : Scope) where
-  -- a loop over declarations gives them after those before, each takes one from the fuel, and there are at most 100
+  -- a loop over declarations yields them after those before, each takes one from the fuel, and there are at most 100
   pub record Grows (s : Declared) (ds : List ModuleDecl) (t : Declared) : Type 0 where
     pub decls : t.decls ≡ s.decls ++ ds
     pub fuel : length ds + t.fuel ≤ s.fuel
@@ -417,7 +418,7 @@ made_core_formed {config} {around} (of_module f c m i) =
 -- within the limits
 
 module _ (config : Config) (s : Declared) where
-  -- tags may stand only where there are exceptions
+  -- tags are allowed only where there are exceptions
   abbrev MayStand : ExportKind → Type 0
   MayStand kind.Global = Unit {0}
   MayStand kind.Table = Unit {0}
@@ -459,7 +460,7 @@ module _ (config : Config) (s : Declared) where
   entity_fits {e = e} {rest = rest} r = entity_of_fits r.kind r.mid e rest (kind_offered r.choice.place r.kind r.choice.named) r.is
 
 module _ (config : Config) (around : Scope) where
-  -- there is room for an own type more, where it is one
+  -- there is room for one more own type, where it is one
   abbrev ItemFits : Declared → ModuleItem → Type 0
   ItemFits s item.Import = Unit {0}
   ItemFits s item.Export = Unit {0}

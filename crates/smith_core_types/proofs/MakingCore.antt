@@ -173,7 +173,7 @@ ratio_false b k h e = by_place b k h e (nat_lt k 99) refl
 pub ratio_true : (b : Bool) (k : ℕ) → (IsTrue b ↔ (1 + k ≤ 99)) → b ≡ true → k < 99
 ratio_true b k h e = let t : 1 + k ≤ 99 = h.0 e in omega (arith, t)
 
--- a core function type is no module type
+-- a core function type is not a module type
 pub no_module : {f : Function} {e : CoreEntry} {ds : List ModuleDecl} → e ≡ core_func f → e ≡ core_module ds → ⊥
 no_module p q = false≢true (sym (ap is_core_func q) ∙ ap is_core_func p)
 

@@ -1,4 +1,4 @@
--- What a module type begins with for the canonical ABI: its shapes, and what stands after it.
+-- What a module type begins with for the canonical ABI: its shapes, and what follows it.
 use Rattle.std.proofs.Common.{◌≡◌, ℕ, ◌<◌, ◌≤◌, Bool, true, false, ◌&&◌, List, [], ◌∷◌, ◌++◌, length, refl, sym, ap, ◌∙◌, subst, arith}
 use Rattle.std.proofs.lemmas.Bool.{false≢true, ltb-true, lt-ltb, and_parts}
 use Rattle.std.proofs.lemmas.Bool.Decides.{nat_tests}
@@ -109,7 +109,7 @@ front_is config b fuel s rest x =
     let f = free_is config fuel m.0 r.0 x.after_realloc rest s (subst Frees r.1 x.frees) in
     record { memory = m.0; reallocs = r.0; frees = f.0; state = f.1; has_memory = m.2; has_realloc = r.2; has_free = f.2 }
 
--- what stands after it
+-- what follows it
 
 one_less : (b : Bool) (d : ModuleDecl) (ds : List ModuleDecl) → length (if b then ds else d ∷ ds) ≤ length (d ∷ ds)
 one_less true d ds = omega arith

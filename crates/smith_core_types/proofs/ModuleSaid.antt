@@ -60,7 +60,7 @@ own_kind (Memory m) = refl
 own_kind (Global g) = refl
 own_kind (Tag t) = refl
 
--- what stands first counts among its kind
+-- what is first counts among its kind
 own_count : (e : EntityType) (ds : List ModuleDecl) (es : List EntityType) → entities_of ds ≡ e ∷ es → 0 < count_of_kind (kind_of e) ds
 own_count e ds es first =
     let k : ExportKind = kind_of e in
@@ -114,7 +114,7 @@ module _ (config : Config) (around : Scope) (whole : List ModuleDecl) (limits : 
   more_counted own before d counted formed =
       omega (arith, types_both before (d ∷ []), counted, adds_counted own d formed, length-append own (adds around.core_types own d))
 
-  -- What stands after a part of the declarations can be said after it.
+  -- What follows a part of the declarations can be said after it.
   pub decls_sayable : length whole + length around.core_types ≤ 2 ^ 64 → (s : Declared) (ds : List ModuleDecl) → whole ≡ s.decls ++ ds
       → type_count s.decls ≡ length s.own → FormedDecls around.core_types s.own ds → AreReadableModuleDecls s.decls ds → length ds < s.fuel
       → Along (IsSayable config around) (with_decl around.core_types) s ds

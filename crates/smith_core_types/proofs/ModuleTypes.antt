@@ -34,7 +34,7 @@ use Rattle.smith_core_types.proofs.ModuleFronts.{front_own, front_decls, IsFront
 use Rattle.smith_core_types.proofs.Names.{AreNew, new_distinct, new_more}
 use Rattle.smith_input.proofs.Lists.{all_both}
 
--- one declaration more
+-- one more declaration
 
 snoc_flat : {A : Type 0} (f : ModuleDecl → List A) (ds : List ModuleDecl) (d : ModuleDecl) → flat_map f (ds ++ d ∷ []) ≡ flat_map f ds ++ f d
 snoc_flat f ds d = flat_map-append f ds (d ∷ []) ∙ ap (λ xs. flat_map f ds ++ xs) (append-nil (f d))

@@ -40,8 +40,9 @@ made_of_itself names name (utf8, short) new = (
   (name, le-leb (length name) 100 short, record { times = 0; name_is = refl; taken = λ m b. absurd (omega (arith, b)); is_new = new }),
 )
 
--- one declaration more
-readable_more : (before ds : List ModuleDecl) (d : ModuleDecl) → AreReadableModuleDecls before ds → IsReadableModuleDecl (before ++ ds) d → AreReadableModuleDecls before (ds ++ d ∷ [])
+-- one more declaration
+readable_more : (before ds : List ModuleDecl) (d : ModuleDecl) → AreReadableModuleDecls before ds
+    → IsReadableModuleDecl (before ++ ds) d → AreReadableModuleDecls before (ds ++ d ∷ [])
 readable_more before [] d all one = (subst (λ z. IsReadableModuleDecl z d) (append-nil before) one, tt)
 readable_more before (e ∷ ds) d all one =
     (all.0, readable_more (before ++ e ∷ []) ds d all.1 (subst (λ z. IsReadableModuleDecl z d) (sym (append_assoc before (e ∷ []) ds)) one))
@@ -104,8 +105,10 @@ module _ (config : Config) (around : Scope) where
       let front = front_is config b fuel m.front m.mid m.begins in
       module_keeps AreReadable (λ s n all. all) decl_readable m (subst AreReadable (sym front.state) (front_readable front.memory front.reallocs front.frees))
 
-pub made_core_readable : {config : Config} {around : Scope} {bytes rest : List ℕ} {fuel left : ℕ} {e : CoreEntry} → MadeCore config around bytes fuel e rest left
+pub made_core_readable : {config : Config} {around : Scope} {bytes rest : List ℕ} {fuel left : ℕ} {e : CoreEntry}
+    → MadeCore config around bytes fuel e rest left
     → IsReadableCore e
 made_core_readable (spent_core f i n) = subst IsReadableCore (sym i) tt
 made_core_readable (of_function f c r i n) = subst IsReadableCore (sym i) tt
-made_core_readable {config} {around} (of_module f c m i) = subst IsReadableCore (sym i) (subst (AreReadableModuleDecls []) (sym m.decls) (module_readable config around m))
+made_core_readable {config} {around} (of_module f c m i) =
+    subst IsReadableCore (sym i) (subst (AreReadableModuleDecls []) (sym m.decls) (module_readable config around m))

@@ -53,7 +53,7 @@ small_place test xs i x few stands passes =
     let at = place_found test xs i x stands passes in
     small_found nat_eq Decides-eqb (places test 0 xs) at.0 i (omega (arith, few, length-places test 0 xs)) at.1
 
--- a loop of items that can be said where they stand
+-- a loop of items that can be said where they are
 pub small_said : {S A : Type 0} (script : S → A → List ℕ) (next : S → A → S) (Said : S → A → Type 0) → ((s : S) (x : A) → Said s x → Small (script s x))
     → (min max done : ℕ) (s : S) (xs : List A) → Along Said next s xs → Small (script_loop script next min max done s xs)
 small_said {S} {A} script next Said one min max done s xs all = small_loop script next min max done s xs (each s xs all)

@@ -1,4 +1,5 @@
--- How core types are read: the bytes and the fuel give the core type, and leave the rest and what is left of the fuel.
+-- How core types are read: the bytes and the fuel determine the core type, and leave the rest and what is left of the
+-- fuel.
 use Rattle.std.specs.Prelude.{◌≡◌, ℕ, ◌-◌, ◌<◌, ◌≤◌, Bool, true, false, ◌&&◌, List, [], ◌∷◌, ◌++◌, length, codes, nat_lt}
 use Rattle.std.specs.List.{flat_map}
 use Rattle.std.specs.Option.{option_to_list}
@@ -118,7 +119,7 @@ pub record MadeModule (config : Config) (around : Scope) (bytes : List ℕ) (fue
   pub decls : ds ≡ whole.decls
   pub fuel_left : left ≡ whole.fuel
 
--- A core type takes one from the fuel. Where none is left then it is the empty module type; else a choice of two.
+-- A core type takes one from the fuel. Where none is left then it is the empty module type; otherwise a choice of two.
 pub data MadeCore (config : Config) (around : Scope) : List ℕ → ℕ → CoreEntry → List ℕ → ℕ → Type 0 where
   spent_core : {bytes : List ℕ} {fuel : ℕ} {e : CoreEntry} {left : ℕ} → fuel - 1 ≡ 0 → e ≡ core_module [] → left ≡ 0
       → MadeCore config around bytes fuel e bytes left
@@ -135,7 +136,7 @@ functions_named around own [] = []
 functions_named around own (d ∷ ds) = flat_map (λ a. option_to_list (aliased around own a.0 a.1)) (alias_of d) ++ functions_named around
     (own ++ adds around own d) ds
 
--- the same of a core type
+-- the same for a core type
 abbrev pub named_by_core : List CoreEntry → CoreEntry → List Function
 named_by_core around (core_func f) = []
 named_by_core around (core_module ds) = functions_named around [] ds

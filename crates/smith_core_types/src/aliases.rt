@@ -42,7 +42,7 @@ fn function_around(scopes: &Scopes, rank: usize) -> Result<(u32, Rc<FuncType>), 
     }
 }
 
-// The count of scopes and the index of what an alias names, and the function type that stands there.
+// The count of scopes and the index of what an alias names, and the function type that is there.
 fn alias_choice(
     u: &mut Unstructured,
     scopes: &Scopes,

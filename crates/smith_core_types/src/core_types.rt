@@ -50,12 +50,12 @@ fn made_core_type(
 }
 
 /// A core type for these scopes, which takes fuel: one for itself, and one for each declaration of a module type. Where
-/// none is left at first, it is the empty module type; else a choice of two: a function type, or a module type.
+/// none is left at first, it is the empty module type; otherwise a choice of two: a function type, or a module type.
 ///
 /// A function type has at most 20 parameters, and at most 20 results or one. A module type begins with what the
 /// canonical ABI asks, each of its three lines with 99 of 100 choices where the limits allow it, and has at most 100
-/// declarations more. It names the last scope's core function types alone. Each of its outer aliases keeps the function
-/// type that it names. It refuses for want of memory alone.
+/// more declarations. It names only the last scope's core function types. Each of its outer aliases keeps the function
+/// type that it names. It fails only when out of memory.
 pub fn arbitrary_core_type(
     alloc: Global,
     u: &mut Unstructured,
@@ -71,7 +71,7 @@ pub fn arbitrary_core_type(
     ensures formed { IfOk result (λ t. FormedCore (shown_shared_core t) (own_scope scopes.now).core_types) }
     ensures limits { IfOk result (λ t. CoreLimits config.now (shown_shared_core t)) }
     ensures size { IfOk result (λ t. core_size (shown_shared_core t) + fuel.new ≤ fuel.old) }
-    // The script of a core type whose names can be read and for which the fuel lasts gives that type.
+    // The script of a core type whose names can be read and for which the fuel lasts produces that type.
     ensures script { (e : CoreEntry) (rest : List ℕ) → FormedCore e (own_scope scopes.now).core_types
         → CoreLimits config.now e → IsReadableCore e → core_need e ≤ fuel.old
         → length (own_scope scopes.now).core_types ≤ 2 ^ 63

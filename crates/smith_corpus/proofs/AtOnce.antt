@@ -1,4 +1,4 @@
--- A refusal that comes before any input is read.
+-- A refusal that occurs before any input is read.
 use Rattle.std.proofs.Common.{ℕ, arith, refl, []}
 use Rattle.smith_format.specs.declared.config.Config.{Config}
 use Rattle.smith_input.specs.declared.error.Error.{Error}

@@ -17,12 +17,12 @@ module _ (front rest whole : List ℕ) (joined : whole ≡ front ++ rest) (long 
   within config {limits} {own} is h =
       subst (λ k. IsSample k own) (is ∙ sym (ap (swarmed config) joined ∙ same_limits front rest long config)) h
 
--- the bytes of the limits, and those that are left of so many, are all
+-- the bytes of the limits, and those that are left of that many, are all
 pub whole_front : (front rest : List ℕ) (len : ℕ) → length front ≡ min limit_count len → length rest ≡ len - length front
     → length front ≡ front_len (front ++ rest)
 whole_front front rest len some others = omega (arith, length-append front rest, some, others)
 
--- What is said of at most so many bytes is said of at most more.
+-- What holds of at most that many bytes holds of at most more.
 pub more_bytes : (config : Config) {few many : ℕ} (e : SampleError) → few ≤ many → IsSampleError config few e → IsSampleError config many e
 more_bytes config (Refused error) fewer h = record { input = h.input; few = omega (arith, fewer, h.few); left = h.left; refused = h.refused }
 more_bytes config BytesLeft fewer h = record {

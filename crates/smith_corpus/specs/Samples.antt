@@ -23,14 +23,14 @@ pub record IsSample (config : Config) (s : Sample) : Type 0 where
   pub generated : Generates config tree s.component.items
   pub validates : config.must_validate ≡ true → Validates tree
 
--- an input of at most so many bytes that is refused
+-- an input of at most that many bytes that is refused
 pub record HasRefusal (config : Config) (len : ℕ) (error : Error) : Type 0 where
   pub input : List ℕ
   pub few : length input ≤ len
   pub left : List ℕ
   pub refused : IsGenerateRefusal config input error left
 
--- an input of at most so many bytes of which some are left
+-- an input of at most that many bytes of which some are left
 pub record HasRest (config : Config) (len : ℕ) : Type 0 where
   pub consistent : IsConsistent config
   pub input : List ℕ
@@ -45,14 +45,14 @@ abbrev pub IsSampleError : Config → ℕ → SampleError → Type 0
 IsSampleError config len (Refused error) = HasRefusal config len error
 IsSampleError config len BytesLeft = HasRest config len
 
--- The component is that of a sample within the limits that the first bytes of the input say, and the input of that sample is what follows
--- them.
+-- The component is that of a sample within the limits that the first bytes of the input encode, and the input of that sample is what
+-- follows them.
 pub record IsSwarmSample (config : Config) (s : Sample) : Type 0 where
   pub own : Sample
   pub follows : own.input.items ≡ after_front s.input.items
   pub same : own.component ≡ s.component
   pub is : IsSample (swarmed config s.input.items) own
 
--- No memory is left, or some bytes say limits within which there is no sample.
+-- No memory is left, or some bytes encode limits within which there is no sample.
 abbrev pub IsSwarmError : Config → ℕ → SampleError → Type 0
 IsSwarmError config len e = (e ≡ Refused OutOfMemory) ⊎ ((front : List ℕ) × IsSampleError (swarmed config front) len e)

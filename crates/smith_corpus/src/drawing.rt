@@ -60,7 +60,7 @@ fn keep_all_open(mut builder: Builder, random: &mut Pcg32, bytes: &mut [u8]) {
     }
 }
 
-/// So many random bytes, changed so that a run over them keeps the root open.
+/// That many random bytes, changed so that a run over them keeps the root open.
 pub(crate) fn drawn(
     alloc: Global,
     config: &Config,

@@ -26,7 +26,7 @@ pub enum SampleError {
     /// The last input that was tried is refused with this.
     #[error("{0}")]
     Refused(Error),
-    /// Of the last input that was tried bytes are left.
+    /// Bytes of the last input that was tried are left.
     #[error("each input that was tried has bytes that are not read")]
     BytesLeft,
 }
@@ -43,7 +43,7 @@ impl From<Error> for SampleError {
 }
 
 impl SampleError {
-    // May another input be answered?
+    // May another input have a sample?
     fn depends_on_input(&self) -> bool {
         !matches!(
             self,
@@ -51,7 +51,7 @@ impl SampleError {
         )
     }
 
-    // May an input within other limits be answered?
+    // May an input within other limits have one?
     pub(crate) fn depends_on_limits(&self) -> bool {
         !matches!(self, SampleError::Refused(Error::OutOfMemory))
     }
@@ -89,7 +89,7 @@ fn tried(
     sample_of(alloc, config, input)
 }
 
-/// A random input of so many bytes, and the component that is made of it. Nothing of it is left.
+/// A random input of that many bytes, and the component that is made of it. Nothing of it is left.
 ///
 /// A byte whose choice would finish the root is changed to another one, so that the input is read further. Where an
 /// input is refused, as one may be that leads to a component without what the limits ask for, others are tried, sixteen

@@ -13,10 +13,10 @@ use smith_input::Error;
 use smith_swarm::{LIMIT_COUNT, swarm_limits};
 use std::alloc::Global;
 
-/// Of how many inputs the limits are tried.
+/// How many inputs have their limits tried.
 const TRIES: u32 = 16;
 
-// Random bytes that say limits, at most so many.
+// Random bytes that encode limits, at most that many.
 fn front(alloc: Global, random: &mut Pcg32, most: usize) -> Result<Vec<u8>, Error>
     ensures long { IfOk result (λ bytes. vec_len bytes ≡ min limit_count most) }
     ensures refuses { IfErr result (λ e. e ≡ OutOfMemory) }
@@ -57,11 +57,11 @@ fn tried(
     })
 }
 
-/// A random input of so many bytes, of which the first say limits over those that are given, as `swarm_limits` has
-/// them, and the component that is made, within these, of the bytes after them. Nothing of them is left.
+/// A random input of that many bytes, of which the first encode limits that override those given, as `swarm_limits`
+/// defines, and the component that is made, within these, of the bytes after them. Nothing of them is left.
 ///
-/// Where limits are such that `draw` finds nothing, as where they do not fit together, others are tried, sixteen in all.
-/// Generators that are equal give equal samples.
+/// Where limits are such that `draw` finds nothing, as where they do not fit together, others are tried, sixteen in
+/// all. Generators that are equal give equal samples.
 pub fn draw_swarm(
     alloc: Global,
     config: &Config,

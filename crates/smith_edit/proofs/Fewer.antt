@@ -31,7 +31,7 @@ use Rattle.smith_edit.specs.declared.scope.Scope.{Scope}
 use Rattle.smith_edit.proofs.AfterRows.{plain_items}
 use Rattle.smith_edit.proofs.Past.{past_more}
 
--- how many are removed of so many items from here on, at least
+-- how many are removed of that many items from here on, at least
 abbrev pub hits : Removal → ℕ → ℕ
 hits Nothing n = 0
 hits (Item m) n = if nat_lt m n then 1 else 0

@@ -22,7 +22,7 @@ map_push : {X A : Type 0} (f : X → A) (xs : List X) (x : X) → map f (xs ++ x
 map_push f [] x = refl
 map_push f (y ∷ ys) x = ap (λ zs. f y ∷ zs) (map_push f ys x)
 
--- Items that are gathered to a whole, each of which is so many items with what is inside it.
+-- Items that are gathered to a whole, each of which is that many items with what is inside it.
 pub record InRow (X A C : Type 0) : Type 0 where
   pub shown : X → A
   pub gather : List A → C

@@ -14,7 +14,7 @@ use Rattle.smith_input.proofs.Kebab.{kebab_more}
 use Rattle.smith_syntax.specs.WellFormed.{Named}
 use Rattle.smith_edit.specs.Edits.{made_new, new_name}
 
--- how many names are so long, or longer
+-- how many names are that long, or longer
 
 abbrev pub is_long : ℕ → ℕ → ℕ
 is_long k n = if nat_lt n k then 0 else 1

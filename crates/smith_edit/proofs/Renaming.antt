@@ -32,7 +32,7 @@ module _ {A : Type 0} (name : A → List ℕ) (rename : A → List ℕ → A) (n
         ap (λ o. option_map (λ z. z ∷ map shown xs) (option_map (rename (shown y)) o)) (ap (λ z. shorter_name names (name (shown z))) same ∙ none)
     renamed_none (suc k) (y ∷ xs) x lt at none = ap (option_map (λ ys. shown y ∷ ys)) (renamed_none k xs x (omega arith) at none)
 
-    -- copies of all, but for the one
+    -- copies of all, except for the one
     pub renamed_some : (k : ℕ) (xs : List X) (x : X) (copies : List X) (y : X) (new : List ℕ) → k < length xs → x ≡ get_or xs k x
         → map shown copies ≡ map shown xs → shorter_name names (name (shown x)) ≡ Some new → shown y ≡ rename (shown x) new
         → Some (map shown (slice_set copies k y)) ≡ renamed_at name rename names k (map shown xs)

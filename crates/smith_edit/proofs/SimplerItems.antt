@@ -19,7 +19,7 @@ use Rattle.smith_edit.specs.Simpler.{is_bool, itself_or, label_renamed, member_r
 use Rattle.smith_edit.specs.Simpler.{signature_simplified, simpler_custom, simpler_decl, simpler_entry, simpler_part, simpler_value, simplified}
 use Rattle.smith_edit.specs.Simpler.{types_simplified, value_simplified, with_shorter_name}
 
--- at most so many, if it is there
+-- at most that many, if it is there
 abbrev Most : {A : Type 0} → (A → ℕ) → Option A → ℕ → Type 0
 Most f None n = Unit {0}
 Most f (Some x) n = f x ≤ n

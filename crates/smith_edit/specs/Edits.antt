@@ -31,12 +31,12 @@ following s = record {
 abbrev pub moved : Spaces → Tree → Tree
 moved s t = tree_edited t (record { removal = Nothing; own = following s; outer = [] })
 
--- the text, with digits at its end so often, at most n times, until it is none of the names
+-- the text, with digits at its end that often, at most n times, until it is none of the names
 abbrev pub made_new : ℕ → List (List ℕ) → List ℕ → List ℕ → List ℕ
 made_new zero names digits text = text
 made_new (suc n) names digits text = if is_among names text then made_new n names digits (text ++ digits) else text
 
--- the text made none of the names: how many there are is appended in decimal digits
+-- the text changed until it is none of the names: how many there are is appended in decimal digits
 abbrev pub new_name : List (List ℕ) → List ℕ → List ℕ
 new_name names text = made_new (length names) names (decimal (length names)) text
 

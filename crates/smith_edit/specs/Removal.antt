@@ -9,7 +9,7 @@ removes Nothing = false
 removes (Item n) = nat_eq n 0
 removes Everything = true
 
--- what is removed from so many items further on
+-- what is removed from that many items further on
 abbrev pub past : ℕ → Removal → Removal
 past n Nothing = Nothing
 past n (Item m) = if nat_lt m n then Nothing else Item (m - n)

@@ -8,20 +8,20 @@ abbrev pub is_here : Search → Bool
 is_here (Ahead n) = nat_eq n 0
 is_here Over = false
 
--- where it is, seen from so many items further on
+-- where it is, seen from that many items further on
 abbrev pub past : ℕ → Search → Search
 past n (Ahead m) = if nat_lt m n then Over else Ahead (m - n)
 past n Over = Over
 
--- which of the next so many items it is, if it is one of them
+-- which of the next that many items it is, if it is one of them
 abbrev pub among : ℕ → Search → Option ℕ
 among n (Ahead m) = if nat_lt m n then Some m else None
 among n Over = None
 
--- what has so many items: as it is, or by the number of the one that is sought, if that is one of them
+-- what has that many items: as it is, or by the number of the one that is sought, if that is one of them
 abbrev pub sought : {A : Type 0} → ℕ → Search → (ℕ → Option A) → A → Option A
 sought n s simplified x = elim (among n s) [ None ↦ Some x | Some k ↦ simplified k ]
 
--- what is found among so many items by the number of the one that is sought
+-- what is found among that many items by the number of the one that is sought
 abbrev pub found : {A : Type 0} → ℕ → Search → (ℕ → Option A) → Option A
 found n s search = elim (among n s) [ None ↦ None | Some k ↦ search k ]

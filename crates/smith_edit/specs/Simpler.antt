@@ -151,7 +151,7 @@ abbrev pub simpler_custom : List ℕ → List ℕ → Option Part
 simpler_custom name [] = None
 simpler_custom name (b ∷ bs) = Some (part.custom name [])
 
--- A core module becomes the empty one. A component in the place of the whole is no section: see component_at.
+-- A core module becomes the empty one. A component in the place of the whole is not a section: see component_at.
 abbrev pub simpler_part : Part → Option Part
 simpler_part (part.custom name contents) = simpler_custom name contents
 simpler_part (part.core_module text) = if bytes_eq text core_preamble then None else Some (part.core_module core_preamble)

@@ -20,7 +20,7 @@ shown_walk w = record { removal = w.removal; own = w.own; outer = reverse w.oute
 abbrev pub new_scope : Scope
 new_scope = record { types = from 0; core_types = from 0; functions = from 0; core_functions = from 0 }
 
--- so many items further on
+-- that many items further on
 abbrev pub skipped : ℕ → Walk → Walk
 skipped n w = record w { removal = past n w.removal }
 

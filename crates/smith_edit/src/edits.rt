@@ -25,11 +25,11 @@ use std::alloc::{AllocError, Global};
 /// Items are counted from 0 in the order of the component's bytes: each section, each entry of a section, each
 /// declaration of a type, and each member of a type of values, of functions and of core functions. A section is removed
 /// with its entries, and a compound type with its last member. Where the type of a function loses a parameter or its
-/// result, its lowers and its lifts are removed. An index of nothing remains as it is.
+/// result, its lowers and its lifts are removed. An index that refers to nothing remains as it is.
 ///
 /// So a component that is well formed remains so, and has no more bytes. It takes time and memory in proportion to the
-/// component, and stack in proportion to its depth. `Err` is returned where a growth is refused, and where an index would
-/// exceed 4,294,967,295.
+/// component, and stack in proportion to its depth. `Err` is returned where an allocation fails, and where an index
+/// would exceed 4,294,967,295.
 pub fn without(
     alloc: Global,
     tree: &ComponentTree,
@@ -69,11 +69,11 @@ pub(crate) fn names(alloc: Global, parts: &[PartNode]) -> Result<Taken, AllocErr
 }
 
 /// The sections of the first component, and then those of the second: its indexes follow those of the first, and a name
-/// of an import or an export that is taken already is made new, with digits at its end. An index of nothing remains as
-/// it is.
+/// of an import or an export that is taken already is made new, with digits at its end. An index that refers to nothing
+/// remains as it is.
 ///
 /// So two components that are well formed are joined to one that is. It uses stack in proportion to the depth of the
-/// second. `Err` is returned where a growth is refused, and where an index would exceed 4,294,967,295.
+/// second. `Err` is returned where an allocation fails, and where an index would exceed 4,294,967,295.
 pub fn joined(
     alloc: Global,
     left: ComponentTree,

@@ -7,7 +7,7 @@ ghost use Rattle.smith_edit.specs.Removal.{inside, past, removes};
 #[derive(Clone, Copy)]
 pub(crate) enum Removal {
     Nothing,
-    /// The item after so many.
+    /// The item after that many.
     Item(usize),
     Everything,
 }

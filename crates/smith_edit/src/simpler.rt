@@ -47,9 +47,9 @@ fn copied(alloc: Global, nodes: &[PartNode]) -> Result<Option<ComponentTree>, Al
 ///   its own. Names in types of core modules stay.
 ///
 /// The component that results has no more items and no more bytes, but is not always well formed: where a type becomes
-/// `bool`, functions may no longer flatten as before. It takes memory and, but for sorting the names beside the one
-/// that changes, time in proportion to the component, and stack in proportion to its depth. `Err` is returned where a
-/// growth is refused, and where there are more items than a `usize` counts.
+/// `bool`, functions may no longer flatten as before. It takes memory and, except for sorting the names beside the one
+/// that changes, time in proportion to the component, and stack in proportion to its depth. `Err` is returned where an
+/// allocation fails, and where there are more items than a `usize` counts.
 pub fn simplified(
     alloc: Global,
     tree: &ComponentTree,

@@ -32,7 +32,7 @@ impl Walk {
         }
     }
 
-    /// Moves past an item that has nothing inside, or to the first item inside it. Whether it is removed.
+    /// Moves past an item that has nothing inside, or to the first item inside it. Returns whether it is removed.
     pub(crate) fn step(&mut self) -> bool
         ensures removed { result ≡ removes self.old.removal }
         ensures walk { shown_walk self.new ≡ skipped 1 (shown_walk self.old) }

@@ -41,7 +41,7 @@ pub then_agree : {A : Type 0} (f : A → Piece) → IsClear f → (x y : A) (s t
     → Agree x y (s ⊕ p) (t ⊕ q)
 then_agree f c x y s t p q b e g = c.law x y (s ⊕ p) (t ⊕ q) b (sym (assoc (f x) s p) ∙ e) (sym (assoc (f y) t q) ∙ g)
 
--- the same of what fills its bytes
+-- the same for what fills its bytes
 pub exact : {A : Type 0} (f : A → Piece) → IsClear f → IsExact f
 exact f c = record { law = λ x y b e h. (c.law x y (Some []) (Some []) b (right_nil (f x) ∙ e) (right_nil (f y) ∙ h)).same }
 
@@ -66,7 +66,7 @@ same_length a c p q b n e f =
     let r = split_append a c g.right h.right n w in
     record { same = r.0; rests = record { rest = g.right; first = g.q_is; second = h.q_is ∙ ap Some (sym r.1) } }
 
--- a byte that tells which of a sort it is
+-- a byte that determines which of a sort it is
 pub clear_byte : {A : Type 0} (f : A → ℕ) → ((x y : A) → f x ≡ f y → x ≡ y) → IsClear (λ x. byte (f x))
 clear_byte f same =
     record {
@@ -75,7 +75,7 @@ clear_byte f same =
           record { same = same x y (let z = a.same in cc); rests = a.rests };
     }
 
--- encodings are told apart by their bytes, whatever is after them
+-- encodings are distinguished by their bytes, regardless of what follows them
 pub closed : {A : Type 0} (f : A → List ℕ) → ((x y : A) (a c : List ℕ) → f x ++ a ≡ f y ++ c → (x ≡ y) × (a ≡ c)) → IsClear (λ x. Some (f x))
 closed f told =
     record {
@@ -88,7 +88,7 @@ closed f told =
           record { same = r.0; rests = record { rest = g.right; first = g.q_is; second = k.q_is ∙ ap Some (sym r.1) } };
     }
 
--- Seven bits are told apart by how they are written.
+-- Seven bits are distinguished by how they are written.
 record IsWriting (bits : ℕ → ℕ) : Type 0 where
   same : (m n : ℕ) → m < 128 → n < 128 → bits m ≡ bits n → m ≡ n
   small : (n : ℕ) → n < 128 → bits n < 128
@@ -228,7 +228,7 @@ clear_s_index =
           record { same = let z = r.same in cc; rests = r.rests };
     }
 
--- the first byte of an index where a value type may stand
+-- the first byte of an index where a value type may appear
 pub s_index_head : (n : ℕ) (p : Piece) (b : List ℕ) → s_index n ⊕ p ≡ Some b → (h : ℕ) × (t : List ℕ) × (b ≡ h ∷ t) × ((h < 64) ⊎ (128 ≤ h))
 unfolding signed
 s_index_head n p b e = by_test (nat_lt n 64) refl
@@ -251,7 +251,7 @@ clear_text = record {
       same_length t r p q n.rests.rest n.same (utf8_then t p n.rests.rest n.rests.first) (utf8_then r q n.rests.rest n.rests.second);
 }
 
--- What stands after its length: the same contents, and the same bytes after them.
+-- What follows its length: the same contents, and the same bytes after them.
 pub record SameContents (c d p q : Piece) : Type 0 where
   pub contents : List ℕ
   pub first : c ≡ Some contents

@@ -37,7 +37,7 @@ pub function_tail : {valtypes : List ValType} {max_results : ℕ} {bytes : List 
     → ReadsFunction valtypes max_results bytes f rest → IsTail rest bytes
 function_tail r = tail_trans (values_tail r.results) (values_tail r.params)
 
--- what a call for a number in a range answers
+-- what a call for a number in a range returns
 pub between : {low high : ℕ} {bytes : List ℕ} {n : ℕ} {rest : List ℕ} → (k : ℕ) × (n ≡ low + k) × Reads (high - low + 1) bytes k rest
     → ReadsBetween low high bytes n rest
 between x = record { place = x.0; is = x.1; reads = x.2 }

@@ -21,7 +21,7 @@ module _ {A : Type 0} (f : A → Piece) where
   each_more xs i x h e =
       ap (each f) (take_more xs i x h) ∙ each-append (take i xs) _ ∙ ap (λ q. each f (take i xs) ⊕ q) (right_nil _ ∙ ap f (sym e))
 
-  -- all, parted at one of them
+  -- all, split at one of them
   pub each_at : (xs : List A) (i : ℕ) (x : A) → i < length xs → x ≡ get_or xs i x → each f xs ≡ each f (take i xs) ⊕ (f x ⊕ each f (drop (suc i) xs))
   each_at xs i x h e =
       ap (each f) (sym (take-append-drop i xs)) ∙ each-append (take i xs) (drop i xs)

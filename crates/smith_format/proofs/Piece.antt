@@ -1,5 +1,6 @@
 -- Pieces: how they are joined, bytes as they are, texts, and numbers that have an encoding.
-use Rattle.std.proofs.Common.{◌≡◌, ℕ, ◌+◌, ◌⊎◌, inl, inr, length-append, List, [], ◌∷◌, ◌++◌, refl, ap, append_assoc, Some, None, append-nil, ◌<◌, length, get_or}
+use Rattle.std.proofs.Common.{◌≡◌, ℕ, ◌+◌, ◌⊎◌, inl, inr, length-append, List, [], ◌∷◌, ◌++◌, refl, ap}
+use Rattle.std.proofs.Common.{append_assoc, Some, None, append-nil, ◌<◌, length, get_or}
 use Rattle.std.proofs.Common.{sym, ◌∙◌, IsUtf8, Bool, true, false, cond, nat_lt, ◌^◌, ◌≤◌, pos}
 use Rattle.smith_format.specs.Piece.{Piece, ◌⊕◌, byte, bytes, raw, utf8, text, u, number, s_index}
 use Rattle.smith_format.specs.Writing.{piece_length}

@@ -46,12 +46,12 @@ too_much_left {p} q t = record { is = elim t.is [ inl e ↦ inl (ap (λ x. x ⊕
 pub too_much_right : (p : Piece) {q : Piece} → TakesTooMuch q → TakesTooMuch (p ⊕ q)
 too_much_right p {q} t = record { is = elim t.is [ inl e ↦ inl (ap (λ x. p ⊕ x) e ∙ right_none p) | inr h ↦ too_much_join p q (omega arith) ] }
 
--- a length that may pass what 32 bits hold
+-- a length that may exceed what 32 bits hold
 pub length_is : (r : Option ℕ) {k n : ℕ} {p : Piece} → SomeIff r (k < 2 ^ 32) k → Takes n p → k ≡ n → IsLengthOf r p
 length_is (Some m) {k} {n} {p} s t e = (subst (λ (l : ℕ). Takes l p) (sym (s.1 ∙ e)) t, let f = s.1 in omega (arith, s.0))
 length_is None {k} {n} s t e = too_much_long t (omega (arith, s))
 
--- a sum that may pass what 32 bits hold
+-- a sum that may exceed what 32 bits hold
 pub length_then : (r : Option ℕ) {m n : ℕ} {p q : Piece} → SomeIff r (m + n < 2 ^ 32) (m + n) → Takes m p → Takes n q → IsLengthOf r (p ⊕ q)
 length_then (Some k) {m} {n} {p} {q} s t w = (subst (λ (l : ℕ). Takes l (p ⊕ q)) (sym s.1) (takes_then t w), let e = s.1 in omega (arith, s.0))
 length_then None {m} {n} s t w = too_much_long (takes_then t w) (omega (arith, s))

@@ -113,7 +113,7 @@ pub exits : {A : Type 0} (r : Result A Error) (e : Error) {a b : Vec ℕ Global}
 exits (Ok x) e {a} {b} {p} is g d = absurd is
 exits (Err y) e {a} {b} {p} is g d = (g, subst (λ (z : Error). IsDue z a p) (sym is) d)
 
--- and with more to come
+-- and with more to follow
 pub exits_between : {A : Type 0} (r : Result A Error) (e : Error) {a b c : Vec ℕ Global} {p q : Piece} (s : Piece) → IsErrAnd r (λ y. y ≡ e) → Gains a b p
     → Begins b c → IsDue e b q → Puts r a c (p ⊕ q ⊕ s)
 exits_between r e s is g h d = exits r e is (gains_begins g h) (due_right g (due_left s d))
@@ -159,14 +159,14 @@ pub ends_sized : {A : Type 0} (r : Result A Error) (id : ℕ) {n : ℕ} {a b : V
     → Puts r b c p → Puts r a c (sized id p)
 ends_sized r id c {p} t g h = rw (sized_is id t) (ends r c p g h)
 
--- what has an encoding may want memory
+-- what has an encoding may need memory
 pub wants_some : {A : Type 0} (r : Result A Error) {p : Piece} {b : List ℕ} → p ≡ Some b → WantsMemoryFor r p
 wants_some (Ok x) e = tt
 wants_some (Err x) e = λ _ n. cc
 
 -- loops over the digits of a number
 
--- What was put, and then `left`, is what stood there and then `all`.
+-- What was put, and then `left`, is what was there and then `all`.
 pub record Towards (old : Vec ℕ Global) (all : List ℕ) (new : Vec ℕ Global) (left : List ℕ) : Type 0 where
   pub begun : Begins old new
   pub is : new.items ++ left ≡ old.items ++ all

@@ -64,7 +64,7 @@ module _ {A : Type 0} (f : A → Piece) {P : A → Type 0} (one : (x : A) → (f
   pub many_none_where : (xs : List A) → (many f xs ≡ None) ↔ ListTooLong P xs
   many_none_where xs = join_none (u (length xs)) (each f xs) (u_none_where (length xs)) (each_none_where xs)
 
--- the same of a list of which something is known
+-- the same for a list of which something is known
 module _ {A : Type 0} (Q : A → Type 0) (f : A → Piece) {P : A → Type 0} (one : (x : A) → Q x → (f x ≡ None) ↔ P x) where
   any_first : (x : A) (xs : List A) → P x ⊎ Any P xs → Any P (x ∷ xs)
   any_first x xs (inl p) = (0, x, omega arith, refl, p)

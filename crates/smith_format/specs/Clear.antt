@@ -1,4 +1,4 @@
--- When bytes can be read in one way alone.
+-- When bytes can be read in only one way.
 use Rattle.std.specs.Prelude.{◌≡◌, ℕ, List, Some}
 use Rattle.smith_format.specs.Piece.{Piece, ◌⊕◌}
 
@@ -13,11 +13,11 @@ pub record Agree {A : Type 0} (x y : A) (p q : Piece) : Type 0 where
   pub same : x ≡ y
   pub rests : Rests p q
 
--- Bytes that begin with an encoding of this sort begin with one alone: no encoding of it is a prefix of another, and each ends
--- by itself, whatever stands after it.
+-- Bytes that begin with an encoding of this sort begin with only one: no encoding of it is a prefix of another, and each ends
+-- by itself, regardless of what follows it.
 pub record IsClear {A : Type 0} (f : A → Piece) : Type 0 where
   pub law : (x y : A) (p q : Piece) (b : List ℕ) → f x ⊕ p ≡ Some b → f y ⊕ q ≡ Some b → Agree x y p q
 
--- Bytes that are an encoding of this sort from their beginning to their end are one alone.
+-- Bytes that are an encoding of this sort from their beginning to their end are only one.
 pub record IsExact {A : Type 0} (f : A → Piece) : Type 0 where
   pub law : (x y : A) (b : List ℕ) → f x ≡ Some b → f y ≡ Some b → x ≡ y

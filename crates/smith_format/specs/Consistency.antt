@@ -1,4 +1,4 @@
--- Which limits fit together, and which hold where none are given.
+-- Which limits fit together, and which are the defaults.
 use Rattle.std.specs.Prelude.{◌≡◌, ℕ, ◌+◌, ◌≤◌, true, false}
 use Rattle.smith_format.specs.declared.config.Config.{Config}
 
@@ -29,7 +29,7 @@ pub record IsConsistent (config : Config) : Type 0 where
   pub nesting : config.max_nesting_depth ≤ 1000
   pub valid : config.must_validate ≡ true → AreCountsValid config
 
--- the limits that hold where none are given
+-- the default limits
 abbrev pub IsDefault : Config → Type 0
 IsDefault c =
     c

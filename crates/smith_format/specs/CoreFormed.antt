@@ -24,7 +24,7 @@ pub record FormedTable (references : Bool) (t : TableType) : Type 0 where
   pub limits : FormedLimits t.minimum t.maximum
   pub table64 : t.table64 ≡ false
 
--- at most 20 parameters and so many results, each of one of the value types
+-- at most 20 parameters and that many results, each of one of the value types
 pub record FormedFunction (valtypes : List ValType) (max_results : ℕ) (f : Function) : Type 0 where
   pub few_params : length f.0 ≤ 20
   pub few_results : length f.1 ≤ max_results

@@ -1,4 +1,4 @@
--- How core types are read: the bytes give the type, and leave the rest.
+-- How core types are read: the bytes determine the type, and leave the rest.
 use Rattle.std.specs.Prelude.{◌≡◌, ℕ, ◌+◌, ◌-◌, Bool, true, false, List, [], ◌∷◌, Option, Some, None}
 use Rattle.smith_input.specs.Choices.{ReadsAmong}
 use Rattle.smith_input.specs.Loops.{Loop, Never}
@@ -34,7 +34,8 @@ pub record ReadsMemory (bytes : List ℕ) (m : MemoryType) (rest : List ℕ) : T
   pub shared : m.shared ≡ false
   pub memory64 : m.memory64 ≡ false
 
--- What a table holds: a choice of two where there are reference types as value types, else functions, with no byte read.
+-- What a table holds: a choice of two where there are reference types as value types, otherwise functions, with no byte
+-- read.
 pub data ReadsElement : Bool → List ℕ → RefType → List ℕ → Type 0 where
   only_functions : {bytes : List ℕ} → ReadsElement false bytes FuncRef bytes
   either : {bytes : List ℕ} {t : RefType} {rest : List ℕ} → ReadsAmong (FuncRef ∷ ExternRef ∷ []) bytes t rest → ReadsElement true bytes t rest

@@ -38,7 +38,8 @@ number n = if nat_lt n (2 ^ 64) then Some (unsigned n) else None
 abbrev pub s : ℤ → Piece
 s z = Some (signed z)
 
--- an index where a value type may stand: signed, so that it is none of the bytes of a primitive type (Binary.md, Type Definitions)
+-- an index where a value type may appear: signed, so that it is none of the bytes of a primitive type (Binary.md, Type
+-- Definitions)
 unfoldable pub s_index : ℕ → Piece
 s_index n = if nat_lt n (2 ^ 32) then s (pos n) else None
 

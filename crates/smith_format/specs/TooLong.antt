@@ -15,15 +15,15 @@ use Rattle.smith_format.specs.declared.types.TableType.{TableType}
 use Rattle.smith_format.specs.declared.types.ValType.{ValType}
 use Rattle.smith_format.specs.declared.types.ValType.TheVariants.{I32, I64, F32, F64, V128, Ref}
 
--- it is no length, count or index
+-- it is not a length, a count or an index
 abbrev pub IsTooLarge : ℕ → Type 0
 IsTooLarge n = 2 ^ 32 ≤ n
 
--- a name that is too long, or is no UTF-8, which each name of the program is
+-- a name that is too long, or is not UTF-8, which each name of the program is
 abbrev pub NameTooLong : List ℕ → Type 0
 NameTooLong n = IsTooLarge (length n) ⊎ (¬ IsUtf8 n)
 
--- numbers that are no bytes, which none of the program's bytes are
+-- numbers that are not bytes, which the program's bytes never are
 abbrev pub NoBytes : List ℕ → Type 0
 NoBytes bs = ¬ AllByRecursion (λ b. b < 256) bs
 
@@ -31,7 +31,7 @@ NoBytes bs = ¬ AllByRecursion (λ b. b < 256) bs
 abbrev pub ListTooLong : {A : Type 0} → (A → Type 0) → List A → Type 0
 ListTooLong P xs = IsTooLarge (length xs) ⊎ Any P xs
 
--- what stands after its length, as the contents of a section do
+-- what follows its length, as the contents of a section do
 abbrev pub ContentsTooLong : Piece → Type 0
 ContentsTooLong contents = IsTooLarge (piece_length contents)
 

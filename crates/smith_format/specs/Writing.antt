@@ -12,7 +12,7 @@ abbrev pub piece_length : Piece → ℕ
 piece_length None = 0
 piece_length (Some b) = length b
 
--- new begins with what old held, and the writer gave up no room
+-- new begins with what old held, and the writer did not lower its capacity
 pub record Begins (old new : Vec ℕ Global) : Type 0 where
   pub is : take (vec_len old) new.items ≡ old.items
   pub capacity : vec_capacity old ≤ vec_capacity new
@@ -28,14 +28,15 @@ pub record Gains (old new : Vec ℕ Global) (p : Piece) : Type 0 where
   pub begins : Begins old new
   pub length : vec_len new ≡ vec_len old + piece_length p
 
--- A writer of the piece may answer this error. What is too long has no encoding. Memory is lacking where old had no room for
--- the encoding; of a piece of several parts that has none, it may be lacking too, for the parts before the one that is too long.
+-- A writer of the piece may return this error. What is too long has no encoding. It is out of memory only where old had no
+-- room for the encoding; a piece of several parts that has none may be refused so too, for the parts before the one that is
+-- too long.
 pub record IsDue (e : Error) (old : Vec ℕ Global) (p : Piece) : Type 0 where
   pub only : (e ≡ TooLong) ⊎ (e ≡ OutOfMemory)
   pub too_long : e ≡ TooLong → p ≡ None
   pub full : e ≡ OutOfMemory → (p ≡ None) ⊎ (vec_capacity old < vec_len old + piece_length p)
 
--- A writer put the piece after what was there. After an error a part of it may stand there.
+-- A writer put the piece after what was there. After an error, part of it may be there.
 abbrev pub Puts : {A : Type 0} → Result A Error → Vec ℕ Global → Vec ℕ Global → Piece → Type 0
 Puts (Ok _) old new p = Gains old new p
 Puts (Err e) old new p = Begins old new × IsDue e old p
@@ -45,7 +46,8 @@ abbrev pub Appends : {A : Type 0} → Result A Error → Vec ℕ Global → Vec 
 Appends (Ok _) old new p = Gains old new p
 Appends (Err e) old new p = Keeps old new × IsDue e old p
 
--- Memory is lacking only for a piece that has an encoding: what is too long is answered as too long, whatever room there is.
+-- A writer is out of memory only for a piece that has an encoding: what is too long is refused as too long, regardless of the
+-- room.
 abbrev pub WantsMemoryFor : {A : Type 0} → Result A Error → Piece → Type 0
 WantsMemoryFor r p = IfErr r (λ e. e ≡ OutOfMemory → ¬ (p ≡ None))
 

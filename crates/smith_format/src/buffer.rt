@@ -1,4 +1,4 @@
-//! What is put at the end of a buffer. No writer lowers the capacity of the buffer, and none wants memory where the
+//! What is put at the end of a buffer. No writer lowers the capacity of the buffer, and none takes memory where the
 //! buffer has room for what it writes.
 #![tactic(auto, using(crate::proofs::Steps::writing))]
 
@@ -14,11 +14,11 @@ use smith_input::Error;
 /// The binary format of the core specification, as the name of a format.
 pub struct CoreFormat {}
 
-/// What has an encoding in a format, which a type names. Public for the crates above alone.
+/// What has an encoding in a format, which a type names. Public only for the crates above.
 pub trait Spelled<Format> {
     ghost piece: { Self → Piece };
 
-    /// Puts the encoding at the end of a buffer. After an error a part of it may stand there.
+    /// Puts the encoding at the end of a buffer. After an error, part of it may be there.
     fn put(&self, out: &mut Vec<u8>) -> Result<(), Error>
         ensures { Puts result out.old out.new (piece self.now) };
 
@@ -27,8 +27,8 @@ pub trait Spelled<Format> {
         ensures { IsLengthOf result (piece self.now) };
 }
 
-/// Answers what a writer answered that began at `start`. After an error what it wrote is cut off again. Public for the
-/// crates above alone.
+/// Returns the result of a writer that began at `start`. After an error what it wrote is cut off again. Public only for
+/// the crates above.
 pub fn settled(out: &mut Vec<u8>, start: usize, given: Result<(), Error>) -> Result<(), Error>
     ensures { (old : Vec ℕ Global) (p : Piece) → Puts given old out.old p → start ≡ vec_len old
         → Appends result old out.new p }
@@ -39,7 +39,7 @@ pub fn settled(out: &mut Vec<u8>, start: usize, given: Result<(), Error>) -> Res
     given
 }
 
-/// Appends an encoding. After an error the buffer has the bytes that it had. Public for the crates above alone.
+/// Appends an encoding. After an error the buffer has the bytes that it had. Public only for the crates above.
 pub fn write_spelled<Format, T: Spelled<Format>>(out: &mut Vec<u8>, item: &T) -> Result<(), Error>
     ensures { Appends result out.old out.new (T.piece item.now) }
 {
@@ -48,7 +48,7 @@ pub fn write_spelled<Format, T: Spelled<Format>>(out: &mut Vec<u8>, item: &T) ->
     settled(out, start, given)
 }
 
-/// Appends bytes as they are. Public for the crates above alone.
+/// Appends bytes as they are. Public only for the crates above.
 pub fn write_bytes(out: &mut Vec<u8>, contents: &[u8]) -> Result<(), Error>
     ensures { Appends result out.old out.new (bytes contents.now) }
 {
@@ -56,9 +56,10 @@ pub fn write_bytes(out: &mut Vec<u8>, contents: &[u8]) -> Result<(), Error>
     Ok(())
 }
 
-/// Appends a byte. Public for the crates above alone.
+/// Appends a byte. Public only for the crates above.
 pub fn write_byte(out: &mut Vec<u8>, value: u8) -> Result<(), Error>
     ensures { Appends result out.old out.new (byte value) }
 {
-    write_bytes(out, &[value])
+    out.push(value)?;
+    Ok(())
 }

@@ -6,8 +6,8 @@ use smith_input::Error;
 
 /// The limits of what is built. Every number counts things, but `max_type_size`, which is the fuel of a type.
 ///
-/// What a component lacks of a minimum is added when it is finished, whatever the input has. So a large minimum costs
-/// time and memory in proportion to it, for each component.
+/// What a component is missing of a minimum is added when it is finished, regardless of the input. So a large minimum
+/// costs time and memory in proportion to it, for each component.
 #[derive(Debug, Clone, Copy, PartialEq, Eq)]
 pub struct Config {
     /// The fewest types of a component. They can always be added.
@@ -119,9 +119,9 @@ impl Config {
     }
 
     /// Accepts limits that fit together: no minimum exceeds its maximum, counts that are written are at most
-    /// 4,294,967,295, those of functions and of exports together, and the nesting depth is at most 1000. Where components
-    /// must validate, there are at most 500,000 types, 1,000,000 functions and exports together, 1,000 modules, components
-    /// and instances each, and 100 memories. Others are refused with `InconsistentLimits`.
+    /// 4,294,967,295, those of functions and of exports together, and the nesting depth is at most 1000. Where
+    /// components must validate, there are at most 500,000 types, 1,000,000 functions and exports together, 1,000
+    /// modules, components and instances each, and 100 memories. Others are refused with `InconsistentLimits`.
     pub fn check(&self) -> Result<(), Error>
         ensures accepts { IsOk result ↔ IsConsistent self.now }
         ensures refuses { IfErr result (λ e. e ≡ Error.InconsistentLimits) }

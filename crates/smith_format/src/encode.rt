@@ -1,5 +1,5 @@
 //! Value types and function types in the binary format (core specification, Binary Format, Types), and the lengths of
-//! their encodings. No writer lowers the capacity of its buffer, and none wants memory where the buffer has room for
+//! their encodings. No writer lowers the capacity of its buffer, and none takes memory where the buffer has room for
 //! what it writes.
 #![tactic(auto, using(crate::proofs::Steps::writing, crate::proofs::Sizes::measuring))]
 
@@ -51,7 +51,7 @@ pub(crate) fn put_core_val(out: &mut Vec<u8>, ty: ValType) -> Result<(), Error>
     }
 }
 
-/// The length of a value type's encoding. Public for the crates above alone.
+/// The length of a value type's encoding. Public only for the crates above.
 pub fn core_val_len(ty: ValType) -> u32
     ensures length { Takes result (core_val ty) }
     ensures most { result ≤ 6 }
@@ -74,7 +74,7 @@ impl Spelled<CoreFormat> for ValType {
     }
 }
 
-/// Appends a value type. Public for the crates above alone.
+/// Appends a value type. Public only for the crates above.
 pub fn write_core_val(out: &mut Vec<u8>, ty: ValType) -> Result<(), Error>
     ensures { Appends result out.old out.new (core_val ty) }
 {
@@ -96,16 +96,15 @@ impl Spelled<CoreFormat> for FuncType {
     }
 }
 
-/// Appends a function type. It is too long where a count in it exceeds 4,294,967,295. Public for the crates above
-/// alone.
+/// Appends a function type. It is too long where a count in it exceeds 4,294,967,295. Public only for the crates above.
 pub fn write_func_type(out: &mut Vec<u8>, ty: &FuncType) -> Result<(), Error>
     ensures { Appends result out.old out.new (core_function (shown_func ty.now)) }
 {
     write_spelled(out, ty)
 }
 
-/// The length of a function type's encoding; None exactly where it has none of at most 4,294,967,295 bytes. Public for
-/// the crates above alone.
+/// The length of a function type's encoding; None exactly where it has none of at most 4,294,967,295 bytes. Public only
+/// for the crates above.
 pub fn func_type_len(ty: &FuncType) -> Option<u32>
     ensures { IsLengthOf result (core_function (shown_func ty.now)) }
 {

@@ -2,7 +2,7 @@
 
 ghost use Rattle.std.specs.Prelude.{◌≡◌, ◌-◌};
 
-/// Takes one from the fuel, unless none is left. Public for the crates above alone.
+/// Takes one from the fuel, unless none is left. Public only for the crates above.
 pub fn burn(fuel: &mut u32)
     ensures { fuel.new ≡ fuel.old - 1 }
 {

@@ -46,17 +46,17 @@ pub fn numbers_are_clear()
     ensures indexes { IsClear s_index }
 {}
 
-/// The same of texts.
+/// The same for texts.
 pub fn texts_are_clear()
     ensures { IsClear text }
 {}
 
-/// The same of lists of what is read in one way.
+/// The same for lists of what is read in one way.
 pub fn lists_are_clear<T>()
     ensures { (f : T → Piece) → IsClear f → IsClear (many f) }
 {}
 
-/// The same of sections whose contents are read in one way from beginning to end.
+/// The same for sections whose contents are read in one way from beginning to end.
 pub fn sections_are_clear<T>()
     ensures sections { (id : ℕ) (f : T → Piece) → IsExact f → IsClear (λ x. sized id (f x)) }
     ensures contents { (id : ℕ) → IsClear (λ c. sized id (bytes c)) }
@@ -88,9 +88,9 @@ pub fn bytes_have_an_encoding()
     ensures { (bs : List ℕ) → AllByRecursion (λ b. b < 256) bs → ¬ (raw bs ≡ None) }
 {}
 
-/// A core type has no encoding exactly where a count or an index in it exceeds 4,294,967,295; nor has what a core module
-/// imports or exports, or where a bound of its limits exceeds 64 bits, which those of the program never do; nor an
-/// import exactly where that has none or the length of a name exceeds 4,294,967,295.
+/// A core type has no encoding exactly where a count or an index in it exceeds 4,294,967,295; nor has what a core
+/// module imports or exports, or where a bound of its limits exceeds 64 bits, which those of the program never do; nor
+/// an import exactly where that has none or the length of a name exceeds 4,294,967,295.
 pub fn long_core_types_have_no_encoding()
     ensures values { (v : ValType) → (core_val v ≡ None) ↔ ValTooLong v }
     ensures functions { (f : Function) → (core_function f ≡ None) ↔ FunctionTooLong f }
@@ -99,7 +99,7 @@ pub fn long_core_types_have_no_encoding()
 {}
 
 /// No encoding of a core type is a prefix of another of its sort, and two readings with anything after are one; the
-/// same of what a core module imports or exports, and of its imports.
+/// same for what a core module imports or exports, and for its imports.
 pub fn core_types_are_clear()
     ensures values { IsClear core_val }
     ensures functions { IsClear core_function }
@@ -117,7 +117,8 @@ pub fn core_types_are_decided()
 
 /// The script of a function type of these value types is read as that type, and that of a memory type as it.
 pub fn core_scripts_are_read()
-    ensures functions { (valtypes : List ValType) (max_results : ℕ) (f : Function) → FormedFunction valtypes max_results f
+    ensures functions { (valtypes : List ValType) (max_results : ℕ) (f : Function)
+        → FormedFunction valtypes max_results f
         → length valtypes ≤ 2 ^ 64
         → IsReadAs (ReadsFunction valtypes max_results) (script_function valtypes max_results f) f }
     ensures memories { (m : MemoryType) → FormedMemory m → IsReadAs ReadsMemory (script_memory m) m }
@@ -125,6 +126,7 @@ pub fn core_scripts_are_read()
 
 /// The scripts of function types within the limits and of memory types are bytes.
 pub fn core_type_scripts_are_bytes()
-    ensures functions { (config : Config) (f : Function) → AreBytes (script_function (configured config) (max_results config) f) }
+    ensures functions { (config : Config) (f : Function)
+        → AreBytes (script_function (configured config) (max_results config) f) }
     ensures memories { (m : MemoryType) → FormedMemory m → AreBytes (script_memory m) }
 {}

@@ -9,7 +9,7 @@ use crate::buffer::{Spelled, write_byte};
 use crate::numbers::{count_len, write_count};
 use smith_input::Error;
 
-/// Puts a list at the end of a buffer. After an error a part of it may stand there. Public for the crates above alone.
+/// Puts a list at the end of a buffer. After an error, part of it may be there. Public only for the crates above.
 pub fn put_many<Format, T: Spelled<Format>>(out: &mut Vec<u8>, items: &[T]) -> Result<(), Error>
     ensures { Puts result out.old out.new (many T.piece items.now) }
 {
@@ -20,8 +20,8 @@ pub fn put_many<Format, T: Spelled<Format>>(out: &mut Vec<u8>, items: &[T]) -> R
     Ok(())
 }
 
-/// The length of a list's encoding; None exactly where it has none of at most 4,294,967,295 bytes. Public for the
-/// crates above alone.
+/// The length of a list's encoding; None exactly where it has none of at most 4,294,967,295 bytes. Public only for the
+/// crates above.
 pub fn many_len<Format, T: Spelled<Format>>(items: &[T]) -> Option<u32>
     ensures { IsLengthOf result (many T.piece items.now) }
 {
@@ -32,7 +32,7 @@ pub fn many_len<Format, T: Spelled<Format>>(items: &[T]) -> Option<u32>
     count_len(items.len())?.checked_add(total)
 }
 
-/// Puts a list after the byte that says what it is. Public for the crates above alone.
+/// Puts a list after the byte that says what it is. Public only for the crates above.
 pub fn put_tagged<Format, T: Spelled<Format>>(
     out: &mut Vec<u8>,
     tag: u8,
@@ -44,7 +44,7 @@ pub fn put_tagged<Format, T: Spelled<Format>>(
     put_many(out, items)
 }
 
-/// The length of a list after the byte that says what it is. Public for the crates above alone.
+/// The length of a list after the byte that says what it is. Public only for the crates above.
 pub fn tagged_len<Format, T: Spelled<Format>>(items: &[T]) -> Option<u32>
     ensures { (tag : ℕ) → IsLengthOf result (byte tag ⊕ many T.piece items.now) }
 {

@@ -84,7 +84,7 @@ pub fn arbitrary_tag_type(u: &mut Unstructured, candidates: &[u32]) -> TagType
     TagType { func_type_idx }
 }
 
-// At most so many value types.
+// At most that many value types.
 fn values(
     alloc: Global,
     u: &mut Unstructured,
@@ -107,8 +107,8 @@ fn values(
     Ok(types)
 }
 
-/// A function type of at most 20 parameters and `max_results` results, each of one of the value types. It refuses for
-/// want of memory alone.
+/// A function type of at most 20 parameters and `max_results` results, each of one of the value types. It fails only
+/// when out of memory.
 pub fn arbitrary_func_type(
     alloc: Global,
     u: &mut Unstructured,
@@ -130,8 +130,8 @@ pub fn arbitrary_func_type(
     Ok(FuncType { params, results })
 }
 
-/// A function type of the configured value types, with as many results as the limits allow at most. It refuses for want
-/// of memory alone. Public for the crates above alone.
+/// A function type of the configured value types, with as many results as the limits allow at most. It fails only when
+/// out of memory. Public only for the crates above.
 pub fn configured_func_type(
     alloc: Global,
     u: &mut Unstructured,

@@ -41,6 +41,9 @@ impl Spelled<CoreFormat> for u64 {
 pub fn write_u64(out: &mut Vec<u8>, n: u64) -> Result<(), Error>
     ensures { Appends result out.old out.new (number n) }
 {
+    if n < 128 {
+        return write_byte(out, n as u8);
+    }
     write_spelled(out, &n)
 }
 
@@ -130,7 +133,7 @@ pub fn s64_len(n: i64) -> u32
     length
 }
 
-/// Appends an index where a value type may stand. Public for the crates above alone.
+/// Appends an index where a value type may appear. Public only for the crates above.
 pub fn write_type_index(out: &mut Vec<u8>, index: u32) -> Result<(), Error>
     ensures written { Appends result out.old out.new (s_index index) }
     ensures full { WantsMemoryFor result (s_index index) }
@@ -138,7 +141,7 @@ pub fn write_type_index(out: &mut Vec<u8>, index: u32) -> Result<(), Error>
     write_s64(out, i64::from(index))
 }
 
-/// The length of an index where a value type may stand. Public for the crates above alone.
+/// The length of an index where a value type may appear. Public only for the crates above.
 pub fn type_index_len(index: u32) -> u32
     ensures length { result ≡ length (signed (pos index)) }
     ensures most { result ≤ 5 }
@@ -146,7 +149,7 @@ pub fn type_index_len(index: u32) -> u32
     s64_len(i64::from(index))
 }
 
-/// Appends a length or a count. It is too long where it exceeds 4,294,967,295. Public for the crates above alone.
+/// Appends a length or a count. It is too long where it exceeds 4,294,967,295. Public only for the crates above.
 pub fn write_count(out: &mut Vec<u8>, count: usize) -> Result<(), Error>
     ensures written { Appends result out.old out.new (u count) }
     ensures full { WantsMemoryFor result (u count) }
@@ -157,8 +160,8 @@ pub fn write_count(out: &mut Vec<u8>, count: usize) -> Result<(), Error>
     write_u32(out, count as u32)
 }
 
-/// The length of a written length or count; None exactly where that exceeds 4,294,967,295. Public for the crates above
-/// alone.
+/// The length of a written length or count; None exactly where that exceeds 4,294,967,295. Public only for the crates
+/// above.
 pub fn count_len(count: usize) -> Option<u32>
     ensures { IsLengthOf result (u count) }
 {

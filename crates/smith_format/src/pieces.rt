@@ -11,7 +11,7 @@ use smith_input::Error;
 
 const MOST: usize = u32::MAX as usize;
 
-/// Appends bytes that fill what is left of a section. Public for the crates above alone.
+/// Appends bytes that fill what is left of a section. Public only for the crates above.
 pub fn write_raw(out: &mut Vec<u8>, rest: &[u8]) -> Result<(), Error>
     ensures written { Appends result out.old out.new (raw rest.now) }
     ensures full { WantsMemoryFor result (raw rest.now) }
@@ -19,7 +19,7 @@ pub fn write_raw(out: &mut Vec<u8>, rest: &[u8]) -> Result<(), Error>
     write_bytes(out, rest)
 }
 
-/// The length of bytes; None exactly where it exceeds 4,294,967,295. Public for the crates above alone.
+/// The length of bytes; None exactly where it exceeds 4,294,967,295. Public only for the crates above.
 pub fn raw_len(contents: &[u8]) -> Option<u32>
     ensures { IsLengthOf result (raw contents.now) }
 {
@@ -96,7 +96,7 @@ impl Spelled<CoreFormat> for Head {
     }
 }
 
-/// Appends the head of a section: its id and the length of its contents. Public for the crates above alone.
+/// Appends the head of a section: its id and the length of its contents. Public only for the crates above.
 pub fn write_head(out: &mut Vec<u8>, id: u8, length: u32) -> Result<(), Error>
     ensures { Appends result out.old out.new (byte id ⊕ u length) }
 {

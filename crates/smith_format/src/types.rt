@@ -28,7 +28,7 @@ pub enum ValType {
 }
 
 /// The value types that the limits allow, at least i32 and i64: then f32 and f64, v128, and the references to functions
-/// and to things from outside, each where it is enabled. It refuses for want of memory alone.
+/// and to things from outside, each where it is enabled. It fails only when out of memory.
 pub fn configured_valtypes(alloc: Global, config: &Config) -> Result<Vec<ValType>, Error>
     ensures list { IfOk result (λ v. v.items ≡ configured config.now) }
     ensures memory { IfErr result (λ e. e ≡ Error.OutOfMemory) }

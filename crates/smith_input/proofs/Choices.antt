@@ -11,7 +11,7 @@ use Rattle.smith_input.specs.Reading.{Reads, IsTail}
 use Rattle.smith_input.proofs.Picks.{reads-pick}
 use Rattle.smith_input.proofs.Reading.{reads_tail, reads_unique}
 
--- what a call for one of the items answers
+-- what a call for one of the items returns
 pub among : {A : Type 0} {xs : List A} {bytes : List ℕ} {x : A} {rest : List ℕ} → (k : ℕ) × Reads (length xs) bytes k rest × (slice_get xs k ≡ Some x)
     → ReadsAmong xs bytes x rest
 among r = record { place = r.0; reads = r.1; named = r.2 }

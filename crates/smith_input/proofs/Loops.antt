@@ -19,7 +19,8 @@ module _ {S A : Type 0} {Ends : S → List ℕ → List ℕ → S → Type 0} {I
   loop_tail ends items done s b xs rest u (an_item {t = t} {mid = mid} {after = after} {x = x} {xs = ys} m i l) =
       tail_trans (loop_tail ends items (done + 1) t after ys rest u l) (tail_trans (items s mid x after t i) (more_tail m))
 
-  -- What a loop gives, by what its ends and its items give: R s xs t leads from the state s by the items to the state t.
+  -- What a loop produces, by what its ends and its items produce: R s xs t leads from the state s by the items to the
+  -- state t.
   pub loop_gives : (R : S → List A → S → Type 0) → ((s : S) → R s [] s) → ((s : S) (b r : List ℕ) (t : S) → Ends s b r t → R s [] t)
       → ((s t u : S) (b : List ℕ) (x : A) (r : List ℕ) (xs : List A) → Item s b x r t → R t xs u → R s (x ∷ xs) u)
       → (done : ℕ) (s : S) (b : List ℕ) (xs : List A) (rest : List ℕ) (t : S) → Loop Ends Item min max done s b xs rest t → R s xs t
@@ -145,7 +146,7 @@ module _ {S A : Type 0} (Ends : S → List ℕ → List ℕ → S → Type 0) (I
       subst (λ xs. Loop Ends Item min max 0 first start xs rest t) (append-nil so_far)
       (onward [] rest t (by_itself (subst (λ a. More done min max b a mid) e m) end))
 
-  -- a turn that gives an item
+  -- a turn that produces an item
   pub goes_on : (so_far next : List A) (x : A) (done : ℕ) (s t : S) (b mid after : List ℕ) (answer : Bool) → answer ≡ true → More done min max b answer mid
       → Item s mid x after t → next ≡ so_far ++ x ∷ [] → Onward so_far done s b → Onward next (done + 1) t after
   goes_on so_far next x done s t b mid after answer e m one more onward = λ xs rest u l.

@@ -37,7 +37,7 @@ pub kebab_goes : {cs : List ℕ} → Kebab cs → Goes true cs
 kebab_goes (word {cs = cs} w) = subst (Goes true) (append-nil cs) (goes_begun cs [] w tt)
 kebab_goes (hyphen cs ds w k) = goes_begun cs (45 ∷ ds) w (inr refl, kebab_goes k)
 
--- each character has a choice that gives it
+-- each character has a choice that produces it
 
 letter_code : (begins : Bool) (c : ℕ) → IsLetter c → (code c < 37) × (character begins (code c) ≡ c)
 letter_code begins c l = (grind (arith, nat_tests), grind (arith, nat_tests))
@@ -51,7 +51,7 @@ has_code false c (inl (inl l)) = letter_code false c l
 has_code false c (inl (inr d)) = digit_code c d
 has_code false c (inr e) = subst (λ k. (code k < 37) × (character false (code k) ≡ k)) (sym e) (omega arith, refl)
 
--- so many choices give the whole name: no more characters are left, or an `a` where a word must begin
+-- that many choices produce the whole name: no more characters are left, or an `a` where a word must begin
 abbrev Suffices : ℕ → Bool → List ℕ → Type 0
 Suffices zero begins cs = cs ≡ characters begins []
 Suffices (suc n) begins [] = Unit {0}
@@ -141,7 +141,7 @@ within_read max name rest h k w =
       spelt = sym (spelt max true name g (within_suffices max name g w));
     }
 
--- a name that is short enough is within, and spelled as it stands
+-- a name that is short enough is within, and spelled as it is
 
 pub short_within : (max : ℕ) (name : List ℕ) → length name ≤ max → is_within max name ≡ true
 short_within max name l = by_end (last_word_is_a name)
@@ -157,7 +157,7 @@ name_read max name rest h k l =
     (ap (script_name max) (take_all max name l))
     (within_read max name rest h k (short_within max name l))
 
--- What choices give is as long as they are, or has an `a` more after a hyphen; p stands in front.
+-- What choices produce is as long as they are, or has one more `a` after a hyphen; p is in front.
 abbrev Shaped : ℕ → List ℕ → Type 0
 Shaped p ks =
     (length (characters (nat_eq p 45) ks) ≡ length ks)

@@ -80,7 +80,7 @@ new_read max names name rest h k l n = record {
   unique = record { times = 0; name_is = refl; taken = λ m b. absurd (omega (arith, b)); is_new = n };
 }
 
--- The script of a name that the names lack gives that name.
+-- The script of a name that is not among the names produces that name.
 pub unique_scripted : (has : List ℕ → Bool) (size max : ℕ) (bytes text name left spelled rest : List ℕ) → max < 2 ^ 64 → Kebab spelled → length spelled ≤ max
     → has spelled ≡ false → bytes ≡ script_name max spelled ++ rest
     → ReadsKebab max bytes text left → IsMadeUnique has size text name → (name ≡ spelled) × (left ≡ rest)

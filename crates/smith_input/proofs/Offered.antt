@@ -43,7 +43,7 @@ pub offer_holds : {A : Type 0} (P : A → Type 0) (os : List (Bool × A)) → Al
 offer_holds P [] h k x e = absurd (let z : None ≡ Some x = e in cc)
 offer_holds P (o ∷ os) h k x e = offered_first P o os h.0 (offer_holds P os h.1) o.0 refl k x e
 
--- What is offered stands among what is offered.
+-- What is offered is among what is offered.
 offered_later : {A : Type 0} (p : Bool × A) (os : List (Bool × A)) (x : A) → (j : ℕ) × (slice_get (offers_of os) j ≡ Some x) → (b : Bool) → p.0 ≡ b
     → (j : ℕ) × (slice_get (if b then p.1 ∷ offers_of os else offers_of os) j ≡ Some x)
 offered_later p os x later true e = (suc later.0, later.1)

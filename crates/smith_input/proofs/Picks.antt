@@ -63,7 +63,7 @@ reads-pick n k rest h below =
       left = sym (drop-big_endian (width_within 8 n) k rest);
     }
 
--- A pick among so many is one byte.
+-- A pick among that many is one byte.
 pub pick-byte : (n k : ℕ) → 2 ≤ n → n ≤ 256 → pick n k ≡ k ∷ []
 unfolding pick
 pick-byte n k two few =

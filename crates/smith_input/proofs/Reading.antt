@@ -73,7 +73,7 @@ more_within {done} {min} {max} m = ⊎_elim (λ lt. lt) (λ le. absurd (let e : 
 pub more_past : {done min max : ℕ} {bytes rest : List ℕ} → done < max → More done min max bytes false rest → min ≤ done
 more_past {done} {min} {max} lt m = ⊎_elim (λ below. absurd (let e : false ≡ true = (m.forced lt below).0 in cc)) (λ le. le) (cases_lt done min)
 
--- the answers of single bytes
+-- the results of single bytes
 
 pub flips_one : (rest : List ℕ) → Flips (1 ∷ rest) true rest
 flips_one rest = record { bit = (λ _. refl, λ _. refl); left = refl }

@@ -49,7 +49,7 @@ longest_front bytes text n e v =
     let len : length text ≡ n = omega (arith, ap length e, length-take n bytes, v.short) in
     record { utf8 = subst IsUtf8 (sym e) v.front; front = e ∙ ap (λ k. take k bytes) (sym len); longest = λ m h _. v.longest m (omega arith) }
 
--- a prefix that is tested to be UTF-8 is given as it is
+-- a prefix that is tested to be UTF-8 is returned as it is
 pub tested_front : {T E : Type 0} (Q : E → Type 0) (now : T → List ℕ) (bytes : List ℕ) (r : Result T E) (other x : T)
     → MatchResult r (λ s. (now s ≡ bytes) × IsUtf8 bytes) (λ e. ¬ (IsUtf8 bytes) × Q e) → IsUtf8 bytes → x ≡ result_unwrap_or r other → now x ≡ bytes
 tested_front Q now bytes (Ok s) other x m u e = ap now e ∙ m.0

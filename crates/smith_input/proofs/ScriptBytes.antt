@@ -74,7 +74,7 @@ module _ {A : Type 0} (eq : A → A → Bool) where
   pub small_few : (xs : List A) (x : A) → length xs ≤ 255 → Small (script_among eq xs x)
   small_few xs x few = small_byte (length xs) (rank_of eq xs x) (omega (arith, few)) (omega (arith, few, rank_most xs x))
 
-  -- a choice of an item that stands among these
+  -- a choice of an item that is among these
   pub small_found : ((a b : A) → Decides (eq a b) (a ≡ b)) → (xs : List A) (k : ℕ) (x : A) → length xs ≤ 2 ^ 64 → slice_get xs k ≡ Some x
       → Small (script_among eq xs x)
   small_found decides xs k x few stands =
@@ -169,4 +169,5 @@ pub small_new_text : (max : ℕ) (names : List (List ℕ)) (name : List ℕ) →
     → Small (script_new_text max (length names) name)
 small_new_text max names name h all made =
     let text = stem_of (is_short max) (length names) name in
-    short_text max text h (of_text (λ b. b < 256) (is_short max) (length names) name all) (leb-true (length text) max (made_of (is_short max) names name made).0)
+    short_text max text h (of_text (λ b. b < 256) (is_short max) (length names) name all)
+    (leb-true (length text) max (made_of (is_short max) names name made).0)

@@ -11,7 +11,7 @@ power_more k = rw add-one (pow-suc 256 k)
 pub powers_rise : (i j : ℕ) → i ≤ j → 256 ^ i ≤ 256 ^ j
 powers_rise i j h = let z : 0 < 256 = omega arith in pow-le-pow_right z h
 
--- one byte more at the end
+-- one more byte at the end
 pub spelled_last : (w : ℕ) (bytes : List ℕ) → spelled (suc w) bytes ≡ spelled w bytes * 256 + get_or bytes w 0
 spelled_last zero [] = refl
 spelled_last zero (x ∷ bytes) = omega arith

@@ -9,7 +9,8 @@ use Rattle.smith_input.specs.Script.{script_name, script_text}
 abbrev pub last_word_is_a : List ℕ → Bool
 last_word_is_a name = ends_with nat_eq (codes "-" ++ name) (codes "-a")
 
--- Can a name in kebab case be read at a length of at most max? Nothing is chosen for an `a` that is the last word, so there one byte more can come.
+-- Can a name in kebab case be read at a length of at most max? Nothing is chosen for an `a` that is the last word, so one more byte is possible
+-- there.
 abbrev pub is_within : ℕ → List ℕ → Bool
 is_within max name = nat_le (length name) (if last_word_is_a name then max + 1 else max)
 
@@ -34,13 +35,13 @@ AreReachable max before (n ∷ ns) = IsReachable max before n × AreReachable ma
 abbrev pub IsReachableText : ℕ → List (List ℕ) → List ℕ → Type 0
 IsReachableText max names name = IsMadeOf (is_short max) names name
 
--- the first that can be read: the name, or what is left of it where so many bytes at the end are left out, again and again
+-- the first that can be read: the name, or what is left of it where that many bytes at the end are left out, again and again
 abbrev pub first_readable : (List ℕ → Bool) → ℕ → ℕ → List ℕ → List ℕ
 first_readable can_read digits zero name = name
 first_readable can_read digits (suc fuel) name =
     if can_read name then name else first_readable can_read digits fuel (take (length name - digits) name)
 
--- the longest text that can be read and becomes the name, so many names being there
+-- the longest text that can be read and becomes the name, that many names being there
 abbrev pub stem_of : (List ℕ → Bool) → ℕ → List ℕ → List ℕ
 stem_of can_read count name = first_readable can_read (length (decimal count)) (length name) name
 
@@ -48,10 +49,10 @@ stem_of can_read count name = first_readable can_read (length (decimal count)) (
 abbrev pub script_within : ℕ → List ℕ → List ℕ
 script_within max name = script_name max (take max name)
 
--- the script of a name in kebab case that is made new among so many names
+-- the script of a name in kebab case that is made new among that many names
 abbrev pub script_new : ℕ → ℕ → List ℕ → List ℕ
 script_new max count name = script_within max (stem_of (is_within max) count name)
 
--- the script of a text that is made new among so many texts
+-- the script of a text that is made new among that many texts
 abbrev pub script_new_text : ℕ → ℕ → List ℕ → List ℕ
 script_new_text max count name = script_text max (stem_of (is_short max) count name)

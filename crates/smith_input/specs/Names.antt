@@ -18,8 +18,8 @@ abbrev pub character : Bool → ℕ → ℕ
 character begins k =
     if nat_lt k 26 then 97 + k else (if nat_lt k 36 then (if begins then 97 + (k - 26) else 48 + (k - 26)) else (if begins then 97 else 45))
 
--- The characters of the choices, where a word must begin or goes on at the first. A word must begin after each
--- hyphen; where one must begin after the last choice, an a stands there.
+-- The characters of the choices, where a word must begin or goes on at the first. A word must begin after each hyphen;
+-- where one must begin after the last choice, an a is there.
 abbrev pub characters : Bool → List ℕ → List ℕ
 characters begins [] = if begins then 97 ∷ [] else []
 characters begins (k ∷ ks) = character begins k ∷ characters (nat_eq (character begins k) 45) ks

@@ -1,4 +1,4 @@
--- What a read answers, and which bytes it leaves. A byte past the end counts as zero, and nothing is taken for it.
+-- What a read returns, and which bytes it leaves. A byte past the end counts as zero, and nothing is taken for it.
 use Rattle.std.specs.Prelude.{◌≡◌, ℕ, zero, suc, ◌+◌, ◌*◌, ◌^◌, ◌%◌, ◌<◌, ◌≤◌, ◌↔◌, Bool, true, false, IsTrue, List, [], ◌∷◌, ◌++◌, drop, slice_index}
 
 -- the number that the first w bytes spell, most significant first, with zeros past the end
@@ -7,7 +7,7 @@ spelled zero bytes = 0
 spelled (suc w) [] = 0
 spelled (suc w) (x ∷ bytes) = x * 256 ^ w + spelled w bytes
 
--- w bytes tell n things apart, and fewer do not
+-- w bytes distinguish n things, and fewer do not
 pub record IsWidth (n w : ℕ) : Type 0 where
   pub enough : n ≤ 256 ^ w
   pub least : (v : ℕ) → n ≤ 256 ^ v → w ≤ v
@@ -26,7 +26,8 @@ pub record Flips (bytes : List ℕ) (answer : Bool) (rest : List ℕ) : Type 0 w
   pub bit : IsTrue answer ↔ (slice_index bytes 0 % 2 ≡ 1)
   pub left : rest ≡ drop 1 bytes
 
--- Whether a loop that has made so many turns makes another: not from max on, surely below min, and else by a boolean.
+-- Whether a loop that has made that many turns makes another: never from max on, always below min, and otherwise by a
+-- boolean.
 pub record More (done min max : ℕ) (bytes : List ℕ) (answer : Bool) (rest : List ℕ) : Type 0 where
   pub full : max ≤ done → (answer ≡ false) × (rest ≡ bytes)
   pub forced : done < max → done < min → (answer ≡ true) × (rest ≡ bytes)

@@ -21,8 +21,8 @@ pub record IsLongestText (bytes text : List ℕ) : Type 0 where
   pub front : text ≡ take (length text) bytes
   pub longest : (n : ℕ) → length text < n → n ≤ length bytes → ¬ (IsUtf8 (take n bytes))
 
--- A text of at most max bytes: a length is read, and the longest text that begins so many next bytes, or all
--- that are left where they are fewer, is taken. The others stay unread.
+-- A text of at most max bytes: a length is read, and the longest text that begins that many next bytes, or all that are
+-- left where they are fewer, is taken. The others stay unread.
 pub record ReadsText (max : ℕ) (bytes text rest : List ℕ) : Type 0 where
   pub count : ℕ
   pub after_count : List ℕ

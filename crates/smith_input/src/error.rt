@@ -1,8 +1,8 @@
-//! Why a call gives up.
+//! Why a call fails.
 
 use std::alloc::{AllocError, AllocFailed};
 
-/// Why a call gives up.
+/// Why a call fails.
 #[derive(Debug, PartialEq, Eq, Drop, thiserror::Error)]
 pub enum Error {
     /// The limits of a `Config` do not fit together.
@@ -14,10 +14,10 @@ pub enum Error {
     /// The limits on memories leave no module.
     #[error("no module is within the limits of the configuration")]
     ModuleRefused,
-    /// A length or a count exceeds 4,294,967,295, so it can not be written.
+    /// A length or a count exceeds 4,294,967,295, so it cannot be written.
     #[error("a length or a count is too long to be written")]
     TooLong,
-    /// A growth was refused.
+    /// An allocation failed.
     #[error("out of memory")]
     OutOfMemory,
     /// The parts that a module was to be made of disagree.

@@ -158,7 +158,7 @@ pub fn new_name_scripts_are_bytes()
         → AreBytes name → IsReachableText max names name → AreBytes (script_new_text max (length names) name) }
 {}
 
-/// The script of a name of at most `max` bytes spells the name as it stands, whatever names there are.
+/// The script of a name of at most `max` bytes spells the name as it is, regardless of the names there.
 pub fn short_names_stay()
     ensures names { (max count : ℕ) (name : List ℕ) → length name ≤ max
         → script_new max count name ≡ script_name max name }

@@ -1,4 +1,4 @@
-//! The reader of a fuzzer's bytes, the texts and names that it reads, and why a call gives up.
+//! The reader of a fuzzer's bytes, the texts and names that it reads, and why a call fails.
 #![tactic(auto)]
 
 mod error;

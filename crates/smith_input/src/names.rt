@@ -16,7 +16,7 @@ use std::alloc::Global;
 use std::collections::BTreeSet;
 
 /// How many bytes of a name are read, besides an `a` as the last word of one in kebab case, which takes none. Names of
-/// custom sections have a limit of their own. Public for the crates above alone.
+/// custom sections have a limit of their own. Public only for the crates above.
 pub const MAX_NAME_LEN: usize = 100;
 
 const HOST: &str = "https://example.com/";
@@ -58,7 +58,7 @@ fn kebab_string(alloc: Global, max: usize, u: &mut Unstructured) -> Result<Strin
     Ok(name)
 }
 
-/// Names that there are. Public for the crates above alone.
+/// Names that there are. Public only for the crates above.
 pub trait TakenNames {
     ghost texts: { Self → List (List ℕ) };
 
@@ -83,7 +83,7 @@ impl TakenNames for BTreeSet<String> {
     }
 }
 
-/// What has a name. Public for the crates above alone.
+/// What has a name. Public only for the crates above.
 pub trait Labelled {
     ghost text: { Self → List ℕ };
 
@@ -108,7 +108,7 @@ impl<T> Labelled for (String, T) {
     }
 }
 
-// Has one of the items that name?
+// Does one of the items have that name?
 fn has_label<T: Labelled>(items: &[T], name: &str) -> bool
     ensures { result ≡ is_among (map T.text items.now) name.now }
 {
@@ -147,7 +147,7 @@ fn made_unique<N: TakenNames>(alloc: Global, name: String, names: &N) -> Result<
 }
 
 /// A text that is none of the names: one of at most `max` bytes is read, and while it is one of them, the decimal
-/// digits of their number are appended. The error is `OutOfMemory` alone. Public for the crates above alone.
+/// digits of their number are appended. The only error is `OutOfMemory`. Public only for the crates above.
 pub fn new_string<N: TakenNames>(
     alloc: Global,
     max: usize,
@@ -161,8 +161,8 @@ pub fn new_string<N: TakenNames>(
     made_unique(alloc, limited_string(alloc, max, u)?, names)
 }
 
-/// A name in kebab case that is none of the names: one is read and made unique as by `unique_kebab_string`. The error
-/// is `OutOfMemory` alone. Public for the crates above alone.
+/// A name in kebab case that is none of the names: one is read and made unique as by `unique_kebab_string`. The only
+/// error is `OutOfMemory`. Public only for the crates above.
 pub fn new_kebab_string<N: TakenNames>(
     alloc: Global,
     max: usize,
@@ -177,9 +177,9 @@ pub fn new_kebab_string<N: TakenNames>(
     made_unique(alloc, kebab_string(alloc, max, u)?, names)
 }
 
-/// A text that was not in the set, and is in it then: one of at most `max` bytes is read, and while the set has
-/// it, the decimal digits of the set's size are appended. So it may be longer than `max`. The error is
-/// `OutOfMemory` alone, and the set is then as before.
+/// A text that was not in the set before, and is in it afterwards: one of at most `max` bytes is read, and while the
+/// set has it, the decimal digits of the set's size are appended. So it may be longer than `max`. The only error is
+/// `OutOfMemory`, and the set is then as before.
 pub fn unique_string(
     alloc: Global,
     max: usize,
@@ -197,10 +197,10 @@ pub fn unique_string(
     Ok(name)
 }
 
-/// A name in kebab case that was not in the set, and is in it then: one of at most `max` characters is read,
-/// with an `a` more at its end where a word is missing there, and while the set has it, the decimal digits of
-/// the set's size are appended. So it may be longer than `max`. The error is `OutOfMemory` alone, and the set
-/// is then as before.
+/// A name in kebab case that was not in the set before, and is in it afterwards: one of at most `max` characters is
+/// read, with one more `a` at its end where a word is missing there, and while the set has it, the decimal digits of
+/// the set's size are appended. So it may be longer than `max`. The only error is `OutOfMemory`, and the set is then as
+/// before.
 pub fn unique_kebab_string(
     alloc: Global,
     max: usize,
@@ -210,7 +210,7 @@ pub fn unique_kebab_string(
     ensures read { IfOk result (λ name. ReadsUnique (ReadsKebab max) names.old u.old (string_bytes name) u.new) }
     ensures kebab { IfOk result (λ name. Kebab (string_bytes name)) }
     ensures gained { IfOk result (λ name. GainsName names.old names.new (string_bytes name)) }
-    // The script of a name that the set lacks gives that name.
+    // The script of a name that is not in the set produces that name.
     ensures script { (name rest : List ℕ) → Kebab name → length name ≤ max → contains_text names.old name ≡ false
         → u.old ≡ script_name max name ++ rest → IfOk result (λ text. (string_bytes text ≡ name) × (u.new ≡ rest)) }
     ensures refused { OnErr result (names.new.keys ≡ names.old.keys) }
@@ -223,8 +223,8 @@ pub fn unique_kebab_string(
 }
 
 /// A URL: `https://example.com/` and a name in kebab case that was not in the set, read and made unique as by
-/// `unique_kebab_string`. The set has the name alone then, without what stands in front of it. The error is
-/// `OutOfMemory` alone, and the set is then as before.
+/// `unique_kebab_string`. The set then has only the name, without what precedes it. The only error is `OutOfMemory`,
+/// and the set is then as before.
 pub fn unique_url(
     alloc: Global,
     max: usize,

@@ -8,7 +8,7 @@ use crate::{Error, Unstructured};
 use std::alloc::Global;
 use std::str;
 
-/// Bytes of any length: while a boolean is true, one byte follows. The error is `OutOfMemory` alone.
+/// Bytes of any length: while a boolean is true, one byte follows. The only error is `OutOfMemory`.
 pub fn arbitrary_bytes(alloc: Global, u: &mut Unstructured) -> Result<Vec<u8>, Error>
     ensures read { IfOk result (λ bytes. ReadsBytes u.old bytes.items u.new) }
     ensures memory { IfErr result (λ e. e ≡ Error.OutOfMemory) }
@@ -21,7 +21,7 @@ pub fn arbitrary_bytes(alloc: Global, u: &mut Unstructured) -> Result<Vec<u8>, E
     Ok(bytes)
 }
 
-/// How many bytes of the name of a custom section are read. Public for the crates above alone.
+/// How many bytes of the name of a custom section are read. Public only for the crates above.
 pub const MAX_CUSTOM_NAME_LEN: usize = 1000;
 
 // The longest prefix that is UTF-8.
@@ -34,8 +34,8 @@ fn longest_text(bytes: &[u8]) -> &str
     }
 }
 
-/// A text of at most `max` bytes: a length, cut to the number of bytes left, and the longest prefix of so many
-/// next bytes that is UTF-8. The rest of them stays unread. The error is `OutOfMemory` alone.
+/// A text of at most `max` bytes: a length, cut to the number of bytes left, and the longest prefix of that many next
+/// bytes that is UTF-8. The rest of them stays unread. The only error is `OutOfMemory`.
 pub fn limited_string(alloc: Global, max: usize, u: &mut Unstructured) -> Result<String, Error>
     ensures read { IfOk result (λ text. ReadsText max u.old (string_bytes text) u.new) }
     ensures memory { IfErr result (λ e. e ≡ Error.OutOfMemory) }

@@ -7,8 +7,8 @@ ghost use Rattle.smith_input.specs.Reading.{IsWidth, Reads, Flips, More, spelled
 
 use std::marker::Model;
 
-/// A reader of bytes from the front. Contracts see the bytes that are left. A byte past the end counts as
-/// zero, and nothing is taken for it. No call fails, and none takes memory.
+/// A reader of bytes from the front. Contracts see the bytes that are left. A byte past the end counts as zero, and
+/// nothing is taken for it. No call fails or allocates.
 #[derive(Drop)]
 pub struct Unstructured<'a> {
     bytes: &'a [u8],
@@ -22,7 +22,7 @@ impl<'a> Model for Unstructured<'a> {
     ghost view = { λ u. u.bytes.now };
 }
 
-// How many bytes tell `last + 1` things apart.
+// How many bytes distinguish `last + 1` things.
 fn width_of(last: u64) -> u32
     ensures width { IsWidth (last + 1) result }
     ensures small { result ≤ 8 }
@@ -93,7 +93,7 @@ impl<'a> Unstructured<'a> {
         number
     }
 
-    // A choice among `last + 1`, which may pass 64 bits.
+    // A choice among `last + 1`, which may exceed 64 bits.
     fn pick(&mut self, last: u64) -> u64
         ensures { Reads (last + 1) self.old result self.new }
     {
@@ -106,7 +106,7 @@ impl<'a> Unstructured<'a> {
         }
     }
 
-    /// A choice among `n`, from 0 to `n - 1`: the fewest bytes that tell `n` things apart are read, the most
+    /// A choice among `n`, from 0 to `n - 1`: the fewest bytes that distinguish `n` things are read, the most
     /// significant first, and their number is taken modulo `n`. No byte is read where `n` is 1.
     pub fn choose_index(&mut self, n: usize) -> usize
         requires { 0 < n }
@@ -147,8 +147,8 @@ impl<'a> Unstructured<'a> {
         self.arbitrary_u8() % 2 == 1
     }
 
-    /// Whether a loop that has made `done` turns makes another: not from `max` on, surely below `min`, neither
-    /// with a read, and else by a boolean.
+    /// Whether a loop that has made `done` turns makes another: never from `max` on and always below `min`, in both
+    /// cases without a read, and otherwise by a boolean.
     pub fn more(&mut self, done: usize, min: usize, max: usize) -> bool
         requires { min ≤ max }
         ensures { More done min max self.old result self.new }

@@ -48,7 +48,7 @@ pub right_at : (members : Members) (key : Key) → first_wrong members ≡ None 
 right_at members MinTypes e = assumption (none_of (is_wrong members) all_keys e)
 right_at members key e = assumption (none_of (is_wrong members) all_keys e)
 
--- so a number is no wrong one
+-- so a number is not a wrong one
 unless : (b x y : Bool) → b ≡ false → (if b then x else y) ≡ false → y ≡ false
 unless true x y e h = absurd (cc)
 unless false x y e h = h

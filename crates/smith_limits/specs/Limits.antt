@@ -13,7 +13,8 @@ use Rattle.smith_limits.specs.declared.keys.Key.TheVariants.{MaxComponents, MaxI
 use Rattle.smith_limits.specs.declared.limits.Fault.{Fault}
 use Rattle.smith_limits.specs.declared.limits.Fault.TheVariants.{Unknown, At, Apart, OutOfMemory}
 use Rattle.smith_limits.specs.declared.limits.Pair.{Pair}
-use Rattle.smith_limits.specs.declared.limits.Pair.TheVariants.{Types, Imports, Funcs, Exports, ValidTypes, ValidExports, ValidModules, ValidComponents, ValidInstances, ValidMemories}
+use Rattle.smith_limits.specs.declared.limits.Pair.TheVariants.{Types, Imports, Funcs, Exports, ValidTypes, ValidExports}
+use Rattle.smith_limits.specs.declared.limits.Pair.TheVariants.{ValidModules, ValidComponents, ValidInstances, ValidMemories}
 use Rattle.smith_limits.specs.declared.keys.Wrong.{Wrong}
 use Rattle.smith_limits.specs.declared.keys.Wrong.TheVariants.{NoInteger, NoBoolean, Negative, TooLarge}
 
@@ -44,7 +45,7 @@ IsNoInteger most (Some (pos m)) wrong = (wrong ≡ TooLarge) × (most < m)
 IsNoInteger most (Some (negsuc _)) wrong = wrong ≡ Negative
 IsNoInteger most None wrong = wrong ≡ NoInteger
 
--- whether there is a value, and it is no such number
+-- whether there is a value, and it is not such a number
 abbrev pub is_no_number : ℕ → Option Data → Bool
 is_no_number most None = false
 is_no_number most (Some value) = is_no_integer most (as_integer value)
@@ -54,7 +55,7 @@ abbrev pub IsNoNumber : ℕ → Option Data → Wrong → Type 0
 IsNoNumber most None wrong = ⊥
 IsNoNumber most (Some value) wrong = IsNoInteger most (as_integer value) wrong
 
--- whether there is a value, and it is no truth value
+-- whether there is a value, and it is not a truth value
 abbrev pub is_no_switch : Option Data → Bool
 is_no_switch None = false
 is_no_switch (Some value) = not (is_some (as_bool value))
@@ -93,8 +94,8 @@ upper_of ValidComponents = MustValidate
 upper_of ValidInstances = MustValidate
 upper_of ValidMemories = MustValidate
 
--- whether the two do not fit together: a minimum exceeds its maximum, functions and exports together pass 32 bits, or components must
--- validate and may have more than a validator accepts
+-- whether the two do not fit together: a minimum exceeds its maximum, functions and exports together exceed 32 bits, or components
+-- must validate and may have more than a validator accepts
 abbrev pub is_apart : Config → Pair → Bool
 is_apart config Types = nat_lt config.max_types config.min_types
 is_apart config Imports = nat_lt config.max_imports config.min_imports

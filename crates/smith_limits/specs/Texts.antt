@@ -18,8 +18,8 @@ pub record SpellsLimits (text : List ℕ) (config : Config) : Type 0 where
   pub sets : (default : Config) → IsDefault default → Sets members default config
   pub fits : IsConsistent config
 
--- Why a text spells no limits: it is no table of TOML, with a place in the text, or its table sets none. Without memory nothing is known but
--- that the text is more than white space and comments.
+-- Why a text spells no limits: it is not a table of TOML, with a place in the text, or its table sets none. Without memory nothing is known
+-- except that the text is more than white space and comments.
 abbrev pub IsTextFault : List ℕ → TextFault → Type 0
 IsTextFault text (NotToml error) = (parse_document text ≡ None) × IsWithin text error
 IsTextFault text (Limits fault) =

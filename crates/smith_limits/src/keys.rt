@@ -18,9 +18,9 @@ use toml::{Table, Value};
 /// What is wrong at a limit's name.
 #[derive(Debug, Clone, Copy, PartialEq, Eq)]
 pub enum Wrong {
-    /// The value is no integer.
+    /// The value is not an integer.
     NoInteger,
-    /// The value is no boolean.
+    /// The value is not a boolean.
     NoBoolean,
     /// The integer is negative.
     Negative,

@@ -7,7 +7,8 @@ ghost use Rattle.toml.specs.View.{table_view};
 ghost use Rattle.smith_format.specs.declared.config.Config.{Config};
 ghost use Rattle.smith_format.specs.Consistency.{IsConsistent, IsDefault};
 ghost use Rattle.smith_limits.specs.Keys.{is_name};
-ghost use Rattle.smith_limits.specs.Limits.{first_apart, first_wrong, is_apart, lower_of, unknown_in, upper_of, valid_pairs};
+ghost use Rattle.smith_limits.specs.Limits.{first_apart, first_wrong, is_apart, lower_of};
+ghost use Rattle.smith_limits.specs.Limits.{unknown_in, upper_of, valid_pairs};
 ghost use Rattle.smith_limits.specs.Limits.{IsBounded, IsRefused, Sets};
 
 use crate::keys::{Key, Wrong, first_wrong, is_known, set_by, wrong_at};
@@ -119,7 +120,7 @@ pub enum Fault {
     At(Key, Wrong),
     /// Two limits do not fit together, set or by default.
     Apart(Pair),
-    /// There is no memory for the name that no limit has.
+    /// There is not enough memory for the name that no limit has.
     OutOfMemory,
 }
 

@@ -16,7 +16,7 @@ pub enum TextFault {
     NotToml(Error),
     /// The table that the text spells sets no limits.
     Limits(Fault),
-    /// There is no memory for the table of the text.
+    /// There is not enough memory for the table of the text.
     OutOfMemory,
 }
 

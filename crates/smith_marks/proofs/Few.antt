@@ -22,7 +22,7 @@ use Rattle.smith_marks.proofs.TiedBodies.{TiedBody}
 abbrev pub counted : Counts → ℕ
 counted c = c.types + c.functions + c.modules + c.components + c.instances + c.imports + c.exports
 
--- after so many declarations
+-- after that many declarations
 pub record Few (n : ℕ) (b : Body) : Type 0 where
   pub size : b.size ≤ 1 + n * 9999
   pub counts : counted b.counts ≤ 2 * n
@@ -62,7 +62,7 @@ counted_export c own outer (to.TypeEq i) = omega (arith, equal_count (id_at (own
 counted_export c own outer (to.Component i) = omega arith
 counted_export c own outer (to.Instance i) = omega arith
 
--- after so many types or core types more, and after an import and an export
+-- after that many more types or core types, and after an import and an export
 
 few_types : (n : ℕ) (b : Body) (fs : List Facts) → Few n b → length fs ≤ 1 → Few (n + 1) (with_facts b fs)
 few_types n b fs f one = record { size = omega (arith, f.size); counts = omega (arith, f.counts) }

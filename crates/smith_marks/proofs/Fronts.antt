@@ -114,6 +114,6 @@ front_imports ds =
       function_imports (codes "canonical_abi_free") free (if nat_lt (length (after_realloc a)) (length a) then 1 else 0) (after_realloc a),
     )
 
--- so there are no more imports than declarations behind it
+-- so there are no more imports than declarations after it
 pub imports_behind : (k : ExportKind) (ds : List ModuleDecl) → imported_of_kind k ds ≤ length (after_front ds)
 imports_behind k ds = omega (arith, few_of_kind k ds, front_imports ds, few_imports (after_front ds))

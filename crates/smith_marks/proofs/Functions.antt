@@ -36,7 +36,7 @@ ArePrimitive vs = AllByRecursion IsPrimitive vs
 abbrev pub IsFree : Facts → Type 0
 IsFree f = (f.refers ≡ []) × (f.size ≤ small_size)
 
--- A function type has a size of at least 1, and is free where it is of primitives alone.
+-- A function type has a size of at least 1, and is free where it is only of primitives.
 abbrev pub FitsFunction : Entry → Facts → Type 0
 FitsFunction (defined d) f = Unit {0}
 FitsFunction (function s) f = (1 ≤ f.size) × (ArePrimitive (signature_members s) → IsFree f)
@@ -119,7 +119,7 @@ primitive_values (v ∷ vs) (x ∷ xs) e =
     let rest : map flat_value vs ≡ map Some xs = cc in
     (primitive_value v x one, primitive_values vs xs rest)
 
--- Functions: each of a type that stands there and is free.
+-- Functions: each of a type that is there and is free.
 
 pub record IsFreeAt (fs : List Facts) (i : ℕ) : Type 0 where
   pub found : Facts

@@ -124,7 +124,7 @@ export_types (e ∷ es) s =
     let k = export_types es (after_export s e) in
     record { types = k.types; core_types = k.core_types }
 
--- what stands at the end of these parts
+-- what is at the end of these parts
 abbrev at_end : Spaces → Tree → Spaces
 at_end s t = fold after_part s (parts_of t)
 
@@ -205,7 +205,7 @@ module _ (config : Config) (valid : AreCountsValid config) where
         exports = omega (arith, few.exports, o.exports, valid.funcs);
       }
 
-  -- the parts, and what stands before them
+  -- the parts, and what precedes them
   record Kept (t : Tree) (s : Spaces) : Type 0 where
     parts : KeptParts config t
     types : AllByRecursion (EntryLimits config) s.types

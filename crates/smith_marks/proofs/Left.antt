@@ -43,7 +43,7 @@ abbrev pub left : Tree → Counts
 left ends = no_counts
 left (first p t) = part_left p (left t)
 
--- With so many more the counts are still within the bounds.
+-- With that many more the counts are still within the bounds.
 pub record Fits (c l : Counts) : Type 0 where
   pub types : c.types + l.types ≤ 1000000
   pub functions : c.functions + l.functions ≤ 1000000

@@ -1,4 +1,4 @@
--- Sections of which each entry was offered are valid, and so is what comes behind them.
+-- Sections of which each entry was offered are valid, and so is what follows them.
 use Rattle.std.proofs.Common.{◌≡◌, ℕ, zero, suc, true, false, List, [], ◌∷◌, ◌++◌, length, map, fold, sym, subst, append-nil, append_assoc, arith}
 use Rattle.std.proofs.Common.{Option, Some, None, slice_get, option_to_list}
 use Rattle.std.proofs.lemmas.List.Sums.{fold-append}

@@ -62,7 +62,7 @@ module _ (config : Config) where
   same_reference named m own (to.Component i) t = same_at named m.marks own.types i 0 t.types
   same_reference named m own (to.Instance i) t = same_at named m.marks own.types i 0 t.types
 
-  -- with types more, which are so tied
+  -- with more types, which are so tied
   pub tied_types : (m : Marked) (b : Body) (es : List Entry) (ms : List Mark) (fs : List Facts) → TiedBody config m b
       → AsMany es fs → TiedTypes (names_of b.exports) ms fs
       → TiedBody config (record m { types = m.types ++ es; marks = more_kept m.keeps m.marks ms }) (with_facts b fs)
@@ -83,7 +83,7 @@ module _ (config : Config) where
         exported = t.exported;
       }
 
-  -- with core types more
+  -- with more core types
   pub tied_cores : (m : Marked) (b : Body) (cs : List CoreEntry) (ns : List ℕ) (fs : List CoreFacts)
       → TiedBody config m b → cs ≡ entries_of fs → ns ≡ kept_sizes fs → AllByRecursion (FitsCore config) fs
       → TiedBody config (record m { core_types = m.core_types ++ cs; core_sizes = more_kept m.keeps m.core_sizes ns }) (with_core_facts b fs)

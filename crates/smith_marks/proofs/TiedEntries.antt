@@ -33,7 +33,7 @@ module _ (config : Config) where
       (entry_at named m.types m.marks own.types i t.entries t.types)
   tied_alias named m own marked outer (suc count) i t k = tied_outwards named count config marked outer count i k
 
-  -- a core type more, within the limits
+  -- one more core type, within the limits
   pub tied_core : (e : CoreEntry) (m : Marked) (b : Body) → TiedBody config m b → CoreLimits config e
       → TiedBody config (with_sized m e (capped (module_type_size m.core_types e))) (with_core_facts b (core_facts e b.own ∷ []))
   tied_core e m b t h =

@@ -20,17 +20,20 @@ ghost use Rattle.smith_validity.specs.Validates.{Validates};
 ghost use Rattle.std.specs.List.{AllByRecursion};
 ghost use Rattle.std.specs.Prelude.{◌≡◌, ◌≤◌, List, true};
 
-/// Where components must validate, a component within the limits of which each type, import and export was offered does.
+/// Where components must validate, a component within the limits does if each type, import and export was offered.
 pub fn offered_components_validate()
-    ensures { (config : Config) (tree : Tree) → config.must_validate ≡ true → IsConsistent config → WellFormed tree → Limits config tree
+    ensures { (config : Config) (tree : Tree) → config.must_validate ≡ true
+        → IsConsistent config → WellFormed tree → Limits config tree
         → IsOffered config tree → Validates tree }
 {}
 
-/// A core type within the limits is valid where the core types before it are within them, and every module type is small.
+/// A core type within the limits is valid where those before it are within them, and every module type is small.
 pub fn core_types_are_offered()
-    ensures valid { (config : Config) (around : List CoreEntry) (e : CoreEntry) → AllByRecursion (CoreLimits config) around
+    ensures valid { (config : Config) (around : List CoreEntry) (e : CoreEntry)
+        → AllByRecursion (CoreLimits config) around
         → CoreLimits config e → ValidCore around e }
-    ensures small { (config : Config) (around : List CoreEntry) (e : CoreEntry) → AllByRecursion (CoreLimits config) around
+    ensures small { (config : Config) (around : List CoreEntry) (e : CoreEntry)
+        → AllByRecursion (CoreLimits config) around
         → CoreLimits config e → module_type_size around e ≤ small_size }
 {}
 
@@ -42,8 +45,10 @@ pub fn functions_of_unnamed_enums_are_not_offered()
 
 /// A function of an enum that an export names is offered for an export, and not for an import.
 pub fn functions_of_named_enums_are_offered_for_exports()
-    ensures exported { (config : Config) → config.must_validate ≡ true → IsOffered config exports_function_of_named_enum }
-    ensures imported { (config : Config) → config.must_validate ≡ true → ¬ IsOffered config imports_function_of_named_enum }
+    ensures exported { (config : Config) → config.must_validate ≡ true
+        → IsOffered config exports_function_of_named_enum }
+    ensures imported { (config : Config) → config.must_validate ≡ true
+        → ¬ IsOffered config imports_function_of_named_enum }
 {}
 
 /// What is named in a component type is not named in a component type within it.
@@ -57,11 +62,12 @@ pub fn records_of_unnamed_enums_are_not_offered()
     ensures labels { (config : Config) → config.must_validate ≡ true → IsOffered config names_enum }
 {}
 
-/// Instances that name their own enum are offered for imports and exports. Their type is not offered for a name, not even where it would
-/// be valid since an instance of it was exported.
+/// Instances that name their own enum are offered for imports and exports. Their type is not offered for a name, not
+/// even where it would be valid since an instance of it was exported.
 pub fn instances_that_name_their_own_are_offered()
     ensures imported { (config : Config) → config.must_validate ≡ true → IsOffered config imports_instance }
     ensures exported { (config : Config) → config.must_validate ≡ true → IsOffered config exports_instance }
     ensures equal { (config : Config) → config.must_validate ≡ true → ¬ IsOffered config names_instance_type }
-    ensures equal_after { (config : Config) → config.must_validate ≡ true → ¬ IsOffered config names_type_of_exported_instance }
+    ensures equal_after { (config : Config) → config.must_validate ≡ true
+        → ¬ IsOffered config names_type_of_exported_instance }
 {}

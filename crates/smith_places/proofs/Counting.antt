@@ -73,7 +73,7 @@ entries_found w r c rest e id n f g h = rw (f, g, h) refl
 -- ---- lists
 
 module _ {A : Type 0} (f : A → Piece) where
-  -- a list that has an encoding, parted before one of its entries
+  -- a list that has an encoding, split before one of its entries
   pub record Split (index : ℕ) (xs : List A) (b : List ℕ) : Type 0 where
     pub count : List ℕ
     pub front : List ℕ

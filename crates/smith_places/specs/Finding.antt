@@ -17,7 +17,7 @@ section_at bs = byte_at bs >>= λ t. frame_at t.1 >>= λ f. Some ((t.0, f.0), f.
 unfoldable pub sections_at : List ℕ → Option (List ℕ)
 sections_at bs = if nat_lt (length bs) 8 then None else Some (drop 8 bs)
 
--- what is after so many sections
+-- what is after that many sections
 unfoldable pub behind_at : ℕ → List ℕ → Option (List ℕ)
 behind_at zero bs = Some bs
 behind_at (suc n) bs = section_at bs >>= λ s. behind_at n s.1
@@ -41,7 +41,7 @@ contents_in (exports es) = many export_entry es
 abbrev pub first_of : {A : Type 0} → ℕ → List A → Option (List A)
 first_of index xs = if nat_lt index (length xs) then Some (take index xs) else None
 
--- the section with those of its entries alone that precede one of them
+-- the section with only those of its entries that precede one of them
 abbrev pub front_in : ℕ → Part → Option Part
 front_in index (custom name contents) = None
 front_in index (core_module text) = None
@@ -63,7 +63,7 @@ entries_before index (canons fs) = first_of index fs >>= each canon
 entries_before index (imports is) = first_of index is >>= each import_entry
 entries_before index (exports es) = first_of index es >>= each export_entry
 
--- so much of a section's contents as precedes an entry in it
+-- as much of a section's contents as precedes an entry in it
 abbrev pub contents_before : ℕ → Part → Piece
 contents_before index (custom name contents) = None
 contents_before index (core_module text) = None
@@ -74,13 +74,13 @@ contents_before index (canons fs) = list_before canon fs index
 contents_before index (imports is) = list_before import_entry is index
 contents_before index (exports es) = list_before export_entry es index
 
--- What a function gave up with, where something holds if it gave up otherwise than for want of memory.
+-- What a function failed with, where something holds if it failed for a reason other than being out of memory.
 abbrev pub FailsWhere : {A : Type 0} → Type 0 → Unread → Option A → Type 0
 FailsWhere condition error.OutOfMemory there = Unit {0}
 FailsWhere condition (error.Malformed left reason) there = condition → there ≡ None
 
--- What a function returned, seen by a view, is what is there. Where that condition holds, it gives up only where nothing is there, or for
--- want of memory.
+-- What a function returned, seen by a view, is what is there. Where that condition holds, it fails only where nothing is there, or when
+-- out of memory.
 abbrev pub GivesWhere : {X A : Type 0} → Type 0 → (X → A) → Result X Unread → Option A → Type 0
 GivesWhere condition view (Ok x) there = there ≡ Some (view x)
 GivesWhere condition view (Err e) there = FailsWhere condition e there

@@ -6,15 +6,15 @@ use Rattle.smith_tree.specs.Grammar.{canon, component_text, export_entry, part, 
 use Rattle.smith_tree.specs.Tree.{Part, Tree, canons, component, core_module, core_types, custom, exports, imports, parts_of, types}
 use Rattle.smith_read_types.specs.Reading.{◌>>=◌}
 
--- a section as far as so much of its contents: its id, the length of all of them, and that much
+-- a section up to that much of its contents: its id, the length of all of them, and that much
 abbrev pub opened : ℕ → Piece → Piece → Piece
 opened id contents front = byte id ⊕ (contents >>= λ c. u (length c)) ⊕ front
 
--- so much of a list as precedes an entry in it: its count, and the entries before that one
+-- as much of a list as precedes an entry in it: its count, and the entries before that one
 abbrev pub list_before : {A : Type 0} → (A → Piece) → List A → ℕ → Piece
 list_before f xs index = if nat_lt index (length xs) then u (length xs) ⊕ each f (take index xs) else None
 
--- so much of a section as precedes an entry in it
+-- as much of a section as precedes an entry in it
 abbrev pub before_entry : ℕ → Part → Piece
 before_entry index (custom name contents) = None
 before_entry index (core_module text) = None
@@ -36,7 +36,7 @@ inside found (canons fs) = None
 inside found (imports is) = None
 inside found (exports es) = None
 
--- so much of a section as precedes something in the component in it
+-- as much of a section as precedes something in the component in it
 abbrev pub before_inside : (Tree → Piece) → Part → Piece
 before_inside inner p = inside (λ t. opened 4 (component_text t) (inner t)) p
 
@@ -44,7 +44,7 @@ before_inside inner p = inside (λ t. opened 4 (component_text t) (inner t)) p
 abbrev pub before_section : ℕ → Tree → Piece
 before_section index t = bytes preamble ⊕ each part (take index (parts_of t))
 
--- So much of a component as precedes an entry: the entry with that index in the section with the last of these indexes, the first being of
+-- As much of a component as precedes an entry: the entry with that index in the section with the last of these indexes, the first being of
 -- a section of the component, the next of a section of the component in that one, and so on. None where there is no such entry.
 abbrev pub before : List ℕ → ℕ → Tree → Piece
 before [] index t = None

@@ -58,7 +58,7 @@ fn first<T: Drop>(items: Vec<T>, entry: usize) -> Option<Vec<T>>
     Some(items)
 }
 
-// The section with those of its entries alone that precede one of them.
+// The section with only those of its entries that precede one of them.
 fn front_of(section: PartNode, entry: usize) -> Option<PartNode>
     ensures { option_map shown_part_node result ≡ front_in entry (shown_part_node section) }
 {

@@ -60,7 +60,7 @@ fn within(alloc: Global, bytes: &[u8], sections: &[usize], entry: usize) -> Resu
 /// with the last of the indexes, the first being that of a section of the component, the next that of a section of the
 /// component in that section, and so on. `None` where there is no such entry.
 ///
-/// It takes time and memory by the bytes, and stack by how many indexes there are.
+/// It takes time and memory in proportion to the bytes, and stack in proportion to the number of indexes.
 pub fn offset_of(
     alloc: Global,
     bytes: &[u8],

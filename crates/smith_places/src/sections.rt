@@ -36,7 +36,7 @@ pub(crate) fn sections_of(bytes: &[u8]) -> Result<&[u8], Unread>
     Ok(&bytes[COMPONENT_PREAMBLE.len()..])
 }
 
-/// What follows so many sections.
+/// What follows that many sections.
 pub(crate) fn behind(bytes: &[u8], count: usize) -> Result<&[u8], Unread>
     ensures { Gives (λ x. x.now) result (behind_at count bytes.now) }
 {

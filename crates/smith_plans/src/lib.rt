@@ -62,7 +62,7 @@ pub fn nested() -> &'static [u8]
         \x00"
 }
 
-/// A component type with two outer aliases of what stands around it, an import, an export, and an alias of its own.
+/// A component type with two outer aliases of what is around it, an import, an export, and an alias of its own.
 pub fn scoped_type() -> &'static [u8]
     ensures { result.now ≡ script small_limits scoped_type }
 {

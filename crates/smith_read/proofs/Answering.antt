@@ -1,4 +1,4 @@
--- What the answer of `read` says.
+-- What the result of `read` says.
 use Rattle.std.proofs.Common.{◌≡◌, ℕ, List, length, Option, Some, None, Result, Ok, Err, refl, sym, ◌∙◌, subst, arith}
 use Rattle.smith_read_types.specs.Reading.{Fails, Gives}
 use Rattle.smith_read_types.specs.declared.error.Unread.{Unread}

@@ -1,4 +1,4 @@
--- Components that hold components: how they are read at each depth, and answers of the contents of sections.
+-- Components that hold components: how they are read at each depth, and results for the contents of sections.
 use Rattle.std.proofs.Common.{◌≡◌, ℕ, zero, suc, ◌+◌, ◌-◌, ◌<◌, ◌≤◌, List, [], ◌∷◌, ◌++◌, length, Option, Some, None, refl, ap, sym, ◌∙◌, arith}
 use Rattle.std.proofs.Common.{append_assoc}
 use Rattle.std.proofs.lemmas.List.{append-nil}

@@ -169,8 +169,10 @@ module _ (levels : ℕ) (f : Tree → Piece) (inner : List ℕ → Option Tree) 
 
   part_read : (b : List ℕ) (x : Part) (rest : List ℕ) → Begins (part_in levels f) b (x, rest) → Told after b (x, rest)
   unfolding section_at
-  part_read b (custom n d) rest e = row_told after (λ x. custom x.0 x.1) 0 (lit< tt) (tells_framed tells_custom) (framed_seen (λ x. custom x.0 x.1) _) {x = (n, d)} e
-  part_read b (core_module bs) rest e = row_told after core_module 1 (lit< tt) (tells_framed (tells_itself embedded embedded_whole)) (framed_seen core_module _) e
+  part_read b (custom n d) rest e =
+      row_told after (λ x. custom x.0 x.1) 0 (lit< tt) (tells_framed tells_custom) (framed_seen (λ x. custom x.0 x.1) _) {x = (n, d)} e
+  part_read b (core_module bs) rest e =
+      row_told after core_module 1 (lit< tt) (tells_framed (tells_itself embedded embedded_whole)) (framed_seen core_module _) e
   part_read b (core_types ts) rest e = row_told after core_types 3 (lit< tt) (tells_framed (tells_list tells_core_entry)) (framed_seen core_types _) e
   part_read b (component t) rest e = row_told after component 4 (lit< tt) (tells_framed c) (framed_seen component _) e
   part_read b (types ts) rest e = row_told after types 7 (lit< tt) (tells_framed (tells_types levels)) (framed_seen types _) e

@@ -1,4 +1,4 @@
--- How components are read, and spelled, whose scopes stand at most so deep.
+-- How components are read, and spelled, whose scopes are at most that deep.
 use Rattle.std.specs.Prelude.{ℕ, zero, suc, List, [], ◌∷◌, length, drop, Option, Some, None, option_map, nat_eq, ◌==◌, if◌then◌else◌}
 use Rattle.std.specs.List.{starts_with}
 use Rattle.smith_format.specs.Piece.{Piece, ◌⊕◌, bytes, raw, text, many, sized}
@@ -73,7 +73,7 @@ module _ (levels : ℕ) (inner : List ℕ → Option Tree) where
 abbrev pub no_tree : List ℕ → Option Tree
 no_tree bs = None
 
--- a component whose scopes stand at most so deep
+-- a component whose scopes are at most that deep
 unfoldable pub component_at : ℕ → List ℕ → Option Tree
 component_at zero = no_tree
 component_at (suc n) = contents_at n (component_at n)
@@ -100,7 +100,7 @@ module _ (levels : ℕ) (inner : Tree → Piece) where
 abbrev pub no_piece : Tree → Piece
 no_piece t = None
 
--- the spelling of a component whose scopes stand at most so deep
+-- the spelling of a component whose scopes are at most that deep
 unfoldable pub component_in : ℕ → Tree → Piece
 component_in zero = no_piece
 component_in (suc n) = text_in n (component_in n)

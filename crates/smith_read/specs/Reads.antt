@@ -1,4 +1,4 @@
--- What reading answers.
+-- What reading returns.
 use Rattle.std.specs.Prelude.{◌≡◌, ◌≤◌, ◌+◌, ◌-◌, ℕ, List, Result, Ok, Err, IfOk, IfErr, min}
 use Rattle.smith_tree.specs.Grammar.{Spells}
 use Rattle.smith_tree.specs.Tree.{Tree}
@@ -10,12 +10,12 @@ use Rattle.smith_read.specs.declared.nodes.ComponentTree.{ComponentTree}
 use Rattle.smith_read_types.specs.declared.error.Unread.{Unread}
 use Rattle.smith_read_types.specs.declared.error.Unread.TheVariants as inner
 
--- how deep scopes may stand in what is read
+-- how deep scopes may be in what is read
 abbrev pub most_depth : ℕ
 most_depth = 1001
 
--- What is read is spelled by the bytes. Where they spell a tree that is no deeper than that, nothing is refused but for want of
--- memory.
+-- What is read is spelled by the bytes. Where they spell a tree that is no deeper than that, nothing is refused, except when
+-- out of memory.
 pub record Reads (result : Result ComponentTree ReadError) (bytes : List ℕ) : Type 0 where
   pub spelled : IfOk result (λ t. Spells (shown_tree t) bytes)
   pub answers : (t : Tree) → scope_depth t ≤ most_depth → Spells t bytes → IfErr result (λ e. e ≡ error.OutOfMemory)
@@ -25,13 +25,13 @@ abbrev pub IsWithin : ℕ → ReadError → Type 0
 IsWithin length error.OutOfMemory = Unit {0}
 IsWithin length (error.Malformed offset reason) = offset ≤ length
 
--- the same answer, where so many more bytes are left
+-- the same result, where that many more bytes are left
 abbrev pub behind : {A : Type 0} → ℕ → Result A Unread → Result A Unread
 behind more (Ok x) = Ok x
 behind more (Err inner.OutOfMemory) = Err inner.OutOfMemory
 behind more (Err (inner.Malformed left reason)) = Err (inner.Malformed (min (left + more) 18446744073709551615) reason)
 
--- what is refused, of so many bytes
+-- what is refused, of that many bytes
 abbrev pub at_offset : ℕ → Unread → ReadError
 at_offset length inner.OutOfMemory = error.OutOfMemory
 at_offset length (inner.Malformed left reason) = error.Malformed (length - left) reason

@@ -8,17 +8,17 @@ use smith_read_types::{Reason, Unread};
 /// Why bytes are not read as a component.
 #[derive(Debug, PartialEq, Eq, Drop, thiserror::Error)]
 pub enum ReadError {
-    /// A growth was refused.
+    /// An allocation failed.
     #[error("out of memory")]
     OutOfMemory,
-    /// The bytes spell no component whose scopes stand at most `MOST_DEPTH` deep. What is wrong was seen at that
-    /// offset, which is at most their length.
+    /// The bytes spell no component whose scopes are at most `MOST_DEPTH` deep. What is wrong was seen at that offset,
+    /// which is at most their length.
     #[error("{reason} at offset {offset}")]
     Malformed { offset: usize, reason: Reason },
 }
 
-/// What was read of the contents of a section, or why it was not: of the bytes that are left, those that follow the
-/// section are some too.
+/// What was read of the contents of a section, or why it was not: the bytes that are left include those that follow the
+/// section.
 pub(crate) fn with_rest<T: Drop>(contents: Result<T, Unread>, rest: &[u8]) -> Result<T, Unread>
     ensures { result ≡ behind (length rest.now) contents }
 {

@@ -11,7 +11,7 @@ ghost use Rattle.smith_read.specs.declared.error.ReadError.{ReadError};
 ghost use Rattle.smith_read.specs.declared.error.ReadError.TheVariants.{OutOfMemory};
 ghost use Rattle.smith_read.specs.declared.nodes.ComponentTree.{ComponentTree};
 
-/// What `generate` answers is read back as the component that it is, want of memory aside.
+/// What `generate` returns is read back as the component that it is, allocation failure aside.
 pub fn answers_are_read_back()
     ensures { (config : Config) (component : Tree) (bytes : List ℕ) (result : Result ComponentTree ReadError)
         → IsConsistent config → Generates config component bytes → Reads result bytes

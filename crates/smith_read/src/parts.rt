@@ -20,8 +20,8 @@ use smith_read_types::{
 };
 use std::alloc::Global;
 
-/// How deep scopes may stand: one deeper than the nesting of components that a `Config` may allow, which is what
-/// component types and instance types in the deepest may.
+/// How deep scopes may be: one deeper than the nesting of components that a `Config` may allow, which is how deep
+/// component types and instance types in the deepest component may be.
 pub const MOST_DEPTH: u32 = 1001;
 
 impl Readable for ImportNode {
@@ -138,7 +138,7 @@ fn list_of<T: Readable>(alloc: Global, bytes: &[u8]) -> Result<Vec<T>, Unread>
     Ok(items)
 }
 
-// What stands after the preamble.
+// What follows the preamble.
 #[tactic(auto, unfolding(crate::specs::Parts::preamble_at))]
 fn preamble_of(bytes: &[u8]) -> Result<&[u8], Unread>
     ensures { Gives (λ x. x.now) result (preamble_at bytes.now) }
@@ -222,11 +222,11 @@ fn sections_of(alloc: Global, depth: u32, bytes: &[u8]) -> Result<Vec<PartNode>,
     Ok(parts)
 }
 
-/// The component that the bytes spell, if its scopes stand at most `MOST_DEPTH` deep: components in one another, and
+/// The component that the bytes spell, if its scopes are at most `MOST_DEPTH` deep: components in one another, and
 /// component types and instance types in them.
 ///
-/// It reads each byte once, and takes stack by the depth alone. Bytes that spell no such component are refused with
-/// `Malformed`; nothing else is refused but for want of memory.
+/// It reads each byte once, and takes stack only in proportion to the depth. Bytes that spell no such component are
+/// refused with `Malformed`; otherwise it fails only when out of memory.
 pub fn read(alloc: Global, bytes: &[u8]) -> Result<ComponentTree, ReadError>
     // What is read is spelled so, and what is spelled so is read.
     ensures reads { Reads result bytes.now }

@@ -1,5 +1,6 @@
--- What is kept of a scope with one type more, and what may be used for what.
-use Rattle.std.proofs.Common.{◌≡◌, ℕ, ◌+◌, ◌<◌, ◌≤◌, Bool, true, false, cond, List, [], ◌∷◌, ◌++◌, length, map, refl, sym, ap, subst, ◌∙◌, arith, Option, Some, None}
+-- What is kept of a scope with one more type, and what may be used for what.
+use Rattle.std.proofs.Common.{◌≡◌, ℕ, ◌+◌, ◌<◌, ◌≤◌, Bool, true, false, cond, List, [], ◌∷◌, ◌++◌, length, map, refl}
+use Rattle.std.proofs.Common.{sym, ap, subst, ◌∙◌, arith, Option, Some, None}
 use Rattle.std.proofs.Common.{length-append, get_or, ◌⊎◌, inl, inr}
 use Rattle.std.proofs.lemmas.List.{length-map, map-append}
 use Rattle.std.specs.List.Sorted.{IsStrictlyIncreasing}

@@ -5,7 +5,8 @@ use Rattle.std.specs.Borrow.{Bor}
 use Rattle.std.specs.Option.{option_to_list}
 use Rattle.std.specs.Prelude.{option_map, slice_get}
 use Rattle.smith_syntax.specs.Entries.{CoreEntry, Entry}
-use Rattle.smith_syntax.specs.Marked.{Marked, core_size_named, exported_mark, mark_named, marks_for, more_kept, scope_in, scopes_in_marked, with_export, with_exported}
+use Rattle.smith_syntax.specs.Marked.{Marked, core_size_named, exported_mark, mark_named, marks_for, more_kept}
+use Rattle.smith_syntax.specs.Marked.{scope_in, scopes_in_marked, with_export, with_exported}
 use Rattle.smith_syntax.specs.Marks.{aliased_mark, equal_mark, no_mark}
 use Rattle.smith_syntax.specs.Scope.{Scope, core_type_named, exported_type, type_named}
 use Rattle.smith_syntax.specs.declared.deftype.ComponentTypeRef.{ComponentTypeRef}
@@ -128,7 +129,8 @@ kept_alike false xs ys zs same = refl
 module _ (own : Marked) (outer : List Marked) (count i : ℕ) where
   pub alias_is : (found : Option (Bor TypeNode × Mark)) → Found own outer count i found → with_found own found ≡ after_alias outer own count i
   alias_is found f =
-      ap (λ o. record own { types = own.types ++ option_to_list o; marks = more_kept own.keeps own.marks (option_to_list (option_map (λ g. g.1) found)) }) f.named
+      ap (λ o. record own { types = own.types ++ option_to_list o; marks = more_kept own.keeps own.marks (option_to_list (option_map (λ g. g.1) found)) })
+      f.named
       ∙ ap (λ ms. record own { types = own.types ++ option_to_list (type_named (scopes_in_marked (own ∷ outer)) count i); marks = ms })
       (kept_alike own.keeps own.marks _ _ f.marked)
 

@@ -1,5 +1,6 @@
--- Positions by kind, and one entry more.
-use Rattle.std.proofs.Common.{◌≡◌, ◌≤◌, ℕ, zero, suc, ◌+◌, ◌<◌, Bool, true, false, cond, List, [], ◌∷◌, ◌++◌, length, map, refl, sym, ap, subst, ◌∙◌, arith, append-nil}
+-- Positions by kind, and one more entry.
+use Rattle.std.proofs.Common.{◌≡◌, ◌≤◌, ℕ, zero, suc, ◌+◌, ◌<◌, Bool, true, false, cond, List, [], ◌∷◌, ◌++◌, length}
+use Rattle.std.proofs.Common.{map, refl, sym, ap, subst, ◌∙◌, arith, append-nil}
 use Rattle.std.proofs.lemmas.List.{map-append, length-map}
 use Rattle.std.specs.Borrow.{Bor}
 use Rattle.std.specs.Prelude.{slice_index}
@@ -42,7 +43,8 @@ module _ {X E : Type 0} (shown : X → E) (bs : List (Bor X)) (i : ℕ) (at : i 
 
 -- what a push leaves as it was
 
-pub tied_kept : {bs new : List (Bor TypeNode)} {defined funcs components instances ds fs cs is : List ℕ} → IsTied (nodes_of bs) defined funcs components instances
+pub tied_kept : {bs new : List (Bor TypeNode)} {defined funcs components instances ds fs cs is : List ℕ}
+    → IsTied (nodes_of bs) defined funcs components instances
     → new ≡ bs → ds ≡ defined → fs ≡ funcs → cs ≡ components → is ≡ instances → IsTied (nodes_of new) ds fs cs is
 tied_kept tied e d f c i = rw (e, d, f, c, i) tied
 
@@ -50,7 +52,7 @@ pub core_tied_kept : {bs new : List (Bor CoreNode)} {funcs modules fs ms : List 
     → ms ≡ modules → IsCoreTied (nodes_of new) fs ms
 core_tied_kept tied e f m = rw (e, f, m) tied
 
--- a type more
+-- one more type
 
 module _ (bs : List (Bor TypeNode)) {defined funcs components instances : List ℕ} (tied : IsTied (nodes_of bs) defined funcs components instances) (i : ℕ)
     (at : i ≡ length bs) (b : Bor TypeNode) (new : List (Bor TypeNode)) (to : new ≡ bs ++ b ∷ []) where
@@ -99,7 +101,7 @@ module _ (bs : List (Bor TypeNode)) {defined funcs components instances : List �
     instances_are = one_more _ e is_instance tied.instances_are refl pi;
   }
 
--- a core type more
+-- one more core type
 
 module _ (bs : List (Bor CoreNode)) {funcs modules : List ℕ} (tied : IsCoreTied (nodes_of bs) funcs modules) (i : ℕ) (at : i ≡ length bs)
     (b : Bor CoreNode) (new : List (Bor CoreNode)) (to : new ≡ bs ++ b ∷ []) where

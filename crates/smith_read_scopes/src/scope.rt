@@ -1,4 +1,4 @@
-//! A scope: which types that were read are in it (Explainer.md, index spaces), and what is kept of them for a validator.
+//! A scope: which types that were read are in it (Explainer.md, index spaces), and what is kept for a validator.
 
 ghost use Rattle.std.specs.Prelude.{◌≡◌, ◌<◌, get_or, length, nat_le, option_map, slice_get, true};
 ghost use Rattle.std.specs.Prelude.{OnOk, IfSome, Some};
@@ -23,7 +23,7 @@ const ROOM_SIZE: u32 = 990_000;
 /// The types and core types of one scope before a place, and the positions of those of each kind. A type that is named
 /// again, by an outer alias or an export, is there once more. If anything is kept, there are the mark of each type, the
 /// positions of those that may be used for each, the size of each core type, what exports refer to, and the size so
-/// far. Contracts see types and core types, and what is kept but for positions.
+/// far. Contracts see types and core types, and what is kept except for positions.
 #[derive(Drop)]
 pub struct Scope<'a> {
     pub(crate) plain: Plain<'a>,

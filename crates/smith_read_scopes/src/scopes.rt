@@ -19,7 +19,8 @@ pub struct Scopes<'a> {
 }
 
 impl<'a> Scopes<'a> {
-    ghost use Rattle.std.specs.Prelude.{◌≡◌, ◌<◌, ◌∷◌, [], length, option_map, slice_get, None, Some, false, if◌then◌else◌};
+    ghost use Rattle.std.specs.Prelude.{◌≡◌, ◌<◌, ◌∷◌, [], length, option_map, slice_get};
+    ghost use Rattle.std.specs.Prelude.{None, Some, false, if◌then◌else◌};
     ghost use Rattle.std.specs.Prelude.{MatchOption, IfSome, OnOk};
     ghost use Rattle.std.specs.Option.{option_to_list};
     ghost use Rattle.smith_syntax.specs.Marked.{empty_marked};
@@ -27,7 +28,8 @@ impl<'a> Scopes<'a> {
     ghost use Rattle.smith_syntax.specs.Scope.{with_core_type, with_core_types, with_type, with_types};
     ghost use Rattle.smith_read_types.specs.Nodes.{shown_core_node};
     ghost use Rattle.smith_read_types.specs.TypeNodes.{shown_decl_node, shown_type_node};
-    ghost use Rattle.smith_read_scopes.specs.Scopes.{outer_in, own_in, outer_marked_in, own_marked_in, shown_marked, shown_scope};
+    ghost use Rattle.smith_read_scopes.specs.Scopes.{outer_in, own_in, outer_marked_in, own_marked_in};
+    ghost use Rattle.smith_read_scopes.specs.Scopes.{shown_marked, shown_scope};
 
     /// One empty scope, in which nothing is kept of the types.
     pub fn new(alloc: Global) -> Scopes<'a>

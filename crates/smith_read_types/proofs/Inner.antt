@@ -1,4 +1,4 @@
--- Spellings of types with so many levels are those of types.
+-- Spellings of types with that many levels are those of types.
 use Rattle.std.proofs.Common.{◌≡◌, ℕ, zero, suc, ◌≤◌, ◌⊎◌, inl, inr, List, [], ◌∷◌, length, None, refl, ap, ◌∙◌, arith, Bool, true}
 use Rattle.std.proofs.Common.{false}
 use Rattle.std.specs.List.{AllByRecursion}

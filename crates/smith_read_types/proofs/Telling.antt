@@ -16,12 +16,12 @@ use Rattle.smith_read_types.specs.Tells.{Begins, Tells}
 use Rattle.smith_read_types.proofs.Digits.{byte_is, number_none}
 use Rattle.std.proofs.lemmas.Option.{same_Some}
 
--- a step that gave something
+-- a step that returned something
 pub bind_some : {A B : Type 0} (r : Option A) (f : A → Option B) (y : B) → r >>= f ≡ Some y → (x : A) × (r ≡ Some x) × (f x ≡ Some y)
 bind_some (Some x) f y e = (x, refl, e)
 bind_some None f y e = absurd cc
 
--- a choice by a number that gave something
+-- a choice by a number that returned something
 pub chain : {B P : Type 0} (tag n : ℕ) (x y : Option B) (z : B) → (tag ≡ n → x ≡ Some z → P) → (y ≡ Some z → P) → cond (eqb tag n) x y ≡ Some z → P
 chain {B} {P} tag n x y z here there e = by_test (eqb tag n) refl e
   where
@@ -303,7 +303,7 @@ module _ {A : Type 0} {f : A → Piece} {r : List ℕ → Found A} (c : Tells f 
         rw (tells_u.whole b (length x.0, p.mid) p.front) (times_whole x.0 p.mid x.1 p.back);
   }
 
--- ---- rows: a byte that says which, and what stands after it
+-- ---- rows: a byte that says which, and what follows it
 
 pub row_sound : {A B : Type 0} {f : A → Piece} {r : List ℕ → Found A} (F : B → Piece) (of : A → B) (n : ℕ) → Tells f r → ((x : A) → F (of x) ≡ byte n ⊕ f x)
     → (b : List ℕ) (t : ℕ × List ℕ) (y : B × List ℕ) → byte_at b ≡ Some t → t.0 ≡ n → seen of (r t.1) ≡ Some y → Begins F b y
@@ -313,7 +313,7 @@ row_sound {A} {B} {f} {r} F of n c is b t y e i g =
     (ap (λ p. p ⊕ Some x.0.1) (is x.0.0) ∙ both_begin (byte n) (f x.0.0) b t.1 x.0.1 (ap (λ m. byte m ⊕ Some t.1) (sym i) ∙ byte_begins b t e)
     (c.sound t.1 x.0 x.1))
 
--- what stands after the byte, and that it is read
+-- what follows the byte, and that it is read
 pub record Row {A B : Type 0} (of : A → B) (r : List ℕ → Found A) (n : ℕ) (b : List ℕ) (x : A) (rest : List ℕ) : Type 0 where
   pub after : List ℕ
   pub front : byte_at b ≡ Some (n, after)
@@ -343,7 +343,7 @@ pub row_told : {A B : Type 0} {f : A → Piece} {r : List ℕ → Found A} (afte
     → ((bs : List ℕ) → after n bs ≡ seen of (r bs)) → {b : List ℕ} {x : A} {rest : List ℕ} → (byte n ⊕ f x) ⊕ Some rest ≡ Some b → Told after b (of x, rest)
 row_told after of n l c is {b} {x} {rest} e = let w = row_whole of n l c b x rest e in record { first = (n, w.after); front = w.front; is = is w.after ∙ w.is }
 
--- a byte that stands alone
+-- a byte that is alone
 pub lone_sound : {B : Type 0} (F : B → Piece) (v : B) (n : ℕ) → F v ≡ byte n → (b : List ℕ) (t : ℕ × List ℕ) (y : B × List ℕ) → byte_at b ≡ Some t → t.0 ≡ n
     → Some (v, t.1) ≡ Some y → Begins F b y
 lone_sound {B} F v n is b t y e i g = subst (λ (p : B × List ℕ). F p.0 ⊕ Some p.1 ≡ Some b) (same_Some (v, t.1) y g)
@@ -389,7 +389,7 @@ pub seen_twice : {A B C : Type 0} (g : B → C) (f : A → B) (r : Found A) → 
 seen_twice g f None = refl
 seen_twice g f (Some x) = refl
 
--- What is told is read in one way: the law of `IsClear` follows.
+-- Such a sort is read in one way: the law of `IsClear` follows.
 pub clear_told : {A : Type 0} {f : A → Piece} {r : List ℕ → Found A} → Tells f r → IsClear f
 clear_told {A} {f} {r} c = record { law = agree } where
   agree : (x y : A) (p q : Piece) (b : List ℕ) → f x ⊕ p ≡ Some b → f y ⊕ q ≡ Some b → Agree x y p q

@@ -1,4 +1,4 @@
--- How types that hold types are read, and spelled, with so many levels of them.
+-- How types that hold types are read, and spelled, with that many levels of them.
 use Rattle.std.specs.Prelude.{ℕ, zero, suc, Bool, true, false, List, [], Option, Some, None, ◌==◌, if◌then◌else◌}
 use Rattle.smith_format.specs.Piece.{Piece, ◌⊕◌, byte, u}
 use Rattle.smith_syntax.specs.Entries.{Entry, defined, function, component_type, instance_type}
@@ -98,7 +98,7 @@ leaf (function s) = functype s
 leaf (component_type ds) = None
 leaf (instance_type ds) = None
 
--- the spelling of a type with at most so many levels of types that hold types
+-- the spelling of a type with at most that many levels of types that hold types
 unfoldable pub entry_in : ℕ → Entry → Piece
 entry_in zero = leaf
 entry_in (suc n) = around (entry_in n)

@@ -13,7 +13,7 @@ abbrev pub ◌>>=◌ : {A B : Type 0} → Option A → (A → Option B) → Opti
 (Some x) >>= f = f x
 None >>= f = None
 
--- What a function answered, seen by a view, is what is read. It may give up for want of memory.
+-- What a function returned, seen by a view, is what is read. It may fail when out of memory.
 abbrev pub Fails : {A : Type 0} → Unread → Option A → Type 0
 Fails error.OutOfMemory read = Unit {0}
 Fails (error.Malformed left reason) read = read ≡ None
@@ -63,7 +63,7 @@ seen f x = x >>= λ y. Some (f y.0, y.1)
 abbrev pub both_at : {A B : Type 0} → (List ℕ → Found A) → (List ℕ → Found B) → List ℕ → Found (A × B)
 both_at first second bs = first bs >>= λ x. second x.1 >>= λ y. Some ((x.0, y.0), y.1)
 
--- what stands after that byte
+-- what follows that byte
 abbrev pub after_byte : ℕ → ℕ × List ℕ → Option (List ℕ)
 after_byte n x = if x.0 == n then Some x.1 else None
 
@@ -99,7 +99,7 @@ module _ {A : Type 0} (reading : List ℕ → Found A) where
 abbrev pub all_of : {A : Type 0} → Found A → Option A
 all_of read = read >>= λ x. if length x.1 == 0 then Some x.0 else None
 
--- what is framed by its length, and what stands after it
+-- what is framed by its length, and what follows it
 unfoldable pub frame_at : List ℕ → Found (List ℕ)
 frame_at bs = u_at bs >>= λ n. if nat_lt (length n.1) n.0 then None else Some (take n.0 n.1, drop n.0 n.1)
 

@@ -17,7 +17,7 @@ primitive_of b =
     else if b == 0x76 then Some prim.F32
     else if b == 0x75 then Some prim.F64 else if b == 0x74 then Some prim.Char else if b == 0x73 then Some prim.String else None
 
--- a primitive type, or an index from where its byte would stand
+-- a primitive type, or an index from where its byte would be
 abbrev pub val_at : List ℕ → List ℕ → Option PrimitiveValType → Found ComponentValType
 val_at bs rest (Some p) = Some (Primitive p, rest)
 val_at bs rest None = seen Indexed (index_at bs)

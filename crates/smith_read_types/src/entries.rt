@@ -127,7 +127,7 @@ fn decls_of(
     Ok((decls, rest))
 }
 
-// A type after its first byte, with at most so many levels of types that hold types.
+// A type after its first byte, with at most that many levels of types that hold types.
 #[cycle(reading)]
 #[tactic(auto, unfolding(crate::specs::Levels::around_after, crate::specs::Reading::many_at), using(crate::proofs::Levels::levels_none, crate::proofs::Levels::levels_some))]
 fn entry_of(alloc: Global, levels: u32, tag: u8, bytes: &[u8]) -> Result<(TypeNode, &[u8]), Unread>
@@ -151,7 +151,7 @@ fn entry_of(alloc: Global, levels: u32, tag: u8, bytes: &[u8]) -> Result<(TypeNo
     }
 }
 
-// A type with at most so many levels of types that hold types.
+// A type with at most that many levels of types that hold types.
 #[tactic(auto, unfolding(crate::specs::Levels::entry_at))]
 fn type_of(alloc: Global, levels: u32, bytes: &[u8]) -> Result<(TypeNode, &[u8]), Unread>
     ensures { Gives (λ x. (shown_type_node x.0, x.1.now)) result (entry_at levels bytes.now) }

@@ -13,7 +13,7 @@ pub enum Reason {
     /// There is no number of its sort: it is padded, too great, or negative.
     #[error("a number is padded, too great or negative")]
     Number,
-    /// A name is no UTF-8.
+    /// A name is not UTF-8.
     #[error("a name is not UTF-8")]
     Name,
     /// No encoding has this byte here.
@@ -37,12 +37,12 @@ pub enum Reason {
     Depth,
 }
 
-/// Why a reader of some bytes gives up. Public for the crates above alone.
+/// Why a reader of some bytes fails. Public only for the crates above.
 #[derive(Debug, Drop)]
 pub enum Unread {
-    /// A growth was refused.
+    /// An allocation failed.
     OutOfMemory,
-    /// No encoding is there, as was seen where so many of the bytes were left.
+    /// No encoding is there, as was seen with that many of the bytes left.
     Malformed { left: usize, reason: Reason },
 }
 
@@ -68,7 +68,7 @@ impl<T: Drop> From<AllocFailed<T>> for Unread {
     }
 }
 
-/// Nothing is read where these bytes are left. Public for the crates above alone.
+/// Nothing is read where these bytes are left. Public only for the crates above.
 pub fn malformed(bytes: &[u8], reason: Reason) -> Unread
     ensures { result ≡ Unread.Malformed (length bytes.now) reason }
 {

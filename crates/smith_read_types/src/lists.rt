@@ -15,12 +15,12 @@ pub trait Readable: Drop {
 
     ghost reading: { List ℕ → Found Shown };
 
-    /// Reads a value, and gives the bytes after it.
+    /// Reads a value, and returns the bytes after it.
     fn read(alloc: Global, bytes: &[u8]) -> Result<(Self, &[u8]), Unread>
         ensures { Gives (λ x. (shown x.0, x.1.now)) result (reading bytes.now) };
 }
 
-/// What stands after that byte.
+/// What follows that byte.
 #[tactic(auto, unfolding(crate::specs::Reading::skip_at))]
 pub fn skip(bytes: &[u8], value: u8) -> Result<&[u8], Unread>
     ensures { Gives (λ x. x.now) result (skip_at value bytes.now) }
@@ -50,7 +50,7 @@ pub fn read_text(alloc: Global, bytes: &[u8]) -> Result<(String, &[u8]), Unread>
     }
 }
 
-/// What is framed by its length, and what stands after it.
+/// What is framed by its length, and what follows it.
 #[tactic(auto, unfolding(crate::specs::Reading::frame_at))]
 pub fn frame_of(bytes: &[u8]) -> Result<(&[u8], &[u8]), Unread>
     ensures { Gives (λ x. (x.0.now, x.1.now)) result (frame_at bytes.now) }

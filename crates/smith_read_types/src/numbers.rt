@@ -65,7 +65,7 @@ pub fn count_of(bytes: &[u8]) -> Result<(u32, &[u8]), Unread>
     Ok((n as u32, rest))
 }
 
-/// An index where a value type may stand.
+/// An index where a value type may appear.
 #[tactic(auto, unfolding(crate::specs::Reading::index_at))]
 pub(crate) fn index_of(bytes: &[u8]) -> Result<(u32, &[u8]), Unread>
     ensures { Gives (λ x. (x.0, x.1.now)) result (index_at bytes.now) }

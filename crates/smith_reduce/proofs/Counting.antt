@@ -1,11 +1,11 @@
--- Steps that lead to a component that is wanted, counted one after another.
+-- Steps that lead to a wanted component, counted one after another.
 use Rattle.std.proofs.Common.{◌≡◌, ℕ, ◌+◌, ◌-◌, List, Option, Some, None, arith}
 use Rattle.smith_tree.specs.Tree.{Tree}
 use Rattle.smith_reduce.specs.Smaller.{HowMany, Leads, nothing, counted, passed}
 use Rattle.smith_reduce.specs.Wanted.{IsLead, IsWanted}
 use Rattle.smith_reduce.specs.declared.steps.Wanted.{Wanted}
 
--- So many are before this one that so many more are to be passed.
+-- k is how many of the steps below n lead to a wanted component, and how many more are to be passed.
 abbrev pub Passes : Wanted → Tree → ℕ → ℕ → ℕ → Type 0
 Passes want t n left k = (c : ℕ) × (c + left ≡ k) × HowMany (Leads (IsWanted want) t) n c
 

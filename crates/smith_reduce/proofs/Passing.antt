@@ -1,4 +1,4 @@
--- Steps that lead to no component that is wanted, passed one after another.
+-- Steps that lead to no wanted component, passed one after another.
 use Rattle.std.proofs.Common.{◌≡◌, ℕ, ◌+◌, ◌-◌, ◌<◌, ◌≤◌, Some, None, false, arith, nat_lt, refl, sym, subst, ◌∙◌, ⊎_elim}
 use Rattle.std.proofs.lemmas.Bool.{cases_lt}
 use Rattle.std.proofs.lemmas.Bool.Decides.{nat_tests}

@@ -1,4 +1,4 @@
--- Which components are wanted of one who reduces.
+-- Which components are wanted when reducing.
 use Rattle.std.specs.Prelude.{◌≡◌, ℕ, List, Option, None, Some}
 use Rattle.smith_format.specs.Consistency.{IsConsistent}
 use Rattle.smith_tree.specs.Grammar.{Spells}
@@ -29,11 +29,11 @@ abbrev pub IsLead : Wanted → Tree → ℕ → Option (List ℕ) → Type 0
 IsLead want t n (Some bytes) = LeadsTo (IsWanted want) t n bytes
 IsLead want t n None = ¬ Leads (IsWanted want) t n
 
--- so many items are the component's
+-- that many items are the component's
 abbrev pub IsWhole : Whole → Type 0
 IsWhole whole = whole.items ≡ tree_items (shown_tree whole.component.now)
 
--- what a refusal to read is of one who reduces
+-- what a refusal to read is when reducing
 abbrev pub unread : ReadError → ReduceError
 unread read_error.OutOfMemory = error.OutOfMemory
 unread (read_error.Malformed offset reason) = error.Unread reason offset

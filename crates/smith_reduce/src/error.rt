@@ -6,14 +6,14 @@ use std::alloc::AllocError;
 /// Why no smaller component is looked for.
 #[derive(Debug, PartialEq, Eq, Drop, thiserror::Error)]
 pub enum ReduceError {
-    /// A growth was refused.
+    /// An allocation failed.
     #[error("out of memory")]
     OutOfMemory,
     /// The limits of the configuration do not fit together.
     #[error("the limits of the configuration do not fit together")]
     InconsistentLimits,
-    /// The bytes are no component of the grammar, or one whose scopes are nested too deep: why, and the offset at which
-    /// that was seen.
+    /// The bytes are not a component of the grammar, or are one whose scopes are nested too deep: why, and the offset
+    /// at which that was seen.
     #[error("{reason} at offset {offset}")]
     Unread { reason: Reason, offset: usize },
 }
@@ -21,16 +21,16 @@ pub enum ReduceError {
 /// Why two components are not joined.
 #[derive(Debug, PartialEq, Eq, Drop, thiserror::Error)]
 pub enum JoinError {
-    /// A growth was refused.
+    /// An allocation failed.
     #[error("out of memory")]
     OutOfMemory,
     /// A length or a count in the joined component would exceed 4,294,967,295.
     #[error("the joined component has no encoding")]
     TooLong,
-    /// The first bytes are no component of the grammar, or one whose scopes are nested too deep.
+    /// The first bytes are not a component of the grammar, or are one whose scopes are nested too deep.
     #[error("the first component: {reason} at offset {offset}")]
     FirstUnread { reason: Reason, offset: usize },
-    /// The second bytes are none.
+    /// The same for the second bytes.
     #[error("the second component: {reason} at offset {offset}")]
     SecondUnread { reason: Reason, offset: usize },
 }

@@ -32,7 +32,7 @@ pub enum Wanted<'a> {
 /// A step, and the component to which it leads.
 #[derive(Debug, PartialEq, Eq, Drop)]
 pub struct Step {
-    /// Its number, from 0 over all steps, those too that lead to no component that is wanted.
+    /// Its number, from 0 over all steps, including those that lead to no wanted component.
     pub number: usize,
     /// The component's bytes.
     pub bytes: Vec<u8>,
@@ -45,7 +45,7 @@ struct Whole<'a> {
     items: usize,
 }
 
-// Out of memory aside, a refusal says that there is no script.
+// A refusal, other than when out of memory, says that there is no script.
 fn refused(error: ScriptError) -> Result<bool, AllocError>
     ensures { IfOk result (λ r. (r ≡ false) × ¬ (error ≡ OutOfMemory)) }
 {
@@ -122,7 +122,7 @@ impl Whole<'_> {
         simplified(alloc, self.component, step - self.items)
     }
 
-    // The bytes of the component that is wanted to which a step leads.
+    // The bytes of the wanted component to which a step leads.
     fn led_to(
         &self,
         alloc: Global,
@@ -130,7 +130,8 @@ impl Whole<'_> {
         step: usize,
     ) -> Result<Option<Vec<u8>>, AllocError>
         requires { IsWhole self.now }
-        ensures { IfOk result (λ r. IsLead wanted.entry (shown_tree self.now.component.now) step (option_map (λ b. b.items) r)) }
+        ensures { IfOk result
+            (λ r. IsLead wanted.entry (shown_tree self.now.component.now) step (option_map (λ b. b.items) r)) }
     {
         let Some(smaller) = self.stepped(alloc, step)? else {
             return Ok(None);
@@ -144,7 +145,7 @@ impl Whole<'_> {
         Ok(None)
     }
 
-    // The bytes of the component that is wanted to which a step leads that has so many before it that lead to one.
+    // The bytes of the wanted component to which a step leads that has that many before it that lead to one.
     #[tactic(auto, using(crate::proofs::Counting::none_passed, crate::proofs::Counting::one_passed, crate::proofs::Counting::other_passed))]
     fn kth(
         &self,
@@ -153,7 +154,8 @@ impl Whole<'_> {
         k: usize,
     ) -> Result<Option<Vec<u8>>, AllocError>
         requires { IsWhole self.now }
-        ensures { IfOk result (λ r. IsKth (IsWanted wanted.entry) (shown_tree self.now.component.now) k (option_map (λ b. b.items) r)) }
+        ensures { IfOk result
+            (λ r. IsKth (IsWanted wanted.entry) (shown_tree self.now.component.now) k (option_map (λ b. b.items) r)) }
     {
         let steps = self.step_count()?;
         let mut left = k;
@@ -169,7 +171,7 @@ impl Whole<'_> {
         Ok(None)
     }
 
-    // The first step from that number on that leads to a component that is wanted.
+    // The first step from that number on that leads to a wanted component.
     fn next(
         &self,
         alloc: Global,
@@ -208,10 +210,10 @@ fn component_of(
 }
 
 /// The `k`-th, from 0, of the components that are wanted and smaller than the one that these bytes are by a step. There
-/// is none where no more than `k` steps lead to a component that is wanted.
+/// is none where no more than `k` steps lead to a wanted component.
 ///
-/// The steps are, in this order: without each item, as [`smith_edit::without`] has it, and with each item made simpler,
-/// as [`smith_edit::simplified`] has it. Each takes the time of a script of the component, or of a judgement.
+/// The steps are, in this order: without each item, as [`smith_edit::without`] defines, and with each item made
+/// simpler, as [`smith_edit::simplified`] defines. Each takes the time of a script of the component, or of a judgement.
 pub fn smaller(
     alloc: Global,
     wanted: Wanted<'_>,
@@ -233,11 +235,11 @@ pub fn smaller(
     Ok(whole.kth(alloc, wanted, k)?)
 }
 
-/// The first step from that number on that leads to a component that is wanted and smaller than the one that these bytes
-/// are. There is none where no step from there on leads to one.
+/// The first step from that number on that leads to a component that is wanted and smaller than the one that these
+/// bytes are. There is none where no step from there on leads to one.
 ///
-/// The steps and their order are those of [`smaller`], which counts only those that lead to a component that is wanted.
-/// Each from that number up to the one that is returned takes the time of a script of the component, or of a judgement.
+/// The steps and their order are those of [`smaller`], which counts only those that lead to a wanted component. Each
+/// from that number up to the one that is returned takes the time of a script of the component, or of a judgement.
 pub fn next_smaller(
     alloc: Global,
     wanted: Wanted<'_>,

@@ -23,7 +23,7 @@ pub enum Task {
     Script,
     /// How many sections the component in them has.
     Read,
-    /// The same of each front of them.
+    /// The same for each front of them.
     Fronts,
     /// Whether they are a well-formed component.
     Check,
@@ -142,7 +142,7 @@ impl fmt::Display for NoScript<'_> {
     }
 }
 
-// Whether the component in these bytes has that input as its script; else what its script is, or why it has none.
+// Whether the component in these bytes has that input as its script; otherwise what its script is, or why it has none.
 fn is_its_script(
     alloc: Global,
     limits: &Config,

@@ -46,7 +46,7 @@ fn word_bytes(alloc: Global, word: &str, group: &[u8]) -> Result<Option<Vec<u8>>
     }
 }
 
-// Appends the bytes of a word, whose group begins at that place of what there is. Whether it is a word.
+// Appends the bytes of a word, whose group begins at that place of what there is. Returns whether it is a word.
 fn push_word(
     alloc: Global,
     bytes: &mut Vec<u8>,
@@ -73,7 +73,7 @@ fn push_word(
     Ok(true)
 }
 
-/// Appends the bytes of a line of words. Whether all of them are words.
+/// Appends the bytes of a line of words. Returns whether all of them are words.
 pub fn push_line(alloc: Global, bytes: &mut Vec<u8>, line: &str) -> Result<bool, AllocError> {
     let mut start = bytes.len();
     for word in line.split_ascii_whitespace() {

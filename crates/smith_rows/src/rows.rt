@@ -69,7 +69,7 @@ impl Rows {
         Ok(())
     }
 
-    // Takes a line that is no bytes: the limits, or the beginning of a row.
+    // Takes a line that is not bytes: the limits, or the beginning of a row.
     fn begin(&mut self, line: &str) -> Result<(), AllocError> {
         let (word, rest) = line.split_once(' ').unwrap_or((line, ""));
         if word == "limits" {

@@ -77,7 +77,7 @@ pub fn defaults(alloc: Global) -> Result<String, AllocError> {
     format!(in alloc; "= sets each limit: {sets_each}, all of them the defaults: {are_defaults}\n")
 }
 
-/// What is answered to the script of the empty component where there must be more types than there may be.
+/// What is returned for the script of the empty component where there must be more types than there may be.
 pub fn misfit(alloc: Global, limits: &Config) -> Result<String, AllocError> {
     let misfit = Config {
         min_types: limits.max_types.saturating_add(1),
@@ -89,7 +89,7 @@ pub fn misfit(alloc: Global, limits: &Config) -> Result<String, AllocError> {
     }
 }
 
-/// What is answered to writing a component of one core module that has no bytes, and so no preamble.
+/// What is returned for writing a component of one core module that has no bytes, and so no preamble.
 pub fn unwritten(alloc: Global) -> Result<String, AllocError> {
     let mut parts = Vec::new(alloc);
     parts.push(PartNode::CoreModule(Vec::new(alloc)))?;

@@ -1,4 +1,4 @@
--- One byte more on a page.
+-- One more byte on a page.
 use Rattle.std.proofs.Common.{◌≡◌, ℕ, zero, suc, ◌+◌, ◌<◌, List, [], ◌∷◌, ◌++◌, length, take, get_or, refl, ap, sym, ◌∙◌, append_assoc, arith, length-take-le}
 use Rattle.std.specs.Prelude.{map}
 use Rattle.std.specs.List.{join_with_byte}
@@ -13,7 +13,7 @@ join_more c (x ∷ y ∷ pieces) piece h =
     let rest = join_more c (y ∷ pieces) piece (omega arith) in
     ap (λ t. x ++ (c ∷ t)) rest ∙ simp append_assoc
 
--- the pieces of the first bytes, parted by spaces
+-- the pieces of the first bytes, separated by spaces
 abbrev pub parted : (ℕ → List ℕ) → ℕ → List ℕ → List ℕ
 parted piece n bytes = join_with_byte 32 (map piece (take n bytes))
 

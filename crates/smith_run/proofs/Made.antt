@@ -1,4 +1,4 @@
--- What is made of some of the input, within limits that the input may say.
+-- What is made of some of the input, within limits that the input may encode.
 use Rattle.std.proofs.Common.{◌≡◌, ◌≢◌, ℕ, List, length, Option, Result, Ok, Err, IfOk, IfErr, subst, refl}
 use Rattle.std.specs.Prelude.{OnOk, slice_range}
 use Rattle.std.proofs.lemmas.List.{take_rest}

@@ -1,4 +1,4 @@
--- What a run takes from its reader, and what it gives to its writer. `Some` bytes are what a reader has left, or a writer holds; `None` tells nothing.
+-- What a run takes from its reader, and what it passes to its writer. `Some` bytes are what a reader has left, or a writer holds; `None` says nothing.
 use Rattle.std.specs.Prelude.{◌≢◌, ℕ, ◌≡◌, ◌+◌, ◌≤◌, ◌++◌, List, length, ⊤, Option, Result, Ok, Err}
 use Rattle.std.specs.Io.KnownBytes.{Appends, Consumes, IsAtEnd}
 use Rattle.smith_input.specs.Reading.{IsTail}
@@ -20,19 +20,19 @@ use Rattle.smith_run.specs.Page.{page}
 abbrev pub longest_input : ℕ
 longest_input = 1048576
 
--- The reader gave this input, is at its end, and the input is not too long.
+-- The reader returned this input, is at its end, and the input is not too long.
 pub record GivesAll (before after : Option (List ℕ)) (input : List ℕ) : Type 0 where
   pub given : Consumes before after input
   pub ended : IsAtEnd after
   pub within : length input ≤ longest_input
 
--- The reader gave one byte more than an input may have.
+-- The reader returned one byte more than an input may have.
 pub record GivesTooMuch (before after : Option (List ℕ)) : Type 0 where
   pub taken : List ℕ
   pub given : Consumes before after taken
   pub past : length taken ≡ longest_input + 1
 
--- what is written of a component's bytes, of which so many bytes of the input are left: these bytes, or their page
+-- what is written of a component's bytes, of which that many bytes of the input are left: these bytes, or their page
 abbrev pub written_text : Form → List ℕ → ℕ → List ℕ
 written_text Raw bytes left = bytes
 written_text Page bytes left = page bytes left
@@ -48,7 +48,7 @@ pub record Writes (config : Config) (form : Form) (input left : List ℕ) (befor
   pub reach : (plan : Tree) (rest : List ℕ) → Within config plan → input ≡ script config plan ++ rest → Spells plan bytes × (left ≡ rest)
   pub written : Appends before after (written_text form bytes (length left))
 
--- It comes only once the whole input is read.
+-- It happens only once the whole input is read.
 abbrev pub ComesAfterReading : RunError → Type 0
 ComesAfterReading (Refused error) = error ≢ OutOfMemory
 ComesAfterReading ReadFault = ⊥
@@ -69,7 +69,7 @@ status_of ReadFault = 2
 status_of InputTooLong = 2
 status_of WriteFault = 2
 
--- the same of how a run ended: 0 where it did not give up
+-- the same for how a run ended: 0 where it did not fail
 abbrev pub status_of_answer : {A : Type 0} → Result A RunError → ℕ
 status_of_answer (Ok _) = 0
 status_of_answer (Err error) = status_of error

@@ -10,7 +10,7 @@ use smith_component::Config;
 use std::alloc::Global;
 use std::io::{Read, Write};
 
-/// Reports how a run ended: if it gave up, the name of the refusal or the fault is a line of `errors`. Returns the
+/// Reports how a run ended: if it failed, the name of the refusal or the fault is a line of `errors`. Returns the
 /// status that the program ends with, 0 if the component is written. A failed write of the name is ignored, since the
 /// status says enough.
 pub fn report<E: Write>(errors: &mut E, answer: Result<usize, RunError>) -> u8

@@ -37,8 +37,8 @@ fn spaced(alloc: Global, bytes: &[u8]) -> Result<Vec<u8>, AllocError>
     Ok(text)
 }
 
-/// The bytes as two lower-case hexadecimal digits each, parted by one space, a line feed, `left `, the number
-/// of bytes left in decimal, and a line feed.
+/// The bytes as two lower-case hexadecimal digits each, separated by one space, a line feed, `left `, the number of
+/// bytes left in decimal, and a line feed.
 pub fn page(alloc: Global, bytes: &[u8], left: usize) -> Result<Vec<u8>, AllocError>
     ensures { IfOk result (λ text. text.items ≡ page bytes.now left) }
 {

@@ -22,10 +22,10 @@ pub const LONGEST_INPUT: usize = 1_048_576;
 /// How many bytes a read asks for at most.
 const CHUNK: usize = 8192;
 
-/// Why a run gives up.
+/// Why a run fails.
 #[derive(Debug, PartialEq, Eq, Drop, thiserror::Error)]
 pub enum RunError {
-    /// No component is made of the input, or there is no memory for it.
+    /// No component is made of the input, or there is not enough memory for it.
     #[error("{0:?}")]
     Refused(Error),
     /// A read failed.
@@ -101,7 +101,7 @@ fn read_some<R: Read>(
     }
 }
 
-// All that the reader gives. Each read but the last brings a byte, so there are at most `LONGEST_INPUT + 1`.
+// All that the reader returns. Each read but the last returns a byte, so there are at most `LONGEST_INPUT + 1`.
 fn read_input<R: Read>(alloc: Global, reader: &mut R) -> Result<Vec<u8>, RunError>
     ensures all { IfOk result (λ input. GivesAll (R.remaining reader.old) (R.remaining reader.new) input.items) }
     ensures fault { IfErr result (λ e.
@@ -119,7 +119,7 @@ fn read_input<R: Read>(alloc: Global, reader: &mut R) -> Result<Vec<u8>, RunErro
     Err(RunError::InputTooLong)
 }
 
-// The text, and a flush, so that a writer that keeps bytes back tells its errors here.
+// The text, and a flush, so that a writer that keeps bytes back reports its errors here.
 fn write_text<W: Write>(writer: &mut W, text: &[u8]) -> Result<(), RunError>
     ensures written { OnOk result (Appends (W.contents writer.old) (W.contents writer.new) text.now) }
     ensures fault { IfErr result (λ e. e ≡ RunError.WriteFault) }
@@ -149,7 +149,7 @@ fn formatted(alloc: Global, form: Form, bytes: Vec<u8>, left: usize) -> Result<V
     }
 }
 
-// Makes a component of the bytes within the limits, and writes it in the form. Answers how many of the bytes are left.
+// Makes a component of the bytes within the limits, and writes it in the form. Returns how many of the bytes are left.
 fn write_made<W: Write>(
     alloc: Global,
     bytes: &[u8],
@@ -173,11 +173,11 @@ fn write_made<W: Write>(
 }
 
 /// Reads the whole input, in at most `LONGEST_INPUT + 1` reads, makes a component of it within the limits, and writes
-/// it in the form. Answers how many bytes of the input are left.
+/// it in the form. Returns how many bytes of the input are left.
 ///
-/// Any error of a read is `ReadFault`, a byte past `LONGEST_INPUT` is `InputTooLong`, and any error of a write or
-/// of the flush after it is `WriteFault`. What `generate` refuses with, or being out of memory, is `Refused`. The text
-/// is made whole before its first byte is written, so any part of it may be out after `WriteFault` alone.
+/// Any error of a read is `ReadFault`, a byte past `LONGEST_INPUT` is `InputTooLong`, and any error of a write or of
+/// the flush after it is `WriteFault`. What `generate` refuses with, or being out of memory, is `Refused`. The text is
+/// complete before its first byte is written, so any part of it may be out only after `WriteFault`.
 pub fn convert<R: Read, W: Write>(
     alloc: Global,
     reader: &mut R,
@@ -200,8 +200,8 @@ pub fn convert<R: Read, W: Write>(
     write_made(alloc, &input, writer, config, form)
 }
 
-/// The same, within the limits that the first bytes of the input say over those that are given, as
-/// `smith_swarm::swarm_limits` has them. The component is made of the bytes after those.
+/// The same, within the limits given as overridden by the first bytes of the input, as `smith_swarm::swarm_limits`
+/// defines. The component is made of the bytes after those.
 pub fn convert_swarm<R: Read, W: Write>(
     alloc: Global,
     reader: &mut R,

@@ -30,7 +30,7 @@ module _ (old new : List Contents) (r : ComponentTypeRef) where
   pub same_export : Changes (λ d. with_export d r) old new → Grown (λ s. s) old new
   same_export a = changed (λ d. with_export d r) (λ s. s) (λ d. refl) old new a
 
--- The mark of a type of values or of functions depends on its own scope alone.
+-- The mark of a type of values or of functions depends only on its own scope.
 
 module _ (N K M L : Type 0) (own : Marked) (outer around : List Marked) where
   pub same_defined : (t : DefValType) → mark {N = N} {K = K} (defined t) own outer ≡ mark {N = M} {K = L} (defined t) own around
@@ -39,7 +39,7 @@ module _ (N K M L : Type 0) (own : Marked) (outer around : List Marked) where
   pub same_function : (s : Signature) → mark {N = N} {K = K} (function s) own outer ≡ mark {N = M} {K = L} (function s) own around
   same_function s = refl
 
--- What is added where nothing is kept is of no account.
+-- What is added where nothing is kept does not matter.
 
 kept_alike : {A : Type 0} (keeps : Bool) (xs : List A) (x y : A) → (keeps ≡ true → x ≡ y) → more_kept keeps xs (x ∷ []) ≡ more_kept keeps xs (y ∷ [])
 kept_alike true xs x y same = ap (λ z. xs ++ z ∷ []) (same refl)

@@ -1,4 +1,4 @@
--- What the types of a scope may be used for, with one type more.
+-- What the types of a scope may be used for, with one more type.
 use Rattle.std.proofs.Common.{◌≡◌, ℕ, ◌+◌, ◌<◌, Bool, true, false, cond, List, [], ◌∷◌, ◌++◌, length, map, refl, sym, ap, ◌∙◌, arith, append-nil}
 use Rattle.std.proofs.Common.{length-append}
 use Rattle.std.proofs.lemmas.List.{length-map, map-append}
@@ -56,7 +56,7 @@ offers_noted types marks e m i many at a s u n = record {
   instances = row_noted (is_offered offer.Instance) types marks e m i many at a.instances s.instances u.instance n.instances;
 }
 
--- What is kept with one type more.
+-- What is kept with one more type.
 module _ (s : Types) (keeps : Bool) (marks : List Mark) (core_sizes : List ℕ) (o : Offers ℕ) (kept : IsKept s keeps marks core_sizes o) where
   pub kept_more : (entry : DefType) (m : Mark) (i : ℕ) → i ≡ length s.types → length s.types < max_u32 → {t : Types}
       → t ≡ with_type s entry → {old new : Offers ℕ} {u : Uses} → SameOffers o old → AreUses u (shown_type entry) m

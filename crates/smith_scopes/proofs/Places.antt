@@ -1,10 +1,10 @@
--- Places of a list: what stands at those where a test holds.
+-- Places of a list: what is at those where a test holds.
 use Rattle.std.proofs.Common.{◌≡◌, ◌⊎◌, inl, inr, ℕ, zero, suc, ◌+◌, ◌<◌, Bool, true, false, cond, List, [], ◌∷◌, ◌++◌, map, length, refl, ap, ◌∙◌, arith}
 use Rattle.std.specs.Prelude.{Some, None, slice_get}
 use Rattle.smith_syntax.specs.Places.{places}
 
 module _ {A : Type 0} (test : A → Bool) where
-  -- What stands at a place where the test holds passes it.
+  -- What is at a place where the test holds passes it.
   abbrev StandsAt : List A → ℕ → ℕ → Type 0
   StandsAt es n i = (e : A) × (j : ℕ) × (i ≡ n + j) × (slice_get es j ≡ Some e) × (test e ≡ true)
 
@@ -27,7 +27,7 @@ module _ {A : Type 0} (test : A → Bool) where
       let same : i ≡ p.1 = omega (arith, p.2) in
       (p.0, ap (slice_get es) same ∙ p.3, p.4)
 
--- What a test accepts stands among the places of what does.
+-- What a test accepts is among the places of what does.
 module _ {A : Type 0} (test : A → Bool) where
   place_split : (x : A) (xs : List A) (n i : ℕ) → (k : ℕ) × (slice_get (places test (n + 1) xs) k ≡ Some i) → (b : Bool) → test x ≡ b
       → (k : ℕ) × (slice_get (cond b (n ∷ places test (n + 1) xs) (places test (n + 1) xs)) k ≡ Some i)
@@ -59,14 +59,14 @@ get_right [] ys k j h = let e : k ≡ j = omega (arith, h) in ap (slice_get ys) 
 get_right (x ∷ xs) ys zero j h = absurd (omega arith)
 get_right (x ∷ xs) ys (suc k) j h = get_right xs ys k j (omega arith)
 
--- an item of two lists in a row stands in one of them
+-- an item of two lists in a row is in one of them
 pub get_either : {A : Type 0} (xs ys : List A) (k : ℕ) (x : A) → slice_get (xs ++ ys) k ≡ Some x
     → ((j : ℕ) × (slice_get xs j ≡ Some x)) ⊎ ((j : ℕ) × (slice_get ys j ≡ Some x))
 get_either [] ys k x e = inr (k, e)
 get_either (z ∷ xs) ys zero x e = inl (0, e)
 get_either (z ∷ xs) ys (suc k) x e = elim (get_either xs ys k x e) [ inl p ↦ inl (suc p.0, p.1) | inr p ↦ inr p ]
 
--- an item of a list that was mapped comes from one of the list
+-- an item of a list that was mapped is from one of the list
 pub get_mapped : {A B : Type 0} (f : A → B) (xs : List A) (k : ℕ) (y : B) → slice_get (map f xs) k ≡ Some y → (x : A) × (slice_get xs k ≡ Some x) × (y ≡ f x)
 get_mapped f [] k y e = absurd (let z : None ≡ Some y = e in cc)
 get_mapped f (x ∷ xs) zero y e = (x, refl, (let z : y ≡ f x = cc in z))

@@ -8,11 +8,11 @@ pub use Rattle.std.proofs.lemmas.Bool.{and_parts as both_true}
 pub use Rattle.smith_input.proofs.Lists.{all_back, all_both, all_front}
 pub use Rattle.smith_input.proofs.Rests.{rest_at}
 
--- a list with one item more, as it is shown
+-- a list with one more item, as it is shown
 pub pushed : {X A : Type 0} (shown : X → A) (old new : List X) (x : X) → new ≡ old ++ x ∷ [] → map shown new ≡ map shown old ++ shown x ∷ []
 pushed shown old new x e = ap (map shown) e ∙ map-append shown old (x ∷ [])
 
--- the rest of a list, from a place on where an item is known to stand
+-- the rest of a list, from a place on where an item is known to be
 pub rest_from : {A : Type 0} (xs : List A) (i : ℕ) (x : A) → slice_get xs i ≡ Some x → drop i xs ≡ x ∷ drop (i + 1) xs
 rest_from xs i x e = rest_at xs i x (slice_get_within xs i x e) (sym (get_or_from_slice_get xs i x x e))
 

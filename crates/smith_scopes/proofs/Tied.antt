@@ -1,4 +1,4 @@
--- What a scope keeps beside its types: rows of its map, and one type more.
+-- What a scope keeps beside its types: rows of its map, and one more type.
 use Rattle.std.proofs.Common.{◌≡◌, ℕ, ◌+◌, ◌<◌, ◌≤◌, Bool, true, false, cond, List, [], ◌∷◌, ◌++◌, length, map, Option, None, Some, refl, sym, ap, ◌∙◌}
 use Rattle.std.proofs.Common.{arith, append-nil, unwrap_or}
 use Rattle.std.proofs.Common.{length-append}
@@ -56,7 +56,7 @@ pub row_or : {Z : Type 0} (there is : Option (Vec ℕ Z)) (none row : Vec ℕ Z)
 row_or None is none row lent same e = ap (λ r. r.items) lent ∙ e ∙ ap row_in same
 row_or (Some w) is none row lent same e = ap (λ r. r.items) lent ∙ ap row_in same
 
--- one item more at the end
+-- one more item at the end
 pushed : {A : Type 0} (p : A → Bool) (xs : List A) (x : A) (b : Bool) → p x ≡ b → places p 0 (xs ++ x ∷ []) ≡ places p 0 xs ++ cond b (length xs ∷ []) []
 pushed p xs x b e =
     places-append p 0 xs (x ∷ [])
@@ -172,7 +172,7 @@ module _ {Z S : Type 0} (entries : List (Rc DefType Global)) {defined funcs comp
     few = now_few;
   }
 
--- One core type more.
+-- One more core type.
 
 module _ (entries : List (Rc CoreType Global)) {funcs modules : List ℕ} (tied : IsCoreTied (values_of entries) funcs modules)
     (small : length (values_of entries) < max_u32) (i : ℕ) (at : i ≡ length entries) (entry : Rc CoreType Global) (new : List (Rc CoreType Global))

@@ -68,11 +68,11 @@ pub record AreEmpty {X : Type 0} (o : Offers X) : Type 0 where
   pub components : o.components.items ≡ []
   pub instances : o.instances.items ≡ []
 
--- It has room for one index more.
+-- It has room for one more index.
 abbrev pub HasRoom : {X Z : Type 0} → Vec X Z → Type 0
 HasRoom row = vec_len row < vec_capacity row
 
--- each has room for one index more
+-- each has room for one more index
 pub record HaveRoom {X : Type 0} (o : Offers X) : Type 0 where
   pub values : HasRoom o.values
   pub imports : HasRoom o.imports

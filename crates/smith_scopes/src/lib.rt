@@ -1,4 +1,4 @@
-//! Scopes: what types stand where, with their positions by kind.
+//! Scopes: which types are where, with their positions by kind.
 #![tactic(auto)]
 
 mod scopes;

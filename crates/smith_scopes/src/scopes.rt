@@ -1,4 +1,4 @@
-//! Scopes: what types stand where (Explainer.md, index spaces).
+//! Scopes: which types are where (Explainer.md, index spaces).
 
 ghost use Rattle.std.specs.Prelude.{◌≡◌, false, ◌+◌, ◌<◌, ◌≤◌, [], ◌∷◌, ◌++◌, length, Some};
 ghost use Rattle.std.specs.Prelude.{OnOk, IfOk, OnErr, IfErr};
@@ -36,7 +36,7 @@ use std::rc::Rc;
 /// The kinds of entries that are counted and named by their rank.
 #[derive(Debug, Clone, Copy, PartialEq, Eq, Hash)]
 pub enum Kind {
-    /// A defined type, as against that of a function, a component or an instance.
+    /// A defined type, as opposed to that of a function, a component or an instance.
     Defined,
     /// The type of a function.
     Func,
@@ -50,13 +50,13 @@ pub enum Kind {
     CoreModule,
 }
 
-// The indexes of the equals of each function type. The names in them come from the input: a hasher that such names can
+// The indexes of the equals of each function type. The names in them are from the input: a hasher that such names can
 // steer would make the map slow, and SipHash is none.
 type Equals = HashMap<FuncType, Vec<u32>, BuildHasherDefault<DefaultHasher>>;
 
 // The types and core types of one scope, with the indexes of each kind and, by each function type, those of its equals.
-// Contracts see types and core types. It drops its types from the last to the first, since each may come to hold
-// those before it; no clause can say so.
+// Contracts see types and core types. It drops its types from the last to the first, since each may hold those before
+// it; no clause can say so.
 struct Scope {
     types: Vec<Rc<DefType>>,
     defined: Vec<u32>,
@@ -255,7 +255,7 @@ impl Scopes {
         }
     }
 
-    /// Adds an empty scope. It refuses for want of memory alone, and all is as it was then.
+    /// Adds an empty scope. It fails only when out of memory, and all is then as it was.
     pub fn open_scope(&mut self) -> Result<(), Error>
         ensures ok { OnOk result (self.new ≡ self.old ++ empty_marked (last_of self.old).keeps ∷ []) }
         ensures deep { OnOk result (2 ≤ length self.new) }
@@ -279,8 +279,8 @@ impl Scopes {
         }
     }
 
-    /// Adds a type to the last scope, and answers its index there. It refuses for want of memory alone, and all is
-    /// as it was then.
+    /// Adds a type to the last scope, and returns its index there. It fails only when out of memory, and all is then as
+    /// it was.
     pub fn push_type(&mut self, entry: Rc<DefType>) -> Result<u32, Error>
         requires { length (last_of self.old).types < max_u32 }
         ensures ok { OnOk result (AddsType self.old entry.value self.new) }
@@ -291,8 +291,8 @@ impl Scopes {
         self.push_marked(entry, Mark::NONE)
     }
 
-    /// Adds a type of that mark to the last scope, and answers its index there. It refuses for want of memory alone,
-    /// and all is as it was then.
+    /// Adds a type of that mark to the last scope, and returns its index there. It fails only when out of memory, and
+    /// all is then as it was.
     pub fn push_marked(&mut self, entry: Rc<DefType>, mark: Mark) -> Result<u32, Error>
         requires { length (last_of self.old).types < max_u32 }
         ensures ok { OnOk result (AddsMarked self.old entry.value mark self.new) }
@@ -303,8 +303,8 @@ impl Scopes {
         self.inner.push_type(self.alloc, entry, mark)
     }
 
-    /// Adds a core type to the last scope, and answers its index there. It refuses for want of memory alone, and all is
-    /// as it was then.
+    /// Adds a core type to the last scope, and returns its index there. It fails only when out of memory, and all is
+    /// then as it was.
     pub fn push_core_type(&mut self, entry: Rc<CoreType>) -> Result<u32, Error>
         requires { length (last_of self.old).core_types < max_u32 }
         ensures ok { OnOk result (AddsCoreType self.old entry.value self.new) }
@@ -315,8 +315,8 @@ impl Scopes {
         self.push_sized(entry, 0)
     }
 
-    /// Adds a core type of that size to the last scope, and answers its index there. It refuses for want of memory
-    /// alone, and all is as it was then.
+    /// Adds a core type of that size to the last scope, and returns its index there. It fails only when out of memory,
+    /// and all is then as it was.
     pub fn push_sized(&mut self, entry: Rc<CoreType>, size: u32) -> Result<u32, Error>
         requires { length (last_of self.old).core_types < max_u32 }
         ensures ok { OnOk result (AddsSized self.old entry.value size self.new) }

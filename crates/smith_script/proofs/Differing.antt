@@ -4,7 +4,7 @@ use Rattle.std.proofs.lemmas.Bool.{eq-eqb, ne_eqb}
 use Rattle.std.specs.Prelude.{if◌then◌else◌}
 use Rattle.smith_script.specs.Difference.{common_length}
 
--- The first so many are the same, and there are no more, or the next differ.
+-- The first ones, that many, are the same, and there are no more, or the next differ.
 
 pub ends_here : (xs ys : List ℕ) (i : ℕ) → i ≤ length xs → i ≤ length ys → ((k : ℕ) → k < i → get_or xs k 0 ≡ get_or ys k 0)
     → (i < length xs → i < length ys → get_or xs i 0 ≢ get_or ys i 0) → common_length xs ys ≡ i

@@ -1,4 +1,4 @@
--- What an answer of `generate` says of a component, and what a refusal does.
+-- What a result of `generate` says of a component, and what a refusal does.
 use Rattle.std.proofs.Common.{◌≡◌, ℕ, ◌<◌, ◌≤◌, arith, ◌↔◌, List, [], ◌∷◌, sym, subst, ◌∙◌, Some, get_or, suc}
 use Rattle.smith_input.specs.Script.{AreBytes}
 use Rattle.smith_input.specs.declared.error.Error.{Error}
@@ -26,7 +26,7 @@ module _ (config : Config) (t : Tree) (input bytes : List ℕ) (spells : Spells 
         let e : t ≡ component = (reading t).0 (subst (Spells t) (sym same) spells) in
         record { consistent = consistent; runs = subst (λ u. RunsTo config input u []) (sym e) (subst (RunsTo config input component) nothing run) }
 
-    -- Where it is given, nothing is left, and the bytes are the same.
+    -- Where it is generated, nothing is left, and the bytes are the same.
     pub nothing_left : IsGiven config t input → left ≡ []
     nothing_left g = (runs_to_same config input component t left [] run g.runs).1
 
@@ -36,11 +36,11 @@ module _ (config : Config) (t : Tree) (input bytes : List ℕ) (spells : Spells 
         let all : Spells t made = (reading t).1 (sym e) in
         let z : Some made ≡ Some bytes = sym all ∙ spells in cc
 
-  -- Where it is given, nothing is refused but for want of memory.
+  -- Where it is generated, nothing is refused, except when out of memory.
   pub given_or_memory : IsGiven config t input → (e : Error) (left : List ℕ) → IsGenerateRefusal config input e left → e ≡ OutOfMemory
   given_or_memory g e left h = answer_or_memory config input t [] bytes g.consistent g.runs spells e left h
 
--- What is given is well formed, and no deeper than what is read.
+-- What is generated is well formed, and no deeper than what is read.
 
 module _ (config : Config) (t : Tree) (input : List ℕ) (g : IsGiven config t input) where
   pub given_formed : WellFormed t
@@ -50,7 +50,7 @@ module _ (config : Config) (t : Tree) (input : List ℕ) (g : IsGiven config t i
   given_shallow =
       omega (arith, scopes_within config t (runs_sound config input t [] g.consistent g.runs).1.maxima, g.consistent.nesting)
 
--- The script of a tree gives it.
+-- The script of a tree produces it.
 pub script_given : (config : Config) (t : Tree) (b : List ℕ) → IsScript config t b → IsGiven config t b
 script_given config t b s = record { consistent = s.consistent; runs = s.runs }
 

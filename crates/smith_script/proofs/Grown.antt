@@ -1,4 +1,4 @@
--- What there is in a component, where a part more is there.
+-- What there is in a component, where one more part is there.
 use Rattle.std.proofs.Common.{◌≡◌, ℕ, ◌+◌, List, [], ◌∷◌, ◌++◌, fold, length, refl, ap, sym, ◌∙◌, arith, append_assoc, append-nil, length-append}
 use Rattle.std.proofs.lemmas.List.Sums.{fold-append}
 use Rattle.std.specs.Option.{option_to_list}
@@ -39,7 +39,7 @@ counted p t = record {
   instances = t.instances + length (anywhere_in imported_instances_in p);
 }
 
--- an export more
+-- one more export
 export_last : (xs : List ExportEntry) (x : ExportEntry) (s : Spaces) (own : Marked)
     → with_exports_entry (with_export_entries xs s own) (exported_reference (fold export_behind s xs).functions x) ≡ with_export_entries (xs ++ x ∷ []) s own
 export_last [] x s own = refl
@@ -128,7 +128,7 @@ module _ (config : Config) (outer : List Tree) (t : Tree) where
   abbrev u : RefTotals
   u = totals_in outer t
 
-  -- what there is with a part more
+  -- what there is with one more part
   abbrev with : Part → Preceding
   with p = stands (marked_after_part p sp around own) (part_behind sp p) (i + length (imports_in p)) (e + length (exports_in p)) (counted p u)
 
@@ -142,8 +142,9 @@ module _ (config : Config) (outer : List Tree) (t : Tree) where
       let m = sym (marked_add config around t p) in
       λ j. stands (m j) (a j) (b j) (c j) (d j)
 
-  -- a part that leaves all as it is, but for these totals
-  settled : (p : Part) → own ≡ marked_after_part p sp around own → sp ≡ part_behind sp p → length (imports_in p) ≡ 0 → length (exports_in p) ≡ 0 → (v : RefTotals) → v ≡ counted p u
+  -- a part that leaves all as it is, except for these totals
+  settled : (p : Part) → own ≡ marked_after_part p sp around own → sp ≡ part_behind sp p
+      → length (imports_in p) ≡ 0 → length (exports_in p) ≡ 0 → (v : RefTotals) → v ≡ counted p u
       → stands own sp i e v ≡ standing_at config outer (add t p)
   settled p m s a b v d =
       let x : i ≡ i + length (imports_in p) = omega (arith, a) in
@@ -237,7 +238,8 @@ module _ (config : Config) (outer : List Tree) (t : Tree) where
     section_grown ys = ap (λ s. fold after s ys) g.start ∙ all_grow [] ys
 
   -- what there is after a section, where the types of the component functions are there
-  pub section_at : (p : Part) → components_in p ≡ [] → Known (spaces_of t) → after_section around p (standing_at config outer t) ≡ standing_at config outer (add t p)
+  pub section_at : (p : Part) → components_in p ≡ [] → Known (spaces_of t)
+      → after_section around p (standing_at config outer t) ≡ standing_at config outer (add t p)
   section_at (custom n c) none known = bare (custom n c) refl refl refl refl refl
   section_at (core_module bs) none known =
       settled (core_module bs) refl refl refl refl (record u { modules = u.modules + 1 })

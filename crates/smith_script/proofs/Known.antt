@@ -24,7 +24,7 @@ use Rattle.smith_script.specs.Preceding.{Known}
 abbrev AreBelow : ℕ → List ℕ → Type 0
 AreBelow n tys = AllByRecursion (λ ty. ty < n) tys
 
--- one component function more
+-- one more component function
 pub scalars_more : (ts : List Entry) (fs : List ℕ) (ty : ℕ)
     → places (is_scalar_type ts) 0 fs ++ (if is_scalar_type ts ty then length fs ∷ [] else []) ≡ places (is_scalar_type ts) 0 (fs ++ ty ∷ [])
 scalars_more ts fs ty =
@@ -76,7 +76,8 @@ known_at n (f ∷ fs) (suc i) all = known_at n fs i all.1
 known_exports : (es : List ExportEntry) (sp : Spaces) → Known sp → Known (fold after_export sp es)
 known_exports [] sp known = known
 known_exports (x ∷ es) sp known =
-    known_exports es (after_export sp x) (known_with sp (option_to_list (slice_get sp.functions x.func)) known (known_at (length sp.types) sp.functions x.func known))
+    known_exports es (after_export sp x)
+    (known_with sp (option_to_list (slice_get sp.functions x.func)) known (known_at (length sp.types) sp.functions x.func known))
 
 pub known_part : (p : Part) (outer : List Scope) (t : Tree) → FormedPart p outer t → Known (spaces_of t) → Known (after_part (spaces_of t) p)
 known_part (custom n c) outer t formed known = known

@@ -1,4 +1,4 @@
--- Rows of equal function types, and a type more.
+-- Rows of equal function types, and one more type.
 use Rattle.std.proofs.Common.{◌≡◌, ◌≢◌, ℕ, ◌+◌, ◌<◌, ◌⊎◌, inl, inr, ⊎_elim, Bool, true, false, List, [], ◌∷◌, ◌++◌, get_or, length, map, ap, sym}
 use Rattle.std.proofs.Common.{refl, subst, ◌∙◌}
 use Rattle.std.proofs.Common.{arith, cond, length-append, Some, None}
@@ -42,7 +42,7 @@ module _ {Z S : Type 0} where
     pub as_before : Follows same_row m m rows rows
     as_before = record { numbered = numbered; stays = λ s k e. e; row = λ s. refl }
 
-    -- an empty row more, of a signature that has none
+    -- one more empty row, of a signature that has none
     module _ (f : Signature) (none : get same_signature m f ≡ None) (n : HashMap Signature ℕ S)
         (put : (s : Signature) → get same_signature n s ≡ cond (same_signature f s) (Some (length rows)) (get same_signature m s)) (row : Vec ℕ Z)
         (empty : row.items ≡ []) (more : List (Vec ℕ Z)) (to : more ≡ rows ++ row ∷ []) where

@@ -23,7 +23,7 @@ module _ (config : Config) (plan : Tree) (consistent : IsConsistent config) (wit
     runs = subst (λ b. RunsTo config b plan []) (append-nil (script config plan)) (script_runs config plan [] consistent within);
   }
 
-  -- It is refused for want of memory alone.
+  -- It is refused only when out of memory.
   pub plan_or_memory : (e : ScriptError) → (¬ (e ≡ OutOfMemory) → (b : List ℕ) → ¬ IsScript config plan b) → e ≡ OutOfMemory
   plan_or_memory OutOfMemory h = refl
   plan_or_memory InconsistentLimits h = absurd (h (λ (e : InconsistentLimits ≡ OutOfMemory). cc) (script config plan) plan_script)
@@ -31,7 +31,7 @@ module _ (config : Config) (plan : Tree) (consistent : IsConsistent config) (wit
   plan_or_memory (IllFormed fault) h = absurd (h (λ (e : IllFormed fault ≡ OutOfMemory). cc) (script config plan) plan_script)
   plan_or_memory (NoScript limit offset) h = absurd (h (λ (e : NoScript limit offset ≡ OutOfMemory). cc) (script config plan) plan_script)
 
--- What is refused for another reason comes on no input, since else it would be a plan.
+-- What is refused for another reason is produced by no input, since otherwise it would be a plan.
 pub refused_comes_on_none : (config : Config) (t : Tree) → IsConsistent config → (e : ScriptError)
     → (¬ (e ≡ OutOfMemory) → (b : List ℕ) → ¬ IsScript config t b) → ¬ (e ≡ OutOfMemory) → CannotBeGenerated config t
 refused_comes_on_none config t consistent e h not input left c spells followed run =

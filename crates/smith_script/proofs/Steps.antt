@@ -39,7 +39,7 @@ params_at xs count i x h e =
     ap (script_params count) (map_drop named xs i x h e)
     ∙ sym (append_assoc (script_label count (string_bytes x.0)) (script_scalar x.1) (script_params (count + 1) (map named (drop (i + 1) xs))))
 
--- What passes a test of what the items show stands at the same places.
+-- What passes a test of what the items show is at the same places.
 pub places_shown : {A B : Type 0} (test : B → Bool) (f : A → B) (i : ℕ) (xs : List A) → places (λ x. test (f x)) i xs ≡ places test i (map f xs)
 places_shown test f i [] = refl
 places_shown test f i (x ∷ xs) = let rest = places_shown test f (i + 1) xs in λ j. cond (test (f x)) (i ∷ rest j) (rest j)

@@ -61,7 +61,8 @@ module _ {config : Config} {outer : List Tree} {before : Tree} {around : List Ma
 
   pub opens : (t : RefTotals) → t ≡ opened s.totals → IsAfter config (outer ++ before ∷ []) ends (s.scope ∷ around) (empty_in config.must_validate t)
   opens t e = record {
-    scopes = ap (λ z. z.scope ∷ around) after.here ∙ (ap (λ ss. marked_of config (marked_from config outer []) before ∷ ss) after.scopes ∙ sym (marked_from-snoc config outer before []));
+    scopes = ap (λ z. z.scope ∷ around) after.here
+        ∙ (ap (λ ss. marked_of config (marked_from config outer []) before ∷ ss) after.scopes ∙ sym (marked_from-snoc config outer before []));
     here = ap (empty_in config.must_validate) (e ∙ ap (λ (z : Preceding). opened z.totals) after.here) ∙ opened_at config outer before;
     known = tt;
   }
@@ -100,8 +101,10 @@ module _ {config : Config} {outer : List Tree} {old new : Vec ℕ Global} {ps : 
         ∙ ap (λ t. (script_item config outer (tree_upto i ps) (item_of (shown_part_node x)) ++ script_part (shown_part_node x) config outer (tree_upto i ps))
         ++ script_from (tree_from (i + 1) ps) config outer t) (upto_more ps i x h e)
 
-    pub reached_next : {mid more : Vec ℕ Global} {u : Preceding} {m : ℕ} → m ≡ n + 1 → Adds new mid (script_item config outer (tree_upto i ps) (item_of (shown_part_node x)))
-        → Adds mid more (script_part (shown_part_node x) config outer (tree_upto i ps)) → IsAfter config outer (add (tree_upto i ps) (shown_part_node x)) around u
+    pub reached_next : {mid more : Vec ℕ Global} {u : Preceding} {m : ℕ} → m ≡ n + 1
+        → Adds new mid (script_item config outer (tree_upto i ps) (item_of (shown_part_node x)))
+        → Adds mid more (script_part (shown_part_node x) config outer (tree_upto i ps))
+        → IsAfter config outer (add (tree_upto i ps) (shown_part_node x)) around u
         → Reached config outer old more ps (i + 1) m around u
     reached_next {mid} {more} {u} {m} one g k after = record {
       after = subst (λ t. IsAfter config outer t around u) (upto_more ps i x h e) after;

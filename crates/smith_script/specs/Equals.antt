@@ -40,6 +40,6 @@ module _ {Z S : Type 0} where
 abbrev pub same_row : Signature → List ℕ → List ℕ
 same_row s row = row
 
--- an index more in the row of that signature
+-- one more index in the row of that signature
 abbrev pub with_index : Signature → ℕ → Signature → List ℕ → List ℕ
 with_index f i s row = if same_signature f s then row ++ i ∷ [] else row

@@ -21,6 +21,6 @@ pub record IsScript (config : Config) (t : Tree) (b : List ℕ) : Type 0 where
   pub spelled : (c : List ℕ) × Spells t c
   pub runs : RunsTo config b t []
 
--- No input leads to the tree, of which there are bytes, but for one whose end finishes a component of it early.
+-- No input leads to the tree, which has bytes, except for one whose end finishes a component of it early.
 abbrev pub CannotBeGenerated : Config → Tree → Type 0
 CannotBeGenerated config t = (input left c : List ℕ) → Spells t c → IsFollowed config left → ¬ RunsTo config input t left

@@ -45,7 +45,7 @@ preceding own o = record {
 abbrev pub spaces_in : Preceding → Spaces
 spaces_in s = record { types = s.types; core_types = s.scope.core_types; functions = s.functions; core_functions = s.core_functions }
 
--- one function more
+-- one more function
 abbrev pub with_function : RefTotals → RefTotals
 with_function t = record { modules = t.modules; funcs = t.funcs + 1; components = t.components; instances = t.instances }
 
@@ -58,7 +58,7 @@ with_import t r = record {
   instances = t.instances + length (instance_of r);
 }
 
--- component functions more, of the types with these indexes
+-- more component functions, of the types with these indexes
 abbrev pub with_function_of : Preceding → ℕ → Preceding
 with_function_of s ty = record s {
   functions = s.functions ++ ty ∷ [];
@@ -118,7 +118,7 @@ after_section outer (canons fs) s = fold (after_canon outer) s fs
 after_section outer (imports is) s = fold (after_import outer) s is
 after_section outer (exports es) s = fold (after_export outer) s es
 
--- what there is where this scope and these spaces are, so many imports and exports, and these totals
+-- what there is where this scope and these spaces are, that many imports and exports, and these totals
 abbrev pub stands : Marked → Spaces → ℕ → ℕ → RefTotals → Preceding
 stands own sp i e t = record {
   scope = own;

@@ -51,7 +51,7 @@ export_says config outer s x = pick (length s.functions) x.func ++ script_new 10
 abbrev pub rows_say : {A : Type 0} → (Preceding → A → List ℕ) → (Preceding → A → Preceding) → ℕ → Preceding → List A → List ℕ
 rows_say says after max s xs = script_loop says after 0 max 0 s xs
 
--- the choice of an item after so many sections
+-- the choice of an item after that many sections
 abbrev pub item_says : Config → List Marked → ℕ → Preceding → Item → List ℕ
 item_says config outer sections s chosen =
     script_among equal.eq

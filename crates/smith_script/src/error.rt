@@ -29,15 +29,15 @@ impl fmt::Display for Unkept {
     }
 }
 
-/// Why no script is given.
+/// Why no script is returned.
 #[derive(Debug, PartialEq, Eq, Drop)]
 pub enum ScriptError {
-    /// A growth was refused.
+    /// An allocation failed.
     OutOfMemory,
     /// The limits of the configuration do not fit together.
     InconsistentLimits,
-    /// The bytes are no component of the grammar, or one whose scopes are nested too deep: why, and the offset at which
-    /// that was seen.
+    /// The bytes are not a component of the grammar, or are one whose scopes are nested too deep: why, and the offset
+    /// at which that was seen.
     Unread {
         reason: Reason,
         offset: usize,
@@ -45,8 +45,8 @@ pub enum ScriptError {
     /// The component is not well formed: the first rule that it breaks, and where.
     IllFormed(Fault),
     /// The component is well formed, but no input produces it within the limits. A limit that it does not keep is
-    /// named; else a name is too long, or a core module is none of those that can be generated. `offset` is that of the
-    /// first byte in which the component that its script produces differs, so far as there is one.
+    /// named; otherwise a name is too long, or a core module is none of those that can be generated. `offset` is that
+    /// of the first byte in which the component that its script produces differs, if there is one.
     NoScript {
         limit: Option<Unkept>,
         offset: Option<usize>,

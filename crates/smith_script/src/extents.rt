@@ -12,7 +12,7 @@ pub(crate) struct Extent {
 }
 
 impl Extent {
-    /// That of a type with so many members, which needs so much without any.
+    /// That of a type with that many members, which needs that much without any.
     pub(crate) fn of_members(count: usize, least: usize) -> Extent {
         let need = if count == 0 {
             least
@@ -32,7 +32,7 @@ impl Extent {
         Extent::of_members(core_size(ty), if is_empty { 0 } else { 2 })
     }
 
-    /// That of a type with one declaration more, which is of this extent.
+    /// That of a type with one more declaration, which is of this extent.
     pub(crate) fn with(self, next: Extent) -> Extent {
         let need = self.cost.saturating_add(next.need.max(1)).saturating_add(1);
         Extent {

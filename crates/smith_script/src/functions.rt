@@ -25,7 +25,7 @@ impl Model for Functions {
 }
 
 impl Functions {
-    /// None.
+    /// No functions.
     pub(crate) fn new(alloc: Global) -> Functions
         ensures { result ≡ ([], []) }
     {

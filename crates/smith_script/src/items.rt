@@ -32,7 +32,7 @@ pub(crate) fn item_of(part: &PartNode) -> Item
     }
 }
 
-/// Where a turn is: so deep in components, and after so many sections of the innermost one.
+/// Where a turn is: that deep in components, and after that many sections of the innermost one.
 #[derive(Clone, Copy)]
 pub(crate) struct Turn {
     pub(crate) depth: usize,

@@ -6,8 +6,8 @@ use smith_read::{ComponentTree, CoreNode, DeclNode, ImportNode, ModuleNode, Part
 use smith_script_types::defined_size;
 use smith_syntax::ComponentTypeRef;
 
-/// What a component needs: how many modules, components and instances the whole tree has, and else the most and the
-/// least that a component, or a module type, in it has; and what there is that takes a feature.
+/// What a component needs: how many modules, components and instances the whole tree has, and otherwise the most and
+/// the least that a component, or a module type, in it has; and what there is that takes a feature.
 #[derive(Clone, Copy, Default)]
 pub(crate) struct Needs {
     pub(crate) depth: usize,
@@ -171,7 +171,7 @@ impl Needs {
         extent
     }
 
-    // The extent of a type in a component so deep.
+    // The extent of a type in a component that deep.
     fn raise_extent(&mut self, depth: usize, extent: Extent) {
         raise(&mut self.type_size, extent.need);
         raise(&mut self.depth, depth.saturating_add(extent.depth));
@@ -191,7 +191,7 @@ impl Needs {
         }
     }
 
-    // Imports, of which there are so many functions.
+    // Imports, of which there are that many functions.
     fn add_imports(&mut self, imports: &[ImportNode]) -> usize {
         let mut funcs = 0;
         for import in imports {
@@ -206,7 +206,7 @@ impl Needs {
         funcs
     }
 
-    // A section of a component so deep, which has these before it.
+    // A section of a component that deep, which has these before it.
     #[cycle(parts)]
     fn add_part(&mut self, depth: usize, own: &mut Own, part: &PartNode) {
         match part {
@@ -233,7 +233,7 @@ impl Needs {
         }
     }
 
-    // A component so deep.
+    // A component that deep.
     #[cycle(parts)]
     fn add_component(&mut self, depth: usize, parts: &[PartNode]) {
         raise(&mut self.depth, depth);

@@ -71,7 +71,8 @@ fn put_section<'a>(
     ensures said { Says result out.old out.new (section_says (shown_part_node part.now) given.entry.config.now
         (outer_marked_in scopes.old) (preceding (own_marked_in scopes.old) here.old)) }
     ensures added { OnOk result (preceding (own_marked_in scopes.new) here.new
-        ≡ after_section (outer_marked_in scopes.old) (shown_part_node part.now) (preceding (own_marked_in scopes.old) here.old)) }
+        ≡ after_section (outer_marked_in scopes.old) (shown_part_node part.now)
+        (preceding (own_marked_in scopes.old) here.old)) }
     ensures outer { OnOk result (outer_marked_in scopes.new ≡ outer_marked_in scopes.old) }
 {
     let config = given.config;
@@ -113,11 +114,13 @@ fn put_part<'a>(
 ) -> Result<(), Error>
     requires { (own_marked_in scopes.old).keeps ≡ given.config.now.must_validate }
     ensures said { (outer : List Tree) (before : Tree)
-        → IsAfter given.entry.config.now outer before (outer_marked_in scopes.old) (preceding (own_marked_in scopes.old) here.old)
+        → IsAfter given.entry.config.now outer before (outer_marked_in scopes.old)
+        (preceding (own_marked_in scopes.old) here.old)
         → FormedPart (shown_part_node part.now) (scopes_in outer) before → Says result out.old out.new
         (script_part (shown_part_node part.now) given.entry.config.now outer before) }
     ensures added { (outer : List Tree) (before : Tree)
-        → IsAfter given.entry.config.now outer before (outer_marked_in scopes.old) (preceding (own_marked_in scopes.old) here.old)
+        → IsAfter given.entry.config.now outer before (outer_marked_in scopes.old)
+        (preceding (own_marked_in scopes.old) here.old)
         → FormedPart (shown_part_node part.now) (scopes_in outer) before → OnOk result
         (IsAfter given.entry.config.now outer (add before (shown_part_node part.now)) (outer_marked_in scopes.old)
         (preceding (own_marked_in scopes.new) here.new)) }
@@ -146,7 +149,7 @@ fn put_part<'a>(
     }
 }
 
-// The sections of a component that is opened with these totals, in an empty scope. The answer are those where it ends.
+// The sections of a component that is opened with these totals, in an empty scope. Returns those where it ends.
 #[cycle(parts)]
 fn put_parts<'a>(
     given: Given<'_>,

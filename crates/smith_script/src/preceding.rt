@@ -106,7 +106,7 @@ impl<'a> Open<'a> {
         }
     }
 
-    // One component function more, of the type with that index.
+    // One more component function, of the type with that index.
     fn add_function(&mut self, ty: u32) -> Result<(), Error>
         ensures added { (own : Marked) → OnOk result
             (preceding own self.new ≡ with_functions (preceding own self.old) (ty ∷ [])) }

@@ -52,7 +52,7 @@ pub(crate) trait Row {
         ensures outer { OnOk result (outer_marked_in scopes.new ≡ outer_marked_in scopes.old) };
 }
 
-/// A section with these entries, of which there are at most so many.
+/// A section with these entries, of which there are at most that many.
 pub(crate) fn put_rows<'a, T: Row>(
     given: Given<'_>,
     out: &mut Vec<u8>,
@@ -65,7 +65,8 @@ pub(crate) fn put_rows<'a, T: Row>(
         (T.says given.entry.config.now (outer_marked_in scopes.old)) (T.after (outer_marked_in scopes.old)) max
         (preceding (own_marked_in scopes.old) here.old) (map T.shown rows.now)) }
     ensures added { OnOk result (preceding (own_marked_in scopes.new) here.new
-        ≡ fold (T.after (outer_marked_in scopes.old)) (preceding (own_marked_in scopes.old) here.old) (map T.shown rows.now)) }
+        ≡ fold (T.after (outer_marked_in scopes.old)) (preceding (own_marked_in scopes.old) here.old)
+        (map T.shown rows.now)) }
     ensures outer { OnOk result (outer_marked_in scopes.new ≡ outer_marked_in scopes.old) }
 {
     let mut done = 0;
@@ -176,7 +177,8 @@ impl Row for ImportNode {
 // Notes the export of a function, of the type of the function that it names.
 fn note_export(scopes: &mut Scopes<'_>, here: &Open<'_>, func: u32)
     ensures own { own_marked_in scopes.new ≡ with_exports_entry (own_marked_in scopes.old)
-        (map (λ t. ComponentTypeRef.Func t) (option_to_list (slice_get (preceding (own_marked_in scopes.old) here.now).functions func))) }
+        (map (λ t. ComponentTypeRef.Func t)
+        (option_to_list (slice_get (preceding (own_marked_in scopes.old) here.now).functions func))) }
     ensures outer { outer_marked_in scopes.new ≡ outer_marked_in scopes.old }
 {
     if let Some(ty) = here.functions.type_of(func) {

@@ -29,7 +29,7 @@ use std::alloc::Global;
 enum Trial {
     // These bytes, and nothing of the input is left.
     These,
-    // Others, or something is left. Both begin with so many bytes.
+    // Others, or something is left. Both begin with that many bytes.
     Others(usize),
     // No component.
     Nothing,
@@ -164,7 +164,7 @@ fn consistent_script(alloc: Global, config: &Config, bytes: &[u8]) -> Result<Vec
     }
 }
 
-// The same, whatever the limits.
+// The same, regardless of the limits.
 fn scripted(alloc: Global, config: &Config, bytes: &[u8]) -> Result<Vec<u8>, ScriptError>
     ensures answered { IfOk result (λ b. (t : Tree) × Spells t bytes.now × IsScript config.now t b.items) }
     ensures refuses { IfErr result (λ e. ¬ (e ≡ OutOfMemory)

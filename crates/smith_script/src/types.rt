@@ -143,7 +143,7 @@ fn row_at(rows: &[Vec<usize>], number: Option<usize>) -> &[usize]
 }
 
 impl<'a> Types<'a> {
-    /// None.
+    /// No types.
     pub(crate) fn new(alloc: Global) -> Types<'a>
         ensures { result ≡ [] }
     {

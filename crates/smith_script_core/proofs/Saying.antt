@@ -54,7 +54,7 @@ towards_end r {a} {b} c t h = subst (Says r a c) (sym t.parts) (ends r c _ t.add
 pub towards_done : {a b : Vec ℕ Global} {all left : List ℕ} → Towards a b all left → left ≡ [] → Adds a b all
 towards_done {a} {b} t e = subst (Adds a b) (sym (t.parts ∙ ap (λ x. t.front ++ x) e ∙ append-nil t.front)) t.adds
 
--- a growth that was refused
+-- an allocation that failed
 pub memory_unsaid : (e : Error) (p : List ℕ) → e ≡ OutOfMemory → IsUnsaid e p
 memory_unsaid e p h = record { is = λ k. absurd (k h) }
 

@@ -24,7 +24,7 @@ module _ {S A : Type 0} (script : S → A → List ℕ) (next : S → A → S) (
     over (y ∷ ys) zero h = absurd (omega arith)
     over (y ∷ ys) (suc j) h = over ys j (omega arith)
 
--- a script that takes no heed of the state
+-- a script that ignores the state
 pub any_state : {S T A : Type 0} (f : A → List ℕ) (next : S → A → S) (other : T → A → T) (min max done : ℕ) (s : S) (t : T) (xs : List A)
     → script_loop (λ u x. f x) next min max done s xs ≡ script_loop (λ u x. f x) other min max done t xs
 any_state f next other min max done s t [] = refl

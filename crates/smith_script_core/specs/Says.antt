@@ -10,12 +10,12 @@ use Rattle.smith_input.specs.declared.error.Error.TheVariants.{OutOfMemory}
 pub record Adds (old new : Vec ℕ Global) (script : List ℕ) : Type 0 where
   pub is : new.items ≡ old.items ++ script
 
--- A writer of the script gives up with this error. But for want of memory it does so only where the script is no bytes, as where a choice
--- takes more of them than it has: that is TooLong.
+-- A writer of the script fails with this error. Other than when out of memory it does so only where the script is not bytes, as where a
+-- choice takes more of them than it has: that is TooLong.
 pub record IsUnsaid (e : Error) (script : List ℕ) : Type 0 where
   pub is : ¬ (e ≡ OutOfMemory) → ¬ AreBytes script
 
--- A writer put the script after what was there. After an error any bytes may stand in the buffer.
+-- A writer put the script after what was there. After an error any bytes may be in the buffer.
 abbrev pub Says : {A : Type 0} → Result A Error → Vec ℕ Global → Vec ℕ Global → List ℕ → Type 0
 Says (Ok _) old new script = Adds old new script
 Says (Err e) old new script = IsUnsaid e script

@@ -1,4 +1,4 @@
--- The two lists of what stands for a generated core module, so many of each being said.
+-- The two lists of what stands for a generated core module, that many of each being said.
 use Rattle.std.specs.Prelude.{ℕ, List, min}
 use Rattle.smith_input.specs.Script.{script_loop}
 use Rattle.smith_format.specs.CoreScript.{script_function, script_memory}

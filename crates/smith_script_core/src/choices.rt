@@ -22,7 +22,7 @@ pub fn put_raw(out: &mut Vec<u8>, contents: &[u8]) -> Result<(), Error>
     Ok(())
 }
 
-// How many bytes tell n things apart, at most so many.
+// How many bytes distinguish n things, at most that many.
 fn width_within(most: u32, n: u64) -> u32
     ensures width { result ≡ width_within most n }
     ensures few { result ≤ most }
@@ -33,7 +33,7 @@ fn width_within(most: u32, n: u64) -> u32
     width_within(most - 1, n.div_ceil(256)) + 1
 }
 
-// A number in so many bytes, the most significant first.
+// A number in that many bytes, the most significant first.
 fn put_big_endian(out: &mut Vec<u8>, width: u32, k: u64) -> Result<(), Error>
     requires { width ≤ 8 }
     ensures { Says result out.old out.new (big_endian width k) }
@@ -96,7 +96,7 @@ pub fn put_end(out: &mut Vec<u8>, done: usize, max: usize) -> Result<(), Error>
     Ok(())
 }
 
-// The choice that gives a character of a name.
+// The choice that produces a character of a name.
 fn code(character: u8) -> usize
     ensures { result ≡ code character }
 {
@@ -117,7 +117,7 @@ pub(crate) fn put_characters(out: &mut Vec<u8>, name: &[u8]) -> Result<(), Error
     Ok(())
 }
 
-/// A text of at most so many bytes, as the reader has them.
+/// A text of at most that many bytes, as the reader reads it.
 pub(crate) fn put_text_within(out: &mut Vec<u8>, most: usize, text: &[u8]) -> Result<(), Error>
     requires { most ≤ 1000 }
     ensures { Says result out.old out.new (script_text most text.now) }

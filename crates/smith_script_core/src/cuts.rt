@@ -2,7 +2,7 @@
 
 ghost use Rattle.std.specs.Prelude.{◌≡◌, drop, take};
 
-/// The first so many.
+/// That many items from the front.
 pub(crate) fn front(text: &[u8], most: usize) -> &[u8]
     ensures { result.now ≡ take most text.now }
 {
@@ -12,7 +12,7 @@ pub(crate) fn front(text: &[u8], most: usize) -> &[u8]
     &text[..most]
 }
 
-/// What stands after the first so many.
+/// What follows that many items at the front.
 pub(crate) fn behind(text: &[u8], most: usize) -> &[u8]
     ensures { result.now ≡ drop most text.now }
 {

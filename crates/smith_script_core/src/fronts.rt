@@ -37,7 +37,7 @@ fn is_function(decl: &ModuleNode, name: &str, ty: u32) -> bool
     }
 }
 
-// Are there so many values, each of them an i32?
+// Are there that many values, each of them an i32?
 fn are_i32s(values: &[ValType], count: usize) -> bool
     ensures { result ≡ same_i32s (i32s count) values.now }
 {
@@ -50,7 +50,7 @@ fn are_i32s(values: &[ValType], count: usize) -> bool
     }
 }
 
-// Is it that function type, which has so many values, all of them i32?
+// Is it that function type, which has that many values, all of them i32?
 fn is_type(decl: &ModuleNode, params: usize, results: usize) -> bool
     ensures { result ≡ is_type (i32_function params results) (shown_module_node decl.now) }
 {
@@ -60,7 +60,7 @@ fn is_type(decl: &ModuleNode, params: usize, results: usize) -> bool
     }
 }
 
-/// What stands after the export of a memory.
+/// What follows the export of a memory.
 pub fn after_memory(decls: &[ModuleNode]) -> &[ModuleNode]
     ensures { map shown_module_node result.now ≡ after_memory (map shown_module_node decls.now) }
 {
@@ -70,7 +70,7 @@ pub fn after_memory(decls: &[ModuleNode]) -> &[ModuleNode]
     }
 }
 
-// What stands after a function type and the export of a function of that type.
+// What follows a function type and the export of a function of that type.
 fn after_function<'b>(
     decls: &'b [ModuleNode],
     name: &str,
@@ -90,14 +90,14 @@ fn after_function<'b>(
     decls
 }
 
-/// What stands after the function that allocates anew.
+/// What follows the function that reallocates.
 pub fn after_realloc(decls: &[ModuleNode]) -> &[ModuleNode]
     ensures { map shown_module_node result.now ≡ after_realloc (map shown_module_node decls.now) }
 {
     after_function(decls, "canonical_abi_realloc", 0, 4, 1)
 }
 
-/// What stands after all that.
+/// What follows all that.
 pub fn after_front(decls: &[ModuleNode]) -> &[ModuleNode]
     ensures { map shown_module_node result.now ≡ after_front (map shown_module_node decls.now) }
 {

@@ -1,5 +1,5 @@
-//! Scripts of choices, texts and names, and of core modules: the input from which something that somebody wants is
-//! read. What is public here is so for the crates above alone.
+//! Scripts of choices, texts and names, and of core modules: the input from which something wanted is read. What is
+//! public here is so only for the crates above.
 #![tactic(auto, using(crate::proofs::Saying::saying))]
 
 mod choices;

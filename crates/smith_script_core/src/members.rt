@@ -11,7 +11,7 @@ use crate::choices::{put_among, put_end, put_more};
 use smith_format::ValType;
 use smith_input::Error;
 
-/// What has a script in a context, after so many.
+/// What has a script in a context, after that many.
 pub trait Scripted<Context> {
     ghost script: { Context → ℕ → Self → List ℕ };
 

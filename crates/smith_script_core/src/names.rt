@@ -17,7 +17,7 @@ trait Readable {
     fn reads(&self, text: &[u8]) -> bool
         ensures { result ≡ can_read self.now text.now };
 
-    // What has more than one byte more than `MAX_NAME_LEN` is not read.
+    // A name more than one byte longer than `MAX_NAME_LEN` is not read.
     fn refuses_long(&self)
         ensures { (text : List ℕ) → 101 < length text → can_read self.now text ≡ false };
 }
@@ -63,8 +63,8 @@ fn decimal_len(n: usize) -> usize
     decimal_len(n / 10) + 1
 }
 
-// The longest text that can be read and becomes the name, where so many names are there. What is too long is cut in one
-// step, so that a long name costs no more than a short one.
+// The longest text that can be read and becomes the name, where that many names are there. What is too long is cut in
+// one step, so that a long name costs no more than a short one.
 fn stem_of<'b, R: Readable>(rule: &R, count: usize, name: &'b [u8]) -> &'b [u8]
     ensures { result.now ≡ stem_of (R.can_read rule.now) count name.now }
 {
@@ -82,7 +82,7 @@ fn stem_of<'b, R: Readable>(rule: &R, count: usize, name: &'b [u8]) -> &'b [u8]
     text
 }
 
-// A name in kebab case, of which so many bytes are chosen.
+// A name in kebab case, of which that many bytes are chosen.
 fn put_kebab(out: &mut Vec<u8>, name: &[u8]) -> Result<(), Error>
     ensures { Says result out.old out.new (script_name 100 name.now) }
 {
@@ -90,7 +90,7 @@ fn put_kebab(out: &mut Vec<u8>, name: &[u8]) -> Result<(), Error>
     put_characters(out, name)
 }
 
-/// A name in kebab case, where so many names are there.
+/// A name in kebab case, where that many names are there.
 pub fn put_name(out: &mut Vec<u8>, count: usize, name: &str) -> Result<(), Error>
     ensures { Says result out.old out.new (script_new 100 count name.now) }
 {
@@ -105,7 +105,7 @@ pub fn put_core_name(out: &mut Vec<u8>, name: &str) -> Result<(), Error>
     put_text_within(out, MAX_NAME_LEN, name.as_bytes())
 }
 
-/// A name of what a core module imports or exports, where so many names are there.
+/// A name of what a core module imports or exports, where that many names are there.
 pub fn put_new_core_name(out: &mut Vec<u8>, count: usize, name: &str) -> Result<(), Error>
     ensures { Says result out.old out.new (script_new_text 100 count name.now) }
 {

@@ -57,7 +57,7 @@ fn past_number(bytes: &[u8]) -> &[u8]
     &[]
 }
 
-// The value types after their count. The answer is what is after them.
+// The value types after their count. Returns what is after them.
 fn put_values<'b>(
     alloc: Global,
     out: &mut Vec<u8>,
@@ -77,7 +77,7 @@ fn put_values<'b>(
     Ok(behind(rest, usize::from(*count)))
 }
 
-// A function type. The answer is what is after it.
+// A function type. Returns what is after it.
 fn put_function<'b>(
     alloc: Global,
     out: &mut Vec<u8>,
@@ -93,7 +93,7 @@ fn put_function<'b>(
     put_values(alloc, out, valtypes, most_results, results)
 }
 
-// So many function types. The answer is what is after them.
+// That many function types. Returns what is after them.
 fn put_functions<'b>(
     alloc: Global,
     out: &mut Vec<u8>,
@@ -125,7 +125,7 @@ fn counted_functions(bytes: &[u8]) -> (usize, &[u8])
     }
 }
 
-// The same of a type section, if there is one.
+// The same for a type section, if there is one.
 fn types_of(bytes: &[u8]) -> (usize, &[u8])
     ensures { functions_from result.0 result.1.now ≡ types_from bytes.now }
 {

@@ -35,7 +35,7 @@ module _ (config : Config) (importing : Bool) (outer : List Marked) where
   decls_over (x ∷ xs) zero done fuel taken own h = absurd (omega arith)
   decls_over (x ∷ xs) (suc i) done fuel taken own h = decls_over xs i done fuel taken own (omega arith)
 
-  -- one declaration more
+  -- one more declaration
   pub decls_step : {a b m c : Vec ℕ Global} {all : List ℕ} (xs : List DeclNode) (i fuel less left : ℕ) (taken more_taken : Taken) (own next : Marked)
       (x : DeclNode) → i < length xs → x ≡ get_or xs i x → less ≡ fuel - 1 → left ≡ less - decl_cost (shown_decl_node x)
       → more_taken ≡ after_taken taken (shown_decl_node x) → next ≡ marked_after (shown_decl_node x) outer own
@@ -56,7 +56,7 @@ module _ (config : Config) (importing : Bool) (outer : List Marked) where
       ∙ ap (λ n. script_decls ds config importing left (i + 1) n (marked_after (shown_decl_node x) outer own) outer) (sym grown)
       ∙ ap (λ s. script_decls ds config importing left (i + 1) more_taken s outer) (sym scope)) u
 
--- What the declarations take of the fuel.
+-- The fuel that the declarations take.
 
 abbrev pub cost_from : List DeclNode → ℕ → ℕ
 cost_from xs i = decls_cost (in_order (map shown_decl_node (drop i xs)))

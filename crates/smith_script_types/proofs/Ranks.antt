@@ -74,7 +74,7 @@ module _ {A : Type 0} (test : A → Bool) where
   places_rise i [] k h = absurd (omega (arith, h))
   places_rise i (x ∷ xs) k h = rise_on (test x) i (places test (i + 1) xs) (places_low (i + 1) xs) (places_rise (i + 1) xs) k h
 
--- an index among all of so many
+-- an index among all of that many
 
 rank_all : {A : Type 0} (i n : ℕ) (xs : List A) → rank_of nat_eq (places (λ x. true) i xs) (i + n) ≡ min n (length xs)
 rank_all i n [] = omega arith

@@ -21,7 +21,7 @@ pub shown_more : (xs : List ModuleNode) (i : ℕ) (x : ModuleNode) → i < lengt
 shown_more xs i x h is =
     sym (map_more shown_module_node xs i x h ∙ ap (λ y. map shown_module_node (take i xs) ++ shown_module_node y ∷ []) (sym is))
 
--- the indexes of the types of tags, with one own type more
+-- the indexes of the types of tags, with one more own type
 pub tags_more : (own : List (Bor FuncType)) (g : Bor FuncType)
     → places is_tag_type 0 (functions_in (own ++ g ∷ []))
     ≡ places is_tag_type 0 (functions_in own) ++ (if is_tag_type (shown_func g.now) then length own ∷ [] else [])

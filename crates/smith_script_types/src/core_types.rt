@@ -30,13 +30,14 @@ fn put_core_module<'a>(
     decls: &'a [ModuleNode],
 ) -> Result<(), Error>
     ensures { (fuel : ℕ) → Says result out.old out.new
-        (pick 2 1 ++ script_module place.entry.config.now (plain_at place.entry) fuel (map shown_module_node decls.now)) }
+        (pick 2 1
+        ++ script_module place.entry.config.now (plain_at place.entry) fuel (map shown_module_node decls.now)) }
 {
     put_choice(out, 2, 1)?;
     put_module(out, place, decls)
 }
 
-/// A core type with so much fuel. Where it does not last the type is the empty module type, which is no bytes.
+/// A core type with that much fuel. Where it does not last the type is the empty module type, which takes no bytes.
 pub fn put_core<'a>(
     out: &mut Vec<u8>,
     place: Place<'_, 'a>,

@@ -62,7 +62,7 @@ fn occupied(alloc: Global, scopes: &Scopes<'_>) -> Result<Vec<usize>, Error>
     Ok(counts)
 }
 
-// Has one of the scopes an entry? The others are looked at only where the innermost has none.
+// Does one of the scopes have an entry? The others are looked at only where the innermost has none.
 fn has_entry(place: Place<'_, '_>) -> Result<bool, Error>
     ensures has { IfOk result (λ b. b ≡ nat_lt 0 (length (occupied (own_at place.entry ∷ outer_at place.entry)))) }
     ensures memory { IfErr result (λ e. e ≡ OutOfMemory) }
@@ -76,7 +76,8 @@ fn has_entry(place: Place<'_, '_>) -> Result<bool, Error>
 
 // May one more scope nest?
 fn may_nest(place: Place<'_, '_>) -> bool
-    ensures { result ≡ nat_lt (length (own_at place.entry ∷ outer_at place.entry)) place.entry.config.now.max_nesting_depth }
+    ensures { result ≡ nat_lt (length (own_at place.entry ∷ outer_at place.entry))
+        place.entry.config.now.max_nesting_depth }
 {
     place.scopes.outer.len() < place.config.max_nesting_depth.saturating_sub(1)
 }
@@ -107,7 +108,8 @@ pub(crate) fn put_declares(
 
 // The choice of the scope of an outer alias.
 fn put_scope(out: &mut Vec<u8>, place: Place<'_, '_>, count: u32) -> Result<(), Error>
-    ensures { Says result out.old out.new (script_among nat_eq (occupied (own_at place.entry ∷ outer_at place.entry)) count) }
+    ensures { Says result out.old out.new
+        (script_among nat_eq (occupied (own_at place.entry ∷ outer_at place.entry)) count) }
 {
     let counts = occupied(place.alloc, place.scopes)?;
     put_position(out, &counts, count as usize)
@@ -127,7 +129,8 @@ pub(crate) fn put_type_alias(
     count: u32,
     index: u32,
 ) -> Result<(), Error>
-    ensures { Says result out.old out.new (script_alias (own_at place.entry ∷ outer_at place.entry) count (λ s. index)) }
+    ensures { Says result out.old out.new
+        (script_alias (own_at place.entry ∷ outer_at place.entry) count (λ s. index)) }
 {
     put_scope(out, place, count)?;
     match place.scopes.scope_at(count) {

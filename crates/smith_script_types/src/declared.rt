@@ -92,7 +92,7 @@ impl<'a> Declared<'a> {
         }
     }
 
-    /// With one declaration more, which is the last of these.
+    /// With one more declaration, which is the last of these.
     pub(crate) fn with(
         self,
         around: &Scopes<'a>,

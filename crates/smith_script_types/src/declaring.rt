@@ -65,7 +65,7 @@ impl Declaring {
         }
     }
 
-    /// The same with so much fuel.
+    /// The same with that much fuel.
     pub(crate) fn with_fuel(self, fuel: u32) -> Declaring
         ensures importing { result.importing ≡ self.importing }
         ensures fuel { result.fuel ≡ fuel }
@@ -74,7 +74,7 @@ impl Declaring {
         Declaring { fuel, ..self }
     }
 
-    /// After a declaration, which leaves so much fuel.
+    /// After a declaration, which leaves that much fuel.
     pub(crate) fn after(self, decl: &DeclNode, fuel: u32) -> Declaring
         requires { (self.imports < 18446744073709551615) × (self.exports < 18446744073709551615) }
         ensures importing { result.importing ≡ self.importing }

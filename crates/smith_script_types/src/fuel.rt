@@ -12,7 +12,7 @@ use smith_read_types::CoreNode;
 use smith_script_core::core_size;
 use smith_syntax::{DefinedType, FuncType};
 
-// What so many turns leave of the fuel.
+// What is left of the fuel after that many turns.
 fn burned(fuel: u32, turns: usize) -> u32
     ensures { result ≡ fuel - turns }
 {
@@ -22,7 +22,7 @@ fn burned(fuel: u32, turns: usize) -> u32
     }
 }
 
-/// How many members a type of values has. Public for the crate above alone.
+/// How many members a type of values has. Public only for the crate above.
 pub fn defined_size(ty: &DefinedType) -> usize
     ensures { result ≡ defined_size (shown_defined ty.now) }
 {
@@ -39,14 +39,14 @@ pub fn defined_size(ty: &DefinedType) -> usize
     }
 }
 
-/// What a type of values leaves of the fuel.
+/// What is left of the fuel after a type of values.
 pub(crate) fn after_defined(fuel: u32, ty: &DefinedType) -> u32
     ensures { result ≡ fuel - cost (defined (shown_defined ty.now)) }
 {
     burned(burned(fuel, defined_size(ty)), 1)
 }
 
-/// What a function type leaves of the fuel.
+/// What is left of the fuel after a function type.
 pub(crate) fn after_function(fuel: u32, ty: &FuncType) -> u32
     ensures { result ≡ fuel - cost (function ty.now) }
 {
@@ -54,7 +54,7 @@ pub(crate) fn after_function(fuel: u32, ty: &FuncType) -> u32
     burned(burned(burned(fuel, ty.params.len()), results), 1)
 }
 
-/// What a core type leaves of the fuel.
+/// What is left of the fuel after a core type.
 pub(crate) fn after_core(fuel: u32, ty: &CoreNode) -> u32
     ensures { result ≡ fuel - core_cost (shown_core_node ty.now) }
 {

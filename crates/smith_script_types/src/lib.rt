@@ -1,5 +1,4 @@
-//! Scripts of types: the input from which a type that somebody wants is read. What is public here is so for the crate
-//! above alone.
+//! Scripts of types: the input from which a wanted type is read. What is public here is so only for the crate above.
 #![tactic(auto, using(smith_script_core::proofs::Saying::saying))]
 
 mod core_types;

@@ -45,7 +45,7 @@ fn put_all_asked(out: &mut Vec<u8>, decls: &[ModuleNode]) -> Result<(), Error>
     Ok(())
 }
 
-// A line of what the canonical ABI asks, which is allowed or not, and after which these declarations stand.
+// A line of what the canonical ABI asks, which is allowed or not, and after which these declarations follow.
 fn put_line(
     out: &mut Vec<u8>,
     may: bool,
@@ -79,7 +79,7 @@ fn may_declare(
     Ok(declared.allows_function(place.config) && declared.allows_type(place.config))
 }
 
-/// What the canonical ABI asks, in its three lines, whatever fuel there is.
+/// What the canonical ABI asks, in its three lines, regardless of the fuel.
 pub(crate) fn put_front(
     out: &mut Vec<u8>,
     place: Place<'_, '_>,

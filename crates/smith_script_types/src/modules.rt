@@ -98,7 +98,7 @@ fn put_decl(
     }
 }
 
-/// A module type after what says that it is one, whatever fuel it has: what the canonical ABI asks, and the
+/// A module type after what says that it is one, regardless of its fuel: what the canonical ABI asks, and the
 /// declarations after it.
 pub(crate) fn put_module<'a>(
     out: &mut Vec<u8>,

@@ -8,14 +8,14 @@ use smith_format::Config;
 use smith_read_scopes::Scopes;
 use std::alloc::Global;
 
-/// The limits that a script is within. Public for the crate above alone.
+/// The limits that a script is within. Public only for the crate above.
 #[derive(Clone, Copy)]
 pub struct Given<'s> {
     pub alloc: Global,
     pub config: &'s Config,
 }
 
-/// Where a type is: the limits, and the scopes of the types before it. Public for the crate above alone.
+/// Where a type is: the limits, and the scopes of the types before it. Public only for the crate above.
 #[derive(Clone, Copy)]
 pub struct Place<'s, 'a> {
     pub alloc: Global,

@@ -16,7 +16,7 @@ pub(crate) fn rank_of(positions: &[usize], position: usize) -> usize
     positions.binary_search(&position).unwrap_or(count)
 }
 
-/// A choice of a position among these, which ascend. Public for the crate above alone.
+/// A choice of a position among these, which ascend. Public only for the crate above.
 pub fn put_position(out: &mut Vec<u8>, positions: &[usize], position: usize) -> Result<(), Error>
     requires { IsStrictlyIncreasing positions.now }
     ensures { Says result out.old out.new (script_among nat_eq positions.now position) }
@@ -24,7 +24,7 @@ pub fn put_position(out: &mut Vec<u8>, positions: &[usize], position: usize) -> 
     put_choice(out, positions.len(), rank_of(positions, position))
 }
 
-/// A choice of an index among all of so many.
+/// A choice of an index among all of that many.
 pub(crate) fn put_index(out: &mut Vec<u8>, count: usize, index: usize) -> Result<(), Error>
     ensures { Says result out.old out.new (pick count (min index count)) }
 {

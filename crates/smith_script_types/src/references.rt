@@ -21,8 +21,8 @@ use smith_script_core::{Error, put_byte, put_name, put_offered};
 use smith_syntax::ComponentTypeRef;
 use smith_tree::{RefKind, RefTotals, ref_offers};
 
-/// What a reference is for: whether it is imported, whether within a type, and what is counted before it. Public for the
-/// crate above alone.
+/// What a reference is for: whether it is imported, whether within a type, and what is counted before it. Public only
+/// for the crate above.
 #[derive(Clone, Copy)]
 pub struct Purpose {
     pub totals: RefTotals,
@@ -54,7 +54,7 @@ fn ref_count(scope: &Scope<'_>, for_import: bool, kind: RefKind) -> usize
     }
 }
 
-/// Has it a type, or the type of a core module?
+/// Does it have a type, or the type of a core module?
 pub(crate) fn has_reference(scope: &Scope<'_>) -> bool
     ensures { result ≡ has_reference (shown_marked scope.now) }
 {
@@ -78,7 +78,7 @@ pub(crate) fn has_export(scope: &Scope<'_>) -> bool
         || has_place(scope, false, RefKind::Instance)
 }
 
-/// May one more be imported or exported by its size? Inside a type it always may. Public for the crate above alone.
+/// May one more be imported or exported by its size? Inside a type it always may. Public only for the crate above.
 pub fn has_room(scope: &Scope<'_>, for_type_def: bool) -> bool
     ensures { result ≡ has_room (shown_marked scope.now) for_type_def }
 {
@@ -86,7 +86,7 @@ pub fn has_room(scope: &Scope<'_>, for_type_def: bool) -> bool
 }
 
 impl Purpose {
-    // May one more be had of what has this count?
+    // Is one more allowed of what has this count?
     fn allows_one(self, count: usize, max: usize) -> bool
         ensures { result ≡ allows_one self.for_import self.for_type_def count max }
     {
@@ -164,7 +164,8 @@ fn put_ref_kind(
     kind: RefKind,
 ) -> Result<(), Error>
     ensures { Says result out.old out.new (script_among refs.eq
-        (ref_kinds place.entry.config.now (own_at place.entry) purpose.totals purpose.for_import purpose.for_type_def) kind) }
+        (ref_kinds place.entry.config.now (own_at place.entry) purpose.totals
+        purpose.for_import purpose.for_type_def) kind) }
 {
     let offers = offers_within(place, purpose);
     put_offered(place.alloc, out, &offers, kind)
@@ -205,7 +206,7 @@ pub fn put_reference(
     put_entry(out, &place.scopes.own, purpose.for_import, to)
 }
 
-/// The name of an import or an export after so many, and that it has no URL.
+/// The name of an import or an export after that many, and that it has no URL.
 pub fn put_extern(out: &mut Vec<u8>, count: usize, name: &str) -> Result<(), Error>
     ensures { Says result out.old out.new (script_extern count name.now) }
 {

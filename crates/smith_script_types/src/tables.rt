@@ -17,8 +17,8 @@ use smith_script_core::Error;
 use std::alloc::Global;
 use std::collections::BTreeMap;
 
-/// The module type's own types, the indexes of those that a tag may be of, and how many imports and exports there are of
-/// each kind, how many exports, and how many imports from each module.
+/// The module type's own types, the indexes of those that a tag may be of, and how many imports and exports there are
+/// of each kind, how many exports, and how many imports from each module.
 #[derive(Drop)]
 pub(crate) struct Tables<'a> {
     pub(crate) own: Vec<&'a FuncType>,
@@ -46,7 +46,7 @@ pub(crate) fn count_from(imports: &BTreeMap<&str, usize>, from: &str) -> usize
     imports.get(from).copied().unwrap_or(0)
 }
 
-/// One more. A count that no number holds passes what there is memory for. Public for the crate above alone.
+/// One more. A count that no number holds exceeds what there is memory for. Public only for the crate above.
 pub fn one_more(count: usize) -> Result<usize, Error>
     ensures more { IfOk result (λ n. n ≡ count + 1) }
     ensures memory { IfErr result (λ e. e ≡ OutOfMemory) }

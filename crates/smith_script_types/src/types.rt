@@ -60,14 +60,14 @@ fn put_defined_kind(out: &mut Vec<u8>, fuel: u32) -> Result<(), Error>
     put_type_kind(out, TypeKind::Defined)
 }
 
-/// What was said of a type: how much fuel it leaves, and its mark. Public for the crate above alone.
+/// What was said of a type: how much fuel it leaves, and its mark. Public only for the crate above.
 #[derive(Clone, Copy, Debug)]
 pub struct Typed {
     pub left: u32,
     pub mark: Mark,
 }
 
-/// A type with so much fuel, how much it leaves of it, and its mark, if marks are kept.
+/// A type with that much fuel, how much it leaves of it, and its mark, if marks are kept.
 #[cycle(types)]
 #[tactic(auto, using(crate::proofs::Nodes::nodes))]
 pub fn put_type<'a>(
@@ -125,8 +125,8 @@ fn put_decl<'a>(
     here: Declaring,
     decl: &'a DeclNode,
 ) -> Result<u32, Error>
-    ensures said { Says result out.old out.new (script_decl (shown_decl_node decl.now) given.entry.config.now here.importing
-        here.fuel (taken_in here) (own_marked_in scopes.old) (outer_marked_in scopes.old)) }
+    ensures said { Says result out.old out.new (script_decl (shown_decl_node decl.now) given.entry.config.now
+        here.importing here.fuel (taken_in here) (own_marked_in scopes.old) (outer_marked_in scopes.old)) }
     ensures left { IfOk result (λ left. left ≡ here.fuel - decl_cost (shown_decl_node decl.now)) }
     ensures own { OnOk result (own_marked_in scopes.new
         ≡ marked_after (shown_decl_node decl.now) (outer_marked_in scopes.old) (own_marked_in scopes.old)) }
@@ -178,7 +178,7 @@ fn put_decl<'a>(
 }
 
 // What a type declares, in a scope of its own, how much fuel it leaves, and the mark of the type: what a component type
-// exports is of no account.
+// exports does not matter.
 #[cycle(types)]
 #[tactic(auto, using(crate::proofs::Nodes::nodes))]
 fn put_decls<'a>(

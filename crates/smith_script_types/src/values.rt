@@ -193,7 +193,8 @@ pub(crate) fn put_defined(out: &mut Vec<u8>, own: &Scope<'_>, ty: &DefinedType) 
 }
 
 fn put_result(out: &mut Vec<u8>, own: &Scope<'_>, ty: Option<ComponentValType>) -> Result<(), Error>
-    ensures { Says result out.old out.new (script_members (λ count v. script_val (shown_marked own.now) v) 0 1 (option_to_list ty)) }
+    ensures { Says result out.old out.new
+        (script_members (λ count v. script_val (shown_marked own.now) v) 0 1 (option_to_list ty)) }
 {
     match ty {
         None => put_members(out, &Own { scope: own }, 0, 1, &[] as &[ComponentValType]),

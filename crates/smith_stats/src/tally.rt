@@ -44,19 +44,19 @@ impl Tally {
         }
     }
 
-    /// Adds a file that is no component.
+    /// Adds a file that is not a component.
     pub fn add_unread(&mut self) {
         increase(&mut self.unread, 1);
     }
 
-    /// Adds a file of so many bytes, and all that is in its component.
+    /// Adds a file of that many bytes, and all that is in its component.
     pub fn add(&mut self, bytes: usize, component: &ComponentTree) -> Result<(), AllocError> {
         increase(&mut self.files, 1);
         increase(&mut self.bytes, bytes);
         self.add_parts(&component.parts, MOST_DEPTH)
     }
 
-    /// Adds so many things of that sort.
+    /// Adds that many things of that sort.
     pub(crate) fn add_many(
         &mut self,
         within: &'static str,

@@ -75,7 +75,7 @@ const OF_MODULE_TYPE: Places = Places {
 
 // The nodes that sections are made of. None that was read is deeper than `MOST_DEPTH`.
 impl Tally {
-    /// The sections of a component, at most so deep.
+    /// The sections of a component, at most that deep.
     pub(crate) fn add_parts(&mut self, parts: &[PartNode], depth: u32) -> Result<(), AllocError> {
         increase(&mut self.components, 1);
         let level = MOST_DEPTH.saturating_sub(depth) as usize + 1;

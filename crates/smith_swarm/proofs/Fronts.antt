@@ -1,4 +1,4 @@
--- Bytes after the first ones say nothing of the limits.
+-- Bytes after the first ones do not affect the limits.
 use Rattle.std.proofs.Common.{◌≡◌, ℕ, ◌<◌, ◌%◌, ◌++◌, ◌∷◌, List, [], length, length-append, get_or, ap, arith, append-nil}
 use Rattle.std.specs.Prelude.{nat_eq}
 use Rattle.std.proofs.lemmas.List.{drop_at, get_or_append_left}

@@ -1,4 +1,4 @@
--- The limits that the first bytes of an input say, one byte each. A byte after the end is 0.
+-- The limits that the first bytes of an input encode, one byte each. A byte after the end is 0.
 use Rattle.std.specs.Prelude.{ℕ, ◌%◌, min, Bool, List, length, drop, nat_eq, slice_index}
 use Rattle.smith_format.specs.declared.config.Config.{Config}
 
@@ -6,7 +6,7 @@ use Rattle.smith_format.specs.declared.config.Config.{Config}
 abbrev pub limit_count : ℕ
 limit_count = 20
 
--- how many bytes of the input say them: all, where there are fewer
+-- how many bytes of the input encode them: all, where there are fewer
 abbrev pub front_len : List ℕ → ℕ
 front_len input = min limit_count (length input)
 
@@ -14,11 +14,11 @@ front_len input = min limit_count (length input)
 abbrev pub after_front : List ℕ → List ℕ
 after_front input = drop (front_len input) input
 
--- the number from 0 on, below `below`, that the byte at that index says
+-- the number from 0 on, below `below`, that the byte at that index encodes
 abbrev pub number : List ℕ → ℕ → ℕ → ℕ
 number input index below = slice_index input index % below
 
--- whether the byte at that index says that a feature is on
+-- whether the byte at that index means that a feature is on
 abbrev pub flag : List ℕ → ℕ → Bool
 flag input index = nat_eq (slice_index input index % 2) 1
 

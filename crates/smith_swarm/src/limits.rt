@@ -1,14 +1,14 @@
-//! Which limits the first bytes of an input say.
+//! Which limits the first bytes of an input encode.
 
 ghost use Rattle.std.specs.Prelude.{◌≡◌, ◌<◌, slice_index};
 ghost use Rattle.smith_swarm.specs.Swarm.{flag, front_len, number, swarmed};
 
 use smith_format::Config;
 
-/// How many limits an input says, each by one byte.
+/// How many limits an input encodes, each in one byte.
 pub const LIMIT_COUNT: usize = 20;
 
-/// The limits that an input says, and how many bytes at its front say them.
+/// The limits that an input encodes, and how many bytes at its front encode them.
 #[derive(Debug, Clone, Copy, PartialEq, Eq)]
 pub struct SwarmLimits {
     /// The limits. They may be such that they do not fit together.
@@ -24,7 +24,7 @@ fn byte(input: &[u8], index: usize) -> u8
     input.get(index).copied().unwrap_or(0)
 }
 
-// The number below `below` that a byte says.
+// The number below `below` that a byte encodes.
 fn number(input: &[u8], index: usize, below: usize) -> usize
     requires { 0 < below }
     ensures value { result ≡ number input.now index below }
@@ -33,18 +33,19 @@ fn number(input: &[u8], index: usize, below: usize) -> usize
     usize::from(byte(input, index)) % below
 }
 
-// The flag that a byte says.
+// The flag that a byte encodes.
 fn flag(input: &[u8], index: usize) -> bool
     ensures { result ≡ flag input.now index }
 {
     byte(input, index) % 2 == 1
 }
 
-/// The limits given, with those over them that the first bytes of an input say, one byte each; a byte after the end is 0.
+/// The given limits, as overridden by those that the first bytes of an input encode, one byte each; a byte past the end
+/// is 0.
 ///
-/// A number is its byte modulo how many values the limit may have, from 0 on; a feature is on where its byte is odd. The
-/// minima and `must_validate` are those given. So limits that fit together may become limits that do not, as where a
-/// minimum is above the maximum that a byte says: these are then refused as any others are.
+/// A number is its byte modulo how many values the limit may have, from 0 on; a feature is on where its byte is odd.
+/// The minima and `must_validate` are those given. So limits that fit together may become limits that do not, as where
+/// a minimum is above the maximum that a byte encodes: these are then refused as any others are.
 pub fn swarm_limits(config: &Config, input: &[u8]) -> SwarmLimits
     ensures config { result.config ≡ swarmed config.now input.now }
     ensures taken { result.taken ≡ front_len input.now }

@@ -110,7 +110,7 @@ same_decl_tag : (importing : Bool) (x y : Decl) (p q : Piece) (b : List ℕ) →
     → decl_tag x ≡ decl_tag y
 same_decl_tag importing x y p q b e h = clash _ _ b (decl_tagged importing x p b e) (decl_tagged importing y q b h)
 
--- the second byte tells an alias of a type from one of a core type
+-- the second byte distinguishes an alias of a type from one of a core type
 aliases_differ : (x y p q : Piece) (b : List ℕ) → (bytes (0x02 ∷ 0x03 ∷ 0x02 ∷ []) ⊕ x) ⊕ p ≡ Some b → (bytes (0x02 ∷ 0x00 ∷ 0x10 ∷ 0x02 ∷ []) ⊕ y) ⊕ q ≡ Some b
     → ⊥
 unfolding ◌⊕◌

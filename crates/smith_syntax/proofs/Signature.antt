@@ -1,4 +1,4 @@
--- Signatures: the fields of the program's function types, what tells them, and how they are spelled.
+-- Signatures: the fields of the program's function types, what distinguishes them, and how they are spelled.
 use Rattle.std.proofs.Common.{◌≡◌, true, List, [], ◌∷◌, ◌++◌, map, Option, refl, sym, ap, ◌∙◌}
 use Rattle.std.proofs.lemmas.List.{length-map}
 use Rattle.std.proofs.lemmas.Bool.{false≢true}

@@ -44,8 +44,8 @@ pub data CoreEntry : Type 0 where
   core_func : Function → CoreEntry
   core_module : List ModuleDecl → CoreEntry
 
--- Types of components and instances hold types. What the binary format leaves out is a parameter: N stands beside each name of
--- an import or export, and K beside what is kept of a type that stands elsewhere.
+-- Types of components and instances hold types. What the binary format leaves out is a parameter: N is beside each name of an
+-- import or export, and K beside what is kept of a type that is elsewhere.
 mutual
   -- a type that a component declares (Explainer.md, deftype)
   pub data EntryOf (N K : Type 0) : Type 0 where

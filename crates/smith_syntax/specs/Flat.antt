@@ -27,7 +27,7 @@ flat_primitive prim.F64 = Some F64
 flat_primitive prim.Char = Some I32
 flat_primitive prim.String = None
 
--- the same of a value type in use: an indexed one is none
+-- the same for a value type in use: an indexed one is none
 abbrev pub flat_value : ComponentValType → Option ValType
 flat_value (Primitive p) = flat_primitive p
 flat_value (Indexed i) = None
@@ -41,7 +41,8 @@ is_scalar_result (Some v) = is_some (flat_value v)
 abbrev pub is_scalar : Signature → Bool
 is_scalar s = list_all (λ p. is_some (flat_value p.1)) s.params && is_scalar_result s.result
 
--- The core function type that a signature flattens to: it takes the scalar of each parameter, and gives that of the result.
+-- The core function type that a signature flattens to: it takes the scalar of each parameter, and returns that of the
+-- result.
 pub record Flattens (s : Signature) (f : Function) : Type 0 where
   pub params : map (λ p. flat_value p.1) s.params ≡ map Some f.0
   pub result : map flat_value (option_to_list s.result) ≡ map Some f.1

@@ -39,11 +39,11 @@ module _ {T C : Type 0} where
   abbrev pub empty_marked : Bool → MarkedOf T C
   empty_marked keeps = record { types = []; core_types = []; keeps = keeps; marks = []; core_sizes = []; exported = Everywhere; size = 1 }
 
-  -- with one type more, of that mark
+  -- with one more type, of that mark
   abbrev pub with_marked : MarkedOf T C → T → Mark → MarkedOf T C
   with_marked s t m = record s { types = s.types ++ t ∷ []; marks = more_kept s.keeps s.marks (m ∷ []) }
 
-  -- with one core type more, of that size
+  -- with one more core type, of that size
   abbrev pub with_sized : MarkedOf T C → C → ℕ → MarkedOf T C
   with_sized s t n = record s { core_types = s.core_types ++ t ∷ []; core_sizes = more_kept s.keeps s.core_sizes (n ∷ []) }
 
@@ -63,7 +63,7 @@ module _ {T C : Type 0} where
   reference_reach s (to.Component i) = Everywhere
   reference_reach s (to.Instance i) = parts_of (slice_get s.marks i)
 
-  -- the size with an import or an export more, and where all is named that exports refer to
+  -- the size with one more import or export, and where all is named that exports refer to
 
   abbrev pub size_with : MarkedOf T C → ComponentTypeRef → ℕ
   size_with s r = if s.keeps then capped (s.size + reference_size s r) else s.size
@@ -105,7 +105,7 @@ exported_mark marks (to.Instance i) = no_mark
 abbrev pub marks_for : {A : Type 0} → Option A → Mark → List Mark
 marks_for added m = map (λ x. m) (option_to_list added)
 
--- with an export more, and the type that it adds
+-- with one more export, and the type that it adds
 abbrev pub with_exported : Marked → ComponentTypeRef → Marked
 with_exported own r = record own {
   types = own.types ++ option_to_list (exported_type (scope_in own) r);

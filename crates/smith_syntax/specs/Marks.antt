@@ -68,7 +68,7 @@ no_mark = record { nominal = false; parts = Everywhere; used = Everywhere; size 
 abbrev pub small_size : ℕ
 small_size = 9999
 
--- The size that a component may have where one more is imported or exported: with a small type more it is below the bound.
+-- The size that a component may have where one more is imported or exported: with one more small type it is below the bound.
 abbrev pub room_size : ℕ
 room_size = 990000
 

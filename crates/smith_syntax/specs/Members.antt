@@ -18,7 +18,7 @@ members (enum_type ns) = []
 members (option_type v) = v ∷ []
 members (result_type ok err) = option_to_list ok ++ option_to_list err
 
--- Has it to be named (Explainer.md, type checking)?
+-- Does it have to be named (Explainer.md, type checking)?
 abbrev pub is_nominal : DefValType → Bool
 is_nominal (primitive_type p) = false
 is_nominal (record_type fs) = true

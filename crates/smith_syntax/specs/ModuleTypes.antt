@@ -1,4 +1,4 @@
--- What stands in a module type (Explainer.md, core type definitions): its own types, what it imports and exports, and what it
+-- What is in a module type (Explainer.md, core type definitions): its own types, what it imports and exports, and what it
 -- begins with for the canonical ABI.
 use Rattle.std.specs.Prelude.{ℕ, zero, suc, ◌+◌, Bool, true, false, ◌&&◌, List, [], ◌∷◌, ◌++◌, map, length, Option, Some, None, slice_get}
 use Rattle.std.specs.Prelude.{nat_eq, nat_lt, bytes_eq, codes, if◌then◌else◌}
@@ -99,7 +99,7 @@ pub record HasNewNames (ds : List ModuleDecl) : Type 0 where
   pub imported : (from : List ℕ) → IsDistinct bytes_eq (names_from from ds)
   pub exported : IsDistinct bytes_eq (module_export_names ds)
 
--- Has it no results, as the type of a tag has none?
+-- Does it have no results, as the type of a tag must?
 abbrev pub is_tag_type : Function → Bool
 is_tag_type f = nat_eq (length f.1) 0
 
@@ -154,7 +154,7 @@ after_function name f i (d ∷ e ∷ ds) = if is_type f d && is_export name (is_
 abbrev pub after_realloc : List ModuleDecl → List ModuleDecl
 after_realloc ds = after_function (codes "canonical_abi_realloc") realloc 0 ds
 
--- The type of the one that frees is the second where the other function stands before it.
+-- The type of the one that frees is the second where the other function precedes it.
 abbrev pub after_free : List ModuleDecl → List ModuleDecl
 after_free ds = after_function (codes "canonical_abi_free") free (if nat_lt (length (after_realloc ds)) (length ds) then 1 else 0) (after_realloc ds)
 

@@ -1,4 +1,4 @@
--- Scopes: what types stand where (Explainer.md, index spaces).
+-- Scopes: which types are where (Explainer.md, index spaces).
 use Rattle.std.specs.Prelude.{ℕ, Bool, true, false, List, [], ◌∷◌, ◌++◌, Option, Some, None, slice_get}
 use Rattle.std.specs.Option.{option_to_list}
 use Rattle.smith_syntax.specs.Entries.{Entry, defined, function, component_type, instance_type, CoreEntry, core_func, core_module}
@@ -6,7 +6,7 @@ use Rattle.smith_syntax.specs.Entries.{DeclOf, core_type_decl, type_decl, type_a
 use Rattle.smith_syntax.specs.declared.deftype.ComponentTypeRef.{ComponentTypeRef}
 use Rattle.smith_syntax.specs.declared.deftype.ComponentTypeRef.TheVariants as to
 
--- what stands before a place in one scope: the types and the core types
+-- what is before a place in one scope: the types and the core types
 pub record ScopeOf (T C : Type 0) : Type 0 where
   pub types : List T
   pub core_types : List C
@@ -19,23 +19,23 @@ module _ {T C : Type 0} where
   abbrev pub empty_scope : ScopeOf T C
   empty_scope = record { types = []; core_types = [] }
 
-  -- the scope with types more
+  -- the scope with more types
   abbrev pub with_types : ScopeOf T C → List T → ScopeOf T C
   with_types s ts = record { types = s.types ++ ts; core_types = s.core_types }
 
-  -- the scope with core types more
+  -- the scope with more core types
   abbrev pub with_core_types : ScopeOf T C → List C → ScopeOf T C
   with_core_types s ts = record { types = s.types; core_types = s.core_types ++ ts }
 
-  -- the scope with one type more
+  -- the scope with one more type
   abbrev pub with_type : ScopeOf T C → T → ScopeOf T C
   with_type s t = record { types = s.types ++ t ∷ []; core_types = s.core_types }
 
-  -- the scope with one core type more
+  -- the scope with one more core type
   abbrev pub with_core_type : ScopeOf T C → C → ScopeOf T C
   with_core_type s t = record { types = s.types; core_types = s.core_types ++ t ∷ [] }
 
--- Is it a type of values, as against one of functions, components or instances?
+-- Is it a type of values, as opposed to one of functions, components or instances?
 abbrev pub is_defined : Entry → Bool
 is_defined (defined t) = true
 is_defined (function s) = false
@@ -68,7 +68,7 @@ abbrev pub is_core_module : CoreEntry → Bool
 is_core_module (core_func f) = false
 is_core_module (core_module ds) = true
 
--- what stands in the scope of that count, where the scopes are given innermost first and 0 is the first
+-- what is in the scope of that count, where the scopes are given innermost first and 0 is the first
 abbrev pub in_scope : {A : Type 0} → (Scope → List A) → List Scope → ℕ → ℕ → Option A
 in_scope of scopes count i = elim (slice_get scopes count) [ None ↦ None | Some s ↦ slice_get (of s) i ]
 

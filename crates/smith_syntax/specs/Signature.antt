@@ -4,7 +4,7 @@ use Rattle.std.specs.declared.alloc.Global.{Global}
 use Rattle.smith_syntax.specs.Entries.{Signature}
 use Rattle.smith_syntax.specs.declared.types.ComponentValType.{ComponentValType}
 
--- the bytes of a name, and what stands after it
+-- the bytes of a name, and what follows it
 abbrev pub named : {B : Type 0} → String Global × B → List ℕ × B
 named p = (string_bytes p.0, p.1)
 

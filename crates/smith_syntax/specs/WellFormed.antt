@@ -1,4 +1,4 @@
--- Which types and core types are well formed, in the scopes in which they stand (Explainer.md, type definitions, core type
+-- Which types and core types are well formed, in the scopes in which they are (Explainer.md, type definitions, core type
 -- definitions, index spaces).
 use Rattle.std.specs.Prelude.{◌≡◌, ℕ, ◌+◌, ◌≤◌, Bool, true, false, List, [], ◌∷◌, ◌++◌, map, length, Option, Some, None, slice_get, bytes_eq}
 use Rattle.std.specs.List.{AllByRecursion, IsDistinct}
@@ -22,7 +22,7 @@ use Rattle.smith_syntax.specs.Scope.{core_type_named, after_decl}
 use Rattle.smith_syntax.specs.declared.types.ComponentValType.{ComponentValType}
 use Rattle.smith_syntax.specs.declared.types.ComponentValType.TheVariants.{Primitive, Indexed}
 
--- An indexed value type names a defined type of the scope in which it stands.
+-- An indexed value type names a defined type of the scope in which it is.
 abbrev pub FormedVal : Scope → ComponentValType → Type 0
 FormedVal own (Primitive p) = Unit {0}
 FormedVal own (Indexed i) = (e : Entry) × (slice_get own.types i ≡ Some e) × (is_defined e ≡ true)
@@ -74,7 +74,7 @@ FormedDecl around own (declares f) = Unit {0}
 FormedDecl around own (aliases count i) = (f : Function) × (aliased around own count i ≡ Some f)
 FormedDecl around own (exports n e) = FormedEntity own e
 
--- declarations in a row: each is judged where those before it stand
+-- declarations in a row: each is judged after those before it
 abbrev pub FormedDecls : List CoreEntry → List Function → List ModuleDecl → Type 0
 FormedDecls around own [] = Unit {0}
 FormedDecls around own (d ∷ ds) = FormedDecl around own d × FormedDecls around (own ++ adds around own d) ds
@@ -84,7 +84,7 @@ abbrev pub FormedCore : CoreEntry → List CoreEntry → Type 0
 FormedCore (core_func f) around = Unit {0}
 FormedCore (core_module ds) around = FormedDecls around [] ds × HasNewNames ds
 
--- core types in a row: each is judged where those before it stand
+-- core types in a row: each is judged after those before it
 abbrev pub FormedCores : List CoreEntry → Scope → Type 0
 FormedCores [] own = Unit {0}
 FormedCores (e ∷ es) own = FormedCore e own.core_types × FormedCores es (with_core_type own e)
@@ -111,7 +111,7 @@ is_type_eq (to.Component i) = false
 is_type_eq (to.Instance i) = false
 
 module _ {N K : Type 0} where
-  -- the name that a declaration imports, and what stands beside it
+  -- the name that a declaration imports, and what is beside it
   abbrev pub import_of : DeclOf N K → List (List ℕ × N)
   import_of (core_type_decl t k) = []
   import_of (type_decl e) = []
@@ -120,7 +120,7 @@ module _ {N K : Type 0} where
   import_of (import_decl name n r) = (name, n) ∷ []
   import_of (export_decl name n r) = []
 
-  -- the name that a declaration exports, and what stands beside it
+  -- the name that a declaration exports, and what is beside it
   abbrev pub export_of : DeclOf N K → List (List ℕ × N)
   export_of (core_type_decl t k) = []
   export_of (type_decl e) = []
@@ -143,8 +143,8 @@ abbrev pub names : {N : Type 0} → List (List ℕ × N) → List (List ℕ)
 names xs = map (λ x. x.0) xs
 
 -- A type in its own scope and the scopes around it, innermost first. A function has at most 16 parameters. The declarations of a
--- component type and of an instance type stand in a scope of their own, each where those before it stand. An outer alias names what
--- stands in its scope then, an import is of no type that is equal to another, and an instance type imports nothing.
+-- component type and of an instance type are in a scope of their own, each after those before it. An outer alias names what is in
+-- its scope then, an import is not of a type that is equal to another, and an instance type imports nothing.
 abbrev mutual
   pub FormedEntry : Entry → Scope → List Scope → Type 0
   FormedEntry (defined t) own outer = FormedDefined t own
@@ -166,7 +166,7 @@ abbrev mutual
   FormedDeclarations no_decls own outer = Unit {0}
   FormedDeclarations (then_decls d ds) own outer = FormedDeclaration d own outer × FormedDeclarations ds (after_decl outer own d) outer
 
--- Types in a row: each is judged where those before it stand.
+-- Types in a row: each is judged after those before it.
 abbrev pub FormedTypes : List Entry → Scope → List Scope → Type 0
 FormedTypes [] own outer = Unit {0}
 FormedTypes (e ∷ es) own outer = FormedEntry e own outer × FormedTypes es (with_type own e) outer

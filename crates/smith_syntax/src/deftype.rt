@@ -62,7 +62,7 @@ pub enum InstanceTypeDecl {
     },
 }
 
-/// Another name for the type or core type `i` of a scope. Count 0 is the scope in which the alias stands, 1 the scope
+/// Another name for the type or core type `i` of a scope. Count 0 is the scope in which the alias is, 1 the scope
 /// around it, and so on.
 #[cycle(types)]
 #[derive(Debug, Drop)]

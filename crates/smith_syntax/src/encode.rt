@@ -1,5 +1,5 @@
 //! Types in the binary format (Binary.md, type definitions), and the lengths of their encodings. No writer lowers the
-//! capacity of its buffer, and none wants memory where the buffer has room for what it writes.
+//! capacity of its buffer, and none takes memory where the buffer has room for what it writes.
 #![tactic(auto, using(crate::proofs::Encoding::encoding))]
 
 mod core_types;
@@ -52,8 +52,8 @@ fn result_len(ty: Option<ComponentValType>) -> u32
     }
 }
 
-/// Puts a function type at the end of a buffer. After an error a part of it may stand there. Public for the crates above
-/// alone.
+/// Puts a function type at the end of a buffer. After an error, part of it may be there. Public only for the crates
+/// above.
 pub fn put_function(out: &mut Vec<u8>, ty: &FuncType) -> Result<(), Error>
     ensures { Puts result out.old out.new (functype ty.now) }
 {
@@ -67,7 +67,7 @@ fn function_len(ty: &FuncType) -> Option<u32>
     tagged_len(&ty.params)?.checked_add(result_len(ty.result))
 }
 
-// A type of any kind. After an error a part of it may stand in the buffer.
+// A type of any kind. After an error, part of it may be in the buffer.
 #[cycle(writers)]
 fn put_type(out: &mut Vec<u8>, ty: &DefType) -> Result<(), Error>
     ensures { Puts result out.old out.new (entry (shown_type ty.now)) }

@@ -71,7 +71,7 @@ fn is_scalar_value(ty: ComponentValType) -> bool
 }
 
 impl FuncType {
-    /// Whether all parameters are primitives other than a string, and so is the result, which there is.
+    /// Whether all parameters are primitives other than a string, and there is a result that is one too.
     pub fn is_scalar(&self) -> bool
         ensures { result ≡ is_scalar self.now }
     {
@@ -86,7 +86,7 @@ impl FuncType {
         }
     }
 
-    /// An equal value. It refuses for want of memory alone.
+    /// An equal value. It fails only when out of memory.
     pub fn copied(&self, alloc: Global) -> Result<FuncType, Error>
         ensures value { IfOk result (λ f. f ≡ self.now) }
         ensures memory { IfErr result (λ e. e ≡ Error.OutOfMemory) }

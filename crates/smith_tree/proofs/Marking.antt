@@ -1,4 +1,4 @@
--- What is kept of components: of one with a part more, and its scope by itself.
+-- What is kept of components: of one with one more part, and its scope by itself.
 use Rattle.std.proofs.Common.{◌≡◌, ℕ, List, [], ◌∷◌, ◌++◌, map, length, fold, refl, sym, ap, ◌∙◌, append-nil}
 use Rattle.smith_format.specs.declared.config.Config.{Config}
 use Rattle.smith_syntax.specs.Entries.{Entry, CoreEntry, ImportEntry}
@@ -9,10 +9,11 @@ use Rattle.smith_tree.specs.Marking.{marked_after_part, marked_after_parts, mark
 use Rattle.smith_tree.specs.Marking.{with_export_entries, with_exports_entry, with_import_entry, with_type_entry, exported_reference}
 use Rattle.smith_tree.specs.Open.{scopes_from, scopes_in}
 use Rattle.smith_tree.specs.Spaces.{Spaces, after_canon, after_export, after_import, after_part, no_spaces, spaces_of}
-use Rattle.smith_tree.specs.Tree.{Canon, ExportEntry, lift, lower, Tree, Part, add, ends, first, custom, core_module, core_types, component, types, canons, imports, exports, parts_of}
+use Rattle.smith_tree.specs.Tree.{Canon, ExportEntry, lift, lower, Tree, Part, add, ends, first, custom, core_module, core_types}
+use Rattle.smith_tree.specs.Tree.{component, types, canons, imports, exports, parts_of}
 use Rattle.smith_tree.specs.WellFormed.{scope_of}
 
--- A part more.
+-- One more part.
 after_add : (t : Tree) (p : Part) (s : Spaces) (outer : List Marked) (own : Marked)
     → marked_after_parts (add t p) s outer own ≡ marked_after_part p (fold after_part s (parts_of t)) outer (marked_after_parts t s outer own)
 after_add ends p s outer own = refl
@@ -34,12 +35,14 @@ assoc (x ∷ xs) y ys = ap (λ zs. x ∷ zs) (assoc xs y ys)
 types_after : (outer : List Marked) (ts : List Entry) (own : Marked)
     → scope_in (fold (with_type_entry outer) own ts) ≡ record { types = own.types ++ ts; core_types = own.core_types }
 types_after outer [] own = ap (λ xs. record { types = xs; core_types = own.core_types }) (sym (append-nil own.types))
-types_after outer (t ∷ ts) own = types_after outer ts (with_type_entry outer own t) ∙ ap (λ xs. record { types = xs; core_types = own.core_types }) (assoc own.types t ts)
+types_after outer (t ∷ ts) own = types_after outer ts (with_type_entry outer own t)
+    ∙ ap (λ xs. record { types = xs; core_types = own.core_types }) (assoc own.types t ts)
 
 core_types_after : (ts : List CoreEntry) (own : Marked)
     → scope_in (fold with_core_entry own ts) ≡ record { types = own.types; core_types = own.core_types ++ ts }
 core_types_after [] own = ap (λ xs. record { types = own.types; core_types = xs }) (sym (append-nil own.core_types))
-core_types_after (t ∷ ts) own = core_types_after ts (with_core_entry own t) ∙ ap (λ xs. record { types = own.types; core_types = xs }) (assoc own.core_types t ts)
+core_types_after (t ∷ ts) own = core_types_after ts (with_core_entry own t)
+    ∙ ap (λ xs. record { types = own.types; core_types = xs }) (assoc own.core_types t ts)
 
 imports_after : (is : List ImportEntry) (own : Marked) → scope_in (fold with_import_entry own is) ≡ scope_in own
 imports_after [] own = refl

@@ -1,4 +1,4 @@
--- What is offered of a component with a part more, and of those that are open.
+-- What is offered of a component with one more part, and of those that are open.
 use Rattle.std.proofs.Common.{◌≡◌, List, [], ◌∷◌, ◌++◌, fold}
 use Rattle.smith_format.specs.declared.config.Config.{Config}
 use Rattle.smith_syntax.specs.Marked.{Marked, empty_marked}
@@ -44,7 +44,7 @@ module _ (config : Config) where
       so_far_at us t p (marked_of config outer u ∷ outer)
       (parts_without u (component (tree_so_far us (add t p))) no_spaces outer (empty_marked config.must_validate) h).1
 
-  -- The tree as if all that is open were finished, with a part more of the inner component.
+  -- The tree as if all that is open were finished, with one more part of the inner component.
   pub offered_with : (us : List Tree) (t : Tree) (p : Part) → IsOffered config (tree_so_far us t)
       → OfferedPart p config (spaces_of t) (marked_in config us) (marked_inner config us t) → IsOffered config (tree_so_far us (add t p))
   offered_with us t p h o = so_far_with us t p [] h o

@@ -87,7 +87,7 @@ type_sizes (function s) = omega arith
 type_sizes (component_type ds) = omega (arith, decls_sizes ds, decls_costs ds)
 type_sizes (instance_type ds) = omega (arith, decls_sizes ds, decls_costs ds)
 
--- Where so many scopes are on the stack, a type is declared in a type only where one more may nest.
+-- Where that many scopes are on the stack, a type is declared in a type only where one more may nest.
 abbrev mutual
   pub Nests : Entry → Config → ℕ → Type 0
   Nests (defined t) config scopes = Unit {0}

@@ -33,6 +33,6 @@ script_canon_rest s (lower f) = script_among nat_eq (scalar_functions s) f
 abbrev pub script_canon : Spaces → Canon → List ℕ
 script_canon s c = script_among equal.eq (canon_items s) (canon_item_of c) ++ script_canon_rest s c
 
--- at most so many, where these spaces stand before them
+-- at most that many, where these spaces precede them
 abbrev pub script_canons : ℕ → Spaces → List Canon → List ℕ
 script_canons max s cs = script_loop script_canon after_canon 0 max 0 s cs

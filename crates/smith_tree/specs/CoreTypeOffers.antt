@@ -18,7 +18,7 @@ pub record Declared : Type 0 where
   pub decls : List ModuleDecl
   pub fuel : ℕ
 
--- with one declaration more, for which a turn's fuel is taken
+-- with one more declaration, for which a turn's fuel is taken
 abbrev pub with_decl : List CoreEntry → Declared → ModuleDecl → Declared
 with_decl around s d = record { own = s.own ++ adds around s.own d; decls = s.decls ++ d ∷ []; fuel = s.fuel - 1 }
 

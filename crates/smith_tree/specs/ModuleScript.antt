@@ -47,7 +47,7 @@ script_entity_of config s (Tag t) = script_among nat_eq (places is_tag_type 0 s.
 abbrev pub script_entity : Config → Declared → EntityType → List ℕ
 script_entity config s e = script_among kinds.eq (entity_kinds config s) (kind_of e) ++ script_entity_of config s e
 
--- an outer alias: the function types of the scope around stand before the module type's own
+-- an outer alias: the function types of the scope around precede the module type's own
 abbrev pub alias_place : Scope → ℕ → ℕ → ℕ
 alias_place around zero i = length (places is_core_func 0 around.core_types) + i
 alias_place around (suc n) i = rank_of nat_eq (places is_core_func 0 around.core_types) i
@@ -79,8 +79,8 @@ script_asked (Memory m) = script_limits m.minimum m.maximum
 script_asked (Global g) = []
 script_asked (Tag t) = []
 
--- A line of what the canonical ABI asks, after which these declarations stand: where it stands in front of them it is taken, and
--- else it is declined where it is allowed.
+-- A line of what the canonical ABI asks, after which these declarations follow: where it is in front of them it is taken, and
+-- otherwise it is declined where it is allowed.
 abbrev pub script_line : Bool → List ModuleDecl → List ModuleDecl → List ℕ
 script_line may ds behind =
     if nat_lt (length behind) (length ds) then pick 100 0 ++ flat_map script_asked (entities_of (in_front ds behind)) else (if may then pick 100 99 else [])

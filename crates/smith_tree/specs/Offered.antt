@@ -29,7 +29,8 @@ OfferedExports (e ∷ es) s own =
 abbrev mutual
   pub OfferedParts : Tree → Config → Spaces → List Marked → Marked → Type 0
   OfferedParts ends config s outer own = Unit {0}
-  OfferedParts (first p t) config s outer own = OfferedPart p config s outer own × OfferedParts t config (after_part s p) outer (marked_after_part p s outer own)
+  OfferedParts (first p t) config s outer own = OfferedPart p config s outer own
+      × OfferedParts t config (after_part s p) outer (marked_after_part p s outer own)
 
   pub OfferedPart : Part → Config → Spaces → List Marked → Marked → Type 0
   OfferedPart (custom name contents) config s outer own = Unit {0}

@@ -17,11 +17,11 @@ use Rattle.smith_tree.specs.Marking.{marked_inner}
 use Rattle.smith_tree.specs.declared.choices.CanonItem.{CanonItem}
 use Rattle.smith_tree.specs.declared.choices.CanonItem.TheVariants.{Lower, Lift}
 
--- the open components, where the inner one has these imports more in a section of their own
+-- the open components, where the inner one also has these imports in a section of their own
 abbrev pub with_imports : Open → List ImportEntry → Open
 with_imports stack is = with_inner stack (add stack.inner (imports is))
 
--- a component that has these exports more in a section of their own
+-- a component that also has these exports in a section of their own
 abbrev pub with_exports : Tree → List ExportEntry → Tree
 with_exports t es = add t (exports es)
 

@@ -1,5 +1,5 @@
--- Which components can be read, and which come: each name comes after those before it, core modules stand for generated ones, and export
--- sections are there only where there may be exports.
+-- Which components can be read, and which can be generated: each name can be made after those before it, core modules stand for
+-- generated ones, and export sections are there only where there may be exports.
 use Rattle.std.specs.Prelude.{◌≡◌, ℕ, ◌<◌, ◌≤◌, List, ◌∷◌, length}
 use Rattle.std.specs.List.{AllByRecursion}
 use Rattle.std.specs.Str.{IsUtf8}

@@ -9,11 +9,12 @@ use Rattle.smith_syntax.specs.ModuleTypes.{module_export_names, names_from}
 abbrev pub IsReadableText : List ℕ → Type 0
 IsReadableText text = IsUtf8 text × (length text ≤ 100)
 
--- A text that comes where these are there: UTF-8, and made of a text of at most 100 bytes.
+-- A text that can be made new among these: UTF-8, and made of a text of at most 100 bytes.
 abbrev pub IsReadableNewText : List (List ℕ) → List ℕ → Type 0
 IsReadableNewText names text = IsUtf8 text × IsReachableText 100 names text
 
--- The name of an import or an export comes after those before it. That of the module from which something is imported is read as it is.
+-- The name of an import or an export can be made after those before it. That of the module from which something is imported is read as
+-- it is.
 abbrev pub IsReadableModuleDecl : List ModuleDecl → ModuleDecl → Type 0
 IsReadableModuleDecl before (imports from name e) = IsReadableText from × IsReadableNewText (names_from from before) name
 IsReadableModuleDecl before (declares f) = Unit {0}

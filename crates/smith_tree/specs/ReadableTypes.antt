@@ -1,4 +1,4 @@
--- Types whose names can be read: each comes after those before it.
+-- Types whose names can be read: each can be made after those before it.
 use Rattle.std.specs.Prelude.{ℕ, List, [], ◌++◌, map}
 use Rattle.smith_input.specs.NameScript.{AreReachable, IsReachable}
 use Rattle.smith_tree.specs.ReadableCoreTypes.{IsReadableCore}

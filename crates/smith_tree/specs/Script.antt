@@ -44,7 +44,7 @@ script_item config outer before chosen = script_among equal.eq (items_with_input
 abbrev pub script_types : Config → ℕ → Marked → List Marked → List Entry → List ℕ
 script_types config max own outer ts = script_loop (λ s e. script_type e config config.max_type_size s outer) (with_type_entry outer) 0 max 0 own ts
 
--- The same of a core type section.
+-- The same for a core type section.
 abbrev pub script_core_types : Config → ℕ → Marked → List CoreEntry → List ℕ
 script_core_types config max own ts = script_loop (λ s x. script_core config (scope_in s) config.max_type_size x) with_core_entry 0 max 0 own ts
 
@@ -64,8 +64,8 @@ script_export t es x = pick (length (functions_of (with_exports t es))) x.func +
 abbrev pub script_exports : Config → Tree → List ExportEntry → List ℕ
 script_exports config t es = script_loop (script_export t) (λ s x. s ++ x ∷ []) 0 (config.max_exports - length (exports_of t)) 0 [] es
 
--- The rest of a component, where these components are open around it and these parts stand before it; and what follows the choice
--- of its item in the script of a part.
+-- The rest of a component, where these components are open around it and these parts precede it; and what follows the choice of
+-- its item in the script of a part.
 abbrev mutual
   pub script_from : Tree → Config → List Tree → Tree → List ℕ
   script_from ends config outer before = script_item config outer before item.Finish
@@ -75,9 +75,11 @@ abbrev mutual
   pub script_part : Part → Config → List Tree → Tree → List ℕ
   script_part (custom name contents) config outer before = script_text 1000 name ++ script_bytes contents
   script_part (core_module text) config outer before = script_stand_in config (stand_in_of text)
-  script_part (core_types ts) config outer before = script_core_types config (config.max_types - length (core_types_of before)) (marked_inner config outer before) ts
+  script_part (core_types ts) config outer before =
+      script_core_types config (config.max_types - length (core_types_of before)) (marked_inner config outer before) ts
   script_part (component t) config outer before = script_from t config (outer ++ before ∷ []) ends
-  script_part (types ts) config outer before = script_types config (config.max_types - length (types_of before)) (marked_inner config outer before) (marked_in config outer) ts
+  script_part (types ts) config outer before =
+      script_types config (config.max_types - length (types_of before)) (marked_inner config outer before) (marked_in config outer) ts
   script_part (canons fs) config outer before = script_canons (config.max_funcs - function_count before) (spaces_of before) fs
   script_part (imports is) config outer before = script_imports config (record { outer = outer; inner = before }) is
   script_part (exports es) config outer before = script_exports config before es
@@ -85,13 +87,13 @@ abbrev mutual
 abbrev pub script : Config → Tree → List ℕ
 script config plan = script_from plan config [] ends
 
--- A plan: it can be generated within these limits, whatever follows its script, and bytes spell it.
+-- A plan: it can be generated within these limits, regardless of what follows its script, and bytes spell it.
 pub record Within (config : Config) (plan : Tree) : Type 0 where
   pub possible : CanBeGenerated config plan
   pub finishable : AreFinishable config plan
   pub spelled : (b : List ℕ) × Spells plan b
 
--- With a part more, the inner component stays the beginning of a plan, and the tree within its limits.
+-- With one more part, the inner component stays the beginning of a plan, and the tree within its limits.
 pub record Continues (config : Config) (stack : Open) (p : Part) : Type 0 where
   pub before : IsReadable config stack.inner
   pub readable : IsReadablePart config p stack.inner

@@ -17,7 +17,8 @@ CanonTooLong (lower f) = IsTooLarge f
 abbrev pub ExportEntryTooLong : ExportEntry → Type 0
 ExportEntryTooLong e = NameTooLong e.name ⊎ IsTooLarge e.func
 
--- Bytes that are no bytes stand in no component of the program, and bytes that are no core module only where a module is too long itself.
+-- Numbers that are not bytes occur in no component of the program, and bytes that are not a core module only where a module is too long
+-- itself.
 abbrev mutual
   pub TreeTooLong : Tree → Type 0
   TreeTooLong ends = ⊥

@@ -1,4 +1,4 @@
--- A component as a plain tree of parts, and what stands in it (Explainer.md, component definitions, index spaces).
+-- A component as a plain tree of parts, and what is in it (Explainer.md, component definitions, index spaces).
 use Rattle.std.specs.Prelude.{ℕ, ◌+◌, List, [], ◌∷◌, ◌++◌, length, max}
 use Rattle.std.specs.List.{flat_map}
 use Rattle.smith_syntax.specs.Entries.{Entry, CoreEntry, ImportEntry}
@@ -144,7 +144,7 @@ exports_of t = own exports_in t
 abbrev pub function_count : Tree → ℕ
 function_count t = length (own imported_functions_in t) + length (own canons_in t)
 
--- what stands anywhere in a tree, in the components at every depth
+-- what is anywhere in a tree, in the components at every depth
 
 abbrev mutual
   pub anywhere : {A : Type 0} → (Part → List A) → Tree → List A
@@ -179,7 +179,7 @@ component_count t = length (inside t) + length (anywhere imported_components_in 
 abbrev pub instance_count : Tree → ℕ
 instance_count t = length (anywhere imported_instances_in t)
 
--- how deep components stand, the root at 1, where types reach so much below the component in which they stand
+-- how deep components are, the root at 1, where types reach that much below the component in which they are
 abbrev mutual
   pub depth_by : (List Entry → ℕ) → Tree → ℕ
   depth_by below ends = 1
@@ -207,6 +207,6 @@ abbrev pub most : (Entry → ℕ) → List Entry → ℕ
 most number [] = 0
 most number (t ∷ ts) = max (number t) (most number ts)
 
--- how deep components stand, and the types that component types and instance types declare, each one below the scope that declares it
+-- how deep components are, and the types that component types and instance types declare, each one below the scope that declares it
 abbrev pub declared_depth : Tree → ℕ
 declared_depth t = depth_by (most declaring) t

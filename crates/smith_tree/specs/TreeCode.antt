@@ -1,4 +1,4 @@
--- A code of trees, by which proofs tell them apart.
+-- A code of trees, by which proofs distinguish them.
 use Rattle.std.specs.Prelude.{◌≡◌, ℕ, List}
 use Rattle.std.specs.Coded.{Coded, coded_ℕ, coded_list, codes}
 use Rattle.std.proofs.Common.{arith, refl, ap}

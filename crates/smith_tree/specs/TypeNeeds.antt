@@ -5,7 +5,7 @@ use Rattle.smith_syntax.specs.Entries.{Entry, defined, function, component_type,
 use Rattle.smith_syntax.specs.Entries.{Decl, Decls, core_type_decl, type_decl, type_alias, core_type_alias, import_decl, export_decl, no_decls, then_decls}
 use Rattle.smith_syntax.specs.WellFormed.{size, defined_size}
 
--- How much fuel a type takes: one for itself, and one for each turn of its loops. What stands in it takes its own.
+-- How much fuel a type takes: one for itself, and one for each turn of its loops. What is in it takes its own.
 abbrev mutual
   pub cost : Entry → ℕ
   cost (defined t) = defined_size t + 1
@@ -50,7 +50,7 @@ abbrev mutual
   decls_need no_decls = 0
   decls_need (then_decls d ds) = max 2 (max (decl_need d + 1) (decls_need ds + decl_cost d + 1))
 
--- How deep below the innermost scope there is those types stand that a type declares: each one below the scope in which it is declared.
+-- How deep below the innermost scope the types are that a type declares: each one below the scope in which it is declared.
 abbrev mutual
   pub declaring : Entry → ℕ
   declaring (defined t) = 0

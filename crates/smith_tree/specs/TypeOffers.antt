@@ -72,7 +72,7 @@ has_room own for_type_def = for_type_def || nat_le own.size room_size
 abbrev pub allows_one : Bool → Bool → ℕ → ℕ → Bool
 allows_one for_import for_type_def count max = not for_import || for_type_def || nat_lt count max
 
--- May it be of a type that is equal to one? An import never is, and outside of types it needs room for one type more.
+-- May it be of a type that is equal to one? An import never is, and outside of types it needs room for one more type.
 abbrev pub allows_equal : Config → Marked → Bool → Bool → Bool
 allows_equal config own for_import for_type_def = not for_import && (for_type_def || nat_lt (length own.types) config.max_types)
 
@@ -102,7 +102,7 @@ ref_kinds config own totals for_import for_type_def =
 abbrev pub uncounted : RefTotals
 uncounted = record { modules = 0; funcs = 0; components = 0; instances = 0 }
 
--- Of what a reference is of, one more may be had.
+-- One more is allowed of what a reference is of.
 abbrev pub IsAllowed : Config → Marked → RefTotals → Bool → Bool → ComponentTypeRef → Type 0
 IsAllowed config own totals for_import for_type_def (to.Module i) = allows_one for_import for_type_def totals.modules config.max_modules ≡ true
 IsAllowed config own totals for_import for_type_def (to.TypeEq i) = allows_equal config own for_import for_type_def ≡ true
@@ -112,15 +112,16 @@ IsAllowed config own totals for_import for_type_def (to.Instance i) = allows_one
 
 -- Declarations.
 
--- Has the scope something that an import may be of: a type, or the type of a core module? A choice is read then, whatever is offered.
+-- Does the scope have something that an import may be of: a type, or the type of a core module? A choice is read then, regardless of what
+-- is offered.
 abbrev pub has_reference : Marked → Bool
 has_reference own = nat_lt 0 (length own.types) || nat_lt 0 (length (places is_core_module 0 own.core_types))
 
--- Has it something that an export may be of?
+-- Does it have something that an export may be of?
 abbrev pub has_export : Marked → Bool
 has_export own = has_place own false ref.Module || has_place own false ref.TypeEq || has_place own false ref.Component || has_place own false ref.Instance
 
--- Has a scope an entry?
+-- Does a scope have an entry?
 abbrev pub is_occupied : Marked → Bool
 is_occupied s = nat_lt 0 (length s.types + length s.core_types)
 
@@ -133,7 +134,7 @@ abbrev pub numbered : {A B : Type 0} → (ℕ → A → B) → ℕ → List A �
 numbered f i [] = []
 numbered f i (x ∷ xs) = f i x ∷ numbered f (i + 1) xs
 
--- the outer aliases of what stands in a scope: its types, and then its core types
+-- the outer aliases of what is in a scope: its types, and then its core types
 abbrev pub aliases_of : ℕ → Marked → List FullDecl
 aliases_of count s = numbered (λ i e. type_alias count i (keeps_type e)) 0 s.types ++ numbered (λ i e. core_type_alias count i (keeps_core_type e)) 0
     s.core_types

@@ -52,7 +52,7 @@ abbrev pub script_maybe : Marked → Option ComponentValType → List ℕ
 script_maybe own None = 0 ∷ []
 script_maybe own (Some v) = 1 ∷ script_val own v
 
--- a name of which at most 100 bytes are read, so many names being there
+-- a name of which at most 100 bytes are read, that many names being there
 abbrev pub script_label : ℕ → List ℕ → List ℕ
 script_label count n = script_new 100 count n
 
@@ -62,7 +62,7 @@ script_field own count f = script_label count f.0 ++ script_val own f.1
 abbrev pub script_case : Marked → ℕ → Case → List ℕ
 script_case own count c = script_label count c.0 ++ script_maybe own c.1
 
--- members, each of which has a script after so many before it
+-- members, each of which has a script after that many before it
 abbrev pub script_members : {A : Type 0} → (ℕ → A → List ℕ) → ℕ → ℕ → List A → List ℕ
 script_members f min max xs = script_loop f (λ count x. count + 1) min max 0 0 xs
 
@@ -92,7 +92,7 @@ abbrev pub script_scalar : ComponentValType → List ℕ
 script_scalar (Primitive p) = elim (flat_primitive p) [ None ↦ [] | Some v ↦ script_among prims.eq (lifted v) p ]
 script_scalar (Indexed i) = []
 
--- parameters after so many
+-- parameters after that many
 abbrev pub script_params : ℕ → List Field → List ℕ
 script_params count [] = []
 script_params count (f ∷ fs) = script_label count f.0 ++ (script_scalar f.1 ++ script_params (count + 1) fs)
@@ -123,9 +123,10 @@ index_in (to.Instance i) = i
 -- what an import or an export is of: a choice of a kind, and of an entry of that kind
 abbrev pub script_ref : Config → Marked → RefTotals → Bool → Bool → ComponentTypeRef → List ℕ
 script_ref config own totals for_import for_type_def r =
-    script_among refs.eq (ref_kinds config own totals for_import for_type_def) (kind_in r) ++ script_among nat_eq (ref_places own for_import (kind_in r)) (index_in r)
+    script_among refs.eq (ref_kinds config own totals for_import for_type_def) (kind_in r)
+    ++ script_among nat_eq (ref_places own for_import (kind_in r)) (index_in r)
 
--- a name after so many, and no URL
+-- a name after that many, and no URL
 abbrev pub script_extern : ℕ → List ℕ → List ℕ
 script_extern count name = script_label count name ++ 0 ∷ []
 
@@ -137,11 +138,11 @@ pub record Taken : Type 0 where
 abbrev pub none_taken : Taken
 none_taken = record { imports = 0; exports = 0 }
 
--- with those of one declaration more
+-- with those of one more declaration
 abbrev pub after_taken : Taken → Decl → Taken
 after_taken taken d = record { imports = taken.imports + length (import_of d); exports = taken.exports + length (export_of d) }
 
--- an outer alias: a choice of the scope, and of what stands in it, the core types after the types
+-- an outer alias: a choice of the scope, and of what is in it, the core types after the types
 abbrev pub script_entry : ℕ → (Marked → ℕ) → Option Marked → List ℕ
 script_entry count place None = []
 script_entry count place (Some s) = pick (length (aliases_of count s)) (place s)
@@ -160,8 +161,8 @@ script_declaration_item config outer own chosen = script_among items.eq (declara
 abbrev pub script_declares : Config → Bool → Marked → List Marked → DeclarationItem → List ℕ
 script_declares config importing own outer chosen = script_no_import importing own ++ script_declaration_item config outer own chosen
 
--- A type with so much fuel: which of four kinds it is, where the fuel lasts, and then what it is. The fuel lasts for all but a type of
--- values.
+-- A type with that much fuel: which of four kinds it is, where the fuel lasts, and then what it is. The fuel lasts for all but a type
+-- of values.
 abbrev mutual
   pub script_type : Entry → Config → ℕ → Marked → List Marked → List ℕ
   script_type (defined t) config fuel own outer = (if nat_le 2 fuel then script_type_kind Defined else []) ++ script_defined own t
@@ -185,7 +186,7 @@ abbrev mutual
   script_decl (export_decl name n r) config importing fuel taken own outer =
       script_declares config importing own outer item.Export ++ (script_ref config own uncounted false true r ++ script_extern taken.exports name)
 
-  -- A byte asks for each declaration, so many being made before, with these names. Each turn takes one from the fuel.
+  -- A byte asks for each declaration, that many being made before, with these names. Each turn takes one from the fuel.
   pub script_decls : Decls → Config → Bool → ℕ → ℕ → Taken → Marked → List Marked → List ℕ
   script_decls no_decls config importing fuel done taken own outer = script_end done 100
   script_decls (then_decls d ds) config importing fuel done taken own outer =

@@ -1,4 +1,4 @@
-//! What choices are made among, and the tables of those that are the same everywhere. A choice is an index into its table.
+//! What choices are made among, and the tables that are the same everywhere. A choice is an index into its table.
 
 ghost use Rattle.std.specs.Prelude.{◌≡◌};
 ghost use Rattle.smith_tree.specs.CoreTypeOffers.{item_table, kind_table};

@@ -1,4 +1,4 @@
-//! How primitive value types flatten to core value types (CanonicalABI.md, flattening), and which flatten to one of them.
+//! How primitive value types flatten to core value types (CanonicalABI.md, flattening), and which flatten to one.
 
 ghost use Rattle.std.specs.Prelude.{◌≡◌};
 ghost use Rattle.smith_syntax.specs.Flat.{flat_primitive};

@@ -1,5 +1,5 @@
-//! Components as plain trees: what they are, how they are encoded, which are well formed and within limits, what choices their scripts
-//! are made of. It knows no builder and no maker: those promise what is defined here.
+//! Components as plain trees: what they are, how they are encoded, which are well formed and within limits, what
+//! choices their scripts are made of. It knows no builder and no maker: those promise what is defined here.
 #![tactic(auto)]
 
 mod choices;

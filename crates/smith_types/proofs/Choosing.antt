@@ -55,7 +55,7 @@ has_no_type own n m e none is =
     let f : nat_lt 0 (length own.types) ≡ false = ap (nat_lt 0) (sym e ∙ none) in
     ap (nat_lt 0) is ∙ right (nat_lt 0 (length own.types)) (nat_lt 0 (length (places is_core_module 0 own.core_types))) f
 
--- where there is room, all is offered, and else nothing
+-- where there is room, all is offered, and otherwise nothing
 module _ (config : Config) (own : Marked) (totals : RefTotals) (for_import for_type_def : Bool) where
   abbrev kinds_with : Bool → List RefKind
   kinds_with room = if room then kinds_offered config own totals for_import for_type_def else []

@@ -1,4 +1,4 @@
--- The scopes as declarations are made: what stands in one of them, and how the last one grows.
+-- The scopes as declarations are made: what is in one of them, and how the last one grows.
 use Rattle.std.proofs.Common.{◌≡◌, ℕ, ◌+◌, ◌<◌, ◌≤◌, Bool, true, false, cond, inl, inr, append_assoc, List, [], ◌∷◌, ◌++◌, length, map, reverse}
 use Rattle.std.proofs.Common.{append-nil, refl, sym, ap, ◌∙◌, subst, arith}
 use Rattle.std.proofs.Math.ListN.{drop}
@@ -43,7 +43,7 @@ use Rattle.smith_types.specs.Declarations.{ReadsAlias}
 use Rattle.smith_types.proofs.ReadsDeclarations.{named_in}
 use Rattle.smith_types.specs.MakingTypes.{Declares, IsAliased, IsMarkOf, SameOuter}
 
--- what an outer alias may name is counted, and stands where the choice says
+-- what an outer alias may name is counted, and is where the choice says
 module _ (scopes : List Contents) (b mid rest : List ℕ) (count place : ℕ) (choice : ReadsAmong (occupied (inward_marked scopes)) b count mid)
     (within : count < length scopes)
     (reads : Reads (length (scope_at scopes count).types + length (scope_at scopes count).core_types) mid place rest) where
@@ -94,7 +94,7 @@ module _ (scopes : List Contents) (b mid rest : List ℕ) (count place : ℕ) (c
       ∙ numbered_here {B = FullDecl} (λ j e. core_type_alias count j (keeps_core_type e)) (map shown_core s.core_types) i (shown_core ty)
       (slice_get-map shown_core s.core_types i ∙ ap (option_map shown_core) at))
 
--- a scope that an alias may be chosen from stands there, and is not empty
+-- a scope that an alias may be chosen from is there, and is not empty
 pub record IsAmong (scopes : List Contents) (count : ℕ) : Type 0 where
   pub within : count < length scopes
   pub some : 0 < length (scope_at scopes count).types + length (scope_at scopes count).core_types
@@ -314,7 +314,7 @@ module _ (old noted : List Contents) (r : ComponentTypeRef) (notes : Changes (λ
       ∙ ap adding (sym none))
 
   module _ (i : ℕ) (is_equal : r ≡ to.TypeEq i) where
-    -- a type that it is equal to stands in the last scope
+    -- a type that it is equal to is in the last scope
     pub equal_stands : FormedRef (scope_in (own_marked old)) r → i < length (last_of noted).types
     equal_stands formed =
         let f = subst (FormedRef (scope_in (own_marked old))) is_equal formed in

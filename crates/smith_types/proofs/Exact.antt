@@ -78,7 +78,7 @@ mutual
         decls_last ds config (after_decl outer own d) outer scopes (fuel - 1 - decl_cost d) f.1 x.1 p.2,
       )
 
--- What is asked of a type that is to be read with so much fuel where these scopes stand.
+-- What is asked of a type that is to be read with that much fuel where these scopes are.
 abbrev Asked : Config → Marked → List Marked → ℕ → Entry → Type 0
 Asked config own outer fuel e =
     FormedEntry e (scope_in own) (scopes_in_marked outer) × OfferedEntry e own outer × EntryLimits config e × IsReadableType e × (need e ≤ fuel)

@@ -218,7 +218,7 @@ mutual
       (declaration_nesting config importing outer s mid (fuel - 1) d low held one)
       (declarations_nesting config importing outer (done + 1) (after_one outer s d) low held ds rest left later)
 
--- The same of a stack of scopes, also of none.
+-- The same for a stack of scopes, also for none.
 
 deeper : (ss : List Marked) (k depth : ℕ) → length (first_marked ss ∷ drop 1 ss) + k ≤ max (length (first_marked ss ∷ drop 1 ss) + 1) depth
     → length ss + k ≤ max (length ss + 1) depth

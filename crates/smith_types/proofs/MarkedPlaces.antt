@@ -1,4 +1,4 @@
--- Places of types with marks: what stands at those where a test holds, and where what passes it stands.
+-- Places of types with marks: what is at those where a test holds, and where what passes it is.
 use Rattle.std.proofs.Common.{◌≡◌, ℕ, zero, suc, ◌+◌, Bool, true, false, ◌&&◌, List, [], ◌∷◌, refl, sym, ap, ◌∙◌, arith}
 use Rattle.std.proofs.lemmas.Bool.{and_from, and_parts}
 use Rattle.std.specs.Prelude.{Some, if◌then◌else◌, slice_get}
@@ -14,7 +14,7 @@ later_or [] j = refl
 later_or (m ∷ ms) j = refl
 
 module _ {T : Type 0} (test : T → Mark → Bool) where
-  -- What stands at a place where the test holds passes it with its mark.
+  -- What is at a place where the test holds passes it with its mark.
   abbrev StandsAt : List T → List Mark → ℕ → ℕ → Type 0
   StandsAt ts ms n i = (t : T) × (j : ℕ) × (i ≡ n + j) × (slice_get ts j ≡ Some t) × (test t (mark_at ms j) ≡ true)
 
@@ -42,7 +42,7 @@ module _ {T : Type 0} (test : T → Mark → Bool) where
       let same : i ≡ p.1 = omega (arith, p.2) in
       (p.0, ap (slice_get ts) same ∙ p.3, ap (λ j. test p.0 (mark_at ms j)) same ∙ p.4)
 
-  -- What passes the test with its mark stands among the places of what does.
+  -- What passes the test with its mark is among the places of what does.
 
   found_split : (t : T) (ts : List T) (ms : List Mark) (n i : ℕ) → (k : ℕ) × (slice_get (marked_places test (n + 1) ts (later_marks ms)) k ≡ Some i)
       → (b : Bool)

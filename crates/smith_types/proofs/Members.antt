@@ -185,7 +185,7 @@ module _ {A : Type 0} where
       after_members (so_far ++ x ∷ []) (fuel - 1) xs
       ∙ (λ i. (append_assoc so_far (x ∷ []) xs i, (let z : fuel - 1 - length xs ≡ fuel - length (x ∷ xs) = omega arith in z) i))
 
-  -- Of the state a script heeds how many members there are.
+  -- A script depends only on how many members there are in the state.
   counted : (f : ℕ → A → List ℕ) (min max done : ℕ) (s : List A × ℕ) (xs : List A)
       → script_loop f (λ count x. count + 1) min max done (length s.0) xs ≡ script_loop (λ t x. f (length t.0) x) next_member min max done s xs
   counted f min max done s [] = refl
@@ -215,7 +215,7 @@ module _ {A : Type 0} where
       let T : List A × ℕ → Type 0 = λ t. Loop IsSpent (ReadsMember Member) min max 0 ([], fuel) (script_members f min max xs ++ rest) xs rest t in
       (fuel - length xs, omega arith, subst T (after_members [] fuel xs) (subst B (sym (counted f min max 0 ([], fuel) xs)) read))
 
--- A member has a name in kebab case that can be read, and what stands after that is as it should be.
+-- A member has a name in kebab case that can be read, and what follows that is as it should be.
 abbrev pub IsReady : {A : Type 0} → (A → List ℕ) → (A → Type 0) → List A → A → Type 0
 IsReady name Q so_far x = Kebab (name x) × IsReachable 100 (map name so_far) (name x) × Q x
 
@@ -243,7 +243,7 @@ pub is_named : {B : Type 0} {After : List ℕ → B → List ℕ → Type 0} (so
     → ReadsNew 100 (map (λ p. string_bytes p.0) so_far) bytes name mid → After mid y rest → ReadsNamed After (map named so_far) bytes (name, y) rest
 is_named so_far {mid = mid} r a = record { mid = mid; name = new_named so_far r; after = a }
 
--- a name, and what stands after it
+-- a name, and what follows it
 pub named_read : {B : Type 0} (After : List ℕ → B → List ℕ → Type 0) (f : B → List ℕ) (Q : B → Type 0)
     → ((x : B) (rest : List ℕ) → Q x → After (f x ++ rest) x rest)
     → (so_far : List (List ℕ × B)) (x : List ℕ × B) (rest : List ℕ) → IsReady (λ y. y.0) (λ y. Q y.1) so_far x
@@ -289,7 +289,7 @@ module _ {A : Type 0} {Member : List A → List ℕ → A → List ℕ → Type 
       → ReadsMember Member (so_far, held) b x rest (so_far ++ x ∷ [], left)
   has_read {so_far = so_far} held left x burnt some one = record { lasts = omega arith; member = one; state = ap (λ n. (so_far ++ x ∷ [], n)) burnt }
 
-  -- a member was read, and stands with those so far
+  -- a member was read, and is with those so far
   pub has_read_as : {so_far next : List A} {b rest : List ℕ} (held left : ℕ) (x : A) → left ≡ held - 1 → (left ≡ 0 → ⊥) → Member so_far b x rest
       → next ≡ so_far ++ x ∷ [] → ReadsMember Member (so_far, held) b x rest (next, left)
   has_read_as {so_far = so_far} held left x burnt some one more = record { lasts = omega arith; member = one; state = λ i. (more i, burnt i) }

@@ -1,4 +1,4 @@
--- Imports, exports and outer aliases that are read: they leave a tail of the bytes, name what stands there, and are determined.
+-- Imports, exports and outer aliases that are read: they leave a tail of the bytes, name what is there, and are determined.
 use Rattle.std.proofs.Common.{◌≡◌, inl, inr, ℕ, zero, suc, Bool, true, false, List, [], ◌∷◌, ◌++◌, codes, length, refl, sym, ap, ◌∙◌, subst, arith}
 use Rattle.std.proofs.lemmas.Bool.{false≢true, ltb-true}
 use Rattle.std.specs.Prelude.{Option, Some, None, map, slice_get}
@@ -84,7 +84,7 @@ get_map f [] k x e = absurd (cc)
 get_map f (y ∷ ys) zero x e = let same : y ≡ x = cc in ap (λ z. Some (f z)) same
 get_map f (y ∷ ys) (suc k) x e = get_map f ys k x e
 
--- what stands in a scope of that count
+-- what is in a scope of that count
 pub named_in : {A : Type 0} (of : Scope → List A) (scopes : List Marked) (count i : ℕ) (s : Marked) (x : A) → slice_get scopes count ≡ Some s
     → slice_get (of (scope_in s)) i ≡ Some x
     → in_scope of (scopes_in_marked scopes) count i ≡ Some x

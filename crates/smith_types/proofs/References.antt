@@ -18,7 +18,7 @@ use Rattle.smith_tree.specs.declared.totals.RefTotals.{RefTotals}
 use Rattle.smith_scopes.proofs.Places.{place_stands}
 use Rattle.smith_types.proofs.MarkedPlaces.{marked_stands, three_parts}
 
--- It names what stands in the scope and is of its kind, and it was offered.
+-- It names what is in the scope and is of its kind, and it was offered.
 abbrev pub IsRef : Marked → Bool → ComponentTypeRef → Type 0
 IsRef own for_import r = FormedRef (scope_in own) r × OfferedRef own for_import r
 
@@ -53,7 +53,7 @@ pub ref_is : (config : Config) (own : Marked) (totals : RefTotals) (for_import f
 ref_is config own totals for_import for_type_def b r rest h =
     subst (IsRef own for_import) (sym h.is) (kind_is own for_import h.kind h.names.place h.index h.names.named)
 
--- What a reference names stands in the scope, and is of its kind.
+-- What a reference names is in the scope, and is of its kind.
 pub ref_formed : (config : Config) (own : Marked) (totals : RefTotals) (for_import for_type_def : Bool) (b : List ℕ) (r : ComponentTypeRef) (rest : List ℕ)
     → ReadsRef config own totals for_import for_type_def b r rest → FormedRef (scope_in own) r
 ref_formed config own totals for_import for_type_def b r rest h = (ref_is config own totals for_import for_type_def b r rest h).0
@@ -67,7 +67,7 @@ pub offered_where : {A : Type 0} (room : Bool) (xs : List A) (k : ℕ) (x : A) �
 offered_where true xs k x h = h
 offered_where false xs k x h = absurd (cc)
 
--- Does a kind never give a type that is equal to another?
+-- Does a kind never yield a type that is equal to another?
 abbrev IsNeverEqual : RefKind → Type 0
 IsNeverEqual k = (i : ℕ) → is_type_eq (ref_to k i) ≡ false
 

@@ -104,7 +104,7 @@ module _ (own : Marked) where
   instance_there : has_place own false kind.Instance ≡ true → has_export own ≡ true
   instance_there h = or_right (has_place own false kind.Module || has_place own false kind.TypeEq || has_place own false kind.Component) _ h
 
-  -- An export is offered where one may be had: what may be exported as a function may be equal to a type.
+  -- An export is offered where one is allowed: what may be exported as a function may be equal to a type.
   pub export_there : (r : ComponentTypeRef) → FormedRef (scope_in own) r → OfferedRef own false r → has_export own ≡ true
   export_there (to.Module i) f o = module_there (place_there false (to.Module i) f o)
   export_there (to.TypeEq i) f o = equal_there (place_there false (to.TypeEq i) f o)
@@ -192,7 +192,7 @@ module _ (config : Config) (own : Marked) (totals : RefTotals) (for_import for_t
       → IsAllowed config own totals for_import for_type_def r → ref_kinds config own totals for_import for_type_def ≡ [] → ⊥
   ref_not_none r formed offered room allowed none = among_none none (kind_read r [] formed offered room allowed)
 
--- An import of a function where it can be of nothing else: its kind is no choice.
+-- An import of a function where it can be of nothing else: its kind is not a choice.
 
 none_there : (xs : List ℕ) (b : Bool) → xs ≡ [] → (nat_lt 0 (length xs) && b) ≡ false
 none_there xs b e = ap (λ ys. nat_lt 0 (length ys) && b) e
@@ -259,7 +259,7 @@ scope_there of scopes count i x h =
     let there = get_mapped scope_in scopes count at.0 at.1 in
     (there.0, there.1, subst (λ s. slice_get (of s) i ≡ Some x) there.2 at.2)
 
--- how many stand in a scope
+-- how many are in a scope
 abbrev pub IsFew : Marked → Type 0
 IsFew s = length s.types + length s.core_types ≤ 2 ^ 64
 
@@ -269,7 +269,7 @@ few_at (x ∷ xs) zero s all h = let same : x ≡ s = cc in subst IsFew same all
 few_at (x ∷ xs) (suc k) s all h = few_at xs k s all.1 h
 
 module _ (scopes : List Marked) (fit : Fit scopes) where
-  -- what stands at a place of a scope
+  -- what is at a place of a scope
   alias_read : (count : ℕ) (place : Marked → ℕ) (s : Marked) (d : FullDecl) (rest : List ℕ) → slice_get scopes count ≡ Some s
       → slice_get (aliases_of count s) (place s) ≡ Some d → ReadsAlias scopes (script_alias scopes count place ++ rest) d rest
   alias_read count place s d rest stands named =
@@ -320,7 +320,7 @@ module _ (scopes : List Marked) (fit : Fit scopes) where
       alias_read count (λ s. length s.types + i) at.0 (g i e) rest at.1
       (get_right front back (length at.0.types + i) i (omega (arith, length-numbered f 0 at.0.types)) ∙ here)
 
-  -- what an outer alias names stands in a scope
+  -- what an outer alias names is in a scope
   pub alias_there : {A : Type 0} (of : Scope → List A) → ((s : Scope) → length (of s) ≤ length s.types + length s.core_types) → (count i : ℕ) (x : A)
       → in_scope of (scopes_in_marked scopes) count i ≡ Some x → nat_lt 0 (length (occupied scopes)) ≡ true
   alias_there of within count i x h =

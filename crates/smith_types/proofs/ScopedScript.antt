@@ -83,7 +83,7 @@ record Sayable (importing : Bool) (is es : List (List ℕ × Unit {0})) : Type 0
   exports : Kebabs es
   own : importing ≡ false → is ≡ []
 
--- a scope in which no more stands than so many turns gave
+-- a scope that has no more entries than that many turns added
 abbrev pub Holding : ℕ → Marked → Type 0
 Holding n own = length own.types + length own.core_types ≤ n
 
@@ -101,7 +101,7 @@ after_holding outer n own (export_decl name u r) h =
     let more = exported_type (scope_in own) r in
     omega (arith, h, length-append own.types (option_to_list more), one_at_most more)
 
--- an import of no type that is equal to another, and an export, may always be had within a type
+-- an import of no type that is equal to another, and an export, are always allowed within a type
 import_allowed : (config : Config) (own : Marked) (r : ComponentTypeRef) → is_type_eq r ≡ false → IsAllowed config own uncounted true true r
 import_allowed config own (to.Module i) e = refl
 import_allowed config own (to.TypeEq i) e = absurd (cc)
@@ -117,7 +117,7 @@ export_allowed config own (to.Component i) = refl
 export_allowed config own (to.Instance i) = refl
 
 module _ (config : Config) where
-  -- what stands after the choice of what is declared
+  -- what follows the choice of what is declared
   declares_read : (importing : Bool) (outer : List Marked) (own : Marked) (i : DeclarationItem) (said rest : List ℕ) (P : List ℕ → Type 0)
       → P (script_no_import importing own ++ (script_declaration_item config outer own i ++ (said ++ rest)))
       → P ((script_declares config importing own outer i ++ said) ++ rest)

@@ -67,7 +67,7 @@ use Rattle.std.proofs.lemmas.Bool.{and_from, lt-ltb}
 small_label : (count : ℕ) (n : List ℕ) → Kebab n → Small (script_label count n)
 small_label count n kebab = small_new 100 count n (omega arith) kebab
 
--- members whose scripts are bytes however many stand before them
+-- members whose scripts are bytes however many precede them
 small_members : {A : Type 0} (f : ℕ → A → List ℕ) (P : A → Type 0) → ((count : ℕ) (x : A) → P x → Small (f count x)) → (min max : ℕ) (xs : List A)
     → AllByRecursion P xs → Small (script_members f min max xs)
 small_members {A} f P one min max xs all = small_loop f (λ count x. count + 1) min max 0 0 xs (each 0 xs all)
@@ -76,7 +76,7 @@ small_members {A} f P one min max xs all = small_loop f (λ count x. count + 1) 
     each count [] all = tt
     each count (x ∷ xs) all = (one count x all.0, each (count + 1) xs all.1)
 
--- what stands after names
+-- what follows names
 small_named : {B : Type 0} (f : B → List ℕ) (P : B → Type 0) → ((x : B) → P x → Small (f x)) → (min max : ℕ) (xs : List (List ℕ × B))
     → AllByRecursion Kebab (map (λ x. x.0) xs) → AllByRecursion (λ x. P x.1) xs
     → Small (script_members (λ count x. script_label count x.0 ++ f x.1) min max xs)
@@ -170,7 +170,7 @@ small_ref config own totals for_import for_type_def few r formed offered =
 pub small_extern : (count : ℕ) (name : List ℕ) → Kebab name → Small (script_extern count name)
 small_extern count name kebab = small_join (small_label count name kebab) (small_more 0 (omega arith) small_none)
 
--- what an outer alias names, by where it stands among what the scope holds
+-- what an outer alias names, by where it is among what the scope holds
 small_alias : {A : Type 0} (of : Scope → List A) (place : Marked → ℕ) (scopes : List Marked) → Fit scopes → (count i : ℕ) (x : A)
     → in_scope of (scopes_in_marked scopes) count i ≡ Some x → ((s : Marked) → i < length (of (scope_in s)) → place s < length s.types + length s.core_types)
     → Small (script_alias scopes count place)

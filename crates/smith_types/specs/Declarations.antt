@@ -1,4 +1,4 @@
--- How the declarations of component types and instance types are read, but for the types in them.
+-- How the declarations of component types and instance types are read, except for the types in them.
 use Rattle.std.specs.Prelude.{◌≡◌, ℕ, ◌<◌, Bool, true, false, List, [], ◌∷◌, ◌++◌, drop, codes, slice_get, Option, Some, None}
 use Rattle.std.specs.List.{flat_map}
 use Rattle.smith_input.specs.Choices.{ReadsAmong}
@@ -26,11 +26,11 @@ pub record SoFar : Type 0 where
 abbrev pub nothing_so_far : List Marked → SoFar
 nothing_so_far outer = record { own = empty_marked (first_marked outer).keeps; imports = []; exports = [] }
 
--- with one declaration more
+-- with one more declaration
 abbrev pub after_one : List Marked → SoFar → FullDecl → SoFar
 after_one outer s d = record { own = marked_after d outer s.own; imports = s.imports ++ import_of d; exports = s.exports ++ export_of d }
 
--- what stands in a URL after the host
+-- what follows the host in a URL
 abbrev pub url_name : Option (List ℕ) → List (List ℕ)
 url_name None = []
 url_name (Some url) = drop 20 url ∷ []
@@ -60,7 +60,7 @@ pub record ReadsAlias (scopes : List Marked) (bytes : List ℕ) (d : FullDecl) (
   pub names : ReadsAmong (aliases_of count scope) mid d rest
 
 -- No import is declared: in an instance type; and in a component type where there is nothing to name, where the choice of four does
--- not ask for an import, and where it does but none can be had.
+-- not ask for an import, and where it does but none is possible.
 pub data NoImportDecl (config : Config) (importing : Bool) (own : Marked) : List ℕ → List ℕ → Type 0 where
   in_instance : {bytes : List ℕ} → importing ≡ false → NoImportDecl config importing own bytes bytes
   nothing_there : {bytes : List ℕ} → importing ≡ true → has_reference own ≡ false → NoImportDecl config importing own bytes bytes

@@ -1,4 +1,4 @@
--- How types are read: the bytes and the fuel give the type, and leave the rest and what is left of the fuel.
+-- How types are read: the bytes and the fuel determine the type, and leave the rest and what is left of the fuel.
 use Rattle.std.specs.Prelude.{◌≡◌, ℕ, ◌+◌, ◌-◌, ◌<◌, Bool, true, false, List, [], ◌∷◌, ◌++◌, map, length, Option, Some, None}
 use Rattle.std.specs.Option.{option_to_list}
 use Rattle.smith_input.specs.Choices.{ReadsAmong}
@@ -23,8 +23,8 @@ use Rattle.smith_syntax.specs.declared.types.ComponentValType.TheVariants.{Primi
 use Rattle.smith_syntax.specs.declared.types.PrimitiveValType.{PrimitiveValType}
 use Rattle.smith_syntax.specs.declared.types.PrimitiveValType.TheVariants as prim
 
--- A value type is a primitive one where the scope has no defined types. Else it is a choice of two: a primitive one, or one of
--- the defined types of the scope, by its index.
+-- A value type is a primitive one where the scope has no defined types. Otherwise it is a choice of two: a primitive one, or one of the
+-- defined types of the scope, by its index.
 pub data ReadsVal (own : Marked) : List ℕ → ComponentValType → List ℕ → Type 0 where
   only_primitive : {bytes : List ℕ} {p : PrimitiveValType} {rest : List ℕ} → value_places own ≡ [] → ReadsAmong primitives bytes p rest
       → ReadsVal own bytes (Primitive p) rest
@@ -56,7 +56,7 @@ pub record ReadsMember {A : Type 0} (Member : List A → List ℕ → A → List
 abbrev pub ReadsMembers : {A : Type 0} → (List A → List ℕ → A → List ℕ → Type 0) → ℕ → ℕ → List ℕ → ℕ → List A → List ℕ → ℕ → Type 0
 ReadsMembers Member min max bytes fuel xs rest left = Loop IsSpent (ReadsMember Member) min max 0 ([], fuel) bytes xs rest (xs, left)
 
--- A member with a name, and what stands after that. The name is new among those of the members so far.
+-- A member with a name, and what follows that. The name is new among those of the members so far.
 pub record ReadsNamed {B : Type 0} (After : List ℕ → B → List ℕ → Type 0) (so_far : List (List ℕ × B)) (bytes : List ℕ) (x : List ℕ × B)
     (rest : List ℕ) : Type 0 where
   pub mid : List ℕ
@@ -68,7 +68,7 @@ abbrev pub or_bool : {A : Type 0} → (List A → DefValType) → List A → Def
 or_bool of [] = primitive_type prim.Bool
 or_bool of (x ∷ xs) = of (x ∷ xs)
 
--- a type of one member at least, and at most so many
+-- a type of one member at least, and at most that many
 abbrev pub MadeMembers : {A : Type 0} → (List A → List ℕ → A → List ℕ → Type 0) → ℕ → (List A → DefValType) → List ℕ → ℕ → DefValType → List ℕ → ℕ → Type 0
 MadeMembers {A} Member max of b fuel t rest left = (xs : List A) × ReadsMembers Member 1 max b fuel xs rest left × (t ≡ or_bool of xs)
 
@@ -105,8 +105,8 @@ pub record MadeFunction (own : Marked) (bytes : List ℕ) (fuel : ℕ) (s : Sign
   pub gives : ReadsResult own mid held s.result rest left
 
 mutual
-  -- A type takes one from the fuel. Where none is left then it is a defined type; else its kind is a choice of four. The declarations of
-  -- a component type and of an instance type stand in a scope of their own.
+  -- A type takes one from the fuel. Where none is left then it is a defined type; otherwise its kind is a choice of four. The
+  -- declarations of a component type and of an instance type are in a scope of their own.
   pub data Made (config : Config) : Marked → List Marked → List ℕ → ℕ → FullEntry → List ℕ → ℕ → Type 0 where
     spent_type : {own : Marked} {outer : List Marked} {bytes rest : List ℕ} {fuel left : ℕ} {t : DefValType} {e : FullEntry} → fuel - 1 ≡ 0
         → MadeDefined own bytes 0 t rest left → e ≡ defined t → Made config own outer bytes fuel e rest left
@@ -157,7 +157,7 @@ mutual
         → MadeDeclarations config importing outer (done + 1) (after_one outer s d) low held ds rest left
         → MadeDeclarations config importing outer done s bytes fuel (then_decls d ds) rest left
 
--- the same as a plain tree, whatever is left of the fuel
+-- the same as a plain tree, regardless of what is left of the fuel
 pub record MadeWith (config : Config) (own : Marked) (outer : List Marked) (fuel : ℕ) (bytes : List ℕ) (e : Entry) (rest : List ℕ) : Type 0 where
   pub full : FullEntry
   pub left : ℕ

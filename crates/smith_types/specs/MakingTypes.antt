@@ -104,7 +104,7 @@ IsAliased scopes (export_decl name n r) = ⊥
 abbrev pub IsMarkOf : List Contents → FullEntry → Mark → Type 0
 IsMarkOf scopes e m = (own_marked scopes).keeps ≡ true → m ≡ mark e (own_marked scopes) (outer_marked scopes)
 
--- There are at most so many types and core types.
+-- There are at most that many types and core types.
 pub record HasAtMost (n : ℕ) (own : Marked) : Type 0 where
   pub types : length own.types ≤ n
   pub core_types : length own.core_types ≤ n
@@ -138,7 +138,7 @@ pub record AddsDeclaration (config : Config) (scopes next : List Contents) (so_f
   pub defs : defs_in new ≡ defs_in old ++ added ∷ []
   pub of : is_importing new ≡ is_importing old
 
--- A loop of declarations after so many turns: what completes the declarations from here completes all of them.
+-- A loop of declarations after that many turns: what completes the declarations from here completes all of them.
 pub record Progress (config : Config) (importing : Bool) (outer : List Marked) (start : List ℕ) (first_fuel done : ℕ) (scopes : List Contents)
     (declared : TypeBody) (bytes : List ℕ) (fuel : ℕ) : Type 0 where
   pub so_far : SoFar

@@ -1,4 +1,4 @@
--- How it is read what an import or an export is of.
+-- How a reference is read, which is what an import or an export is of.
 use Rattle.std.specs.Prelude.{◌≡◌, ℕ, Bool, true, false, List, [], Option, Some, None}
 use Rattle.smith_input.specs.Choices.{ReadsAmong}
 use Rattle.smith_format.specs.declared.config.Config.{Config}
@@ -35,7 +35,7 @@ abbrev pub MaybeRef : Config → Marked → RefTotals → Bool → Bool → List
 MaybeRef config own totals for_import for_type_def b None rest = (ref_kinds config own totals for_import for_type_def ≡ []) × (rest ≡ b)
 MaybeRef config own totals for_import for_type_def b (Some r) rest = ReadsRef config own totals for_import for_type_def b r rest
 
--- what types have to be offered for, to be imported or exported as a kind: none as a module, which is no type
+-- what types have to be offered for, to be imported or exported as a kind: none as a module, which is not a type
 abbrev pub offer_of : RefKind → Bool → Option Offer
 offer_of kind.Module for_import = None
 offer_of kind.TypeEq for_import = Some offer.Equal

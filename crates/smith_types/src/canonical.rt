@@ -45,7 +45,7 @@ fn flat_params(alloc: Global, params: &[(String, ComponentValType)]) -> Result<V
 }
 
 /// The core function type that a scalar function type flattens to: a core value type for each parameter, and one for
-/// the result. It refuses for want of memory alone.
+/// the result. It fails only when out of memory.
 pub fn canonical_abi_for(
     alloc: Global,
     func: &FuncType,
@@ -91,7 +91,7 @@ fn lifted_params(
 
 /// A function type that flattens to a core function type, of which all parameters and the one result are i32, i64, f32
 /// or f64. For each parameter it reads a name in kebab case that none before it has, and a choice among the primitives
-/// that flatten to the parameter's type; then a choice for the result. It refuses for want of memory alone.
+/// that flatten to the parameter's type; then a choice for the result. It fails only when out of memory.
 pub fn inverse_scalar_canonical_abi_for(
     alloc: Global,
     u: &mut Unstructured,
@@ -101,7 +101,7 @@ pub fn inverse_scalar_canonical_abi_for(
     ensures reads { IfOk result (λ f. ReadsLiftedType (shown_func core.now) u.old f u.new) }
     ensures flattens { IfOk result (λ f. Flattens f (shown_func core.now)) }
     ensures named { IfOk result (λ f. Named (map (λ p. p.0) f.params)) }
-    // The script of a function type that flattens to the core function type gives that type.
+    // The script of a function type that flattens to the core function type produces that type.
     ensures script { (s : Signature) (rest : List ℕ) → Flattens s (shown_func core.now)
         → Named (map (λ p. p.0) s.params) → AreReadableNames (map (λ p. p.0) s.params)
         → u.old ≡ script_lifted s ++ rest

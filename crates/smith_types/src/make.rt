@@ -41,15 +41,15 @@ use std::rc::Rc;
 
 /// A type in these scopes, which takes fuel: one for itself, one for each turn of a loop over its members or
 /// declarations, and as much again for each type and core type in it. Where fuel is left at first, a choice of four
-/// kinds is read: a defined type, and that of a function, a component or an instance. Else it is a defined type.
+/// kinds is read: a defined type, and that of a function, a component or an instance. Otherwise it is a defined type.
 ///
 /// A record, variant, tuple or enum has from 1 to 100 members and flags have from 1 to 32, or it is `bool` where it
 /// would have none; a function has at most 16 parameters; types of components and instances have at most 100
 /// declarations. Names within one type are in kebab case and distinct, and so are the names of its imports and those of
 /// its exports. Each outer alias keeps what it names. The type is well formed in the scopes, within the limits, and no
-/// larger than the fuel that it took; all that it names was offered. Its mark is answered beside it, which says
+/// larger than the fuel that it took; all that it names was offered. Its mark is returned beside it, which says
 /// something where marks are kept. Its own scopes nest one deeper than the last scope, or to `max_nesting_depth` where
-/// that is more. It refuses for want of memory alone. The scopes stay as they are, also after a refusal.
+/// that is more. It fails only when out of memory. The scopes stay as they are, also after a refusal.
 pub fn arbitrary_type(
     alloc: Global,
     u: &mut Unstructured,
@@ -73,7 +73,7 @@ pub fn arbitrary_type(
     ensures nesting { IfOk result (λ t. length scopes.old + nesting (shown_shared t.0)
         ≤ max (length scopes.old + 1) config.now.max_nesting_depth) }
     ensures size { IfOk result (λ t. size (shown_shared t.0) + fuel.new ≤ fuel.old) }
-    // The script of a type gives that type.
+    // The script of a type produces that type.
     ensures script { (e : Entry) (rest : List ℕ)
         → IsSayable config.now (own_marked scopes.old) (outer_marked scopes.old) fuel.old e
         → u.old ≡ script_type e config.now fuel.old (own_marked scopes.old) (outer_marked scopes.old) ++ rest

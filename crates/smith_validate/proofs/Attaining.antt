@@ -105,7 +105,7 @@ module _ (place : Id) (named : List Id) where
         inner = inner_both (ids ++ more) x.innermost y.innermost c.inner d.inner;
       }
 
--- A type is closed, and was added at the place, with so many scopes around it.
+-- A type is closed, and was added at the place, with that many scopes around it.
 module _ (inner count : ℕ) (scope : Id) (named more : List Id) (n : Sub more named) (depth : ℕ) (d : depth ≡ length scope) where
   outer_closed : (ids : List Id) (o : Outermost) → AttainsOuter (inner ∷ count ∷ scope) named ids o
       → AttainsOuter ((count + 1) ∷ scope) more ids (outer_outside o depth)

@@ -86,7 +86,7 @@ module _ (asks : Bool) (k : Known) (o : KeptBody) (b : Body) (outer : List FactS
   pub exported_before : (id : Id) → is_among (exported b) id ≡ true → IsBefore 0 place id
   exported_before id a = elim (among_cases (names_of b.imports) (names_of b.exports) id a) [ inl x ↦ imports_before id x | inr y ↦ exports_before id y ]
 
-  -- where there are more types of instances, and a type more perhaps
+  -- where there are more types of instances, and perhaps one more type
   pub role_moves : (new : List Exports) (next : Id) → Moves place next → IsGrown place table new → (r : Role) → IsRoleExactly table outer named asks r b
       → (own : FactScope) → id_at (own ∷ outer) ≡ next → (c : Body) → c.imports ≡ b.imports → c.exports ≡ b.exports → c.own ≡ own
       → IsRoleExactly new outer named asks r c

@@ -174,7 +174,7 @@ slice_seam : {A : Type 0} (xs : List A) (y : A) (ys : List A) → slice_get (xs 
 slice_seam [] y ys = refl
 slice_seam (x ∷ xs) y ys = slice_seam xs y ys
 
--- a type of instances more
+-- one more type of instances
 module _ (all : List InstanceType) (table : List Exports) (t : InstanceType) (x : Exports) (long : length all ≡ length table) where
   abbrev now : List InstanceType
   now = all ++ t ∷ []

@@ -132,7 +132,7 @@ last_same (z ∷ xs) (w ∷ ys) x y e =
     let r = last_same xs ys x y (let u : xs ++ x ∷ [] ≡ ys ++ y ∷ [] = cc in u) in
     (r.0, ap (λ v. v ∷ xs) h ∙ ap (λ vs. w ∷ vs) r.1)
 
--- with types of instances more, or none
+-- with more types of instances, or none
 
 pub body_now : (asks : Bool) (k : Known) (o : KeptBody) (b : Body) (outer : List FactScope) (names : List (List Id)) (table : List Exports)
     → IsBody asks k o b outer names table → IsBodyNow asks k o b outer names table
@@ -142,7 +142,7 @@ pub body_more : (asks : Bool) (k : Known) (o : KeptBody) (b : Body) (outer : Lis
     → IsBodyNow asks k o b outer names (table ++ more) → IsBodyNow asks k o b outer names table
 body_more asks k o b outer names table more h = (more ++ h.0, subst (λ t. IsBody asks k o b outer names t) (append_assoc table more h.0) h.1)
 
--- What was judged and what is left are the whole, where b stands before what is left.
+-- What was judged and what is left are the whole, where b precedes what is left.
 pub record DeclsLeft (asks : Bool) (own : FactScope) (outer : List FactScope) (names : List (List Id)) (table : List Exports) (all : Decls)
     (k : Known) (o : KeptBody)
     (rest : Decls) : Type 0 where

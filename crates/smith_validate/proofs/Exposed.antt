@@ -39,7 +39,7 @@ drop_none (x ∷ xs) (suc i) h = drop_none xs i h
 pub reverse_push : {A : Type 0} (xs ys : List A) (x : A) → ys ≡ xs ++ x ∷ [] → reverse ys ≡ x ∷ reverse xs
 reverse_push xs ys x e = ap reverse e ∙ reverse-append xs (x ∷ [])
 
--- what stands at a place of two lists
+-- what is at a place of two lists
 pub record Both {A B : Type 0} (R : A → B → Type 0) (xs : List A) (n : ℕ) (y : B) : Type 0 where
   pub item : A
   pub at : slice_get xs n ≡ Some item
@@ -255,7 +255,7 @@ module _ (table : List Exports) where
       elim (has m is)
       [ inl o ↦ i m o | inr e ↦ subst (λ k. (k < length table) × Within named (refers_of (externs_of table k))) (sym e) (h, w) ]
 
--- one number more
+-- one more number
 
 module _ (old new : Exposed) (n : ℕ) where
   gained : (a b : BTreeSet ℕ) (m : ℕ) → Updates nat_cmp a b n true → contains nat_cmp b m ≡ true → (contains nat_cmp a m ≡ true) ⊎ (m ≡ n)

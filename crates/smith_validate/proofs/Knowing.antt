@@ -151,7 +151,7 @@ module _ (ks : List KeptFacts) (kept : List (List KeptFacts)) (all : List Instan
   abbrev here : Id
   here = id_at (own ∷ outer)
 
-  -- with a type more, where more is named and there are more types of instances
+  -- with one more type, where more is named and there are more types of instances
   pub known_push : (now : List InstanceType) (more : List Id) (new : List Exports) (k : KeptFacts) (f : Facts)
       → IsGrown here table new → AreExact now new → AreAdded (next_at own outer) new → length now ≡ length new
       → Names here (named ++ names_in table) (more ++ names_in new)

@@ -371,7 +371,7 @@ module _ (table : List Exports) where
         half = half_more us named h.3;
       }
 
--- one number more in a set
+-- one more number in a set
 module _ (a b : BTreeSet ℕ) (n : ℕ) (u : Updates nat_cmp a b n true) where
   pub set_has : contains nat_cmp b n ≡ true
   set_has = u.1

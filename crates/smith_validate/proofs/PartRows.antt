@@ -127,7 +127,7 @@ exports_row outer = record {
   none = λ d at. tt;
 }
 
--- Parts. What stands behind all of them is not asked.
+-- Parts. What follows all of them is not asked.
 abbrev pub parts_row : List FactScope → Row Part At
 parts_row outer = record {
   valid = λ d ps at. ValidParts (demanded d) (tree_of ps) at.0 outer at.1;

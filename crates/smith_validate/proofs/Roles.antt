@@ -29,7 +29,7 @@ use Rattle.smith_validate.proofs.Covering.{above_left, above_right, covers_both,
 use Rattle.smith_validate.proofs.Names.{Sub, names_append, sub_both, sub_left, sub_right, sub_same, sub_then, within_sub}
 use Rattle.smith_validate.proofs.Tables.{externs_in_more, follow_more, follow_sub, rest_more, rest_sub, settled_more, table_push}
 
--- what is kept is of what is imported and exported alone
+-- what is kept is only of what is imported and exported
 pub role_of : (table : List Exports) (names : List (List Id)) (asks : Bool) (r : Role) (b c : Body) → b.imports ≡ c.imports → b.exports ≡ c.exports
     → IsRole table names asks r b → IsRole table names asks r c
 role_of table names asks (Names s) b c i e h = (
@@ -72,7 +72,7 @@ role_fresh table names asks (Exporting x) h = (
   record { outside = []; pieces = []; externs_are = refl; uses_are = h.2; follow = tt; covered = tt; rest = λ a. tt; none = λ a. refl },
 )
 
--- Pieces behind others.
+-- Pieces after others.
 module _ (table : List Exports) where
   pub externs_append : (ps qs : List Piece) → externs_in table (ps ++ qs) ≡ externs_in table ps ++ externs_in table qs
   externs_append [] qs = refl

@@ -6,7 +6,7 @@ use Rattle.smith_validate.specs.Judges.{Refutes}
 use Rattle.smith_validate.specs.declared.error.Stop.{Stop}
 use Rattle.smith_validate.proofs.Judging.{Same, refute_by}
 
--- How entries in a row are judged: each by what stands before it, which it adds to; with names or without.
+-- How entries in a row are judged: each by what precedes it, which it adds to; with names or without.
 pub record Row (B St : Type 0) : Type 1 where
   pub valid : Bool → List B → St → Type 0
   pub after : List B → St → St
@@ -16,7 +16,7 @@ pub record Row (B St : Type 0) : Type 1 where
   pub step : (x : B) (rest : List B) (s : St) → after (x ∷ rest) s ≡ after rest (next x s)
   pub none : (d : Bool) (s : St) → valid d [] s
 
--- What was judged and what is left are the whole, where `at` stands before what is left and has the property.
+-- What was judged and what is left are the whole, where `at` precedes what is left and has the property.
 pub record RowLeft {B St : Type 0} (r : Row B St) (start : St) (all : List B) (T : St → Type 0) (rest : List B) : Type 0 where
   pub at : St
   pub is : T at

@@ -69,7 +69,7 @@ with_core_one own f = ap (λ ns. record { types = map (λ g. capped g.size) own.
 pub count_none : (c : Counts) → c ≡ with_type_count c 0
 count_none c = let e : c.types ≡ c.types + 0 = omega arith in ap (λ n. record c { types = n }) e
 
--- the scopes are what they were, but for what is named
+-- the scopes are what they were, except for what is named
 
 reach_equal : (table : List Exports) (i : Option ℕ) (id : Id) (f : Facts) → reach_of table i f ≡ reach_of table i (equal_facts id f)
 reach_equal table None id f = refl
@@ -118,7 +118,7 @@ module _ (table : List Exports) (here there : List Id) (names : List (List Id)) 
           subst (λ b. Covers (there ∷ names) (if b then named_needs (length names) else k.needs) (if f.nominal then id ∷ [] else f.refers))
           (sym i.nominal_is) (of_sort f.nominal refl)
 
--- a type more, or none
+-- one more type, or none
 module _ (k : Known) (own : FactScope) (outer : List FactScope) (here there : List Id) (names : List (List Id)) (table : List Exports)
     (s : IsIn k own outer here names table) (sub : Sub here there) where
   pub in_none : (fs : List Facts) → fs ≡ [] → IsIn k (with_types own fs) outer there names table
@@ -176,7 +176,7 @@ module _ (own : FactScope) (outer : List FactScope) (i : ℕ) where
   pub named_one : (f : Facts) → slice_get own.types i ≡ Some f → names_of (externs_at own outer (to.TypeEq i)) ≡ id_at (own ∷ outer) ∷ []
   named_one f e = ap (λ o. names_of (map (equal_extern (id_at (own ∷ outer))) (option_to_list o))) e
 
--- What is no type adds none.
+-- What is not a type adds none.
 pub none_exported : (own : FactScope) (outer : List FactScope) (r : ComponentTypeRef) → ((i : ℕ) → r ≡ to.TypeEq i → ⊥) → exported_facts own outer r ≡ []
 none_exported own outer (to.Module i) h = refl
 none_exported own outer (to.Func i) h = refl

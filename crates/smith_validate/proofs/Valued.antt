@@ -17,7 +17,7 @@ use Rattle.smith_validate.specs.declared.facts.Facts.{Facts as KeptFacts}
 use Rattle.smith_validate.specs.declared.facts.Needs.{Needs}
 use Rattle.smith_validate.proofs.Covering.{covers_both, covers_unnamed}
 
--- what stands beside an item
+-- what is beside an item
 pub record Beside {A B : Type 0} (R : A → B → Type 0) (x : A) (ys : List B) (i : ℕ) : Type 0 where
   pub item : B
   pub at : slice_get ys i ≡ Some item

@@ -71,7 +71,7 @@ pub record IsBody (asks : Bool) (k : Known) (o : Kept) (b : Body) (outer : List 
   pub small : IsSmall b
   pub role_is : IsRole table names asks o.role b
 
--- The same, with types of instances more.
+-- The same, with more types of instances.
 abbrev pub IsBodyNow : Bool → Known → Kept → Body → List FactScope → List (List Id) → List Exports → Type 0
 IsBodyNow asks k o b outer names table = (more : List Exports) × IsBody asks k o b outer names (table ++ more)
 

@@ -86,7 +86,7 @@ pub record IsKeptBody (asks : Bool) (k : Known) (r : Role) (b : Body) (outer : L
 abbrev pub IsBodyExactly : Bool → Known → KeptBody → Body → List FactScope → List Id → List Exports → Type 0
 IsBodyExactly asks k o b outer named table = IsKeptBody asks k o.role b outer named table
 
--- What is kept of a type that is to be added is exact, with types of instances more.
+-- What is kept of a type that is to be added is exact, with more types of instances.
 pub record IsDeclaredExactly (own : FactScope) (outer : List FactScope) (named : List Id) (table : List Exports) (k : Known) (kept : KeptFacts) (f : Facts)
     : Type 0 where
   pub new : List Exports
@@ -96,7 +96,7 @@ pub record IsDeclaredExactly (own : FactScope) (outer : List FactScope) (named :
   pub long : length k.instances.items ≡ length new
   pub is : IsKeptExactly new ((length own.types + 1) ∷ id_at outer) (named ++ names_in new) kept f
 
--- What is kept of what was declared in a type is exact, with types of instances more. Open scopes around it name these.
+-- What is kept of what was declared in a type is exact, with more types of instances. Open scopes around it name these.
 pub record IsJudgedExactly (asks : Bool) (k : Known) (o : KeptBody) (b : Body) (outer : List FactScope) (named : List Id) (table : List Exports) : Type 0 where
   pub new : List Exports
   pub grown : IsGrown (id_at outer) table new
@@ -107,7 +107,7 @@ pub record IsJudgedExactly (asks : Bool) (k : Known) (o : KeptBody) (b : Body) (
       → (is_among (names_in new) id ≡ true) ⊎ (IsOpen (id_at (b.own ∷ outer)) id × (length id ≡ length outer + 1))
   pub role_is : IsRoleExactly new outer named asks o.role b
 
--- The same with types of instances more, after that place.
+-- The same with more types of instances, after that place.
 pub record IsBodyExactlyNow (asks : Bool) (k : Known) (o : KeptBody) (b : Body) (outer : List FactScope) (named : List Id) (place : Id)
     (table : List Exports) : Type 0 where
   pub new : List Exports
@@ -148,6 +148,6 @@ IsRoleExported table outer named asks (Names s) b xs = (asks ≡ true) × AreSet
 IsRoleExported table outer named asks (Exporting e) b xs =
     (asks ≡ false) × AreExportsExactly table (id_at (b.own ∷ outer)) (id_at outer) ((names_of b.exports ++ named) ++ names_in table) e (b.exports ++ xs)
 
--- The same with types of instances more, and what was before is as it was.
+-- The same with more types of instances, and what was before is as it was.
 abbrev pub IsBodyExactlyAfter : Bool → Known → KeptBody → Body → List FactScope → List Id → List Exports → Type 0
 IsBodyExactlyAfter asks k o b outer named table = (more : List Exports) × IsBodyExactly asks k o b outer named (table ++ more)

@@ -44,7 +44,7 @@ module _ (table : List Exports) where
   named_after (Instance n) named = named ++ names_of (externs_of table n)
   named_after (Equal n) named = named
 
-  -- The same of exports of that type, one after another.
+  -- The same for exports of that type, one after another.
 
   abbrev pub Fit : Use → List Id → List Piece → Type 0
   Fit (Instance n) named ps = Follow table named ps

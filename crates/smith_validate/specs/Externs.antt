@@ -32,7 +32,7 @@ extern_of kept (to.TypeEq i) = option_map kept_extern (slice_get kept i)
 extern_of kept (to.Component i) = None
 extern_of kept (to.Instance i) = instance_of kept i
 
--- what is kept of the type that an export adds, in a scope with so many around it
+-- what is kept of the type that an export adds, in a scope with that many around it
 abbrev pub exported_of : List KeptFacts → ℕ → ComponentTypeRef → List KeptFacts
 exported_of kept depth (to.Module i) = []
 exported_of kept depth (to.Func i) = []
@@ -53,7 +53,7 @@ abbrev pub IsExtern : List Exports → List (List Id) → Option KeptExtern → 
 IsExtern table names None xs = xs ≡ []
 IsExtern table names (Some k) xs = IsPiece table names k xs
 
--- with imports or exports more
+-- with more imports or exports
 
 abbrev pub with_imports : Body → List Extern → Body
 with_imports b xs = record b { imports = b.imports ++ xs }

@@ -50,7 +50,7 @@ module _ (table : List Exports) where
   IsKnown (whole n) = n < length table
   IsKnown (equal n names) = n < length table
 
-  -- what it refers to, but for what types of instances name
+  -- what it refers to, except for what types of instances name
   abbrev pub reach : Piece → List Id
   reach (single x) = x.refers
   reach (whole n) = outside_of table n
@@ -67,7 +67,7 @@ module _ (table : List Exports) where
   Follow named [] = Unit {0}
   Follow named (p ∷ ps) = IsKnown p × Within named (reach p) × Follow (named ++ named_by p) ps
 
-  -- Each refers to these alone.
+  -- Each refers only to these.
   abbrev pub Rest : List Id → List Piece → Type 0
   Rest named [] = Unit {0}
   Rest named (p ∷ ps) = IsKnown p × Within named (reach p) × Rest named ps
@@ -93,7 +93,7 @@ IsTable all table = AllZip (IsInstanceType table) all table
 abbrev pub IsTableNow : List InstanceType → List Exports → Type 0
 IsTableNow all table = (more : List Exports) × IsTable all (table ++ more)
 
--- what a type refers to, but for what types of instances name
+-- what a type refers to, except for what types of instances name
 abbrev pub reach_of : List Exports → Option ℕ → Facts → List Id
 reach_of table None f = f.refers
 reach_of table (Some n) f = outside_of table n

@@ -4,7 +4,7 @@ use Rattle.smith_validate.specs.declared.error.Demand.TheVariants.{Named, Size, 
 use Rattle.smith_validate.specs.declared.error.Stop.{Stop}
 use Rattle.smith_validate.specs.declared.error.Stop.TheVariants.{OutOfMemory, Invalid}
 
--- A bound is passed.
+-- A bound is exceeded.
 abbrev pub IsPassed : Stop → Type 0
 IsPassed OutOfMemory = ⊥
 IsPassed (Invalid Named) = ⊥
@@ -13,7 +13,7 @@ IsPassed (Invalid Count) = Unit {0}
 IsPassed (Invalid Memories) = Unit {0}
 IsPassed (Invalid Tables) = Unit {0}
 
--- The fact does not hold, if a bound is passed.
+-- The fact does not hold, if a bound is exceeded.
 pub record Refutes (e : Stop) (P : Type 0) : Type 0 where
   pub is : IsPassed e → ¬ P
 

@@ -79,7 +79,7 @@ instance_facts refers size number = record { refers = refers; needs = unnamed_ne
 abbrev pub named_facts : KeptFacts → ℕ → KeptFacts
 named_facts f level = record f { needs = if f.nominal then named_needs level else f.needs }
 
--- What follows is what is kept stands for.
+-- What the values that are kept stand for.
 
 -- Each of the types is among those.
 abbrev pub Within : List Id → List Id → Type 0

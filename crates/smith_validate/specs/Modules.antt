@@ -33,7 +33,7 @@ pub record IsSmallModule (m : Module) : Type 0 where
   pub memories : m.memories ≤ 100
   pub tables : m.tables ≤ 100
 
--- It is with so much more.
+-- It is with that much more.
 pub record Fits (m : Module) (size memories tables : ℕ) : Type 0 where
   pub size_fits : m.size + size < size_bound
   pub memories_fit : m.memories + memories ≤ 100

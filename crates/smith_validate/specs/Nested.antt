@@ -10,7 +10,7 @@ use Rattle.smith_validate.specs.declared.body.Body.{Body as KeptBody}
 use Rattle.smith_validate.specs.declared.facts.Facts.{Facts as KeptFacts}
 use Rattle.smith_validate.specs.declared.known.Known.{Known}
 
--- What is kept of a type is of that, with types of instances more.
+-- What is kept of a type is of that, with more types of instances.
 pub record IsDeclared (table : List Exports) (names : List (List Id)) (k : Known) (kept : KeptFacts) (f : Facts) : Type 0 where
   pub more : List Exports
   pub instances_are : IsTable k.instances.items (table ++ more)
@@ -20,7 +20,7 @@ pub record IsDeclared (table : List Exports) (names : List (List Id)) (k : Known
 abbrev pub instance_plain : Id → Body → Facts
 instance_plain id b = record { id = id; nominal = false; refers = flat_map (λ x. x.refers) b.exports; size = b.size; exports = b.exports }
 
--- What is kept of what was declared in a type is of that, with types of instances more.
+-- What is kept of what was declared in a type is of that, with more types of instances.
 pub record IsJudged (asks : Bool) (k : Known) (o : KeptBody) (b : Body) (names : List (List Id)) (table : List Exports) : Type 0 where
   pub more : List Exports
   pub instances_are : IsTable k.instances.items (table ++ more)

@@ -37,7 +37,7 @@ IsNamedThen table (Instance n) ps named =
     (id : Id) → is_among (names_of (externs_of table n)) id ≡ true → is_among (named ++ names_of (externs_in table ps)) id ≡ true
 IsNamedThen table (Equal n) ps named = Unit {0}
 
--- The rest of a use that is open, of whose own uses so many are done. It is met if all is.
+-- The rest of a use that is open, of whose own uses that many are done. It is met if all is.
 pub record IsHalf (table : List Exports) (all : List InstanceType) (Goal : Type 0) (s : Exposed) (us : List (Use × ℕ)) (u : Use × ℕ) (named : List Id)
     (ps : List Piece) : Type 0 where
   pub uses_are : uses_in ps ≡ drop u.1 (uses_of all (number_of u.0))

@@ -13,6 +13,6 @@ pub record IsOpen (k : Known) (o : Open) (s : Spaces) (b : Body) (outer : List F
   pub body : IsBody true k o.body b outer names table
   pub functions_are : o.functions.items ≡ s.functions
 
--- The same, with types of instances more.
+-- The same, with more types of instances.
 abbrev pub IsOpenNow : Known → Open → Spaces → Body → List FactScope → List (List Id) → List Exports → Type 0
 IsOpenNow k o s b outer names table = (more : List Exports) × IsOpen k o s b outer names (table ++ more)

@@ -17,7 +17,7 @@ abbrev pub IsChild : Id → Id → Type 0
 IsChild around [] = ⊥
 IsChild around (k ∷ id) = id ≡ around
 
--- It is, or is within, a type that was added before the place to an open scope with at least so many around it.
+-- It is, or is within, a type that was added before the place to an open scope with at least that many around it.
 pub record IsBefore (level : ℕ) (place id : Id) : Type 0 where
   pub scope : Id
   pub count : ℕ

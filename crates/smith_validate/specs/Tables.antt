@@ -17,7 +17,7 @@ names_in table = flat_map (λ e. names_of e.externs) table
 abbrev pub IsLive : List Exports → ℕ → Type 0
 IsLive table n = ¬ (place_of table n ≡ [])
 
--- It is one of the first so many, and was added to a scope that is seen within that type.
+-- It is one of the first ones, that many, and was added to a scope that is seen within that type.
 pub record IsSeen (table : List Exports) (bound : ℕ) (around : Id) (n : ℕ) : Type 0 where
   pub scope : Id
   pub index : ℕ

@@ -87,7 +87,7 @@ impl Exported {
         Ok(())
     }
 
-    /// The type of instances, in a scope with so many around it: what its exports refer to beside what it names, and
+    /// The type of instances, in a scope with that many around it: what its exports refer to beside what it names, and
     /// the rest of it.
     pub(crate) fn close(self, depth: usize) -> (Needs, InstanceType)
         ensures refers { result.0 ≡ closed_needs self.refers depth }

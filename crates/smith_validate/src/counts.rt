@@ -28,7 +28,7 @@ pub(crate) struct Counts {
     pub(crate) exports: usize,
 }
 
-// One more, of at most so many.
+// One more, of at most that many.
 fn one_more(count: usize, most: usize) -> Result<usize, Stop>
     ensures bound { IfErr result IsUnnamed }
     ensures judged { Judges result (count + 1 ≤ most) }

@@ -43,7 +43,7 @@ pub enum Validity {
 /// Why a judgement stops.
 #[derive(Clone, Copy, Debug)]
 pub(crate) enum Stop {
-    /// A growth was refused.
+    /// An allocation failed.
     OutOfMemory,
     /// A demand is not met.
     Invalid(Demand),

@@ -17,7 +17,7 @@ pub(crate) fn size_sum(one: u32, other: u32) -> u32
 }
 
 /// Where types are named, the outermost of some: nowhere that is known, where one of them is declared alone; in the
-/// scope with so many around it; or, where there are none, nothing.
+/// scope with that many around it; or, where there are none, nothing.
 #[derive(Clone, Copy, Debug)]
 pub(crate) enum Outermost {
     Unnamed,
@@ -62,7 +62,7 @@ impl Outermost {
         }
     }
 
-    /// Without those that are named in scopes with more around them than so many, where all are named there or none.
+    /// Without those that are named in scopes with more around them than that many, where all are named there or none.
     pub(crate) fn outside(self, depth: usize) -> Outermost
         ensures { result ≡ outer_outside self depth }
     {
@@ -114,7 +114,7 @@ impl Needs {
         }
     }
 
-    /// A type that is named in the scope with so many around it.
+    /// A type that is named in the scope with that many around it.
     fn named(depth: usize) -> Needs
         ensures { result ≡ named_needs depth }
     {
@@ -189,7 +189,7 @@ impl Facts {
         }
     }
 
-    /// A type that is equal to it, named in the scope with so many around it.
+    /// A type that is equal to it, named in the scope with that many around it.
     pub(crate) fn named(self, depth: usize) -> Facts
         ensures { result ≡ named_facts self depth }
     {

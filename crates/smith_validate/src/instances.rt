@@ -78,7 +78,7 @@ impl Exposed {
         }
     }
 
-    /// Whether what a use is of refers to named types alone, where all is named that its scopes name. What an instance
+    /// Whether what a use is of refers only to named types, where all is named that its scopes name. What an instance
     /// exports is named from then on.
     pub(crate) fn meets(
         &mut self,
@@ -148,7 +148,7 @@ impl Exposed {
         }
     }
 
-    // Goes on with a use, of whose own uses so many are done, or ends it.
+    // Continues a use, of whose own uses that many are done, or ends it.
     fn goes_on(
         &mut self,
         all: &[InstanceType],

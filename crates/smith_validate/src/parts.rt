@@ -440,8 +440,8 @@ fn add_parts(
 }
 
 /// Judges whether a well formed component meets all that a validator asks beside: `Valid` where it does, or `Invalid`
-/// with the first demand that it does not meet and the place. An error is returned only where a growth was refused, and
-/// says nothing of the component.
+/// with the first demand that it does not meet and the place. An error is returned only where an allocation failed, and
+/// says nothing about the component.
 ///
 /// It is proved that what is `Valid` meets all demands, that what is `Invalid` for a bound does not keep all bounds,
 /// and that a well formed component that is `Invalid` for a name does not meet all demands.

@@ -171,7 +171,7 @@ impl Sets {
         check(self.exported.meets(alloc, all, used)?)
     }
 
-    // Names what an export of a component type names, if it may be exported. It is in a scope with so many around it.
+    // Names what an export of a component type names, if it may be exported. It is in a scope with that many around it.
     fn export(
         &mut self,
         alloc: Global,

@@ -1,4 +1,4 @@
--- What stands before a place in a component, a component type or an instance type, and what each entry there is.
+-- What is before a place in a component, a component type or an instance type, and what each entry there is.
 use Rattle.std.specs.Prelude.{ℕ, ◌+◌, ◌<◌, length, false, List, [], ◌∷◌, ◌++◌, map, None, Option, Some, slice_get, get_or}
 use Rattle.std.specs.List.{flat_map}
 use Rattle.std.specs.Option.{option_to_list}
@@ -26,14 +26,14 @@ empty_body = record { own = empty_scope; imports = []; exports = []; size = 1; c
 abbrev pub IsSmall : Body → Type 0
 IsSmall b = (b.size < size_bound) × ValidCounts b.counts
 
--- with types and core types more
+-- with more types and core types
 abbrev pub with_facts : Body → List Facts → Body
 with_facts b fs = record b { own = with_types b.own fs; counts = with_type_count b.counts (length fs) }
 
 abbrev pub with_core_facts : Body → List CoreFacts → Body
 with_core_facts b fs = record b { own = with_core_types b.own fs; counts = with_type_count b.counts (length fs) }
 
--- what stands in the scope of that count, innermost first
+-- what is in the scope of that count, innermost first
 abbrev pub named_in : {A : Type 0} → (FactScope → List A) → List FactScope → ℕ → ℕ → Option A
 named_in of scopes count i = elim (slice_get scopes count) [ None ↦ None | Some s ↦ slice_get (of s) i ]
 

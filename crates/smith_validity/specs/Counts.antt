@@ -25,7 +25,7 @@ pub record ValidCounts (c : Counts) : Type 0 where
 abbrev pub no_counts : Counts
 no_counts = record { types = 0; functions = 0; modules = 0; components = 0; instances = 0; imports = 0; exports = 0 }
 
--- with so many types, functions, modules or components more
+-- with that many more types, functions, modules or components
 
 abbrev pub with_type_count : Counts → ℕ → Counts
 with_type_count c n = record c { types = c.types + n }
@@ -39,7 +39,7 @@ with_module c = record c { modules = c.modules + 1 }
 abbrev pub with_component : Counts → Counts
 with_component c = record c { components = c.components + 1 }
 
--- with what is imported or exported more
+-- with what else is imported or exported
 abbrev pub with_reference : Counts → ComponentTypeRef → Counts
 with_reference c (to.Module i) = with_module c
 with_reference c (to.Func i) = with_function c

@@ -68,7 +68,7 @@ after_part (canons fs) s outer b = fold after_canon b fs
 after_part (imports is) s outer b = fold (after_import outer) b (imported_references is)
 after_part (exports es) s outer b = fold (after_export outer) b (exported_references s es)
 
--- Core types and canonical functions in a row: each is judged where those before it stand.
+-- Core types and canonical functions in a row: each is judged after those before it.
 
 abbrev pub ValidCores : List CoreEntry → Body → Type 0
 ValidCores [] b = Unit {0}
@@ -148,6 +148,6 @@ Validates = ValidTree RefersTo
 abbrev pub NoDemand : List Id → List Extern → Type 0
 NoDemand named xs = Unit {0}
 
--- The bounds are kept, whatever is named.
+-- The bounds are kept, regardless of what is named.
 abbrev pub IsBounded : Tree → Type 0
 IsBounded = ValidTree NoDemand

@@ -26,7 +26,7 @@ pub fn tuples_need_what_they_are_made_of()
     ensures { ¬ Validates imports_function_of_tuple }
 {}
 
-/// A type that is exported is named for exports, under its new index alone.
+/// A type that is exported is named for exports, only under its new index.
 pub fn exports_name_the_new_type()
     ensures named { Validates exports_function_of_named_enum }
     ensures declared { ¬ Validates exports_function_of_unnamed_enum }

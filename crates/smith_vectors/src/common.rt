@@ -37,7 +37,7 @@ pub fn check_holds<R: Abort>(rt: &R, name: &str, holds: bool) {
     assert!(rt; holds, "{name}");
 }
 
-/// Both answers to this input are equal.
+/// Both results for this input are equal.
 pub fn check_equal<R: Abort>(rt: &R, name: &str, input: &[u8], first: &[u8], second: &[u8]) {
     assert_eq!(rt; first, second, "{name}: {input:?}");
 }

@@ -38,8 +38,8 @@ fn three_types(alloc: Global) -> Result<Scopes, Fail> {
     Ok(scopes)
 }
 
-// The type that the input gives in the scopes of three types, with fuel of 10. The scopes are as before, and that much
-// fuel and one byte are left.
+// The type that the input produces in the scopes of three types, with fuel of 10. The scopes are as before, and that
+// much fuel and one byte are left.
 fn made<R: Abort + AllocGlobal>(rt: &R, input: &[u8], fuel_left: u32) -> Result<Rc<DefType>, Fail> {
     let config = small_limits();
     config.check()?;

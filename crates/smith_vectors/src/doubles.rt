@@ -1,10 +1,11 @@
-//! Readers and writers that count their calls, give and take little at a time, and fail at the call that is asked for.
+//! Readers and writers that count their calls, return and take little at a time, and fail at the call that is asked
+//! for.
 
 use std::alloc::Global;
 use std::io;
 use std::io::{ErrorKind, Read, Write};
 
-/// Gives its bytes, at most so many a read, and fails from read number `fails_at` on. The first is number 1.
+/// Returns its bytes, at most that many a read, and fails from read number `fails_at` on. The first is number 1.
 #[derive(Drop)]
 pub struct Pieces<'a> {
     bytes: &'a [u8],
@@ -35,7 +36,7 @@ impl Read for Pieces<'_> {
     }
 }
 
-/// Takes at most so many bytes a write, and fails from call number `fails_at` on, a flush being a call too.
+/// Takes at most that many bytes a write, and fails from call number `fails_at` on, a flush being a call too.
 #[derive(Drop)]
 pub struct Sheet {
     most: usize,

@@ -52,7 +52,7 @@ enum Limit {
     MaxMemories,
 }
 
-// These limits, but for one of them.
+// These limits, except for one of them.
 fn with(mut config: Config, limit: Limit, value: usize) -> Config {
     match limit {
         Limit::MinTypes => config.min_types = value,

@@ -67,7 +67,7 @@ fn shape(parts: &ModuleParts) -> [usize; 8] {
     ]
 }
 
-// These parts came back as they were given, since they disagree.
+// These parts were returned as they were given, since they disagree.
 fn check_refused<R: Abort>(
     rt: &R,
     name: &str,

@@ -13,7 +13,7 @@ use std::test::Fail;
 // What each module begins with.
 const PREAMBLE: &[u8] = &[0x00, 0x61, 0x73, 0x6d, 0x01, 0x00, 0x00, 0x00];
 
-// One memory page, and no more said.
+// One memory page, and no maximum.
 pub const PAGE: MemoryType = MemoryType {
     minimum: 1,
     maximum: None,

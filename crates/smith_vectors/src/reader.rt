@@ -1,4 +1,4 @@
-//! What reads answer.
+//! What reads return.
 
 use crate::common::{check_bytes, check_count};
 use smith_input::{Unstructured, choose_offered};

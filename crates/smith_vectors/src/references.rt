@@ -1,4 +1,4 @@
-//! References to what stands in the last scope, and the kinds of what stands there.
+//! References to what is in the last scope, and the kinds of what is there.
 
 use smith_core::{Config, ValType};
 use smith_input::Unstructured;
@@ -89,7 +89,7 @@ const KIND_PLACES: &[(Kind, &[u32])] = &[
     (Kind::CoreFunc, &[1]),
 ];
 
-// Types of that kind stand in these places alone.
+// Types of that kind are only in these places.
 fn are_at<R: Abort>(rt: &R, scopes: &Scopes, kind: Kind, places: &[u32]) {
     assert_eq!(rt; scopes.kind_len(kind), places.len(), "{kind:?}");
     for (rank, place) in places.iter().enumerate() {
@@ -118,7 +118,7 @@ const FULL: RefTotals = RefTotals {
     instances: 4,
 };
 
-// Where a reference stands: in a component with these totals and that many types at most, or in a type.
+// Where a reference is: in a component with these totals and that many types at most, or in a type.
 #[derive(Clone, Copy)]
 struct Place<'a> {
     name: &'a str,
@@ -144,7 +144,7 @@ const IN_A_TYPE: Place<'static> = Place {
     ..IN_A_COMPONENT
 };
 
-// The limits that the full totals stand at.
+// The limits that the full totals are at.
 fn limits(max_types: usize) -> Config {
     Config {
         max_modules: 1,
@@ -156,7 +156,7 @@ fn limits(max_types: usize) -> Config {
     }
 }
 
-// The input is read there as that reference, and leaves so much.
+// The input is read there as that reference, and leaves that much.
 fn is_read<R: Abort + AllocGlobal>(
     rt: &R,
     place: Place<'_>,
@@ -209,7 +209,7 @@ fn imports_of_a_component_within_its_totals(rt: HostRuntime) -> Result<(), Fail>
 }
 
 // An export of a component may be of a type where the types are fewer than `max_types`, and the totals bind nothing.
-// The second item is then type equal, else function; each has the entry 1 of its kind or of the types.
+// The second item is then type equal, otherwise function; each has the entry 1 of its kind or of the types.
 #[test]
 fn exports_of_a_component(rt: HostRuntime) -> Result<(), Fail> {
     let rows = [
@@ -258,7 +258,7 @@ const UNREAD: &[(bool, &[Kind], Option<Ref>)] = &[
 
 const ONE_INSTANCE: &[Kind] = &[Kind::Defined, Kind::CoreFunc, Kind::Instance];
 
-// Each is read in that place, and so much is left.
+// Each is read in that place, and that much is left.
 fn are_read<R: Abort + AllocGlobal>(
     rt: &R,
     place: Place<'_>,

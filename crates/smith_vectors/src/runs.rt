@@ -1,4 +1,4 @@
-//! Runs of a filter: what no clause says of their answers, their messages, and faults of readers and writers.
+//! Runs of a filter: what no clause says of their results, their messages, and faults of readers and writers.
 
 use crate::doubles::{Pieces, Sheet};
 use smith_component::{Config, Error};
@@ -9,7 +9,7 @@ use std::test::Fail;
 
 const DEFINED_TYPE: &[u8] = &[3, 1, 0, 0, 6, 0, 0, 255];
 
-/// What a run within the default limits answers, and what is after a `*` that the writer held before.
+/// What a run within the default limits returns, and what is after a `*` that the writer held before.
 fn run_over<R: Read>(
     alloc: Global,
     reader: &mut R,

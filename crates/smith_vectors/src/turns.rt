@@ -42,7 +42,7 @@ fn components_nest_as_deep_as_they_may(rt: HostRuntime) -> Result<(), Fail> {
 }
 
 // A builder ends within as many turns as there are bytes and components may nest. Its component has the bytes that
-// `generate` gives, which begin with the preamble, and leaves the same.
+// `generate` returns, which begin with the preamble, and leaves the same.
 fn check_turns<R: Abort + AllocGlobal>(
     rt: &R,
     config: Config,

@@ -1,4 +1,4 @@
-//! Large components within a bounded stack, and in time that grows with the input alone.
+//! Large components within a bounded stack, and in time that grows only with the input.
 
 use crate::common::{PREAMBLE, check_bytes, check_count, check_holds};
 use smith_component::{Config, Unstructured, generate};
@@ -21,16 +21,16 @@ enum Large {
     // 999 components, each in the one before.
     Components,
     // Modules and components, at each depth. Modules that may have neither types nor memories read nothing. Each
-    // component is measured once, when it is finished, and not again at each depth that it stands at: a measure at each
-    // depth would make this take some 300 times as long. 1 MiB of such input took 42 times longer at a depth of 1000
-    // than at a depth of 2.
+    // component is measured once, when it is finished, and not again at each level of nesting: a measure at each depth
+    // would make this take some 300 times as long. 1 MiB of such input took 42 times longer at a depth of 1000 than at
+    // a depth of 2.
     Depths,
     // A component type without declarations is read from 01 02 00: more, component, no declaration. Each further one is
     // more, component, more, alias (0 of alias, core type) among the types of the one scope that has some, the last of
     // them, no more. The first is written in 2 bytes, each other in 41 01, 02 03 02 01 and the index, which takes one
     // byte up to 127, two up to 16,383, and then three. The section is full and asks for no more.
     TypesThatName,
-    // The same types, each in a section of its own: 03 before it, 00 behind it where the types are not full. Each
+    // The same types, each in a section of its own: 03 before it, 00 after it where the types are not full. Each
     // section is of 3 bytes and the type.
     SectionsThatName,
 }
@@ -75,7 +75,7 @@ impl Large {
     }
 }
 
-// Some bytes, and then others so many times.
+// Some bytes, and then others that many times.
 fn repeated(alloc: Global, first: &[u8], each: &[u8], times: u32) -> Result<Vec<u8>, AllocError> {
     let mut input = Vec::from_slice(alloc, first)?;
     for _ in 0..times {
@@ -84,7 +84,7 @@ fn repeated(alloc: Global, first: &[u8], each: &[u8], times: u32) -> Result<Vec<
     Ok(input)
 }
 
-// The place, below that many, as a choice among so many reads it.
+// The place, below that many, as a choice among that many reads it.
 fn push_place(input: &mut Vec<u8>, place: u32, count: u32) -> Result<(), AllocError> {
     if count > 65_536 {
         input.push(((place >> 16) & 0xff) as u8)?;
@@ -212,7 +212,7 @@ fn types_that_name_the_one_before_are_written_and_dropped(rt: HostRuntime) -> Re
     Ok(())
 }
 
-// A stack of scopes holds the types, each of which names the one before, and but for the last nothing else does.
+// A stack of scopes holds the types, each of which names the one before, and nothing else holds any but the last.
 #[test]
 fn scopes_of_a_hundred_thousand_types_are_dropped(rt: HostRuntime) -> Result<(), Fail> {
     let alloc = rt.alloc();
@@ -238,8 +238,8 @@ fn scopes_of_a_hundred_thousand_types_are_dropped(rt: HostRuntime) -> Result<(),
 }
 
 // Bool (01 00 00 00), and 999 types in one another: the first by 01 and its choice, each other by more, type (2 of
-// alias, core type, type) and the choice. Only alias and core type are offered to the last, which stands in the
-// thousandth scope. It has an alias of the one entry of the component, 999 scopes out, spelled e7 07.
+// alias, core type, type) and the choice. Only alias and core type are offered to the last, which is in the thousandth
+// scope. It has an alias of the one entry of the component, 999 scopes out, spelled e7 07.
 fn check_thousand_scopes<R: Abort + AllocGlobal>(
     rt: &R,
     choice: u8,

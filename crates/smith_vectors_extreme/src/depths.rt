@@ -13,7 +13,7 @@ fn around<R: Abort + AllocGlobal>(rt: &R, inner: &[u8]) -> Result<Vec<u8>, Fail>
     Ok(component)
 }
 
-// A type section of one type, with types nested so deep.
+// A type section of one type, with types nested that deep.
 fn nested_types<R: Abort + AllocGlobal>(rt: &R, tag: u8, levels: u32) -> Result<Vec<u8>, Fail> {
     let mut contents = Vec::new(rt.alloc());
     contents.push(1)?;

@@ -1,12 +1,12 @@
-//! Function types that a hasher with a known seed tells apart badly.
+//! Function types that a hasher with a known seed distinguishes badly.
 
 use smith_component::{Component, Config, Unstructured};
 use std::alloc::AllocError;
 use std::test::Fail;
 
 // Parameters come in pairs: a name and the rank of its type, and then the name of a parameter of type bool that is the
-// state of `FoldHasher` before it, so that it becomes zero. So function types that begin with the first pair have
-// the same hash, whatever the order of the pairs after it.
+// state of `FoldHasher` before it, so that it becomes zero. So function types that begin with the first pair have the
+// same hash, regardless of the order of the pairs after it.
 const FIRST: (&[u8; 8], u8, &[u8; 8]) = (b"amsxaaaa", 3, b"adir8z3q");
 
 const PAIRS: [(&[u8; 8], u8, &[u8; 8]); 8] = [
@@ -40,7 +40,7 @@ fn push_pair(input: &mut Vec<u8>, pair: &(&[u8; 8], u8, &[u8; 8])) -> Result<(),
     push_parameter(input, pair.2, 0)
 }
 
-// The place of an unused pair that has so many unused ones before it. It is used then.
+// The place of an unused pair that has that many unused ones before it. It is used then.
 fn take_unused(used: &mut [bool; 8], before: usize) -> usize {
     let mut skip = before;
     for place in 0..8 {

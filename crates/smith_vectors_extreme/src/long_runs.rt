@@ -7,7 +7,7 @@ use std::io;
 use std::io::Read;
 use std::test::Fail;
 
-/// Gives its bytes, at most so many a read, and counts its reads.
+/// Returns its bytes, at most that many a read, and counts its reads.
 #[derive(Drop)]
 struct Pieces<'a> {
     bytes: &'a [u8],
@@ -23,7 +23,7 @@ impl Read for Pieces<'_> {
     }
 }
 
-/// Gives one byte a read, never ends, and counts its reads.
+/// Returns one byte a read, never ends, and counts its reads.
 #[derive(Drop)]
 struct Endless {
     reads: usize,
@@ -36,7 +36,7 @@ impl Read for Endless {
     }
 }
 
-/// What a run within the default limits answers, and what it writes.
+/// What a run within the default limits returns, and what it writes.
 fn run_over<R: Read>(
     alloc: Global,
     reader: &mut R,

@@ -1,5 +1,5 @@
-//! Growths that are refused: each call returns `OutOfMemory` and leaves what it should, until there is enough memory,
-//! and then it returns what it always returns.
+//! Allocations that fail: each call returns `OutOfMemory` and leaves what it should, until there is enough memory, and
+//! then it returns what it always returns.
 
 use crate::common::{
     PREAMBLE, check_bytes, check_count, check_holds, check_out_of_memory, small_limits,
@@ -149,13 +149,13 @@ impl Whole {
     }
 }
 
-// The loans that are refused before there is one block of so many bytes. It takes eight bytes more, in steps of 16, and
-// 32 at least. Two growths would take two blocks.
+// The loans that are refused before there is one block of that many bytes. It takes eight bytes more, in steps of 16,
+// and 32 at least. Two allocations would take two blocks.
 fn loans_before(bytes: usize) -> usize {
     bytes.saturating_add(8).div_ceil(16).max(2)
 }
 
-// The bytes are written with one growth.
+// The bytes are written with one allocation.
 fn check_whole<R: Abort + AllocGlobal>(
     rt: &R,
     name: &str,
@@ -327,10 +327,10 @@ impl Written {
     }
 }
 
-// The allocator's smallest block has so many bytes, and what has fewer grows within it without a refusal.
+// The allocator's smallest block has that many bytes, and what has fewer grows within it without a refusal.
 const SMALLEST_BLOCK: usize = 24;
 
-// The room of a full buffer of the smallest block that has doubled once, or twice in one loan, to hold so many bytes.
+// The room of a full buffer of the smallest block that has doubled once, or twice in one loan, to hold that many bytes.
 fn doubled(bytes: usize) -> usize {
     if bytes <= 2 * SMALLEST_BLOCK {
         2 * SMALLEST_BLOCK

@@ -1,12 +1,12 @@
 //! Memory that runs out.
 //!
 //! A test takes all the memory that its process may have, and lends a little more of it to each try of a call, so that
-//! the call is refused its first growth, then a later one, until there is enough. What the allocator keeps between
-//! its own blocks is lent at each try and can't be taken away.
+//! its first allocation fails, then a later one, until there is enough. What the allocator keeps between its own blocks
+//! is lent at each try and can't be taken away.
 
 use std::alloc::{AllocError, Global};
 
-/// How many loans there are: the last is of all of a block but 16 bytes.
+/// How many loans there are: the last is of all but 16 bytes of a block.
 pub const LOANS: usize = 1024;
 
 /// What a loan is cut from, in bytes: more than any of the calls takes.
@@ -18,7 +18,7 @@ const STEP: usize = 16;
 /// How many blocks are taken at most.
 const MOST: usize = 1_000_000;
 
-/// All memory but what is lent.
+/// All memory except what is lent.
 #[derive(Drop)]
 pub struct Scarcity {
     alloc: Global,
@@ -74,7 +74,7 @@ impl Scarcity {
         }
     }
 
-    /// Takes back what is free, and lends 16 bytes more than before, those counted in with which the allocator keeps
+    /// Takes back what is free, and lends 16 bytes more than before, including those with which the allocator keeps
     /// account of a block.
     pub fn lend(&mut self) {
         self.take_small();
@@ -83,7 +83,7 @@ impl Scarcity {
         self.room = self.room.saturating_add(STEP);
     }
 
-    // Takes one block of this size, where it is to be had.
+    // Takes one block of this size, if one is free.
     fn take_one(&mut self, size: usize) {
         if let Ok(block) = Vec::with_capacity(self.alloc, size) {
             let _ = self.taken.push(block);

@@ -10,7 +10,7 @@ ghost use Rattle.smith_verdict.specs.Verdicts.{IsVerdict};
 
 use crate::verdict::Verdict;
 
-/// The bytes of a component that can be generated, as are those of which `generate` answers, are found well formed.
+/// The bytes of a component that can be generated, such as those that `generate` returns, are found well formed.
 pub fn generated_components_are_well_formed()
     ensures { (config : Config) (tree : Tree) (bytes : List ℕ) (found : Verdict) → IsConsistent config
         → CanBeGenerated config tree → Spells tree bytes → IsVerdict bytes found → found ≡ Verdict.WellFormed }

@@ -14,12 +14,13 @@ use std::fmt;
 
 /// What bytes are to a validator.
 ///
-/// As text: `valid`, or what is wrong and where, as `an import or an export is of a type that is not named at offset 25`.
+/// As text: `valid`, or what is wrong and where, such as
+/// `an import or an export is of a type that is not named at offset 25`.
 #[derive(Debug, PartialEq, Eq, Drop)]
 pub enum Validity {
     /// A component that is well formed and meets all demands.
     Valid,
-    /// A well formed component that does not: a demand that it does not meet, and the offset of the entry that does not.
+    /// A well formed component that does not: a demand that it does not meet, and the offset of that entry.
     Invalid {
         demand: Demand,
         offset: Option<usize>,
@@ -70,7 +71,7 @@ fn validity_of(
     }
 }
 
-/// What these bytes are to a validator. `Err` is returned only where a growth was refused, and says nothing of them.
+/// What these bytes are to a validator. `Err` is returned only where an allocation failed, and says nothing about them.
 pub fn validate(alloc: Global, bytes: &[u8]) -> Result<Validity, AllocError>
     ensures { IfOk result (IsValidity bytes.now) }
 {

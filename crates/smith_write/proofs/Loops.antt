@@ -22,11 +22,11 @@ module _ {A : Type 0} (f : A → Piece) where
   put_all : (xs : List A) (i : ℕ) (a b : Vec ℕ Global) → Put xs i a b → length xs ≤ i → Adds a b (each f xs)
   put_all xs i a b p h = subst (λ (q : List A). Adds a b (each f q)) (take_all i xs h) p.is
 
-  -- the last of a list after what stands in front of it, as its count
+  -- the last of a list after what precedes it, as its count
   pub loop_done : (xs : List A) (i : ℕ) {a b c : Vec ℕ Global} {front : Piece} → Adds a b front → Put xs i b c → length xs ≤ i → Adds a c (front ⊕ each f xs)
   loop_done xs i n p h = adds_then n (put_all xs i _ _ p h)
 
-  -- a member that can not be put
+  -- a member that cannot be put
   pub each_given_up : (xs : List A) (i : ℕ) (x : A) (e : Error) → i < length xs → x ≡ get_or xs i x → IsGivenUp e (f x) → IsGivenUp e (each f xs)
   each_given_up xs i x e h is d =
       subst (λ (q : Piece). IsGivenUp e q) (sym (each_at f xs i x h is)) (given_right (each f (take i xs)) (given_left (each f (drop (suc i) xs)) d))

@@ -9,7 +9,7 @@ use Rattle.smith_format.proofs.Steps.{framed_nothing}
 use Rattle.smith_write.specs.Writes.{Adds, IsGivenUp, Writes}
 use Rattle.smith_write.proofs.Writing.{given_right}
 
--- all that stands in a buffer that was empty
+-- all that is in a buffer that was empty
 pub whole : {a b : Vec ℕ Global} {p : Piece} → a.items ≡ [] → Adds a b p → p ≡ Some b.items
 whole {a} {b} {p} e g = sym (g.is ∙ ap (λ xs. Some xs ⊕ p) e ∙ left_nil p)
 

@@ -10,12 +10,12 @@ use Rattle.smith_format.specs.Piece.{Piece, ◌⊕◌}
 pub record Adds (old new : Vec ℕ Global) (p : Piece) : Type 0 where
   pub is : Some new.items ≡ Some old.items ⊕ p
 
--- A writer of the piece gives up with this error: what is too long has no encoding, and nothing else is refused but for want of memory.
+-- A writer of the piece fails with this error: what is too long has no encoding, and otherwise it fails only when out of memory.
 pub record IsGivenUp (e : Error) (p : Piece) : Type 0 where
   pub only : (e ≡ TooLong) ⊎ (e ≡ OutOfMemory)
   pub too_long : e ≡ TooLong → p ≡ None
 
--- A writer put the piece after what was there. After an error any bytes may stand in the buffer.
+-- A writer put the piece after what was there. After an error any bytes may be in the buffer.
 abbrev pub Writes : {A : Type 0} → Result A Error → Vec ℕ Global → Vec ℕ Global → Piece → Type 0
 Writes (Ok _) old new p = Adds old new p
 Writes (Err e) old new p = IsGivenUp e p

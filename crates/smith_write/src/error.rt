@@ -3,7 +3,7 @@
 /// Why a component is not written.
 #[derive(Debug, PartialEq, Eq, Drop, thiserror::Error)]
 pub enum WriteError {
-    /// A growth was refused.
+    /// An allocation failed.
     #[error("out of memory")]
     OutOfMemory,
     /// No bytes spell the component: a length or a count in it exceeds 4,294,967,295, an instance type in it imports

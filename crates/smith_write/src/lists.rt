@@ -11,7 +11,7 @@ use std::alloc::Global;
 pub(crate) trait Written {
     ghost piece: { Self → Piece };
 
-    /// Puts the piece. After an error any bytes may stand at the end of the buffer.
+    /// Puts the piece. After an error any bytes may be at the end of the buffer.
     fn put(&self, out: &mut Vec<u8>) -> Result<(), Error>
         ensures { Writes result out.old out.new (piece self.now) };
 }

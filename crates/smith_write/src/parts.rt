@@ -122,8 +122,8 @@ fn component_bytes(alloc: Global, nodes: &[PartNode]) -> Result<Vec<u8>, Error>
 
 /// The bytes that spell the component.
 ///
-/// It takes stack by the depth of the tree, and copies what stands in a section once for each section around it. A
-/// component that no bytes spell is refused with `NoEncoding`; nothing else is refused but for want of memory.
+/// It takes stack in proportion to the depth of the tree, and copies what is in a section once for each section around
+/// it. A component that no bytes spell is refused with `NoEncoding`; otherwise it fails only when out of memory.
 pub fn write(alloc: Global, tree: &ComponentTree) -> Result<Vec<u8>, WriteError>
     ensures written { IfOk result (λ b. Spells (shown_tree tree.now) b.items) }
     ensures refuses { IfErr result (λ e. e ≡ NoEncoding → component_text (shown_tree tree.now) ≡ None) }

@@ -1,5 +1,5 @@
-//! What is put at the end of a buffer by a writer that may take memory of its own. After an error any bytes may stand
-//! there. Whatever has no encoding is answered as too long.
+//! What is put at the end of a buffer by a writer that may take memory of its own. After an error any bytes may be
+//! there. What has no encoding is refused as too long.
 
 ghost use Rattle.smith_format.specs.Piece.{◌⊕◌, byte, bytes, sized, text, u};
 ghost use Rattle.smith_write.specs.Writes.{Writes};
@@ -9,28 +9,28 @@ use smith_format::{
 };
 use smith_input::Error;
 
-/// Puts a byte. Public for the crate above alone.
+/// Puts a byte. Public only for the crate above.
 pub fn put_byte(out: &mut Vec<u8>, value: u8) -> Result<(), Error>
     ensures { Writes result out.old out.new (byte value) }
 {
     write_byte(out, value)
 }
 
-/// Puts bytes as they are. Public for the crate above alone.
+/// Puts bytes as they are. Public only for the crate above.
 pub fn put_bytes(out: &mut Vec<u8>, contents: &[u8]) -> Result<(), Error>
     ensures { Writes result out.old out.new (bytes contents.now) }
 {
     write_bytes(out, contents)
 }
 
-/// Puts a text after its length. Public for the crate above alone.
+/// Puts a text after its length. Public only for the crate above.
 pub fn put_text(out: &mut Vec<u8>, name: &str) -> Result<(), Error>
     ensures { Writes result out.old out.new (text name.now) }
 {
     write_text(out, name)
 }
 
-/// Puts the encoding of a value. Public for the crate above alone.
+/// Puts the encoding of a value. Public only for the crate above.
 pub fn put_spelled<Format, T: Spelled<Format>>(out: &mut Vec<u8>, item: &T) -> Result<(), Error>
     ensures { Writes result out.old out.new (T.piece item.now) }
 {

@@ -1,6 +1,6 @@
 //! WebAssembly components from a fuzzer's bytes.
 //!
-//! The proved static library behind safe functions. What is unsafe here are its calls. It needs no `std`, but the
+//! The proved static library, wrapped in safe functions. Only its calls are unsafe. It needs no `std`, but the
 //! `malloc`, `realloc` and `free` of a C library.
 //!
 //! ```
@@ -34,7 +34,7 @@ impl Default for Limits {
     }
 }
 
-/// Limits that the first bytes of an input say.
+/// Limits that the first bytes of an input encode.
 #[derive(Clone, Copy, Debug, PartialEq, Eq)]
 #[non_exhaustive]
 pub struct SwarmLimits<'a> {
@@ -58,13 +58,13 @@ pub struct Generated {
 #[derive(Clone, Copy, Debug, PartialEq, Eq)]
 #[non_exhaustive]
 pub enum Refusal {
-    /// A minimum passes its maximum, a maximum 32 bits, or the nesting depth 1000.
+    /// A minimum exceeds its maximum, a maximum 32 bits, or the nesting depth 1000.
     InconsistentLimits,
     /// No more imports or functions of a minimum can be added.
     MinimumNotMet,
-    /// A core module is chosen, and `min_memories` passes `max_memories`.
+    /// A core module is chosen, and `min_memories` exceeds `max_memories`.
     ModuleRefused,
-    /// A length or a count in the bytes would pass 4,294,967,295.
+    /// A length or a count in the bytes would exceed 4,294,967,295.
     TooLong,
     /// Out of memory.
     OutOfMemory,
@@ -95,11 +95,11 @@ pub enum Verdict {
     WellFormed,
     /// A component that breaks a rule, in the entry of a section that begins at this offset.
     IllFormed { offset: Option<usize> },
-    /// No component of the grammar, or one whose scopes are nested more than 1001 deep, as was seen at this offset.
+    /// Not a component of the grammar, or one whose scopes are nested more than 1001 deep, as was found at this offset.
     Unread { offset: usize },
 }
 
-/// There was no memory for a check, which then says nothing of the bytes.
+/// Out of memory in a check, which then says nothing about the bytes.
 #[derive(Clone, Copy, Debug, PartialEq, Eq)]
 pub struct OutOfMemory;
 
@@ -115,15 +115,15 @@ impl core::error::Error for OutOfMemory {}
 #[derive(Clone, Copy, Debug, PartialEq, Eq)]
 #[non_exhaustive]
 pub enum NoScript {
-    /// A minimum passes its maximum, a maximum 32 bits, or the nesting depth 1000.
+    /// A minimum exceeds its maximum, a maximum 32 bits, or the nesting depth 1000.
     InconsistentLimits,
-    /// They are no component of the grammar, or one whose scopes are nested more than 1001 deep, as was seen at this
-    /// offset.
+    /// They are not a component of the grammar, or are one whose scopes are nested more than 1001 deep, as was found at
+    /// this offset.
     Unread { offset: usize },
     /// They are a component that breaks a rule. `check` knows in which entry.
     IllFormed,
-    /// No input produces them within the limits. What their script produces first differs at this offset, so far as
-    /// there is one.
+    /// No input produces them within the limits. What their script produces first differs at this offset, if there
+    /// is one.
     CannotBeGenerated { offset: Option<usize> },
     /// Out of memory.
     OutOfMemory,
@@ -150,12 +150,12 @@ impl core::error::Error for NoScript {}
 #[derive(Clone, Copy, Debug, PartialEq, Eq)]
 #[non_exhaustive]
 pub enum Unreduced {
-    /// A minimum passes its maximum, a maximum 32 bits, or the nesting depth 1000.
+    /// A minimum exceeds its maximum, a maximum 32 bits, or the nesting depth 1000.
     InconsistentLimits,
-    /// The bytes are no component of the grammar, or one whose scopes are nested more than 1001 deep. `check` knows
-    /// where.
+    /// The bytes are not a component of the grammar, or are one whose scopes are nested more than 1001 deep. `check`
+    /// knows where.
     Unread,
-    /// A length or a count in the joined component would pass 4,294,967,295.
+    /// A length or a count in the joined component would exceed 4,294,967,295.
     TooLong,
     /// Out of memory.
     OutOfMemory,
@@ -174,8 +174,8 @@ impl fmt::Display for Unreduced {
 
 impl core::error::Error for Unreduced {}
 
-/// Returns the limits with those over them that the first bytes of the input say, so that one run tries many limits (swarm
-/// testing). Twenty limits are said by one byte each, in the order and the ranges that `lupinanon.h` has, and a byte
+/// Returns the limits as overridden by those that the first bytes of the input encode, so that one run tries many
+/// limits (swarm testing). Twenty limits take one byte each, in the order and the ranges of `lupinanon.h`, and a byte
 /// after the end counts as 0. The minima and `must_validate` stay as they are.
 ///
 /// # Panics
@@ -186,7 +186,7 @@ pub fn swarm_limits<'a>(limits: &Limits, input: &'a [u8]) -> SwarmLimits<'a> {
     SwarmLimits { limits, rest: &input[taken..] }
 }
 
-/// Returns the component that the input gives within the limits. Equal limits and equal input give equal bytes.
+/// Returns the component that the input produces within the limits. Equal limits and equal input produce equal bytes.
 ///
 /// # Panics
 ///
@@ -210,7 +210,7 @@ pub fn generate(limits: &Limits, input: &[u8]) -> Result<Generated, Refusal> {
     }
 }
 
-/// Returns what the bytes are: a component that is well formed, one that is not, or none.
+/// Returns what the bytes are: a component that is well formed, one that is not, or not a component.
 pub fn check(bytes: &[u8]) -> Result<Verdict, OutOfMemory> {
     library::check(bytes)
 }
@@ -275,7 +275,7 @@ pub fn smaller(limits: Option<&Limits>, bytes: &[u8], k: usize) -> Result<Option
 #[derive(Clone, Debug, PartialEq, Eq)]
 #[non_exhaustive]
 pub struct Step {
-    /// Its number, from 0 over all steps, those too that lead to no component that is wanted.
+    /// Its number, from 0 over all steps, including those that lead to no wanted component.
     pub number: usize,
     /// The component in the binary format.
     pub bytes: Vec<u8>,
@@ -327,8 +327,9 @@ fn failing(
     Ok(None)
 }
 
-/// Returns a component that fails and of which no single item can be removed or made simpler so that it still fails. It is
-/// found from one that fails, which is returned where no smaller one does. Only components that are well formed are tried.
+/// Returns a component that fails and of which no single item can be removed or made simpler so that it still fails. It
+/// is found from one that fails, which is returned where no smaller one does. Only components that are well formed are
+/// tried.
 pub fn reduce(component: &[u8], mut fails: impl FnMut(&[u8]) -> bool) -> Result<Vec<u8>, Unreduced> {
     let mut smallest = component.to_vec();
     let mut from = 0;

@@ -77,7 +77,7 @@ pub fn version() -> &'static str {
     version.to_str().expect("a version is ASCII")
 }
 
-/// The limits that hold where none are given.
+/// The default limits.
 pub fn default_limits() -> Limits {
     let mut limits = MaybeUninit::uninit();
     // SAFETY: a call that returns 0 has written each byte of the struct, and 0 or 1 where there is a truth value.
@@ -89,12 +89,12 @@ pub fn default_limits() -> Limits {
     limits.limits()
 }
 
-/// These limits with those over them that the first bytes of the input say, and how many bytes say them.
+/// These limits as overridden by those that the first bytes of the input encode, and how many bytes encode them.
 pub fn swarm_limits(limits: &Limits, input: &[u8]) -> (Limits, usize) {
     let mut limits = RawLimits::of(limits);
     let mut taken = 0;
-    // SAFETY: no reference is null, the length is that of the slice, and nothing written overlaps anything. What is written
-    // to a truth value is 0 or 1.
+    // SAFETY: no reference is null, the length is that of the slice, and nothing written overlaps anything. What is
+    // written to a truth value is 0 or 1.
     let status =
         unsafe { lupinanon_swarm_limits(&mut limits, input.as_ptr(), input.len(), &mut taken) };
     match status {
@@ -103,11 +103,11 @@ pub fn swarm_limits(limits: &Limits, input: &[u8]) -> (Limits, usize) {
     }
 }
 
-/// What came of an output of some room.
+/// The result for an output of some size.
 pub enum Answer {
-    /// So many bytes are at its front, and so many of the input are left.
+    /// That many bytes are at its front, and that many of the input are left.
     Written { len: usize, left: usize },
-    /// It has to have so many bytes.
+    /// It needs that many bytes.
     NoRoom { len: usize },
 }
 

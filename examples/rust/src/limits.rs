@@ -1,7 +1,7 @@
 //! The limits. `examples/limits --write` writes the fields.
 
-/// The limits of what is made. Components nest at most 1000 deep. `Limits::default()` has those that hold where none
-/// are given: write `..Limits::default()` after those that you set, since there may be more limits one day.
+/// The limits of what is made. Components nest at most 1000 deep. `Limits::default()` has the defaults: write
+/// `..Limits::default()` after those that you set, since there may be more limits one day.
 #[derive(Clone, Copy, Debug, PartialEq, Eq)]
 pub struct Limits {
     /// The fewest types of a component. They can always be added.

@@ -3,7 +3,7 @@
 use std::fmt;
 
 // Lines that are deeper are indented as those of this level: so a line is at most 64 times as long as the bytes that it
-// is of, whatever the depth.
+// is of, regardless of the depth.
 const MOST_LEVELS: u32 = 14;
 
 /// How many entries each index space has.
@@ -46,7 +46,7 @@ impl Walk {
         }
     }
 
-    /// Passes so many bytes. What was read has a length.
+    /// Passes that many bytes. What was read has a length.
     pub(crate) fn pass(&mut self, len: Option<u32>) {
         let len = len.unwrap_or_default() as usize;
         self.offset = self.offset.saturating_add(len);

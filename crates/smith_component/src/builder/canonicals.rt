@@ -28,8 +28,8 @@ use std::alloc::{AllocError, Global};
 use std::mem;
 use std::rc::Rc;
 
-// Canonical sections at the end of a component, the last of which still grows: its functions are apart. It owns
-// nothing, so that what it changes stays its lender's.
+// Canonical sections at the end of a component, the last of which still grows: its functions are kept separately. It
+// owns nothing, so that what it changes stays its lender's.
 #[derive(Drop)]
 pub(super) struct CanonicalDraft<'a> {
     alloc: Global,
@@ -114,7 +114,7 @@ impl<'a> CanonicalDraft<'a> {
     }
 
     // Lifts a core function, by a choice, to a type that is equal to the one that is read, or to one that it defines
-    // where there is none. It is given up where the component may have no more types.
+    // where there is none. It is abandoned where the component may have no more types.
     fn lift(&mut self, u: &mut Unstructured) -> Result<(), Error>
         requires draft { IsDraft self.old }
         requires some { 0 < length self.old.component.now.tables.core_functions.items }
@@ -165,7 +165,7 @@ impl<'a> CanonicalDraft<'a> {
         Ok(true)
     }
 
-    // Turns, at least and at most so many, unless no function can be lowered or lifted.
+    // Turns, at least and at most that many, unless no function can be lowered or lifted.
     fn turns(&mut self, min: usize, max: usize, u: &mut Unstructured) -> Result<(), Error>
         requires ordered { min ≤ max }
         requires draft { IsDraft self.old }
@@ -190,8 +190,8 @@ impl<'a> CanonicalDraft<'a> {
 }
 
 impl Progress {
-    // Canonical sections of at least so many turns, unless no function can be lowered or lifted, and of at most as many
-    // as the component may still have functions.
+    // Canonical sections of at least that many turns, unless no function can be lowered or lifted, and of at most as
+    // many as the component may still have functions.
     pub(super) fn add_canonicals(&mut self, min: usize, u: &mut Unstructured) -> Result<(), Error>
         requires sound { IsSound self.old }
         requires room { min ≤ self.old.config.max_funcs - function_count (stack_of self.old).inner }

@@ -43,7 +43,7 @@ pub(super) trait SectionEntry: Drop {
 }
 
 impl Progress {
-    // The entries of a section, at least and at most so many.
+    // The entries of a section, at least and at most that many.
     pub(super) fn read_entries<E: SectionEntry>(
         &mut self,
         min: usize,

@@ -52,7 +52,7 @@ fn read_export(
     Ok(Some(Export { name, func_index }))
 }
 
-// The exports of a section, at most so many, until there is no component function or no room for one more.
+// The exports of a section, at most that many, until there is no component function or no room for one more.
 pub(super) fn read_exports(
     alloc: Global,
     scopes: &mut Scopes,

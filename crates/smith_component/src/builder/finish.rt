@@ -15,7 +15,7 @@ use crate::item::Counted;
 use smith_input::{Error, Unstructured};
 
 impl Progress {
-    // Adds what lacks of the minima: types, then imports, then functions.
+    // Adds what is missing of the minima: types, then imports, then functions.
     fn fill(&mut self, u: &mut Unstructured) -> Result<(), Error>
         requires sound { IsSound self.old }
         ensures filled { OnOk result
@@ -34,7 +34,7 @@ impl Progress {
         Ok(())
     }
 
-    // What lacks is added, and then the inner component is finished.
+    // What is missing is added, and then the inner component is finished.
     pub(crate) fn finish(&mut self, u: &mut Unstructured) -> Result<Option<Component>, Error>
         requires sound { IsSound self.old }
         ensures does { IfOk result (λ c. DoesItem Finish self.old u.old self.new c u.new) }

@@ -52,7 +52,7 @@ fn read_import(
 }
 
 impl Progress {
-    // The imports of a section, at least and at most so many, unless nothing can be imported.
+    // The imports of a section, at least and at most that many, unless nothing can be imported.
     pub(super) fn read_imports(
         &mut self,
         min: usize,

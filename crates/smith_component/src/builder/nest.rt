@@ -31,7 +31,7 @@ impl Progress {
         Ok(())
     }
 
-    // The inner component becomes a section of the one around it, and the root is the answer.
+    // The inner component becomes a section of the one around it, and the root is returned.
     pub(super) fn close(&mut self) -> Result<Option<Component>, AllocError>
         requires sound { IsSound self.old }
         requires minima { Minima self.old.config (stack_of self.old).inner }

@@ -34,7 +34,8 @@ impl OpenComponent {
             ≡ add (shown_sections self.old.sections.items) (shown_section section)) }
         ensures tables { self.new.tables ≡ self.old.tables }
     {
-        self.sections.push(section)?;
+        self.sections.reserve(1)?;
+        self.sections.push_reserved(section);
         Ok(())
     }
 }

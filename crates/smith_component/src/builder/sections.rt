@@ -60,7 +60,8 @@ impl Progress {
         ensures tail { IsTail u.new u.old }
     {
         let module = Module::new_internal(self.alloc, self.config, u)?;
-        self.add_section(Section::CoreModule(module))?;
+        let embedded = Box::new(self.alloc, module)?;
+        self.add_section(Section::CoreModule(embedded))?;
         Ok(())
     }
 
@@ -98,7 +99,7 @@ impl Progress {
         Ok(())
     }
 
-    // A type section of at least so many types, and of at most as many as the component may still have.
+    // A type section of at least that many types, and of at most as many as the component may still have.
     pub(super) fn add_types(&mut self, min: usize, u: &mut Unstructured) -> Result<(), Error>
         requires sound { IsSound self.old }
         requires room { min ≤ self.old.config.max_types - length (types_of (stack_of self.old).inner) }
@@ -114,7 +115,7 @@ impl Progress {
         Ok(())
     }
 
-    // An import section of at least so many imports, unless nothing can be imported, and of at most as many as the
+    // An import section of at least that many imports, unless nothing can be imported, and of at most as many as the
     // component may still have.
     pub(super) fn add_imports(&mut self, min: usize, u: &mut Unstructured) -> Result<(), Error>
         requires sound { IsSound self.old }

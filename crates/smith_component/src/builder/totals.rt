@@ -14,7 +14,7 @@ pub(super) struct TreeTotals {
 }
 
 impl TreeTotals {
-    // The same beside so many functions of a component.
+    // The same beside that many functions of a component.
     pub(super) fn with_functions(self, funcs: usize) -> RefTotals
         ensures modules { result.modules ≡ self.modules }
         ensures funcs { result.funcs ≡ funcs }

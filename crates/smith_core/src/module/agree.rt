@@ -8,7 +8,7 @@ use crate::module::parts::ModuleParts;
 use crate::module::segments::{ElementKind, ElementSegment, Elements};
 use smith_format::RefType;
 
-// Whether the groups hold so many types, each once and in order.
+// Whether the groups hold that many types, each once and in order.
 fn groups_tile(groups: &[(usize, usize)], count: usize) -> bool
     ensures { IsTrue result ↔ Tiles groups.now 0 count }
 {
@@ -22,7 +22,7 @@ fn groups_tile(groups: &[(usize, usize)], count: usize) -> bool
     next == count
 }
 
-// Whether each global that is defined is one of so many.
+// Whether each global that is defined is one of that many.
 fn globals_are_there(defined: &[(u32, Vec<u8>)], count: usize) -> bool
     ensures { IsTrue result ↔ AllByRecursion (λ g. g.0 < count) defined.now }
 {

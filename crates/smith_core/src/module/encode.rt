@@ -1,4 +1,4 @@
-//! What stands in the sections of a core module, in the binary format (core specification, Binary Format, Types and
+//! What is in the sections of a core module, in the binary format (core specification, Binary Format, Types and
 //! Modules), and the lengths of their encodings.
 #![tactic(auto, using(smith_format::proofs::Steps::writing, smith_format::proofs::Sizes::measuring))]
 

@@ -8,7 +8,7 @@ use smith_format::{ExportKind, GlobalType, Import, MemoryType, TableType, TagTyp
 use std::alloc::Global;
 
 /// The parts of a core module (core specification, Modules). In each list of functions, tables, memories, tags and
-/// globals what is imported stands first. Constant expressions are given without their end.
+/// globals what is imported is first. Constant expressions are given without their end.
 #[derive(Debug, Drop)]
 pub struct ModuleParts {
     /// Whether the type section is written.
@@ -23,16 +23,16 @@ pub struct ModuleParts {
     pub imports: Vec<Import>,
     /// The indexes of the functions' types.
     pub funcs: Vec<u32>,
-    /// How many functions are defined: the last so many.
+    /// How many functions are defined; they are the last ones.
     pub num_defined_funcs: usize,
     pub tables: Vec<TableType>,
-    /// The initial values of the defined tables, which are the last so many.
+    /// The initial values of the defined tables, which are the last ones.
     pub defined_tables: Vec<Option<Vec<u8>>>,
     pub memories: Vec<MemoryType>,
-    /// How many memories are defined: the last so many.
+    /// How many memories are defined; they are the last ones.
     pub num_defined_memories: usize,
     pub tags: Vec<TagType>,
-    /// How many tags are defined: the last so many.
+    /// How many tags are defined; they are the last ones.
     pub num_defined_tags: usize,
     pub globals: Vec<GlobalType>,
     /// The defined globals: their indexes and their initial values.

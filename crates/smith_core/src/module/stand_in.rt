@@ -15,7 +15,7 @@ use smith_format::{
 use smith_input::{Error, Unstructured};
 use std::alloc::Global;
 
-// At most so many final function types.
+// At most that many final function types.
 fn function_types(
     alloc: Global,
     u: &mut Unstructured,
@@ -77,7 +77,7 @@ fn groups_of_one(alloc: Global, types: &[SubType]) -> Result<Vec<(usize, usize)>
 impl Module {
     /// The module that stands for a generated one: at most 20 final function types, each in a group by itself, and as
     /// many memories as the limits allow, all defined. It refuses with `ModuleRefused` exactly where `min_memories`
-    /// exceeds `max_memories`, before it reads, and else for want of memory alone.
+    /// exceeds `max_memories`, before it reads, and otherwise fails only when out of memory.
     pub fn new_internal(
         alloc: Global,
         config: Config,

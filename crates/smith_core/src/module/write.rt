@@ -18,7 +18,7 @@ use smith_format::{
 };
 use smith_input::Error;
 
-// The last so many.
+// That many items from the end.
 fn last_of<T>(items: &[T], count: usize) -> &[T]
     requires { count ≤ length items.now }
     ensures { result.now ≡ last count items.now }

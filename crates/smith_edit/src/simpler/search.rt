@@ -6,14 +6,14 @@ ghost use Rattle.smith_edit.specs.Search.{among, is_here, past};
 /// Where the item that is sought is, seen from a place in a component.
 #[derive(Clone, Copy)]
 pub(crate) enum Search {
-    /// So many items further on.
+    /// That many items further on.
     Ahead(usize),
     /// Before that place.
     Over,
 }
 
 impl Search {
-    /// Moves past an item that has nothing inside, or to the first item inside it. Whether it is the one.
+    /// Moves past an item that has nothing inside, or to the first item inside it. Returns whether it is the one.
     pub(crate) fn step(&mut self) -> bool
         ensures here { result ≡ is_here self.old }
         ensures moved { self.new ≡ past 1 self.old }
@@ -21,7 +21,7 @@ impl Search {
         self.pass(1).is_some()
     }
 
-    /// Moves past so many items. Which of them is the one, if it is one of them.
+    /// Moves past that many items. Which of them is the one, if it is one of them.
     pub(crate) fn pass(&mut self, count: usize) -> Option<usize>
         ensures which { result ≡ among count self.old }
         ensures moved { self.new ≡ past count self.old }

@@ -9,7 +9,8 @@ ghost use Rattle.smith_syntax.specs.Scope.{core_type_named, type_named};
 ghost use Rattle.smith_syntax.specs.Sizes.{capped, module_type_size};
 ghost use Rattle.smith_read_types.specs.Nodes.{shown_core_node};
 ghost use Rattle.smith_read_types.specs.TypeNodes.{shown_type_node};
-ghost use Rattle.smith_read_scopes.specs.Marking.{Exported, Found, FoundCore, after_alias, after_core_alias, with_found, with_found_core};
+ghost use Rattle.smith_read_scopes.specs.Marking.{Exported, Found, FoundCore, after_alias};
+ghost use Rattle.smith_read_scopes.specs.Marking.{after_core_alias, with_found, with_found_core};
 ghost use Rattle.smith_read_scopes.specs.Scopes.{outer_marked_in, own_marked_in};
 
 use super::Scopes;
@@ -37,7 +38,7 @@ impl<'a> Scopes<'a> {
         self.own.push_core_type(ty, size)
     }
 
-    // The size of a core type in the innermost scope, where a core module is imported or exported: 0 where none is kept.
+    // The size of a core type in the innermost scope, where a core module is imported or exported; 0 if not kept.
     fn core_size_of(&self, alloc: Global, ty: &CoreNode) -> Result<u32, AllocError>
         ensures { (own_marked_in self.now).keeps ≡ true → IfOk result (λ n. n
             ≡ capped (module_type_size (own_marked_in self.now).core_types (shown_core_node ty.now))) }

@@ -17,8 +17,8 @@ use smith_syntax::{CoreType, ModuleTypeDef};
 use std::alloc::{AllocError, Global};
 use std::rc::Rc;
 
-/// A module type as far as it was read: the sizes of its own function types, and its size. Public for the crates above
-/// alone.
+/// A module type as far as it was read: the sizes of its own function types, and its size. Public only for the crates
+/// above.
 #[derive(Drop)]
 pub struct ModuleSize {
     own: Vec<u32>,

@@ -44,7 +44,7 @@ impl Offer {
     }
 }
 
-/// Whether a type may be used for each. Public for the crates above alone.
+/// Whether a type may be used for each. Public only for the crates above.
 #[derive(Clone, Copy)]
 pub struct Uses {
     value: bool,
@@ -56,7 +56,7 @@ pub struct Uses {
 }
 
 impl Uses {
-    // Those of a type of that mark, whatever it is.
+    // Those of a type of that mark, regardless of what it is.
     fn any(mark: Mark) -> Uses
         ensures { result ≡ record {
           value = false;
@@ -132,7 +132,7 @@ impl Uses {
     }
 }
 
-/// The indexes of the types that may be used for each. Public for the crates above alone.
+/// The indexes of the types that may be used for each. Public only for the crates above.
 #[derive(Drop)]
 pub struct Offers<I: Copy> {
     values: Vec<I>,
@@ -168,7 +168,7 @@ impl<I: Copy> Offers<I> {
         }
     }
 
-    /// Makes room for one index more in each row.
+    /// Makes room for one more index in each row.
     pub fn reserve(&mut self) -> Result<(), AllocError>
         ensures rows { SameOffers self.old self.new }
         ensures room { OnOk result (HaveRoom self.new) }

@@ -122,7 +122,7 @@ fn parts_of<T: Valued>(marks: &[Mark], items: &[T]) -> Parts
     parts
 }
 
-/// The mark of a type of values among types of those marks. Public for the crates above alone.
+/// The mark of a type of values among types of those marks. Public only for the crates above.
 pub fn defined_mark(marks: &[Mark], ty: &DefinedType) -> Mark
     ensures { result ≡ declared_mark (is_nominal (shown_defined ty.now))
         (map (value_reach marks.now) (members (shown_defined ty.now)))
@@ -143,7 +143,7 @@ pub fn defined_mark(marks: &[Mark], ty: &DefinedType) -> Mark
     }
 }
 
-/// The mark of a type of functions among types of those marks. Public for the crates above alone.
+/// The mark of a type of functions among types of those marks. Public only for the crates above.
 pub fn function_mark(marks: &[Mark], ty: &FuncType) -> Mark
     ensures { result ≡ declared_mark false (map (value_reach marks.now) (signature_members ty.now))
         (capped (signature_size (sizes marks.now) ty.now)) }

@@ -1,4 +1,4 @@
-//! What stands in scopes: how much, and at which index.
+//! What is in scopes: how much, and at which index.
 
 ghost use Rattle.std.specs.Prelude.{◌≡◌, ◌<◌, ◌≤◌, get_or, length, true, Some, slice_get};
 ghost use Rattle.smith_format.specs.Consistency.{max_u32};

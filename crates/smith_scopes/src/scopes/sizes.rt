@@ -9,7 +9,7 @@ use smith_format::FuncType;
 /// Sizes are below it. A greater one is kept as it.
 pub(super) const SIZE_BOUND: u32 = 1_000_000;
 
-/// The sum of two sizes as it is kept. Public for the crates above alone.
+/// The sum of two sizes as it is kept. Public only for the crates above.
 pub fn size_sum(one: u32, other: u32) -> u32
     ensures { result ≡ capped (one + other) }
 {
@@ -23,7 +23,8 @@ fn kept_size(count: usize) -> u32
     count.min(SIZE_BOUND as usize) as u32
 }
 
-/// The size of a core function type: 2, and how many parameters and results there are. Public for the crates above alone.
+/// The size of a core function type: 2, and how many parameters and results there are. Public only for the crates
+/// above.
 pub fn function_size(ty: &FuncType) -> u32
     ensures { result ≡ capped (function_size (shown_func ty.now)) }
 {

@@ -40,8 +40,8 @@ impl Spelled<ComponentFormat> for (String, Option<ComponentValType>) {
     }
 }
 
-/// Puts a type of values at the end of a buffer. After an error a part of it may stand there. Public for the crates above
-/// alone.
+/// Puts a type of values at the end of a buffer. After an error, part of it may be there. Public only for the crates
+/// above.
 pub fn put_defined(out: &mut Vec<u8>, ty: &DefinedType) -> Result<(), Error>
     ensures { Puts result out.old out.new (defvaltype (shown_defined ty.now)) }
 {

@@ -53,8 +53,8 @@ fn reference_len(to: ComponentTypeRef) -> u32
     }
 }
 
-/// Puts a name and what it is of at the end of a buffer. After an error a part of it may stand there. Public for the
-/// crates above alone.
+/// Puts a name and what it is of at the end of a buffer. After an error, part of it may be there. Public only for the
+/// crates above.
 pub fn put_named(out: &mut Vec<u8>, name: &str, to: ComponentTypeRef) -> Result<(), Error>
     ensures { Puts result out.old out.new (named_extern name.now to) }
 {

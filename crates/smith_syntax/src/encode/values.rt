@@ -10,7 +10,7 @@ use crate::types::{ComponentValType, PrimitiveValType};
 use smith_format::{Spelled, type_index_len, write_byte, write_type_index};
 use smith_input::Error;
 
-/// The binary format of components, as the name of a format. Public for the crate above alone.
+/// The binary format of components, as the name of a format. Public only for the crate above.
 pub struct ComponentFormat {}
 
 pub(super) fn code(primitive: PrimitiveValType) -> u8

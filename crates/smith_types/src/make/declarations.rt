@@ -1,4 +1,4 @@
-//! Declarations of component types and instance types, from the input, but for the types in them.
+//! Declarations of component types and instance types, from the input, except for the types in them.
 
 ghost use Rattle.std.specs.Prelude.{◌≡◌, ◌<◌, ◌≤◌, List, [], ◌∷◌, ◌++◌, true, length, nat_lt};
 ghost use Rattle.std.specs.Prelude.{IfOk, OnOk, IfErr};
@@ -34,14 +34,14 @@ const UNCOUNTED: RefTotals = RefTotals {
     instances: 0,
 };
 
-// Has the last scope something that an import may be of, whatever is offered?
+// Does the last scope have something that an import may be of, regardless of what is offered?
 fn has_reference(scopes: &Scopes) -> bool
     ensures { result ≡ has_reference (own_marked scopes.now) }
 {
     scopes.own_len() > 0 || scopes.kind_len(Kind::CoreModule) > 0
 }
 
-// Has it something that an export may be of?
+// Does it have something that an export may be of?
 fn has_export(scopes: &Scopes) -> bool
     ensures { result ≡ has_export (own_marked scopes.now) }
 {
@@ -66,7 +66,7 @@ fn occupied_scopes(alloc: Global, scopes: &Scopes) -> Result<Vec<u32>, Error>
     Ok(counts)
 }
 
-// Has one of the scopes an entry?
+// Does one of the scopes have an entry?
 fn has_entry(scopes: &Scopes) -> bool
     requires { length scopes.now ≤ 1002 }
     ensures { result ≡ nat_lt 0 (length (occupied (own_marked scopes.now ∷ outer_marked scopes.now))) }
@@ -129,7 +129,7 @@ pub(super) fn import(
     Ok(Some(Import { name, url, ty }))
 }
 
-// What an export adds to the last scope: the type that it is equal to stands there once more.
+// What an export adds to the last scope: the type that it is equal to is there once more.
 fn add_exported(scopes: &mut Scopes, ty: ComponentTypeRef) -> Result<(), Error>
     requires formed { FormedRef (scope_in (own_marked scopes.old)) ty }
     requires room { length (own_marked scopes.old).types ≤ 100 }
@@ -197,7 +197,7 @@ fn alias_choice(u: &mut Unstructured, scopes: &Scopes, counts: &[u32]) -> Result
     Ok(Alias { count, i, kind })
 }
 
-// What an alias names stands in the last scope too.
+// What an alias names is in the last scope too.
 fn add_aliased(scopes: &mut Scopes, alias: &Alias) -> Result<(), Error>
     requires types { length (own_marked scopes.old).types ≤ 100 }
     requires core_types { length (own_marked scopes.old).core_types ≤ 100 }

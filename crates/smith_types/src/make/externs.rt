@@ -60,8 +60,8 @@ fn maybe_url(
 }
 
 /// A name in kebab case that is new among those so far, a boolean, and where it is true a URL, which has a name that no
-/// URL has so far. Both are among the names so far then. It refuses for want of memory alone, and the names so far,
-/// and those in URLs, are then as before.
+/// URL has so far. Both are then among the names so far. It fails only when out of memory, and the names so far, and
+/// those in URLs, are then as before.
 pub fn named_extern(
     alloc: Global,
     u: &mut Unstructured,

@@ -78,7 +78,7 @@ fn declaration_of(
     }
 }
 
-// A declaration that is no import: a choice of its sort, and one of that sort.
+// A declaration that is not an import: a choice of its sort, and one of that sort.
 #[cycle(making)]
 pub(super) fn declaration(
     making: &Making,
@@ -107,7 +107,8 @@ pub(super) fn declaration(
     declaration_of(making, u, scopes, fuel, exports, item)
 }
 
-// A declaration of a component type: an import where it is asked for and possible, else one as in an instance type.
+// A declaration of a component type: an import where it is asked for and possible, otherwise one as in an instance
+// type.
 #[cycle(making)]
 pub(super) fn component_declaration(
     making: &Making,

@@ -20,7 +20,7 @@ use smith_scopes::{Kind, Offer, Scopes};
 use smith_syntax::ComponentTypeRef;
 use smith_tree::{RefKind, RefTotals, ref_offers};
 
-// What types have to be offered for, to be imported or exported as a kind: none as a module, which is no type.
+// What types have to be offered for, to be imported or exported as a kind: none as a module, which is not a type.
 fn offer_of(kind: RefKind, for_import: bool) -> Option<Offer>
     ensures { result ≡ offer_of kind for_import }
 {
@@ -45,7 +45,7 @@ fn place_count(scopes: &Scopes, kind: RefKind, for_import: bool) -> usize
     }
 }
 
-// The index of the entry of a kind that has so many earlier ones.
+// The index of the entry of a kind that has that many earlier ones.
 fn place_at(scopes: &Scopes, kind: RefKind, for_import: bool, rank: usize) -> u32
     requires { rank < length (ref_places (own_marked scopes.now) for_import kind) }
     ensures { slice_get (ref_places (own_marked scopes.now) for_import kind) rank ≡ Some result }
@@ -171,7 +171,7 @@ pub fn arbitrary_type_ref(
     for_type_def: bool,
 ) -> Option<ComponentTypeRef>
     ensures reads { MaybeRef config.now (own_marked scopes.now) totals for_import for_type_def u.old result u.new }
-    // The script of a reference that may be had gives that reference.
+    // The script of an allowed reference produces that reference.
     ensures script { (r : ComponentTypeRef) (rest : List ℕ) → FormedRef (scope_in (own_marked scopes.now)) r
         → OfferedRef (own_marked scopes.now) for_import r
         → has_room (own_marked scopes.now) for_type_def ≡ true

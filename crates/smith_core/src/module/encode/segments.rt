@@ -17,7 +17,7 @@ use smith_format::{
 };
 use smith_input::Error;
 
-// An instruction that gives a constant, and the end of its expression.
+// An instruction that produces a constant, and the end of its expression.
 fn put_const(out: &mut Vec<u8>, instruction: u8, value: i64) -> Result<(), Error>
     ensures { Puts result out.old out.new (byte instruction ⊕ s value ⊕ byte 0x0b) }
 {
@@ -50,7 +50,7 @@ impl Spelled<ModuleFormat> for Offset {
     }
 }
 
-// What stands before the functions of an element segment.
+// What precedes the functions of an element segment.
 fn put_functions_front(out: &mut Vec<u8>, kind: &ElementKind) -> Result<(), Error>
     ensures { Puts result out.old out.new (functions_front kind.now) }
 {
@@ -92,7 +92,7 @@ fn functions_front_len(kind: &ElementKind) -> Option<u32>
     }
 }
 
-// What stands before the expressions of an element segment.
+// What precedes the expressions of an element segment.
 fn put_expressions_front(out: &mut Vec<u8>, kind: &ElementKind, ty: RefType) -> Result<(), Error>
     ensures { Puts result out.old out.new (expressions_front kind.now ty) }
 {

@@ -72,7 +72,7 @@ impl Spelled<ModuleFormat> for CompositeType {
     }
 }
 
-// What stands before the composite type of a sub type.
+// What precedes the composite type of a sub type.
 fn put_sub_prefix(out: &mut Vec<u8>, is_final: bool, supertype: Option<u32>) -> Result<(), Error>
     ensures { Puts result out.old out.new (sub_prefix is_final supertype) }
 {

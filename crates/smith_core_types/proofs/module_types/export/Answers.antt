@@ -14,7 +14,8 @@ pub returns-in-None-clause-adds : goal.returns-in-None-clause-adds
 returns-in-None-clause-adds c around fuel =
     let s = so_far c.args.declared.now fuel in
     let none = subst (λ e. MaybeEntity c.args.making.now.config.now s c.export_name.new.u e c.entity.new.u) c.in-None.is (c.in_ok-entity.ensures.reads fuel) in
-    let N : List _ → Type 0 = λ ds. ReadsNewText 100 (module_export_names (map shown_decl ds)) c.args.u.now (string_bytes c.in_ok-name.name) c.export_name.new.u in
+    let N : List _ → Type 0 =
+    λ ds. ReadsNewText 100 (module_export_names (map shown_decl ds)) c.args.u.now (string_bytes c.in_ok-name.name) c.export_name.new.u in
     let R : List ℕ → Type 0 = λ r. ReadsExportName s c.args.u.now (string_bytes c.in_ok-name.name) r in
     ((string_bytes c.in_ok-name.name, subst R (sym none.1) (subst N c.deref.ensures.value c.in_ok-name.ensures.reads), none.0), refl)
 

@@ -9,7 +9,8 @@ returns-clause-written g c =
     let swarm = c.swarm_limits-swarm in
     let within = swarm.ensures.config ∙ ap (swarmed c.args.config) c.deref.ensures.value in
     let same = follows swarm.ensures.taken c.deref.ensures.value c.deref-2.ensures.value in
-    written_within (swarmed c.args.config) after_front input c.in_ok-input.ensures.all within same c.args.form _ _ c.write_made.result c.write_made.ensures.written
+    written_within (swarmed c.args.config) after_front input c.in_ok-input.ensures.all within same
+    c.args.form _ _ c.write_made.result c.write_made.ensures.written
     c.write_made.ensures.accepts
 
 pub returns-clause-whole : goal.returns-clause-whole

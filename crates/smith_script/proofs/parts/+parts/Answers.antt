@@ -93,7 +93,7 @@ put_parts-returns-clause-said t c outer after formed =
     (subst (Adds _ _) (item_said r.after item.Finish _ r.sections)
     ((c.in_ok-put_item-2.ensures {u = tt}) (own_marked_in c.loop-part.scopes) (outer_marked_in c.args.scopes.now) depth))) refl
 
--- A section is no component.
+-- A section is not a component.
 none : (t : ℕ) (c : goal.put_part-After-put_section t) → components_in (shown_part_node c.args.part.now) ≡ []
 none t c =
     let shows = λ (x : PartNode). components_in (shown_part_node x) in

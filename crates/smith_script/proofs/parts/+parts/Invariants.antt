@@ -16,5 +16,6 @@ invariant-put_parts-loop-part l = record {
   reached : (outer : List Tree) → IsAfter l.given.config.now outer ends (outer_marked_in l.initial.scopes)
       (empty_in l.given.config.now.must_validate l.fn.totals)
       → Formed (tree_of (map shown_part_node l.parts)) (scopes_in outer) ends
-      → Reached l.given.config.now outer l.initial.out l.out l.parts l.part-index l.turn.sections (outer_marked_in l.initial.scopes) (preceding (own_marked_in l.scopes) l.here);
+      → Reached l.given.config.now outer l.initial.out l.out l.parts l.part-index l.turn.sections
+      (outer_marked_in l.initial.scopes) (preceding (own_marked_in l.scopes) l.here);
 }

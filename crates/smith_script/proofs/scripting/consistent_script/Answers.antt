@@ -12,7 +12,8 @@ pub returns-in-Err-Malformed-clause-refuses : goal.returns-in-Err-Malformed-clau
 returns-in-Err-Malformed-clause-refuses c other t spells b script =
     let shallow = given_shallow c.args.config.now t b (script_given c.args.config.now t b script) in
     let memory = c.in-Err-Malformed.ensures.reads.answers t shallow spells in
-    let clash : error.Malformed c.in-Err-Malformed.offset c.in-Err-Malformed.reason ≡ error.OutOfMemory = sym c.in-Err-Malformed.field-0-is ∙ memory in absurd (cc)
+    let clash : error.Malformed c.in-Err-Malformed.offset c.in-Err-Malformed.reason ≡ error.OutOfMemory =
+    sym c.in-Err-Malformed.field-0-is ∙ memory in absurd (cc)
 
 pub returns-in-WellFormed-clause-refuses : goal.returns-in-WellFormed-clause-refuses
 returns-in-WellFormed-clause-refuses c =

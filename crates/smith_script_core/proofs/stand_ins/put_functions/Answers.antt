@@ -8,7 +8,8 @@ returns-in_err-put_more-clause-said c =
     let count = c.args.count - c.loop-done.done in
     gives_up _ _ _ _ c.from_residual-in_err-put_more.ensures.1
     (towards_exit _ _ c.loop-done.invariant.said
-    (functions_said c.args.config.now c.loop-done.done count (c.args.count - (c.loop-done.done + 1)) c.loop-done.left.now (omega (arith, c.loop-done-test.true)))
+    (functions_said c.args.config.now c.loop-done.done count (c.args.count - (c.loop-done.done + 1))
+    c.loop-done.left.now (omega (arith, c.loop-done-test.true)))
     (unsaid_left _ (c.in_err-put_more.ensures {u = tt})))
 
 pub returns-in_err-left-clause-said : goal.returns-in_err-left-clause-said
@@ -16,7 +17,8 @@ returns-in_err-left-clause-said c =
     let count = c.args.count - c.loop-done.done in
     gives_up _ _ _ _ c.from_residual-in_err-left.ensures.1
     (towards_exit _ _ c.loop-done.invariant.said
-    (functions_said c.args.config.now c.loop-done.done count (c.args.count - (c.loop-done.done + 1)) c.loop-done.left.now (omega (arith, c.loop-done-test.true)))
+    (functions_said c.args.config.now c.loop-done.done count (c.args.count - (c.loop-done.done + 1))
+    c.loop-done.left.now (omega (arith, c.loop-done-test.true)))
     (unsaid_right _ (rw ((c.in_ok-valtypes.ensures {u = tt}).list, c.max_results-most_results.ensures) at c.in_err-left.ensures.said)))
 
 pub loop-done-preserved : goal.loop-done-preserved

@@ -11,7 +11,8 @@ pub loop-place-preserved : goal.loop-place-preserved
 loop-place-preserved c =
     let now = c.args.scopes.now in
     let scope = shown_marked c.index.result.now in
-    let at = scope_found shown_marked (own_marked_in now) now.outer.items (c.loop-place.place + 1) (c.len-depth.result - 1 - c.loop-place.place) c.index.result.now
+    let at = scope_found shown_marked (own_marked_in now) now.outer.items (c.loop-place.place + 1)
+    (c.len-depth.result - 1 - c.loop-place.place) c.index.result.now
     (omega (arith, c.len-depth.ensures, now.outer.ok.0, c.loop-place-test.true)) (omega arith) c.index.ensures in
     (c.in_ok-push_occupied-2.ensures {u = tt}).added
     ∙ ap (λ ks. ks ++ (if is_occupied scope then (c.loop-place.place + 1) ∷ [] else [])) c.loop-place.invariant

@@ -2,7 +2,8 @@ use Rattle.std.proofs.Common.{◌≡◌, ◌-◌, ◌++◌, ◌∷◌, [], ap, l
 use Rattle.std.proofs.lemmas.List.{length-map}
 use Rattle.smith_syntax.specs.ModuleTypes.{after_front}
 use Rattle.smith_read_types.specs.Nodes.{shown_module_node}
-use Rattle.smith_script_core.proofs.Saying.{Towards, adds_then, gives_up, memory_unsaid, towards_end, towards_exit, towards_start, towards_step, unsaid_left, unsaid_right}
+use Rattle.smith_script_core.proofs.Saying.{Towards, adds_then, gives_up, memory_unsaid, towards_end, towards_exit}
+use Rattle.smith_script_core.proofs.Saying.{towards_start, towards_step, unsaid_left, unsaid_right}
 use Rattle.smith_script_types.proofs.ModuleTurns.{after_within, module_at, module_over, module_start}
 use Rattle.smith_script_types.proofs.TableSteps.{shown_more}
 use Rattle.smith_script_types.specs.Places.{plain_at}
@@ -49,7 +50,8 @@ loop-index-preserved c =
           ∙ shown_more xs c.loop-index.index x c.loop-index-test.true c.index-decls-index.is;
       left = λ fuel.
           towards_step _ _ (c.loop-index.invariant.left fuel)
-          (module_at c.args.place.config.now (plain_at c.args.place) xs _ _ _ _ x c.loop-index.invariant.from c.loop-index-test.true c.index-decls-index.is more)
+          (module_at c.args.place.config.now (plain_at c.args.place) xs _ _ _ _ x c.loop-index.invariant.from
+          c.loop-index-test.true c.index-decls-index.is more)
           (adds_then (c.in_ok-put_more.ensures {u = tt}) (c.in_ok-put_decl.ensures {u = tt}));
     }
 
@@ -70,7 +72,8 @@ returns-in_err-put_decl c fuel =
     (unsaid_right _ (c.in_err-put_decl.ensures {u = tt})))
 
 pub returns-in_err-declared-2 : goal.returns-in_err-declared-2
-returns-in_err-declared-2 c fuel = gives_up _ _ _ _ c.from_residual-in_err-declared-2.ensures.1 (memory_unsaid _ _ (c.in_err-declared-2.ensures {u = tt}).memory)
+returns-in_err-declared-2 c fuel =
+    gives_up _ _ _ _ c.from_residual-in_err-declared-2.ensures.1 (memory_unsaid _ _ (c.in_err-declared-2.ensures {u = tt}).memory)
 
 pub returns : goal.returns
 returns c fuel =

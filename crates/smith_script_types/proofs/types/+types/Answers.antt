@@ -30,7 +30,14 @@ put_decls-returns-in_err-left-clause-said t c =
     (taken_in c.loop-decl.here) (own_marked_in c.loop-decl.scopes) c.decl-item.result c.loop-decl-test.true c.decl-item.is in
     gives_up _ _ _ _ c.from_residual-in_err-left.ensures.1
     (towards_exit _ _ (towards_step (1 ∷ []) _ c.loop-decl.invariant.left split (c.in_ok-put_byte.ensures {u = tt})) refl
-    (rw (c.loop-decl.invariant.outer, c.with_fuel-turn.ensures.importing, c.loop-decl.invariant.importing, c.with_fuel-turn.ensures.fuel, c.saturating_sub.ensures, c.with_fuel-turn.ensures.taken)
+    (rw (
+      c.loop-decl.invariant.outer,
+      c.with_fuel-turn.ensures.importing,
+      c.loop-decl.invariant.importing,
+      c.with_fuel-turn.ensures.fuel,
+      c.saturating_sub.ensures,
+      c.with_fuel-turn.ensures.taken,
+    )
     at c.in_err-left.ensures.said))
 
 pub put_decls-returns-in_err-put_end-clause-said : goal.put_decls-returns-in_err-put_end-clause-said

@@ -19,7 +19,8 @@ invariant-put_decls-loop-decl l = record {
   after : scope_after l.decls l.decl-index (own_marked_in l.fn.scopes ∷ outer_marked_in l.fn.scopes) (own_marked_in l.scopes)
       ≡ scope_after l.decls 0 (own_marked_in l.fn.scopes ∷ outer_marked_in l.fn.scopes) (empty_marked (own_marked_in l.fn.scopes).keeps);
   left : Towards l.initial.out l.out
-      (script_decls (in_order (map shown_decl_node l.decls)) l.given.config.now l.fn.start.importing l.fn.start.fuel 0 none_taken (empty_marked (own_marked_in l.fn.scopes).keeps)
+      (script_decls (in_order (map shown_decl_node l.decls)) l.given.config.now l.fn.start.importing l.fn.start.fuel
+      0 none_taken (empty_marked (own_marked_in l.fn.scopes).keeps)
       (own_marked_in l.fn.scopes ∷ outer_marked_in l.fn.scopes))
       (script_decls (in_order (map shown_decl_node (drop l.decl-index l.decls))) l.given.config.now l.fn.start.importing l.here.fuel l.decl-index
       (taken_in l.here) (own_marked_in l.scopes) (own_marked_in l.fn.scopes ∷ outer_marked_in l.fn.scopes));

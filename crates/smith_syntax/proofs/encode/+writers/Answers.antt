@@ -16,7 +16,8 @@ declarations::put_component_decls-loop-declared-preserved t c = put_next _ _ _ _
     (c.in_ok-put_component_decl.ensures {u = tt})
 
 pub declarations::put_component_decls-returns : goal.declarations::put_component_decls-returns
-declarations::put_component_decls-returns t c = loop_done _ _ _ ((c.in_ok-write_count.ensures {u = tt}).written) c.loop-declared.invariant c.loop-declared-test.false
+declarations::put_component_decls-returns t c =
+    loop_done _ _ _ ((c.in_ok-write_count.ensures {u = tt}).written) c.loop-declared.invariant c.loop-declared-test.false
 
 pub declarations::put_instance_decls-loop-declared-init : goal.declarations::put_instance_decls-loop-declared-init
 declarations::put_instance_decls-loop-declared-init t c = put_none _ _ _
@@ -31,7 +32,8 @@ declarations::put_instance_decls-loop-declared-preserved t c = put_next _ _ _ _ 
     (c.in_ok-put_instance_decl.ensures {u = tt})
 
 pub declarations::put_instance_decls-returns : goal.declarations::put_instance_decls-returns
-declarations::put_instance_decls-returns t c = loop_done _ _ _ ((c.in_ok-write_count.ensures {u = tt}).written) c.loop-declared.invariant c.loop-declared-test.false
+declarations::put_instance_decls-returns t c =
+    loop_done _ _ _ ((c.in_ok-write_count.ensures {u = tt}).written) c.loop-declared.invariant c.loop-declared-test.false
 
 pub put_type-returns-in_err-write_byte-in-Component : goal.put_type-returns-in_err-write_byte-in-Component
 put_type-returns-in_err-write_byte-in-Component t c =

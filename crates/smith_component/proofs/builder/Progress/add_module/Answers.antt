@@ -1,4 +1,6 @@
-use Rattle.std.proofs.Common.{refl}
+use Rattle.std.proofs.Common.{refl, subst, sym}
+use Rattle.smith_core.specs.StandIn.{ReadsStandIn}
+use Rattle.smith_core.specs.declared.module.parts.ModuleParts.{ModuleParts}
 use Rattle.smith_component.specs.BuilderView.{building_of, stack_of}
 use Rattle.smith_component.specs.declared.builder.Progress.{Progress}
 use Rattle.smith_tree.specs.declared.choices.Item.TheVariants.{Module}
@@ -17,8 +19,9 @@ add_section-requires c =
 pub returns-clause-does : goal.returns-clause-does
 returns-clause-does c =
     let new : Progress = c.add_section.new.self in
-    let made = c.in_ok-module.module in
-    let reads = c.in_ok-module.ensures.reads in
+    let boxed = c.in_ok-embedded.embedded in
+    let R : ModuleParts → Type 0 = λ m. ReadsStandIn c.args.self.now.config c.args.u.now m c.new_internal.new.u in
+    let reads = subst R (sym c.in_ok-embedded.ensures.ok) c.in_ok-module.ensures.reads in
     let g = c.in_ok-add_section.ensures in
     grown_does Module c.args.self.now new c.args.u.now c.new_internal.new.u g.grows
-    (made, reads, part_added _ _ _ g) (building_of new, refl, record { parts = made; added = g.last; reads = reads })
+    (boxed.value, reads, part_added _ _ _ g) (building_of new, refl, record { embedded = boxed; added = g.last; reads = reads })

@@ -19,7 +19,7 @@ use Rattle.smith_scopes.proofs.Stack.{length-last, own_last}
 use Rattle.smith_tree.specs.Offers.{is_scalar_entry, is_scalar_type}
 use Rattle.smith_component.proofs.builder.tables.is_scalar_type.Goals as goal
 
--- what stands in the last scope, as a plain tree
+-- what is in the last scope, as a plain tree
 type_at : (scopes : List Contents) (p : ℕ) (t : DefType) → slice_get (last_of scopes).types p ≡ Some t
     → is_scalar_type (own_scope scopes).types p ≡ is_scalar_entry (shown_type t)
 type_at scopes p t h =
@@ -49,7 +49,7 @@ not_scalar t (inl d) = ap (λ x. is_scalar_entry (shown_type x)) d.1 ∙ ap (λ 
 not_scalar t (inr (inl d)) = ap (λ x. is_scalar_entry (shown_type x)) d.1 ∙ ap (λ x. is_scalar_entry (plain x)) (full_component d.0)
 not_scalar t (inr (inr d)) = ap (λ x. is_scalar_entry (shown_type x)) d.1 ∙ ap (λ x. is_scalar_entry (plain x)) (full_instance d.0)
 
--- The type that stands there has no function to flatten.
+-- The type that is there has no function to flatten.
 other_at : (scopes : List Contents) (p : ℕ) (t v : DefType) → slice_get (last_of scopes).types p ≡ Some t → v ≡ t → IsOther v
     → false ≡ is_scalar_type (own_scope scopes).types p
 other_at scopes p t v h e other = sym (type_at scopes p t h ∙ not_scalar t (subst IsOther e other))

@@ -20,8 +20,8 @@ use Rattle.smith_component.proofs.component.Component.new.Goals as goal
 
 pub loop-progress-init : goal.loop-progress-init
 loop-progress-init c =
-    let made = (c.in_ok-progress.ensures {u = tt}).made in
-    let sound = (c.in_ok-progress.ensures {u = tt}).sound in
+    let made = c.new-progress.ensures.made in
+    let sound = c.new-progress.ensures.sound in
     let R : Open → Type 0 = λ s. Reached c.args.config c.args.u.now s c.args.u.now in
     record {
       config = made.0;
@@ -84,8 +84,8 @@ returns-in_err-done-clause-answers c plan rest consistent w e =
     refused _ _ P c.from_residual-in_err-done.ensures.1 (refused_accepted c.args.config left input consistent
     (plan_lacks_none c.args.config input plan rest consistent w e left) (plan_refuses_no_module c.args.config input plan rest consistent w e left) _ refusal)
 
-pub returns-in_err-progress-clause-tail : goal.returns-in_err-progress-clause-tail
-returns-in_err-progress-clause-tail c = tail_same _
+pub returns-in_err-valtypes-clause-tail : goal.returns-in_err-valtypes-clause-tail
+returns-in_err-valtypes-clause-tail c = tail_same _
 
 pub returns-in_err-done-clause-tail : goal.returns-in_err-done-clause-tail
 returns-in_err-done-clause-tail c = tail_trans c.turn.ensures.tail c.loop-progress.invariant.tail

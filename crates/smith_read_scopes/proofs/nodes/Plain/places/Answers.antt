@@ -29,4 +29,5 @@ returns-in-CoreFunc-clause-ascending c =
 
 pub returns-in-CoreModule-clause-ascending : goal.returns-in-CoreModule-clause-ascending
 returns-in-CoreModule-clause-ascending c =
-    ascend_as is_core_module (map shown_core_node (nodes_of c.self.inside.core_types.items)) _ (c.deref-in-CoreModule.ensures.value ∙ c.self.invariant.1.modules_are)
+    ascend_as is_core_module (map shown_core_node (nodes_of c.self.inside.core_types.items)) _
+    (c.deref-in-CoreModule.ensures.value ∙ c.self.invariant.1.modules_are)

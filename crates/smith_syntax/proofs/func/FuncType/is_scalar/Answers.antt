@@ -10,7 +10,7 @@ use Rattle.smith_syntax.specs.Signature.{named}
 use Rattle.smith_syntax.specs.declared.types.ComponentValType.{ComponentValType}
 use Rattle.smith_syntax.proofs.func.FuncType.is_scalar.Goals as goal
 
--- a parameter is no scalar
+-- a parameter is not a scalar
 not_scalar : (xs : List (String Global × ComponentValType)) (s : Signature) (i : ℕ) (p : String Global × ComponentValType) → s.params ≡ map named xs
     → i < length xs → p ≡ get_or xs i p → is_some (flat_value p.1) ≡ false → false ≡ is_scalar s
 not_scalar xs s i p e l at not =
