@@ -1,8 +1,8 @@
 -- A canonical section as the program makes it.
-use Rattle.std.proofs.Common.{◌≡◌, ◌⊎◌, inl, inr, ℕ, ◌-◌, ◌<◌, ◌≤◌, Bool, true, false, List, [], ◌∷◌, ◌++◌, map, length, get_or, refl, sym, ap, ◌∙◌, subst}
-use Rattle.std.proofs.Common.{arith, append-nil, append_assoc, length-append, Some}
+use Rattle.std.proofs.Common.{◌≡◌, ◌≢◌, ◌⊎◌, inl, inr, ℕ, ◌-◌, ◌<◌, ◌≤◌, Bool, true, false, List, [], ◌∷◌, ◌++◌, map, length, get_or, refl, sym, ap, ◌∙◌, subst}
+use Rattle.std.proofs.Common.{arith, append-nil, append_assoc, length-append, Option, None, Some}
 use Rattle.std.proofs.lemmas.Bool.{false≢true}
-use Rattle.std.proofs.lemmas.List.{map-append, nil_from_length}
+use Rattle.std.proofs.lemmas.List.{map-append}
 use Rattle.std.proofs.lemmas.List.Concat.{flat_map-append}
 use Rattle.std.proofs.lemmas.Option.{get_or_from_slice_get, slice_get-get_or, slice_get-map, slice_get_within}
 use Rattle.std.specs.Prelude.{option_map, slice_get}
@@ -32,6 +32,7 @@ use Rattle.smith_syntax.specs.declared.types.DefinedType.{DefinedType}
 use Rattle.smith_syntax.proofs.Shown.{full_defined, full_func, full_component, full_instance}
 use Rattle.smith_types.specs.Lifting.{ReadsLiftedType}
 use Rattle.smith_types.specs.MakingTypes.{HoldsExterns}
+use Rattle.smith_scopes.specs.Rows.{IsChosenEqual}
 use Rattle.smith_scopes.specs.Scopes.{AddsMarked, Contents, last_of, outer_marked, own_marked, own_scope}
 use Rattle.smith_scopes.proofs.Marking.{marked_alike}
 use Rattle.smith_scopes.proofs.Stack.{grown_marked, keeps_last, length-last, own_last, own_scope_is}
@@ -257,13 +258,13 @@ module _ (draft : CanonicalDraft) (around : List Tree) (d : IsDraftIn around dra
   equal_are signature = equal_own held signature ∙ ap (λ z. places (is_of_signature signature) 0 z.types) own
 
   -- One of the types that are equal is there.
-  pub equal_within : (signature : Signature) (k t : ℕ) → slice_get (places (has_signature signature) 0 (last_of held).types) k ≡ Some t
-      → t < length (own_scope held).types
-  equal_within signature k t h =
-      let e : slice_get (equal_types s signature) k ≡ Some t = ap (λ xs. slice_get xs k) (sym (equal_are signature)) ∙ h in
+  pub equal_within : (signature : Signature) (t : ℕ) {low rest : List ℕ}
+      → ReadsAmong (places (has_signature signature) 0 (last_of held).types) low t rest → t < length (own_scope held).types
+  equal_within signature t r =
+      let e : slice_get (equal_types s signature) r.place ≡ Some t = ap (λ xs. slice_get xs r.place) (sym (equal_are signature)) ∙ r.named in
       omega (
         arith,
-        slice_get_within (spaces_at s).types t (function signature) (equal_at (spaces_at s).types signature k t e),
+        slice_get_within (spaces_at s).types t (function signature) (equal_at (spaces_at s).types signature r.place t e),
         ap (λ z. length z.types) own,
       )
 
@@ -293,25 +294,22 @@ module _ (draft : CanonicalDraft) (around : List Tree) (d : IsDraftIn around dra
     }
 
     -- to one of the types that are equal
-    pub lift_equal : (m k t : ℕ) → m ≡ length (places (has_signature signature) 0 (last_of held).types) → Reads m low k rest
-        → slice_get (places (has_signature signature) 0 (last_of held).types) k ≡ Some t → next ≡ with_canon s (lift c t) → ReadsLift config s b rest next
-    lift_equal m k t many read at e =
-        let r : ReadsAmong (places (has_signature signature) 0 (last_of held).types) low t rest =
-        record { place = k; reads = subst (λ z. Reads z low k rest) many read; named = at } in
-        lift_reads (to_equal (subst (λ xs. ReadsAmong xs low t rest) (equal_are signature) r) e)
+    pub lift_equal : (t : ℕ) → ReadsAmong (places (has_signature signature) 0 (last_of held).types) low t rest → next ≡ with_canon s (lift c t)
+        → ReadsLift config s b rest next
+    lift_equal t r e = lift_reads (to_equal (subst (λ xs. ReadsAmong xs low t rest) (equal_are signature) r) e)
 
-    none_equal : (m : ℕ) → m ≡ length (places (has_signature signature) 0 (last_of held).types) → m ≤ 0 → equal_types s signature ≡ []
-    none_equal m many none = sym (equal_are signature) ∙ nil_from_length (places (has_signature signature) 0 (last_of held).types) (omega (arith, many, none))
+    none_equal : places (has_signature signature) 0 (last_of held).types ≡ [] → equal_types s signature ≡ []
+    none_equal none = sym (equal_are signature) ∙ none
 
     -- to one that it defines
-    pub lift_defined : (m : ℕ) → m ≡ length (places (has_signature signature) 0 (last_of held).types) → m ≤ 0
-        → length (own_scope held).types < config.max_types → rest ≡ low → next ≡ with_defined s c signature → ReadsLift config s b rest next
-    lift_defined m many none room left e = lift_reads (to_defined (none_equal m many none) (omega (arith, room, ap (λ z. length z.types) own)) left e)
+    pub lift_defined : places (has_signature signature) 0 (last_of held).types ≡ [] → length (own_scope held).types < config.max_types → rest ≡ low
+        → next ≡ with_defined s c signature → ReadsLift config s b rest next
+    lift_defined none room left e = lift_reads (to_defined (none_equal none) (omega (arith, room, ap (λ z. length z.types) own)) left e)
 
     -- or not at all
-    pub lift_given_up : (m : ℕ) → m ≡ length (places (has_signature signature) 0 (last_of held).types) → m ≤ 0
-        → config.max_types ≤ length (own_scope held).types → rest ≡ low → next ≡ s → ReadsLift config s b rest next
-    lift_given_up m many none full left e = lift_reads (given_up (none_equal m many none) (omega (arith, full, ap (λ z. length z.types) own)) left e)
+    pub lift_given_up : places (has_signature signature) 0 (last_of held).types ≡ [] → config.max_types ≤ length (own_scope held).types → rest ≡ low
+        → next ≡ s → ReadsLift config s b rest next
+    lift_given_up none full left e = lift_reads (given_up (none_equal none) (omega (arith, full, ap (λ z. length z.types) own)) left e)
 
   -- It stays a draft where a core function is lifted to a type that is there.
   pub lift_draft : (new : OpenComponent) (more : List Func) (c t : ℕ) → t < length (own_scope held).types
@@ -433,6 +431,18 @@ front_push old mid new section f e none names =
     front_then old mid new f (record { more = section ∷ []; sections = e; no_imports = ap (λ xs. xs ++ []) none; names = names })
 
 -- A draft that continues, and continues again.
+
+-- what is chosen among the types that are equal to one of that signature
+
+pub chosen_equal : (ts : List DefType) (signature named : Signature) (b rest : List ℕ) (found : Option ℕ) (t : ℕ) → named ≡ signature → found ≡ Some t
+    → IsChosenEqual ts named b found rest → ReadsAmong (places (has_signature signature) 0 ts) b t rest
+chosen_equal ts signature named b rest found t same is chosen =
+    subst (λ z. ReadsAmong (places (has_signature z) 0 ts) b t rest) same (subst (λ o. IsChosenEqual ts named b o rest) is chosen)
+
+pub chosen_none : (ts : List DefType) (signature named : Signature) (b rest : List ℕ) (found : Option ℕ) → named ≡ signature
+    → ((t : ℕ) → found ≢ Some t) → IsChosenEqual ts named b found rest → (places (has_signature signature) 0 ts ≡ []) × (rest ≡ b)
+chosen_none ts signature named b rest None same none chosen = (ap (λ z. places (has_signature z) 0 ts) (sym same) ∙ chosen.0, chosen.1)
+chosen_none ts signature named b rest (Some t) same none chosen = absurd (none t refl)
 
 pub drafts_none : (d : CanonicalDraft) → DraftsOn d d
 drafts_none d = record {

@@ -51,7 +51,6 @@ grows b scopes totals inner more i items sound own outer depth totalled tabled =
       sound = (
         record {
           sound = sound;
-          valtypes_are = i.0.valtypes_are;
           scopes_are = split_marked scopes some ∙ (ap (λ s. s ∷ outer_marked scopes) own
               ∙ ap (λ ss. marked_inner b.config (stack_of b).outer (shown_sections inner.sections.items) ∷ ss) around);
           totalled = totalled;

@@ -3,7 +3,6 @@ use Rattle.std.proofs.Common.{◌≡◌, ℕ, List, [], ◌∷◌, arith, ap, sy
 use Rattle.std.specs.List.{flat_map}
 use Rattle.smith_input.proofs.Loops.{loop_gives}
 use Rattle.smith_format.specs.declared.config.Config.{Config}
-use Rattle.smith_format.specs.declared.types.ValType.{ValType}
 use Rattle.smith_scopes.specs.Scopes.{Contents, inward_marked, own_scope}
 use Rattle.smith_scopes.proofs.Stack.{own_scope_is}
 use Rattle.smith_syntax.specs.Marked.{first_marked, scope_in}
@@ -30,8 +29,8 @@ use Rattle.smith_component.proofs.Tables.{own_bare, tabled_types}
 use Rattle.smith_component.proofs.Tree.{function_count-add, functions_in}
 
 -- The last scope by itself is that of the inner component.
-pub tracked_own : {config : Config} {valtypes : List ValType} {totals : TreeTotals} {stack : Open} (scopes : List Contents)
-    → TracksStack config valtypes (inward_marked scopes) totals stack → own_scope scopes ≡ scope_of stack.inner
+pub tracked_own : {config : Config} {totals : TreeTotals} {stack : Open} (scopes : List Contents)
+    → TracksStack config (inward_marked scopes) totals stack → own_scope scopes ≡ scope_of stack.inner
 tracked_own {config} {stack = stack} scopes t =
     own_scope_is scopes ∙ (ap (λ ss. scope_in (first_marked ss)) t.scopes_are ∙ scope_marked config (marked_in config stack.outer) stack.inner)
 

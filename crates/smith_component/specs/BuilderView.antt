@@ -17,4 +17,4 @@ stack_of b = open_of (building_of b)
 
 abbrev pub IsSound : Progress → Type 0
 IsSound b =
-    TracksStack b.config b.valtypes.items (inward_marked b.scopes) b.totals (open_of (building_of b)) × AllByRecursion IsTabled (b.inner ∷ b.outer.items)
+    TracksStack b.config (inward_marked b.scopes) b.totals (open_of (building_of b)) × AllByRecursion IsTabled (b.inner ∷ b.outer.items)

@@ -1,10 +1,8 @@
 -- What is true of a builder at every moment, and which parts keep it true.
 use Rattle.std.specs.Prelude.{◌≡◌, ◌+◌, ◌≤◌, List, [], ◌∷◌, ◌++◌, length}
 use Rattle.std.specs.List.{AllByRecursion, flat_map}
-use Rattle.smith_format.specs.Limits.{configured}
 use Rattle.smith_format.specs.Consistency.{IsConsistent}
 use Rattle.smith_format.specs.declared.config.Config.{Config}
-use Rattle.smith_format.specs.declared.types.ValType.{ValType}
 use Rattle.smith_syntax.specs.Marked.{Marked}
 use Rattle.smith_tree.specs.Marking.{marked_after_part, marked_in, marked_inner}
 use Rattle.smith_tree.specs.Limits.{max_depth, OwnLimits, OwnSizes, Maxima, Minima, Sized}
@@ -35,11 +33,9 @@ pub record Totalled (totals : TreeTotals) (stack : Open) : Type 0 where
   pub components : totals.components ≡ component_count (tree_so_far stack.outer stack.inner)
   pub instances : totals.instances ≡ instance_count (tree_so_far stack.outer stack.inner)
 
--- The running totals are those of the tree so far, the scopes are those of the open components too, and the core value types those
--- that the config allows.
-pub record TracksStack (config : Config) (valtypes : List ValType) (scopes : List Marked) (totals : TreeTotals) (stack : Open) : Type 0 where
+-- The running totals are those of the tree so far, and the scopes are those of the open components too.
+pub record TracksStack (config : Config) (scopes : List Marked) (totals : TreeTotals) (stack : Open) : Type 0 where
   pub sound : Sound config stack
-  pub valtypes_are : valtypes ≡ configured config
   pub scopes_are : scopes ≡ marked_inner config stack.outer stack.inner ∷ marked_in config stack.outer
   pub totalled : Totalled totals stack
 

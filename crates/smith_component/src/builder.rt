@@ -3,7 +3,6 @@
 ghost use Rattle.std.specs.Prelude.{◌≡◌, ℕ, ◌+◌, List, [], length, IfOk, IfErr};
 ghost use Rattle.smith_input.specs.Reading.{IsTail};
 ghost use Rattle.smith_format.specs.Consistency.{IsConsistent};
-ghost use Rattle.smith_format.specs.Limits.{configured};
 ghost use Rattle.smith_component.specs.Building.{open_of};
 ghost use Rattle.smith_component.specs.BuilderView.{building_of, stack_of, IsSound};
 ghost use Rattle.smith_component.specs.Filling.{CanFill};
@@ -29,7 +28,7 @@ mod totals;
 
 use crate::component::Component;
 use open::OpenComponent;
-use smith_format::{Config, ValType, configured_valtypes};
+use smith_format::Config;
 use smith_input::{Error, Unstructured};
 use smith_tree::Item;
 use smith_types::Scopes;
@@ -49,7 +48,6 @@ pub struct Builder {
 pub(crate) struct Progress {
     alloc: Global,
     config: Config,
-    valtypes: Vec<ValType>,
     scopes: Scopes,
     outer: Vec<OpenComponent>,
     inner: OpenComponent,
@@ -79,29 +77,17 @@ pub enum Step {
     Finished(Component),
 }
 
-// The value types of limits that fit together.
-pub(crate) fn checked_valtypes(alloc: Global, config: &Config) -> Result<Vec<ValType>, Error>
-    ensures list { IfOk result (λ v. v.items ≡ configured config.now) }
-    ensures accepts { IfOk result (λ _. IsConsistent config.now) }
-    ensures refuses { IfErr result (IsNewRefusal config.now) }
-{
-    config.check()?;
-    configured_valtypes(alloc, config)
-}
-
 impl Progress {
-    // One open component, empty, within limits that fit together and have these value types. It is made where it stays:
-    // in a result it would be copied twice.
-    pub(crate) fn new(alloc: Global, config: Config, valtypes: Vec<ValType>) -> Progress
-        requires consistent { IsConsistent config }
-        requires valtypes { valtypes.items ≡ configured config }
+    // One open component, empty, within limits that fit together. It is made where it stays: in a result it would be
+    // copied twice.
+    pub(crate) fn new(alloc: Global, config: Config) -> Progress
+        requires { IsConsistent config }
         ensures made { (result.config ≡ config) × (stack_of result ≡ root) }
         ensures sound { IsSound result }
     {
         Progress {
             alloc,
             config,
-            valtypes,
             scopes: Scopes::with_marks(alloc, config.must_validate),
             outer: Vec::new(alloc),
             inner: OpenComponent::new(alloc),
@@ -160,8 +146,8 @@ impl Builder {
         ensures accepted { IfOk result (λ _. IsConsistent config) }
         ensures refuses { IfErr result (IsNewRefusal config) }
     {
-        let valtypes = checked_valtypes(alloc, &config)?;
-        let progress = Progress::new(alloc, config, valtypes);
+        config.check()?;
+        let progress = Progress::new(alloc, config);
         Ok(Builder { progress })
     }
 

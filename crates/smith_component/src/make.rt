@@ -11,7 +11,7 @@ ghost use Rattle.smith_tree.specs.Tree.{Tree};
 ghost use Rattle.smith_tree.specs.WellFormed.{WellFormed};
 ghost use Rattle.smith_format.specs.declared.config.Config.{Config};
 
-use crate::builder::{Progress, checked_valtypes};
+use crate::builder::Progress;
 use crate::component::Component;
 use smith_format::Config;
 use smith_input::{Error, Unstructured};
@@ -39,8 +39,8 @@ impl Component {
         ensures unread { ¬ IsConsistent config → u.new ≡ u.old }
         ensures tail { IsTail u.new u.old }
     {
-        let valtypes = checked_valtypes(alloc, &config)?;
-        let mut progress = Progress::new(alloc, config, valtypes);
+        config.check()?;
+        let mut progress = Progress::new(alloc, config);
         loop {
             let done = progress.turn(u)?;
             match done {

@@ -1,4 +1,5 @@
 pub mod SubTypes
+pub mod SectionPlaces
 pub mod Segments
 pub mod Parts
 pub mod Preamble

@@ -30,12 +30,17 @@ pub use types::{CompositeType, FieldType, StorageType, SubType};
 #[derive(Debug, Drop)]
 pub struct Module {
     parts: ModuleParts,
+    // The length of its bytes, unless it is too long.
+    length: Option<u64>,
 }
 
 impl Model for Module {
     ghost use Rattle.smith_core.specs.declared.module.parts.ModuleParts.{ModuleParts};
     ghost use Rattle.smith_core.specs.contracts.module.parts.ModuleParts as parts_of;
     ghost use Rattle.std.specs.Coded.{codes};
+    ghost use Rattle.std.specs.Prelude.{◌≡◌, None, MatchOption};
+    ghost use Rattle.smith_format.specs.Writing.{Takes};
+    ghost use Rattle.smith_core.specs.Module.{module_text};
     ghost use Rattle.smith_core.specs.Parts.{Agree};
 
     ghost Value = { ModuleParts };
@@ -44,10 +49,20 @@ impl Model for Module {
 
     ghost view = { λ m. m.parts };
 
-    ghost invariant = { λ m. Agree m.parts };
+    ghost invariant = { λ m. Agree m.parts
+        × MatchOption m.length (module_text m.parts ≡ None) (λ n. Takes n (module_text m.parts)) };
 }
 
 impl Module {
+    // The module of parts that agree.
+    fn of(parts: ModuleParts) -> Module
+        requires { Agree parts }
+        ensures { result ≡ parts }
+    {
+        let length = parts.measure().ok();
+        Module { parts, length }
+    }
+
     /// The module of these parts. It refuses exactly parts that disagree, with `PartsDisagree` and the parts as they
     /// were: where more functions, tables, memories or tags are defined than there are; where the groups do not hold
     /// each type once and in order; where a defined global is not there; where a segment of functions, or an active one
@@ -60,7 +75,7 @@ impl Module {
         if !parts.agree() {
             return Err((Error::PartsDisagree, parts));
         }
-        Ok(Module { parts })
+        Ok(Module::of(parts))
     }
 
     /// The length of the module's bytes. It is too long exactly where a length or a count written in them exceeds
@@ -68,7 +83,7 @@ impl Module {
     pub fn measure(&self) -> Result<u64, Error>
         ensures { Measures result (module_text self.now) }
     {
-        self.parts.measure()
+        self.length.ok_or(Error::TooLong)
     }
 
     /// Appends the module's bytes.

@@ -7,6 +7,7 @@ pub mod Names
 pub mod MadeCoreSame
 pub mod ModuleScript
 pub mod ModuleSaid
+pub mod Counts
 pub mod FrontFound
 pub mod FrontScript
 pub mod CoreScript

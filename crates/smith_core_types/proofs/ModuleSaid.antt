@@ -33,7 +33,7 @@ use Rattle.smith_input.proofs.Lists.{all_back}
 entities_both : (xs ys : List ModuleDecl) → entities_of (xs ++ ys) ≡ entities_of xs ++ entities_of ys
 entities_both xs ys = flat_map-append entities_in xs ys
 
-count_both : (k : ExportKind) (xs ys : List ModuleDecl) → count_of_kind k (xs ++ ys) ≡ count_of_kind k xs + count_of_kind k ys
+pub count_both : (k : ExportKind) (xs ys : List ModuleDecl) → count_of_kind k (xs ++ ys) ≡ count_of_kind k xs + count_of_kind k ys
 count_both k xs ys =
     ap (λ es. length (filter (is_of_kind k) es)) (entities_both xs ys)
     ∙ (ap length (filter-append (is_of_kind k) (entities_of xs) (entities_of ys))

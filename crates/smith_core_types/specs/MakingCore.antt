@@ -33,7 +33,7 @@ shown_funcs ts = map (λ t. shown_func t.value) ts
 
 -- a module type so far as plain trees, with this much fuel
 abbrev pub so_far : Declared → ℕ → SoFar
-so_far d fuel = record { own = shown_funcs d.own.items; decls = map shown_decl d.defs.items; fuel = fuel }
+so_far d fuel = record { own = shown_funcs d.own.items; decls = map shown_decl d.counted.defs.items; fuel = fuel }
 
 -- what an entity of a kind needs: a tag a type without results, and a function a type
 abbrev pub HasTypeFor : List Function → ExportKind → Type 0
@@ -100,7 +100,7 @@ own_after around own (d ∷ ds) = own_after around (own ++ adds around own d) ds
 
 -- A module type so far: each outer alias keeps the function type that it names, and its own types are those of its declarations.
 abbrev pub KeepsDeclared : List CoreEntry → Declared → Type 0
-KeepsDeclared around d = KeepEach around [] d.defs.items × (own_after around [] (map shown_decl d.defs.items) ≡ shown_funcs d.own.items)
+KeepsDeclared around d = KeepEach around [] d.counted.defs.items × (own_after around [] (map shown_decl d.counted.defs.items) ≡ shown_funcs d.own.items)
 
 -- what an outer alias is among, where these are the module type's own types
 abbrev pub choices_among : Scope → List Function → List (ℕ × ℕ)

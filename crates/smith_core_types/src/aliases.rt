@@ -86,7 +86,7 @@ pub(crate) fn add_alias(
     let (count, i, ty) = alias_choice(u, scopes, &declared.own)?;
     declared.own.push(ty.clone()?)?;
     declared
-        .defs
+        .counted
         .push(ModuleTypeDef::OuterAlias { count, i, ty })?;
     Ok(())
 }

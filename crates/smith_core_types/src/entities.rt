@@ -1,7 +1,8 @@
 //! What a module type imports and exports, from the input.
 
 ghost use Rattle.std.specs.Prelude.{◌≡◌, ℕ, ◌<◌, ◌&&◌, List, [], map, length, nat_lt, MatchOption};
-ghost use Rattle.std.specs.Prelude.{IfSome, IfOk, IfErr};
+ghost use Rattle.std.specs.Prelude.{IfSome};
+ghost use Rattle.smith_format.specs.CoreReading.{ReadsTag};
 ghost use Rattle.smith_input.specs.Choices.{ReadsAmong};
 ghost use Rattle.smith_input.specs.Reading.{IsTail, Flips};
 ghost use Rattle.smith_format.specs.declared.types.ExportKind.TheVariants as kind;
@@ -12,13 +13,13 @@ ghost use Rattle.smith_syntax.specs.ModuleTypes.{count_of_kind, is_tag_type};
 ghost use Rattle.smith_syntax.specs.Places.{places};
 ghost use Rattle.smith_syntax.specs.Shown.{shown_decl};
 
-use crate::declared::{Declared, allows, has_tag_type, tag_types};
+use crate::declared::{Declared, has_tag_type, tag_type_at, tag_type_count};
 use crate::making::Making;
 use smith_format::{
-    Config, EntityType, ExportKind, FuncType, GlobalType, ValType, arbitrary_memtype,
-    arbitrary_table_type, arbitrary_tag_type,
+    Config, EntityType, ExportKind, FuncType, GlobalType, TagType, ValType, arbitrary_memtype,
+    arbitrary_table_type,
 };
-use smith_input::{Error, Unstructured, choose_offered};
+use smith_input::{Unstructured, choose_offered};
 use smith_tree::kind_offers;
 use std::rc::Rc;
 
@@ -44,13 +45,26 @@ fn own_type(u: &mut Unstructured, own: &[Rc<FuncType>]) -> u32
     u.choose_index(own.len()) as u32
 }
 
+// A tag type of one of the own types without results.
+fn tag_type(u: &mut Unstructured, own: &[Rc<FuncType>]) -> TagType
+    requires some { 0 < length (places is_tag_type 0 (shown_funcs own.now)) }
+    requires few { length own.now < 1000 }
+    ensures reads { ReadsTag (places is_tag_type 0 (shown_funcs own.now)) u.old result u.new }
+    ensures tail { IsTail u.new u.old }
+{
+    let rank = u.choose_index(tag_type_count(own));
+    TagType {
+        func_type_idx: tag_type_at(own, rank),
+    }
+}
+
 // Is a tag allowed: below the limit, where there are tags, and where there is a type for one?
 fn allows_tag(config: &Config, declared: &Declared) -> bool
-    ensures { result ≡ (nat_lt (count_of_kind kind.Tag (map shown_decl declared.now.defs.items)) config.now.max_tags
-        && config.now.exceptions_enabled
+    ensures { result ≡ (nat_lt (count_of_kind kind.Tag (map shown_decl declared.now.counted.defs.items))
+        config.now.max_tags && config.now.exceptions_enabled
         && nat_lt 0 (length (places is_tag_type 0 (shown_funcs declared.now.own.items)))) }
 {
-    allows(&declared.defs, ExportKind::Tag, config.max_tags)
+    declared.counted.allows(ExportKind::Tag, config.max_tags)
         && config.exceptions_enabled
         && has_tag_type(&declared.own)
 }
@@ -58,9 +72,9 @@ fn allows_tag(config: &Config, declared: &Declared) -> bool
 // Is a function allowed: below the limit, and where there is a type?
 fn allows_function(config: &Config, declared: &Declared) -> bool
     ensures { result ≡ (nat_lt 0 (length (shown_funcs declared.now.own.items))
-        && nat_lt (count_of_kind kind.Func (map shown_decl declared.now.defs.items)) config.now.max_funcs) }
+        && nat_lt (count_of_kind kind.Func (map shown_decl declared.now.counted.defs.items)) config.now.max_funcs) }
 {
-    declared.own.len() > 0 && allows(&declared.defs, ExportKind::Func, config.max_funcs)
+    declared.own.len() > 0 && declared.counted.allows(ExportKind::Func, config.max_funcs)
 }
 
 // The kind of an entity: each below its limit, a tag where there is a type for it, a function where there is a type.
@@ -70,9 +84,15 @@ fn entity_kind(u: &mut Unstructured, config: &Config, declared: &Declared) -> Op
         (λ k. ReadsAmong (entity_kinds config.now (so_far declared.now 0)) u.old k u.new) }
     ensures possible { IfSome result (HasTypeFor (shown_funcs declared.now.own.items)) }
 {
-    let with_global = allows(&declared.defs, ExportKind::Global, config.max_globals);
-    let with_table = allows(&declared.defs, ExportKind::Table, config.max_tables);
-    let with_memory = allows(&declared.defs, ExportKind::Memory, config.max_memories);
+    let with_global = declared
+        .counted
+        .allows(ExportKind::Global, config.max_globals);
+    let with_table = declared
+        .counted
+        .allows(ExportKind::Table, config.max_tables);
+    let with_memory = declared
+        .counted
+        .allows(ExportKind::Memory, config.max_memories);
     let with_tag = allows_tag(config, declared);
     let with_func = allows_function(config, declared);
     let offers = kind_offers(with_global, with_table, with_memory, with_tag, with_func);
@@ -85,23 +105,19 @@ fn entity_of(
     u: &mut Unstructured,
     declared: &Declared,
     kind: ExportKind,
-) -> Result<EntityType, Error>
+) -> EntityType
     requires few { length declared.now.own.items < 1000 }
     requires possible { HasTypeFor (shown_funcs declared.now.own.items) kind }
-    ensures reads { IfOk result
-        (λ e. (fuel : ℕ) → ReadsEntityOf making.now.config.now (so_far declared.now fuel) kind u.old e u.new) }
-    ensures memory { IfErr result (λ e. e ≡ Error.OutOfMemory) }
+    ensures reads { (fuel : ℕ)
+        → ReadsEntityOf making.now.config.now (so_far declared.now fuel) kind u.old result u.new }
     ensures tail { IsTail u.new u.old }
 {
     match kind {
-        ExportKind::Global => Ok(EntityType::Global(global_type(u, making.valtypes))),
-        ExportKind::Table => Ok(EntityType::Table(arbitrary_table_type(u, making.config))),
-        ExportKind::Memory => Ok(EntityType::Memory(arbitrary_memtype(u, making.config))),
-        ExportKind::Tag => {
-            let tag_types = tag_types(making.alloc, &declared.own)?;
-            Ok(EntityType::Tag(arbitrary_tag_type(u, &tag_types)))
-        }
-        ExportKind::Func => Ok(EntityType::Func(own_type(u, &declared.own))),
+        ExportKind::Global => EntityType::Global(global_type(u, making.valtypes)),
+        ExportKind::Table => EntityType::Table(arbitrary_table_type(u, making.config)),
+        ExportKind::Memory => EntityType::Memory(arbitrary_memtype(u, making.config)),
+        ExportKind::Tag => EntityType::Tag(tag_type(u, &declared.own)),
+        ExportKind::Func => EntityType::Func(own_type(u, &declared.own)),
     }
 }
 
@@ -110,16 +126,11 @@ pub(crate) fn entity(
     making: &Making,
     u: &mut Unstructured,
     declared: &Declared,
-) -> Result<Option<EntityType>, Error>
+) -> Option<EntityType>
     requires few { length declared.now.own.items < 1000 }
-    ensures reads { IfOk result (λ e. (fuel : ℕ) →
-        MaybeEntity making.now.config.now (so_far declared.now fuel) u.old e u.new) }
-    ensures memory { IfErr result (λ e. e ≡ Error.OutOfMemory) }
+    ensures reads { (fuel : ℕ) → MaybeEntity making.now.config.now (so_far declared.now fuel) u.old result u.new }
     ensures tail { IsTail u.new u.old }
 {
-    let Some(kind) = entity_kind(u, making.config, declared) else {
-        return Ok(None);
-    };
-    let entity = entity_of(making, u, declared, kind)?;
-    Ok(Some(entity))
+    let kind = entity_kind(u, making.config, declared)?;
+    Some(entity_of(making, u, declared, kind))
 }

@@ -10,7 +10,8 @@ ghost use Rattle.smith_core_types.specs.MadeCore.{ReadsFront, ReadsFunctionLine,
 ghost use Rattle.smith_core_types.specs.MakingCore.{KeepsDeclared, so_far};
 ghost use Rattle.smith_syntax.specs.ModuleTypes.{realloc, free};
 
-use crate::declared::{Declared, allows, declare};
+use crate::counted::CountedDefs;
+use crate::declared::{Declared, declare};
 use crate::making::Making;
 use smith_format::{Config, EntityType, ExportKind, FuncType, ValType, arbitrary_memtype};
 use smith_input::{Error, Unstructured};
@@ -43,7 +44,7 @@ fn memory_line(making: &Making, u: &mut Unstructured, declared: &mut Declared) -
     }
     let name = String::from_str(making.alloc, "memory")?;
     let memory = EntityType::Memory(arbitrary_memtype(u, making.config));
-    declared.defs.push(ModuleTypeDef::Export(name, memory))?;
+    declared.counted.push(ModuleTypeDef::Export(name, memory))?;
     Ok(())
 }
 
@@ -70,7 +71,7 @@ fn allows_line(config: &Config, declared: &Declared) -> bool
     ensures { result ≡ (allows_function config.now (so_far declared.now 0)
         && allows_type config.now (so_far declared.now 0)) }
 {
-    allows(&declared.defs, ExportKind::Func, config.max_funcs)
+    declared.counted.allows(ExportKind::Func, config.max_funcs)
         && declared.own.len() < config.max_types
 }
 
@@ -101,7 +102,7 @@ fn function_line(
     declare(declared, function_of(making.alloc, params, results)?)?;
     let name = String::from_str(making.alloc, name)?;
     declared
-        .defs
+        .counted
         .push(ModuleTypeDef::Export(name, EntityType::Func(index)))?;
     Ok(())
 }
@@ -114,10 +115,10 @@ pub(crate) fn front(making: &Making, u: &mut Unstructured) -> Result<Declared, E
     ensures memory { IfErr result (λ e. e ≡ Error.OutOfMemory) }
     ensures tail { IsTail u.new u.old }
 {
-    // The three lines add two function types and five declarations at most.
+    // The three lines add two function types and five declarations at most. Few module types have many more.
     let mut declared = Declared {
-        own: Vec::with_capacity(making.alloc, 2)?,
-        defs: Vec::with_capacity(making.alloc, 5)?,
+        own: Vec::with_capacity(making.alloc, 3)?,
+        counted: CountedDefs::with_capacity(making.alloc, 8)?,
     };
     memory_line(making, u, &mut declared)?;
     function_line(

@@ -4,6 +4,7 @@
 mod aliases;
 mod core_functions;
 mod core_types;
+mod counted;
 mod declared;
 mod entities;
 mod front;

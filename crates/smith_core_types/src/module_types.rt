@@ -16,6 +16,7 @@ ghost use Rattle.smith_tree.specs.declared.choices.ModuleItem.TheVariants as ite
 
 use crate::aliases::{add_alias, alias_count};
 use crate::core_functions::core_function;
+use crate::counted::CountedDefs;
 use crate::declared::{Declared, declare};
 use crate::entities::entity;
 use crate::front::front;
@@ -71,8 +72,8 @@ fn import(making: &Making, u: &mut Unstructured, declared: &mut Declared) -> Res
     ensures memory { IfErr result (λ e. e ≡ Error.OutOfMemory) }
     ensures tail { IsTail u.new u.old }
 {
-    let (module, name) = import_names(making.alloc, u, &declared.defs)?;
-    match entity(making, u, declared)? {
+    let (module, name) = import_names(making.alloc, u, &declared.counted.defs)?;
+    match entity(making, u, declared) {
         None => Ok(false),
         Some(entity_type) => {
             let import = Import {
@@ -80,7 +81,7 @@ fn import(making: &Making, u: &mut Unstructured, declared: &mut Declared) -> Res
                 name,
                 entity_type,
             };
-            declared.defs.push(ModuleTypeDef::Import(import))?;
+            declared.counted.push(ModuleTypeDef::Import(import))?;
             Ok(true)
         }
     }
@@ -97,11 +98,11 @@ fn export(making: &Making, u: &mut Unstructured, declared: &mut Declared) -> Res
     ensures memory { IfErr result (λ e. e ≡ Error.OutOfMemory) }
     ensures tail { IsTail u.new u.old }
 {
-    let name = export_name(making.alloc, u, &declared.defs)?;
-    match entity(making, u, declared)? {
+    let name = export_name(making.alloc, u, &declared.counted.defs)?;
+    match entity(making, u, declared) {
         None => Ok(false),
         Some(entity) => {
-            declared.defs.push(ModuleTypeDef::Export(name, entity))?;
+            declared.counted.push(ModuleTypeDef::Export(name, entity))?;
             Ok(true)
         }
     }
@@ -207,6 +208,7 @@ pub(crate) fn module_type(
 {
     let mut declared = front(making, u)?;
     declarations(making, u, scopes, fuel, &mut declared)?;
-    let Declared { own: _, defs } = declared;
+    let Declared { own: _, counted } = declared;
+    let CountedDefs { defs, .. } = counted;
     Ok(defs)
 }

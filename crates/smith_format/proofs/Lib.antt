@@ -3,6 +3,7 @@ pub mod CoreReading
 pub mod CoreScript
 pub mod CoreTypes
 pub mod Entities
+pub mod Framing
 pub mod Many
 pub mod Digits
 pub mod Piece

@@ -11,6 +11,7 @@ mod lists;
 mod make;
 mod numbers;
 mod pieces;
+mod sections;
 mod types;
 
 pub use buffer::{CoreFormat, Spelled, settled, write_byte, write_bytes, write_spelled};
@@ -28,6 +29,7 @@ pub use numbers::{
     write_u32, write_u64,
 };
 pub use pieces::{raw_len, text_len, write_head, write_raw, write_section, write_text};
+pub use sections::{begin_section, end_section};
 pub use types::{
     EntityType, ExportKind, FuncType, GlobalType, Import, MemoryType, RefType, TableType, TagType,
     ValType, configured_valtypes,

@@ -37,6 +37,15 @@ impl Spelled<CoreFormat> for u64 {
     }
 }
 
+// Appends a number of several bytes. It is apart so that a number of one byte is written without a call.
+#[cold]
+#[inline(never)]
+fn write_long(out: &mut Vec<u8>, n: u64) -> Result<(), Error>
+    ensures { Appends result out.old out.new (number n) }
+{
+    write_spelled(out, &n)
+}
+
 /// Appends an unsigned number.
 pub fn write_u64(out: &mut Vec<u8>, n: u64) -> Result<(), Error>
     ensures { Appends result out.old out.new (number n) }
@@ -44,7 +53,7 @@ pub fn write_u64(out: &mut Vec<u8>, n: u64) -> Result<(), Error>
     if n < 128 {
         return write_byte(out, n as u8);
     }
-    write_spelled(out, &n)
+    write_long(out, n)
 }
 
 /// The length of an unsigned number.

@@ -1,11 +1,9 @@
 //! Core value types (core specification, Types).
 
-ghost use Rattle.std.specs.Prelude.{◌≡◌, IfOk, IfErr};
+ghost use Rattle.std.specs.Prelude.{◌≡◌};
 ghost use Rattle.smith_format.specs.Limits.{configured};
 
 use crate::config::Config;
-use smith_input::Error;
-use std::alloc::Global;
 
 /// A reference type (core specification, Types, Reference Types).
 #[derive(Debug, Clone, Copy, PartialEq, Eq, Hash)]
@@ -27,25 +25,57 @@ pub enum ValType {
     Ref(RefType),
 }
 
+// The value types in the order in which they are listed. Each table ends with the references.
+static ALL_TYPES: [ValType; 7] = [
+    ValType::I32,
+    ValType::I64,
+    ValType::F32,
+    ValType::F64,
+    ValType::V128,
+    ValType::Ref(RefType::FuncRef),
+    ValType::Ref(RefType::ExternRef),
+];
+
+static WITHOUT_VECTORS: [ValType; 6] = [
+    ValType::I32,
+    ValType::I64,
+    ValType::F32,
+    ValType::F64,
+    ValType::Ref(RefType::FuncRef),
+    ValType::Ref(RefType::ExternRef),
+];
+
+static WITHOUT_FLOATS: [ValType; 5] = [
+    ValType::I32,
+    ValType::I64,
+    ValType::V128,
+    ValType::Ref(RefType::FuncRef),
+    ValType::Ref(RefType::ExternRef),
+];
+
+static INTEGERS_AND_REFERENCES: [ValType; 4] = [
+    ValType::I32,
+    ValType::I64,
+    ValType::Ref(RefType::FuncRef),
+    ValType::Ref(RefType::ExternRef),
+];
+
 /// The value types that the limits allow, at least i32 and i64: then f32 and f64, v128, and the references to functions
-/// and to things from outside, each where it is enabled. It fails only when out of memory.
-pub fn configured_valtypes(alloc: Global, config: &Config) -> Result<Vec<ValType>, Error>
-    ensures list { IfOk result (λ v. v.items ≡ configured config.now) }
-    ensures memory { IfErr result (λ e. e ≡ Error.OutOfMemory) }
+/// and to things from outside, each where it is enabled. It takes no memory.
+pub fn configured_valtypes(config: &Config) -> &'static [ValType]
+    ensures { result.now ≡ configured config.now }
 {
-    let mut types = Vec::with_capacity(alloc, 7)?;
-    types.extend_from_slice(&[ValType::I32, ValType::I64])?;
-    if config.allow_floats {
-        types.extend_from_slice(&[ValType::F32, ValType::F64])?;
+    let references = config.reference_types_enabled;
+    match (config.allow_floats, config.simd_enabled, references) {
+        (true, true, true) => &ALL_TYPES,
+        (true, true, false) => &ALL_TYPES[..5],
+        (true, false, true) => &WITHOUT_VECTORS,
+        (true, false, false) => &WITHOUT_VECTORS[..4],
+        (false, true, true) => &WITHOUT_FLOATS,
+        (false, true, false) => &WITHOUT_FLOATS[..3],
+        (false, false, true) => &INTEGERS_AND_REFERENCES,
+        (false, false, false) => &INTEGERS_AND_REFERENCES[..2],
     }
-    if config.simd_enabled {
-        types.push(ValType::V128)?;
-    }
-    if config.reference_types_enabled {
-        types.push(ValType::Ref(RefType::FuncRef))?;
-        types.push(ValType::Ref(RefType::ExternRef))?;
-    }
-    Ok(types)
 }
 
 /// A function type: the types of its parameters and of its results (core specification, Types, Composite Types).

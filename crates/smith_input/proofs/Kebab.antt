@@ -1,8 +1,8 @@
 -- Names in kebab case that are read, and that are made unique.
 use Rattle.std.proofs.Common.{◌≡◌, nat_eq, ℕ, zero, suc, ◌+◌, ◌-◌, ◌<◌, ◌≤◌, ◌⊎◌, Bool, true, false, List, [], ◌∷◌, ◌++◌, length, refl, sym, ap, subst}
-use Rattle.std.proofs.Common.{◌∙◌, arith, inl, inr, ⊎_elim, append_assoc}
+use Rattle.std.proofs.Common.{◌∙◌, arith, cond, get_or, inl, inr, ⊎_elim, append_assoc}
 use Rattle.std.proofs.lemmas.Bool.Decides.{nat_tests}
-use Rattle.std.proofs.lemmas.Bool.{cases_lt}
+use Rattle.std.proofs.lemmas.Bool.{cases_lt, eqb-true}
 use Rattle.std.specs.Fmt.{decimal}
 use Rattle.smith_input.specs.Reading.{Reads, IsTail}
 use Rattle.smith_input.specs.Kebab.{IsLetter, IsDigit, AreInWord, IsWord, Kebab, word, hyphen}
@@ -146,3 +146,27 @@ kebab_unique r s =
     let c = reads_unique r.counted s.counted in
     let same = each_unique r.chosen s.chosen c.1 c.0 in
     (r.spelt ∙ (ap (characters true) same.0 ∙ sym s.spelt), same.1)
+
+both : (a b : Bool) → cond a b false ≡ true → (a ≡ true) × (b ≡ true)
+both true b e = (refl, e)
+both false b e = cc
+
+-- whether a list has what f computes at each place from n on
+unfoldable pub same_from : (ℕ → ℕ) → List ℕ → ℕ → Bool
+same_from f [] n = true
+same_from f (x ∷ xs) n = cond (nat_eq x (f n)) (same_from f xs (suc n)) false
+
+read_at : (f : ℕ → ℕ) (xs : List ℕ) (n k : ℕ) → same_from f xs n ≡ true → k < length xs → get_or xs k 0 ≡ f (k + n)
+unfolding same_from
+read_at f [] n k same h = absurd (omega arith)
+read_at f (x ∷ xs) n zero same h = eqb-true x (f n) (both (nat_eq x (f n)) (same_from f xs (suc n)) same).0
+    ∙ ap f (let e : n ≡ 0 + n = omega arith in e)
+read_at f (x ∷ xs) n (suc k) same h =
+    read_at f xs (suc n) k (both (nat_eq x (f n)) (same_from f xs (suc n)) same).1 (omega arith)
+    ∙ ap f (let e : k + suc n ≡ suc k + n = omega arith in e)
+
+-- what is at a place of such a table, which x holds
+pub tabled : {X : Type 0} (list : X → List ℕ) (f : ℕ → ℕ) {x y : X} (k : ℕ) → x ≡ y → same_from f (list y) 0 ≡ true → k < length (list y)
+    → get_or (list x) k 0 ≡ f k
+tabled list f {y = y} k e same h =
+    ap (λ s. get_or (list s) k 0) e ∙ read_at f (list y) 0 k same h ∙ ap f (let z : k + 0 ≡ k = omega arith in z)

@@ -39,3 +39,10 @@ reads_rest n w bytes rest number z i e d = record {
   spells = omega (arith, e, div-add-mod' number n);
   left = d;
 }
+
+-- one byte tells up to 256 things apart
+pub one_byte : (n : ℕ) → 1 < n → n ≤ 256 → IsWidth n 1
+one_byte n h k = record { enough = k; least = λ v le. above_none v le } where
+  above_none : (v : ℕ) → n ≤ 256 ^ v → 1 ≤ v
+  above_none zero le = absurd (omega arith)
+  above_none (suc v) le = omega arith

@@ -21,18 +21,18 @@ pub const MAX_NAME_LEN: usize = 100;
 
 const HOST: &str = "https://example.com/";
 
-// The character of a choice among 37, where a word must begin or goes on.
+// The characters of a choice among 37, where a word begins and where it goes on.
+const BEGINNINGS: &[u8; 37] = b"abcdefghijklmnopqrstuvwxyzabcdefghija";
+
+const CONTINUATIONS: &[u8; 37] = b"abcdefghijklmnopqrstuvwxyz0123456789-";
+
+// The character of a choice. Tables take no branch, which no processor could foresee here.
 fn kebab_character(choice: u8, begins: bool) -> u8
     requires { choice < 37 }
     ensures { result ≡ character begins choice }
 {
-    match choice {
-        0..=25 => b'a' + choice,
-        26..=35 if begins => b'a' + (choice - 26),
-        26..=35 => b'0' + (choice - 26),
-        _ if begins => b'a',
-        _ => b'-',
-    }
+    let characters = if begins { BEGINNINGS } else { CONTINUATIONS };
+    characters[usize::from(choice)]
 }
 
 // A name in kebab case.

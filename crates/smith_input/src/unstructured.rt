@@ -94,7 +94,7 @@ impl<'a> Unstructured<'a> {
     }
 
     // A choice among `last + 1`, which may exceed 64 bits.
-    fn pick(&mut self, last: u64) -> u64
+    fn pick_wide(&mut self, last: u64) -> u64
         ensures { Reads (last + 1) self.old result self.new }
     {
         let width = width_of(last);
@@ -106,7 +106,21 @@ impl<'a> Unstructured<'a> {
         }
     }
 
-    /// A choice among `n`, from 0 to `n - 1`: the fewest bytes that distinguish `n` things are read, the most
+    // A choice among `last + 1`: one byte or none for most, which takes no loop and no division of 64 bits.
+    fn pick(&mut self, last: u64) -> u64
+        ensures { Reads (last + 1) self.old result self.new }
+    {
+        if last == 0 {
+            return 0;
+        }
+        if last > 255 {
+            return self.pick_wide(last);
+        }
+        let byte = u32::from(self.arbitrary_u8());
+        u64::from(byte % (last as u32 + 1))
+    }
+
+    /// A choice among `n`, from 0 to `n - 1`: the fewest bytes that tell `n` things apart are read, the most
     /// significant first, and their number is taken modulo `n`. No byte is read where `n` is 1.
     pub fn choose_index(&mut self, n: usize) -> usize
         requires { 0 < n }

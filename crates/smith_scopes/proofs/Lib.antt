@@ -5,5 +5,6 @@ pub mod Offered
 pub mod Parts
 pub mod Places
 pub mod Plain
+pub mod Rows
 pub mod Stack
 pub mod Tied

@@ -21,11 +21,6 @@ last_of-snoc ss s = ap (λ r. get_or r 0 (empty_marked false)) (reverse-append s
 pub last_is : (scopes ss : List Contents) (s : Contents) → ss ++ s ∷ [] ≡ scopes → last_of scopes ≡ s
 last_is scopes ss s e = ap last_of (sym e) ∙ last_of-snoc ss s
 
--- what holds of the places in the innermost scope holds of those in the last one
-pub places_last : (test : DefType → Bool) (scopes ss : List Contents) (s : Contents) (row : List ℕ) → ss ++ s ∷ [] ≡ scopes → row ≡ places test 0 s.types
-    → row ≡ places test 0 (last_of scopes).types
-places_last test scopes ss s row e is = is ∙ ap (λ d. places test 0 d.types) (sym (last_is scopes ss s e))
-
 pub inward-snoc : (ss : List Contents) (s : Contents) → inward (ss ++ s ∷ []) ≡ shown_scope s ∷ inward ss
 inward-snoc ss s = ap reverse (map-append shown_scope ss (s ∷ [])) ∙ reverse-append (map shown_scope ss) (shown_scope s ∷ [])
 
@@ -48,6 +43,12 @@ module _ {A : Type 0} (p : A → Bool) where
       let at : i + 1 + length xs ≡ i + length (x ∷ xs) = omega arith in
       ap (λ ws. cond (p x) (i ∷ ws) ws) (rest ∙ ap (λ k. places p (i + 1) xs ++ places p k ys) at)
       ∙ push_front (p x) i (places p (i + 1) xs) (places p (i + length (x ∷ xs)) ys)
+
+  pub places-snoc : (xs : List A) (x : A) (b : Bool) → p x ≡ b → places p 0 (xs ++ x ∷ []) ≡ places p 0 xs ++ cond b (length xs ∷ []) []
+  places-snoc xs x b e =
+      places-append 0 xs (x ∷ [])
+      ∙ ap (λ c. places p 0 xs ++ cond c ((0 + length xs) ∷ []) []) e
+      ∙ ap (λ n. places p 0 xs ++ cond b (n ∷ []) []) (let z : 0 + length xs ≡ length xs = omega arith in z)
 
   pub length-places : (i : ℕ) (xs : List A) → length (places p i xs) ≤ length xs
   length-places i [] = omega arith

@@ -1,3 +1,4 @@
 pub mod Kept
 pub mod ModuleSizes
+pub mod Rows
 pub mod Scopes

@@ -1,11 +1,8 @@
 -- The scopes of the program, outermost first, and what it keeps beside the types of each.
-use Rattle.std.specs.Prelude.{◌≡◌, ℕ, ◌≤◌, false, List, [], ◌∷◌, ◌++◌, drop, map, length, reverse, get_or, Option, Some, None, if◌then◌else◌}
-use Rattle.std.specs.HashMap.{HashMap, get}
+use Rattle.std.specs.Prelude.{◌≡◌, ℕ, ◌≤◌, false, List, [], ◌∷◌, ◌++◌, drop, map, length, reverse, get_or, Option}
 use Rattle.std.specs.declared.alloc.Global.{Global}
-use Rattle.std.specs.declared.rc.Rc.{Rc}
-use Rattle.std.specs.declared.vec.Vec.{Vec}
+use Rattle.std.specs.declared.boxed.Box.{Box}
 use Rattle.smith_format.specs.Consistency.{max_u32}
-use Rattle.smith_syntax.specs.Entries.{Signature}
 use Rattle.smith_syntax.specs.Scope.{ScopeOf, Scope, is_defined, is_func, is_component}
 use Rattle.smith_syntax.specs.Marked.{Marked, MarkedOf, empty_marked, first_marked, scope_in, with_marked, with_sized}
 use Rattle.smith_syntax.specs.Marks.{no_mark}
@@ -13,12 +10,13 @@ use Rattle.smith_syntax.specs.declared.marks.Mark.{Mark}
 use Rattle.smith_syntax.specs.Places.{own_of, outer_of, places, is_core_func}
 use Rattle.smith_syntax.specs.Scope.{is_instance, is_core_module}
 use Rattle.smith_syntax.specs.Shown.{shown_type, shown_core}
-use Rattle.smith_syntax.specs.HasSignature.{has_signature}
-use Rattle.smith_syntax.specs.SameSignature.{same_signature}
 use Rattle.smith_syntax.specs.declared.core_types.CoreType.{CoreType}
+use Rattle.smith_scopes.specs.Rows.{AreNoted}
+use Rattle.smith_scopes.specs.declared.scopes.equals.Equals.{Equals}
 use Rattle.smith_scopes.specs.declared.scopes.Kind.{Kind}
 use Rattle.smith_scopes.specs.declared.scopes.Kind.TheVariants as kind
 use Rattle.smith_syntax.specs.declared.deftype.DefType.{DefType}
+pub use Rattle.smith_scopes.specs.Rows.{values_of}
 
 -- a scope of the program's own types
 abbrev pub Types : Type 0
@@ -107,33 +105,13 @@ kind_places kind.Instance s = places is_instance 0 s.types
 kind_places kind.CoreFunc s = places is_core_func 0 s.core_types
 kind_places kind.CoreModule s = places is_core_module 0 s.core_types
 
--- A row of a map from function types to indexes. A type that the map doesn't have has the empty row.
-abbrev pub row_in : {Z : Type 0} → Option (Vec ℕ Z) → List ℕ
-row_in None = []
-row_in (Some row) = row.items
-
-module _ {Z S : Type 0} where
-  abbrev pub row_of : HashMap Signature (Vec ℕ Z) S → Signature → List ℕ
-  row_of m s = row_in (get same_signature m s)
-
-  abbrev pub SameRows : HashMap Signature (Vec ℕ Z) S → HashMap Signature (Vec ℕ Z) S → Type 0
-  SameRows old new = (s : Signature) → row_of new s ≡ row_of old s
-
-  -- the row of f has i at its end, and every other row is as it was
-  abbrev pub Notes : Signature → ℕ → HashMap Signature (Vec ℕ Z) S → HashMap Signature (Vec ℕ Z) S → Type 0
-  Notes f i old new = (s : Signature) → row_of new s ≡ (if same_signature f s then row_of old s ++ i ∷ [] else row_of old s)
-
--- what shared types and shared core types are
-abbrev pub values_of : {X : Type 0} → List (Rc X Global) → List X
-values_of entries = map (λ e. e.value) entries
-
--- The indexes of each kind, and for each function type the indexes of its equals. An index has 32 bits.
-pub record IsTied {Z S : Type 0} (types : List DefType) (defined funcs components instances : List ℕ) (equal : HashMap Signature (Vec ℕ Z) S) : Type 0 where
+-- The indexes of each kind, and the rows of the first types. An index has 32 bits.
+pub record IsTied (types : List DefType) (defined funcs components instances : List ℕ) (equals : Option (Box Equals Global)) : Type 0 where
   pub defined_are : defined ≡ places is_defined 0 (map shown_type types)
   pub funcs_are : funcs ≡ places is_func 0 (map shown_type types)
   pub components_are : components ≡ places is_component 0 (map shown_type types)
   pub instances_are : instances ≡ places is_instance 0 (map shown_type types)
-  pub equal_are : (s : Signature) → row_of equal s ≡ places (has_signature s) 0 types
+  pub equals_are : AreNoted equals types
   pub few : length types ≤ max_u32
 
 -- the indexes of each kind of core type

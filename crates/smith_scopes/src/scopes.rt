@@ -5,11 +5,12 @@ ghost use Rattle.std.specs.Prelude.{OnOk, IfOk, OnErr, IfErr};
 ghost use Rattle.smith_format.specs.Consistency.{max_u32};
 ghost use Rattle.smith_syntax.specs.Marked.{empty_marked};
 ghost use Rattle.smith_syntax.specs.Scope.{empty_scope, with_type, with_core_type};
-ghost use Rattle.smith_syntax.specs.Places.{places};
+ghost use Rattle.smith_input.specs.Reading.{IsTail};
+ghost use Rattle.smith_scopes.specs.Rows.{IsChosenEqual};
 ghost use Rattle.smith_scopes.specs.Scopes.{shown_types, kind_places, last_of};
-ghost use Rattle.smith_syntax.specs.HasSignature.{has_signature};
-ghost use Rattle.smith_scopes.specs.Scopes.{AddsType, AddsMarked, AddsCoreType, AddsSized, Notes, SameRows};
+ghost use Rattle.smith_scopes.specs.Scopes.{AddsType, AddsMarked, AddsCoreType, AddsSized};
 
+mod equals;
 mod marked;
 mod marking;
 mod module_sizes;
@@ -19,16 +20,15 @@ mod queries;
 mod references;
 mod sizes;
 
+use equals::Equals;
 use marked::Marked;
 pub use module_sizes::ModuleSize;
 pub use offers::{Offer, Offers, Uses};
 pub use parts::{defined_mark, function_mark};
 pub use sizes::{function_size, size_sum};
-use smith_input::Error;
-use smith_syntax::{CoreType, DefType, FuncType, Mark, drop_last_first};
+use smith_input::{Error, Unstructured};
+use smith_syntax::{CoreType, DefType, FuncType, Mark, drop_last_first, reserve_one};
 use std::alloc::Global;
-use std::collections::HashMap;
-use std::hash::{BuildHasherDefault, DefaultHasher};
 use std::marker::Model;
 use std::mem;
 use std::rc::Rc;
@@ -50,20 +50,16 @@ pub enum Kind {
     CoreModule,
 }
 
-// The indexes of the equals of each function type. The names in them are from the input: a hasher that such names can
-// steer would make the map slow, and SipHash is none.
-type Equals = HashMap<FuncType, Vec<u32>, BuildHasherDefault<DefaultHasher>>;
-
-// The types and core types of one scope, with the indexes of each kind and, by each function type, those of its equals.
-// Contracts see types and core types. It drops its types from the last to the first, since each may hold those before
-// it; no clause can say so.
+// The types and core types of one scope, with the indexes of each kind, and which function types are equal. Contracts
+// see types and core types. It drops its types from the last to the first, since each may hold those before it; no
+// clause can say so.
 struct Scope {
     types: Vec<Rc<DefType>>,
     defined: Vec<u32>,
     funcs: Vec<u32>,
     components: Vec<u32>,
     instances: Vec<u32>,
-    equal: Equals,
+    equals: Option<Box<Equals>>,
     core_types: Vec<Rc<CoreType>>,
     core_funcs: Vec<u32>,
     core_modules: Vec<u32>,
@@ -82,7 +78,7 @@ impl Model for Scope {
     ghost view = { λ s. record { types = values_of s.types.items; core_types = values_of s.core_types.items } };
 
     ghost invariant = { λ s. IsTied (values_of s.types.items) s.defined.items s.funcs.items
-        s.components.items s.instances.items s.equal
+        s.components.items s.instances.items s.equals
         × IsCoreTied (values_of s.core_types.items) s.core_funcs.items s.core_modules.items };
 }
 
@@ -117,7 +113,7 @@ impl Drop for Scope {
             funcs: _,
             components: _,
             instances: _,
-            equal: _,
+            equals: _,
             core_types,
             core_funcs: _,
             core_modules: _,
@@ -139,18 +135,6 @@ impl Drop for Scopes {
     }
 }
 
-// Puts the index at the end of the row of a function type. Where it refuses, each row is as it was.
-fn note(equal: &mut Equals, alloc: Global, func: &FuncType, index: u32) -> Result<(), Error>
-    ensures ok { OnOk result (Notes func.now index equal.old equal.new) }
-    ensures err { OnErr result (SameRows equal.old equal.new) }
-    ensures memory { IfErr result (λ e. e ≡ Error.OutOfMemory) }
-{
-    let key = func.copied(alloc)?;
-    let row = equal.entry(key)?.or_insert(Vec::new(alloc));
-    row.push(index)?;
-    Ok(())
-}
-
 impl Scope {
     fn new(alloc: Global) -> Scope
         ensures { result ≡ empty_scope }
@@ -161,7 +145,7 @@ impl Scope {
             funcs: Vec::new(alloc),
             components: Vec::new(alloc),
             instances: Vec::new(alloc),
-            equal: HashMap::with_hasher(alloc, BuildHasherDefault::default()),
+            equals: None,
             core_types: Vec::new(alloc),
             core_funcs: Vec::new(alloc),
             core_modules: Vec::new(alloc),
@@ -169,7 +153,7 @@ impl Scope {
     }
 
     // Adds a type at the end. Each list has room before one of them grows.
-    fn push_type(&mut self, alloc: Global, entry: Rc<DefType>) -> Result<u32, Error>
+    fn push_type(&mut self, entry: Rc<DefType>) -> Result<u32, Error>
         requires { length self.old.types < max_u32 }
         ensures ok { OnOk result (self.new ≡ with_type self.old entry.value) }
         ensures index { IfOk result (λ i. i ≡ length self.old.types) }
@@ -180,11 +164,7 @@ impl Scope {
         self.types.reserve(1)?;
         match &*entry {
             DefType::Defined(_) => self.defined.push(index)?,
-            DefType::Func(func) => {
-                self.funcs.reserve(1)?;
-                note(&mut self.equal, alloc, &**func, index)?;
-                self.funcs.push_reserved(index);
-            }
+            DefType::Func(_) => self.funcs.push(index)?,
             DefType::Component(_) => self.components.push(index)?,
             DefType::Instance(_) => self.instances.push(index)?,
         }
@@ -226,13 +206,27 @@ impl Scope {
         }
     }
 
-    fn equals(&self, func: &FuncType) -> &[u32]
-        ensures { result.now ≡ places (has_signature func.now) 0 self.now.types }
+    // The index of a type that is equal to that function type, by a choice; none where there is none. If it fails,
+    // no type is noted.
+    fn choose_equal(
+        &mut self,
+        alloc: Global,
+        func: &Rc<FuncType>,
+        u: &mut Unstructured,
+    ) -> Result<Option<u32>, Error>
+        ensures chosen { IfOk result (λ found. IsChosenEqual self.old.types func.now.value u.old found u.new) }
+        ensures same { self.new ≡ self.old }
+        ensures memory { IfErr result (λ e. e ≡ Error.OutOfMemory) }
+        ensures tail { IsTail u.new u.old }
     {
-        match self.equal.get(func) {
-            Some(row) => row,
-            None => &[],
-        }
+        let mut equals = match self.equals.take() {
+            Some(equals) => equals,
+            None => Box::new(alloc, Equals::new(alloc))?,
+        };
+        equals.note_rest(alloc, &self.types)?;
+        let found = equals.choose(func, u);
+        self.equals = Some(equals);
+        Ok(found)
     }
 }
 
@@ -262,7 +256,7 @@ impl Scopes {
         ensures err { OnErr result (self.new ≡ self.old) }
         ensures memory { IfErr result (λ e. e ≡ Error.OutOfMemory) }
     {
-        self.outer.reserve(1)?;
+        reserve_one(&mut self.outer)?;
         let empty = Marked::new(self.alloc, self.inner.keeps());
         let around = mem::replace(&mut self.inner, empty);
         self.outer.push_reserved(around);
@@ -274,9 +268,7 @@ impl Scopes {
         requires { 2 ≤ length self.old }
         ensures { self.old ≡ self.new ++ last_of self.old ∷ [] }
     {
-        if let Some(around) = self.outer.pop() {
-            self.inner = around;
-        }
+        self.inner = self.outer.take_last();
     }
 
     /// Adds a type to the last scope, and returns its index there. It fails only when out of memory, and all is then as
@@ -300,7 +292,23 @@ impl Scopes {
         ensures err { OnErr result (self.new ≡ self.old) }
         ensures memory { IfErr result (λ e. e ≡ Error.OutOfMemory) }
     {
-        self.inner.push_type(self.alloc, entry, mark)
+        self.inner.push_type(entry, mark)
+    }
+
+    /// The index of a function type of the last scope that equals that one, by a choice; none where there is none. It
+    /// fails only when out of memory.
+    pub fn choose_equal(
+        &mut self,
+        func: &Rc<FuncType>,
+        u: &mut Unstructured,
+    ) -> Result<Option<u32>, Error>
+        ensures chosen { IfOk result
+            (λ found. IsChosenEqual (last_of self.old).types func.now.value u.old found u.new) }
+        ensures same { self.new ≡ self.old }
+        ensures memory { IfErr result (λ e. e ≡ Error.OutOfMemory) }
+        ensures tail { IsTail u.new u.old }
+    {
+        self.inner.choose_equal(self.alloc, func, u)
     }
 
     /// Adds a core type to the last scope, and returns its index there. It fails only when out of memory, and all is

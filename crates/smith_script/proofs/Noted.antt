@@ -16,7 +16,7 @@ use Rattle.smith_read_scopes.specs.Scope.{nodes_of}
 use Rattle.smith_read_types.specs.TypeNodes.{shown_type_node}
 use Rattle.smith_read_types.specs.declared.nodes.TypeNode.{TypeNode}
 use Rattle.smith_scopes.proofs.Places.{get_left}
-use Rattle.smith_scopes.specs.Scopes.{row_in}
+use Rattle.smith_scopes.specs.Rows.{row_in}
 use Rattle.smith_syntax.specs.Entries.{Entry, Signature, function}
 use Rattle.smith_syntax.specs.HasSignature.{is_of_signature}
 use Rattle.smith_syntax.specs.Places.{places}

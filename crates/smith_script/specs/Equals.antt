@@ -6,7 +6,7 @@ use Rattle.smith_syntax.specs.Entries.{Entry, Signature, function}
 use Rattle.smith_syntax.specs.HasSignature.{is_of_signature}
 use Rattle.smith_syntax.specs.Places.{places}
 use Rattle.smith_syntax.specs.SameSignature.{same_signature}
-use Rattle.smith_scopes.specs.Scopes.{row_in}
+use Rattle.smith_scopes.specs.Rows.{row_in}
 
 -- the row of that number, if there is one
 abbrev pub row_at : {Z : Type 0} → List (Vec ℕ Z) → Option ℕ → List ℕ

@@ -104,7 +104,7 @@ fn number_of(
     }
 }
 
-// Puts the index at the end of the row of a function type. Where it refuses, each row is as it was.
+// Puts the index at the end of the row of a function type. If it fails, each row is as it was.
 fn note(
     numbers: &mut Numbers,
     rows: &mut Vec<Vec<usize>>,

@@ -17,9 +17,8 @@ pub fn valtypes_of(alloc: Global, config: &Config) -> Result<Vec<ValType>, Error
     ensures list { IfOk result (λ v. v.items ≡ configured config.now) }
     ensures memory { IfErr result (λ e. e ≡ OutOfMemory) }
 {
-    let Ok(valtypes) = configured_valtypes(alloc, config) else {
-        return Err(Error::OutOfMemory);
-    };
+    let mut valtypes = Vec::new(alloc);
+    valtypes.extend_from_slice(configured_valtypes(config))?;
     Ok(valtypes)
 }
 

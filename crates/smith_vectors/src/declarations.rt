@@ -43,7 +43,7 @@ fn three_types(alloc: Global) -> Result<Scopes, Fail> {
 fn made<R: Abort + AllocGlobal>(rt: &R, input: &[u8], fuel_left: u32) -> Result<Rc<DefType>, Fail> {
     let config = small_limits();
     config.check()?;
-    let valtypes = configured_valtypes(rt.alloc(), &config)?;
+    let valtypes = configured_valtypes(&config);
     let mut scopes = three_types(rt.alloc())?;
     let depth = scopes.depth();
     assert!(rt; depth == 1);
@@ -53,7 +53,7 @@ fn made<R: Abort + AllocGlobal>(rt: &R, input: &[u8], fuel_left: u32) -> Result<
         rt.alloc(),
         &mut u,
         &config,
-        &valtypes,
+        valtypes,
         &mut scopes,
         &mut fuel,
     )?;

@@ -1,7 +1,7 @@
 //! Function types of a scope that are equal.
 
-use crate::common::{check_count, check_holds};
-use smith_input::Error;
+use crate::common::check_holds;
+use smith_input::{Error, Unstructured};
 use smith_types::{ComponentValType, DefType, DefinedType, FuncType, PrimitiveValType, Scopes};
 use std::alloc::Global;
 use std::process::Abort;
@@ -32,13 +32,20 @@ fn two_types(alloc: Global) -> Result<Scopes, Fail> {
     Ok(scopes)
 }
 
-fn is_equal_at<R: Abort>(rt: &R, scopes: &Scopes, func: &FuncType, places: &[u32]) {
-    let many = scopes.equal_len(func);
-    check_count(rt, "equal function types", many, places.len());
-    for k in 0..many {
-        let place = scopes.equal_at(func, k);
-        check_holds(rt, "a place", places.get(k) == Some(&place));
+// The equals of that function type that choices by 0, 1, 2 and so on find.
+fn check_equals<R: Abort>(
+    rt: &R,
+    scopes: &mut Scopes,
+    func: &Rc<FuncType>,
+    expected: &[Option<u32>],
+) -> Result<(), Fail> {
+    for (byte, expected) in [0, 1, 2, 3].iter().zip(expected) {
+        let input = [*byte];
+        let mut u = Unstructured::new(&input);
+        let found = scopes.choose_equal(func, &mut u)?;
+        check_holds(rt, "an equal type", found == *expected);
     }
+    Ok(())
 }
 
 fn push<R: Abort>(rt: &R, scopes: &mut Scopes, entry: &Rc<DefType>) -> Result<u32, Error> {
@@ -52,12 +59,17 @@ fn push<R: Abort>(rt: &R, scopes: &mut Scopes, entry: &Rc<DefType>) -> Result<u3
 #[test]
 fn equal_function_types_are_found(rt: HostRuntime) -> Result<(), Fail> {
     let alloc = rt.alloc();
-    let func = of_char(alloc, "b")?;
-    let other = of_char(alloc, "c")?;
+    let func = Rc::new(alloc, of_char(alloc, "b")?)?;
+    let other = Rc::new(alloc, of_char(alloc, "c")?)?;
     let mut scopes = two_types(alloc)?;
+    check_equals(&rt, &mut scopes, &func, &[Some(0), Some(0)])?;
+    check_equals(&rt, &mut scopes, &other, &[None])?;
     let third = shared(alloc, of_char(alloc, "b")?)?;
+    let fourth = shared(alloc, of_char(alloc, "c")?)?;
     assert_eq!(rt; push(&rt, &mut scopes, &third)?, 2);
-    is_equal_at(&rt, &scopes, &func, &[0, 2]);
-    is_equal_at(&rt, &scopes, &other, &[]);
+    assert_eq!(rt; push(&rt, &mut scopes, &fourth)?, 3);
+    let expected = [Some(0), Some(2), Some(0), Some(2)];
+    check_equals(&rt, &mut scopes, &func, &expected)?;
+    check_equals(&rt, &mut scopes, &other, &[Some(3), Some(3)])?;
     Ok(())
 }

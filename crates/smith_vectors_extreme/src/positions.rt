@@ -2,7 +2,7 @@
 
 use crate::common::{check_count, check_holds, check_out_of_memory};
 use crate::scarcity::{LOANS, Scarcity};
-use smith_input::Error;
+use smith_input::{Error, Unstructured};
 use smith_types::{ComponentValType, DefType, DefinedType, FuncType, PrimitiveValType, Scopes};
 use std::alloc::Global;
 use std::process::Abort;
@@ -33,13 +33,20 @@ fn two_types(alloc: Global) -> Result<Scopes, Fail> {
     Ok(scopes)
 }
 
-fn is_equal_at<R: Abort>(rt: &R, scopes: &Scopes, func: &FuncType, places: &[u32]) {
-    let many = scopes.equal_len(func);
-    check_count(rt, "equal function types", many, places.len());
-    for k in 0..many {
-        let place = scopes.equal_at(func, k);
-        check_holds(rt, "a place", places.get(k) == Some(&place));
+// The equals of that function type that choices by 0, 1, 2 and so on find.
+fn check_equals<R: Abort>(
+    rt: &R,
+    scopes: &mut Scopes,
+    func: &Rc<FuncType>,
+    expected: &[Option<u32>],
+) -> Result<(), Fail> {
+    for (byte, expected) in [0, 1, 2, 3].iter().zip(expected) {
+        let input = [*byte];
+        let mut u = Unstructured::new(&input);
+        let found = scopes.choose_equal(func, &mut u)?;
+        check_holds(rt, "an equal type", found == *expected);
     }
+    Ok(())
 }
 
 fn push<R: Abort>(rt: &R, scopes: &mut Scopes, entry: &Rc<DefType>) -> Result<u32, Error> {
@@ -51,26 +58,47 @@ fn push<R: Abort>(rt: &R, scopes: &mut Scopes, entry: &Rc<DefType>) -> Result<u3
 }
 
 #[test]
-fn equal_function_types_while_memory_runs_out(rt: HostRuntime) -> Result<(), Fail> {
+fn a_push_while_memory_runs_out(rt: HostRuntime) -> Result<(), Fail> {
     let alloc = rt.alloc();
-    let func = of_char(alloc, "b")?;
-    let mut scopes = two_types(alloc)?;
-    let third = shared(alloc, of_char(alloc, "b")?)?;
+    let mut scopes = Scopes::new(alloc);
+    let first = shared(alloc, of_char(alloc, "b")?)?;
     let mut memory = Scarcity::new(alloc)?;
     for refused in 0..LOANS {
         memory.lend();
-        match push(&rt, &mut scopes, &third) {
+        match push(&rt, &mut scopes, &first) {
             Ok(index) => {
-                check_holds(&rt, "an index", index == 2);
-                is_equal_at(&rt, &scopes, &func, &[0, 2]);
+                check_holds(&rt, "an index", index == 0);
                 check_holds(&rt, "a push", 0 < refused);
                 return Ok(());
             }
             Err(error) => {
                 check_out_of_memory(&rt, "a push", error);
-                is_equal_at(&rt, &scopes, &func, &[0]);
-                check_count(&rt, "types", scopes.own_len(), 2);
+                check_count(&rt, "types", scopes.own_len(), 0);
             }
+        }
+    }
+    panic!(rt; "there is never enough memory")
+}
+
+// No index is in a row twice, however often memory was refused while types were noted.
+#[test]
+fn equal_function_types_while_memory_runs_out(rt: HostRuntime) -> Result<(), Fail> {
+    let alloc = rt.alloc();
+    let func = Rc::new(alloc, of_char(alloc, "b")?)?;
+    let mut scopes = two_types(alloc)?;
+    let third = shared(alloc, of_char(alloc, "b")?)?;
+    push(&rt, &mut scopes, &third)?;
+    let mut memory = Scarcity::new(alloc)?;
+    for refused in 0..LOANS {
+        memory.lend();
+        let mut u = Unstructured::new(&[1]);
+        match scopes.choose_equal(&func, &mut u) {
+            Ok(_) => {
+                check_holds(&rt, "a question", 0 < refused);
+                let expected = [Some(0), Some(2), Some(0), Some(2)];
+                return check_equals(&rt, &mut scopes, &func, &expected);
+            }
+            Err(error) => check_out_of_memory(&rt, "a question", error),
         }
     }
     panic!(rt; "there is never enough memory")

@@ -87,17 +87,17 @@ impl<'a> CanonicalDraft<'a> {
     }
 
     // Ends the canonical section, defines the type in a section of its own, and begins another with the lift.
-    fn define(&mut self, core_func_index: u32, ty: FuncType) -> Result<(), Error>
+    fn define(&mut self, core_func_index: u32, ty: Rc<FuncType>) -> Result<(), Error>
         requires draft { IsDraft self.old }
         requires types { length (own_scope self.old.scopes.now).types < max_u32 }
         requires room { functions_at (spaces_at (draft_of self.old)) < max_u32 }
         ensures loans { SameLoans self.old self.new }
-        ensures defines { OnOk result (draft_of self.new ≡ with_defined (draft_of self.old) core_func_index ty) }
+        ensures defines { OnOk result (draft_of self.new ≡ with_defined (draft_of self.old) core_func_index ty.value) }
         ensures drafts { OnOk result (DraftsOn self.old self.new) }
         ensures memory { IfErr result (λ e. e ≡ Error.OutOfMemory) }
     {
-        let mark = self.scopes.function_mark(&ty);
-        let shared = Rc::new(self.alloc, DefType::Func(Rc::new(self.alloc, ty)?))?;
+        let mark = self.scopes.function_mark(&*ty);
+        let shared = Rc::new(self.alloc, DefType::Func(ty))?;
         let func_ty = self.scopes.push_marked(shared.clone()?, mark)?;
         let mut types = Vec::new(self.alloc);
         types.push(shared)?;
@@ -127,10 +127,9 @@ impl<'a> CanonicalDraft<'a> {
         ensures tail { IsTail u.new u.old }
     {
         let core_func_index = u.choose_index(self.component.tables.core_functions.len()) as u32;
-        let ty = self.lifted_type(core_func_index, u)?;
-        let equal = self.scopes.equal_len(&ty);
-        if equal > 0 {
-            let func_ty = self.scopes.equal_at(&ty, u.choose_index(equal));
+        let signature = self.lifted_type(core_func_index, u)?;
+        let ty = Rc::new(self.alloc, signature)?;
+        if let Some(func_ty) = self.scopes.choose_equal(&ty, u)? {
             self.component.tables.add_function(self.scopes, func_ty)?;
             self.funcs.push(Func::CanonLift {
                 func_ty,

@@ -12,7 +12,7 @@ ghost use Rattle.smith_component.specs.EntriesState.{CanReadTypes, GrowsScope};
 ghost use Rattle.smith_component.specs.SectionValues.{ReadsTypeValue, ReadsCoreTypeValue};
 
 use crate::builder::Progress;
-use smith_format::{Config, ValType};
+use smith_format::{Config, ValType, configured_valtypes};
 use smith_input::{Error, Unstructured};
 use smith_types::{CoreType, DefType, Scopes, arbitrary_core_type, arbitrary_type};
 use std::alloc::Global;
@@ -59,13 +59,14 @@ impl Progress {
         ensures memory { IfErr result (λ e. e ≡ Error.OutOfMemory) }
         ensures tail { IsTail u.new u.old }
     {
+        let valtypes = configured_valtypes(&self.config);
         let scopes = &mut self.scopes;
         let mut entries = Vec::new(self.alloc);
         for done in 0..max {
             if !u.more(done, min, max) {
                 return Ok(entries);
             }
-            let entry = E::read(self.alloc, &self.config, &self.valtypes, scopes, u)?;
+            let entry = E::read(self.alloc, &self.config, valtypes, scopes, u)?;
             entries.push(entry)?;
         }
         Ok(entries)

@@ -1,7 +1,9 @@
 //! The sections of a core module (core specification, Binary Format, Modules).
 
-ghost use Rattle.std.specs.Prelude.{◌≡◌};
+ghost use Rattle.std.specs.Prelude.{◌≡◌, Some, slice_get};
 ghost use Rattle.smith_core.specs.Module.{section_id, is_written};
+ghost use Rattle.smith_core.specs.SectionPlaces.{section_place};
+ghost use Rattle.smith_core.specs.declared.module.sections.SectionKind.{SectionKind};
 
 use crate::module::parts::ModuleParts;
 
@@ -64,8 +66,9 @@ impl SectionKind {
 }
 
 impl ModuleParts {
-    // Whether a section is written.
-    pub(super) fn has_section(&self, kind: SectionKind) -> bool
+    // Whether a section is written. It is inlined, so that a known kind costs no choice.
+    #[inline(always)]
+    fn has_section(&self, kind: SectionKind) -> bool
         ensures { result ≡ is_written self.now kind }
     {
         match kind {
@@ -83,5 +86,26 @@ impl ModuleParts {
             SectionKind::Code => !self.code.is_empty(),
             SectionKind::Data => !self.data_segments.is_empty(),
         }
+    }
+
+    // Whether each section is written, in the order in which a module has them.
+    pub(super) fn written(&self) -> [bool; 13]
+        ensures { (kind : SectionKind) → slice_get result (section_place kind) ≡ Some (is_written self.now kind) }
+    {
+        [
+            self.has_section(SectionKind::Types),
+            self.has_section(SectionKind::Imports),
+            self.has_section(SectionKind::Functions),
+            self.has_section(SectionKind::Tables),
+            self.has_section(SectionKind::Memories),
+            self.has_section(SectionKind::Tags),
+            self.has_section(SectionKind::Globals),
+            self.has_section(SectionKind::Exports),
+            self.has_section(SectionKind::Start),
+            self.has_section(SectionKind::Elements),
+            self.has_section(SectionKind::DataCount),
+            self.has_section(SectionKind::Code),
+            self.has_section(SectionKind::Data),
+        ]
     }
 }

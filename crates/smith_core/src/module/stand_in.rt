@@ -34,11 +34,12 @@ fn function_types(
             return Ok(types);
         }
         let func = configured_func_type(alloc, u, config, valtypes)?;
-        types.push(SubType {
+        types.reserve(1)?;
+        types.push_reserved(SubType {
             is_final: true,
             supertype: None,
             composite_type: CompositeType::Func(func),
-        })?;
+        });
     }
     Ok(types)
 }
@@ -67,7 +68,7 @@ fn groups_of_one(alloc: Global, types: &[SubType]) -> Result<Vec<(usize, usize)>
     ensures groups { IfOk result (λ v. v.items ≡ groups_from 0 types.now) }
     ensures memory { IfErr result (λ e. e ≡ Error.OutOfMemory) }
 {
-    let mut groups = Vec::new(alloc);
+    let mut groups = Vec::with_capacity(alloc, types.len())?;
     for at in 0..types.len() {
         groups.push((at, at + 1))?;
     }
@@ -92,8 +93,8 @@ impl Module {
         if config.min_memories > config.max_memories {
             return Err(Error::ModuleRefused);
         }
-        let valtypes = configured_valtypes(alloc, &config)?;
-        let types = function_types(alloc, u, &config, &valtypes, config.max_types.min(20))?;
+        let valtypes = configured_valtypes(&config);
+        let types = function_types(alloc, u, &config, valtypes, config.max_types.min(20))?;
         let memories = memories(alloc, u, &config)?;
         let mut parts = ModuleParts::empty(alloc);
         parts.should_encode_types = !types.is_empty();
@@ -102,6 +103,6 @@ impl Module {
         parts.types = types;
         parts.num_defined_memories = memories.len();
         parts.memories = memories;
-        Ok(Module { parts })
+        Ok(Module::of(parts))
     }
 }

@@ -1,10 +1,10 @@
-//! Core modules in the binary format (core specification, Binary Format, Modules). All sizes are measured first, and
-//! then the sections are written in order.
+//! Core modules in the binary format (core specification, Binary Format, Modules). The sections are written in order.
+//! The length of each is put before its contents once they are written.
 #![tactic(auto, using(smith_format::proofs::Steps::writing, smith_format::proofs::Sizes::measuring))]
 
 ghost use Rattle.std.specs.Prelude.{◌≡◌, ℕ, ◌≤◌, ◌<◌, ◌^◌, length, IfOk};
 ghost use Rattle.smith_format.specs.Writing.{Puts, IsLengthOf, Measures};
-ghost use Rattle.smith_core.specs.Module.{contents, section, module_text, last, start};
+ghost use Rattle.smith_core.specs.Module.{contents, is_written, section, module_text, last, start};
 ghost use Rattle.smith_core.specs.Parts.{Agree};
 
 use crate::module::encode::{
@@ -14,7 +14,8 @@ use crate::module::parts::ModuleParts;
 use crate::module::sections::{BINARY_ORDER, SectionKind};
 use crate::preamble::CORE_PREAMBLE;
 use smith_format::{
-    count_len, many_len, put_many, u32_len, write_bytes, write_count, write_head, write_u32,
+    begin_section, count_len, end_section, many_len, put_many, u32_len, write_bytes, write_count,
+    write_u32,
 };
 use smith_input::Error;
 
@@ -98,26 +99,26 @@ impl ModuleParts {
     }
 
     // A section, where it is written.
-    fn put_section(&self, out: &mut Vec<u8>, kind: SectionKind) -> Result<(), Error>
-        requires { Agree self.now }
+    fn put_section(&self, out: &mut Vec<u8>, kind: SectionKind, written: bool) -> Result<(), Error>
+        requires agree { Agree self.now }
+        requires written { written ≡ is_written self.now kind }
         ensures { Puts result out.old out.new (section self.now kind) }
     {
-        if !self.has_section(kind) {
+        if !written {
             return Ok(());
         }
-        let Some(length) = self.contents_len(kind) else {
-            return Err(Error::TooLong);
-        };
-        write_head(out, kind.id(), length)?;
-        self.put_contents(out, kind)
+        let start = begin_section(out, kind.id())?;
+        self.put_contents(out, kind)?;
+        end_section(out, start)
     }
 
-    fn section_len(&self, kind: SectionKind) -> Result<u64, Error>
-        requires { Agree self.now }
+    fn section_len(&self, kind: SectionKind, written: bool) -> Result<u64, Error>
+        requires agree { Agree self.now }
+        requires written { written ≡ is_written self.now kind }
         ensures length { Measures result (section self.now kind) }
         ensures most { IfOk result (λ n. n < 2 ^ 34) }
     {
-        if !self.has_section(kind) {
+        if !written {
             return Ok(0);
         }
         let Some(length) = self.contents_len(kind) else {
@@ -132,8 +133,9 @@ impl ModuleParts {
         ensures { Puts result out.old out.new (module_text self.now) }
     {
         write_bytes(out, &CORE_PREAMBLE)?;
+        let written = self.written();
         for kind in &BINARY_ORDER {
-            self.put_section(out, *kind)?;
+            self.put_section(out, *kind, written[*kind as usize])?;
         }
         Ok(())
     }
@@ -144,8 +146,9 @@ impl ModuleParts {
         ensures { Measures result (module_text self.now) }
     {
         let mut total = 8;
+        let written = self.written();
         for kind in &BINARY_ORDER {
-            total += self.section_len(*kind)?;
+            total += self.section_len(*kind, written[*kind as usize])?;
         }
         Ok(total)
     }

@@ -5,14 +5,14 @@ ghost use Rattle.std.specs.Prelude.{OnOk, IfOk, OnErr, IfErr, IfSome, Some};
 ghost use Rattle.smith_format.specs.Consistency.{max_u32};
 ghost use Rattle.smith_scopes.specs.Kept.{AreOffered};
 ghost use Rattle.smith_syntax.specs.Marks.{no_mark};
-ghost use Rattle.smith_syntax.specs.HasSignature.{has_signature};
-ghost use Rattle.smith_syntax.specs.Places.{places};
+ghost use Rattle.smith_input.specs.Reading.{IsTail};
+ghost use Rattle.smith_scopes.specs.Rows.{IsChosenEqual};
 ghost use Rattle.smith_scopes.specs.Scopes.{kind_places, shown_marked, shown_scope};
 ghost use Rattle.smith_syntax.specs.Marked.{empty_marked, with_marked, with_sized};
 
 use super::offers::{Offer, Offers, Uses};
 use super::{Kind, Scope};
-use smith_input::Error;
+use smith_input::{Error, Unstructured};
 use smith_syntax::{CoreType, DefType, FuncType, Mark, Reach};
 use std::alloc::Global;
 use std::marker::Model;
@@ -86,11 +86,19 @@ impl Marked {
         self.scope.places(kind)
     }
 
-    // The indexes of the function types that are equal to that one.
-    pub(super) fn equals(&self, func: &FuncType) -> &[u32]
-        ensures { result.now ≡ places (has_signature func.now) 0 self.now.types }
+    // The index of a type that is equal to that function type, by a choice; none where there is none.
+    pub(super) fn choose_equal(
+        &mut self,
+        alloc: Global,
+        func: &Rc<FuncType>,
+        u: &mut Unstructured,
+    ) -> Result<Option<u32>, Error>
+        ensures chosen { IfOk result (λ found. IsChosenEqual self.old.types func.now.value u.old found u.new) }
+        ensures same { self.new ≡ self.old }
+        ensures memory { IfErr result (λ e. e ≡ Error.OutOfMemory) }
+        ensures tail { IsTail u.new u.old }
     {
-        self.scope.equals(func)
+        self.scope.choose_equal(alloc, func, u)
     }
 
     // The indexes of the types that may be used for it, or none if all types may be.
@@ -132,12 +140,7 @@ impl Marked {
     }
 
     // Adds a type at the end. Each list has room before one of them grows.
-    pub(super) fn push_type(
-        &mut self,
-        alloc: Global,
-        entry: Rc<DefType>,
-        mark: Mark,
-    ) -> Result<u32, Error>
+    pub(super) fn push_type(&mut self, entry: Rc<DefType>, mark: Mark) -> Result<u32, Error>
         requires { length self.old.types < max_u32 }
         ensures ok { OnOk result (self.new ≡ with_marked self.old entry.value mark) }
         ensures index { IfOk result (λ i. i ≡ length self.old.types) }
@@ -145,12 +148,12 @@ impl Marked {
         ensures memory { IfErr result (λ e. e ≡ Error.OutOfMemory) }
     {
         if !self.keeps {
-            return self.scope.push_type(alloc, entry);
+            return self.scope.push_type(entry);
         }
         self.marks.reserve(1)?;
         self.offers.reserve()?;
         let uses = Uses::new(&*entry, mark);
-        let index = self.scope.push_type(alloc, entry)?;
+        let index = self.scope.push_type(entry)?;
         self.offers.add(index, uses);
         self.marks.push_reserved(mark);
         Ok(index)

@@ -2,16 +2,14 @@
 
 ghost use Rattle.std.specs.Prelude.{◌≡◌, ◌<◌, ◌≤◌, get_or, length, true, Some, slice_get};
 ghost use Rattle.smith_format.specs.Consistency.{max_u32};
-ghost use Rattle.smith_syntax.specs.Places.{places};
 ghost use Rattle.smith_scopes.specs.Kept.{offered_places};
 ghost use Rattle.smith_syntax.specs.Marks.{no_mark};
-ghost use Rattle.smith_syntax.specs.HasSignature.{has_signature};
 ghost use Rattle.smith_scopes.specs.Scopes.{own_marked, own_scope, kind_places, last_of, scope_at};
 
 use super::marked::Marked;
 use super::offers::Offer;
 use crate::scopes::{Kind, Scopes};
-use smith_syntax::{CoreType, DefType, FuncType, Mark};
+use smith_syntax::{CoreType, DefType, Mark};
 use std::rc::Rc;
 
 impl Scopes {
@@ -94,21 +92,6 @@ impl Scopes {
         ensures { slice_get (kind_places kind (own_scope self.now)) k ≡ Some result }
     {
         self.inner.places(kind)[k]
-    }
-
-    /// How many types of the last scope are function types equal to that one.
-    pub fn equal_len(&self, func: &FuncType) -> usize
-        ensures { result ≡ length (places (has_signature func.now) 0 (last_of self.now).types) }
-    {
-        self.inner.equals(func).len()
-    }
-
-    /// The index of the function type of the last scope that equals that one and has `k` earlier such ones.
-    pub fn equal_at(&self, func: &FuncType, k: usize) -> u32
-        requires { k < length (places (has_signature func.now) 0 (last_of self.now).types) }
-        ensures { slice_get (places (has_signature func.now) 0 (last_of self.now).types) k ≡ Some result }
-    {
-        self.inner.equals(func)[k]
     }
 
     /// Are marks kept?

@@ -1,15 +1,27 @@
-use Rattle.smith_format.proofs.Sizes.{sized_none}
-use Rattle.smith_format.proofs.Steps.{appends_puts, begins_same, due_left, due_none, ends_sized, exits, keeps_begins, sized_is}
+use Rattle.std.proofs.Common.{sym, ap, arith, ◌∷◌, []}
+use Rattle.smith_format.specs.Writing.{piece_length}
+use Rattle.smith_format.proofs.Framing.{contents_exit, section_exit}
+use Rattle.smith_format.proofs.Piece.{joined}
+use Rattle.smith_format.proofs.Steps.{gains_then, keeps_begins}
 use Rattle.smith_component.proofs.encode.put_module.Goals as goal
 
-pub returns-in_default : goal.returns-in_default
-returns-in_default c = (begins_same, due_none (sized_none 1 _ (c.in_default.ensures {u = tt})))
+pub returns-in_err-start : goal.returns-in_err-start
+returns-in_err-start c =
+    let failed = (c.in_err-start.ensures {u = tt}).begins in
+    section_exit c.from_residual.result _ c.args.out.now c.begin_section.new.out 1 _ c.from_residual.ensures.1 failed.0 failed.1
 
-pub returns-in_err-write_head : goal.returns-in_err-write_head
-returns-in_err-write_head c =
-    let d = c.in_err-write_head.ensures {u = tt} in
-    rw (sized_is 1 ((c.in-Some.ensures {u = tt}).0)) (exits _ _ c.from_residual.ensures.1 (keeps_begins d.0) (due_left _ d.1))
+pub returns-in_err-write : goal.returns-in_err-write
+returns-in_err-write c =
+    let failed = c.in_err-write.ensures {u = tt} in
+    contents_exit c.from_residual-in_err-write.result _ c.args.out.now c.begin_section.new.out c.write.new.out 1 _
+    c.from_residual-in_err-write.ensures.1 (c.in_ok-start.ensures {u = tt}).begins (keeps_begins failed.0) failed.1
+
+pub end_section-requires : goal.end_section-requires
+end_section-requires c =
+    let begun = c.in_ok-start.ensures {u = tt} in
+    omega (arith, begun.place, begun.begins.length, (c.in_ok-write.ensures {u = tt}).length, ap piece_length (joined (1 ∷ []) (0 ∷ [])))
 
 pub returns : goal.returns
 returns c =
-    ends_sized c.write.result 1 _ ((c.in-Some.ensures {u = tt}).0) (c.in_ok-write_head.ensures {u = tt}) (appends_puts c.write.result _ _ _ c.write.ensures)
+    let begun = c.in_ok-start.ensures {u = tt} in
+    c.end_section.ensures c.args.out.now 1 _ (sym begun.place) (gains_then begun.begins (c.in_ok-write.ensures {u = tt}))

@@ -26,7 +26,7 @@ returns-clause-adds c config fuel =
     let own = pushed (λ t. shown_func t.value) old.own.items c.push.new.self.items c.in_ok-clone.field-0 c.in_ok-push.ensures.items
     ∙ ap (λ f. shown_funcs old.own.items ++ f ∷ []) (ap shown_func c.in_ok-clone.ensures.cases)
     ∙ ap (λ fs. shown_funcs old.own.items ++ fs) (sym one) in
-    let decls = pushed shown_decl old.defs.items c.push-2.new.self.items _ c.in_ok-push-2.ensures.items in
+    let decls = pushed shown_decl old.counted.defs.items c.push-2.new.self.defs.items _ c.in_ok-push-2.ensures.items in
     (aliases a.count a.i, ((a.count, a.i), subst R kept a.ensures.reads, refl), same_state (fuel - 1) (fuel - 1) own decls refl)
 
 pub returns-clause-kept : goal.returns-clause-kept
@@ -39,4 +39,5 @@ returns-clause-kept c k =
     let owns = pushed (λ t. shown_func t.value) old.own.items c.push.new.self.items c.in_ok-clone.field-0 c.in_ok-push.ensures.items
     ∙ ap (λ f. own ++ f ∷ []) (ap shown_func c.in_ok-clone.ensures.cases)
     ∙ ap (λ fs. own ++ fs) (sym (alias_adds (own_of (inward c.args.scopes.now)).core_types own a.count a.i (shown_func a.ty.value) named)) in
-    keep_more (own_of (inward c.args.scopes.now)).core_types own _ old.defs.items _ (decl.OuterAlias a.count a.i a.ty) k named owns c.in_ok-push-2.ensures.items
+    keep_more (own_of (inward c.args.scopes.now)).core_types own _ old.counted.defs.items _ (decl.OuterAlias a.count a.i a.ty) k named owns
+    c.in_ok-push-2.ensures.items

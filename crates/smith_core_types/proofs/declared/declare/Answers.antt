@@ -12,4 +12,4 @@ returns-clause-kept c around k =
     let own = shown_funcs old.own.items in
     let owns = pushed (λ t. shown_func t.value) old.own.items c.push.new.self.items c.in_ok-shared.shared c.in_ok-push.ensures.items
     ∙ ap (λ t. own ++ shown_func t ∷ []) c.in_ok-shared.ensures.cases in
-    keep_more around own _ old.defs.items _ (decl.FuncDef c.args.ty) k tt owns c.in_ok-push-2.ensures.items
+    keep_more around own _ old.counted.defs.items _ (decl.FuncDef c.args.ty) k tt owns c.in_ok-push-2.ensures.items

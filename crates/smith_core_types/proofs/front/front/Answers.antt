@@ -16,7 +16,7 @@ returns-clause-reads c fuel =
       with_memory = first;
       after_memory = c.memory_line.new.u;
       memory = subst L (same_state fuel fuel (ap (map (λ t. shown_func t.value)) c.in_ok-with_capacity.ensures.items)
-          (ap (map shown_decl) c.in_ok-with_capacity-2.ensures.items) refl) (c.in_ok-memory_line.ensures.reads fuel);
+          (ap (map shown_decl) c.in_ok-with_capacity-2.ensures.none) refl) (c.in_ok-memory_line.ensures.reads fuel);
       with_realloc = so_far c.function_line.new.declared fuel;
       after_realloc = c.function_line.new.u;
       reallocs = c.in_ok-function_line.ensures.reads fuel;
@@ -26,9 +26,9 @@ returns-clause-reads c fuel =
 pub returns-clause-kept : goal.returns-clause-kept
 returns-clause-kept c around =
     let own = c.in_ok-with_capacity.field-0.items in
-    let defs = c.in_ok-with_capacity-2.field-0.items in
+    let defs = c.in_ok-with_capacity-2.field-0.defs.items in
     let owns = ap shown_funcs c.in_ok-with_capacity.ensures.items in
-    let none = c.in_ok-with_capacity-2.ensures.items in
+    let none = c.in_ok-with_capacity-2.ensures.none in
     let first : KeepEach around [] defs × (own_after around [] (map shown_decl defs) ≡ shown_funcs own) =
     (subst (KeepEach around []) (sym none) tt, ap (λ ds. own_after around [] (map shown_decl ds)) none ∙ sym owns) in
     c.in_ok-function_line-2.ensures.kept around (c.in_ok-function_line.ensures.kept around (c.in_ok-memory_line.ensures.kept around first))

@@ -24,14 +24,14 @@ pub returns-clause-reads : goal.returns-clause-reads
 returns-clause-reads c fuel =
     let old = c.args.declared.now in
     let own = shown_funcs old.own.items in
-    let before = map shown_decl old.defs.items in
+    let before = map shown_decl old.counted.defs.items in
     let f : Function = (c.args.params.now, c.args.results.now) in
     let made = c.in_ok-function_of.ensures.made in
     let name = c.args.name.now in
     let count : c.len-index.result ≡ length own = omega (arith, c.len-index.ensures, length-map old.own.items (λ t. shown_func t.value)) in
     let owns = c.in_ok-declare.ensures.own ∙ ap (λ g. own ++ g ∷ []) made in
     let first = c.in_ok-declare.ensures.defs ∙ ap (λ g. before ++ declares g ∷ []) made in
-    let last = pushed shown_decl c.declare.new.declared.defs.items c.push.new.self.items _ c.in_ok-push.ensures.items in
+    let last = pushed shown_decl c.declare.new.declared.counted.defs.items c.push.new.self.defs.items _ c.in_ok-push.ensures.items in
     let decls = last ∙ (λ i. first i ++ exports (c.in_ok-name.ensures.ok i) (Func (count i)) ∷ [])
     ∙ append_assoc before (declares f ∷ []) (exports name (Func (length own)) ∷ []) in
     taken (sym c.allows_line.ensures ∙ c.if-not-allows_line.false) c.ratio.ensures.1
@@ -41,4 +41,4 @@ pub returns-clause-kept : goal.returns-clause-kept
 returns-clause-kept c around k =
     let mid = c.declare.new.declared in
     let own = shown_funcs mid.own.items in
-    keep_more around own own mid.defs.items _ _ (c.in_ok-declare.ensures.kept around k) tt (sym (append-nil own)) c.in_ok-push.ensures.items
+    keep_more around own own mid.counted.defs.items _ _ (c.in_ok-declare.ensures.kept around k) tt (sym (append-nil own)) c.in_ok-push.ensures.items

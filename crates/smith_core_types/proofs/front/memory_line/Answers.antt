@@ -25,8 +25,8 @@ returns-clause-reads c fuel =
     let may : nat_lt 0 c.args.making.now.config.now.max_memories ≡ true = grind (arith, nat_tests, c.if-making-eq0.false) in
     let old = c.args.declared.now in
     let m = c.arbitrary_memtype.result in
-    let before = map shown_decl old.defs.items in
-    let decls = pushed shown_decl old.defs.items c.push.new.self.items _ c.in_ok-push.ensures.items
+    let before = map shown_decl old.counted.defs.items in
+    let decls = pushed shown_decl old.counted.defs.items c.push.new.self.defs.items _ c.in_ok-push.ensures.items
     ∙ ap (λ n. before ++ exports n (Memory m) ∷ []) c.in_ok-name.ensures.ok in
     taken may c.ratio.ensures.1 (ratio_true c.ratio.result c.ratio.ensures.0 c.ratio.ensures.2 c.if-not-ratio.false)
     (m, c.arbitrary_memtype.ensures.reads, refl) (same_state fuel fuel (sym (append-nil (shown_funcs old.own.items))) decls refl)
@@ -35,4 +35,4 @@ pub returns-clause-kept : goal.returns-clause-kept
 returns-clause-kept c around k =
     let old = c.args.declared.now in
     let own = shown_funcs old.own.items in
-    keep_more around own own old.defs.items _ _ k tt (sym (append-nil own)) c.in_ok-push.ensures.items
+    keep_more around own own old.counted.defs.items _ _ k tt (sym (append-nil own)) c.in_ok-push.ensures.items

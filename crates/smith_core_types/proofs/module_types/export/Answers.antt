@@ -13,7 +13,7 @@ use Rattle.smith_core_types.proofs.module_types.export.Goals as goal
 pub returns-in-None-clause-adds : goal.returns-in-None-clause-adds
 returns-in-None-clause-adds c around fuel =
     let s = so_far c.args.declared.now fuel in
-    let none = subst (λ e. MaybeEntity c.args.making.now.config.now s c.export_name.new.u e c.entity.new.u) c.in-None.is (c.in_ok-entity.ensures.reads fuel) in
+    let none = subst (λ e. MaybeEntity c.args.making.now.config.now s c.export_name.new.u e c.entity.new.u) c.in-None.is (c.entity.ensures.reads fuel) in
     let N : List _ → Type 0 =
     λ ds. ReadsNewText 100 (module_export_names (map shown_decl ds)) c.args.u.now (string_bytes c.in_ok-name.name) c.export_name.new.u in
     let R : List ℕ → Type 0 = λ r. ReadsExportName s c.args.u.now (string_bytes c.in_ok-name.name) r in
@@ -23,10 +23,10 @@ pub returns-in_ok-push-in-Some-clause-adds : goal.returns-in_ok-push-in-Some-cla
 returns-in_ok-push-in-Some-clause-adds c around fuel =
     let old = c.args.declared.now in
     let some = subst (λ e. MaybeEntity c.args.making.now.config.now (so_far old fuel) c.export_name.new.u e c.entity.new.u) c.in-Some.is
-    (c.in_ok-entity.ensures.reads fuel) in
+    (c.entity.ensures.reads fuel) in
     let name = string_bytes c.in_ok-name.name in
     let N : List _ → Type 0 = λ ds. ReadsNewText 100 (module_export_names (map shown_decl ds)) c.args.u.now name c.export_name.new.u in
-    let decls = pushed shown_decl old.defs.items c.push.new.self.items _ c.in_ok-push-in-Some.ensures.items in (
+    let decls = pushed shown_decl old.counted.defs.items c.push.new.self.defs.items _ c.in_ok-push-in-Some.ensures.items in (
       exports name c.in-Some.entity,
       (name, c.export_name.new.u, subst N c.deref.ensures.value c.in_ok-name.ensures.reads, c.in-Some.entity, some, refl),
       same_state (fuel - 1) (fuel - 1) (sym (append-nil (shown_funcs old.own.items))) decls refl,
@@ -36,4 +36,4 @@ pub returns-in_ok-push-in-Some-clause-kept : goal.returns-in_ok-push-in-Some-cla
 returns-in_ok-push-in-Some-clause-kept c around k =
     let old = c.args.declared.now in
     let own = shown_funcs old.own.items in
-    keep_more around own own old.defs.items _ _ k tt (sym (append-nil own)) c.in_ok-push-in-Some.ensures.items
+    keep_more around own own old.counted.defs.items _ _ k tt (sym (append-nil own)) c.in_ok-push-in-Some.ensures.items

@@ -14,7 +14,7 @@ use Rattle.smith_core_types.proofs.module_types.import.Goals as goal
 pub returns-in-None-clause-adds : goal.returns-in-None-clause-adds
 returns-in-None-clause-adds c around fuel =
     let s = so_far c.args.declared.now fuel in
-    let none = subst (λ e. MaybeEntity c.args.making.now.config.now s c.import_names.new.u e c.entity.new.u) c.in-None.is (c.in_ok-entity.ensures.reads fuel) in
+    let none = subst (λ e. MaybeEntity c.args.making.now.config.now s c.import_names.new.u e c.entity.new.u) c.in-None.is (c.entity.ensures.reads fuel) in
     let from = string_bytes c.in_ok-module.module in
     let name = string_bytes c.in_ok-module.name in
     let N : List _ → Type 0 = λ ds. (mid : List ℕ) × ReadsText 100 c.args.u.now from mid
@@ -23,18 +23,18 @@ returns-in-None-clause-adds c around fuel =
     ((from, name, subst R (sym none.1) (subst N c.deref.ensures.value c.in_ok-module.ensures.reads), none.0), refl)
 
 pub returns-in-None-clause-tail : goal.returns-in-None-clause-tail
-returns-in-None-clause-tail c = tail_trans c.in_ok-entity.ensures.tail c.in_ok-module.ensures.tail
+returns-in-None-clause-tail c = tail_trans c.entity.ensures.tail c.in_ok-module.ensures.tail
 
 pub returns-in_ok-push-in-Some-clause-adds : goal.returns-in_ok-push-in-Some-clause-adds
 returns-in_ok-push-in-Some-clause-adds c around fuel =
     let old = c.args.declared.now in
     let some = subst (λ e. MaybeEntity c.args.making.now.config.now (so_far old fuel) c.import_names.new.u e c.entity.new.u) c.in-Some.is
-    (c.in_ok-entity.ensures.reads fuel) in
+    (c.entity.ensures.reads fuel) in
     let from = string_bytes c.in_ok-module.module in
     let name = string_bytes c.in_ok-module.name in
     let N : List _ → Type 0 = λ ds. (mid : List ℕ) × ReadsText 100 c.args.u.now from mid
     × ReadsNewText 100 (names_from from (map shown_decl ds)) mid name c.import_names.new.u in
-    let decls = pushed shown_decl old.defs.items c.push.new.self.items _ c.in_ok-push-in-Some.ensures.items in (
+    let decls = pushed shown_decl old.counted.defs.items c.push.new.self.defs.items _ c.in_ok-push-in-Some.ensures.items in (
       imports from name c.in-Some.entity_type,
       (
         from,
@@ -49,13 +49,13 @@ returns-in_ok-push-in-Some-clause-adds c around fuel =
     )
 
 pub returns-in_ok-push-in-Some-clause-tail : goal.returns-in_ok-push-in-Some-clause-tail
-returns-in_ok-push-in-Some-clause-tail c = tail_trans c.in_ok-entity.ensures.tail c.in_ok-module.ensures.tail
+returns-in_ok-push-in-Some-clause-tail c = tail_trans c.entity.ensures.tail c.in_ok-module.ensures.tail
 
 pub returns-in_err-push-in-Some-clause-tail : goal.returns-in_err-push-in-Some-clause-tail
-returns-in_err-push-in-Some-clause-tail c = tail_trans c.in_ok-entity.ensures.tail c.in_ok-module.ensures.tail
+returns-in_err-push-in-Some-clause-tail c = tail_trans c.entity.ensures.tail c.in_ok-module.ensures.tail
 
 pub returns-in_ok-push-in-Some-clause-kept : goal.returns-in_ok-push-in-Some-clause-kept
 returns-in_ok-push-in-Some-clause-kept c around k =
     let old = c.args.declared.now in
     let own = shown_funcs old.own.items in
-    keep_more around own own old.defs.items _ _ k tt (sym (append-nil own)) c.in_ok-push-in-Some.ensures.items
+    keep_more around own own old.counted.defs.items _ _ k tt (sym (append-nil own)) c.in_ok-push-in-Some.ensures.items

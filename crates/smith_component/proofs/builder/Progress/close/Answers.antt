@@ -71,7 +71,6 @@ returns-in_ok-push-in-Some-clause-closes c =
         record {
           sound = subst (λ t. Sound b.config (record { outer = outers; inner = t })) (sym new)
               (sound_close b.config outers parent inner enough (subst (λ us. Sound b.config (record { outer = us; inner = inner })) around i.0.sound));
-          valtypes_are = i.0.valtypes_are;
           scopes_are = rest
               ∙ (marked_in-snoc b.config outers parent
               ∙ ap (λ s. s ∷ marked_in b.config outers)

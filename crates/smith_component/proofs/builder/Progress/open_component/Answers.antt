@@ -31,12 +31,13 @@ returns-clause-does c bytes =
     let i = c.requires.sound in
     let stack = stack_of b in
     let o = component_offered_is b.config stack c.requires.offered in
-    let outer = outer_popped _ _ _ c.in_ok-push.ensures.items
+    let pushed = c.push_reserved.ensures.items ∙ ap (λ xs. xs ++ c.replace-around.result ∷ []) c.in_ok-reserve_one.ensures.items in
+    let outer = outer_popped _ _ _ pushed
     ∙ ap (λ x. trees_of b.outer.items ++ shown_sections x.sections.items ∷ []) c.replace-around.ensures.value in
     let new : OpenComponent = c.new-opened.result in
     let fresh = c.replace-around.ensures.after in
     let inner = ap (λ x. shown_sections x.sections.items) fresh ∙ ap shown_sections c.new-opened.ensures.items in
-    let around = c.in_ok-push.ensures.items ∙ ap (λ x. b.outer.items ++ x ∷ []) c.replace-around.ensures.value in
+    let around = pushed ∙ ap (λ x. b.outer.items ++ x ∷ []) c.replace-around.ensures.value in
     let sections : OpenComponent → List Section = λ x. x.sections.items in
     let below = ap (map sections) around ∙ map-append sections b.outer.items (b.inner ∷ []) in
     let tables : IsTabled new = c.new-opened.ensures.tabled in
@@ -50,13 +51,13 @@ returns-clause-does c bytes =
           sound = subst (λ us. Sound b.config (record { outer = us; inner = shown_sections c.replace-around.new.dest.sections.items })) (sym outer)
               (subst (λ t. Sound b.config (record { outer = stack.outer ++ stack.inner ∷ []; inner = t })) (sym inner)
               (sound_open b.config stack.outer stack.inner o.0 o.1 i.0.sound));
-          valtypes_are = i.0.valtypes_are;
           scopes_are =
               opened_marked b.scopes _ (last_of b.scopes).keeps c.in_ok-open_scope.ensures.ok
               ∙ (ap (λ k. empty_marked k ∷ inward_marked b.scopes) keeps
               ∙ (ap (λ ss. empty_marked b.config.must_validate ∷ ss) (i.0.scopes_are ∙ (sym (marked_in-snoc b.config stack.outer stack.inner)
               ∙ ap (marked_in b.config) (sym outer)))
-              ∙ ap (λ t. marked_inner b.config (trees_of c.push.new.self.items) t ∷ marked_in b.config (trees_of c.push.new.self.items)) (sym inner)));
+              ∙ ap (λ t. marked_inner b.config (trees_of c.push_reserved.new.self.items) t
+              ∷ marked_in b.config (trees_of c.push_reserved.new.self.items)) (sym inner)));
           totalled = totalled_open stack.outer _ stack.inner _ b.totals _ outer inner refl refl refl i.0.totalled;
         },
         (

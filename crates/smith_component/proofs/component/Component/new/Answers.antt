@@ -84,8 +84,8 @@ returns-in_err-done-clause-answers c plan rest consistent w e =
     refused _ _ P c.from_residual-in_err-done.ensures.1 (refused_accepted c.args.config left input consistent
     (plan_lacks_none c.args.config input plan rest consistent w e left) (plan_refuses_no_module c.args.config input plan rest consistent w e left) _ refusal)
 
-pub returns-in_err-valtypes-clause-tail : goal.returns-in_err-valtypes-clause-tail
-returns-in_err-valtypes-clause-tail c = tail_same _
+pub returns-in_err-check-clause-tail : goal.returns-in_err-check-clause-tail
+returns-in_err-check-clause-tail c = tail_same _
 
 pub returns-in_err-done-clause-tail : goal.returns-in_err-done-clause-tail
 returns-in_err-done-clause-tail c = tail_trans c.turn.ensures.tail c.loop-progress.invariant.tail

@@ -4,7 +4,7 @@ use Rattle.smith_core.proofs.StandIn.{groups_next, groups_done}
 use Rattle.smith_core.proofs.module.stand_in.groups_of_one.Goals as goal
 
 pub loop-at-init : goal.loop-at-init
-loop-at-init c = ap (λ g. g ++ groups_from 0 c.args.types.now) c.new-groups.ensures.items
+loop-at-init c = ap (λ g. g ++ groups_from 0 c.args.types.now) ((c.in_ok-groups.ensures {u = tt}).items)
 
 pub loop-at-preserved : goal.loop-at-preserved
 loop-at-preserved c =

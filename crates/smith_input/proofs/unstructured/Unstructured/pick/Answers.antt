@@ -1,8 +1,9 @@
 use Rattle.std.proofs.Common.{arith, ◌+◌}
-use Rattle.smith_input.proofs.Widths.{reads_rest}
+use Rattle.smith_input.proofs.Widths.{one_byte, reads_rest, spelled_more}
 use Rattle.smith_input.proofs.unstructured.Unstructured.pick.Goals as goal
 
-pub returns-else-last-eq18446744073709551615 : goal.returns-else-last-eq18446744073709551615
-returns-else-last-eq18446744073709551615 c =
-    reads_rest (c.args.last + 1) c.width_of-width.result c.args.self.now _ c.number-number.result (omega arith) c.width_of-width.ensures.width
-    c.number-number.ensures.value c.number-number.ensures.left
+pub returns : goal.returns
+returns c =
+    rw (c.from.ensures, c.from-byte.ensures) (reads_rest (c.args.last + 1) 1 c.args.self.now _ c.arbitrary_u8.result (omega arith)
+    (one_byte (c.args.last + 1) (omega arith) (omega arith)) (omega (arith, c.arbitrary_u8.ensures.value, spelled_more 0 c.args.self.now))
+    c.arbitrary_u8.ensures.left)

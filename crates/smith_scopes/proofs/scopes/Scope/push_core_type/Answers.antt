@@ -15,7 +15,7 @@ invariant_of-self-2 c =
           ∙ ap (λ es. es ++ c.args.entry ∷ []) c.in_ok-reserve.ensures.items in
           let kept = types_kept c.self.invariant.0 (ap (λ s. s.types.items) w.self-inside-is) (ap (λ s. s.defined.items) w.self-inside-is)
           (ap (λ s. s.funcs.items) w.self-inside-is) (ap (λ s. s.components.items) w.self-inside-is) (ap (λ s. s.instances.items) w.self-inside-is)
-          (ap (λ s. s.equal) w.self-inside-is) in (
+          (ap (λ s. s.equals) w.self-inside-is) in (
             kept,
             pushed_core_func c.self.inside.core_types.items c.self.invariant.1 few c.len-index.result at c.args.entry c.push_reserved.new.self.items listed
                 _ (sym c.deref.ensures ∙ w.in-Func.is) (ap (λ s. s.core_funcs.items) w.self-inside-is ∙ w.in_ok-push-in-Func.ensures.items)
@@ -26,7 +26,7 @@ invariant_of-self-2 c =
           ∙ ap (λ es. es ++ c.args.entry ∷ []) c.in_ok-reserve.ensures.items in
           let kept = types_kept c.self.invariant.0 (ap (λ s. s.types.items) w.self-inside-is) (ap (λ s. s.defined.items) w.self-inside-is)
           (ap (λ s. s.funcs.items) w.self-inside-is) (ap (λ s. s.components.items) w.self-inside-is) (ap (λ s. s.instances.items) w.self-inside-is)
-          (ap (λ s. s.equal) w.self-inside-is) in (
+          (ap (λ s. s.equals) w.self-inside-is) in (
             kept,
             pushed_module c.self.inside.core_types.items c.self.invariant.1 few c.len-index.result at c.args.entry c.push_reserved.new.self.items listed _
                 (sym c.deref.ensures ∙ w.in-Module.is) (ap (λ s. s.core_funcs.items) w.self-inside-is)

@@ -1,5 +1,4 @@
 use Rattle.std.proofs.Common.{◌∷◌, ◌++◌, [], map, subst, ap, ◌∙◌, refl, arith}
-use Rattle.smith_syntax.specs.Entries.{function}
 use Rattle.smith_syntax.specs.Shown.{shown_type}
 use Rattle.smith_scopes.specs.Scopes.{own_scope}
 use Rattle.smith_scopes.proofs.Marking.{length-changed}
@@ -29,12 +28,12 @@ pub returns-clause-defines : goal.returns-clause-defines
 returns-clause-defines c =
     let t = c.in_ok-func_ty.func_ty in
     let lift : Func = CanonLift t c.args.core_func_index in
-    let shows = ap shown_type c.in_ok-shared.ensures.ok ∙ (shown_function c.in_ok-new.field-0 ∙ ap function c.in_ok-new.ensures.ok) in
+    let shows = ap shown_type c.in_ok-shared.ensures.ok ∙ shown_function c.args.ty in
     let entries = c.in_ok-push.ensures.items ∙ ap (λ xs. xs ++ c.in_ok-shared.shared ∷ []) c.new-types.ensures.items in
-    let empty = ap (λ v. v.items) c.replace-ended.ensures.after ∙ c.new-3.ensures.items in
+    let empty = ap (λ v. v.items) c.replace-ended.ensures.after ∙ c.new-2.ensures.items in
     let made = c.in_ok-push-4.ensures.items ∙ ap (λ xs. xs ++ lift ∷ []) empty in
     let index = type_index c.args.self.now c.requires.draft.0 c.requires.draft.1 t c.in_ok-func_ty.ensures.index in
-    defines (growing c.args.self.now.component.now c.args.self.now.funcs.now.items) c.args.core_func_index t c.args.ty
+    defines (growing c.args.self.now.component.now c.args.self.now.funcs.now.items) c.args.core_func_index t c.args.ty.value
     (shown_sections c.push-2.new.self.sections.items) (shown_sections c.push-3.new.self.sections.items) c.replace-ended.result.items c.push-4.new.self.items
     c.push.new.self.items c.in_ok-shared.shared
     c.in_ok-push-2.ensures.ok (ap (λ v. map shown_canon v.items) c.replace-ended.ensures.value) c.in_ok-push-3.ensures.ok entries shows made index
@@ -47,14 +46,13 @@ returns-clause-drafts c =
     let new : OpenComponent = record { sections = c.push-3.new.self.sections; tables = c.add_function.new.self } in
     let T : Tables → Type 0 = λ z. AddsFunction (own_scope c.push_marked.new.self) 1 z c.in_ok-func_ty.func_ty c.add_function.new.self in
     let names : Tables → ExternNames = λ t. t.imports in
-    let shows = ap shown_type (c.in_ok-clone.ensures.cases ∙ c.in_ok-shared.ensures.ok)
-    ∙ (shown_function c.in_ok-new.field-0 ∙ ap function c.in_ok-new.ensures.ok) in
+    let shows = ap shown_type (c.in_ok-clone.ensures.cases ∙ c.in_ok-shared.ensures.ok) ∙ shown_function c.args.ty in
     let adds = subst T (c.push-3.ensures.tables ∙ c.push-2.ensures.tables) c.in_ok-add_function.ensures.ok in
     let ended = front_push old old mid _ (front_same old old refl refl) c.in_ok-push-2.ensures.items refl (ap names c.push-2.ensures.tables) in
     record {
       draft = λ around held. define_draft d around held c.push_marked.new.self new c.push-4.new.self.items
-          c.args.core_func_index c.in_ok-func_ty.func_ty c.args.ty c.in_ok-clone.field-0.value c.function_mark-mark.result
-          shows c.in_ok-func_ty.ensures.ok c.function_mark-mark.ensures (returns-clause-defines c) c.in_ok-func_ty.ensures.index
+          c.args.core_func_index c.in_ok-func_ty.func_ty c.args.ty.value c.in_ok-clone.field-0.value c.function_mark-mark.result
+          shows c.in_ok-func_ty.ensures.ok (rw c.deref.ensures at c.function_mark-mark.ensures) (returns-clause-defines c) c.in_ok-func_ty.ensures.index
           adds;
       front = front_push old mid new _ ended c.in_ok-push-3.ensures.items refl
           (c.in_ok-add_function.ensures.ok.imports ∙ ap names c.push-3.ensures.tables);

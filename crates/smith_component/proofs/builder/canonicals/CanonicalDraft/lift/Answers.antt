@@ -1,14 +1,20 @@
-use Rattle.std.proofs.Common.{refl, arith}
+use Rattle.std.proofs.Common.{ℕ, ◌<◌, List, length, refl, sym, ap, ◌∙◌, subst, arith}
 use Rattle.std.proofs.lemmas.Result.{on_ok_weaker}
+use Rattle.smith_input.specs.Reading.{IsTail}
 use Rattle.smith_input.proofs.Reading.{reads_tail, tail_trans}
-use Rattle.smith_component.specs.Canonicals.{grown}
-use Rattle.smith_component.specs.CanonicalsState.{draft_of}
+use Rattle.smith_scopes.specs.Scopes.{last_of, outer_marked, own_scope}
+use Rattle.smith_component.specs.Canonicals.{grown, with_defined}
+use Rattle.smith_component.specs.CanonicalsState.{CanonicalsState, draft_of}
+use Rattle.smith_component.specs.Tables.{AddsFunction}
 use Rattle.smith_component.specs.declared.builder.open.OpenComponent.{OpenComponent}
 use Rattle.smith_component.specs.declared.component.Func.TheVariants.{CanonLift}
-use Rattle.smith_component.proofs.CanonicalsState.{draft_lowered, drafts_none, equal_within, front_same, growing_more}
+use Rattle.smith_component.proofs.CanonicalsState.{chosen_equal, chosen_none, draft_lowered, equal_within, front_same, growing_more}
 use Rattle.smith_component.proofs.CanonicalsState.{lift_defined, lift_draft, lift_equal, lift_given_up}
 use Rattle.smith_component.proofs.Growth.{functions_counted}
 use Rattle.smith_component.proofs.builder.canonicals.CanonicalDraft.lift.Goals as goal
+
+after_choice : {a b m e : List ℕ} → IsTail a b → IsTail b m → IsTail m e → IsTail a e
+after_choice f g h = tail_trans f (tail_trans g h)
 
 pub lifted_type-requires : goal.lifted_type-requires
 lifted_type-requires c = record {
@@ -18,79 +24,104 @@ lifted_type-requires c = record {
 
 pub add_function-requires-clause-known : goal.add_function-requires-clause-known
 add_function-requires-clause-known c =
-    equal_within c.args.self.now c.requires.draft.0 c.requires.draft.1 c.in_ok-ty.ty c.choose_index.result c.equal_at-func_ty.result
-    c.equal_at-func_ty.ensures
+    let d = c.args.self.now in
+    let r = chosen_equal (last_of d.scopes.now).types c.in_ok-signature.signature c.in_ok-ty.ty.value c.lifted_type.new.u c.choose_equal.new.u
+    c.in_ok-func_ty.field-0 c.in-Some.func_ty c.in_ok-ty.ensures.ok c.in-Some.is c.in_ok-func_ty.ensures.chosen in
+    subst (λ scopes. c.in-Some.func_ty < length (own_scope scopes).types) (sym c.in_ok-func_ty.ensures.same)
+    (equal_within d c.requires.draft.0 c.requires.draft.1 c.in_ok-signature.signature c.in-Some.func_ty r)
 
 pub add_function-requires-clause-few : goal.add_function-requires-clause-few
 add_function-requires-clause-few c =
     omega (arith, c.requires.draft.1.tabled.counts, (functions_counted (grown (draft_of c.args.self.now))).least, c.requires.room)
 
-pub returns-then-equal-gt0-clause-reads : goal.returns-then-equal-gt0-clause-reads
-returns-then-equal-gt0-clause-reads c =
-    let old : OpenComponent = c.args.self.now.component.now in
-    let new : OpenComponent = record { sections = old.sections; tables = c.add_function.new.self } in
-    lift_equal c.args.self.now c.requires.draft.0 c.requires.draft.1 c.args.self.now.config.now c.len.result c.choose_index-core_func_index.result c.in_ok-ty.ty
-    c.args.u.now c.choose_index-core_func_index.new.self c.lifted_type.new.u c.choose_index.new.self _ (omega (arith, c.len.ensures))
-    c.choose_index-core_func_index.ensures c.in_ok-ty.ensures.reads
-    c.equal_len-equal.result c.choose_index.result c.equal_at-func_ty.result c.equal_len-equal.ensures c.choose_index.ensures c.equal_at-func_ty.ensures
-    (growing_more old new c.args.self.now.funcs.now.items c.push.new.self.items (CanonLift c.equal_at-func_ty.result c.choose_index-core_func_index.result)
-    refl c.in_ok-push.ensures.items)
-
-pub returns-then-equal-gt0-clause-drafts : goal.returns-then-equal-gt0-clause-drafts
-returns-then-equal-gt0-clause-drafts c =
+pub returns-in-Some-clause-reads : goal.returns-in-Some-clause-reads
+returns-in-Some-clause-reads c =
     let d = c.args.self.now in
+    let r = chosen_equal (last_of d.scopes.now).types c.in_ok-signature.signature c.in_ok-ty.ty.value c.lifted_type.new.u c.choose_equal.new.u
+    c.in_ok-func_ty.field-0 c.in-Some.func_ty c.in_ok-ty.ensures.ok c.in-Some.is c.in_ok-func_ty.ensures.chosen in
     let old : OpenComponent = d.component.now in
     let new : OpenComponent = record { sections = old.sections; tables = c.add_function.new.self } in
-    let t = c.equal_at-func_ty.result in
+    lift_equal d c.requires.draft.0 c.requires.draft.1 d.config.now c.len.result c.choose_index-core_func_index.result
+    c.in_ok-signature.signature c.args.u.now c.choose_index-core_func_index.new.self c.lifted_type.new.u c.choose_equal.new.u _ (omega (arith, c.len.ensures))
+    c.choose_index-core_func_index.ensures c.in_ok-signature.ensures.reads c.in-Some.func_ty r
+    (growing_more old new d.funcs.now.items c.push.new.self.items (CanonLift c.in-Some.func_ty c.choose_index-core_func_index.result) refl
+    c.in_ok-push.ensures.items)
+
+pub returns-in-Some-clause-drafts : goal.returns-in-Some-clause-drafts
+returns-in-Some-clause-drafts c =
+    let d = c.args.self.now in
+    let r = chosen_equal (last_of d.scopes.now).types c.in_ok-signature.signature c.in_ok-ty.ty.value c.lifted_type.new.u c.choose_equal.new.u
+    c.in_ok-func_ty.field-0 c.in-Some.func_ty c.in_ok-ty.ensures.ok c.in-Some.is c.in_ok-func_ty.ensures.chosen in
+    let old : OpenComponent = d.component.now in
+    let new : OpenComponent = record { sections = old.sections; tables = c.add_function.new.self } in
+    let same = c.in_ok-func_ty.ensures.same in
+    let t = c.in-Some.func_ty in
     record {
-      draft = λ around held. lift_draft d around held new c.push.new.self.items c.choose_index-core_func_index.result t
-          (equal_within d around held c.in_ok-ty.ty c.choose_index.result t c.equal_at-func_ty.ensures)
-          c.in_ok-add_function.ensures.ok
+      draft = λ around held. subst (λ scopes. CanonicalsState d.config.now around scopes new c.push.new.self.items) (sym same)
+          (lift_draft d around held new c.push.new.self.items c.choose_index-core_func_index.result t
+          (equal_within d around held c.in_ok-signature.signature t r)
+          (subst (λ scopes. AddsFunction (own_scope scopes) 1 old.tables t new.tables) same c.in_ok-add_function.ensures.ok)
           (growing_more old new d.funcs.now.items c.push.new.self.items (CanonLift t c.choose_index-core_func_index.result) refl
-          c.in_ok-push.ensures.items);
+          c.in_ok-push.ensures.items));
       front = front_same old new refl c.in_ok-add_function.ensures.ok.imports;
-      outer = refl;
-      depth = refl;
+      outer = ap outer_marked same;
+      depth = ap length same;
     }
 
 pub returns-clause-drafts : goal.returns-clause-drafts
-returns-clause-drafts c = drafts_none c.args.self.now
+returns-clause-drafts c =
+    let d = c.args.self.now in
+    let same = c.in_ok-func_ty.ensures.same in
+    record {
+      draft = λ around held. subst (λ scopes. CanonicalsState d.config.now around scopes d.component.now d.funcs.now.items) (sym same) held;
+      front = front_same d.component.now d.component.now refl refl;
+      outer = ap outer_marked same;
+      depth = ap length same;
+    }
 
 pub returns-then-own_len-self-clause-reads : goal.returns-then-own_len-self-clause-reads
 returns-then-own_len-self-clause-reads c =
+    let d = c.args.self.now in
+    let many = ap (λ scopes. length (own_scope scopes).types) c.in_ok-func_ty.ensures.same in
+    let none = chosen_none (last_of d.scopes.now).types c.in_ok-signature.signature c.in_ok-ty.ty.value c.lifted_type.new.u c.choose_equal.new.u
+    c.in_ok-func_ty.field-0 c.in_ok-ty.ensures.ok c.in_default.not-Some c.in_ok-func_ty.ensures.chosen in
     on_ok_weaker c.define.result
-    (λ e. lift_defined c.args.self.now c.requires.draft.0 c.requires.draft.1 c.args.self.now.config.now c.len.result
-    c.choose_index-core_func_index.result c.in_ok-ty.ty
-    c.args.u.now c.choose_index-core_func_index.new.self c.lifted_type.new.u c.lifted_type.new.u _ (omega (arith, c.len.ensures))
-    c.choose_index-core_func_index.ensures c.in_ok-ty.ensures.reads
-    c.equal_len-equal.result c.equal_len-equal.ensures c.if-equal-gt0.false (omega (arith, c.own_len.ensures.count, c.if-own_len-self.true)) refl e)
+    (λ e. lift_defined d c.requires.draft.0 c.requires.draft.1 d.config.now c.len.result c.choose_index-core_func_index.result
+    c.in_ok-signature.signature c.args.u.now c.choose_index-core_func_index.new.self c.lifted_type.new.u c.choose_equal.new.u _ (omega (arith, c.len.ensures))
+    c.choose_index-core_func_index.ensures c.in_ok-signature.ensures.reads none.0 (omega (arith, c.own_len.ensures.count, many, c.if-own_len-self.true)) none.1
+    (e ∙ ap (with_defined (draft_of d) c.choose_index-core_func_index.result) c.in_ok-ty.ensures.ok))
     c.define.ensures.defines
 
 pub returns-clause-reads : goal.returns-clause-reads
 returns-clause-reads c =
-    lift_given_up c.args.self.now c.requires.draft.0 c.requires.draft.1 c.args.self.now.config.now c.len.result
-    c.choose_index-core_func_index.result c.in_ok-ty.ty
-    c.args.u.now c.choose_index-core_func_index.new.self c.lifted_type.new.u c.lifted_type.new.u _ (omega (arith, c.len.ensures))
-    c.choose_index-core_func_index.ensures c.in_ok-ty.ensures.reads
-    c.equal_len-equal.result c.equal_len-equal.ensures c.if-equal-gt0.false (omega (arith, c.own_len.ensures.count, c.if-own_len-self.false)) refl refl
+    let d = c.args.self.now in
+    let many = ap (λ scopes. length (own_scope scopes).types) c.in_ok-func_ty.ensures.same in
+    let none = chosen_none (last_of d.scopes.now).types c.in_ok-signature.signature c.in_ok-ty.ty.value c.lifted_type.new.u c.choose_equal.new.u
+    c.in_ok-func_ty.field-0 c.in_ok-ty.ensures.ok c.in_default.not-Some c.in_ok-func_ty.ensures.chosen in
+    lift_given_up d c.requires.draft.0 c.requires.draft.1 d.config.now c.len.result c.choose_index-core_func_index.result
+    c.in_ok-signature.signature c.args.u.now c.choose_index-core_func_index.new.self c.lifted_type.new.u c.choose_equal.new.u _ (omega (arith, c.len.ensures))
+    c.choose_index-core_func_index.ensures c.in_ok-signature.ensures.reads none.0
+    (omega (arith, c.own_len.ensures.count, many, c.if-own_len-self.false)) none.1 refl
 
 pub returns-in_err-ty-clause-tail : goal.returns-in_err-ty-clause-tail
 returns-in_err-ty-clause-tail c = tail_trans c.lifted_type.ensures.tail (reads_tail c.choose_index-core_func_index.ensures)
 
 pub returns-then-own_len-self-clause-tail : goal.returns-then-own_len-self-clause-tail
-returns-then-own_len-self-clause-tail c = tail_trans c.lifted_type.ensures.tail (reads_tail c.choose_index-core_func_index.ensures)
+returns-then-own_len-self-clause-tail c =
+    after_choice c.choose_equal.ensures.tail c.lifted_type.ensures.tail (reads_tail c.choose_index-core_func_index.ensures)
 
 pub returns-clause-tail : goal.returns-clause-tail
-returns-clause-tail c = tail_trans c.lifted_type.ensures.tail (reads_tail c.choose_index-core_func_index.ensures)
+returns-clause-tail c =
+    after_choice c.choose_equal.ensures.tail c.lifted_type.ensures.tail (reads_tail c.choose_index-core_func_index.ensures)
 
 pub returns-in_err-add_function-clause-tail : goal.returns-in_err-add_function-clause-tail
-returns-in_err-add_function-clause-tail c = tail_trans (reads_tail c.choose_index.ensures)
-    (tail_trans c.lifted_type.ensures.tail (reads_tail c.choose_index-core_func_index.ensures))
+returns-in_err-add_function-clause-tail c =
+    after_choice c.choose_equal.ensures.tail c.lifted_type.ensures.tail (reads_tail c.choose_index-core_func_index.ensures)
 
 pub returns-in_err-push-clause-tail : goal.returns-in_err-push-clause-tail
-returns-in_err-push-clause-tail c = tail_trans (reads_tail c.choose_index.ensures)
-    (tail_trans c.lifted_type.ensures.tail (reads_tail c.choose_index-core_func_index.ensures))
+returns-in_err-push-clause-tail c =
+    after_choice c.choose_equal.ensures.tail c.lifted_type.ensures.tail (reads_tail c.choose_index-core_func_index.ensures)
 
-pub returns-then-equal-gt0-clause-tail : goal.returns-then-equal-gt0-clause-tail
-returns-then-equal-gt0-clause-tail c = tail_trans (reads_tail c.choose_index.ensures)
-    (tail_trans c.lifted_type.ensures.tail (reads_tail c.choose_index-core_func_index.ensures))
+pub returns-in-Some-clause-tail : goal.returns-in-Some-clause-tail
+returns-in-Some-clause-tail c =
+    after_choice c.choose_equal.ensures.tail c.lifted_type.ensures.tail (reads_tail c.choose_index-core_func_index.ensures)

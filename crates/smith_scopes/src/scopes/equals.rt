@@ -1,0 +1,98 @@
+//! Which function types of a scope are equal, once that is asked.
+
+ghost use Rattle.std.specs.Prelude.{◌≡◌, ◌≤◌, List, [], length, OnOk, IfErr};
+ghost use Rattle.smith_format.specs.Consistency.{max_u32};
+ghost use Rattle.smith_syntax.specs.HasSignature.{has_signature};
+ghost use Rattle.smith_syntax.specs.Places.{places};
+ghost use Rattle.smith_syntax.specs.declared.deftype.DefType.{DefType};
+ghost use Rattle.smith_scopes.specs.Rows.{AreFirst, AreRows, IsChosenEqual, Notes, NotesType, values_of};
+
+use smith_input::{Error, Unstructured};
+use smith_syntax::{DefType, FuncType};
+use std::alloc::Global;
+use std::collections::HashMap;
+use std::hash::{BuildHasherDefault, DefaultHasher};
+use std::rc::Rc;
+
+// The indexes of the equals of each function type. The names in them are from the input: a hasher that such names can
+// steer would make the map slow, and they cannot steer SipHash.
+type Rows = HashMap<Rc<FuncType>, Vec<u32>, BuildHasherDefault<DefaultHasher>>;
+
+// The rows of the first types of a scope. The others are noted when equal types are next asked for, which is never in
+// most scopes.
+#[derive(Drop)]
+pub(super) struct Equals {
+    noted: usize,
+    rows: Rows,
+}
+
+// Puts the index at the end of the row of a function type.
+fn note(rows: &mut Rows, alloc: Global, func: &Rc<FuncType>, index: u32) -> Result<(), Error>
+    ensures ok { OnOk result (Notes func.now.value index rows.old rows.new) }
+    ensures memory { IfErr result (λ e. e ≡ Error.OutOfMemory) }
+{
+    let key = func.clone()?;
+    let row = rows.entry(key)?.or_insert(Vec::new(alloc));
+    row.push(index)?;
+    Ok(())
+}
+
+// The same for a type, if it is a function type.
+fn note_type(rows: &mut Rows, alloc: Global, ty: &DefType, index: u32) -> Result<(), Error>
+    ensures ok { OnOk result (NotesType ty.now index rows.old rows.new) }
+    ensures memory { IfErr result (λ e. e ≡ Error.OutOfMemory) }
+{
+    match ty {
+        DefType::Func(func) => note(rows, alloc, func, index),
+        DefType::Defined(_) | DefType::Component(_) | DefType::Instance(_) => Ok(()),
+    }
+}
+
+impl Equals {
+    pub(super) fn new(alloc: Global) -> Equals
+        ensures { AreRows result [] }
+    {
+        Equals {
+            noted: 0,
+            rows: HashMap::with_hasher(alloc, BuildHasherDefault::default()),
+        }
+    }
+
+    // Notes those of the types that are not noted.
+    pub(super) fn note_rest(&mut self, alloc: Global, types: &[Rc<DefType>]) -> Result<(), Error>
+        requires first { AreFirst self.old (values_of types.now) }
+        requires few { length types.now ≤ max_u32 }
+        ensures first { OnOk result (AreFirst self.new (values_of types.now)) }
+        ensures all { OnOk result (AreRows self.new (values_of types.now)) }
+        ensures memory { IfErr result (λ e. e ≡ Error.OutOfMemory) }
+    {
+        for index in self.noted..types.len() {
+            note_type(&mut self.rows, alloc, &*types[index], index as u32)?;
+            self.noted = index + 1;
+        }
+        Ok(())
+    }
+
+    // The indexes of the equals of a function type among those that are noted.
+    fn row(&self, func: &Rc<FuncType>) -> &[u32]
+        ensures { (types : List DefType) → AreRows self.now types
+            → result.now ≡ places (has_signature func.now.value) 0 types }
+    {
+        match self.rows.get(func) {
+            Some(row) => row,
+            None => &[],
+        }
+    }
+
+    // One of these indexes, by a choice; none where there is none.
+    pub(super) fn choose(&self, func: &Rc<FuncType>, u: &mut Unstructured) -> Option<u32>
+        ensures { (types : List DefType) → AreRows self.now types
+            → IsChosenEqual types func.now.value u.old result u.new }
+    {
+        let row = self.row(func);
+        if row.is_empty() {
+            return None;
+        }
+        Some(*u.choose(row))
+    }
+}
