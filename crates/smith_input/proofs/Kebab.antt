@@ -4,6 +4,8 @@ use Rattle.std.proofs.Common.{◌∙◌, arith, cond, get_or, inl, inr, ⊎_elim
 use Rattle.std.proofs.lemmas.Bool.Decides.{nat_tests}
 use Rattle.std.proofs.lemmas.Bool.{cases_lt, eqb-true}
 use Rattle.std.specs.Fmt.{decimal}
+use Rattle.std.specs.Str.{IsAscii}
+use Rattle.std.proofs.lemmas.Str.{IsAscii-append}
 use Rattle.smith_input.specs.Reading.{Reads, IsTail}
 use Rattle.smith_input.specs.Kebab.{IsLetter, IsDigit, AreInWord, IsWord, Kebab, word, hyphen}
 use Rattle.smith_input.specs.Names.{character, characters, ReadsEach, none, next, ReadsKebab}
@@ -65,6 +67,21 @@ inside_is k h =
     (λ (above : 36 ≤ k). inr (hyphen_is k above))
     (cases_lt k 36))
     (cases_lt k 26)
+
+-- an ASCII character after others
+ascii_one : (b : ℕ) → b < 128 → IsAscii (b ∷ [])
+ascii_one b h zero = h
+ascii_one b h (suc i) = omega arith
+
+pub character_small : (begins : Bool) (k : ℕ) → k < 37 → character begins k < 128
+character_small true k h = let l = begun_is_letter k h in omega (arith, l.1)
+character_small false k h = elim (inside_is k h) [
+  | inl w ↦ elim w [ inl l ↦ omega (arith, l.1) | inr d ↦ omega (arith, d.1) ]
+  | inr e ↦ omega (arith, e)
+]
+
+pub ascii_pushed : (name pushed : List ℕ) (c : ℕ) → c < 128 → IsAscii name → pushed ≡ name ++ c ∷ [] → IsAscii pushed
+ascii_pushed name pushed c h a p = rw p (IsAscii-append name (c ∷ []) a (ascii_one c h))
 
 characters_follow : (begins : Bool) {bytes ks rest : List ℕ} → ReadsEach 37 bytes ks rest → Follows begins (characters begins ks)
 characters_follow true none = word {cs = 97 ∷ []} ((omega arith, omega arith), tt)

@@ -42,20 +42,20 @@ fn kebab_string(alloc: Global, max: usize, u: &mut Unstructured) -> Result<Strin
     ensures tail { IsTail u.new u.old }
 {
     let count = u.int_in_range(0, max as u64);
-    let mut name = String::with_capacity(alloc, (count as usize).saturating_add(1))?;
+    let mut name = Vec::with_capacity(alloc, (count as usize).saturating_add(1))?;
     let mut begins = true;
     // A reader of its own stays in registers from one character to the next.
     let mut reader = Unstructured::new(u.left());
     for _place in 0..count {
         let character = kebab_character(reader.choose_index(37) as u8, begins);
         begins = character == b'-';
-        name.push(char::from(character))?;
+        name.push_reserved(character);
     }
     if begins {
-        name.push('a')?;
+        name.push(b'a')?;
     }
     *u = reader;
-    Ok(name)
+    Ok(unsafe { String::from_utf8_unchecked(name) })
 }
 
 /// Names that there are. Public only for the crates above.
