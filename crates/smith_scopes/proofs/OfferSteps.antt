@@ -1,16 +1,16 @@
 -- What the types of a scope may be used for, with one more type.
-use Rattle.std.proofs.Common.{◌≡◌, ℕ, ◌+◌, ◌<◌, Bool, true, false, cond, List, [], ◌∷◌, ◌++◌, length, map, refl, sym, ap, ◌∙◌, arith, append-nil}
+use Rattle.std.proofs.Common.{◌≡◌, ℕ, ◌+◌, Bool, true, false, cond, List, [], ◌∷◌, ◌++◌, length, map, refl, sym, ap, ◌∙◌, arith, append-nil}
 use Rattle.std.proofs.Common.{length-append}
 use Rattle.std.proofs.lemmas.List.{length-map, map-append}
-use Rattle.smith_format.specs.Consistency.{max_u32}
 use Rattle.smith_syntax.specs.Entries.{Entry}
 use Rattle.smith_syntax.specs.Usable.{marked_places}
 use Rattle.smith_syntax.specs.Scope.{with_type}
 use Rattle.smith_syntax.specs.Shown.{shown_type}
 use Rattle.smith_syntax.specs.declared.deftype.DefType.{DefType}
 use Rattle.smith_syntax.specs.declared.marks.Mark.{Mark}
-use Rattle.smith_scopes.specs.Kept.{AreOffers, AreUses, IsKept, Notes, SameOffers, is_offered, noted}
+use Rattle.smith_scopes.specs.Kept.{AreKept, AreOffers, AreUses, Notes, SameOffers, is_offered, noted}
 use Rattle.smith_scopes.specs.Scopes.{Types}
+use Rattle.smith_scopes.specs.declared.scopes.kept.Kept.{Kept}
 use Rattle.smith_scopes.specs.declared.scopes.offers.Offer.TheVariants as offer
 use Rattle.smith_scopes.specs.declared.scopes.offers.Offers.{Offers}
 use Rattle.smith_scopes.specs.declared.scopes.offers.Uses.{Uses}
@@ -56,27 +56,20 @@ offers_noted types marks e m i many at a s u n = record {
   instances = row_noted (is_offered offer.Instance) types marks e m i many at a.instances s.instances u.instance n.instances;
 }
 
--- What is kept with one more type.
-module _ (s : Types) (keeps : Bool) (marks : List Mark) (core_sizes : List ℕ) (o : Offers ℕ) (kept : IsKept s keeps marks core_sizes o) where
-  pub kept_more : (entry : DefType) (m : Mark) (i : ℕ) → i ≡ length s.types → length s.types < max_u32 → {t : Types}
-      → t ≡ with_type s entry → {old new : Offers ℕ} {u : Uses} → SameOffers o old → AreUses u (shown_type entry) m
-      → Notes old new u i → {ms : List Mark} → ms ≡ marks ++ m ∷ [] → keeps ≡ true
-      → IsKept t keeps ms core_sizes new
-  kept_more entry m i at small {t} grown {old} {new} {u} same uses notes {ms} to on =
-      let many : length marks ≡ length (map shown_type s.types) = kept.as_many on ∙ sym (length-map s.types shown_type) in
-      let place : i ≡ length (map shown_type s.types) = at ∙ sym (length-map s.types shown_type) in
+-- What is kept of the types of a scope, with one more type.
+module _ (k n : Kept) (s t : Types) (kept : AreKept k (map shown_type s.types)) where
+  pub kept_more : (entry : DefType) (m : Mark) (i : ℕ) → i ≡ length s.types → t ≡ with_type s entry → {old : Offers ℕ} {u : Uses}
+      → SameOffers k.offers old → AreUses u (shown_type entry) m → Notes old n.offers u i → n.marks.items ≡ k.marks.items ++ m ∷ []
+      → AreKept n (map shown_type t.types)
+  kept_more entry m i at grown same uses notes to =
+      let many : i ≡ length (map shown_type s.types) = at ∙ sym (length-map s.types shown_type) in
       let types : map shown_type t.types ≡ map shown_type s.types ++ shown_type entry ∷ [] =
       ap (λ d. map shown_type d.types) grown ∙ map-append shown_type s.types (entry ∷ []) in
+      let l : length n.marks.items ≡ length k.marks.items + 1 = ap length to ∙ length-append k.marks.items (m ∷ []) in
+      let more : length (map shown_type t.types) ≡ length (map shown_type s.types) + 1 =
+      ap length types ∙ length-append (map shown_type s.types) (shown_type entry ∷ []) in
       record {
-        offers_are = λ h. rw (types, to) (offers_noted (map shown_type s.types) marks (shown_type entry) m i many place (kept.offers_are on) same uses notes);
-        as_many = λ h.
-            let l : length ms ≡ length marks + 1 = ap length to ∙ length-append marks (m ∷ []) in
-            let k : length t.types ≡ length s.types + 1 = ap (λ d. length d.types) grown ∙ length-append s.types (entry ∷ []) in
-            omega (arith, l, k, kept.as_many on);
-        no_marks = λ h. absurd (let z : true ≡ false = sym on ∙ h in cc);
-        few =
-            let k : length t.types ≡ length s.types + 1 = ap (λ d. length d.types) grown ∙ length-append s.types (entry ∷ []) in
-            omega (arith, k, small);
-        as_many_core = λ h. kept.as_many_core h ∙ sym (ap (λ d. length d.core_types) grown);
-        no_core_sizes = kept.no_core_sizes;
+        offers_are = rw (types, to)
+            (offers_noted (map shown_type s.types) k.marks.items (shown_type entry) m i kept.as_many many kept.offers_are same uses notes);
+        as_many = omega (arith, l, more, kept.as_many);
       }

@@ -3,14 +3,12 @@ use Rattle.std.proofs.Common.{◌≡◌, ℕ, zero, suc, ◌+◌, ◌<◌, ◌�
 use Rattle.std.proofs.Common.{Some}
 use Rattle.std.proofs.lemmas.List.{length-map}
 use Rattle.std.specs.Prelude.{slice_get, IfSome}
-use Rattle.smith_format.specs.Consistency.{max_u32}
 use Rattle.smith_syntax.specs.Entries.{Entry}
 use Rattle.smith_syntax.specs.Usable.{first_mark, later_marks, marked_places}
 use Rattle.smith_syntax.specs.Marks.{no_mark}
 use Rattle.smith_syntax.specs.Places.{places}
 use Rattle.smith_syntax.specs.Scope.{Scope, is_component, is_defined, is_func, is_instance}
 use Rattle.smith_syntax.specs.Shown.{shown_type}
-use Rattle.smith_syntax.specs.declared.deftype.DefType.{DefType}
 use Rattle.smith_syntax.specs.declared.marks.Mark.{Mark}
 use Rattle.smith_scopes.specs.Kept.{AreOffers, is_offered, kind_for, offered_places, row_for}
 use Rattle.smith_scopes.specs.Scopes.{Contents, kind_places, shown_marked, shown_scope}
@@ -82,14 +80,3 @@ row_offered offer.Instance a = a.instances
 pub length-offered : (o : Offer) (d : Contents) → length (offered_places o (shown_marked d)) ≤ length d.types
 length-offered o d =
     omega (arith, length-marked_places (is_offered o) 0 (map shown_type d.types) d.marks, length-map d.types shown_type)
-
-pub few_in_row : (o : Offer) (types : List DefType) {rows : Offers ℕ} {marks : List Mark} → AreOffers rows (map shown_type types) marks → length types ≤ max_u32
-    → length (row_for o rows) ≤ max_u32
-few_in_row o types {rows} {marks} a few =
-    omega (
-      arith,
-      ap length (row_offered o a),
-      length-marked_places (is_offered o) 0 (map shown_type types) marks,
-      length-map types shown_type,
-      few,
-    )

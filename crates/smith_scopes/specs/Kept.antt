@@ -1,6 +1,8 @@
 -- What the program keeps beside the types of a scope where marks are kept: what each type may be used for.
 use Rattle.std.specs.Prelude.{◌≡◌, ℕ, ◌<◌, ◌≤◌, Bool, true, false, List, [], ◌∷◌, ◌++◌, map, length, Option, None, Some, if◌then◌else◌}
 use Rattle.std.specs.Vec.{vec_capacity, vec_len}
+use Rattle.std.specs.declared.alloc.Global.{Global}
+use Rattle.std.specs.declared.boxed.Box.{Box}
 use Rattle.std.specs.declared.vec.Vec.{Vec}
 use Rattle.smith_format.specs.Consistency.{max_u32}
 use Rattle.smith_syntax.specs.Entries.{Entry}
@@ -11,6 +13,7 @@ use Rattle.smith_syntax.specs.Shown.{shown_type}
 use Rattle.smith_scopes.specs.Scopes.{Types}
 use Rattle.smith_scopes.specs.declared.scopes.Kind.{Kind}
 use Rattle.smith_scopes.specs.declared.scopes.Kind.TheVariants as kind
+use Rattle.smith_scopes.specs.declared.scopes.kept.Kept.{Kept}
 use Rattle.smith_scopes.specs.declared.scopes.offers.Offer.{Offer}
 use Rattle.smith_scopes.specs.declared.scopes.offers.Offer.TheVariants as offer
 use Rattle.smith_scopes.specs.declared.scopes.offers.Offers.{Offers}
@@ -90,14 +93,38 @@ pub record AreOffers (o : Offers ℕ) (types : List Entry) (marks : List Mark) :
   pub components : o.components.items ≡ marked_places (is_offered offer.Component) 0 types marks
   pub instances : o.instances.items ≡ marked_places (is_offered offer.Instance) 0 types marks
 
+-- nothing yet
+pub record IsNew (k : Kept) : Type 0 where
+  pub marks : k.marks.items ≡ []
+  pub offers : AreEmpty k.offers
+  pub core_sizes : k.core_sizes.items ≡ []
+
+-- the mark of each of these types, and what it may be used for
+pub record AreKept (k : Kept) (types : List Entry) : Type 0 where
+  pub offers_are : AreOffers k.offers types k.marks.items
+  pub as_many : length k.marks.items ≡ length types
+
+-- What is kept is made for the first type or core type.
+
+abbrev pub marks_in : Option (Box Kept Global) → List Mark
+marks_in None = []
+marks_in (Some k) = k.value.marks.items
+
+abbrev pub core_sizes_in : Option (Box Kept Global) → List ℕ
+core_sizes_in None = []
+core_sizes_in (Some k) = k.value.core_sizes.items
+
+abbrev pub AreKeptIn : Option (Box Kept Global) → List Entry → Type 0
+AreKeptIn None types = types ≡ []
+AreKeptIn (Some k) types = AreKept k.value types
+
 -- What is kept where anything is, and that nothing is kept where nothing is. An index has 32 bits.
-pub record IsKept (s : Types) (keeps : Bool) (marks : List Mark) (core_sizes : List ℕ) (o : Offers ℕ) : Type 0 where
-  pub offers_are : keeps ≡ true → AreOffers o (map shown_type s.types) marks
-  pub as_many : keeps ≡ true → length marks ≡ length s.types
-  pub no_marks : keeps ≡ false → marks ≡ []
+pub record IsKept (s : Types) (keeps : Bool) (kept : Option (Box Kept Global)) : Type 0 where
+  pub types_are : keeps ≡ true → AreKeptIn kept (map shown_type s.types)
+  pub no_marks : keeps ≡ false → marks_in kept ≡ []
   pub few : length s.types ≤ max_u32
-  pub as_many_core : keeps ≡ true → length core_sizes ≡ length s.core_types
-  pub no_core_sizes : keeps ≡ false → core_sizes ≡ []
+  pub as_many_core : keeps ≡ true → length (core_sizes_in kept) ≡ length s.core_types
+  pub no_core_sizes : keeps ≡ false → core_sizes_in kept ≡ []
 
 abbrev pub row_for : {X : Type 0} → Offer → Offers X → List X
 row_for offer.Value o = o.values.items

@@ -11,6 +11,7 @@ ghost use Rattle.smith_scopes.specs.Scopes.{shown_types, kind_places, last_of};
 ghost use Rattle.smith_scopes.specs.Scopes.{AddsType, AddsMarked, AddsCoreType, AddsSized};
 
 mod equals;
+mod kept;
 mod marked;
 mod marking;
 mod module_sizes;
@@ -292,7 +293,7 @@ impl Scopes {
         ensures err { OnErr result (self.new ≡ self.old) }
         ensures memory { IfErr result (λ e. e ≡ Error.OutOfMemory) }
     {
-        self.inner.push_type(entry, mark)
+        self.inner.push_type(self.alloc, entry, mark)
     }
 
     /// The index of a function type of the last scope that equals that one, by a choice; none where there is none. It
@@ -332,6 +333,6 @@ impl Scopes {
         ensures err { OnErr result (self.new ≡ self.old) }
         ensures memory { IfErr result (λ e. e ≡ Error.OutOfMemory) }
     {
-        self.inner.push_core_type(entry, size)
+        self.inner.push_core_type(self.alloc, entry, size)
     }
 }

@@ -3,14 +3,15 @@
 ghost use Rattle.std.specs.Prelude.{◌≡◌, ◌<◌, ◌≤◌, get_or, length, option_map, slice_get, true};
 ghost use Rattle.std.specs.Prelude.{OnOk, IfOk, OnErr, IfErr, IfSome, Some};
 ghost use Rattle.smith_format.specs.Consistency.{max_u32};
-ghost use Rattle.smith_scopes.specs.Kept.{AreOffered};
+ghost use Rattle.smith_scopes.specs.Kept.{AreOffered, offered_places};
 ghost use Rattle.smith_syntax.specs.Marks.{no_mark};
 ghost use Rattle.smith_input.specs.Reading.{IsTail};
 ghost use Rattle.smith_scopes.specs.Rows.{IsChosenEqual};
 ghost use Rattle.smith_scopes.specs.Scopes.{kind_places, shown_marked, shown_scope};
 ghost use Rattle.smith_syntax.specs.Marked.{empty_marked, with_marked, with_sized};
 
-use super::offers::{Offer, Offers, Uses};
+use super::kept::{Kept, take_kept};
+use super::offers::Offer;
 use super::{Kind, Scope};
 use smith_input::{Error, Unstructured};
 use smith_syntax::{CoreType, DefType, FuncType, Mark, Reach};
@@ -18,21 +19,18 @@ use std::alloc::Global;
 use std::marker::Model;
 use std::rc::Rc;
 
-// A scope; and, if anything is kept, the mark of each of its types, what each may be used for, and the size of each of
-// its core types.
+// A scope; and, if anything is kept, what is kept of its types and core types, once it has one.
 #[derive(Drop)]
 pub(super) struct Marked {
     pub(super) scope: Scope,
+    kept: Option<Box<Kept>>,
     pub(super) keeps: bool,
-    pub(super) marks: Vec<Mark>,
-    pub(super) offers: Offers<u32>,
-    pub(super) core_sizes: Vec<u32>,
     pub(super) exported: Reach,
     pub(super) size: u32,
 }
 
 impl Model for Marked {
-    ghost use Rattle.smith_scopes.specs.Kept.{IsKept};
+    ghost use Rattle.smith_scopes.specs.Kept.{IsKept, core_sizes_in, marks_in};
     ghost use Rattle.smith_scopes.specs.Scopes.{Contents};
 
     ghost Value = { Contents };
@@ -46,13 +44,13 @@ impl Model for Marked {
       types = s.scope.types;
       core_types = s.scope.core_types;
       keeps = s.keeps;
-      marks = s.marks.items;
-      core_sizes = s.core_sizes.items;
+      marks = marks_in s.kept;
+      core_sizes = core_sizes_in s.kept;
       exported = s.exported;
       size = s.size;
     } };
 
-    ghost invariant = { λ s. IsKept s.scope s.keeps s.marks.items s.core_sizes.items s.offers };
+    ghost invariant = { λ s. IsKept s.scope s.keeps s.kept };
 }
 
 impl Marked {
@@ -61,10 +59,8 @@ impl Marked {
     {
         Marked {
             scope: Scope::new(alloc),
+            kept: None,
             keeps,
-            marks: Vec::new(alloc),
-            offers: Offers::new(alloc),
-            core_sizes: Vec::new(alloc),
             exported: Reach::Everywhere,
             size: 1,
         }
@@ -101,6 +97,39 @@ impl Marked {
         self.scope.choose_equal(alloc, func, u)
     }
 
+    // The marks of the types: none where none is kept.
+    pub(super) fn marks(&self) -> &[Mark]
+        ensures marks { result.now ≡ self.now.marks }
+        ensures known { self.now.keeps ≡ true → length result.now ≡ length self.now.types }
+    {
+        match &self.kept {
+            Some(kept) => &kept.marks,
+            None => &[],
+        }
+    }
+
+    // The sizes of the core types: none where none is kept.
+    fn core_sizes(&self) -> &[u32]
+        ensures sizes { result.now ≡ self.now.core_sizes }
+        ensures known { self.now.keeps ≡ true → length result.now ≡ length self.now.core_types }
+    {
+        match &self.kept {
+            Some(kept) => &kept.core_sizes,
+            None => &[],
+        }
+    }
+
+    // The indexes of the types that may be used for it, where marks are kept.
+    fn row(&self, offer: Offer) -> &[u32]
+        requires { self.now.keeps ≡ true }
+        ensures { result.now ≡ offered_places offer (shown_marked self.now) }
+    {
+        match &self.kept {
+            Some(kept) => kept.offers.row(offer),
+            None => &[],
+        }
+    }
+
     // The indexes of the types that may be used for it, or none if all types may be.
     pub(super) fn offered(&self, offer: Offer) -> Option<&[u32]>
         ensures places { AreOffered offer (shown_marked self.now) (option_map (λ r. r.now) result) }
@@ -108,7 +137,7 @@ impl Marked {
         ensures all { length self.now.types ≤ max_u32 }
     {
         if self.keeps {
-            return Some(self.offers.row(offer));
+            return Some(self.row(offer));
         }
         let kind = offer.kind()?;
         Some(self.scope.places(kind))
@@ -127,7 +156,7 @@ impl Marked {
         ensures value { result ≡ get_or self.now.marks i no_mark }
         ensures known { self.now.keeps ≡ true → i < length self.now.types → slice_get self.now.marks i ≡ Some result }
     {
-        self.marks.get(i as usize).copied().unwrap_or(Mark::NONE)
+        self.marks().get(i as usize).copied().unwrap_or(Mark::NONE)
     }
 
     // The size of the core type with that index.
@@ -136,11 +165,16 @@ impl Marked {
         ensures known { self.now.keeps ≡ true → i < length self.now.core_types
             → slice_get self.now.core_sizes i ≡ Some result }
     {
-        self.core_sizes.get(i as usize).copied().unwrap_or(0)
+        self.core_sizes().get(i as usize).copied().unwrap_or(0)
     }
 
-    // Adds a type at the end. Each list has room before one of them grows.
-    pub(super) fn push_type(&mut self, entry: Rc<DefType>, mark: Mark) -> Result<u32, Error>
+    // Adds a type at the end.
+    pub(super) fn push_type(
+        &mut self,
+        alloc: Global,
+        entry: Rc<DefType>,
+        mark: Mark,
+    ) -> Result<u32, Error>
         requires { length self.old.types < max_u32 }
         ensures ok { OnOk result (self.new ≡ with_marked self.old entry.value mark) }
         ensures index { IfOk result (λ i. i ≡ length self.old.types) }
@@ -150,17 +184,19 @@ impl Marked {
         if !self.keeps {
             return self.scope.push_type(entry);
         }
-        self.marks.reserve(1)?;
-        self.offers.reserve()?;
-        let uses = Uses::new(&*entry, mark);
-        let index = self.scope.push_type(entry)?;
-        self.offers.add(index, uses);
-        self.marks.push_reserved(mark);
-        Ok(index)
+        let mut kept = take_kept(&mut self.kept, alloc)?;
+        let index = kept.push_type(&mut self.scope, entry, mark);
+        self.kept = Some(kept);
+        index
     }
 
-    // Adds a core type at the end. Each list has room before one of them grows.
-    pub(super) fn push_core_type(&mut self, entry: Rc<CoreType>, size: u32) -> Result<u32, Error>
+    // Adds a core type at the end.
+    pub(super) fn push_core_type(
+        &mut self,
+        alloc: Global,
+        entry: Rc<CoreType>,
+        size: u32,
+    ) -> Result<u32, Error>
         requires { length self.old.core_types < max_u32 }
         ensures ok { OnOk result (self.new ≡ with_sized self.old entry.value size) }
         ensures index { IfOk result (λ i. i ≡ length self.old.core_types) }
@@ -170,9 +206,9 @@ impl Marked {
         if !self.keeps {
             return self.scope.push_core_type(entry);
         }
-        self.core_sizes.reserve(1)?;
-        let index = self.scope.push_core_type(entry)?;
-        self.core_sizes.push_reserved(size);
-        Ok(index)
+        let mut kept = take_kept(&mut self.kept, alloc)?;
+        let index = kept.push_core_type(&mut self.scope, entry, size);
+        self.kept = Some(kept);
+        index
     }
 }

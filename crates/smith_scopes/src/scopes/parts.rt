@@ -161,7 +161,7 @@ impl Marked {
             (capped (defined_size (sizes self.now.marks) (shown_defined ty.now))) }
     {
         if self.keeps {
-            defined_mark(&self.marks, ty)
+            defined_mark(self.marks(), ty)
         } else {
             Mark::NONE
         }
@@ -174,7 +174,7 @@ impl Marked {
             (capped (signature_size (sizes self.now.marks) ty.now)) }
     {
         if self.keeps {
-            function_mark(&self.marks, ty)
+            function_mark(self.marks(), ty)
         } else {
             Mark::NONE
         }

@@ -1,11 +1,13 @@
-use Rattle.std.proofs.Common.{sym, ap, ◌∙◌}
+use Rattle.std.proofs.Common.{sym, ap, ◌∙◌, arith, length}
 use Rattle.smith_scopes.specs.Scopes.{Contents, kind_places, shown_scope}
-use Rattle.smith_scopes.proofs.Offered.{few_in_row, offered_by_kind}
+use Rattle.smith_scopes.proofs.Offered.{length-offered, offered_by_kind}
 use Rattle.smith_scopes.proofs.scopes.marked.Marked.offered.Goals as goal
 
 pub returns-then-self-clause-few : goal.returns-then-self-clause-few
 returns-then-self-clause-few c =
-    rw c.row.ensures (few_in_row c.args.offer c.self.inside.scope.types (c.self.invariant.offers_are c.if-self.true) c.self.invariant.few)
+    let d : Contents = c.args.self.now in
+    let types = ap (λ s. length s.types) c.self.view_is in
+    rw c.row.ensures (omega (arith, length-offered c.args.offer d, types, c.self.invariant.few))
 
 pub returns-clause-places : goal.returns-clause-places
 returns-clause-places c =
