@@ -127,15 +127,17 @@ static int complete(LupinanonLimits *limits, Memory given) {
     return is_zero((const uint8_t *)given.at + known, given.len - known);
 }
 
-/* Whether the limits, what else is read and what is written, an output and numbers, may be passed on. The limits are
- * then copied over the defaults. */
-static int are_good(LupinanonLimits *whole, const LupinanonLimits *limits, Memory input, const Memory *written,
-                    size_t written_count) {
+/* The limits to pass on: the caller's own where they are whole, so that nothing is copied then, and else those in the
+ * room. NULL where they, what else is read or what is written, an output and numbers, may not be passed on. */
+static const LupinanonLimits *good_limits(LupinanonLimits *room, const LupinanonLimits *limits, Memory input,
+                                          const Memory *written, size_t written_count) {
     Memory read[2];
     read[0] = memory_of_limits(limits);
     read[1] = input;
-    if (!is_there(written[0]) || !is_there(read[0]) || !is_there(read[1])) return 0;
-    return are_apart(written, written_count, read, 2) && complete(whole, read[0]);
+    if (!is_there(written[0]) || !is_there(read[0]) || !is_there(read[1])) return NULL;
+    if (!are_apart(written, written_count, read, 2)) return NULL;
+    if (limits->size == sizeof *limits) return is_zero(limits->reserved, sizeof limits->reserved) ? limits : NULL;
+    return complete(room, read[0]) ? room : NULL;
 }
 
 /* Whether what is read and what is written, an output and numbers, may be passed on. */
@@ -200,7 +202,7 @@ int32_t lupinanon_swarm_limits(LupinanonLimits *limits, const uint8_t *input, si
 
 int32_t lupinanon_generate_into(const LupinanonLimits *limits, const uint8_t *input, size_t input_len, uint8_t *output,
                                 size_t output_len, size_t *bytes_len, size_t *left) {
-    LupinanonLimits whole;
+    LupinanonLimits room;
     uint8_t nothing = 0;
     size_t not_needed;
     if (!left) left = &not_needed;
@@ -209,9 +211,10 @@ int32_t lupinanon_generate_into(const LupinanonLimits *limits, const uint8_t *in
     if (!bytes_len || !limits) return LUPINANON_BAD_ARGUMENT;
     {
         Memory written[] = {{output, output_len}, MEMORY_OF(bytes_len), MEMORY_OF(left)}, read = {input, input_len};
-        if (!are_good(&whole, limits, read, written, 3)) return LUPINANON_BAD_ARGUMENT;
+        limits = good_limits(&room, limits, read, written, 3);
     }
-    return lupinanon_proved_generate_into(WITHOUT_SIZE(&whole), input ? input : &nothing, input_len,
+    if (!limits) return LUPINANON_BAD_ARGUMENT;
+    return lupinanon_proved_generate_into(WITHOUT_SIZE(limits), input ? input : &nothing, input_len,
                                           output ? output : &nothing, output_len, bytes_len, left);
 }
 
@@ -264,7 +267,7 @@ int32_t lupinanon_check(const uint8_t *bytes, size_t bytes_len, size_t *offset) 
 
 int32_t lupinanon_script_into(const LupinanonLimits *limits, const uint8_t *bytes, size_t bytes_len, uint8_t *output,
                               size_t output_len, size_t *script_len, size_t *offset) {
-    LupinanonLimits whole;
+    LupinanonLimits room;
     uint8_t nothing = 0;
     size_t not_needed;
     if (!offset) offset = &not_needed;
@@ -273,44 +276,47 @@ int32_t lupinanon_script_into(const LupinanonLimits *limits, const uint8_t *byte
     if (!script_len || !limits) return LUPINANON_BAD_ARGUMENT;
     {
         Memory written[] = {{output, output_len}, MEMORY_OF(script_len), MEMORY_OF(offset)}, read = {bytes, bytes_len};
-        if (!are_good(&whole, limits, read, written, 3)) return LUPINANON_BAD_ARGUMENT;
+        limits = good_limits(&room, limits, read, written, 3);
     }
-    return lupinanon_proved_script_into(WITHOUT_SIZE(&whole), bytes ? bytes : &nothing, bytes_len,
+    if (!limits) return LUPINANON_BAD_ARGUMENT;
+    return lupinanon_proved_script_into(WITHOUT_SIZE(limits), bytes ? bytes : &nothing, bytes_len,
                                         output ? output : &nothing, output_len, script_len, offset);
 }
 
 int32_t lupinanon_smaller(const LupinanonLimits *limits, const uint8_t *bytes, size_t bytes_len, size_t k,
                           uint8_t *output, size_t output_len, size_t *smaller_len) {
-    LupinanonLimits whole;
+    LupinanonLimits room;
     uint8_t nothing = 0;
     if (smaller_len) *smaller_len = 0;
     if (!smaller_len) return LUPINANON_BAD_ARGUMENT;
     {
         Memory written[] = {{output, output_len}, MEMORY_OF(smaller_len)}, read = {bytes, bytes_len};
-        int good = limits ? are_good(&whole, limits, read, written, 2) : may_pass(&read, 1, written, 2);
-        if (!good) return LUPINANON_BAD_ARGUMENT;
+        int has_limits = limits != NULL;
+        if (has_limits) limits = good_limits(&room, limits, read, written, 2);
+        if (has_limits ? !limits : !may_pass(&read, 1, written, 2)) return LUPINANON_BAD_ARGUMENT;
     }
     if (!bytes) bytes = &nothing;
     if (!output) output = &nothing;
     if (!limits) return lupinanon_proved_smaller_formed(bytes, bytes_len, k, output, output_len, smaller_len);
-    return lupinanon_proved_smaller(WITHOUT_SIZE(&whole), bytes, bytes_len, k, output, output_len, smaller_len);
+    return lupinanon_proved_smaller(WITHOUT_SIZE(limits), bytes, bytes_len, k, output, output_len, smaller_len);
 }
 
 int32_t lupinanon_next_smaller(const LupinanonLimits *limits, const uint8_t *bytes, size_t bytes_len, size_t *step,
                                uint8_t *output, size_t output_len, size_t *smaller_len) {
-    LupinanonLimits whole;
+    LupinanonLimits room;
     uint8_t nothing = 0;
     if (smaller_len) *smaller_len = 0;
     if (!smaller_len || !step) return LUPINANON_BAD_ARGUMENT;
     {
         Memory written[] = {{output, output_len}, MEMORY_OF(smaller_len), MEMORY_OF(step)}, read = {bytes, bytes_len};
-        int good = limits ? are_good(&whole, limits, read, written, 3) : may_pass(&read, 1, written, 3);
-        if (!good) return LUPINANON_BAD_ARGUMENT;
+        int has_limits = limits != NULL;
+        if (has_limits) limits = good_limits(&room, limits, read, written, 3);
+        if (has_limits ? !limits : !may_pass(&read, 1, written, 3)) return LUPINANON_BAD_ARGUMENT;
     }
     if (!bytes) bytes = &nothing;
     if (!output) output = &nothing;
     if (!limits) return lupinanon_proved_next_smaller_formed(bytes, bytes_len, step, output, output_len, smaller_len);
-    return lupinanon_proved_next_smaller(WITHOUT_SIZE(&whole), bytes, bytes_len, step, output, output_len, smaller_len);
+    return lupinanon_proved_next_smaller(WITHOUT_SIZE(limits), bytes, bytes_len, step, output, output_len, smaller_len);
 }
 
 int32_t lupinanon_without(const uint8_t *bytes, size_t bytes_len, size_t k, uint8_t *output, size_t output_len,

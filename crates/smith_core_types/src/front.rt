@@ -115,10 +115,11 @@ pub(crate) fn front(making: &Making, u: &mut Unstructured) -> Result<Declared, E
     ensures memory { IfErr result (λ e. e ≡ Error.OutOfMemory) }
     ensures tail { IsTail u.new u.old }
 {
-    // The three lines add two function types and five declarations at most. Few module types have many more.
+    // The three lines add two function types and five declarations at most. Few module types have many more, and
+    // ten declarations would be a block of more than 1,032 bytes, for which `malloc` has no cache.
     let mut declared = Declared {
         own: Vec::with_capacity(making.alloc, 3)?,
-        counted: CountedDefs::with_capacity(making.alloc, 8)?,
+        counted: CountedDefs::with_capacity(making.alloc, 9)?,
     };
     memory_line(making, u, &mut declared)?;
     function_line(

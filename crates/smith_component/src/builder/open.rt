@@ -9,6 +9,9 @@ use crate::builder::tables::Tables;
 use crate::component::Section;
 use std::alloc::{AllocError, Global};
 
+// How many sections there is room for at first. Few components have more, and a list that grows is copied.
+const FIRST_SECTIONS: usize = 8;
+
 /// A component that is not finished yet, and what is kept beside its sections.
 #[derive(Drop)]
 pub(crate) struct OpenComponent {
@@ -34,7 +37,12 @@ impl OpenComponent {
             ≡ add (shown_sections self.old.sections.items) (shown_section section)) }
         ensures tables { self.new.tables ≡ self.old.tables }
     {
-        self.sections.reserve(1)?;
+        let more = if self.sections.is_empty() {
+            FIRST_SECTIONS
+        } else {
+            1
+        };
+        self.sections.reserve(more)?;
         self.sections.push_reserved(section);
         Ok(())
     }
