@@ -43,11 +43,11 @@ impl Progress {
         match self.outer.pop() {
             None => {
                 let root = mem::replace(&mut self.inner.sections, Vec::new(self.alloc));
-                Ok(Some(Component::of(root)))
+                Ok(Some(Component::of(root, self.inner.length)))
             }
             Some(parent) => {
                 let finished = mem::replace(&mut self.inner, parent);
-                let component = Component::of(finished.sections);
+                let component = Component::of(finished.sections, finished.length);
                 self.inner.push(Section::Component(component))?;
                 self.scopes.close_scope();
                 Ok(None)
