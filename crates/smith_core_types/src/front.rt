@@ -13,19 +13,11 @@ ghost use Rattle.smith_syntax.specs.ModuleTypes.{realloc, free};
 use crate::counted::CountedDefs;
 use crate::declared::{Declared, declare};
 use crate::making::Making;
-use smith_format::{Config, EntityType, ExportKind, FuncType, ValType, arbitrary_memtype};
+use smith_format::{Config, EntityType, ExportKind, FuncType, arbitrary_memtype};
 use smith_input::{Error, Unstructured};
+use smith_scopes::Scopes;
 use smith_syntax::ModuleTypeDef;
-use std::alloc::Global;
 use std::rc::Rc;
-
-static FOUR: [ValType; 4] = [ValType::I32, ValType::I32, ValType::I32, ValType::I32];
-
-static THREE: [ValType; 3] = [ValType::I32, ValType::I32, ValType::I32];
-
-static ONE: [ValType; 1] = [ValType::I32];
-
-static NONE: [ValType; 0] = [];
 
 // The export of a memory, where one is allowed.
 fn memory_line(making: &Making, u: &mut Unstructured, declared: &mut Declared) -> Result<(), Error>
@@ -48,24 +40,6 @@ fn memory_line(making: &Making, u: &mut Unstructured, declared: &mut Declared) -
     Ok(())
 }
 
-// A function type of these parameters and results.
-fn function_of(
-    alloc: Global,
-    params: &[ValType],
-    results: &[ValType],
-) -> Result<Rc<FuncType>, Error>
-    ensures made { IfOk result (λ t. shown_func t.value ≡ (params.now, results.now)) }
-    ensures memory { IfErr result (λ e. e ≡ Error.OutOfMemory) }
-{
-    let mut ty = FuncType {
-        params: Vec::with_capacity(alloc, params.len())?,
-        results: Vec::with_capacity(alloc, results.len())?,
-    };
-    ty.params.extend_from_slice(params)?;
-    ty.results.extend_from_slice(results)?;
-    Ok(Rc::new(alloc, ty)?)
-}
-
 // Are one more type and one more function below the limits?
 fn allows_line(config: &Config, declared: &Declared) -> bool
     ensures { result ≡ (allows_function config.now (so_far declared.now 0)
@@ -75,18 +49,17 @@ fn allows_line(config: &Config, declared: &Declared) -> bool
         && declared.own.len() < config.max_types
 }
 
-// A function type and the export of a function of it, where both are allowed.
+// That function type and the export of a function of it, where both are allowed.
 fn function_line(
     making: &Making,
     u: &mut Unstructured,
     declared: &mut Declared,
     name: &str,
-    params: &[ValType],
-    results: &[ValType],
+    ty: Rc<FuncType>,
 ) -> Result<(), Error>
     requires { length declared.old.own.items < 1000 }
     ensures reads { (fuel : ℕ) → OnOk result (ReadsFunctionLine making.now.config.now name.now
-        (params.now, results.now) (so_far declared.old fuel) u.old (so_far declared.new fuel) u.new) }
+        (shown_func ty.value) (so_far declared.old fuel) u.old (so_far declared.new fuel) u.new) }
     ensures own { OnOk result (length declared.new.own.items ≤ length declared.old.own.items + 1) }
     ensures kept { (around : _) → KeepsDeclared around declared.old → OnOk result (KeepsDeclared around declared.new) }
     ensures memory { IfErr result (λ e. e ≡ Error.OutOfMemory) }
@@ -99,7 +72,7 @@ fn function_line(
         return Ok(());
     }
     let index = declared.own.len() as u32;
-    declare(declared, function_of(making.alloc, params, results)?)?;
+    declare(declared, ty)?;
     let name = String::from_str(making.alloc, name)?;
     declared
         .counted
@@ -108,7 +81,11 @@ fn function_line(
 }
 
 // What the canonical ABI asks, in its three lines.
-pub(crate) fn front(making: &Making, u: &mut Unstructured) -> Result<Declared, Error>
+pub(crate) fn front(
+    making: &Making,
+    u: &mut Unstructured,
+    scopes: &Scopes,
+) -> Result<Declared, Error>
     ensures reads { IfOk result (λ d. (fuel : ℕ) → ReadsFront making.now.config.now u.old fuel (so_far d fuel) u.new) }
     ensures few { IfOk result (λ d. length d.own.items ≤ 2) }
     ensures kept { IfOk result (λ d. (around : _) → KeepsDeclared around d) }
@@ -122,21 +99,10 @@ pub(crate) fn front(making: &Making, u: &mut Unstructured) -> Result<Declared, E
         counted: CountedDefs::with_capacity(making.alloc, 9)?,
     };
     memory_line(making, u, &mut declared)?;
-    function_line(
-        making,
-        u,
-        &mut declared,
-        "canonical_abi_realloc",
-        &FOUR,
-        &ONE,
-    )?;
-    function_line(
-        making,
-        u,
-        &mut declared,
-        "canonical_abi_free",
-        &THREE,
-        &NONE,
-    )?;
+    let types = scopes.canonical_abi()?;
+    let realloc = types.realloc.clone()?;
+    function_line(making, u, &mut declared, "canonical_abi_realloc", realloc)?;
+    let free = types.free.clone()?;
+    function_line(making, u, &mut declared, "canonical_abi_free", free)?;
     Ok(declared)
 }

@@ -206,7 +206,7 @@ pub(crate) fn module_type(
     ensures memory { IfErr result (λ e. e ≡ Error.OutOfMemory) }
     ensures tail { IsTail u.new u.old }
 {
-    let mut declared = front(making, u)?;
+    let mut declared = front(making, u, scopes)?;
     declarations(making, u, scopes, fuel, &mut declared)?;
     let Declared { own: _, counted } = declared;
     let CountedDefs { defs, .. } = counted;

@@ -31,6 +31,9 @@ impl From<AllocError> for Error {
 
     ghost from_gives = { λ _ e. e ≡ OutOfMemory };
 
+    // A call of what is cold shows the compiler that the branch to it is rarely taken.
+    #[cold]
+    #[inline(never)]
     fn from(_error: AllocError) -> Error {
         Error::OutOfMemory
     }

@@ -10,6 +10,7 @@ ghost use Rattle.smith_scopes.specs.Rows.{IsChosenEqual};
 ghost use Rattle.smith_scopes.specs.Scopes.{shown_types, kind_places, last_of};
 ghost use Rattle.smith_scopes.specs.Scopes.{AddsType, AddsMarked, AddsCoreType, AddsSized};
 
+mod abi;
 mod equals;
 mod kept;
 mod marked;
@@ -21,6 +22,7 @@ mod queries;
 mod references;
 mod sizes;
 
+pub use abi::CanonicalAbi;
 use equals::Equals;
 use marked::Marked;
 pub use module_sizes::ModuleSize;
@@ -28,8 +30,9 @@ pub use offers::{Offer, Offers, Uses};
 pub use parts::{defined_mark, function_mark};
 pub use sizes::{function_size, size_sum};
 use smith_input::{Error, Unstructured};
-use smith_syntax::{CoreType, DefType, FuncType, Mark, drop_last_first, reserve_one};
+use smith_syntax::{CoreType, DefType, FuncType, Mark, drop_last_first};
 use std::alloc::Global;
+use std::cell::OnceCell;
 use std::marker::Model;
 use std::mem;
 use std::rc::Rc;
@@ -90,6 +93,7 @@ pub struct Scopes {
     alloc: Global,
     outer: Vec<Marked>,
     inner: Marked,
+    abi: OnceCell<CanonicalAbi>,
 }
 
 impl Model for Scopes {
@@ -130,6 +134,7 @@ impl Drop for Scopes {
             alloc: _,
             outer,
             inner,
+            abi: _,
         } = self;
         drop(inner);
         drop_last_first(outer);
@@ -247,7 +252,20 @@ impl Scopes {
             alloc,
             outer: Vec::new(alloc),
             inner: Marked::new(alloc, keeps),
+            abi: OnceCell::new(),
         }
+    }
+
+    /// The types of the functions that the canonical ABI asks of a module type. They are made when they are first asked
+    /// for. It fails only when out of memory.
+    pub fn canonical_abi(&self) -> Result<&CanonicalAbi, Error>
+        ensures { IfErr result (λ e. e ≡ Error.OutOfMemory) }
+    {
+        if let Some(types) = self.abi.get() {
+            return Ok(types);
+        }
+        let _ = self.abi.set(CanonicalAbi::new(self.alloc)?);
+        self.abi.get().ok_or(Error::OutOfMemory)
     }
 
     /// Adds an empty scope. It fails only when out of memory, and all is then as it was.
@@ -257,7 +275,7 @@ impl Scopes {
         ensures err { OnErr result (self.new ≡ self.old) }
         ensures memory { IfErr result (λ e. e ≡ Error.OutOfMemory) }
     {
-        reserve_one(&mut self.outer)?;
+        self.outer.reserve(1)?;
         let empty = Marked::new(self.alloc, self.inner.keeps());
         let around = mem::replace(&mut self.inner, empty);
         self.outer.push_reserved(around);

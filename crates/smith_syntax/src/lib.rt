@@ -8,7 +8,6 @@ mod encode;
 mod func;
 pub mod laws;
 mod marks;
-mod room;
 mod types;
 mod valued;
 
@@ -24,7 +23,6 @@ pub use encode::{
 };
 pub use func::FuncType;
 pub use marks::{Mark, Reach};
-pub use room::reserve_one;
 pub use types::{
     ComponentValType, DefinedType, EnumType, FlagsType, ListType, OptionType, PrimitiveValType,
     RecordType, ResultType, TupleType, VariantType,

@@ -12,7 +12,6 @@ use crate::builder::Progress;
 use crate::builder::open::OpenComponent;
 use crate::component::{Component, Section};
 use smith_input::Error;
-use smith_syntax::reserve_one;
 use std::alloc::AllocError;
 use std::mem;
 
@@ -24,7 +23,7 @@ impl Progress {
         ensures does { OnOk result ((b : List ℕ) → DoesItem item.Component self.old b self.new None b) }
         ensures memory { IfErr result (λ e. e ≡ Error.OutOfMemory) }
     {
-        reserve_one(&mut self.outer)?;
+        self.outer.reserve(1)?;
         self.scopes.open_scope()?;
         let opened = OpenComponent::new(self.alloc);
         let around = mem::replace(&mut self.inner, opened);

@@ -79,6 +79,8 @@ impl Module {
     /// The module that stands for a generated one: at most 20 final function types, each in a group by itself, and as
     /// many memories as the limits allow, all defined. It refuses with `ModuleRefused` exactly where `min_memories`
     /// exceeds `max_memories`, before it reads, and otherwise fails only when out of memory.
+    // It is apart, so that its caller's code, which runs for components without modules too, stays small.
+    #[inline(never)]
     pub fn new_internal(
         alloc: Global,
         config: Config,

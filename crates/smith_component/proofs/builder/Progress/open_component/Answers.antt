@@ -31,7 +31,7 @@ returns-clause-does c bytes =
     let i = c.requires.sound in
     let stack = stack_of b in
     let o = component_offered_is b.config stack c.requires.offered in
-    let pushed = c.push_reserved.ensures.items ∙ ap (λ xs. xs ++ c.replace-around.result ∷ []) c.in_ok-reserve_one.ensures.items in
+    let pushed = c.push_reserved.ensures.items ∙ ap (λ xs. xs ++ c.replace-around.result ∷ []) c.reserve.ensures.items in
     let outer = outer_popped _ _ _ pushed
     ∙ ap (λ x. trees_of b.outer.items ++ shown_sections x.sections.items ∷ []) c.replace-around.ensures.value in
     let new : OpenComponent = c.new-opened.result in
