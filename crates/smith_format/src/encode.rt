@@ -38,6 +38,8 @@ pub(crate) fn ref_len(ty: RefType) -> u32
     }
 }
 
+// It is inlined, since lists of value types are what is written most.
+#[inline(always)]
 pub(crate) fn put_core_val(out: &mut Vec<u8>, ty: ValType) -> Result<(), Error>
     ensures { Puts result out.old out.new (core_val ty) }
 {
