@@ -25,12 +25,11 @@ returns-clause-reads c fuel =
     let old = c.args.declared.now in
     let own = shown_funcs old.own.items in
     let before = map shown_decl old.counted.defs.items in
-    let f : Function = (c.args.params.now, c.args.results.now) in
-    let made = c.in_ok-function_of.ensures.made in
+    let f : Function = shown_func c.args.ty.value in
     let name = c.args.name.now in
     let count : c.len-index.result ≡ length own = omega (arith, c.len-index.ensures, length-map old.own.items (λ t. shown_func t.value)) in
-    let owns = c.in_ok-declare.ensures.own ∙ ap (λ g. own ++ g ∷ []) made in
-    let first = c.in_ok-declare.ensures.defs ∙ ap (λ g. before ++ declares g ∷ []) made in
+    let owns = c.in_ok-declare.ensures.own in
+    let first = c.in_ok-declare.ensures.defs in
     let last = pushed shown_decl c.declare.new.declared.counted.defs.items c.push.new.self.defs.items _ c.in_ok-push.ensures.items in
     let decls = last ∙ (λ i. first i ++ exports (c.in_ok-name.ensures.ok i) (Func (count i)) ∷ [])
     ∙ append_assoc before (declares f ∷ []) (exports name (Func (length own)) ∷ []) in
