@@ -3,8 +3,6 @@ use Rattle.std.proofs.Common.{◌≡◌, ℕ, ◌+◌, ◌-◌, min, ◌<◌, �
 use Rattle.std.proofs.Common.{◌∙◌, arith, ⊎_elim}
 use Rattle.std.proofs.lemmas.Bool.{cases_lt}
 use Rattle.std.proofs.lemmas.List.{append_assoc, length-take, take_at, take_min, drop_at, take_all}
-use Rattle.std.specs.Prelude.{Result, Ok, Err}
-use Rattle.std.specs.Result.{MatchResult, result_unwrap_or}
 use Rattle.std.specs.Str.{IsUtf8, IsValidUpTo}
 use Rattle.smith_input.specs.Reading.{Reads, Flips, IsTail}
 use Rattle.smith_input.specs.Script.{pick, script_bytes, script_text}
@@ -48,12 +46,6 @@ pub longest_front : (bytes text : List ℕ) (n : ℕ) → text ≡ take n bytes 
 longest_front bytes text n e v =
     let len : length text ≡ n = omega (arith, ap length e, length-take n bytes, v.short) in
     record { utf8 = subst IsUtf8 (sym e) v.front; front = e ∙ ap (λ k. take k bytes) (sym len); longest = λ m h _. v.longest m (omega arith) }
-
--- a prefix that is tested to be UTF-8 is returned as it is
-pub tested_front : {T E : Type 0} (Q : E → Type 0) (now : T → List ℕ) (bytes : List ℕ) (r : Result T E) (other x : T)
-    → MatchResult r (λ s. (now s ≡ bytes) × IsUtf8 bytes) (λ e. ¬ (IsUtf8 bytes) × Q e) → IsUtf8 bytes → x ≡ result_unwrap_or r other → now x ≡ bytes
-tested_front Q now bytes (Ok s) other x m u e = ap now e ∙ m.0
-tested_front Q now bytes (Err f) other x m u e = absurd (m.0 u)
 
 -- a text by its length, cut to what is left
 pub text_cut : {max count k len : ℕ} {bytes after left text got rest : List ℕ} → count ≡ 0 + k → Reads (max - 0 + 1) bytes k after → left ≡ after

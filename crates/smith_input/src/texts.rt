@@ -30,7 +30,8 @@ fn longest_text(bytes: &[u8]) -> &str
 {
     match str::from_utf8(bytes) {
         Ok(text) => text,
-        Err(error) => str::from_utf8(&bytes[..error.valid_up_to()]).unwrap_or(""),
+        // It is not tested again.
+        Err(error) => unsafe { str::from_utf8_unchecked(&bytes[..error.valid_up_to()]) },
     }
 }
 
