@@ -37,9 +37,10 @@ typedef struct Memory {
 
 static int is_there(Memory it) { return it.len <= PTRDIFF_MAX && (it.at || !it.len); }
 
+/* Whether no byte is in both. The differences wrap around, so that no branch depends on which is first. */
 static int is_apart(Memory one, Memory other) {
     uintptr_t a = (uintptr_t)one.at, b = (uintptr_t)other.at;
-    return !one.len || !other.len || (a < b ? b - a >= one.len : a - b >= other.len);
+    return (b - a >= one.len && a - b >= other.len) || !one.len || !other.len;
 }
 
 /* Whether what is written is apart from what is read, and from what else is written. */

@@ -46,3 +46,7 @@ one_byte n h k = record { enough = k; least = λ v le. above_none v le } where
   above_none : (v : ℕ) → n ≤ 256 ^ v → 1 ≤ v
   above_none zero le = absurd (omega arith)
   above_none (suc v) le = omega arith
+
+pub one_byte_chosen : (n byte : ℕ) {bytes rest : List ℕ} → 1 < n → n ≤ 256 → byte ≡ get_or bytes 0 0 → rest ≡ drop 1 bytes → Reads n bytes (byte % n) rest
+one_byte_chosen n byte {bytes} {rest} h k v d =
+    reads_rest n 1 bytes rest byte (omega arith) (one_byte n h k) (omega (arith, v, spelled_more 0 bytes)) d

@@ -1,6 +1,6 @@
 //! Names that are read, and are new to a set of names.
 
-ghost use Rattle.std.specs.Prelude.{◌≡◌, ◌<◌, ◌≤◌, ◌++◌, ℕ, List, false, length, map};
+ghost use Rattle.std.specs.Prelude.{◌≡◌, ◌%◌, ◌<◌, ◌≤◌, ◌++◌, ℕ, List, false, length, map};
 ghost use Rattle.std.specs.Prelude.{string_bytes, IfOk, IfErr, OnErr};
 ghost use Rattle.std.specs.BTreeSet.{contains_text};
 ghost use Rattle.smith_input.specs.Reading.{IsTail};
@@ -21,18 +21,26 @@ pub const MAX_NAME_LEN: usize = 100;
 
 const HOST: &str = "https://example.com/";
 
-// The characters of a choice among 37, where a word begins and where it goes on.
-const BEGINNINGS: &[u8; 37] = b"abcdefghijklmnopqrstuvwxyzabcdefghija";
+// The character of each byte where a word begins, and where it goes on: that of the byte's remainder by 37. Tables take
+// no division, and no branch, which no processor could foresee here.
+const BEGINNINGS: &[u8; 256] =
+    b"abcdefghijklmnopqrstuvwxyzabcdefghijaabcdefghijklmnopqrstuvwxyzabcdefghija\
+    abcdefghijklmnopqrstuvwxyzabcdefghijaabcdefghijklmnopqrstuvwxyzabcdefghija\
+    abcdefghijklmnopqrstuvwxyzabcdefghijaabcdefghijklmnopqrstuvwxyzabcdefghija\
+    abcdefghijklmnopqrstuvwxyzabcdefgh";
 
-const CONTINUATIONS: &[u8; 37] = b"abcdefghijklmnopqrstuvwxyz0123456789-";
+const CONTINUATIONS: &[u8; 256] =
+    b"abcdefghijklmnopqrstuvwxyz0123456789-abcdefghijklmnopqrstuvwxyz0123456789-\
+    abcdefghijklmnopqrstuvwxyz0123456789-abcdefghijklmnopqrstuvwxyz0123456789-\
+    abcdefghijklmnopqrstuvwxyz0123456789-abcdefghijklmnopqrstuvwxyz0123456789-\
+    abcdefghijklmnopqrstuvwxyz01234567";
 
-// The character of a choice. Tables take no branch, which no processor could foresee here.
-fn kebab_character(choice: u8, begins: bool) -> u8
-    requires { choice < 37 }
-    ensures { result ≡ character begins choice }
+// The character that a byte chooses among 37.
+fn kebab_character(byte: u8, begins: bool) -> u8
+    ensures { result ≡ character begins (byte % 37) }
 {
     let characters = if begins { BEGINNINGS } else { CONTINUATIONS };
-    characters[usize::from(choice)]
+    characters[usize::from(byte)]
 }
 
 // A name in kebab case.
@@ -47,7 +55,7 @@ fn kebab_string(alloc: Global, max: usize, u: &mut Unstructured) -> Result<Strin
     // A reader of its own stays in registers from one character to the next.
     let mut reader = Unstructured::new(u.left());
     for _place in 0..count {
-        let character = kebab_character(reader.choose_index(37) as u8, begins);
+        let character = kebab_character(reader.arbitrary_u8(), begins);
         begins = character == b'-';
         name.push_reserved(character);
     }

@@ -4,6 +4,6 @@
 mod scopes;
 
 pub use scopes::{
-    CanonicalAbi, Kind, ModuleSize, Offer, Offers, Scopes, Uses, defined_mark, function_mark, function_size,
-    size_sum,
+    CanonicalAbi, Kind, ModuleSize, Offer, Offers, Scopes, Uses, defined_mark, function_mark,
+    function_size, size_sum,
 };

@@ -10,8 +10,8 @@ use crate::component::Section;
 use crate::encode::{EMPTY_LEN, longer};
 use std::alloc::{AllocError, Global};
 
-// How many sections there is room for at first. Few components have more, and a list that grows is copied.
-const FIRST_SECTIONS: usize = 8;
+// How many sections there is room for at first, in 896 bytes. Few components have more, and a list that grows is copied.
+const FIRST_SECTIONS: usize = 16;
 
 /// A component that is not finished yet, with its length, and what is kept beside its sections.
 #[derive(Drop)]

@@ -1,9 +1,10 @@
-use Rattle.std.proofs.Common.{◌≡◌, if◌then◌else◌, Bool, [], ◌∷◌, ◌++◌, sym, ap, ◌∙◌, subst, arith, append-nil, rules}
+use Rattle.std.proofs.Common.{◌≡◌, if◌then◌else◌, Bool, [], ◌∷◌, ◌++◌, ◌%◌, sym, ap, ◌∙◌, subst, arith, append-nil, rules}
 use Rattle.std.proofs.lemmas.Grind.{common_steps}
 use Rattle.std.proofs.lemmas.Str.{IsUtf8-from_ascii}
 use Rattle.std.specs.Str.{IsAscii}
 use Rattle.smith_input.specs.Names.{ReadsEach, none, next}
 use Rattle.smith_input.proofs.Reading.{tail_trans, reads_tail}
+use Rattle.smith_input.proofs.Widths.{one_byte_chosen}
 use Rattle.smith_input.proofs.Kebab.{spelt_pushed, kebab_counted, character_small, ascii_pushed}
 use Rattle.smith_input.proofs.names.kebab_string.Goals as goal
 use Rattle.smith_input.proofs.names.kebab_string.Goals.{then-begins+in_ok-push, else-begins}
@@ -11,16 +12,17 @@ use Rattle.smith_input.proofs.names.kebab_string.Goals.{then-begins+in_ok-push, 
 pub loop-place-preserved : goal.loop-place-preserved
 loop-place-preserved c =
     let added : c.push_reserved.new.self.items ≡ c.loop-place.name.items ++ c.kebab_character-character.result ∷ [] = c.push_reserved.ensures.items in
+    let chosen = one_byte_chosen 37 c.arbitrary_u8.result (omega arith) (omega arith) c.arbitrary_u8.ensures.value c.arbitrary_u8.ensures.left in
     record {
-      more = λ ks rest r. let known = c.loop-place.invariant.more (c.choose_index.result ∷ ks) rest (next c.choose_index.ensures r) in (
+      more = λ ks rest r. let known = c.loop-place.invariant.more (c.arbitrary_u8.result % 37 ∷ ks) rest (next chosen r) in (
         known.0,
         omega (arith, known.1),
         known.2,
         known.3 ∙ spelt_pushed c.loop-place.name.items c.push_reserved.new.self.items ks _ c.kebab_character-character.result
             c.kebab_character-character.ensures added,
       );
-      tail = tail_trans (reads_tail c.choose_index.ensures) c.loop-place.invariant.tail;
-      ascii = let small = character_small c.loop-place.begins c.choose_index.result c.choose_index.ensures.below in
+      tail = tail_trans (reads_tail chosen) c.loop-place.invariant.tail;
+      ascii = let small = character_small c.loop-place.begins (c.arbitrary_u8.result % 37) chosen.below in
           ascii_pushed _ _ c.kebab_character-character.result (omega (arith, small, c.kebab_character-character.ensures)) c.loop-place.invariant.ascii added;
       placed = omega (arith, c.push_reserved.ensures.len, c.loop-place.invariant.placed);
       room = omega (arith, c.push_reserved.ensures.capacity, c.loop-place.invariant.room);
