@@ -5,6 +5,7 @@ pub mod Sections
 pub mod Segments
 pub mod Split
 pub mod StandIn
+pub mod Kept
 pub mod SubTypes
 pub mod Tiles
 pub mod TooLong

@@ -1,8 +1,6 @@
 -- A module of the bytes of function types and memories within the limits is read from their script.
 use Rattle.std.proofs.Common.{◌≡◌, ℕ, suc, ◌+◌, ◌<◌, ◌≤◌, ◌^◌, Bool, true, false, List, [], ◌∷◌, ◌++◌, map, length}
 use Rattle.std.proofs.Common.{refl, sym, ap, ◌∙◌, subst, arith, min, None, append_assoc}
-use denote.RawPtr.{null_ptr}
-use Rattle.std.specs.Global.{Vec}
 use Rattle.std.specs.List.{AllByRecursion}
 use Rattle.smith_input.specs.Loops.{Loop, Never}
 use Rattle.smith_input.specs.Script.{script_loop, script_more}
@@ -15,30 +13,16 @@ use Rattle.smith_format.specs.declared.config.Config.{Config}
 use Rattle.smith_format.specs.declared.types.MemoryType.{MemoryType}
 use Rattle.smith_format.proofs.CoreScript.{function_read, memory_read}
 use Rattle.smith_format.proofs.ScriptBytes.{few_values}
-use Rattle.smith_core.specs.Module.{has_any, module_text}
-use Rattle.smith_core.specs.StandIn.{HasTypesAndMemories, IsFunction, ReadsMemoryType, ReadsStandIn, ReadsSubType, groups_from}
+use Rattle.smith_core.specs.Kept.{final_type, parts_of, vec_of}
+use Rattle.smith_core.specs.Module.{module_text}
+use Rattle.smith_core.specs.StandIn.{HasTypesAndMemories, IsFunction, ReadsMemoryType, ReadsStandIn, ReadsSubType}
 use Rattle.smith_core.specs.StandInScript.{IsStandIn, script_stand_in}
 use Rattle.smith_core.specs.StandInText.{StandIn, stand_in_text}
 use Rattle.smith_core.specs.declared.module.parts.ModuleParts.{ModuleParts}
-use Rattle.smith_core.specs.declared.module.types.CompositeType.TheVariants.{Func}
 use Rattle.smith_core.specs.declared.module.types.SubType.{SubType}
+use Rattle.smith_core.proofs.StandIn.{parts_listed}
 use Rattle.smith_core.proofs.StandInMade.{few_results}
 use Rattle.smith_core.proofs.StandInSame.{function_at, is_plain, text_is, IsPlain}
-
--- a list of the program with these items
-abbrev vec_of : {A : Type 0} (xs : List A) → length xs < 2 ^ 63 → Vec A
-vec_of xs h = record {
-  ptr = null_ptr;
-  len = length xs;
-  cap = length xs;
-  alloc = record { memory = record { seal = tt } };
-  items = xs;
-  ok = (refl, omega arith);
-  small = h;
-}
-
-abbrev empty_vec : {A : Type 0} → Vec A
-empty_vec = vec_of [] (omega arith)
 
 -- a script of what items show
 script_shown : {A B : Type 0} (script : B → List ℕ) (f : A → B) (min max done : ℕ) (s : Unit {0}) (xs : List A)
@@ -47,64 +31,12 @@ script_shown : {A B : Type 0} (script : B → List ℕ) (f : A → B) (min max d
 script_shown script f min max done s [] = refl
 script_shown script f min max done s (x ∷ xs) = ap (λ z. script_more min done ++ script (f x) ++ z) (script_shown script f min max (done + 1) s xs)
 
-groups_count : (at : ℕ) (ts : List SubType) → length (groups_from at ts) ≡ length ts
-groups_count at [] = refl
-groups_count at (t ∷ ts) = ap suc (groups_count (at + 1) ts)
-
--- a module of these types and memories
-abbrev parts_of : Bool → (ts : List SubType) (ms : List MemoryType) → length ts < 2 ^ 63 → length ms < 2 ^ 63 → ModuleParts
-parts_of bulk_memory ts ms few_types few_memories = record {
-  should_encode_types = has_any ts;
-  should_encode_imports = false;
-  bulk_memory_enabled = bulk_memory;
-  types = vec_of ts few_types;
-  rec_groups = vec_of (groups_from 0 ts) (omega (arith, few_types, groups_count 0 ts));
-  imports = empty_vec;
-  funcs = empty_vec;
-  num_defined_funcs = 0;
-  tables = empty_vec;
-  defined_tables = empty_vec;
-  memories = vec_of ms few_memories;
-  num_defined_memories = length ms;
-  tags = empty_vec;
-  num_defined_tags = 0;
-  globals = empty_vec;
-  defined_globals = empty_vec;
-  exports = empty_vec;
-  start = None;
-  elems = empty_vec;
-  code = empty_vec;
-  data_segments = empty_vec;
-}
-
-parts_listed : (bulk_memory : Bool) (ts : List SubType) (ms : List MemoryType) (few_types : length ts < 2 ^ 63) (few_memories : length ms < 2 ^ 63)
-    → HasTypesAndMemories (parts_of bulk_memory ts ms few_types few_memories)
-parts_listed bulk_memory ts ms few_types few_memories = record {
-  encoded = refl;
-  groups = refl;
-  memories = refl;
-  no_imports = (refl, refl);
-  no_functions = (refl, refl);
-  no_tables = (refl, refl);
-  no_tags = (refl, refl);
-  no_globals = (refl, refl);
-  no_exports = refl;
-  no_start = refl;
-  no_elements = refl;
-  no_code = refl;
-  no_data = refl;
-}
-
 module _ (config : Config) where
   -- a function type as a final type with no supertype
   abbrev sub_of : (f : Function) → FormedFunction (configured config) (max_results config) f → SubType
   sub_of f h =
       let few : max_results config ≤ 20 = few_results config.multi_value_enabled in
-      record {
-        is_final = true;
-        supertype = None;
-        composite_type = Func (record { params = vec_of f.0 (omega (arith, h.few_params)); results = vec_of f.1 (omega (arith, h.few_results, few)) });
-      }
+      final_type (record { params = vec_of f.0 (omega (arith, h.few_params)); results = vec_of f.1 (omega (arith, h.few_results, few)) })
 
   abbrev sub_types : (fs : List Function) → AllByRecursion (FormedFunction (configured config) (max_results config)) fs → List SubType
   sub_types [] all = []

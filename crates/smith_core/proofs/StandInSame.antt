@@ -87,7 +87,7 @@ groups_count : (at : ℕ) (ts : List SubType) → length (groups_from at ts) ≡
 groups_count at [] = refl
 groups_count at (t ∷ ts) = ap suc (groups_count (at + 1) ts)
 
-any_map : {A B : Type 0} (f : A → B) (xs : List A) → has_any xs ≡ has_any (map f xs)
+pub any_map : {A B : Type 0} (f : A → B) (xs : List A) → has_any xs ≡ has_any (map f xs)
 any_map f [] = refl
 any_map f (x ∷ xs) = refl
 

@@ -8,4 +8,5 @@ pub mod Split
 pub mod StandIn
 pub mod StandInText
 pub mod StandInScript
+pub mod Kept
 pub mod TooLong

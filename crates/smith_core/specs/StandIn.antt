@@ -8,6 +8,7 @@ use Rattle.smith_format.specs.CoreTypes.{Function}
 use Rattle.smith_format.specs.Shown.{shown_func}
 use Rattle.smith_format.specs.Limits.{configured, max_results}
 use Rattle.smith_format.specs.declared.config.Config.{Config}
+use Rattle.smith_format.specs.declared.types.FuncType.{FuncType}
 use Rattle.smith_format.specs.declared.types.MemoryType.{MemoryType}
 use Rattle.smith_core.specs.Module.{has_any}
 use Rattle.smith_core.specs.declared.module.parts.ModuleParts.{ModuleParts}
@@ -28,6 +29,10 @@ pub record ReadsSubType (config : Config) (s : Unit {0}) (bytes : List ℕ) (t :
   pub is_final : t.is_final ≡ true
   pub supertype : t.supertype ≡ None
   pub composite : IsFunction t.composite_type function
+
+-- a function type of the loop, of the configured value types
+abbrev pub ReadsFunctionType : Config → Unit {0} → List ℕ → FuncType → List ℕ → Unit {0} → Type 0
+ReadsFunctionType config s bytes f rest r = ReadsFunction (configured config) (max_results config) bytes (shown_func f) rest
 
 -- a memory of the loop
 abbrev pub ReadsMemoryType : Unit {0} → List ℕ → MemoryType → List ℕ → Unit {0} → Type 0

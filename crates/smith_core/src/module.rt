@@ -6,6 +6,7 @@ ghost use Rattle.std.specs.Vec.{vec_len, vec_capacity};
 ghost use Rattle.smith_format.specs.Writing.{Appends, Measures, Puts, piece_length};
 ghost use Rattle.smith_core.specs.Module.{module_text};
 ghost use Rattle.smith_core.specs.Parts.{Agree};
+ghost use Rattle.smith_core.specs.Kept.{parts_in, shown};
 
 mod agree;
 mod encode;
@@ -22,14 +23,23 @@ pub use segments::{
 };
 use smith_format::settled;
 use smith_input::Error;
+use stand_in::StandIn;
 use std::alloc::Global;
 use std::marker::Model;
 pub use types::{CompositeType, FieldType, StorageType, SubType};
 
+// What a module is kept as.
+#[derive(Debug, Drop)]
+enum Kept {
+    // A generated module has few parts, and is moved several times.
+    StandIn(StandIn),
+    Parts(Box<ModuleParts>),
+}
+
 /// A core module. Contracts see it as its parts, which agree with one another.
 #[derive(Debug, Drop)]
 pub struct Module {
-    parts: ModuleParts,
+    kept: Kept,
     // The length of its bytes, unless it is too long.
     length: Option<u64>,
 }
@@ -42,40 +52,64 @@ impl Model for Module {
     ghost use Rattle.smith_format.specs.Writing.{Takes};
     ghost use Rattle.smith_core.specs.Module.{module_text};
     ghost use Rattle.smith_core.specs.Parts.{Agree};
+    ghost use Rattle.smith_core.specs.Kept.{parts_in};
 
     ghost Value = { ModuleParts };
 
     ghost coded = { Prim.hlevel (codes, parts_of.the_row.coded) };
 
-    ghost view = { λ m. m.parts };
+    ghost view = { λ m. parts_in m.kept };
 
-    ghost invariant = { λ m. Agree m.parts
-        × MatchOption m.length (module_text m.parts ≡ None) (λ n. Takes n (module_text m.parts)) };
+    ghost invariant = { λ m. Agree (parts_in m.kept) × MatchOption m.length (module_text (parts_in m.kept) ≡ None)
+        (λ n. Takes n (module_text (parts_in m.kept))) };
+}
+
+impl Kept {
+    // Puts the module's bytes at the end of a buffer.
+    fn put(&self, out: &mut Vec<u8>) -> Result<(), Error>
+        requires { Agree (parts_in self.now) }
+        ensures { Puts result out.old out.new (module_text (parts_in self.now)) }
+    {
+        match self {
+            Kept::StandIn(stand_in) => stand_in.put(out),
+            Kept::Parts(parts) => parts.put(out),
+        }
+    }
+
+    fn measure(&self) -> Result<u64, Error>
+        requires { Agree (parts_in self.now) }
+        ensures { Measures result (module_text (parts_in self.now)) }
+    {
+        match self {
+            Kept::StandIn(stand_in) => stand_in.measure(),
+            Kept::Parts(parts) => parts.measure(),
+        }
+    }
 }
 
 impl Module {
     // The module of parts that agree.
-    fn of(parts: ModuleParts) -> Module
-        requires { Agree parts }
-        ensures { result ≡ parts }
+    fn of(kept: Kept) -> Module
+        requires { Agree (parts_in kept) }
+        ensures { result ≡ parts_in kept }
     {
-        let length = parts.measure().ok();
-        Module { parts, length }
+        let length = kept.measure().ok();
+        Module { kept, length }
     }
 
     /// The module of these parts. It refuses exactly parts that disagree, with `PartsDisagree` and the parts as they
     /// were: where more functions, tables, memories or tags are defined than there are; where the groups do not hold
     /// each type once and in order; where a defined global is not there; where a segment of functions, or an active one
     /// that names no table, is of another type than function references. It takes no memory.
-    pub fn from_parts(parts: ModuleParts) -> Result<Module, (Error, ModuleParts)>
-        ensures accepts { IsOk result ↔ Agree parts }
-        ensures same { IfOk result (λ m. m ≡ parts) }
+    pub fn from_parts(parts: Box<ModuleParts>) -> Result<Module, (Error, Box<ModuleParts>)>
+        ensures accepts { IsOk result ↔ Agree parts.value }
+        ensures same { IfOk result (λ m. m ≡ parts.value) }
         ensures refuses { IfErr result (λ e. (e.0 ≡ Error.PartsDisagree) × (e.1 ≡ parts)) }
     {
         if !parts.agree() {
             return Err((Error::PartsDisagree, parts));
         }
-        Ok(Module::of(parts))
+        Ok(Module::of(Kept::Parts(parts)))
     }
 
     /// The length of the module's bytes. It is too long exactly where a length or a count written in them exceeds
@@ -91,7 +125,7 @@ impl Module {
         ensures { Appends result out.old out.new (module_text self.now) }
     {
         let start = out.len();
-        let given = self.parts.put(out);
+        let given = self.kept.put(out);
         settled(out, start, given)
     }
 
@@ -102,7 +136,7 @@ impl Module {
         ensures puts { Puts result out.old out.new (module_text self.now) }
         ensures done { IfErr result (λ e. ⊥) }
     {
-        self.parts.put(out)
+        self.kept.put(out)
     }
 
     /// The module's bytes. Memory is allocated once, after they were measured.

@@ -85,7 +85,8 @@ fn check_refused<R: Abort>(
 fn parts_that_disagree_come_back(rt: HostRuntime) -> Result<(), Fail> {
     for name in DISAGREEMENTS {
         let given = disagreeing(rt.alloc(), name)?;
-        let Err((error, parts)) = Module::from_parts(disagreeing(rt.alloc(), name)?) else {
+        let parts = Box::new(rt.alloc(), disagreeing(rt.alloc(), name)?)?;
+        let Err((error, parts)) = Module::from_parts(parts) else {
             panic!(rt; "{name}: the parts agree");
         };
         check_refused(&rt, name, error, &parts, &given);

@@ -178,7 +178,8 @@ fn check_whole<R: Abort + AllocGlobal>(
 }
 
 fn module<R: Abort + AllocGlobal>(rt: &R) -> Result<Module, Fail> {
-    let Ok(module) = Module::from_parts(one_function(rt.alloc())?) else {
+    let parts = Box::new(rt.alloc(), one_function(rt.alloc())?)?;
+    let Ok(module) = Module::from_parts(parts) else {
         panic!(rt; "the parts disagree");
     };
     Ok(module)

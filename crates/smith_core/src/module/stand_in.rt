@@ -1,30 +1,92 @@
 //! The core module that stands for a generated one.
+#![tactic(auto, using(smith_format::proofs::Steps::writing, smith_format::proofs::Sizes::measuring))]
 
-ghost use Rattle.std.specs.Prelude.{◌≡◌, ◌<◌, ◌≤◌, min, List, length, IfOk, IfErr};
+ghost use Rattle.std.specs.Prelude.{◌≡◌, ℕ, ◌<◌, ◌≤◌, ◌^◌, min, List, length, IfOk, IfErr};
 ghost use Rattle.smith_input.specs.Loops.{Loop, Never};
 ghost use Rattle.smith_input.specs.Reading.{IsTail};
 ghost use Rattle.smith_format.specs.Limits.{configured};
-ghost use Rattle.smith_core.specs.StandIn.{ReadsMemoryType, ReadsStandIn, ReadsSubType, IsStandInRefusal, groups_from};
+ghost use Rattle.smith_format.specs.Writing.{Puts, Measures};
+ghost use Rattle.smith_core.specs.StandIn.{ReadsFunctionType, ReadsMemoryType, ReadsStandIn, IsStandInRefusal};
+ghost use Rattle.smith_core.specs.StandInText.{listed, stand_in_text};
+ghost use Rattle.smith_core.specs.Kept.{shown};
 
-use crate::module::Module;
-use crate::module::parts::ModuleParts;
-use crate::module::types::{CompositeType, SubType};
+use crate::module::{Kept, Module};
+use crate::preamble::CORE_PREAMBLE;
 use smith_format::{
-    Config, MemoryType, ValType, arbitrary_memtype, configured_func_type, configured_valtypes,
+    Config, FuncType, MemoryType, Spelled, ValType, arbitrary_memtype, begin_section,
+    configured_func_type, configured_valtypes, end_section, many_len, put_many, u32_len,
+    write_bytes,
 };
 use smith_input::{Error, Unstructured};
 use std::alloc::Global;
 
-// At most that many final function types.
+/// Function types, each in a group by itself, and memories, all defined.
+#[derive(Debug, Drop)]
+pub(super) struct StandIn {
+    types: Vec<FuncType>,
+    memories: Vec<MemoryType>,
+    bulk_memory_enabled: bool,
+}
+
+// A section of a list, where the list has an entry.
+fn put_listed<Format, T: Spelled<Format>>(
+    out: &mut Vec<u8>,
+    id: u8,
+    items: &[T],
+) -> Result<(), Error>
+    ensures { Puts result out.old out.new (listed id T.piece items.now) }
+{
+    if items.is_empty() {
+        return Ok(());
+    }
+    let start = begin_section(out, id)?;
+    put_many(out, items)?;
+    end_section(out, start)
+}
+
+fn listed_len<Format, T: Spelled<Format>>(items: &[T]) -> Result<u64, Error>
+    ensures length { (id : ℕ) → Measures result (listed id T.piece items.now) }
+    ensures most { IfOk result (λ n. n < 2 ^ 34) }
+{
+    if items.is_empty() {
+        return Ok(0);
+    }
+    let Some(length) = many_len(items) else {
+        return Err(Error::TooLong);
+    };
+    Ok(1 + u64::from(u32_len(length)) + u64::from(length))
+}
+
+impl StandIn {
+    // The whole module.
+    pub(super) fn put(&self, out: &mut Vec<u8>) -> Result<(), Error>
+        ensures { Puts result out.old out.new (stand_in_text (shown self.now)) }
+    {
+        write_bytes(out, &CORE_PREAMBLE)?;
+        put_listed(out, 1, &self.types)?;
+        put_listed(out, 5, &self.memories)
+    }
+
+    // The length of the whole module.
+    pub(super) fn measure(&self) -> Result<u64, Error>
+        ensures { Measures result (stand_in_text (shown self.now)) }
+    {
+        let types = listed_len(&self.types)?;
+        let memories = listed_len(&self.memories)?;
+        Ok(8 + types + memories)
+    }
+}
+
+// At most that many function types.
 fn function_types(
     alloc: Global,
     u: &mut Unstructured,
     config: &Config,
     valtypes: &[ValType],
     most: usize,
-) -> Result<Vec<SubType>, Error>
+) -> Result<Vec<FuncType>, Error>
     requires { valtypes.now ≡ configured config.now }
-    ensures reads { IfOk result (λ v. Loop Never (ReadsSubType config.now) 0 most 0 tt u.old v.items u.new tt) }
+    ensures reads { IfOk result (λ v. Loop Never (ReadsFunctionType config.now) 0 most 0 tt u.old v.items u.new tt) }
     ensures memory { IfErr result (λ e. e ≡ Error.OutOfMemory) }
     ensures tail { IsTail u.new u.old }
 {
@@ -35,11 +97,7 @@ fn function_types(
         }
         let func = configured_func_type(alloc, u, config, valtypes)?;
         types.reserve(1)?;
-        types.push_reserved(SubType {
-            is_final: true,
-            supertype: None,
-            composite_type: CompositeType::Func(func),
-        });
+        types.push_reserved(func);
     }
     Ok(types)
 }
@@ -61,18 +119,6 @@ fn memories(alloc: Global, u: &mut Unstructured, config: &Config) -> Result<Vec<
         types.push(ty)?;
     }
     Ok(types)
-}
-
-// A group for each type by itself.
-fn groups_of_one(alloc: Global, types: &[SubType]) -> Result<Vec<(usize, usize)>, Error>
-    ensures groups { IfOk result (λ v. v.items ≡ groups_from 0 types.now) }
-    ensures memory { IfErr result (λ e. e ≡ Error.OutOfMemory) }
-{
-    let mut groups = Vec::with_capacity(alloc, types.len())?;
-    for at in 0..types.len() {
-        groups.push((at, at + 1))?;
-    }
-    Ok(groups)
 }
 
 impl Module {
@@ -98,13 +144,11 @@ impl Module {
         let valtypes = configured_valtypes(&config);
         let types = function_types(alloc, u, &config, valtypes, config.max_types.min(20))?;
         let memories = memories(alloc, u, &config)?;
-        let mut parts = ModuleParts::empty(alloc);
-        parts.should_encode_types = !types.is_empty();
-        parts.bulk_memory_enabled = config.bulk_memory_enabled;
-        parts.rec_groups = groups_of_one(alloc, &types)?;
-        parts.types = types;
-        parts.num_defined_memories = memories.len();
-        parts.memories = memories;
-        Ok(Module::of(parts))
+        let stand_in = StandIn {
+            types,
+            memories,
+            bulk_memory_enabled: config.bulk_memory_enabled,
+        };
+        Ok(Module::of(Kept::StandIn(stand_in)))
     }
 }

@@ -1,20 +1,19 @@
 use Rattle.std.proofs.Common.{refl, rules}
-use Rattle.smith_core.proofs.StandIn.{agrees, stands}
+use Rattle.smith_input.proofs.Loops.{loop_map}
+use Rattle.smith_core.specs.Kept.{final_type}
+use Rattle.smith_core.proofs.Kept.{stand_in_agrees, stand_in_listed}
+use Rattle.smith_core.proofs.StandIn.{reads_sub_type}
 use Rattle.smith_core.proofs.module.Module.new_internal.Goals as goal
 
 pub of-requires : goal.of-requires
-of-requires c =
-    let grouped = rw c.deref.ensures.value at ((c.in_ok-parts.ensures {u = tt}).groups) in
-    agrees _ (stands _ _ _ _ _ _ _ c.empty-parts.ensures c.is_empty.ensures grouped c.len.ensures)
+of-requires c = stand_in_agrees _
 
 pub returns-clause-reads : goal.returns-clause-reads
 returns-clause-reads c = rw c.of.ensures (record {
   mid = _;
   ordered = search rules;
-  types = rw c.min.ensures at ((c.in_ok-types.ensures {u = tt}).reads);
+  types = loop_map final_type (reads_sub_type c.args.config) _ _ _ _ _ _ (rw c.min.ensures at ((c.in_ok-types.ensures {u = tt}).reads));
   memories = (c.in_ok-memories.ensures {u = tt}).reads;
   bulk_memory = refl;
-  parts =
-      let grouped = rw c.deref.ensures.value at ((c.in_ok-parts.ensures {u = tt}).groups) in
-      stands _ _ _ _ _ _ _ c.empty-parts.ensures c.is_empty.ensures grouped c.len.ensures;
+  parts = stand_in_listed _;
 })

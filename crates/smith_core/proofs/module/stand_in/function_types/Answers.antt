@@ -1,6 +1,5 @@
 use Rattle.smith_input.proofs.Loops.{begins, stops, ends_full, goes_on}
 use Rattle.smith_input.proofs.Reading.{tail_same, tail_trans, more_tail}
-use Rattle.smith_core.proofs.StandIn.{reads_sub_type}
 use Rattle.smith_core.proofs.module.stand_in.function_types.Goals as goal
 
 pub loop-done-init : goal.loop-done-init
@@ -23,7 +22,7 @@ returns-in_err-reserve-clause-tail c =
 pub loop-done-preserved : goal.loop-done-preserved
 loop-done-preserved c =
     let more = c.more.ensures in
-    let read = reads_sub_type _ ((c.in_ok-func.ensures {u = tt}).reads) in
+    let read = (c.in_ok-func.ensures {u = tt}).reads in
     let items = rw ((c.in_ok-reserve.ensures {u = tt}).items) at c.push_reserved.ensures.items in
     record {
       tail = tail_trans c.configured_func_type.ensures.tail (tail_trans (more_tail more) c.loop-done.invariant.tail);

@@ -1,0 +1,5 @@
+use Rattle.smith_core.proofs.Kept.{stand_in_is}
+use Rattle.smith_core.proofs.module.Kept.measure.Goals as goal
+
+pub returns-in-StandIn : goal.returns-in-StandIn
+returns-in-StandIn c = rw (c.in-StandIn.is, stand_in_is c.in-StandIn.stand_in) c.measure.ensures
