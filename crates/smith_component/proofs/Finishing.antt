@@ -1,6 +1,6 @@
 -- What filling produces, and builders that follow one another.
 use Rattle.std.proofs.Common.{◌≡◌, ℕ, ◌-◌, ◌≤◌, List, [], ◌∷◌, ◌++◌, length, map, arith, ap, sym, subst, ◌∙◌, inl, inr, append_assoc, length-append, Result}
-use Rattle.std.proofs.Common.{IfErr}
+use Rattle.std.proofs.Common.{IfErr, IfOk, Err, Ok}
 use Rattle.std.proofs.lemmas.Result.{err_from_is_err_and}
 use Rattle.std.specs.Result.{IsErrAnd}
 use Rattle.smith_input.specs.declared.error.Error.{Error}
@@ -30,6 +30,15 @@ pub refused : {T : Type 0} (r : Result T Error) (e : Error) (P : Error → Type 
 refused r e P h p =
     let s = err_from_is_err_and r h in
     subst (λ x. IfErr x P) (sym s.1) (subst P (sym s.2) p)
+
+-- what is true of what a result holds, by what is
+pub ok_by : {T : Type 0} {P Q : T → Type 0} (r : Result T Error) → ((x : T) → P x → Q x) → IfOk r P → IfOk r Q
+ok_by (Ok x) f h = f x h
+ok_by (Err e) f h = tt
+
+pub err_by : {T : Type 0} {P Q : Error → Type 0} (r : Result T Error) → ((e : Error) → P e → Q e) → IfErr r P → IfErr r Q
+err_by (Ok x) f h = tt
+err_by (Err e) f h = f e h
 
 -- More sections, and more again.
 pub adds_trans : {a b c : Building} → AddsSections a b → AddsSections b c → AddsSections a c

@@ -7,9 +7,9 @@ ghost use Rattle.smith_component.specs.Building.{open_of};
 ghost use Rattle.smith_component.specs.BuilderView.{building_of, stack_of, IsSound};
 ghost use Rattle.smith_component.specs.Filling.{CanFill};
 ghost use Rattle.smith_tree.specs.Limits.{max_depth, Minima};
-ghost use Rattle.smith_component.specs.Refusals.{IsAnswered, IsChosen, IsNewRefusal, IsReady, IsStepRefusal};
+ghost use Rattle.smith_component.specs.Refusals.{IsAnswered, IsChosen, IsNewRefusal, IsReady, IsRefusal, IsStepRefusal};
 ghost use Rattle.smith_component.specs.Steps.{next_of, step_of, DoesItem, IsOffered, IsStep, SoundUnlessDone};
-ghost use Rattle.smith_component.specs.Runs.{Falls};
+ghost use Rattle.smith_component.specs.Runs.{Falls, RunsTo};
 ghost use Rattle.smith_tree.specs.Open.{root};
 ghost use Rattle.smith_tree.specs.declared.choices.Item.TheVariants.{Finish, Module};
 
@@ -96,6 +96,24 @@ impl Progress {
                 components: 0,
                 instances: 0,
             },
+        }
+    }
+
+    // Turn by turn, from one empty open component to a finished one. Here nothing is dropped, so that the code for that
+    // is at one place of the caller's.
+    pub(crate) fn run(&mut self, u: &mut Unstructured) -> Result<Component, Error>
+        requires sound { IsSound self.old }
+        requires empty { stack_of self.old ≡ root }
+        ensures run { IfOk result (λ c. RunsTo self.old.config u.old c u.new) }
+        ensures refuses { IfErr result (λ e. IsRefusal self.old.config u.old e u.new) }
+        ensures tail { IsTail u.new u.old }
+    {
+        loop {
+            let done = self.turn(u)?;
+            match done {
+                None => {}
+                Some(component) => return Ok(component),
+            }
         }
     }
 

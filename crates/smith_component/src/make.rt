@@ -41,13 +41,7 @@ impl Component {
     {
         config.check()?;
         let mut progress = Progress::new(alloc, config);
-        loop {
-            let done = progress.turn(u)?;
-            match done {
-                None => {}
-                Some(component) => return Ok(component),
-            }
-        }
+        progress.run(u)
     }
 
     /// The component that the input produces within the default limits. It fails only when out of memory.

@@ -3,7 +3,7 @@
 ghost use Rattle.std.specs.Prelude.{◌≡◌};
 ghost use Rattle.smith_tree.specs.CoreTypeOffers.{item_table, kind_table};
 ghost use Rattle.smith_tree.specs.Offers.{canon_table};
-ghost use Rattle.smith_tree.specs.Open.{offers};
+ghost use Rattle.smith_tree.specs.Open.{more_items};
 ghost use Rattle.smith_tree.specs.TypeOffers.{declaration_table, defined_kinds, primitives, ref_table, type_kinds};
 
 use smith_format::ExportKind;
@@ -81,6 +81,51 @@ pub enum RefKind {
     Instance,
 }
 
+// What a turn may do, in the order of its choice. Each table begins with the finish and ends with the exports.
+static ALL_ITEMS: [Item; 9] = [
+    Item::Finish,
+    Item::Custom,
+    Item::CoreTypes,
+    Item::Types,
+    Item::Imports,
+    Item::Canonical,
+    Item::Module,
+    Item::Component,
+    Item::Exports,
+];
+
+static WITHOUT_COMPONENTS: [Item; 8] = [
+    Item::Finish,
+    Item::Custom,
+    Item::CoreTypes,
+    Item::Types,
+    Item::Imports,
+    Item::Canonical,
+    Item::Module,
+    Item::Exports,
+];
+
+static WITHOUT_MODULES: [Item; 8] = [
+    Item::Finish,
+    Item::Custom,
+    Item::CoreTypes,
+    Item::Types,
+    Item::Imports,
+    Item::Canonical,
+    Item::Component,
+    Item::Exports,
+];
+
+static WITHOUT_EITHER: [Item; 7] = [
+    Item::Finish,
+    Item::Custom,
+    Item::CoreTypes,
+    Item::Types,
+    Item::Imports,
+    Item::Canonical,
+    Item::Exports,
+];
+
 static TYPE_KINDS: [TypeKind; 4] = [
     TypeKind::Defined,
     TypeKind::Function,
@@ -130,26 +175,28 @@ pub fn defined_kinds() -> &'static [DefinedKind]
     &DEFINED_KINDS
 }
 
-/// What a turn of the builder may do where input is left, in the order of its choice, each with whether it is offered.
-pub fn item_offers(
+/// What a turn of the builder may do where input is left, in the order of its choice.
+pub fn item_choices(
     with_finish: bool,
     with_module: bool,
     with_component: bool,
     with_exports: bool,
-) -> [(bool, Item); 9]
-    ensures { result ≡ offers with_finish with_module with_component with_exports }
+) -> &'static [Item]
+    ensures { result.now ≡ more_items with_finish with_module with_component with_exports }
 {
-    [
-        (with_finish, Item::Finish),
-        (true, Item::Custom),
-        (true, Item::CoreTypes),
-        (true, Item::Types),
-        (true, Item::Imports),
-        (true, Item::Canonical),
-        (with_module, Item::Module),
-        (with_component, Item::Component),
-        (with_exports, Item::Exports),
-    ]
+    let items: &'static [Item] = match (with_module, with_component) {
+        (true, true) => &ALL_ITEMS,
+        (true, false) => &WITHOUT_COMPONENTS,
+        (false, true) => &WITHOUT_MODULES,
+        (false, false) => &WITHOUT_EITHER,
+    };
+    let first = if with_finish { 0 } else { 1 };
+    let end = if with_exports {
+        items.len()
+    } else {
+        items.len() - 1
+    };
+    &items[first..end]
 }
 
 /// What a turn of a canonical section may be, in the order of its choice, each with whether it is offered.

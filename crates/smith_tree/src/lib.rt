@@ -9,7 +9,7 @@ mod totals;
 
 pub use choices::{
     CanonItem, DeclarationItem, DefinedKind, Item, ModuleItem, RefKind, TypeKind, canon_offers,
-    declaration_offers, defined_kinds, item_offers, kind_offers, module_item_offers, primitives,
+    declaration_offers, defined_kinds, item_choices, kind_offers, module_item_offers, primitives,
     ref_offers, type_kinds,
 };
 pub use flat::{flat_primitive, lifted};

@@ -8,8 +8,8 @@ ghost use Rattle.smith_tree.specs.Open.{is_module_offered, items};
 ghost use Rattle.smith_input.specs.Choices.{ReadsAmong};
 
 use crate::builder::Progress;
-use smith_input::{Unstructured, choose_offered};
-use smith_tree::{Item, item_offers};
+use smith_input::Unstructured;
+use smith_tree::{Item, item_choices};
 
 impl Progress {
     // May the inner component be finished, where input is left?
@@ -56,7 +56,6 @@ impl Progress {
         if u.is_empty() {
             return Item::Finish;
         }
-        let offers = item_offers(with_finish, with_module, with_component, with_exports);
-        choose_offered(u, &offers).unwrap_or(Item::Custom)
+        *u.choose(item_choices(with_finish, with_module, with_component, with_exports))
     }
 }
