@@ -1,16 +1,16 @@
 -- A module that is kept as function types and memories has their bytes, and its parts agree.
-use Rattle.std.proofs.Common.{◌≡◌, ℕ, Bool, true, false, ◌==◌, List, [], ◌∷◌, map, length, refl, sym, ap, ◌∙◌, arith, eqb-true}
+use Rattle.std.proofs.Common.{◌≡◌, ℕ, true, false, ◌==◌, List, [], ◌∷◌, map, length, refl, sym, ap, ◌∙◌, arith, eqb-true}
 use Rattle.std.proofs.lemmas.Bool.{false≢true}
 use Rattle.std.proofs.lemmas.List.{length-map}
 use Rattle.std.specs.List.{AllByRecursion}
 use Rattle.std.specs.Prelude.{if◌then◌else◌}
-use Rattle.smith_format.specs.CoreTypes.{Function, core_function}
+use Rattle.smith_format.specs.CoreTypes.{core_function}
 use Rattle.smith_format.specs.Piece.{Piece, ◌⊕◌, bytes, each, many, sized, u}
 use Rattle.smith_format.specs.Shown.{shown_func}
 use Rattle.smith_format.specs.declared.types.FuncType.{FuncType}
 use Rattle.smith_format.proofs.Piece.{left_nil}
 use Rattle.smith_core.specs.Kept.{final_type, few_items, few_mapped, shown, stand_in_parts}
-use Rattle.smith_core.specs.Module.{has_any, module_text}
+use Rattle.smith_core.specs.Module.{module_text}
 use Rattle.smith_core.specs.Parts.{Agree}
 use Rattle.smith_core.specs.StandIn.{HasTypesAndMemories}
 use Rattle.smith_core.specs.StandInText.{listed, stand_in_text}

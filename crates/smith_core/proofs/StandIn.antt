@@ -1,5 +1,5 @@
 -- The module that stands for a generated one: its groups, and that its parts agree.
-use Rattle.std.proofs.Common.{◌≡◌, ℕ, ◌+◌, ◌<◌, ◌^◌, Bool, true, None, List, [], ◌∷◌, length, refl, ap, subst, arith}
+use Rattle.std.proofs.Common.{◌≡◌, ℕ, ◌+◌, ◌<◌, ◌^◌, Bool, List, [], ◌∷◌, length, refl, ap, subst, arith}
 use Rattle.smith_format.specs.Shown.{shown_func}
 use Rattle.smith_format.specs.declared.config.Config.{Config}
 use Rattle.smith_format.specs.declared.types.FuncType.{FuncType}

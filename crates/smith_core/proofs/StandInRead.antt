@@ -1,5 +1,5 @@
 -- A module of the bytes of function types and memories within the limits is read from their script.
-use Rattle.std.proofs.Common.{◌≡◌, ℕ, suc, ◌+◌, ◌<◌, ◌≤◌, ◌^◌, Bool, true, false, List, [], ◌∷◌, ◌++◌, map, length}
+use Rattle.std.proofs.Common.{◌≡◌, ℕ, suc, ◌+◌, ◌<◌, ◌≤◌, ◌^◌, true, List, [], ◌∷◌, ◌++◌, map, length}
 use Rattle.std.proofs.Common.{refl, sym, ap, ◌∙◌, subst, arith, min, None, append_assoc}
 use Rattle.std.specs.List.{AllByRecursion}
 use Rattle.smith_input.specs.Loops.{Loop, Never}

@@ -10,8 +10,9 @@ use crate::component::Section;
 use crate::encode::{EMPTY_LEN, longer};
 use std::alloc::{AllocError, Global};
 
-// How many sections there is room for at first, in 896 bytes. Few components have more, and a list that grows is copied.
-const FIRST_SECTIONS: usize = 16;
+// How many sections there is room for at first, in 1,008 bytes: `malloc` has a cache for blocks of at most 1,032. Few
+// components have more, and a list that grows is copied.
+const FIRST_SECTIONS: usize = 18;
 
 /// A component that is not finished yet, with its length, and what is kept beside its sections.
 #[derive(Drop)]

@@ -1,4 +1,4 @@
-use Rattle.std.proofs.Common.{◌≡◌, ◌+◌, ◌≤◌, arith, ap, ◌∙◌, refl, subst, sym}
+use Rattle.std.proofs.Common.{◌+◌, ◌≤◌, arith, ap, ◌∙◌, refl, subst, sym}
 use Rattle.smith_input.proofs.Reading.{tail_same, tail_trans}
 use Rattle.smith_component.specs.BuilderView.{stack_of}
 use Rattle.smith_tree.specs.Open.{Open}
