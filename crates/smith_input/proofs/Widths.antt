@@ -1,6 +1,6 @@
 -- Powers of 256, and what bytes spell.
-use Rattle.std.proofs.Common.{◌≡◌, ℕ, zero, suc, ◌+◌, ◌*◌, ◌/◌, ◌%◌, ◌^◌, ◌<◌, ◌≤◌, List, [], ◌∷◌, drop, get_or, refl, ap, arith}
-use Rattle.std.proofs.Math.Nat.{pow-suc, pow-le-pow_right}
+use Rattle.std.proofs.Common.{◌≡◌, ℕ, zero, suc, ◌+◌, ◌*◌, ◌/◌, ◌%◌, ◌^◌, ◌<◌, ◌≤◌, List, [], ◌∷◌, drop, get_or, refl, ap, ◌∙◌, arith}
+use Rattle.std.proofs.Math.Nat.{mul-le-mul_left, mul-le-mul_right, pow-suc, pow-le-pow_right}
 use Rattle.std.proofs.Math.Numerals.{add-one}
 use Rattle.std.proofs.lemmas.Nat.{div-add-mod', mod_below}
 use Rattle.smith_input.specs.Reading.{spelled, IsWidth, Reads}
@@ -50,3 +50,38 @@ one_byte n h k = record { enough = k; least = λ v le. above_none v le } where
 pub one_byte_chosen : (n byte : ℕ) {bytes rest : List ℕ} → 1 < n → n ≤ 256 → byte ≡ get_or bytes 0 0 → rest ≡ drop 1 bytes → Reads n bytes (byte % n) rest
 one_byte_chosen n byte {bytes} {rest} h k v d =
     reads_rest n 1 bytes rest byte (omega arith) (one_byte n h k) (omega (arith, v, spelled_more 0 bytes)) d
+
+-- what f computes at each of n places from one on
+unfoldable pub tabulate : (ℕ → ℕ) → ℕ → ℕ → List ℕ
+tabulate f at zero = []
+tabulate f at (suc n) = f at ∷ tabulate f (suc at) n
+
+pub tabulated : (f : ℕ → ℕ) (at n k : ℕ) → k < n → get_or (tabulate f at n) k 0 ≡ f (at + k)
+unfolding tabulate
+tabulated f at zero k h = absurd (omega arith)
+tabulated f at (suc n) zero h = ap f (let z : at ≡ at + 0 = omega arith in z)
+tabulated f at (suc n) (suc k) h = tabulated f (suc at) n k (omega arith) ∙ ap f (let z : suc at + k ≡ at + suc k = omega arith in z)
+
+-- the reciprocal of a number, to 16 bits
+abbrev pub reciprocal : ℕ → ℕ
+reciprocal n = 65536 / n + 1
+
+-- A byte is divided by a number of at most 256 where it is multiplied by the reciprocal of that.
+pub quotient_is : (n byte : ℕ) → 1 < n → n ≤ 256 → byte < 256 → byte * reciprocal n / 65536 ≡ byte / n
+quotient_is n byte some most small =
+    let k = byte / n in
+    let r = byte % n in
+    let d = 65536 / n in
+    let s = 65536 % n in
+    let is : k * n + r ≡ byte = div-add-mod' byte n in
+    let whole : d * n + s ≡ 65536 = div-add-mod' 65536 n in
+    let r_below : r < n = mod_below byte n (omega arith) in
+    let s_below : s < n = mod_below 65536 n (omega arith) in
+    let least : 256 ≤ d = omega (arith, whole, s_below, mul-le-mul_left d most) in
+    let product : (k * n + r) * d ≡ byte * d = ap (λ x. x * d) is in
+    let parts : k * (d * n + s) ≡ k * 65536 = ap (λ x. k * x) whole in
+    let fewer : k * s ≤ k * n = mul-le-mul_left k (let le : s ≤ n = omega (arith, s_below) in le) in
+    let scaled : (r + 1) * d ≤ n * d = mul-le-mul_right d (let le : r + 1 ≤ n = omega (arith, r_below) in le) in
+    let low : k * 65536 ≤ byte * reciprocal n = omega (arith, product, parts, fewer, is) in
+    let high : byte * reciprocal n < (k + 1) * 65536 = omega (arith, product, parts, scaled, whole, least, is) in
+    omega (arith, low, high)

@@ -1,6 +1,6 @@
 //! The reader.
 
-ghost use Rattle.std.specs.Prelude.{◌≡◌, ℕ, ◌+◌, ◌-◌, ◌^◌, ◌<◌, ◌≤◌, ◌↔◌, IsTrue};
+ghost use Rattle.std.specs.Prelude.{◌≡◌, ℕ, ◌+◌, ◌-◌, ◌/◌, ◌%◌, ◌^◌, ◌<◌, ◌≤◌, ◌↔◌, IsTrue};
 ghost use Rattle.std.specs.Prelude.{[], length, Some};
 ghost use Rattle.std.specs.Prelude.{slice_get, slice_index, drop};
 ghost use Rattle.smith_input.specs.Reading.{IsWidth, Reads, Flips, More, spelled};
@@ -20,6 +20,43 @@ impl<'a> Model for Unstructured<'a> {
     ghost Value = { List ℕ };
 
     ghost view = { λ u. u.bytes.now };
+}
+
+// For each number from 1 to 256 the quotient of 65,536 by it, and one: a byte times that, by 65,536, is the quotient of the
+// byte by the number. No processor multiplies as slowly as it divides.
+static RECIPROCALS: [u32; 256] = [
+    65537, 32769, 21846, 16385, 13108, 10923, 9363, 8193, 7282, 6554, 5958, 5462, 5042, 4682, 4370,
+    4097, 3856, 3641, 3450, 3277, 3121, 2979, 2850, 2731, 2622, 2521, 2428, 2341, 2260, 2185, 2115,
+    2049, 1986, 1928, 1873, 1821, 1772, 1725, 1681, 1639, 1599, 1561, 1525, 1490, 1457, 1425, 1395,
+    1366, 1338, 1311, 1286, 1261, 1237, 1214, 1192, 1171, 1150, 1130, 1111, 1093, 1075, 1058, 1041,
+    1025, 1009, 993, 979, 964, 950, 937, 924, 911, 898, 886, 874, 863, 852, 841, 830, 820, 810, 800,
+    790, 781, 772, 763, 754, 745, 737, 729, 721, 713, 705, 698, 690, 683, 676, 669, 662, 656, 649,
+    643, 637, 631, 625, 619, 613, 607, 602, 596, 591, 586, 580, 575, 570, 565, 561, 556, 551, 547,
+    542, 538, 533, 529, 525, 521, 517, 513, 509, 505, 501, 497, 493, 490, 486, 482, 479, 475, 472,
+    469, 465, 462, 459, 456, 452, 449, 446, 443, 440, 437, 435, 432, 429, 426, 423, 421, 418, 415,
+    413, 410, 408, 405, 403, 400, 398, 395, 393, 391, 388, 386, 384, 382, 379, 377, 375, 373, 371,
+    369, 367, 365, 363, 361, 359, 357, 355, 353, 351, 349, 347, 345, 344, 342, 340, 338, 337, 335,
+    333, 331, 330, 328, 327, 325, 323, 322, 320, 319, 317, 316, 314, 313, 311, 310, 308, 307, 305,
+    304, 303, 301, 300, 298, 297, 296, 294, 293, 292, 290, 289, 288, 287, 285, 284, 283, 282, 281,
+    279, 278, 277, 276, 275, 274, 272, 271, 270, 269, 268, 267, 266, 265, 264, 263, 262, 261, 260,
+    259, 258, 257,
+];
+
+// The quotient of 65,536 by `last + 1`, and one.
+fn reciprocal_of(last: u8) -> u32
+    ensures { result ≡ 65536 / (last + 1) + 1 }
+{
+    RECIPROCALS[usize::from(last)]
+}
+
+// The remainder of a byte by `last + 1`.
+fn remainder(byte: u8, last: u8) -> u32
+    requires { 0 < last }
+    ensures { result ≡ byte % (last + 1) }
+{
+    let dividend = u32::from(byte);
+    let quotient = dividend * reciprocal_of(last) / 65536;
+    dividend - quotient * (u32::from(last) + 1)
 }
 
 // How many bytes distinguish `last + 1` things.
@@ -106,7 +143,7 @@ impl<'a> Unstructured<'a> {
         }
     }
 
-    // A choice among `last + 1`: one byte or none for most, which takes no loop and no division of 64 bits.
+    // A choice among `last + 1`: one byte or none for most, which takes no loop and no division.
     fn pick(&mut self, last: u64) -> u64
         ensures { Reads (last + 1) self.old result self.new }
     {
@@ -116,8 +153,7 @@ impl<'a> Unstructured<'a> {
         if last > 255 {
             return self.pick_wide(last);
         }
-        let byte = u32::from(self.arbitrary_u8());
-        u64::from(byte % (last as u32 + 1))
+        u64::from(remainder(self.arbitrary_u8(), last as u8))
     }
 
     /// A choice among `n`, from 0 to `n - 1`: the fewest bytes that tell `n` things apart are read, the most
