@@ -22,8 +22,8 @@ impl<'a> Model for Unstructured<'a> {
     ghost view = { λ u. u.bytes.now };
 }
 
-// For each number from 1 to 256 the quotient of 65,536 by it, and one: a byte times that, by 65,536, is the quotient of the
-// byte by the number. No processor multiplies as slowly as it divides.
+// For each number from 1 to 256 the quotient of 65,536 by it, and one: a byte times that, by 65,536, is the quotient of
+// the byte by the number. No processor multiplies as slowly as it divides.
 static RECIPROCALS: [u32; 256] = [
     65537, 32769, 21846, 16385, 13108, 10923, 9363, 8193, 7282, 6554, 5958, 5462, 5042, 4682, 4370,
     4097, 3856, 3641, 3450, 3277, 3121, 2979, 2850, 2731, 2622, 2521, 2428, 2341, 2260, 2185, 2115,
