@@ -7,8 +7,11 @@ use Rattle.smith_input.proofs.unstructured.remainder.Goals as goal
 pub overflow_mul-quotient : goal.overflow_mul-quotient
 overflow_mul-quotient c =
     let few = div-le_self 65536 (c.args.last + 1) in
-    omega (arith, mul-le c.from-dividend.result c.reciprocal_of.result 255 65537 (omega (arith, c.from-dividend.ensures, c.ranges.byte))
-    (omega (arith, c.reciprocal_of.ensures, few)))
+    omega (
+      arith,
+      mul-le c.from-dividend.result c.reciprocal_of.result 255 65537 (omega (arith, c.from-dividend.ensures, c.ranges.byte))
+          (omega (arith, c.reciprocal_of.ensures, few)),
+    )
 
 pub overflow_sub-result : goal.overflow_sub-result
 overflow_sub-result c =
