@@ -13,8 +13,8 @@ ghost use Rattle.smith_script.specs.Preceding.{preceding};
 use crate::preceding::Open;
 use smith_read::PartNode;
 use smith_read_scopes::Scopes;
-use smith_script_types::{Error, Given, one_more, put_offered};
-use smith_tree::{Item, item_offers};
+use smith_script_types::{Error, Given, one_more, put_among};
+use smith_tree::{Item, item_choices};
 
 /// The item of a part.
 pub(crate) fn item_of(part: &PartNode) -> Item
@@ -76,6 +76,6 @@ pub(crate) fn put_item(
     let components = turn.depth < config.max_nesting_depth.saturating_sub(1)
         && here.totals.components < config.max_components;
     let exports = config.max_exports > 0;
-    let offers = item_offers(finish, modules, components, exports);
-    put_offered(given.alloc, out, &offers, item)
+    let items = item_choices(finish, modules, components, exports);
+    put_among(out, items, &item)
 }
