@@ -157,8 +157,8 @@ no_function e s h is = false≢true (sym h ∙ ap is_func is)
 
 -- a defined type, or the type of a component or of an instance
 abbrev pub IsOther : DefType → Type 0
-IsOther t = ((d : DefinedType) × (t ≡ def.Defined d)) ⊎ (((d : Rc ComponentType Global) × (t ≡ def.Component d))
-    ⊎ ((d : Rc InstanceType Global) × (t ≡ def.Instance d)))
+IsOther t = ((d : DefinedType) × (t ≡ def.Defined d)) ⊎ (((d : ComponentType) × (t ≡ def.Component d))
+    ⊎ ((d : InstanceType) × (t ≡ def.Instance d)))
 
 no_other : (t : DefType) (s : Signature) → shown_type t ≡ function s → IsOther t → ⊥
 no_other t s e (inl d) = no_function (shown_type t) s (ap (λ x. is_func (shown_type x)) d.1 ∙ ap (λ x. is_func (plain x)) (full_defined d.0)) e

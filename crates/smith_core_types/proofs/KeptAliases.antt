@@ -48,4 +48,4 @@ kept_named around own (d ∷ ds) k = λ i. one_kept around own d k.0 i ++ kept_n
 
 pub kept_core_named : (around : List CoreEntry) (t : CoreType) → KeepsAliased around t → kept_core t ≡ named_by_core around (shown_core t)
 kept_core_named around (core.Func f) k = refl
-kept_core_named around (core.Module m) k = kept_named around [] m.value.defs.items k
+kept_core_named around (core.Module m) k = kept_named around [] m.defs.items k

@@ -91,7 +91,7 @@ KeepEach around own (d ∷ ds) = KeepsNamed around own d × KeepEach around (own
 -- Each outer alias of a core type keeps the function type that it names.
 abbrev pub KeepsAliased : List CoreEntry → CoreType → Type 0
 KeepsAliased around (core.Func f) = Unit {0}
-KeepsAliased around (core.Module m) = KeepEach around [] m.value.defs.items
+KeepsAliased around (core.Module m) = KeepEach around [] m.defs.items
 
 -- the own types after declarations
 abbrev pub own_after : List CoreEntry → List Function → List ModuleDecl → List Function

@@ -40,13 +40,13 @@ fn made_core_type(
     burn(fuel);
     if *fuel == 0 {
         let defs = Vec::new(making.alloc);
-        return Ok(CoreType::Module(Rc::new(making.alloc, ModuleType { defs })?));
+        return Ok(CoreType::Module(ModuleType { defs }));
     }
     if u.choose_index(2) == 0 {
         return Ok(CoreType::Func(core_function(making, u)?));
     }
     let defs = module_type(making, u, scopes, fuel)?;
-    Ok(CoreType::Module(Rc::new(making.alloc, ModuleType { defs })?))
+    Ok(CoreType::Module(ModuleType { defs }))
 }
 
 /// A core type for these scopes, which takes fuel: one for itself, and one for each declaration of a module type. Where

@@ -17,6 +17,7 @@ use smith_format::{Config, EntityType, ExportKind, FuncType, arbitrary_memtype};
 use smith_input::{Error, Unstructured};
 use smith_scopes::Scopes;
 use smith_syntax::ModuleTypeDef;
+use std::borrow::CowStr;
 use std::rc::Rc;
 
 // The export of a memory, where one is allowed.
@@ -34,7 +35,7 @@ fn memory_line(making: &Making, u: &mut Unstructured, declared: &mut Declared) -
     if !u.ratio(99, 100) {
         return Ok(());
     }
-    let name = String::from_str(making.alloc, "memory")?;
+    let name = CowStr::Borrowed("memory");
     let memory = EntityType::Memory(arbitrary_memtype(u, making.config));
     declared.counted.push(ModuleTypeDef::Export(name, memory))?;
     Ok(())
@@ -54,7 +55,7 @@ fn function_line(
     making: &Making,
     u: &mut Unstructured,
     declared: &mut Declared,
-    name: &str,
+    name: &'static str,
     ty: Rc<FuncType>,
 ) -> Result<(), Error>
     requires { length declared.old.own.items < 1000 }
@@ -73,10 +74,8 @@ fn function_line(
     }
     let index = declared.own.len() as u32;
     declare(declared, ty)?;
-    let name = String::from_str(making.alloc, name)?;
-    declared
-        .counted
-        .push(ModuleTypeDef::Export(name, EntityType::Func(index)))?;
+    let export = ModuleTypeDef::Export(CowStr::Borrowed(name), EntityType::Func(index));
+    declared.counted.push(export)?;
     Ok(())
 }
 

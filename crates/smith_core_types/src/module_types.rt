@@ -27,6 +27,7 @@ use smith_input::{Error, Unstructured, choose_offered};
 use smith_scopes::Scopes;
 use smith_syntax::ModuleTypeDef;
 use smith_tree::{ModuleItem, module_item_offers};
+use std::borrow::CowStr;
 
 // Is one more type below the limit?
 fn allows_type(config: &Config, declared: &Declared) -> bool
@@ -102,7 +103,8 @@ fn export(making: &Making, u: &mut Unstructured, declared: &mut Declared) -> Res
     match entity(making, u, declared) {
         None => Ok(false),
         Some(entity) => {
-            declared.counted.push(ModuleTypeDef::Export(name, entity))?;
+            let export = ModuleTypeDef::Export(CowStr::Owned(name), entity);
+            declared.counted.push(export)?;
             Ok(true)
         }
     }

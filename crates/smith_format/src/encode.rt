@@ -3,14 +3,15 @@
 //! what it writes.
 #![tactic(auto, using(crate::proofs::Steps::writing, crate::proofs::Sizes::measuring))]
 
-ghost use Rattle.std.specs.Prelude.{◌≤◌};
-ghost use Rattle.smith_format.specs.CoreTypes.{core_val, ref_val, core_function};
+ghost use Rattle.std.specs.Prelude.{◌≡◌, ◌≤◌};
+ghost use Rattle.smith_format.specs.CoreTypes.{core_val, number_code, ref_val, core_function};
+ghost use Rattle.smith_format.specs.Piece.{many};
 ghost use Rattle.smith_format.specs.Shown.{shown_func};
 ghost use Rattle.smith_format.specs.Writing.{Puts, Appends, Takes, IsLengthOf};
 
 use crate::buffer::{CoreFormat, Spelled, write_byte, write_spelled};
-use crate::lists::{many_len, put_many};
-use crate::numbers::{type_index_len, write_type_index};
+use crate::lists::many_len;
+use crate::numbers::{type_index_len, write_count, write_type_index};
 use crate::types::{FuncType, RefType, ValType};
 use smith_input::Error;
 
@@ -38,19 +39,43 @@ pub(crate) fn ref_len(ty: RefType) -> u32
     }
 }
 
+// The code of a value type that is no reference, and else 0. It is not inlined, so that it becomes a table: where each
+// type is a jump of its own, no processor can foresee them.
+#[inline(never)]
+fn number_code(ty: ValType) -> u8
+    ensures { result ≡ number_code ty }
+{
+    match ty {
+        ValType::I32 => 0x7f,
+        ValType::I64 => 0x7e,
+        ValType::F32 => 0x7d,
+        ValType::F64 => 0x7c,
+        ValType::V128 => 0x7b,
+        ValType::Ref(_) => 0,
+    }
+}
+
 // It is inlined, since lists of value types are what is written most.
 #[inline(always)]
 pub(crate) fn put_core_val(out: &mut Vec<u8>, ty: ValType) -> Result<(), Error>
     ensures { Puts result out.old out.new (core_val ty) }
 {
     match ty {
-        ValType::I32 => write_byte(out, 0x7f),
-        ValType::I64 => write_byte(out, 0x7e),
-        ValType::F32 => write_byte(out, 0x7d),
-        ValType::F64 => write_byte(out, 0x7c),
-        ValType::V128 => write_byte(out, 0x7b),
         ValType::Ref(ty) => put_ref(out, ty),
+        _ => write_byte(out, number_code(ty)),
     }
+}
+
+// Value types after their count.
+#[inline(always)]
+fn put_values(out: &mut Vec<u8>, types: &[ValType]) -> Result<(), Error>
+    ensures { Puts result out.old out.new (many core_val types.now) }
+{
+    write_count(out, types.len())?;
+    for ty in types {
+        put_core_val(out, *ty)?;
+    }
+    Ok(())
 }
 
 /// The length of a value type's encoding. Public only for the crates above.
@@ -88,8 +113,8 @@ impl Spelled<CoreFormat> for FuncType {
 
     fn put(&self, out: &mut Vec<u8>) -> Result<(), Error> {
         write_byte(out, 0x60)?;
-        put_many(out, &self.params)?;
-        put_many(out, &self.results)
+        put_values(out, &self.params)?;
+        put_values(out, &self.results)
     }
 
     fn spelled_len(&self) -> Option<u32> {

@@ -1,7 +1,7 @@
 //! Names that are read, and are new to a set of names.
 
 ghost use Rattle.std.specs.Prelude.{◌≡◌, ◌%◌, ◌<◌, ◌≤◌, ◌++◌, ℕ, List, false, length, map};
-ghost use Rattle.std.specs.Prelude.{string_bytes, IfOk, IfErr, OnErr};
+ghost use Rattle.std.specs.Prelude.{bytes_eq, string_bytes, IfOk, IfErr, OnErr};
 ghost use Rattle.std.specs.BTreeSet.{contains_text};
 ghost use Rattle.smith_input.specs.Reading.{IsTail};
 ghost use Rattle.smith_input.specs.Texts.{ReadsNewText, ReadsText};
@@ -116,12 +116,21 @@ impl<T> Labelled for (String, T) {
     }
 }
 
+// Are they the same text? It is not inlined: a comparison by the length of the name would be a loop of its own for each
+// class of lengths.
+#[inline(never)]
+fn is_same(one: &str, other: &str) -> bool
+    ensures { result ≡ bytes_eq one.now other.now }
+{
+    one == other
+}
+
 // Does one of the items have that name?
 fn has_label<T: Labelled>(items: &[T], name: &str) -> bool
     ensures { result ≡ is_among (map T.text items.now) name.now }
 {
     for item in items {
-        if item.label() == name {
+        if is_same(item.label(), name) {
             return true;
         }
     }

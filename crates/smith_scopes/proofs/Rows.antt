@@ -56,8 +56,8 @@ of_function ty g is s = ap (is_of_signature s) (ap full_type is ∙ full_func g)
 
 -- a defined type, or the type of a component or of an instance
 abbrev pub IsOther : DefType → Type 0
-IsOther ty = ((d : DefinedType) × (ty ≡ def.Defined d)) ⊎ (((t : Rc ComponentType Global) × (ty ≡ def.Component t))
-    ⊎ ((t : Rc InstanceType Global) × (ty ≡ def.Instance t)))
+IsOther ty = ((d : DefinedType) × (ty ≡ def.Defined d)) ⊎ (((t : ComponentType) × (ty ≡ def.Component t))
+    ⊎ ((t : InstanceType) × (ty ≡ def.Instance t)))
 
 pub of_none : (ty : DefType) → IsOther ty → (s : Signature) → has_signature s ty ≡ false
 of_none ty (inl d) s = ap (is_of_signature s) (ap full_type d.1 ∙ full_defined d.0)

@@ -95,7 +95,7 @@ module _ (entries : List (Rc DefType Global)) {defined funcs components instance
     few = now_few;
   }
 
-  pub pushed_component : (t : Rc ComponentType Global) {ds fs cs ts : List ℕ} {m : Option (Box Equals Global)} → entry.value ≡ def.Component t → ds ≡ defined
+  pub pushed_component : (t : ComponentType) {ds fs cs ts : List ℕ} {m : Option (Box Equals Global)} → entry.value ≡ def.Component t → ds ≡ defined
       → fs ≡ funcs → cs ≡ components ++ i ∷ [] → ts ≡ instances → m ≡ equals → IsTied (values_of new) ds fs cs ts m
   pushed_component t is pd pf pc pt pm = let tree = ap full_type is ∙ full_component t in record {
     defined_are = as_before shown_type entries i at entry new to is_defined tied.defined_are (ap (λ e. is_defined (plain e)) tree) pd;
@@ -106,7 +106,7 @@ module _ (entries : List (Rc DefType Global)) {defined funcs components instance
     few = now_few;
   }
 
-  pub pushed_instance : (t : Rc InstanceType Global) {ds fs cs ts : List ℕ} {m : Option (Box Equals Global)} → entry.value ≡ def.Instance t → ds ≡ defined
+  pub pushed_instance : (t : InstanceType) {ds fs cs ts : List ℕ} {m : Option (Box Equals Global)} → entry.value ≡ def.Instance t → ds ≡ defined
       → fs ≡ funcs → cs ≡ components → ts ≡ instances ++ i ∷ [] → m ≡ equals → IsTied (values_of new) ds fs cs ts m
   pushed_instance t is pd pf pc pt pm = let tree = ap full_type is ∙ full_instance t in record {
     defined_are = as_before shown_type entries i at entry new to is_defined tied.defined_are (ap (λ e. is_defined (plain e)) tree) pd;
@@ -130,7 +130,7 @@ module _ (entries : List (Rc CoreType Global)) {funcs modules : List ℕ} (tied 
     few = few_are (values_of entries) entry.value (values_of new) (types_are entries new entry to) small;
   }
 
-  pub pushed_module : (m : Rc ModuleType Global) {fs ms : List ℕ} → entry.value ≡ core.Module m → fs ≡ funcs → ms ≡ modules ++ i ∷ []
+  pub pushed_module : (m : ModuleType) {fs ms : List ℕ} → entry.value ≡ core.Module m → fs ≡ funcs → ms ≡ modules ++ i ∷ []
       → IsCoreTied (values_of new) fs ms
   pushed_module m is pf pm = record {
     funcs_are = as_before shown_core entries i at entry new to is_core_func tied.funcs_are (ap (λ t. is_core_func (shown_core t)) is) pf;

@@ -45,19 +45,19 @@ module _ {N K : Type 0} (b : Bool) where
       ap (λ n. u n ⊕ decls b (plain_decls (in_order ds))) (count_plain (in_order ds))
       ∙ many_decls (λ d. decl b (plain_decl d)) (λ es. decls b (plain_decls es)) refl (λ d es. refl) ds
 
-pub entry_component : (t : Rc ComponentType Global) → entry (shown_type (ty.Component t)) ≡ byte 0x41 ⊕ many (λ d. decl true (shown_component_decl d))
-    t.value.defs.items
+pub entry_component : (t : ComponentType) → entry (shown_type (ty.Component t)) ≡ byte 0x41 ⊕ many (λ d. decl true (shown_component_decl d))
+    t.defs.items
 entry_component t =
     ap entry (shown_component_is t)
-    ∙ ap (λ p. byte 0x41 ⊕ p) (many_plain true (map full_component_decl t.value.defs.items)
-    ∙ many-map (λ d. decl true (plain_decl d)) full_component_decl t.value.defs.items)
+    ∙ ap (λ p. byte 0x41 ⊕ p) (many_plain true (map full_component_decl t.defs.items)
+    ∙ many-map (λ d. decl true (plain_decl d)) full_component_decl t.defs.items)
 
-pub entry_instance : (t : Rc InstanceType Global) → entry (shown_type (ty.Instance t)) ≡ byte 0x42 ⊕ many (λ d. decl false (shown_instance_decl d))
-    t.value.defs.items
+pub entry_instance : (t : InstanceType) → entry (shown_type (ty.Instance t)) ≡ byte 0x42 ⊕ many (λ d. decl false (shown_instance_decl d))
+    t.defs.items
 entry_instance t =
     ap entry (shown_instance_is t)
-    ∙ ap (λ p. byte 0x42 ⊕ p) (many_plain false (map full_instance_decl t.value.defs.items)
-    ∙ many-map (λ d. decl false (plain_decl d)) full_instance_decl t.value.defs.items)
+    ∙ ap (λ p. byte 0x42 ⊕ p) (many_plain false (map full_instance_decl t.defs.items)
+    ∙ many-map (λ d. decl false (plain_decl d)) full_instance_decl t.defs.items)
 
 -- outer aliases
 

@@ -31,10 +31,10 @@ full_defined t = search (rules, the_lemmas)
 pub full_func : (f : Rc FuncType Global) → full_type (ty.Func f) ≡ function f.value
 full_func f = search (rules, the_lemmas)
 
-pub full_component : (t : Rc ComponentType Global) → full_type (ty.Component t) ≡ component_type (in_order (map full_component_decl t.value.defs.items))
+pub full_component : (t : ComponentType) → full_type (ty.Component t) ≡ component_type (in_order (map full_component_decl t.defs.items))
 full_component t = search (rules, the_lemmas)
 
-pub full_instance : (t : Rc InstanceType Global) → full_type (ty.Instance t) ≡ instance_type (in_order (map full_instance_decl t.value.defs.items))
+pub full_instance : (t : InstanceType) → full_type (ty.Instance t) ≡ instance_type (in_order (map full_instance_decl t.defs.items))
 full_instance t = search (rules, the_lemmas)
 
 -- what a component type declares
@@ -70,10 +70,10 @@ alias_of_core_type a t e = search (rules, the_lemmas, e)
 
 -- plain trees
 
-pub shown_component_is : (t : Rc ComponentType Global) → shown_type (ty.Component t) ≡ component_type
-    (plain_decls (in_order (map full_component_decl t.value.defs.items)))
+pub shown_component_is : (t : ComponentType) → shown_type (ty.Component t) ≡ component_type
+    (plain_decls (in_order (map full_component_decl t.defs.items)))
 shown_component_is t = search (rules, the_lemmas)
 
-pub shown_instance_is : (t : Rc InstanceType Global) → shown_type (ty.Instance t) ≡ instance_type
-    (plain_decls (in_order (map full_instance_decl t.value.defs.items)))
+pub shown_instance_is : (t : InstanceType) → shown_type (ty.Instance t) ≡ instance_type
+    (plain_decls (in_order (map full_instance_decl t.defs.items)))
 shown_instance_is t = search (rules, the_lemmas)

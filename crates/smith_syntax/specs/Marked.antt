@@ -1,5 +1,5 @@
 -- Scopes with what is kept in them for a validator: where what each type refers to is named, and effective sizes.
-use Rattle.std.specs.Prelude.{ℕ, ◌+◌, Bool, true, false, List, [], ◌∷◌, ◌++◌, ◌&&◌, map, get_or, if◌then◌else◌, Option, None, Some, slice_get}
+use Rattle.std.specs.Prelude.{ℕ, ◌+◌, Bool, false, List, [], ◌∷◌, ◌++◌, map, get_or, if◌then◌else◌, Option, None, Some, slice_get}
 use Rattle.std.specs.Option.{option_to_list}
 use Rattle.smith_syntax.specs.Entries.{Entry, CoreEntry, DeclOf, DeclsOf, EntryOf, defined, function, component_type, instance_type, plain}
 use Rattle.smith_syntax.specs.Entries.{core_type_decl, type_decl, type_alias, core_type_alias, import_decl, export_decl, no_decls, then_decls}

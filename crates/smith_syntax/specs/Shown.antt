@@ -1,16 +1,17 @@
 -- The types of the program as plain trees.
 use Rattle.std.specs.Prelude.{ℕ, List, [], ◌∷◌, Option, Some, None, map, String, string_bytes}
 use Rattle.std.specs.List.{flat_map}
+use Rattle.std.specs.Cow.{cow_str_bytes}
 use Rattle.std.specs.declared.alloc.Global.{Global}
 use Rattle.std.specs.declared.rc.Rc.{Rc}
 use Rattle.smith_format.specs.CoreTypes.{Function}
 use Rattle.smith_format.specs.Shown.{shown_func}
 use Rattle.smith_syntax.specs.Entries.{DefValType, primitive_type, record_type, variant_type, list_type, tuple_type, flags_type, enum_type, option_type}
 use Rattle.smith_syntax.specs.Entries.{result_type}
-use Rattle.smith_syntax.specs.Entries.{EntryOf, FullEntry, FullDecl, FullDecls, component_type, instance_type, core_type_decl, type_decl, type_alias}
+use Rattle.smith_syntax.specs.Entries.{FullEntry, FullDecl, FullDecls, component_type, instance_type, core_type_decl, type_decl, type_alias}
 use Rattle.smith_syntax.specs.Entries.{core_type_alias, import_decl, export_decl}
-use Rattle.smith_syntax.specs.Entries.{keeps_type, keeps_core_type, keeps_functions, in_order, plain, plain_decl}
-use Rattle.smith_syntax.specs.Entries.{Signature, Entry, ImportEntry, Decl, defined, function, CoreEntry, core_func, core_module, ModuleDecl, declares, imports}
+use Rattle.smith_syntax.specs.Entries.{keeps_type, keeps_core_type, keeps_functions, in_order, plain}
+use Rattle.smith_syntax.specs.Entries.{Entry, ImportEntry, defined, function, CoreEntry, core_func, core_module, ModuleDecl, declares, imports}
 use Rattle.smith_syntax.specs.Entries.{aliases, exports}
 use Rattle.smith_syntax.specs.Signature.{named}
 use Rattle.smith_syntax.specs.declared.core_types.CoreType.{CoreType}
@@ -20,9 +21,6 @@ use Rattle.smith_syntax.specs.declared.core_types.ModuleTypeDef.TheVariants as d
 use Rattle.smith_syntax.specs.declared.types.DefinedType.{DefinedType}
 use Rattle.smith_syntax.specs.declared.types.DefinedType.TheVariants as value
 use Rattle.smith_syntax.specs.declared.deftype.DefType.{DefType}
-use Rattle.smith_syntax.specs.declared.deftype.ComponentTypeDef.{ComponentTypeDef}
-use Rattle.smith_syntax.specs.declared.deftype.InstanceTypeDecl.{InstanceTypeDecl}
-use Rattle.smith_syntax.specs.declared.deftype.Alias.{Alias}
 use Rattle.smith_syntax.specs.declared.deftype.Import.{Import}
 use Rattle.smith_syntax.specs.declared.deftype.ComponentTypeDef.TheOpen as layer
 use Rattle.smith_syntax.specs.declared.deftype.ComponentTypeDef.TheOpen.{ComponentTypeDef-F, DefType-F, InstanceTypeDecl-F, OuterAliasKind-F, Alias-F}
@@ -44,11 +42,11 @@ abbrev pub shown_decl : ModuleTypeDef → ModuleDecl
 shown_decl (decl.FuncDef f) = declares (shown_func f.value)
 shown_decl (decl.Import i) = imports (string_bytes i.module) (string_bytes i.name) i.entity_type
 shown_decl (decl.OuterAlias count i ty) = aliases count i
-shown_decl (decl.Export name entity) = exports (string_bytes name) entity
+shown_decl (decl.Export name entity) = exports (cow_str_bytes name) entity
 
 abbrev pub shown_core : CoreType → CoreEntry
 shown_core (core.Func f) = core_func (shown_func f.value)
-shown_core (core.Module m) = core_module (map shown_decl m.value.defs.items)
+shown_core (core.Module m) = core_module (map shown_decl m.defs.items)
 
 -- what a shared core type shows
 abbrev pub shown_shared_core : Rc CoreType Global → CoreEntry
@@ -63,7 +61,7 @@ aliased_functions (decl.Export name entity) = []
 
 abbrev pub kept_core : CoreType → List Function
 kept_core (core.Func f) = []
-kept_core (core.Module m) = flat_map aliased_functions m.value.defs.items
+kept_core (core.Module m) = flat_map aliased_functions m.defs.items
 
 abbrev pub shown_url : Option (String Global) → Option (List ℕ)
 shown_url None = None
@@ -84,8 +82,8 @@ component_decl_step (layer.Import i) = import_decl (string_bytes i.name) (shown_
 abbrev pub type_step : DefType-F FullDecl FullEntry FullDecl (ℕ → ℕ → FullDecl) FullDecl FullDecls FullDecls → FullEntry
 type_step (layer.Defined t) = defined (shown_defined t)
 type_step (layer.Func f) = function f.value
-type_step (layer.Component t) = component_type t.value
-type_step (layer.Instance t) = instance_type t.value
+type_step (layer.Component t) = component_type t
+type_step (layer.Instance t) = instance_type t
 
 abbrev pub instance_decl_step : InstanceTypeDecl-F FullDecl FullEntry FullDecl (ℕ → ℕ → FullDecl) FullDecl FullDecls FullDecls → FullDecl
 instance_decl_step (layer.InstanceTypeDecl::CoreTypeDecl t) = core_step t

@@ -1,13 +1,14 @@
 //! Core types that a component declares (Explainer.md, core type definitions).
 
 use smith_format::{EntityType, FuncType, Import};
+use std::borrow::CowStr;
 use std::rc::Rc;
 
 /// A core type.
 #[derive(Debug, Drop)]
 pub enum CoreType {
     Func(Rc<FuncType>),
-    Module(Rc<ModuleType>),
+    Module(ModuleType),
 }
 
 /// The type of a core module: what it declares, in order.
@@ -28,5 +29,6 @@ pub enum ModuleTypeDef {
         i: u32,
         ty: Rc<FuncType>,
     },
-    Export(String, EntityType),
+    /// An export. The names that the canonical ABI asks for are not allocated.
+    Export(CowStr<'static>, EntityType),
 }

@@ -12,8 +12,8 @@ use std::rc::Rc;
 pub enum DefType {
     Defined(DefinedType),
     Func(Rc<FuncType>),
-    Component(Rc<ComponentType>),
-    Instance(Rc<InstanceType>),
+    Component(ComponentType),
+    Instance(InstanceType),
 }
 
 /// The type of a component: what it declares, in order. Its types and core types are in a scope of their own.

@@ -13,11 +13,10 @@ use Rattle.smith_types.specs.Declarations.{SoFar, nothing_so_far, after_one}
 use Rattle.smith_types.specs.Made.{MadeDeclaration, MadeDeclarations, no_more_decls, spent_decls, one_decl}
 use Rattle.smith_types.specs.MakingTypes.{AddsDeclaration, Declares, HasAtMost, HoldsExterns, HoldsNames, Progress, onto, defs_in}
 use Rattle.smith_scopes.specs.Scopes.{Contents, own_marked, outer_marked}
-use Rattle.smith_types.specs.declared.make.externs.ExternNames.{ExternNames}
+use Rattle.smith_types.specs.declared.make.scoped.ComponentBody.{ComponentBody}
+use Rattle.smith_types.specs.declared.make.scoped.InstanceBody.{InstanceBody}
 use Rattle.smith_types.specs.declared.make.scoped.TypeBody.{TypeBody}
 use Rattle.smith_types.specs.declared.make.scoped.TypeBody.TheVariants.{Component, Instance}
-use Rattle.std.specs.declared.vec.Vec.{Vec}
-use Rattle.std.specs.declared.alloc.Global.{Global}
 use Rattle.smith_syntax.specs.ShownDecls.{full_component_decl, full_instance_decl}
 use Rattle.smith_syntax.specs.declared.deftype.ComponentTypeDef.{ComponentTypeDef}
 use Rattle.smith_syntax.specs.declared.deftype.InstanceTypeDecl.{InstanceTypeDecl}
@@ -106,36 +105,36 @@ module _ {config : Config} {importing : Bool} {outer : List Marked} {start : Lis
     }
 
 -- One declaration was added to those of a component type, or to those of an instance type.
-pub adds_to_component : (config : Config) (scopes next : List Contents) (s : SoFar) (imports exports imports2 exports2 : ExternNames)
-    (defs defs2 : Vec ComponentTypeDef Global) (def : ComponentTypeDef) (b : List ℕ) (fuel : ℕ) (rest : List ℕ) (left : ℕ) → own_marked scopes ≡ s.own
+pub adds_to_component : (config : Config) (scopes next : List Contents) (s : SoFar) (old new : ComponentBody)
+    (def : ComponentTypeDef) (b : List ℕ) (fuel : ℕ) (rest : List ℕ) (left : ℕ) → own_marked scopes ≡ s.own
     → MadeDeclaration config true (outer_marked scopes) (record { own = own_marked scopes; imports = s.imports; exports = s.exports }) b fuel
     (full_component_decl def) rest left
-    → Declares scopes next (full_component_decl def) → HoldsExterns imports2 (s.imports ++ import_of (full_component_decl def))
-    → HoldsExterns exports2 (s.exports ++ export_of (full_component_decl def)) → defs2.items ≡ defs.items ++ def ∷ []
-    → AddsDeclaration config scopes next s (Component imports exports defs) (Component imports2 exports2 defs2) b fuel rest left
-adds_to_component config scopes next s imports exports imports2 exports2 defs defs2 def b fuel rest left own made declares i x more = record {
+    → Declares scopes next (full_component_decl def) → HoldsExterns new.imports (s.imports ++ import_of (full_component_decl def))
+    → HoldsExterns new.exports (s.exports ++ export_of (full_component_decl def)) → new.defs.items ≡ old.defs.items ++ def ∷ []
+    → AddsDeclaration config scopes next s (Component old) (Component new) b fuel rest left
+adds_to_component config scopes next s old new def b fuel rest left own made declares i x more = record {
   added = full_component_decl def;
   made = subst (λ o. MadeDeclaration config true (outer_marked scopes) (record { own = o; imports = s.imports; exports = s.exports }) b fuel
       (full_component_decl def) rest left) own made;
   declares = declares;
   names = (i, x);
-  defs = ap (map full_component_decl) more ∙ map-append full_component_decl defs.items (def ∷ []);
+  defs = ap (map full_component_decl) more ∙ map-append full_component_decl old.defs.items (def ∷ []);
   of = refl;
 }
 
-pub adds_to_instance : (config : Config) (scopes next : List Contents) (s : SoFar) (exports exports2 : ExternNames) (defs defs2 : Vec InstanceTypeDecl Global)
+pub adds_to_instance : (config : Config) (scopes next : List Contents) (s : SoFar) (old new : InstanceBody)
     (decl : InstanceTypeDecl) (b : List ℕ) (fuel : ℕ) (rest : List ℕ) (left : ℕ) → own_marked scopes ≡ s.own
     → MadeDeclaration config false (outer_marked scopes) (record { own = own_marked scopes; imports = s.imports; exports = s.exports }) b fuel
     (full_instance_decl decl) rest left
-    → Declares scopes next (full_instance_decl decl) → HoldsExterns exports2 (s.exports ++ export_of (full_instance_decl decl))
-    → defs2.items ≡ defs.items ++ decl ∷ []
-    → AddsDeclaration config scopes next s (Instance exports defs) (Instance exports2 defs2) b fuel rest left
-adds_to_instance config scopes next s exports exports2 defs defs2 decl b fuel rest left own made declares x more = record {
+    → Declares scopes next (full_instance_decl decl) → HoldsExterns new.exports (s.exports ++ export_of (full_instance_decl decl))
+    → new.defs.items ≡ old.defs.items ++ decl ∷ []
+    → AddsDeclaration config scopes next s (Instance old) (Instance new) b fuel rest left
+adds_to_instance config scopes next s old new decl b fuel rest left own made declares x more = record {
   added = full_instance_decl decl;
   made = subst (λ o. MadeDeclaration config false (outer_marked scopes) (record { own = o; imports = s.imports; exports = s.exports }) b fuel
       (full_instance_decl decl) rest left) own made;
   declares = declares;
   names = x;
-  defs = ap (map full_instance_decl) more ∙ map-append full_instance_decl defs.items (decl ∷ []);
+  defs = ap (map full_instance_decl) more ∙ map-append full_instance_decl old.defs.items (decl ∷ []);
   of = refl;
 }

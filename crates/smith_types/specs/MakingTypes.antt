@@ -116,17 +116,17 @@ onto (x ∷ xs) ds = then_decls x (onto xs ds)
 
 -- Are they those of a component type, which may import?
 abbrev pub is_importing : TypeBody → Bool
-is_importing (Component imports exports defs) = true
-is_importing (Instance exports defs) = false
+is_importing (Component body) = true
+is_importing (Instance body) = false
 
 abbrev pub defs_in : TypeBody → List FullDecl
-defs_in (Component imports exports defs) = map full_component_decl defs.items
-defs_in (Instance exports defs) = map full_instance_decl defs.items
+defs_in (Component body) = map full_component_decl body.defs.items
+defs_in (Instance body) = map full_instance_decl body.defs.items
 
 -- the sets of names have what is imported and exported so far
 abbrev pub HoldsNames : TypeBody → SoFar → Type 0
-HoldsNames (Component imports exports defs) so_far = HoldsExterns imports so_far.imports × HoldsExterns exports so_far.exports
-HoldsNames (Instance exports defs) so_far = HoldsExterns exports so_far.exports
+HoldsNames (Component body) so_far = HoldsExterns body.imports so_far.imports × HoldsExterns body.exports so_far.exports
+HoldsNames (Instance body) so_far = HoldsExterns body.exports so_far.exports
 
 -- One declaration was added.
 pub record AddsDeclaration (config : Config) (scopes next : List Contents) (so_far : SoFar) (old new : TypeBody) (bytes : List ℕ) (fuel : ℕ) (rest : List ℕ)

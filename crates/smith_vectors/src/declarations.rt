@@ -22,7 +22,7 @@ fn empty_module(alloc: Global) -> Result<Rc<CoreType>, Fail> {
     let module = ModuleType {
         defs: Vec::new(alloc),
     };
-    Ok(Rc::new(alloc, CoreType::Module(Rc::new(alloc, module)?))?)
+    Ok(Rc::new(alloc, CoreType::Module(module))?)
 }
 
 // Scopes of one function type, one type u32, and the core type of an empty module.
@@ -95,7 +95,7 @@ fn are_declared<R: Abort>(rt: &R, name: &str, ty: &DefType, expected: &[Declared
     let DefType::Component(component) = ty else {
         panic!(rt; "{name}: no component type");
     };
-    let ComponentType { defs } = &**component;
+    let ComponentType { defs } = component;
     check_count(rt, name, defs.len(), expected.len());
     for (def, declared) in defs.iter().zip(expected) {
         assert!(rt; is_declared(def, *declared), "{name}: {declared:?}");

@@ -23,11 +23,11 @@ fn empty_type(alloc: Global, kind: Kind) -> Result<DefType, Fail> {
         }
         Kind::Component => {
             let defs = Vec::new(alloc);
-            DefType::Component(Rc::new(alloc, ComponentType { defs })?)
+            DefType::Component(ComponentType { defs })
         }
         Kind::Instance => {
             let defs = Vec::new(alloc);
-            DefType::Instance(Rc::new(alloc, InstanceType { defs })?)
+            DefType::Instance(InstanceType { defs })
         }
         _ => DefType::Defined(DefinedType::Primitive(PrimitiveValType::U32)),
     })
@@ -37,7 +37,7 @@ fn empty_type(alloc: Global, kind: Kind) -> Result<DefType, Fail> {
 fn empty_core_type(alloc: Global, kind: Kind) -> Result<CoreType, Fail> {
     if matches!(&kind, Kind::CoreModule) {
         let defs = Vec::new(alloc);
-        return Ok(CoreType::Module(Rc::new(alloc, ModuleType { defs })?));
+        return Ok(CoreType::Module(ModuleType { defs }));
     }
     let params: Vec<ValType> = Vec::new(alloc);
     let func = smith_format::FuncType {

@@ -227,8 +227,7 @@ fn scopes_of_a_hundred_thousand_types_are_dropped(rt: HostRuntime) -> Result<(),
             i: last,
             kind: OuterAliasKind::OfType(before),
         }))?;
-        let ty = Rc::new(alloc, InstanceType { defs })?;
-        before = Rc::new(alloc, DefType::Instance(ty))?;
+        before = Rc::new(alloc, DefType::Instance(InstanceType { defs }))?;
         assert_eq!(rt; scopes.depth(), 1);
         assert!(rt; scopes.len(0) < 100_000);
         scopes.push_type(Rc::clone(&before)?)?;

@@ -10,9 +10,9 @@ use crate::component::Section;
 use crate::encode::{EMPTY_LEN, longer};
 use std::alloc::{AllocError, Global};
 
-// How many sections there is room for at first, in 1,008 bytes: `malloc` has a cache for blocks of at most 1,032. Few
-// components have more, and a list that grows is copied.
-const FIRST_SECTIONS: usize = 18;
+// How many sections there is room for at first, in 952 bytes: few components have more, a list that grows is copied, and
+// where a block is to have more than 1,000 bytes, `malloc` may merge all that are free.
+const FIRST_SECTIONS: usize = 17;
 
 /// A component that is not finished yet, with its length, and what is kept beside its sections.
 #[derive(Drop)]

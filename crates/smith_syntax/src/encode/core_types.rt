@@ -36,7 +36,7 @@ fn put_decl(out: &mut Vec<u8>, decl: &ModuleTypeDef) -> Result<(), Error>
         }
         ModuleTypeDef::Export(name, entity) => {
             write_byte(out, 0x03)?;
-            write_text(out, name)?;
+            write_text(out, name.as_str())?;
             write_entity(out, entity)
         }
     }
@@ -50,7 +50,7 @@ fn decl_len(decl: &ModuleTypeDef) -> Option<u32>
         ModuleTypeDef::FuncDef(ty) => func_type_len(ty)?.checked_add(1),
         ModuleTypeDef::OuterAlias { count, i, ty: _ } => Some(3 + (u32_len(*count) + u32_len(*i))),
         ModuleTypeDef::Export(name, entity) => {
-            text_len(name)?
+            text_len(name.as_str())?
                 .checked_add(entity_len(entity)?)?
                 .checked_add(1)
         }

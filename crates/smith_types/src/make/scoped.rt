@@ -22,7 +22,6 @@ use smith_syntax::{
     ComponentType, ComponentTypeDef, DefType, InstanceType, InstanceTypeDecl, Mark,
 };
 use std::alloc::Global;
-use std::rc::Rc;
 
 // An empty scope is opened in the last one.
 fn open_inner(scopes: &mut Scopes) -> Result<(), Error>
@@ -37,18 +36,26 @@ fn open_inner(scopes: &mut Scopes) -> Result<(), Error>
     scopes.open_scope()
 }
 
-// What a component type or an instance type declares so far, in order. An instance type imports nothing.
+// What a component type declares so far, in order, and the names of its imports and exports.
+#[derive(Drop)]
+struct ComponentBody {
+    imports: ExternNames,
+    exports: ExternNames,
+    defs: Vec<ComponentTypeDef>,
+}
+
+// What an instance type declares so far, in order, and the names of its exports. It imports nothing.
+#[derive(Drop)]
+struct InstanceBody {
+    exports: ExternNames,
+    defs: Vec<InstanceTypeDecl>,
+}
+
+// What a component type or an instance type declares so far.
 #[derive(Drop)]
 enum TypeBody {
-    Component {
-        imports: ExternNames,
-        exports: ExternNames,
-        defs: Vec<ComponentTypeDef>,
-    },
-    Instance {
-        exports: ExternNames,
-        defs: Vec<InstanceTypeDecl>,
-    },
+    Component(ComponentBody),
+    Instance(InstanceBody),
 }
 
 impl TypeBody {
@@ -60,30 +67,25 @@ impl TypeBody {
     {
         let exports = ExternNames::new(alloc);
         if importing {
-            let imports = ExternNames::new(alloc);
-            let defs = Vec::new(alloc);
-            return TypeBody::Component {
-                imports,
+            return TypeBody::Component(ComponentBody {
+                imports: ExternNames::new(alloc),
                 exports,
-                defs,
-            };
+                defs: Vec::new(alloc),
+            });
         }
-        let defs = Vec::new(alloc);
-        TypeBody::Instance { exports, defs }
+        TypeBody::Instance(InstanceBody {
+            exports,
+            defs: Vec::new(alloc),
+        })
     }
 
     // The type that declares them.
-    fn finish(self, alloc: Global) -> Result<DefType, Error>
-        ensures finished { IfOk result (λ t. full_type t ≡ declaring (is_importing self) (in_order (defs_in self))) }
-        ensures memory { IfErr result (λ e. e ≡ Error.OutOfMemory) }
+    fn finish(self) -> DefType
+        ensures { full_type result ≡ declaring (is_importing self) (in_order (defs_in self)) }
     {
         match self {
-            TypeBody::Component { defs, .. } => {
-                Ok(DefType::Component(Rc::new(alloc, ComponentType { defs })?))
-            }
-            TypeBody::Instance { defs, .. } => {
-                Ok(DefType::Instance(Rc::new(alloc, InstanceType { defs })?))
-            }
+            TypeBody::Component(body) => DefType::Component(ComponentType { defs: body.defs }),
+            TypeBody::Instance(body) => DefType::Instance(InstanceType { defs: body.defs }),
         }
     }
 }
@@ -107,17 +109,15 @@ fn declare(
     ensures tail { IsTail u.new u.old }
 {
     match declared {
-        TypeBody::Component {
-            imports,
-            exports,
-            defs,
-        } => {
+        TypeBody::Component(body) => {
+            let imports = &mut body.imports;
+            let exports = &mut body.exports;
             let def = component_declaration(making, u, scopes, fuel, imports, exports)?;
-            defs.push(def)?;
+            body.defs.push(def)?;
         }
-        TypeBody::Instance { exports, defs } => {
-            let decl = declaration(making, u, scopes, fuel, exports)?;
-            defs.push(decl)?;
+        TypeBody::Instance(body) => {
+            let decl = declaration(making, u, scopes, fuel, &mut body.exports)?;
+            body.defs.push(decl)?;
         }
     }
     Ok(())
@@ -178,6 +178,5 @@ pub(super) fn scoped_type(
     let made = declarations(making, u, scopes, fuel, importing);
     let mark = scopes.closed_mark(!importing);
     scopes.close_scope();
-    let ty = made?.finish(making.alloc)?;
-    Ok((ty, mark))
+    Ok((made?.finish(), mark))
 }

@@ -1,4 +1,4 @@
-use Rattle.std.proofs.Common.{◌≡◌, ℕ, List, [], map, ap, ◌∙◌, refl, sym, subst, arith}
+use Rattle.std.proofs.Common.{◌≡◌, ℕ, List, [], map, ap, refl, sym, subst, arith}
 use Rattle.smith_input.specs.Reading.{Reads}
 use Rattle.smith_syntax.specs.Entries.{core_module}
 use Rattle.smith_core_types.specs.MadeCore.{MadeModule, of_function, of_module, spent_core}
@@ -12,7 +12,7 @@ pub returns-then-fuel-eq0-clause-made : goal.returns-then-fuel-eq0-clause-made
 returns-then-fuel-eq0-clause-made c =
     spent_core
     (omega (arith, c.burn.ensures, c.if-fuel-eq0.true))
-    (ap (λ m. core_module (map shown_decl m.defs.items)) c.in_ok-new.ensures.ok ∙ ap (λ ds. core_module (map shown_decl ds)) c.new-defs.ensures.items)
+    (ap (λ ds. core_module (map shown_decl ds)) c.new-defs.ensures.items)
     c.if-fuel-eq0.true
 
 pub returns-then-choose_index-eq0-clause-made : goal.returns-then-choose_index-eq0-clause-made
@@ -31,14 +31,12 @@ returns-clause-made c =
     (omega (arith, c.burn.ensures, c.if-fuel-eq0.false))
     (subst P one c.choose_index.ensures)
     (subst M c.burn.ensures c.in_ok-defs.ensures.made)
-    (ap (λ m. core_module (map shown_decl m.defs.items)) c.in_ok-new-2.ensures.ok)
+    refl
 
 pub returns-then-fuel-eq0-clause-kept : goal.returns-then-fuel-eq0-clause-kept
 returns-then-fuel-eq0-clause-kept c =
     let K : List _ → Type 0 = λ ds. KeepEach (own_of (inward c.args.scopes.now)).core_types [] ds in
-    subst K (sym (ap (λ m. m.defs.items) c.in_ok-new.ensures.ok ∙ c.new-defs.ensures.items)) tt
+    subst K (sym c.new-defs.ensures.items) tt
 
 pub returns-clause-kept : goal.returns-clause-kept
-returns-clause-kept c =
-    let K : List _ → Type 0 = λ ds. KeepEach (own_of (inward c.args.scopes.now)).core_types [] ds in
-    subst K (sym (ap (λ m. m.defs.items) c.in_ok-new-2.ensures.ok)) c.in_ok-defs.ensures.kept
+returns-clause-kept c = c.in_ok-defs.ensures.kept

@@ -1,4 +1,4 @@
-use Rattle.std.proofs.Common.{◌≡◌, ◌++◌, [], ◌∷◌, arith, refl, map, length, sym, ap, ◌∙◌, append-nil, append_assoc}
+use Rattle.std.proofs.Common.{◌≡◌, ◌++◌, [], ◌∷◌, arith, refl, map, length, sym, ◌∙◌, append-nil, append_assoc}
 use Rattle.std.proofs.lemmas.List.{length-map}
 use Rattle.smith_format.specs.CoreTypes.{Function}
 use Rattle.smith_format.specs.Shown.{shown_func}
@@ -31,7 +31,7 @@ returns-clause-reads c fuel =
     let owns = c.in_ok-declare.ensures.own in
     let first = c.in_ok-declare.ensures.defs in
     let last = pushed shown_decl c.declare.new.declared.counted.defs.items c.push.new.self.defs.items _ c.in_ok-push.ensures.items in
-    let decls = last ∙ (λ i. first i ++ exports (c.in_ok-name.ensures.ok i) (Func (count i)) ∷ [])
+    let decls = last ∙ (λ i. first i ++ exports name (Func (count i)) ∷ [])
     ∙ append_assoc before (declares f ∷ []) (exports name (Func (length own)) ∷ []) in
     taken (sym c.allows_line.ensures ∙ c.if-not-allows_line.false) c.ratio.ensures.1
     (ratio_true c.ratio.result c.ratio.ensures.0 c.ratio.ensures.2 c.if-not-ratio.false) (refl, refl) (same_state fuel fuel owns decls refl)

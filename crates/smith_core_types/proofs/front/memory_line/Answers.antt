@@ -1,7 +1,5 @@
-use Rattle.std.proofs.Common.{◌≡◌, ◌++◌, [], ◌∷◌, true, false, nat_lt, refl, arith, map, ap, sym, ◌∙◌, append-nil}
+use Rattle.std.proofs.Common.{◌≡◌, true, false, nat_lt, refl, arith, sym, append-nil}
 use Rattle.std.proofs.lemmas.Bool.Decides.{nat_tests}
-use Rattle.smith_format.specs.declared.types.EntityType.TheVariants.{Memory}
-use Rattle.smith_syntax.specs.Entries.{exports}
 use Rattle.smith_core_types.specs.MakingCore.{shown_funcs}
 use Rattle.smith_core_types.specs.MadeCore.{not_allowed, declined, taken}
 use Rattle.smith_syntax.specs.Shown.{shown_decl}
@@ -24,12 +22,9 @@ pub returns-clause-reads : goal.returns-clause-reads
 returns-clause-reads c fuel =
     let may : nat_lt 0 c.args.making.now.config.now.max_memories ≡ true = grind (arith, nat_tests, c.if-making-eq0.false) in
     let old = c.args.declared.now in
-    let m = c.arbitrary_memtype.result in
-    let before = map shown_decl old.counted.defs.items in
-    let decls = pushed shown_decl old.counted.defs.items c.push.new.self.defs.items _ c.in_ok-push.ensures.items
-    ∙ ap (λ n. before ++ exports n (Memory m) ∷ []) c.in_ok-name.ensures.ok in
+    let decls = pushed shown_decl old.counted.defs.items c.push.new.self.defs.items _ c.in_ok-push.ensures.items in
     taken may c.ratio.ensures.1 (ratio_true c.ratio.result c.ratio.ensures.0 c.ratio.ensures.2 c.if-not-ratio.false)
-    (m, c.arbitrary_memtype.ensures.reads, refl) (same_state fuel fuel (sym (append-nil (shown_funcs old.own.items))) decls refl)
+    (c.arbitrary_memtype.result, c.arbitrary_memtype.ensures.reads, refl) (same_state fuel fuel (sym (append-nil (shown_funcs old.own.items))) decls refl)
 
 pub returns-clause-kept : goal.returns-clause-kept
 returns-clause-kept c around k =

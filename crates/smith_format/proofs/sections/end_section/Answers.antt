@@ -1,6 +1,5 @@
-use Rattle.std.proofs.Common.{arith, ◌+◌, ◌%◌, ◌<◌, ℕ, refl, sym, ◌∙◌}
-use Rattle.std.proofs.lemmas.Result.{err_from_is_err_and}
-use Rattle.std.specs.Vec.{with_item, vec_len}
+use Rattle.std.proofs.Common.{arith, ◌+◌, ◌%◌, refl}
+use Rattle.std.specs.Vec.{with_item}
 use Rattle.smith_format.proofs.Framing.{framing_begins, framing_next, framing_within, framing_ends, framing_full}
 use Rattle.smith_format.proofs.Steps.{exits}
 use Rattle.smith_format.proofs.sections.end_section.Goals as goal

@@ -44,7 +44,7 @@ pub put_type-returns-in_ok-write_byte-in-Component : goal.put_type-returns-in_ok
 put_type-returns-in_ok-write_byte-in-Component t c =
     rw (c.in-Component.is, entry_component c.in-Component.ty)
     (ends c.put_component_decls.result _ _ (c.in_ok-write_byte-in-Component.ensures {u = tt})
-    (rw (c.deref-in-Component-2.ensures.value, c.deref-in-Component.ensures) at c.put_component_decls.ensures))
+    (rw c.deref-in-Component.ensures.value at c.put_component_decls.ensures))
 
 pub put_type-returns-in_err-write_byte-in-Instance : goal.put_type-returns-in_err-write_byte-in-Instance
 put_type-returns-in_err-write_byte-in-Instance t c =
@@ -56,4 +56,4 @@ pub put_type-returns-in_ok-write_byte-in-Instance : goal.put_type-returns-in_ok-
 put_type-returns-in_ok-write_byte-in-Instance t c =
     rw (c.in-Instance.is, entry_instance c.in-Instance.ty)
     (ends c.put_instance_decls.result _ _ (c.in_ok-write_byte-in-Instance.ensures {u = tt})
-    (rw (c.deref-in-Instance-2.ensures.value, c.deref-in-Instance.ensures) at c.put_instance_decls.ensures))
+    (rw c.deref-in-Instance.ensures.value at c.put_instance_decls.ensures))

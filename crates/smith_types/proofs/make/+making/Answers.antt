@@ -118,10 +118,10 @@ scoped::declare-returns-in_ok-push-in-Component-clause-made t c = λ s own held.
     let k = c.in_ok-def-in-Component.ensures {u = tt} in
     let h = subst (λ (d : TypeBody). HoldsNames d s) c.in-Component.is held in
     let P : TypeBody → Type 0 = λ d. AddsDeclaration c.args.making.now.config.now c.args.scopes.now c.component_declaration.new.scopes s d
-    (Component c.component_declaration.new.imports c.component_declaration.new.exports c.push.new.self) c.args.u.now c.args.fuel.now
+    (Component record { imports = c.component_declaration.new.imports; exports = c.component_declaration.new.exports; defs = c.push.new.self }) c.args.u.now c.args.fuel.now
     c.component_declaration.new.u c.component_declaration.new.fuel in
     subst P (sym c.in-Component.is)
-    (adds_to_component _ _ _ s _ _ _ _ c.in-Component.defs _ c.in_ok-def-in-Component.def _ _ _ _ own (k.made s.imports s.exports h.0 h.1) k.declares
+    (adds_to_component _ _ _ s c.in-Component.body _ c.in_ok-def-in-Component.def _ _ _ _ own (k.made s.imports s.exports h.0 h.1) k.declares
     (k.imports s.imports h.0) (k.exports s.exports h.1) (c.in_ok-push-in-Component.ensures {u = tt}).items)
 
 pub scoped::declare-returns-in_ok-push-in-Instance-clause-made : goal.scoped::declare-returns-in_ok-push-in-Instance-clause-made
@@ -129,9 +129,9 @@ scoped::declare-returns-in_ok-push-in-Instance-clause-made t c = λ s own held.
     let k = c.in_ok-decl-in-Instance.ensures {u = tt} in
     let h = subst (λ (d : TypeBody). HoldsNames d s) c.in-Instance.is held in
     let P : TypeBody → Type 0 = λ d. AddsDeclaration c.args.making.now.config.now c.args.scopes.now c.declaration.new.scopes s d
-    (Instance c.declaration.new.exports c.push-in-Instance.new.self) c.args.u.now c.args.fuel.now c.declaration.new.u c.declaration.new.fuel in
+    (Instance record { exports = c.declaration.new.exports; defs = c.push-in-Instance.new.self }) c.args.u.now c.args.fuel.now c.declaration.new.u c.declaration.new.fuel in
     subst P (sym c.in-Instance.is)
-    (adds_to_instance _ _ _ s _ _ c.in-Instance.defs _ c.in_ok-decl-in-Instance.decl _ _ _ _ own (k.made false s.exports s.imports _ h (in_instance refl))
+    (adds_to_instance _ _ _ s c.in-Instance.body _ c.in_ok-decl-in-Instance.decl _ _ _ _ own (k.made false s.exports s.imports _ h (in_instance refl))
     k.declares (k.names s.exports h) (c.in_ok-push-in-Instance.ensures {u = tt}).items)
 
 pub scoped::scoped_type-returns-in_err-made-clause-scopes : goal.scoped::scoped_type-returns-in_err-made-clause-scopes
@@ -174,13 +174,9 @@ kinds::made_type-returns-clause-mark t c =
     let P : DefType → Type 0 = λ ty. IsMarkOf c.args.scopes.now (full_type ty) c.in_ok-made.mark in
     subst P (sym c.in_ok-shared.ensures.ok) c.in_ok-made.ensures.mark
 
-pub scoped::scoped_type-returns-in_err-ty-clause-scopes : goal.scoped::scoped_type-returns-in_err-ty-clause-scopes
-scoped::scoped_type-returns-in_err-ty-clause-scopes t c = closed_again c.args.scopes.now c.open_inner.new.scopes c.declarations-made.new.scopes
-    c.close_scope.new.self _ _ c.in_ok-open_inner.ensures.opened c.declarations-made.ensures.outer c.close_scope.ensures
-
 pub scoped::scoped_type-returns-clause-mark : goal.scoped::scoped_type-returns-clause-mark
 scoped::scoped_type-returns-clause-mark t c =
     let made = c.in_ok-made.ensures in
     scoped_marked c.args.importing c.args.scopes.now c.open_inner.new.scopes c.declarations-made.new.scopes _ _ _ c.in_ok-open_inner.ensures.fresh
     c.in_ok-open_inner.ensures.around made.closed c.closed_mark-mark.ensures
-    (c.in_ok-ty.ensures.finished ∙ ap (λ b. declaring b (in_order (defs_in c.in_ok-made.field-0))) made.importing)
+    (c.finish.ensures ∙ ap (λ b. declaring b (in_order (defs_in c.in_ok-made.field-0))) made.importing)

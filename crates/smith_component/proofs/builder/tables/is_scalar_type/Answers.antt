@@ -41,8 +41,8 @@ returns-in-Func c =
 
 -- a defined type, or the type of a component or of an instance
 abbrev IsOther : DefType → Type 0
-IsOther t = ((d : DefinedType) × (t ≡ def.Defined d)) ⊎ (((d : Rc ComponentType Global) × (t ≡ def.Component d))
-    ⊎ ((d : Rc InstanceType Global) × (t ≡ def.Instance d)))
+IsOther t = ((d : DefinedType) × (t ≡ def.Defined d)) ⊎ (((d : ComponentType) × (t ≡ def.Component d))
+    ⊎ ((d : InstanceType) × (t ≡ def.Instance d)))
 
 not_scalar : (t : DefType) → IsOther t → is_scalar_entry (shown_type t) ≡ false
 not_scalar t (inl d) = ap (λ x. is_scalar_entry (shown_type x)) d.1 ∙ ap (λ x. is_scalar_entry (plain x)) (full_defined d.0)

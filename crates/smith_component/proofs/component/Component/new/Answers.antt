@@ -1,4 +1,4 @@
-use Rattle.std.proofs.Common.{◌≡◌, IfErr, IfOk, subst}
+use Rattle.std.proofs.Common.{IfErr, IfOk, subst}
 use Rattle.smith_input.proofs.Reading.{tail_same}
 use Rattle.smith_format.specs.Consistency.{IsConsistent}
 use Rattle.smith_format.specs.declared.config.Config.{Config}

@@ -5,4 +5,4 @@ use Rattle.smith_syntax.proofs.encode.core_types.put_core_type.Goals as goal
 
 pub returns-in-Module : goal.returns-in-Module
 returns-in-Module c = rw (c.in-Module.is, many-map moduledecl shown_decl _)
-    (rw (c.deref-in-Module-2.ensures.value, c.deref-in-Module.ensures) at c.put_tagged.ensures)
+    (rw c.deref-in-Module.ensures.value at c.put_tagged.ensures)
