@@ -42,7 +42,7 @@ use Rattle.smith_component.specs.CanonicalsState.{CanonicalsState, DraftsOn, IsD
 use Rattle.smith_component.specs.CanonicalsState.{draft_of, growing}
 use Rattle.smith_component.specs.SectionValues.{externs_in, externs_of}
 use Rattle.smith_component.specs.Shown.{shown_canon, shown_sections}
-use Rattle.smith_component.specs.Tables.{AddsCoreFunction, AddsFunction, IsLowerable, IsMeasured, Tabled, functions_at}
+use Rattle.smith_component.specs.Tables.{AddsCoreFunction, AddsFunction, IsLowerable, Tabled, functions_at}
 use Rattle.smith_tree.specs.Marking.{marked_in, marked_inner, with_type_entry}
 use Rattle.smith_tree.specs.Spaces.{spaces_of}
 use Rattle.smith_tree.specs.Functions.{core_functions_of}
@@ -415,9 +415,9 @@ all_read config least most t first next b rest e m (turns, l) last is =
 -- What was in front stays in front.
 
 pub front_same : (old new : OpenComponent) → new.sections.items ≡ old.sections.items → new.tables.imports ≡ old.tables.imports
-    → (IsMeasured old → IsMeasured new) → KeepsFront old new
-front_same old new e names m =
-    record { more = []; sections = e ∙ sym (append-nil old.sections.items); no_imports = refl; names = names; measured = m }
+    → KeepsFront old new
+front_same old new e names =
+    record { more = []; sections = e ∙ sym (append-nil old.sections.items); no_imports = refl; names = names }
 
 pub front_then : (old mid new : OpenComponent) → KeepsFront old mid → KeepsFront mid new → KeepsFront old new
 front_then old mid new f g = record {
@@ -425,13 +425,12 @@ front_then old mid new f g = record {
   sections = g.sections ∙ (ap (λ xs. xs ++ g.more) f.sections ∙ append_assoc old.sections.items f.more g.more);
   no_imports = flat_map-append externs_in f.more g.more ∙ (ap (λ xs. xs ++ externs_of g.more) f.no_imports ∙ g.no_imports);
   names = g.names ∙ f.names;
-  measured = λ m. g.measured (f.measured m);
 }
 
 pub front_push : (old mid new : OpenComponent) (section : Section) → KeepsFront old mid → new.sections.items ≡ mid.sections.items ++ section ∷ []
-    → externs_in section ≡ [] → new.tables.imports ≡ mid.tables.imports → (IsMeasured mid → IsMeasured new) → KeepsFront old new
-front_push old mid new section f e none names m =
-    front_then old mid new f (record { more = section ∷ []; sections = e; no_imports = ap (λ xs. xs ++ []) none; names = names; measured = m })
+    → externs_in section ≡ [] → new.tables.imports ≡ mid.tables.imports → KeepsFront old new
+front_push old mid new section f e none names =
+    front_then old mid new f (record { more = section ∷ []; sections = e; no_imports = ap (λ xs. xs ++ []) none; names = names })
 
 -- A draft that continues, and continues again.
 
@@ -450,7 +449,7 @@ chosen_none ts signature named b rest (Some t) same none chosen = absurd (none t
 pub drafts_none : (d : CanonicalDraft) → DraftsOn d d
 drafts_none d = record {
   draft = λ around draft. draft;
-  front = front_same d.component.now d.component.now refl refl (λ m. m);
+  front = front_same d.component.now d.component.now refl refl;
   outer = refl;
   depth = refl;
 }

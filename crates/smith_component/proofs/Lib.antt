@@ -14,7 +14,6 @@ pub mod Finishing
 pub mod Fits
 pub mod Grammar
 pub mod Growth
-pub mod Lengths
 pub mod ImportsState
 pub mod ImportsRead
 pub mod ImportsRoom

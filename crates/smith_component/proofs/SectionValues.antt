@@ -21,7 +21,7 @@ use Rattle.smith_tree.specs.Open.{Open}
 use Rattle.smith_component.specs.SectionValues.{AddsImportSection, AddsTypeSection, NoImportValue, ReadsCoreTypeValue, ReadsImportValue}
 use Rattle.smith_component.specs.SectionValues.{ReadsTypeValue, extern_of, externs_in, externs_of}
 use Rattle.smith_component.specs.Shown.{shown_section, shown_sections}
-use Rattle.smith_component.specs.Tables.{IsMeasured, IsTabled, Tabled}
+use Rattle.smith_component.specs.Tables.{IsTabled, Tabled}
 use Rattle.smith_tree.specs.Spaces.{after_part, spaces_of}
 use Rattle.smith_tree.specs.Functions.{core_functions_of, functions_of}
 use Rattle.smith_tree.specs.Tree.{canons_in, exports_in, imports_in, imports_of}
@@ -161,16 +161,14 @@ externs_push ss s = flat_map_more externs_in ss s
 pub is_tabled_added : (old new : OpenComponent) (s : Section) → new.sections.items ≡ old.sections.items ++ s ∷ [] → new.tables ≡ old.tables
     → (after_part (spaces_of (shown_sections old.sections.items)) (shown_section s)).functions ≡ functions_of (shown_sections old.sections.items)
     → (after_part (spaces_of (shown_sections old.sections.items)) (shown_section s)).core_functions ≡ core_functions_of (shown_sections old.sections.items)
-    → imports_in (shown_section s) ≡ [] → canons_in (shown_section s) ≡ [] → exports_in (shown_section s) ≡ [] → (IsMeasured old → IsMeasured new)
-    → IsTabled old → IsTabled new
-is_tabled_added old new s e tables fs cs is ks xs m i =
+    → imports_in (shown_section s) ≡ [] → canons_in (shown_section s) ≡ [] → exports_in (shown_section s) ≡ [] → IsTabled old → IsTabled new
+is_tabled_added old new s e tables fs cs is ks xs i =
     let shown = ap shown_sections e ∙ shown_push old.sections.items s in
     let same : externs_of new.sections.items ≡ externs_of old.sections.items =
     ap externs_of e ∙ (externs_push old.sections.items s ∙ (ap (λ z. externs_of old.sections.items ++ z) (no_externs s is)
     ∙ append-nil (externs_of old.sections.items))) in
     let P : Tables → Type 0 = λ z. HoldsExterns z.imports (externs_of new.sections.items) in
     record {
-      measured = m i.measured;
       tabled = tabled_added (shown_sections old.sections.items) (shown_sections new.sections.items) (shown_section s) shown fs cs
           (no_functions_in (shown_section s) is ks) xs
           (subst (λ z. Tabled z (shown_sections old.sections.items)) (sym tables) i.tabled);

@@ -12,7 +12,7 @@ use Rattle.smith_scopes.specs.Scopes.{Contents, outer_marked, own_marked}
 use Rattle.smith_component.specs.Canonicals.{CanonTurn, Growing, NoCanon, grown}
 use Rattle.smith_component.specs.SectionValues.{externs_of}
 use Rattle.smith_component.specs.Shown.{shown_canon, shown_sections}
-use Rattle.smith_component.specs.Tables.{IsMeasured, Tabled}
+use Rattle.smith_component.specs.Tables.{Tabled}
 use Rattle.smith_tree.specs.Marking.{marked_inner}
 use Rattle.smith_tree.specs.Tree.{Tree}
 use Rattle.smith_component.specs.declared.builder.canonicals.CanonicalDraft.{CanonicalDraft}
@@ -39,7 +39,6 @@ pub record KeepsFront (old new : OpenComponent) : Type 0 where
   pub sections : new.sections.items ≡ old.sections.items ++ more
   pub no_imports : externs_of more ≡ []
   pub names : new.tables.imports ≡ old.tables.imports
-  pub measured : IsMeasured old → IsMeasured new
 
 -- the same for what the program has under construction
 abbrev pub draft_of : CanonicalDraft → Growing

@@ -36,13 +36,8 @@ pub record Tabled (tables : Tables) (t : Tree) : Type 0 where
   pub exports : Holds tables.exports (export_names (exports_of t))
   pub grounded : IsGrounded t
 
--- An open component keeps the length of the bytes of its sections.
-abbrev pub IsMeasured : OpenComponent → Type 0
-IsMeasured c = IsLengthOf c.length (component_text (shown_sections c.sections.items))
-
 -- An open component's tables are those of its sections, and its sets of names those of its imports and of their URLs.
 pub record IsTabled (c : OpenComponent) : Type 0 where
-  pub measured : IsMeasured c
   pub tabled : Tabled c.tables (shown_sections c.sections.items)
   pub externs : HoldsExterns c.tables.imports (externs_of c.sections.items)
 

@@ -54,6 +54,6 @@ pub fn generate(alloc: Global, config: Config, u: &mut Unstructured) -> Result<G
     ensures tail { IsTail u.new u.old }
 {
     let component = Component::new(alloc, config, u)?;
-    let bytes = component.to_bytes(alloc)?;
+    let bytes = component.written(alloc)?;
     Ok(Generated { component, bytes })
 }

@@ -42,11 +42,12 @@ impl Progress {
         match self.outer.pop() {
             None => {
                 let root = mem::replace(&mut self.inner.sections, Vec::new(self.alloc));
-                Ok(Some(Component::of(root, self.inner.length)))
+                Ok(Some(Component::of(root, self.inner.height)))
             }
             Some(parent) => {
+                let height = self.inner.height;
                 let finished = mem::replace(&mut self.inner, parent);
-                let component = Component::of(finished.sections, finished.length);
+                let component = Component::of(finished.sections, height);
                 self.inner.push(Section::Component(component))?;
                 self.scopes.close_scope();
                 Ok(None)

@@ -104,7 +104,6 @@ returns-clause-does c =
     let totalled = totalled_part b.config stack.outer stack.inner _ b.totals b.totals (exports es) refl new (omega arith) (omega arith) (omega arith)
     i.0.totalled in
     let tabled : IsTabled c.push.new.self = record {
-      measured = c.in_ok-push.ensures.measured i.1.0.measured;
       tabled = subst (λ tb. Tabled tb (shown_sections c.push.new.self.sections.items)) (sym c.push.ensures.tables)
           (subst (Tabled c.read_exports.new.tables) (sym new) after.tabled);
       externs = subst (λ (tb : Tables). HoldsExterns tb.imports (externs_of c.push.new.self.sections.items)) (sym c.push.ensures.tables)

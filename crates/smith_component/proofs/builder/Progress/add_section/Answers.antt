@@ -41,7 +41,7 @@ returns c =
     let totalled = totalled_part b.config stack.outer stack.inner _ b.totals _ p a.no_component new
     (omega (arith, c.module_count-modules.ensures, ap length none.0)) (omega (arith, ap length none.1)) (omega (arith, ap length none.2)) i.0.totalled in
     let tabled = is_tabled_added b.inner c.push.new.self c.args.section c.in_ok-push.ensures.items c.push.ensures.tables (ap (λ s. s.functions) same)
-    (ap (λ s. s.core_functions) same) q.imports q.canons q.exports c.in_ok-push.ensures.measured i.1.0 in
+    (ap (λ s. s.core_functions) same) q.imports q.canons q.exports i.1.0 in
     record {
       grows = grows b b.scopes _ c.push.new.self (c.args.section ∷ []) i c.in_ok-push.ensures.items sound own refl refl totalled tabled;
       last = c.in_ok-push.ensures.items;

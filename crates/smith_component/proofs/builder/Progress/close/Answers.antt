@@ -3,7 +3,7 @@ use Rattle.std.proofs.lemmas.List.{map-append}
 use Rattle.std.specs.List.{AllByRecursion}
 use Rattle.smith_scopes.specs.Scopes.{last_of}
 use Rattle.smith_scopes.proofs.Stack.{length-inward_marked, closed_marked}
-use Rattle.smith_component.specs.Tables.{IsMeasured, IsTabled}
+use Rattle.smith_component.specs.Tables.{IsTabled}
 use Rattle.smith_tree.specs.Marking.{marked_in, marked_inner}
 use Rattle.smith_tree.proofs.Marking.{marked_add}
 use Rattle.smith_component.specs.Shown.{shown_sections}
@@ -78,8 +78,7 @@ returns-in_ok-push-in-Some-clause-closes c =
           totalled = totalled_close outers _ parent inner _ b.totals around new i.0.totalled;
         },
         (
-          is_tabled_added c.in-Some.parent c.push.new.self _ items tables refl refl refl refl refl
-              (λ m. c.in_ok-push-in-Some.ensures.measured (subst IsMeasured (sym c.replace-finished.ensures.after) m)) last.0,
+          is_tabled_added c.in-Some.parent c.push.new.self _ items tables refl refl refl refl refl last.0,
           all_front IsTabled c.pop.new.self.items (c.in-Some.parent ∷ []) all,
         ),
       );
@@ -103,9 +102,3 @@ returns-in-None-clause-closes c =
       keeps = root_kept _ _ _ c.of.result (none_open _ alone) (sym is) c.requires.minima c.requires.sound.0.sound;
       sections = (none_around b.outer.items alone, [], is ∙ ap shown_sections (sym (append-nil b.inner.sections.items)));
     }
-
-pub of-requires : goal.of-requires
-of-requires c = rw c.replace-root.ensures.value c.requires.sound.1.0.measured
-
-pub of-component-requires : goal.of-component-requires
-of-component-requires c = subst IsMeasured (sym c.replace-finished.ensures.value) c.requires.sound.1.0.measured

@@ -43,20 +43,19 @@ returns-clause-drafts c =
     let d = c.args.self.now in
     let old : OpenComponent = d.component.now in
     let mid : OpenComponent = c.push-2.new.self in
-    let new : OpenComponent = record { sections = c.push-3.new.self.sections; length = c.push-3.new.self.length; tables = c.add_function.new.self } in
+    let new : OpenComponent = record { sections = c.push-3.new.self.sections; height = c.push-3.new.self.height; tables = c.add_function.new.self } in
     let T : Tables → Type 0 = λ z. AddsFunction (own_scope c.push_marked.new.self) 1 z c.in_ok-func_ty.func_ty c.add_function.new.self in
     let names : Tables → ExternNames = λ t. t.imports in
     let shows = ap shown_type (c.in_ok-clone.ensures.cases ∙ c.in_ok-shared.ensures.ok) ∙ shown_function c.args.ty in
     let adds = subst T (c.push-3.ensures.tables ∙ c.push-2.ensures.tables) c.in_ok-add_function.ensures.ok in
-    let ended = front_push old old mid _ (front_same old old refl refl (λ m. m)) c.in_ok-push-2.ensures.items refl (ap names c.push-2.ensures.tables)
-    c.in_ok-push-2.ensures.measured in
+    let ended = front_push old old mid _ (front_same old old refl refl) c.in_ok-push-2.ensures.items refl (ap names c.push-2.ensures.tables) in
     record {
       draft = λ around held. define_draft d around held c.push_marked.new.self new c.push-4.new.self.items
           c.args.core_func_index c.in_ok-func_ty.func_ty c.args.ty.value c.in_ok-clone.field-0.value c.function_mark-mark.result
           shows c.in_ok-func_ty.ensures.ok (rw c.deref.ensures at c.function_mark-mark.ensures) (returns-clause-defines c) c.in_ok-func_ty.ensures.index
           adds;
       front = front_push old mid new _ ended c.in_ok-push-3.ensures.items refl
-          (c.in_ok-add_function.ensures.ok.imports ∙ ap names c.push-3.ensures.tables) c.in_ok-push-3.ensures.measured;
+          (c.in_ok-add_function.ensures.ok.imports ∙ ap names c.push-3.ensures.tables);
       outer = (grown_marked d.scopes.now c.push_marked.new.self c.in_ok-clone.field-0.value c.in_ok-func_ty.ensures.ok).outer;
       depth = length-changed _ _ _ c.in_ok-func_ty.ensures.ok;
     }

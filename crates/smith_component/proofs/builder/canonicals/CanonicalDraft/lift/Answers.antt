@@ -40,7 +40,7 @@ returns-in-Some-clause-reads c =
     let r = chosen_equal (last_of d.scopes.now).types c.in_ok-signature.signature c.in_ok-ty.ty.value c.lifted_type.new.u c.choose_equal.new.u
     c.in_ok-func_ty.field-0 c.in-Some.func_ty c.in_ok-ty.ensures.ok c.in-Some.is c.in_ok-func_ty.ensures.chosen in
     let old : OpenComponent = d.component.now in
-    let new : OpenComponent = record { sections = old.sections; length = old.length; tables = c.add_function.new.self } in
+    let new : OpenComponent = record { sections = old.sections; height = old.height; tables = c.add_function.new.self } in
     lift_equal d c.requires.draft.0 c.requires.draft.1 d.config.now c.len.result c.choose_index-core_func_index.result
     c.in_ok-signature.signature c.args.u.now c.choose_index-core_func_index.new.self c.lifted_type.new.u c.choose_equal.new.u _ (omega (arith, c.len.ensures))
     c.choose_index-core_func_index.ensures c.in_ok-signature.ensures.reads c.in-Some.func_ty r
@@ -53,7 +53,7 @@ returns-in-Some-clause-drafts c =
     let r = chosen_equal (last_of d.scopes.now).types c.in_ok-signature.signature c.in_ok-ty.ty.value c.lifted_type.new.u c.choose_equal.new.u
     c.in_ok-func_ty.field-0 c.in-Some.func_ty c.in_ok-ty.ensures.ok c.in-Some.is c.in_ok-func_ty.ensures.chosen in
     let old : OpenComponent = d.component.now in
-    let new : OpenComponent = record { sections = old.sections; length = old.length; tables = c.add_function.new.self } in
+    let new : OpenComponent = record { sections = old.sections; height = old.height; tables = c.add_function.new.self } in
     let same = c.in_ok-func_ty.ensures.same in
     let t = c.in-Some.func_ty in
     record {
@@ -63,7 +63,7 @@ returns-in-Some-clause-drafts c =
           (subst (λ scopes. AddsFunction (own_scope scopes) 1 old.tables t new.tables) same c.in_ok-add_function.ensures.ok)
           (growing_more old new d.funcs.now.items c.push.new.self.items (CanonLift t c.choose_index-core_func_index.result) refl
           c.in_ok-push.ensures.items));
-      front = front_same old new refl c.in_ok-add_function.ensures.ok.imports (λ m. m);
+      front = front_same old new refl c.in_ok-add_function.ensures.ok.imports;
       outer = ap outer_marked same;
       depth = ap length same;
     }
@@ -74,7 +74,7 @@ returns-clause-drafts c =
     let same = c.in_ok-func_ty.ensures.same in
     record {
       draft = λ around held. subst (λ scopes. CanonicalsState d.config.now around scopes d.component.now d.funcs.now.items) (sym same) held;
-      front = front_same d.component.now d.component.now refl refl (λ m. m);
+      front = front_same d.component.now d.component.now refl refl;
       outer = ap outer_marked same;
       depth = ap length same;
     }
