@@ -9,8 +9,8 @@ use crate::builder::tables::Tables;
 use crate::component::Section;
 use std::alloc::{AllocError, Global};
 
-// How many sections there is room for at first, in 952 bytes: few components have more, a list that grows is copied, and
-// where a block is to have more than 1,000 bytes, `malloc` may merge all that are free.
+// How many sections there is room for at first, in 952 bytes: few components have more, a list that grows is copied,
+// and where a block is to have more than 1,000 bytes, `malloc` may merge all that are free.
 const FIRST_SECTIONS: usize = 17;
 
 /// A component that is not finished yet, with how deep components nest in it, and what is kept beside its sections.

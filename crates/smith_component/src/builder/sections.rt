@@ -25,8 +25,8 @@ use std::alloc::AllocError;
 use std::rc::Rc;
 
 impl Progress {
-    // A section without types, functions and imports is added to the inner component. It is inlined, so that the section
-    // is made where it stays.
+    // A section without types, functions and imports is added to the inner component. It is inlined, so that the
+    // section is made where it stays.
     #[inline(always)]
     fn add_section(&mut self, section: Section) -> Result<(), AllocError>
         requires sound { IsSound self.old }
