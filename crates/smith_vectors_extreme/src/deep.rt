@@ -20,10 +20,10 @@ enum Large {
     Types,
     // 999 components, each in the one before.
     Components,
-    // Modules and components, at each depth. Modules that may have neither types nor memories read nothing. A
-    // component in which others nest deep is measured once, when it is finished, and not again at each level of nesting:
-    // a measure at each depth would make this take some 300 times as long. 1 MiB of such input took 42 times longer at a depth of 1000 than at
-    // a depth of 2.
+    // Modules and components, at each depth. Modules that may have neither types nor memories read nothing. A component
+    // in which others nest deep is measured once, when it is finished, and not again at each level of nesting: a measure
+    // at each depth would make this take some 300 times as long. 1 MiB of such input took 42 times longer at a depth of
+    // 1000 than at a depth of 2.
     Depths,
     // A component type without declarations is read from 01 02 00: more, component, no declaration. Each further one is
     // more, component, more, alias (0 of alias, core type) among the types of the one scope that has some, the last of
