@@ -5,8 +5,6 @@ use Rattle.smith_syntax.specs.Entries.{Signature}
 use Rattle.smith_syntax.specs.Flat.{is_scalar}
 use Rattle.smith_syntax.specs.Scope.{Scope}
 use Rattle.smith_input.specs.Names.{Holds}
-use Rattle.smith_format.specs.Writing.{IsLengthOf}
-use Rattle.smith_tree.specs.Grammar.{component_text}
 use Rattle.smith_types.specs.MakingTypes.{HoldsExterns}
 use Rattle.smith_tree.specs.Offers.{is_scalar_type, scalar_functions}
 use Rattle.smith_component.specs.SectionValues.{externs_of}

@@ -11,7 +11,9 @@ returns-in_err-put_core_val c =
     c.loop-ty-test.true (get_or_default _ _ _ _ c.loop-ty-test.true) (c.in_err-put_core_val.ensures {u = tt})
 
 pub loop-ty-preserved : goal.loop-ty-preserved
-loop-ty-preserved c = put_next _ _ _ _ _ _ _ c.loop-ty.invariant c.loop-ty-test.true (get_or_default _ _ _ _ c.loop-ty-test.true) (c.in_ok-put_core_val.ensures {u = tt})
+loop-ty-preserved c =
+    put_next _ _ _ _ _ _ _ c.loop-ty.invariant c.loop-ty-test.true (get_or_default _ _ _ _ c.loop-ty-test.true)
+    (c.in_ok-put_core_val.ensures {u = tt})
 
 pub returns : goal.returns
 returns c = loop_done _ _ _ ((c.in_ok-write_count.ensures {u = tt}).written) c.loop-ty.invariant c.loop-ty-test.false

@@ -118,8 +118,8 @@ scoped::declare-returns-in_ok-push-in-Component-clause-made t c = λ s own held.
     let k = c.in_ok-def-in-Component.ensures {u = tt} in
     let h = subst (λ (d : TypeBody). HoldsNames d s) c.in-Component.is held in
     let P : TypeBody → Type 0 = λ d. AddsDeclaration c.args.making.now.config.now c.args.scopes.now c.component_declaration.new.scopes s d
-    (Component record { imports = c.component_declaration.new.imports; exports = c.component_declaration.new.exports; defs = c.push.new.self }) c.args.u.now c.args.fuel.now
-    c.component_declaration.new.u c.component_declaration.new.fuel in
+    (Component record { imports = c.component_declaration.new.imports; exports = c.component_declaration.new.exports; defs = c.push.new.self })
+    c.args.u.now c.args.fuel.now c.component_declaration.new.u c.component_declaration.new.fuel in
     subst P (sym c.in-Component.is)
     (adds_to_component _ _ _ s c.in-Component.body _ c.in_ok-def-in-Component.def _ _ _ _ own (k.made s.imports s.exports h.0 h.1) k.declares
     (k.imports s.imports h.0) (k.exports s.exports h.1) (c.in_ok-push-in-Component.ensures {u = tt}).items)
@@ -129,7 +129,8 @@ scoped::declare-returns-in_ok-push-in-Instance-clause-made t c = λ s own held.
     let k = c.in_ok-decl-in-Instance.ensures {u = tt} in
     let h = subst (λ (d : TypeBody). HoldsNames d s) c.in-Instance.is held in
     let P : TypeBody → Type 0 = λ d. AddsDeclaration c.args.making.now.config.now c.args.scopes.now c.declaration.new.scopes s d
-    (Instance record { exports = c.declaration.new.exports; defs = c.push-in-Instance.new.self }) c.args.u.now c.args.fuel.now c.declaration.new.u c.declaration.new.fuel in
+    (Instance record { exports = c.declaration.new.exports; defs = c.push-in-Instance.new.self })
+    c.args.u.now c.args.fuel.now c.declaration.new.u c.declaration.new.fuel in
     subst P (sym c.in-Instance.is)
     (adds_to_instance _ _ _ s c.in-Instance.body _ c.in_ok-decl-in-Instance.decl _ _ _ _ own (k.made false s.exports s.imports _ h (in_instance refl))
     k.declares (k.names s.exports h) (c.in_ok-push-in-Instance.ensures {u = tt}).items)
