@@ -3,9 +3,10 @@
 //! what it writes.
 #![tactic(auto, using(crate::proofs::Steps::writing, crate::proofs::Sizes::measuring))]
 
-ghost use Rattle.std.specs.Prelude.{◌≡◌, ◌≤◌};
-ghost use Rattle.smith_format.specs.CoreTypes.{core_val, number_code, ref_val, core_function};
-ghost use Rattle.smith_format.specs.Piece.{many};
+ghost use Rattle.std.specs.Prelude.{◌≡◌, ◌≢◌, ◌≤◌};
+ghost use Rattle.smith_format.specs.CoreTypes.{core_val, ref_val, core_function};
+ghost use Rattle.smith_format.specs.Piece.{byte, many};
+ghost use Rattle.smith_format.specs.declared.types.ValType.TheVariants.{Ref};
 ghost use Rattle.smith_format.specs.Shown.{shown_func};
 ghost use Rattle.smith_format.specs.Writing.{Puts, Appends, Takes, IsLengthOf};
 
@@ -39,11 +40,12 @@ pub(crate) fn ref_len(ty: RefType) -> u32
     }
 }
 
-// The code of a value type that is no reference, and else 0. It is not inlined, so that it becomes a table: where each
-// type is a jump of its own, no processor can foresee them.
+// The code of a number type or of the vector type. It is not inlined, so that it becomes a table: a jump for each type
+// could not be foreseen.
 #[inline(never)]
 fn number_code(ty: ValType) -> u8
-    ensures { result ≡ number_code ty }
+    requires { (r : RefType) → ty ≢ Ref r }
+    ensures { core_val ty ≡ byte result }
 {
     match ty {
         ValType::I32 => 0x7f,
@@ -51,7 +53,7 @@ fn number_code(ty: ValType) -> u8
         ValType::F32 => 0x7d,
         ValType::F64 => 0x7c,
         ValType::V128 => 0x7b,
-        ValType::Ref(_) => 0,
+        ValType::Ref(_) => unreachable!(),
     }
 }
 
