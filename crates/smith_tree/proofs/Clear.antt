@@ -1,5 +1,5 @@
 -- No bytes have two readings.
-use Rattle.std.proofs.Common.{◌≡◌, ℕ, List, [], ◌∷◌, refl, ap, sym, ◌∙◌, arith, Some, None, Bool, true, false, cond, nat_eq}
+use Rattle.std.proofs.Common.{◌≡◌, ℕ, List, [], ◌∷◌, refl, ap, sym, ◌∙◌, arith, Some, None, Bool, true, false, cond, nat_eq, ◌↔◌, subst}
 use Rattle.std.specs.List.{starts_with}
 use Rattle.smith_format.specs.Clear.{Agree, IsClear, IsExact}
 use Rattle.smith_core.specs.Preamble.{core_preamble}
@@ -133,3 +133,7 @@ mutual
 
 pub spells_law : (t r : Tree) (b : List ℕ) → Spells t b → Spells r b → t ≡ r
 spells_law t r b e h = let x = tail preamble (parts t) (parts r) b e h in parts_law t r x.rest x.first x.second
+
+-- the bytes of a component are read as that alone
+pub spells_only : (c : Tree) (b : List ℕ) → Spells c b → (t : Tree) → Spells t b ↔ (t ≡ c)
+spells_only c b e t = (λ h. spells_law t c b h e, λ h. let P : Tree → Type 0 = λ x. Spells x b in subst P (sym h) e)
