@@ -203,6 +203,27 @@ fn nested_components_are_written_in_linear_time_and_dropped(rt: HostRuntime) -> 
     Ok(())
 }
 
+// How many components are each in the one before, and how what is printed of the outermost ends. Its bytes are the eight
+// of the preamble and those of a section: its id, the length of the next component, in one byte up to 127 and then in
+// two, and that component.
+const KEPT: [(u32, &str); 2] = [
+    (15, "height: 15, length: None }"),
+    (16, "height: 16, length: Some(172) }"),
+];
+
+// No contract sees the length that a component keeps, only what is printed for debugging shows it.
+#[test]
+fn components_in_which_others_nest_deep_keep_their_length(rt: HostRuntime) -> Result<(), Fail> {
+    for (depth, end) in KEPT {
+        let input = repeated(rt.alloc(), b"", b"\x07", depth)?;
+        let mut u = Unstructured::new(&input);
+        let generated = generate(rt.alloc(), Large::Components.limits(), &mut u)?;
+        let printed = format!(in rt.alloc(); "{:?}", generated.component)?;
+        check_holds(&rt, end, printed.ends_with(end));
+    }
+    Ok(())
+}
+
 #[test]
 fn types_that_name_the_one_before_are_written_and_dropped(rt: HostRuntime) -> Result<(), Fail> {
     assert_eq!(rt; TYPES + 3, 883_484);
