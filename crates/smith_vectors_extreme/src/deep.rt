@@ -21,9 +21,9 @@ enum Large {
     // 999 components, each in the one before.
     Components,
     // Modules and components, at each depth. Modules that may have neither types nor memories read nothing. A component
-    // in which others nest deep is measured once, when it is finished, and not again at each level of nesting: a measure
-    // at each depth would make this take some 300 times as long. 1 MiB of such input took 42 times longer at a depth of
-    // 1000 than at a depth of 2.
+    // in which others nest deep is measured once, when it is finished, and not again at each level of nesting: a
+    // measure at each depth would make this take some 300 times as long. 1 MiB of such input took 42 times longer at a
+    // depth of 1000 than at a depth of 2.
     Depths,
     // A component type without declarations is read from 01 02 00: more, component, no declaration. Each further one is
     // more, component, more, alias (0 of alias, core type) among the types of the one scope that has some, the last of
@@ -203,9 +203,9 @@ fn nested_components_are_written_in_linear_time_and_dropped(rt: HostRuntime) -> 
     Ok(())
 }
 
-// How many components are each in the one before, and how what is printed of the outermost ends. Its bytes are the eight
-// of the preamble and those of a section: its id, the length of the next component, in one byte up to 127 and then in
-// two, and that component.
+// How many components are each in the one before, and how what is printed of the outermost ends. Its bytes are the
+// eight of the preamble and those of a section: its id, the length of the next component, in one byte up to 127 and
+// then in two, and that component.
 const KEPT: [(u32, &str); 2] = [
     (15, "height: 15, length: None }"),
     (16, "height: 16, length: Some(172) }"),
