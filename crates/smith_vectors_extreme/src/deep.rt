@@ -203,15 +203,15 @@ fn nested_components_are_written_in_linear_time_and_dropped(rt: HostRuntime) -> 
     Ok(())
 }
 
-// How many components are each in the one before, and how what is printed of the outermost ends. Its bytes are the
-// eight of the preamble and those of a section: its id, the length of the next component, in one byte up to 127 and
-// then in two, and that component.
+// How many components nest, each in the one before, and how the debug output of the outermost one ends. A component has
+// the eight bytes of the preamble and a section: its id, the length of the nested component, in one byte up to 127 and
+// in two above, and that component.
 const KEPT: [(u32, &str); 2] = [
     (15, "height: 15, length: None }"),
     (16, "height: 16, length: Some(172) }"),
 ];
 
-// No contract sees the length that a component keeps, only what is printed for debugging shows it.
+// No contract sees the length that a component keeps: only its debug output shows it.
 #[test]
 fn components_in_which_others_nest_deep_keep_their_length(rt: HostRuntime) -> Result<(), Fail> {
     for (depth, end) in KEPT {
