@@ -66,6 +66,7 @@ pub(crate) fn tag_type_at(own: &[Rc<FuncType>], rank: usize) -> u32
 }
 
 // Declares a function type.
+#[inline(always)]
 pub(crate) fn declare(declared: &mut Declared, ty: Rc<FuncType>) -> Result<(), Error>
     ensures own { IfOk result (λ _. shown_funcs declared.new.own.items
         ≡ shown_funcs declared.old.own.items ++ shown_func ty.value ∷ []) }

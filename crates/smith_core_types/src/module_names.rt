@@ -46,6 +46,7 @@ fn exported_name(def: &ModuleTypeDef) -> Option<&str>
 }
 
 // The name of an import from that module, or that of an export.
+#[inline(always)]
 fn taken_name<'a>(def: &'a ModuleTypeDef, imported: bool, from: &str) -> Option<&'a str>
     ensures { MatchOption result
         (names_taken imported from.now (shown_decl def.now ∷ []) ≡ [])

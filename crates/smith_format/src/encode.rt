@@ -16,6 +16,7 @@ use crate::numbers::{type_index_len, write_count, write_type_index};
 use crate::types::{FuncType, RefType, ValType};
 use smith_input::Error;
 
+#[inline(always)]
 pub(crate) fn put_ref(out: &mut Vec<u8>, ty: RefType) -> Result<(), Error>
     ensures { Puts result out.old out.new (ref_val ty) }
 {
@@ -119,6 +120,7 @@ impl Spelled<CoreFormat> for FuncType {
         put_values(out, &self.results)
     }
 
+    #[inline(always)]
     fn spelled_len(&self) -> Option<u32> {
         let params = many_len(&self.params)?.checked_add(1)?;
         params.checked_add(many_len(&self.results)?)

@@ -42,6 +42,7 @@ fn maximum_len(most: Option<u64>) -> u32
     }
 }
 
+#[inline(always)]
 fn put_limits(
     out: &mut Vec<u8>,
     shared: bool,
@@ -92,6 +93,7 @@ impl Spelled<CoreFormat> for MemoryType {
 impl Spelled<CoreFormat> for GlobalType {
     ghost piece = { λ t. global_type t };
 
+    #[inline(always)]
     fn put(&self, out: &mut Vec<u8>) -> Result<(), Error> {
         put_core_val(out, self.val_type)?;
         write_byte(out, bit_of(self.mutable, 1))

@@ -10,6 +10,7 @@ use crate::numbers::{count_len, write_count};
 use smith_input::Error;
 
 /// Puts a list at the end of a buffer. After an error, part of it may be there. Public only for the crates above.
+#[inline(always)]
 pub fn put_many<Format, T: Spelled<Format>>(out: &mut Vec<u8>, items: &[T]) -> Result<(), Error>
     ensures { Puts result out.old out.new (many T.piece items.now) }
 {
@@ -33,6 +34,7 @@ pub fn many_len<Format, T: Spelled<Format>>(items: &[T]) -> Option<u32>
 }
 
 /// Puts a list after the byte that says what it is. Public only for the crates above.
+#[inline(always)]
 pub fn put_tagged<Format, T: Spelled<Format>>(
     out: &mut Vec<u8>,
     tag: u8,

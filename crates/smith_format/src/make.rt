@@ -18,6 +18,7 @@ use std::alloc::Global;
 static ELEMENT_TYPES: [RefType; 2] = [RefType::FuncRef, RefType::ExternRef];
 
 // A minimum, and a maximum or none.
+#[inline(always)]
 fn limits(u: &mut Unstructured) -> (u64, Option<u64>)
     ensures reads { ReadsLimits u.old result.0 result.1 u.new }
     ensures tail { IsTail u.new u.old }
@@ -85,6 +86,7 @@ pub fn arbitrary_tag_type(u: &mut Unstructured, candidates: &[u32]) -> TagType
 }
 
 // At most that many value types.
+#[inline(always)]
 fn values(
     alloc: Global,
     u: &mut Unstructured,
@@ -132,6 +134,7 @@ pub fn arbitrary_func_type(
 
 /// A function type of the configured value types, with as many results as the limits allow at most. It fails only when
 /// out of memory. Public only for the crates above.
+#[inline(always)]
 pub fn configured_func_type(
     alloc: Global,
     u: &mut Unstructured,

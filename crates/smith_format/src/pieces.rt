@@ -26,6 +26,7 @@ pub fn raw_len(contents: &[u8]) -> Option<u32>
     u32::try_from(contents.len()).ok()
 }
 
+#[inline(always)]
 fn put_text(out: &mut Vec<u8>, name: &str) -> Result<(), Error>
     ensures { Puts result out.old out.new (text name.now) }
 {

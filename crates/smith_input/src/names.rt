@@ -180,6 +180,7 @@ pub fn new_string<N: TakenNames>(
 
 /// A name in kebab case that is none of the names: one is read and made unique as by `unique_kebab_string`. The only
 /// error is `OutOfMemory`. Public only for the crates above.
+#[inline(always)]
 pub fn new_kebab_string<N: TakenNames>(
     alloc: Global,
     max: usize,
@@ -218,6 +219,7 @@ pub fn unique_string(
 /// read, with one more `a` at its end where a word is missing there, and while the set has it, the decimal digits of
 /// the set's size are appended. So it may be longer than `max`. The only error is `OutOfMemory`, and the set is then as
 /// before.
+#[inline(always)]
 pub fn unique_kebab_string(
     alloc: Global,
     max: usize,

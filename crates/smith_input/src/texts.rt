@@ -37,6 +37,7 @@ fn longest_text(bytes: &[u8]) -> &str
 
 /// A text of at most `max` bytes: a length, cut to the number of bytes left, and the longest prefix of that many next
 /// bytes that is UTF-8. The rest of them stays unread. The only error is `OutOfMemory`.
+#[inline(always)]
 pub fn limited_string(alloc: Global, max: usize, u: &mut Unstructured) -> Result<String, Error>
     ensures read { IfOk result (λ text. ReadsText max u.old (string_bytes text) u.new) }
     ensures memory { IfErr result (λ e. e ≡ Error.OutOfMemory) }

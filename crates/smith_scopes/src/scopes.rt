@@ -111,6 +111,7 @@ impl Model for Scopes {
 }
 
 impl Drop for Scope {
+    #[inline(always)]
     fn drop(self) {
         let Scope {
             types,
@@ -159,6 +160,7 @@ impl Scope {
     }
 
     // Adds a type at the end. Each list has room before one of them grows.
+    #[inline(always)]
     fn push_type(&mut self, entry: Rc<DefType>) -> Result<u32, Error>
         requires { length self.old.types < max_u32 }
         ensures ok { OnOk result (self.new ≡ with_type self.old entry.value) }
@@ -179,6 +181,7 @@ impl Scope {
     }
 
     // Adds a core type at the end. Each list has room before one of them grows.
+    #[inline(always)]
     fn push_core_type(&mut self, entry: Rc<CoreType>) -> Result<u32, Error>
         requires { length self.old.core_types < max_u32 }
         ensures ok { OnOk result (self.new ≡ with_core_type self.old entry.value) }

@@ -102,6 +102,7 @@ impl Progress {
     }
 
     // A type section of at least that many types, and of at most as many as the component may still have.
+    #[inline(always)]
     pub(super) fn add_types(&mut self, min: usize, u: &mut Unstructured) -> Result<(), Error>
         requires sound { IsSound self.old }
         requires room { min ≤ self.old.config.max_types - length (types_of (stack_of self.old).inner) }

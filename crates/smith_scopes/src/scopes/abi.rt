@@ -29,6 +29,7 @@ pub struct CanonicalAbi {
 }
 
 // A function type of these parameters and results.
+#[inline(always)]
 fn function_of(
     alloc: Global,
     params: &[ValType],

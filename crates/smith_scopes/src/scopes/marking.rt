@@ -83,6 +83,7 @@ impl Scopes {
 
     /// The size of a core type that is declared in the last scope, where a core module is imported or exported: 0 for a
     /// function type, and where none is kept. It fails only when out of memory.
+    #[inline(always)]
     pub fn core_size_of(&self, entry: &CoreType) -> Result<u32, AllocError>
         ensures { (last_of self.now).keeps ≡ true
             → IfOk result (λ n. n ≡ capped

@@ -32,6 +32,7 @@ fn core_decl_len(ty: &CoreType) -> Option<u32>
 }
 
 // An outer alias after the bytes that say what it is of.
+#[inline(always)]
 fn put_outer(out: &mut Vec<u8>, head: &[u8], count: u32, i: u32) -> Result<(), Error>
     ensures { Puts result out.old out.new (bytes head.now ⊕ u count ⊕ u i) }
 {

@@ -33,6 +33,7 @@ pub(super) fn code(primitive: PrimitiveValType) -> u8
     }
 }
 
+#[inline(always)]
 pub(super) fn put_val(out: &mut Vec<u8>, ty: ComponentValType) -> Result<(), Error>
     ensures { Puts result out.old out.new (valtype ty) }
 {

@@ -87,6 +87,7 @@ fn may_nest(config: &Config, scopes: &Scopes) -> bool
 }
 
 // What sort of declaration is read.
+#[inline(always)]
 pub(super) fn declaration_item(
     u: &mut Unstructured,
     config: &Config,
@@ -130,6 +131,7 @@ pub(super) fn import(
 }
 
 // What an export adds to the last scope: the type that it is equal to is there once more.
+#[inline(always)]
 fn add_exported(scopes: &mut Scopes, ty: ComponentTypeRef) -> Result<(), Error>
     requires formed { FormedRef (scope_in (own_marked scopes.old)) ty }
     requires room { length (own_marked scopes.old).types ≤ 100 }

@@ -48,6 +48,7 @@ fn type_decl(
 
 // A declaration of a sort.
 #[cycle(making)]
+#[inline(always)]
 fn declaration_of(
     making: &Making,
     u: &mut Unstructured,

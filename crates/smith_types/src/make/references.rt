@@ -162,6 +162,7 @@ fn ref_kind(
 /// fewer types than `max_types`. An import of a component, for which `for_type_def` is false, needs its total to be
 /// below its limit: the totals are those so far. Where marks are kept, a type has to be small, what it is made of has
 /// to be named as far as is asked, and a component needs room for one more. It takes no memory.
+#[inline(always)]
 pub fn arbitrary_type_ref(
     u: &mut Unstructured,
     config: &Config,

@@ -21,6 +21,7 @@ pub(super) fn primitive_type(u: &mut Unstructured) -> PrimitiveValType
 }
 
 // A value type: primitive, or one of the defined types of the last scope that may be used.
+#[inline(always)]
 pub(super) fn value_type(u: &mut Unstructured, scopes: &Scopes) -> ComponentValType
     ensures reads { ReadsVal (own_marked scopes.now) u.old result u.new }
     ensures tail { IsTail u.new u.old }
