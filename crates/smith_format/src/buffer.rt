@@ -60,6 +60,7 @@ pub fn write_bytes(out: &mut Vec<u8>, contents: &[u8]) -> Result<(), Error>
 pub fn write_byte(out: &mut Vec<u8>, value: u8) -> Result<(), Error>
     ensures { Appends result out.old out.new (byte value) }
 {
-    out.push(value)?;
+    out.reserve(1)?;
+    out.push_reserved(value);
     Ok(())
 }

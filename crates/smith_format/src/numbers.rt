@@ -53,7 +53,11 @@ pub fn write_u64(out: &mut Vec<u8>, n: u64) -> Result<(), Error>
     if n < 128 {
         return write_byte(out, n as u8);
     }
-    write_long(out, n)
+    // A number has an encoding. The error is not passed on, so that the results of both ways stay in registers.
+    match write_long(out, n) {
+        Ok(()) => Ok(()),
+        Err(_) => Err(Error::OutOfMemory),
+    }
 }
 
 /// The length of an unsigned number.
@@ -143,6 +147,8 @@ pub fn s64_len(n: i64) -> u32
 }
 
 /// Appends an index where a value type may appear. Public only for the crates above.
+#[cold]
+#[inline(never)]
 pub fn write_type_index(out: &mut Vec<u8>, index: u32) -> Result<(), Error>
     ensures written { Appends result out.old out.new (s_index index) }
     ensures full { WantsMemoryFor result (s_index index) }

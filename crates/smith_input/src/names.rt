@@ -43,7 +43,8 @@ fn kebab_character(byte: u8, begins: bool) -> u8
     characters[usize::from(byte)]
 }
 
-// A name in kebab case.
+// A name in kebab case. It is not inlined, since it is called from several places.
+#[inline(never)]
 fn kebab_string(alloc: Global, max: usize, u: &mut Unstructured) -> Result<String, Error>
     ensures read { IfOk result (λ name. ReadsKebab max u.old (string_bytes name) u.new) }
     ensures memory { IfErr result (λ e. e ≡ Error.OutOfMemory) }

@@ -130,7 +130,9 @@ impl<'a> Unstructured<'a> {
         number
     }
 
-    // A choice among `last + 1`, which may exceed 64 bits.
+    // A choice among `last + 1`, which may exceed 64 bits. It is not inlined, so that the others stay small.
+    #[cold]
+    #[inline(never)]
     fn pick_wide(&mut self, last: u64) -> u64
         ensures { Reads (last + 1) self.old result self.new }
     {

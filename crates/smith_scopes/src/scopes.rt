@@ -37,6 +37,10 @@ use std::marker::Model;
 use std::mem;
 use std::rc::Rc;
 
+// How many types, and how many core types, a scope has room for once it has one: few have more, and a list that grows is
+// copied.
+const FIRST_TYPES: usize = 8;
+
 /// The kinds of entries that are counted and named by their rank.
 #[derive(Debug, Clone, Copy, PartialEq, Eq, Hash)]
 pub enum Kind {
@@ -169,7 +173,8 @@ impl Scope {
         ensures memory { IfErr result (λ e. e ≡ Error.OutOfMemory) }
     {
         let index = self.types.len() as u32;
-        self.types.reserve(1)?;
+        let more = FIRST_TYPES.saturating_sub(self.types.len()).max(1);
+        self.types.reserve(more)?;
         match &*entry {
             DefType::Defined(_) => self.defined.push(index)?,
             DefType::Func(_) => self.funcs.push(index)?,
@@ -190,7 +195,8 @@ impl Scope {
         ensures memory { IfErr result (λ e. e ≡ Error.OutOfMemory) }
     {
         let index = self.core_types.len() as u32;
-        self.core_types.reserve(1)?;
+        let more = FIRST_TYPES.saturating_sub(self.core_types.len()).max(1);
+        self.core_types.reserve(more)?;
         match &*entry {
             CoreType::Func(_) => self.core_funcs.push(index)?,
             CoreType::Module(_) => self.core_modules.push(index)?,

@@ -40,7 +40,8 @@ impl Progress {
         Ok(())
     }
 
-    // A custom section that is read.
+    // A custom section that is read. It is inlined, so that the section is made where it stays.
+    #[inline(always)]
     pub(crate) fn add_custom(&mut self, u: &mut Unstructured) -> Result<(), Error>
         requires sound { IsSound self.old }
         ensures does { OnOk result (DoesItem item.Custom self.old u.old self.new None u.new) }
@@ -102,7 +103,6 @@ impl Progress {
     }
 
     // A type section of at least that many types, and of at most as many as the component may still have.
-    #[inline(always)]
     pub(super) fn add_types(&mut self, min: usize, u: &mut Unstructured) -> Result<(), Error>
         requires sound { IsSound self.old }
         requires room { min ≤ self.old.config.max_types - length (types_of (stack_of self.old).inner) }

@@ -51,7 +51,9 @@ impl Kept {
         }
     }
 
-    // Adds a type at the end of the scope. Each list has room before one of them grows.
+    // Adds a type at the end of the scope. Each list has room before one of them grows. It is not inlined, so that a scope
+    // in which nothing is kept does without its code.
+    #[inline(never)]
     pub(super) fn push_type(
         &mut self,
         scope: &mut Scope,
@@ -79,6 +81,7 @@ impl Kept {
     }
 
     // Adds a core type at the end of the scope. Each list has room before one of them grows.
+    #[inline(never)]
     pub(super) fn push_core_type(
         &mut self,
         scope: &mut Scope,
