@@ -2,6 +2,7 @@
 
 use smith_component::{Config, Error};
 use std::process::Abort;
+use std::test::Fail;
 
 /// The first eight bytes of each component.
 pub const PREAMBLE: &[u8] = &[0x00, 0x61, 0x73, 0x6d, 0x0d, 0x00, 0x01, 0x00];
@@ -39,4 +40,9 @@ pub fn check_holds<R: Abort>(rt: &R, name: &str, holds: bool) {
 /// What has this name was refused because memory ran out.
 pub fn check_out_of_memory<R: Abort>(rt: &R, name: &str, error: Error) {
     assert_eq!(rt; error, Error::OutOfMemory, "{name}");
+}
+
+/// What has this name fails, though there was much memory.
+pub fn is_never_enough<R: Abort>(rt: &R, name: &str) -> Result<(), Fail> {
+    panic!(rt; "{name}: there is never enough memory")
 }

@@ -20,4 +20,6 @@ mod programs;
 #[cfg(test)]
 mod refused_growth;
 #[cfg(test)]
+mod refused_writing;
+#[cfg(test)]
 mod scarcity;
