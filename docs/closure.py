@@ -3,8 +3,9 @@
 It starts from the clauses of `generate` in crates/smith_component/src/generation.rt, and of the view of a component, and follows
 the imports of the definitions that they cite. It checks that the first three groups are in the specs/ folders of crates that have no
 builder and no maker of types, except for the view itself, that these folders import nothing else, and that each definition that the
-contract cites is in a group. Then it prints what the clauses on runs and refusals add, which know the builder, and the files of the
-program whose types the definitions speak of. It exits with 1 where a check fails.
+contract cites is in a group. It prints which of them are left to a reader who leaves `must_validate` off, as by default: the laws of
+smith_marks say what the files of marks come to then. Then it prints what the clauses on runs and refusals add, which know the builder,
+and the files of the program whose types the definitions speak of. It exits with 1 where a check fails.
 
 Run it at the top of the repository: python3 docs/closure.py
 """
@@ -15,7 +16,7 @@ import sys
 
 CRATES = "crates"
 CONTRACT = "smith_component/src/generation.rt"
-BELOW_THE_MAKERS = {"smith_input", "smith_format", "smith_core", "smith_syntax", "smith_tree", "smith_validity"}
+BELOW_THE_MAKERS = {"smith_input", "smith_format", "smith_core", "smith_syntax", "smith_tree", "smith_validity", "smith_marks"}
 VIEW = "smith_component/specs/Shown.antt"
 HEADLINE = [
     ("One reading, well formed, within the limits", ["smith_tree/specs/Generates.antt", VIEW]),
@@ -25,6 +26,16 @@ HEADLINE = [
     ),
     ("What validates", ["smith_validity/specs/Validates.antt"]),
 ]
+MARKS = {
+    "smith_syntax/specs/Marked.antt",
+    "smith_syntax/specs/Marks.antt",
+    "smith_syntax/specs/Members.antt",
+    "smith_syntax/specs/Sizes.antt",
+    "smith_syntax/specs/Usable.antt",
+    "smith_tree/specs/Marking.antt",
+    "smith_tree/specs/Offered.antt",
+}
+UNMARKED = "smith_marks/specs/Unmarked.antt"
 BUILDER = ("Runs and refusals", ["smith_component/specs/Runs.antt", "smith_component/specs/Refusals.antt"])
 IMPORT = re.compile(r"\s*(?:pub |ghost )?use Rattle\.(\w+)\.(specs|proofs)\.([\w.]+?)(?:\.\{.*| as .*)?;?$")
 
@@ -52,12 +63,12 @@ def source_of(crate, module):
     return None
 
 
-def closure(starts):
-    """These files, and all that they import."""
+def closure(starts, unread=frozenset()):
+    """These files, and all that they import, apart from those that stay unread."""
     seen, left = set(), list(starts)
     while left:
         path = left.pop()
-        if path not in seen:
+        if path not in seen and path not in unread:
             seen.add(path)
             left += [imported for _, imported, _ in imports(path) if imported]
     return seen
@@ -74,6 +85,17 @@ def print_files(title, files):
         print(f"  {lines(path):4} {path}")
 
 
+def print_defaults():
+    """What is left where nothing is kept for a validator."""
+    starts = [path for title, paths in HEADLINE[:2] for path in paths]
+    left = closure(starts + [UNMARKED], MARKS)
+    unread = closure([path for _, paths in HEADLINE for path in paths]) - left
+    print(f"By default, without must_validate: {sum(map(lines, left))} of these lines, without {sum(map(lines, unread))} of these files")
+    for path in sorted(unread):
+        print(f"  {lines(path):4} {path}")
+    print(f"and with {lines(UNMARKED)} {UNMARKED}, of which the laws of smith_marks speak")
+
+
 def faults(files):
     """The imports that reach beyond the crates below the makers."""
     for path in sorted(files):
@@ -88,6 +110,7 @@ def main():
         files = closure(starts) - printed
         print_files(title, files)
         printed |= files
+    print_defaults()
     headline = set(printed)
     print_files(BUILDER[0], closure(BUILDER[1]) - printed)
     printed |= closure(BUILDER[1])

@@ -106,7 +106,7 @@ enum LupinanonStatus {
     LUPINANON_MINIMUM_NOT_MET = 2,     /* no more imports or functions of a minimum can be added */
     LUPINANON_MODULE_REFUSED = 3,      /* a core module is chosen, and min_memories passes max_memories */
     LUPINANON_TOO_LONG = 4,            /* a length or a count in the bytes would pass 4,294,967,295 */
-    LUPINANON_OUT_OF_MEMORY = 5,       /* malloc or realloc returned NULL */
+    LUPINANON_OUT_OF_MEMORY = 5,       /* malloc or realloc returned NULL, or an index of an edit exceeds 32 bits */
     LUPINANON_PARTS_DISAGREE = 6,      /* no call of this library returns it */
     LUPINANON_NO_ROOM = 7,             /* the output is too short; *bytes_len or *script_len, or the like, is how
                                         * long it has to be */
@@ -181,7 +181,7 @@ int32_t lupinanon_generate(const LupinanonLimits *limits, const uint8_t *input, 
  *
  * LUPINANON_WELL_FORMED: they are.
  * LUPINANON_ILL_FORMED: they are a component that breaks a rule. *offset is where the entry of a section begins that
- * breaks it, or LUPINANON_NO_OFFSET.
+ * breaks it: what precedes the entry is well formed, and what ends with it is not.
  * LUPINANON_UNREAD: they are no component of the grammar, or one whose scopes are nested more than 1001 deep. *offset
  * is where that was seen, at most `bytes_len`.
  * LUPINANON_OUT_OF_MEMORY, LUPINANON_BAD_ARGUMENT: nothing is known. *offset is then LUPINANON_NO_OFFSET, as of a

@@ -5,7 +5,8 @@ use Rattle.smith_format.specs.declared.config.Config.{Config}
 use Rattle.smith_input.specs.declared.error.Error.TheVariants.{InconsistentLimits, MinimumNotMet, ModuleRefused, TooLong, OutOfMemory, PartsDisagree}
 use Rattle.smith_tree.specs.Grammar.{Spells, component_text}
 use Rattle.smith_tree.specs.Tree.{Tree}
-use Rattle.smith_reduce.specs.Bytes.{AreJoined, AreUnread, IsWithout}
+use Rattle.smith_read.specs.Reads.{AreUnread}
+use Rattle.smith_reduce.specs.Bytes.{AreJoined, IsWithout}
 use Rattle.smith_reduce.specs.Smaller.{HasScript, IsKth, IsNext}
 use Rattle.smith_reduce.specs.declared.error.JoinError.{JoinError}
 use Rattle.smith_reduce.specs.declared.error.JoinError.TheVariants as join_error

@@ -1,10 +1,12 @@
 -- The script of the component that bytes are, and why there is none.
-use Rattle.std.specs.Prelude.{◌≡◌, ◌≢◌, ℕ, List, Some, None}
+use Rattle.std.specs.Prelude.{◌≡◌, ◌≢◌, ◌≤◌, ℕ, List, Some, None, length}
 use Rattle.smith_format.specs.Consistency.{IsConsistent}
 use Rattle.smith_format.specs.declared.config.Config.{Config}
 use Rattle.smith_input.specs.declared.error.Error.TheVariants.{InconsistentLimits, MinimumNotMet, ModuleRefused, TooLong, OutOfMemory, PartsDisagree}
 use Rattle.smith_tree.specs.Grammar.{Spells}
 use Rattle.smith_tree.specs.Tree.{Tree}
+use Rattle.smith_tree.specs.WellFormed.{WellFormed}
+use Rattle.smith_read.specs.Reads.{AreRead, AreUnread}
 use Rattle.smith_script.specs.IsScript.{CannotBeGenerated, IsScript}
 use Rattle.smith_script.specs.declared.error.ScriptError.{ScriptError}
 use Rattle.smith_script.specs.declared.error.ScriptError.TheVariants as refusal
@@ -28,21 +30,22 @@ pub record HasNoScript (limits : Limits) (bytes : List ℕ) : Type 0 where
   pub told : limits ≡ limits_of config
   pub none : IsConsistent config → (component : Tree) → Spells component bytes → CannotBeGenerated config component
 
--- No script is returned: there is none, or no memory for it, or the limits are those of no configuration that fits together.
-abbrev pub Withholds : Limits → List ℕ → Status → Type 0
-Withholds limits bytes Answered = ⊥
-Withholds limits bytes (Refused InconsistentLimits) = (config : Config) × (limits ≡ limits_of config) × (¬ IsConsistent config)
-Withholds limits bytes (Refused MinimumNotMet) = ⊥
-Withholds limits bytes (Refused ModuleRefused) = ⊥
-Withholds limits bytes (Refused TooLong) = ⊥
-Withholds limits bytes (Refused OutOfMemory) = (config : Config) × (limits ≡ limits_of config)
-Withholds limits bytes (Refused PartsDisagree) = ⊥
-Withholds limits bytes NoRoom = ⊥
-Withholds limits bytes BadFlag = (config : Config) → limits ≢ limits_of config
-Withholds limits bytes IllFormed = HasNoScript limits bytes
-Withholds limits bytes Unread = HasNoScript limits bytes
-Withholds limits bytes NoScript = HasNoScript limits bytes
-Withholds limits bytes NoSmaller = ⊥
+-- No script is returned: the bytes are not read, or are a component that is not well formed, or one that is and has none; or there is no
+-- memory for it, or the limits are those of no configuration that fits together. The offset is written with it.
+abbrev pub Withholds : Limits → List ℕ → Status → ℕ → Type 0
+Withholds limits bytes Answered offset = ⊥
+Withholds limits bytes (Refused InconsistentLimits) offset = (config : Config) × (limits ≡ limits_of config) × (¬ IsConsistent config)
+Withholds limits bytes (Refused MinimumNotMet) offset = ⊥
+Withholds limits bytes (Refused ModuleRefused) offset = ⊥
+Withholds limits bytes (Refused TooLong) offset = ⊥
+Withholds limits bytes (Refused OutOfMemory) offset = (config : Config) × (limits ≡ limits_of config)
+Withholds limits bytes (Refused PartsDisagree) offset = ⊥
+Withholds limits bytes NoRoom offset = ⊥
+Withholds limits bytes BadFlag offset = (config : Config) → limits ≢ limits_of config
+Withholds limits bytes IllFormed offset = HasNoScript limits bytes × AreRead bytes (λ t. ¬ WellFormed t)
+Withholds limits bytes Unread offset = HasNoScript limits bytes × AreUnread bytes offset
+Withholds limits bytes NoScript offset = HasNoScript limits bytes × AreRead bytes WellFormed × (offset ≢ no_offset → offset ≤ length bytes)
+Withholds limits bytes NoSmaller offset = ⊥
 
 -- the status that a refusal of `script` becomes
 abbrev pub status_of : ScriptError → Status

@@ -47,7 +47,7 @@ fn refusal_of(error: &ScriptError) -> Refusal
 // The script of the component that the bytes are, within the limits.
 fn scripted(alloc: Global, limits: &Limits, bytes: &[u8]) -> Result<Vec<u8>, Refusal>
     ensures scripts { IfOk result (λ b. Scripts limits.now bytes.now b.items) }
-    ensures withholds { IfErr result (λ r. Withholds limits.now bytes.now r.status) }
+    ensures withholds { IfErr result (λ r. Withholds limits.now bytes.now r.status r.offset) }
     ensures offset { IfErr result (λ r. r.status ≢ Unread → r.status ≢ NoScript → r.offset ≡ no_offset) }
     ensures limits { (config : Config) → limits.now ≡ limits_of config → ¬ IsConsistent config
         → IfOk result (λ _. ⊥) × IfErr result (λ r. r.status ≡ Refused InconsistentLimits) }
@@ -88,7 +88,7 @@ pub extern "C" fn lupinanon_proved_script_into(
     ensures no_room { result ≡ code_of NoRoom → (length output.old < script_len.new)
         × (script : List ℕ) × (script_len.new ≡ length script) × Scripts limits.now bytes.now script }
     ensures stopped { result ≢ code_of Answered → result ≢ code_of NoRoom → (script_len.new ≡ 0)
-        × (status : Status) × (result ≡ code_of status) × Withholds limits.now bytes.now status }
+        × (status : Status) × (result ≡ code_of status) × Withholds limits.now bytes.now status offset.new }
     ensures kept { result ≢ code_of Answered → output.new ≡ output.old }
     ensures offset { result ≢ code_of Unread → result ≢ code_of NoScript → offset.new ≡ no_offset }
 

@@ -8,3 +8,6 @@ pub mod NewNames
 pub mod PartSteps
 pub mod SectionSteps
 pub mod TypeSteps
+pub mod Fronts
+pub mod Named
+pub mod PlaceSteps

@@ -36,7 +36,7 @@ add_tree (q ∷ ps) p = ap (first q) (add_tree ps p)
 abbrev spaces_by : Scope → List ℕ → List ℕ → Spaces
 spaces_by own fs cs = record { types = own.types; core_types = own.core_types; functions = fs; core_functions = cs }
 
-spaces_known : (before : Tree) (own : Scope) (o : Open) → IsAfter before own o → spaces_in own o ≡ spaces_of before
+pub spaces_known : (before : Tree) (own : Scope) (o : Open) → IsAfter before own o → spaces_in own o ≡ spaces_of before
 spaces_known before own o k =
     ap (λ s. spaces_by s o.functions.items o.core_functions.items) k.scope
     ∙ ap (λ fs. spaces_by (scope_of before) fs o.core_functions.items) k.functions

@@ -84,7 +84,8 @@ pub struct Place {
     pub entry: usize,
 }
 
-/// Why a component is not well formed: the first rule that it breaks, and where.
+/// Why a component is not well formed: the first rule that it breaks, and the place of the entry that breaks it. Which
+/// rule it is, no contract says.
 #[derive(Debug, PartialEq, Eq, Drop)]
 pub struct Fault {
     pub place: Place,

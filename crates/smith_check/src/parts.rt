@@ -3,12 +3,13 @@
 ghost use Rattle.std.specs.Prelude.{◌≡◌, map, IfOk, OnOk};
 ghost use Rattle.smith_syntax.specs.Scope.{empty_scope};
 ghost use Rattle.smith_tree.specs.Tree.{Tree, add, ends, tree_of};
-ghost use Rattle.smith_tree.specs.WellFormed.{Formed, FormedPart, WellFormed};
+ghost use Rattle.smith_tree.specs.WellFormed.{Formed, FormedPart};
 ghost use Rattle.smith_read.specs.PartNodes.{shown_part_node, shown_tree};
 ghost use Rattle.smith_check.specs.Judgement.{Agrees};
 ghost use Rattle.smith_check.specs.Judges.{Judges};
 ghost use Rattle.smith_read_scopes.specs.Scopes.{outer_in, own_in};
 ghost use Rattle.smith_check.specs.Preceding.{IsAfter};
+ghost use Rattle.smith_check.specs.Tracks.{IsIn, IsWithin, OnStop, path_of};
 
 use crate::error::{Checked, Fault, Judgement, Stop};
 use crate::open::Open;
@@ -27,11 +28,15 @@ fn check_part<'a>(
     here: &mut Open<'a>,
     part: &'a PartNode,
 ) -> Checked
+    requires { track.old.place.entry ≡ 0 }
     ensures judged { (before : Tree) → IsAfter before (own_in scopes.old) here.old
         → Judges result (FormedPart (shown_part_node part.now) (outer_in scopes.old) before) }
     ensures added { (before : Tree) → IsAfter before (own_in scopes.old) here.old
         → OnOk result (IsAfter (add before (shown_part_node part.now)) (own_in scopes.new) here.new) }
     ensures outer { OnOk result (outer_in scopes.new ≡ outer_in scopes.old) }
+    ensures path { OnOk result (path_of track.new ≡ path_of track.old) }
+    ensures place { (before : Tree) → IsAfter before (own_in scopes.old) here.old → OnStop result
+        (IsIn (path_of track.old) track.new (shown_part_node part.now) (outer_in scopes.old) before) }
 {
     match part {
         PartNode::Custom {
@@ -64,6 +69,9 @@ fn check_parts<'a>(
     requires { own_in scopes.old ≡ empty_scope }
     ensures judged { Judges result (Formed (tree_of (map shown_part_node parts.now)) (outer_in scopes.old) ends) }
     ensures outer { OnOk result (outer_in scopes.new ≡ outer_in scopes.old) }
+    ensures path { OnOk result (path_of track.new ≡ path_of track.old) }
+    ensures place { OnStop result
+        (IsWithin (path_of track.old) track.new (tree_of (map shown_part_node parts.now)) (outer_in scopes.old)) }
 {
     track.enter()?;
     let mut here = Open::new(alloc);
@@ -76,12 +84,13 @@ fn check_parts<'a>(
 }
 
 /// Judges whether a component is well formed: `WellFormed` exactly where it is, and `IllFormed` exactly where it is
-/// not, with the first rule that it breaks and the place. An error is returned only where an allocation failed, and
-/// says nothing about the component.
+/// not, with the first rule that it breaks and the place of the entry that breaks it: what precedes that entry is well
+/// formed, and what ends with it is not. Which rule it is, no contract says. An error is returned only where an
+/// allocation failed, and says nothing about the component.
 ///
 /// Each entry is looked at once. The stack is bounded by how deep components and types nest.
 pub fn judged(alloc: Global, component: &ComponentTree) -> Result<Judgement, AllocError>
-    ensures { IfOk result (Agrees (WellFormed (shown_tree component.now))) }
+    ensures { IfOk result (Agrees (shown_tree component.now)) }
 {
     let mut track = Track::new(alloc);
     let mut scopes = Scopes::new(alloc);

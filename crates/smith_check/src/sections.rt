@@ -1,6 +1,6 @@
 //! Sections that are lists of entries.
 
-ghost use Rattle.std.specs.Prelude.{◌≡◌, ◌<◌, ◌++◌, ◌∷◌, [], ℕ, List, fold, length, map, string_bytes, OnOk};
+ghost use Rattle.std.specs.Prelude.{◌≡◌, ◌<◌, ◌++◌, ◌∷◌, [], ℕ, List, fold, length, map, string_bytes, take, OnOk};
 ghost use Rattle.std.specs.List.{AllByRecursion};
 ghost use Rattle.smith_syntax.specs.Scope.{Scope as PlainScope, with_core_types, with_types};
 ghost use Rattle.smith_syntax.specs.WellFormed.{FormedCores, FormedTypes, Named};
@@ -13,6 +13,7 @@ ghost use Rattle.smith_check.specs.Judges.{Judges};
 ghost use Rattle.smith_read_scopes.specs.Scopes.{outer_in, own_in};
 ghost use Rattle.smith_check.specs.Preceding.{spaces_in};
 ghost use Rattle.smith_check.specs.Taken.{Knows};
+ghost use Rattle.smith_check.specs.Tracks.{StopsFirst, path_of};
 
 use crate::canons::check_canon;
 use crate::error::{Checked, Rule, Stop};
@@ -33,10 +34,14 @@ pub(crate) fn check_core_types<'a>(
     scopes: &mut Scopes<'a>,
     types: &'a [CoreNode],
 ) -> Checked
+    requires { track.old.place.entry ≡ 0 }
     ensures judged { Judges result (FormedCores (map shown_core_node types.now) (own_in scopes.old)) }
     ensures own { OnOk result (own_in scopes.new
         ≡ with_core_types (own_in scopes.old) (map shown_core_node types.now)) }
     ensures outer { OnOk result (outer_in scopes.new ≡ outer_in scopes.old) }
+    ensures path { path_of track.new ≡ path_of track.old }
+    ensures place { StopsFirst result (λ n. FormedCores (take n (map shown_core_node types.now)) (own_in scopes.old))
+        track.new.place.entry }
 {
     for ty in types {
         check_core(alloc, scopes, ty)?;
@@ -53,10 +58,15 @@ pub(crate) fn check_types<'a>(
     scopes: &mut Scopes<'a>,
     types: &'a [TypeNode],
 ) -> Checked
+    requires { track.old.place.entry ≡ 0 }
     ensures judged { Judges result
         (FormedTypes (map shown_type_node types.now) (own_in scopes.old) (outer_in scopes.old)) }
     ensures own { OnOk result (own_in scopes.new ≡ with_types (own_in scopes.old) (map shown_type_node types.now)) }
     ensures outer { OnOk result (outer_in scopes.new ≡ outer_in scopes.old) }
+    ensures path { path_of track.new ≡ path_of track.old }
+    ensures place { StopsFirst result
+        (λ n. FormedTypes (take n (map shown_type_node types.now)) (own_in scopes.old) (outer_in scopes.old))
+        track.new.place.entry }
 {
     for ty in types {
         check_type(alloc, scopes, ty)?;
@@ -73,11 +83,16 @@ pub(crate) fn check_canons(
     here: &mut Open<'_>,
     canons: &[CanonNode],
 ) -> Checked
+    requires { track.old.place.entry ≡ 0 }
     ensures judged { Judges result
         (FormedCanons (map shown_canon_node canons.now) (spaces_in (own_in scopes.now) here.old)) }
     ensures added { OnOk result (spaces_in (own_in scopes.now) here.new
         ≡ fold after_canon (spaces_in (own_in scopes.now) here.old) (map shown_canon_node canons.now)) }
     ensures names { OnOk result ((here.new.imports ≡ here.old.imports) × (here.new.exports ≡ here.old.exports)) }
+    ensures path { path_of track.new ≡ path_of track.old }
+    ensures place { StopsFirst result
+        (λ n. FormedCanons (take n (map shown_canon_node canons.now)) (spaces_in (own_in scopes.now) here.old))
+        track.new.place.entry }
 {
     for canon in canons {
         check_canon(scopes, here, canon)?;
@@ -112,6 +127,7 @@ pub(crate) fn check_imports<'a>(
     here: &mut Open<'a>,
     imports: &'a [ImportNode],
 ) -> Checked
+    requires { track.old.place.entry ≡ 0 }
     ensures judged { (before : List (List ℕ)) → Knows here.old.imports before → Judges result
         (AllByRecursion (FormedImport (own_in scopes.now)) (map shown_import_node imports.now)
         × Named (before ++ import_names (map shown_import_node imports.now))) }
@@ -120,6 +136,10 @@ pub(crate) fn check_imports<'a>(
     ensures added { OnOk result (spaces_in (own_in scopes.now) here.new
         ≡ fold after_import (spaces_in (own_in scopes.now) here.old) (map shown_import_node imports.now)) }
     ensures exports { here.new.exports ≡ here.old.exports }
+    ensures path { path_of track.new ≡ path_of track.old }
+    ensures place { (before : List (List ℕ)) → Knows here.old.imports before → StopsFirst result
+        (λ n. AllByRecursion (FormedImport (own_in scopes.now)) (take n (map shown_import_node imports.now))
+        × Named (before ++ import_names (take n (map shown_import_node imports.now)))) track.new.place.entry }
 {
     for import in imports {
         check_import(scopes, here, import)?;
@@ -151,6 +171,7 @@ pub(crate) fn check_exports<'a>(
     here: &mut Open<'a>,
     exports: &'a [ExportNode],
 ) -> Checked
+    requires { track.old.place.entry ≡ 0 }
     ensures judged { (own : PlainScope) (before : List (List ℕ)) → Knows here.old.exports before → Judges result
         (FormedExports (map shown_export_node exports.now) (spaces_in own here.old)
         × Named (before ++ export_names (map shown_export_node exports.now))) }
@@ -159,6 +180,10 @@ pub(crate) fn check_exports<'a>(
     ensures added { (own : PlainScope) → OnOk result (spaces_in own here.new
         ≡ fold after_export (spaces_in own here.old) (map shown_export_node exports.now)) }
     ensures imports { here.new.imports ≡ here.old.imports }
+    ensures path { path_of track.new ≡ path_of track.old }
+    ensures place { (own : PlainScope) (before : List (List ℕ)) → Knows here.old.exports before → StopsFirst result
+        (λ n. FormedExports (take n (map shown_export_node exports.now)) (spaces_in own here.old)
+        × Named (before ++ export_names (take n (map shown_export_node exports.now)))) track.new.place.entry }
 {
     for export in exports {
         check_export(here, export)?;

@@ -12,7 +12,7 @@ use Rattle.smith_tree.specs.Open.{with_inner}
 use Rattle.smith_component.specs.SectionValues.{AddsImportSection, AddsTypeSection}
 use Rattle.smith_component.specs.Shown.{shown_section, shown_sections}
 use Rattle.smith_component.specs.Sound.{Sound, Totalled}
-use Rattle.smith_component.specs.Steps.{next_of, step_of, AddsValues, ClosesInner, DoesItem, Grows, GrowsBy, StaysSound}
+use Rattle.smith_component.specs.Steps.{next_of, step_of, AddsValues, ClosesInner, DoesItem, Grows, GrowsBy, StaysWithin}
 use Rattle.smith_component.specs.Tables.{IsTabled}
 use Rattle.smith_tree.specs.Tree.{Tree}
 use Rattle.smith_component.specs.Turn.{building, with_part, AddsAny, Does}
@@ -101,6 +101,6 @@ finish_does old full new b rest c fills g h = record {
   does = ((stack_of full).inner, fills, closes_filled (building_of old) (building_of full) (next_of (step_of new c)) g.sections.outer h.closes);
   values = tt;
   sound = h.sound;
-  keeps = subst (λ (k : Config). StaysSound k (step_of new c)) g.keeps h.keeps;
+  keeps = subst (λ (k : Config). StaysWithin k (step_of new c)) g.keeps h.keeps;
   sections = closes_after (building_of old) (building_of full) (step_of new c) g.sections h.sections;
 }

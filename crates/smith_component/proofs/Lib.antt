@@ -42,12 +42,14 @@ pub mod SectionValues
 pub mod Shown
 pub mod Sound
 pub mod Spaces
+pub mod Stepped
 pub mod TracksStack
 pub mod Tables
 pub mod TooLong
 pub mod Tree
 pub mod Turn
 pub mod WellFormed
+pub mod Wider
 pub mod Encoded
 pub mod Plan
 pub mod Planned

@@ -16,7 +16,7 @@ use Rattle.smith_component.specs.Canonicals.{Growing, ReadsCanons, empty_section
 use Rattle.smith_component.specs.Fills.{Fills, FillsAll}
 use Rattle.smith_component.specs.Runs.{RunsTo, Turns}
 use Rattle.smith_component.specs.Shown.{shown_module}
-use Rattle.smith_component.specs.Turn.{Closes, Does, Next, answered, building}
+use Rattle.smith_component.specs.Turn.{Closes, Does, Next, Turn, answered, building}
 use Rattle.smith_component.specs.declared.item.Counted.{Counted}
 use Rattle.smith_component.specs.declared.item.Counted.TheVariants as counted
 use Rattle.smith_component.proofs.ReadsCanons.{loop_keeps, turn_keeps, turned}
@@ -27,10 +27,10 @@ use Rattle.smith_component.proofs.Tree.{tree_so_far-close}
 
 module _ (config : Config) where
   -- All that is used in what is open was offered.
-  abbrev AreOffered : Open → Type 0
+  abbrev pub AreOffered : Open → Type 0
   AreOffered stack = IsOffered config (tree_so_far stack.outer stack.inner)
 
-  abbrev OfferedNext : Next → Type 0
+  abbrev pub OfferedNext : Next → Type 0
   OfferedNext (building stack) = AreOffered stack
   OfferedNext (answered t) = IsOffered config t
 
@@ -106,12 +106,16 @@ module _ (config : Config) where
       subst OfferedNext (sym e) (subst (IsOffered config) (sym (tree_so_far-close stack.outer stack.inner ends)) opened)
   does_offered Exports stack b next rest (es, read, e) o = part_offered stack (exports es) next e (exports_offered config stack.outer stack.inner read) o
 
+  pub turn_offered : (stack : Open) (left : List ℕ) (next : Next) (left2 : List ℕ) → Turn config stack left next left2 → AreOffered stack
+      → OfferedNext next
+  turn_offered stack left next left2 t o = does_offered t.item stack t.after next left2 t.does o
+
   turns_offered : (k : ℕ) (now : Next) (left : List ℕ) (next : Next) (left2 : List ℕ) → Turns config now left next left2 k → OfferedNext now
       → OfferedNext next
   turns_offered zero now left next left2 (is, same) o = subst OfferedNext (sym is) o
   turns_offered (suc k) (answered t) left next left2 none o = absurd none
   turns_offered (suc k) (building stack) left next left2 (mid, left1, t, later) o =
-      turns_offered k mid left1 next left2 later (does_offered t.item stack t.after mid left1 t.does o)
+      turns_offered k mid left1 next left2 later (turn_offered stack left mid left1 t o)
 
 -- All that is used in what a run leads to was offered.
 pub runs_offered : (config : Config) (input : List ℕ) (tree : Tree) (left : List ℕ) → RunsTo config input tree left → IsOffered config tree

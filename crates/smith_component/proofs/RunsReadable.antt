@@ -52,10 +52,10 @@ export_some : (config : Config) → is_export_offered config ≡ true → 0 < co
 export_some config e = grind (arith, nat_tests)
 
 -- All open components can be read so far.
-abbrev AreReadable : Config → Open → Type 0
+abbrev pub AreReadable : Config → Open → Type 0
 AreReadable config stack = IsReadable config stack.inner × AllByRecursion (IsReadable config) stack.outer
 
-abbrev ReadableNext : Config → Next → Type 0
+abbrev pub ReadableNext : Config → Next → Type 0
 ReadableNext config (building stack) = AreReadable config stack
 ReadableNext config (answered t) = IsReadable config t
 
@@ -134,7 +134,7 @@ module _ (config : Config) where
       part_readable stack (exports es) next e
       (some, loop_reachable (λ (x : ExportEntry). x.name) (exports_of stack.inner) (export_new config stack.outer stack.inner) read) r
 
-  turn_readable : (stack : Open) (left : List ℕ) (next : Next) (left2 : List ℕ) → Turn config stack left next left2 → AreReadable config stack
+  pub turn_readable : (stack : Open) (left : List ℕ) (next : Next) (left2 : List ℕ) → Turn config stack left next left2 → AreReadable config stack
       → ReadableNext config next
   turn_readable stack left next left2 t r =
       does_readable t.item stack t.after next left2 (chosen config stack left t.after t.item t.chooses) t.does r

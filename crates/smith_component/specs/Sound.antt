@@ -5,6 +5,8 @@ use Rattle.smith_format.specs.Consistency.{IsConsistent}
 use Rattle.smith_format.specs.declared.config.Config.{Config}
 use Rattle.smith_syntax.specs.Marked.{Marked}
 use Rattle.smith_tree.specs.Marking.{marked_after_part, marked_in, marked_inner}
+use Rattle.smith_tree.specs.Offered.{IsOffered}
+use Rattle.smith_tree.specs.Readable.{IsReadable}
 use Rattle.smith_tree.specs.Limits.{max_depth, OwnLimits, OwnSizes, Maxima, Minima, Sized}
 use Rattle.smith_tree.specs.Open.{Open, tree_so_far, scopes_in}
 use Rattle.smith_tree.specs.Spaces.{Spaces, after_part}
@@ -26,6 +28,11 @@ pub record Sound (config : Config) (stack : Open) : Type 0 where
   pub maxima : Maxima config (tree_so_far stack.outer stack.inner)
   pub minima : AllByRecursion (Minima config) (finished_in stack)
   pub sized : Sized config (tree_so_far stack.outer stack.inner)
+
+-- What is open was made from an input: each component can be read as far as it is, and all that the tree so far uses was offered.
+pub record IsReadSoFar (config : Config) (stack : Open) : Type 0 where
+  pub readable : AllByRecursion (IsReadable config) (stack.inner ∷ stack.outer)
+  pub offered : IsOffered config (tree_so_far stack.outer stack.inner)
 
 -- The running totals are those of the tree so far.
 pub record Totalled (totals : TreeTotals) (stack : Open) : Type 0 where

@@ -5,6 +5,7 @@ use Rattle.smith_format.specs.declared.config.Config.{Config}
 use Rattle.smith_tree.specs.Open.{Open, is_component_offered, is_module_offered, items}
 use Rattle.smith_component.specs.SectionValues.{AddsCoreTypeSection, AddsImportSection, AddsModule, AddsTypeSection}
 use Rattle.smith_component.specs.Turn.{Next, Turn, building, answered, Closes, Does}
+use Rattle.smith_tree.specs.Readable.{CanBeGenerated}
 use Rattle.smith_tree.specs.WellFormed.{WellFormed}
 use Rattle.smith_tree.specs.Limits.{Limits, Sized}
 use Rattle.smith_component.specs.Building.{Building, open_of}
@@ -18,6 +19,7 @@ use Rattle.smith_component.specs.declared.builder.Step.{Step}
 use Rattle.smith_component.specs.declared.builder.Step.TheVariants.{StillBuilding, Finished}
 use Rattle.smith_tree.specs.declared.choices.Item.{Item}
 use Rattle.smith_tree.specs.declared.choices.Item.TheVariants as item
+use Rattle.smith_validity.specs.Validates.{Validates}
 
 abbrev pub next_of : Step → Next
 next_of (StillBuilding b) = building (open_of b)
@@ -72,9 +74,21 @@ pub record TurnAdds (config : Config) (old : Building) (left : List ℕ) (step :
   pub adds : AddsValues config item old after step left2
 
 -- A builder that continues has the same config, and an answer is well formed and within the limits, and its types within their fuel.
+abbrev pub StaysWithin : Config → Step → Type 0
+StaysWithin config (StillBuilding b) = b.config ≡ config
+StaysWithin config (Finished c) = Limits config c × WellFormed c × Sized config c
+
+-- A turn: one that leads to that step, what it keeps, and what it adds.
+pub record IsTurn (old : Building) (left : List ℕ) (step : Step) (left2 : List ℕ) : Type 0 where
+  pub turn : Turn old.config (open_of old) left (next_of step) left2
+  pub keeps : StaysWithin old.config step
+  pub sections : KeepsSections old step
+  pub values : TurnAdds old.config old left step left2
+
+-- A builder that continues has the same config, and an answer is one of the components that can be generated.
 abbrev pub StaysSound : Config → Step → Type 0
 StaysSound config (StillBuilding b) = b.config ≡ config
-StaysSound config (Finished c) = Limits config c × WellFormed c × Sized config c
+StaysSound config (Finished c) = CanBeGenerated config c
 
 -- A step: a turn that leads to it, what it keeps, and what it adds.
 pub record IsStep (old : Building) (left : List ℕ) (step : Step) (left2 : List ℕ) : Type 0 where
@@ -82,6 +96,11 @@ pub record IsStep (old : Building) (left : List ℕ) (step : Step) (left2 : List
   pub keeps : StaysSound old.config step
   pub sections : KeepsSections old step
   pub values : TurnAdds old.config old left step left2
+
+-- An answer validates.
+abbrev pub ValidatesIfDone : Step → Type 0
+ValidatesIfDone (StillBuilding b) = Unit {0}
+ValidatesIfDone (Finished c) = Validates c
 
 -- what a turn leads to: the component, if it is finished
 abbrev pub step_of : Progress → Option Tree → Step
@@ -108,7 +127,7 @@ pub record GrowsBy (section : Section) (old new : Progress) : Type 0 where
 pub record ClosesInner (old new : Progress) (c : Option Tree) : Type 0 where
   pub closes : Closes (stack_of old) (next_of (step_of new c))
   pub sound : SoundUnlessDone new c
-  pub keeps : StaysSound old.config (step_of new c)
+  pub keeps : StaysWithin old.config (step_of new c)
   pub sections : ClosesSections (building_of old) (step_of new c)
 
 -- An item was done on the bytes b, and c is the component that it finished, if any.
@@ -116,7 +135,7 @@ pub record DoesItem (item : Item) (old : Progress) (b : List ℕ) (new : Progres
   pub does : Does old.config item (stack_of old) b (next_of (step_of new c)) rest
   pub values : AddsValues old.config item (building_of old) b (step_of new c) rest
   pub sound : SoundUnlessDone new c
-  pub keeps : StaysSound old.config (step_of new c)
+  pub keeps : StaysWithin old.config (step_of new c)
   pub sections : KeepsSections (building_of old) (step_of new c)
 
 -- Core modules and components are offered where the limits leave room for one.

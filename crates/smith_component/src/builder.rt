@@ -1,6 +1,6 @@
 //! The builder, turn by turn.
 
-ghost use Rattle.std.specs.Prelude.{◌≡◌, ℕ, ◌+◌, List, [], length, IfOk, IfErr};
+ghost use Rattle.std.specs.Prelude.{◌≡◌, ℕ, ◌+◌, List, [], length, true, IfOk, IfErr};
 ghost use Rattle.smith_input.specs.Reading.{IsTail};
 ghost use Rattle.smith_format.specs.Consistency.{IsConsistent};
 ghost use Rattle.smith_component.specs.Building.{open_of};
@@ -8,7 +8,8 @@ ghost use Rattle.smith_component.specs.BuilderView.{building_of, stack_of, IsSou
 ghost use Rattle.smith_component.specs.Filling.{CanFill};
 ghost use Rattle.smith_tree.specs.Limits.{max_depth, Minima};
 ghost use Rattle.smith_component.specs.Refusals.{IsAnswered, IsChosen, IsNewRefusal, IsReady, IsRefusal, IsStepRefusal};
-ghost use Rattle.smith_component.specs.Steps.{next_of, step_of, DoesItem, IsOffered, IsStep, SoundUnlessDone};
+ghost use Rattle.smith_component.specs.Steps.{next_of, step_of, DoesItem, IsOffered, IsStep, IsTurn, SoundUnlessDone};
+ghost use Rattle.smith_component.specs.Steps.{ValidatesIfDone};
 ghost use Rattle.smith_component.specs.Runs.{Falls, RunsTo};
 ghost use Rattle.smith_tree.specs.Open.{root};
 ghost use Rattle.smith_tree.specs.declared.choices.Item.TheVariants.{Finish, Module};
@@ -37,7 +38,8 @@ use std::marker::Model;
 use totals::TreeTotals;
 
 /// A component under construction. Contracts see its limits, and the open components, outermost first, each as
-/// its sections so far. At every moment what is built so far is well formed and within the limits.
+/// its sections so far. At every moment what is built so far is well formed and within the limits, can be read, and
+/// uses only what was offered.
 #[derive(Drop)]
 pub struct Builder {
     progress: Progress,
@@ -63,11 +65,11 @@ impl Model for Builder {
 
     ghost coded = { Prim.hlevel (codes, section.the_row.coded) };
 
-    ghost use Rattle.smith_component.specs.BuilderView.{building_of, IsSound};
+    ghost use Rattle.smith_component.specs.BuilderView.{building_of, IsBuilt};
 
     ghost view = { λ b. building_of b.progress };
 
-    ghost invariant = { λ b. IsSound b.progress };
+    ghost invariant = { λ b. IsBuilt b.progress };
 }
 
 /// What a turn leads to.
@@ -120,7 +122,7 @@ impl Progress {
     // One turn. It returns the component, if that is finished.
     pub(crate) fn turn(&mut self, u: &mut Unstructured) -> Result<Option<Component>, Error>
         requires sound { IsSound self.old }
-        ensures steps { IfOk result (λ c. IsStep (building_of self.old) u.old (step_of self.new c) u.new) }
+        ensures steps { IfOk result (λ c. IsTurn (building_of self.old) u.old (step_of self.new c) u.new) }
         ensures sound { IfOk result (λ c. SoundUnlessDone self.new c) }
         ensures refuses { IfErr result (λ e. IsStepRefusal self.old.config (stack_of self.old) u.old e u.new) }
         ensures alone { IsReady self.old.config (stack_of self.old) u.old → IsAnswered result }
@@ -177,6 +179,8 @@ impl Builder {
     pub fn step(self, u: &mut Unstructured) -> Result<Step, Error>
         ensures steps { IfOk result (λ s. IsStep self u.old s u.new) }
         ensures falls { IfOk result (λ s. Falls self.config u.old (open_of self) u.new (next_of s)) }
+        // Where components must validate, one that is finished does.
+        ensures validates { self.config.must_validate ≡ true → IfOk result ValidatesIfDone }
         ensures accepted { IsConsistent self.config }
         // A refusal leaves what is decided too, allocation failure aside.
         ensures refuses { IfErr result (λ e. IsStepRefusal self.config (open_of self) u.old e u.new) }

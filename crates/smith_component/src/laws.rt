@@ -1,6 +1,6 @@
 //! Laws of components. Each function does nothing: its contract is the law.
 
-ghost use Rattle.std.specs.Prelude.{◌≡◌, ◌↔◌, ◌⊎◌, ◌++◌, ℕ, List, None, true};
+ghost use Rattle.std.specs.Prelude.{◌≡◌, ◌≤◌, ◌↔◌, ◌⊎◌, ◌++◌, ℕ, List, None, true};
 ghost use Rattle.smith_core.specs.Module.{module_text};
 ghost use Rattle.smith_core.specs.Parts.{Agree};
 ghost use Rattle.smith_core.specs.TooLong.{ModuleTooLong};
@@ -21,6 +21,7 @@ ghost use Rattle.smith_component.specs.Shown.{shown_module};
 ghost use Rattle.smith_tree.specs.TooLong.{PartTooLong, TreeTooLong};
 ghost use Rattle.smith_tree.specs.Tree.{Part, Tree, core_module};
 ghost use Rattle.smith_component.specs.Turn.{Closes, Next, Turn, with_open, with_part};
+ghost use Rattle.smith_component.specs.Wider.{AreWider};
 ghost use Rattle.smith_tree.specs.Readable.{AreFinishable, CanBeGenerated, IsFinishable};
 ghost use Rattle.smith_component.specs.Runs.{IsFollowed, RunsTo};
 ghost use Rattle.smith_tree.specs.declared.choices.Item.TheVariants.{Component as ItemComponent, Finish};
@@ -70,6 +71,17 @@ pub fn components_are_exact()
     ensures { (config : Config) (tree : Tree) (b : List ℕ) → IsConsistent config → Spells tree b
         → ((input left : List ℕ) × AreBytes input × IsFollowed config left × RunsTo config input tree left)
         ↔ (CanBeGenerated config tree × AreFinishable config tree) }
+{}
+
+/// Wider limits generate no less: what can be generated within some limits can be within wider ones; and where no more
+/// sections are asked of components that are finished, it also has as many as are asked then, and a plan is a plan.
+pub fn wider_limits_generate_no_less()
+    ensures generated { (wide narrow : Config) (tree : Tree) → AreWider wide narrow → CanBeGenerated narrow tree
+        → CanBeGenerated wide tree }
+    ensures finished { (wide narrow : Config) (tree : Tree) → wide.finish_after ≤ narrow.finish_after
+        → AreFinishable narrow tree → AreFinishable wide tree }
+    ensures plans { (wide narrow : Config) (plan : Tree) → AreWider wide narrow
+        → wide.finish_after ≤ narrow.finish_after → Within narrow plan → Within wide plan }
 {}
 
 /// Where a run leads to a component that has bytes, nothing is refused, except when out of memory.

@@ -1,6 +1,6 @@
 //! Components from input.
 
-ghost use Rattle.std.specs.Prelude.{◌≡◌, ℕ, List, ◌+◌, ◌≤◌, ◌++◌, length, IfOk, IfErr, OnOk};
+ghost use Rattle.std.specs.Prelude.{◌≡◌, ℕ, List, ◌+◌, ◌≤◌, ◌++◌, length, true, IfOk, IfErr, OnOk};
 ghost use Rattle.smith_input.specs.Reading.{IsTail};
 ghost use Rattle.smith_format.specs.Consistency.{IsConsistent, IsDefault};
 ghost use Rattle.smith_component.specs.Runs.{IsMade, RunsTo};
@@ -9,6 +9,7 @@ ghost use Rattle.smith_component.specs.Refusals.{IsRefusal};
 ghost use Rattle.smith_tree.specs.Script.{Within, script};
 ghost use Rattle.smith_tree.specs.Tree.{Tree};
 ghost use Rattle.smith_tree.specs.WellFormed.{WellFormed};
+ghost use Rattle.smith_validity.specs.Validates.{Validates};
 ghost use Rattle.smith_format.specs.declared.config.Config.{Config};
 
 use crate::builder::Progress;
@@ -30,6 +31,8 @@ impl Component {
         // It is returned, unless memory runs out.
         ensures answers { (plan : Tree) (rest : List ℕ) → IsConsistent config → Within config plan
             → u.old ≡ script config plan ++ rest → IfErr result (λ e. e ≡ Error.OutOfMemory) }
+        // Where components must validate, it does.
+        ensures validates { config.must_validate ≡ true → IfOk result (λ c. Validates c) }
         ensures accepts { OnOk result (IsConsistent config) }
         ensures refuses { IfErr result (λ e. IsRefusal config u.old e u.new) }
         // Where no import and no function is required, and the limits on memories do not cross, it fails only when out

@@ -12,6 +12,7 @@ pub mod FormedJoined
 pub mod FormedRows
 pub mod FormedTrees
 pub mod FormedTypes
+pub mod Goes
 pub mod InTurn
 pub mod Joining
 pub mod KnownNames
@@ -22,6 +23,7 @@ pub mod NewNames
 pub mod PartNodes
 pub mod Past
 pub mod Places
+pub mod Remains
 pub mod Renaming
 pub mod Seeking
 pub mod ShortNames
@@ -30,4 +32,5 @@ pub mod SimplerBytes
 pub mod SimplerItems
 pub mod SimplerRows
 pub mod Sublists
+pub mod Told
 pub mod Trees

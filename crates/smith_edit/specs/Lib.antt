@@ -9,3 +9,5 @@ pub mod Simpler
 pub mod Search
 pub mod Names
 pub mod Counts
+pub mod Goes
+pub mod Remains

@@ -27,9 +27,9 @@ use std::alloc::{AllocError, Global};
 /// with its entries, and a compound type with its last member. Where the type of a function loses a parameter or its
 /// result, its lowers and its lifts are removed. An index that refers to nothing remains as it is.
 ///
-/// So a component that is well formed remains so, and has no more bytes. It takes time and memory in proportion to the
-/// component, and stack in proportion to its depth. `Err` is returned where an allocation fails, and where an index
-/// would exceed 4,294,967,295.
+/// Nothing else is removed, and what is left keeps its order. So a component that is well formed remains so, and has no
+/// more bytes. It takes time and memory in proportion to the component, and stack in proportion to its depth. `Err` is
+/// returned where an allocation fails, and where an index would exceed 4,294,967,295.
 pub fn without(
     alloc: Global,
     tree: &ComponentTree,

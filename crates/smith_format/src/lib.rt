@@ -32,5 +32,5 @@ pub use pieces::{raw_len, text_len, write_head, write_raw, write_section, write_
 pub use sections::{begin_section, end_section};
 pub use types::{
     EntityType, ExportKind, FuncType, GlobalType, Import, MemoryType, RefType, TableType, TagType,
-    ValType, configured_valtypes,
+    ValType, configured_valtypes, valtypes_of,
 };

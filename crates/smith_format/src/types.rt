@@ -1,9 +1,11 @@
 //! Core value types (core specification, Types).
 
-ghost use Rattle.std.specs.Prelude.{◌≡◌};
+ghost use Rattle.std.specs.Prelude.{◌≡◌, IfErr, IfOk};
 ghost use Rattle.smith_format.specs.Limits.{configured};
 
 use crate::config::Config;
+use smith_input::Error;
+use std::alloc::Global;
 
 /// A reference type (core specification, Types, Reference Types).
 #[derive(Debug, Clone, Copy, PartialEq, Eq, Hash)]
@@ -61,8 +63,18 @@ static INTEGERS_AND_REFERENCES: [ValType; 4] = [
 ];
 
 /// The value types that the limits allow, at least i32 and i64: then f32 and f64, v128, and the references to functions
-/// and to things from outside, each where it is enabled. It takes no memory.
-pub fn configured_valtypes(config: &Config) -> &'static [ValType]
+/// and to things from outside, each if it is enabled. It fails only when out of memory.
+pub fn configured_valtypes(alloc: Global, config: &Config) -> Result<Vec<ValType>, Error>
+    ensures value { IfOk result (λ types. types.items ≡ configured config.now) }
+    ensures memory { IfErr result (λ e. e ≡ Error.OutOfMemory) }
+{
+    let mut types = Vec::new(alloc);
+    types.extend_from_slice(valtypes_of(config))?;
+    Ok(types)
+}
+
+/// The same types, of a table. It takes no memory.
+pub fn valtypes_of(config: &Config) -> &'static [ValType]
     ensures { result.now ≡ configured config.now }
 {
     let references = config.reference_types_enabled;
@@ -141,7 +153,7 @@ pub enum ExportKind {
 }
 
 impl EntityType {
-    ghost use Rattle.std.specs.Prelude.{◌≡◌};
+    ghost use Rattle.std.specs.Prelude.{◌≡◌, IfErr, IfOk};
     ghost use Rattle.smith_format.specs.Entities.{kind_of};
 
     /// What sort of thing it is.

@@ -1,6 +1,7 @@
 pub mod Capped
 pub mod Components
 pub mod CoreSizes
+pub mod Everything
 pub mod Externs
 pub mod Few
 pub mod Fronts
@@ -20,4 +21,5 @@ pub mod TiedBodies
 pub mod TiedEntries
 pub mod TiedMarks
 pub mod Ties
+pub mod Unmarked
 pub mod ValidEntries

@@ -9,7 +9,19 @@ ghost use Rattle.smith_syntax.specs.Sizes.{module_type_size};
 ghost use Rattle.smith_tree.specs.Limits.{Limits};
 ghost use Rattle.smith_tree.specs.Offered.{IsOffered};
 ghost use Rattle.smith_tree.specs.Tree.{Tree};
-ghost use Rattle.smith_tree.specs.WellFormed.{WellFormed};
+ghost use Rattle.smith_marks.specs.Unmarked.{KeepsNothing};
+ghost use Rattle.smith_syntax.specs.Entries.{Decl};
+ghost use Rattle.smith_syntax.specs.Marked.{Marked, empty_marked, marked_after, scope_in, scopes_in_marked};
+ghost use Rattle.smith_syntax.specs.Places.{places};
+ghost use Rattle.smith_syntax.specs.Scope.{after_decl, is_component, is_defined, is_func, is_instance};
+ghost use Rattle.smith_syntax.specs.Usable.{value_places};
+ghost use Rattle.smith_tree.specs.Marking.{marked_inner};
+ghost use Rattle.smith_tree.specs.Open.{is_finish_offered};
+ghost use Rattle.smith_tree.specs.Readable.{AreFinishable};
+ghost use Rattle.smith_tree.specs.TypeOffers.{has_room, ref_places};
+ghost use Rattle.smith_tree.specs.WellFormed.{WellFormed, scope_of};
+ghost use Rattle.smith_tree.specs.declared.choices.RefKind.TheVariants.{Component as RefComponent, Func as RefFunc};
+ghost use Rattle.smith_tree.specs.declared.choices.RefKind.TheVariants.{Instance as RefInstance, TypeEq as RefTypeEq};
 ghost use Rattle.smith_validity.specs.Examples.{imports_function_of_enum, has_function_of_enum};
 ghost use Rattle.smith_validity.specs.Examples.{exports_function_of_named_enum, imports_function_of_named_enum};
 ghost use Rattle.smith_validity.specs.Examples.{exports_function_of_aliased_enum, names_record_of_enum, names_enum};
@@ -18,7 +30,7 @@ ghost use Rattle.smith_validity.specs.Examples.{names_type_of_exported_instance}
 ghost use Rattle.smith_validity.specs.Sizes.{ValidCore};
 ghost use Rattle.smith_validity.specs.Validates.{Validates};
 ghost use Rattle.std.specs.List.{AllByRecursion};
-ghost use Rattle.std.specs.Prelude.{◌≡◌, ◌≤◌, List, true};
+ghost use Rattle.std.specs.Prelude.{◌≡◌, ◌≤◌, Bool, List, false, true};
 
 /// Where components must validate, a component within the limits does if each type, import and export was offered.
 pub fn offered_components_validate()
@@ -70,4 +82,48 @@ pub fn instances_that_name_their_own_are_offered()
     ensures equal { (config : Config) → config.must_validate ≡ true → ¬ IsOffered config names_instance_type }
     ensures equal_after { (config : Config) → config.must_validate ≡ true
         → ¬ IsOffered config names_type_of_exported_instance }
+{}
+
+/// Where components need not validate, everything is offered.
+pub fn everything_is_offered()
+    ensures { (config : Config) (tree : Tree) → config.must_validate ≡ false → IsOffered config tree }
+{}
+
+/// Nothing is kept for a validator of components that need not validate, nor of types within them.
+pub fn nothing_is_kept()
+    ensures components { (config : Config) (outer : List Tree) (inner : Tree) → config.must_validate ≡ false
+        → KeepsNothing (marked_inner config outer inner) }
+    ensures opened { (own : Marked) → KeepsNothing own → KeepsNothing (empty_marked own.keeps) }
+    ensures declared { (d : Decl) (outer : List Marked) (own : Marked) → KeepsNothing own
+        → KeepsNothing (marked_after d outer own) }
+{}
+
+/// Whatever is kept, the types and core types of a scope are those that there are without it.
+pub fn scopes_are_kept_whole()
+    ensures components { (config : Config) (outer : List Tree) (inner : Tree)
+        → scope_in (marked_inner config outer inner) ≡ scope_of inner }
+    ensures declared { (d : Decl) (outer : List Marked) (own : Marked)
+        → scope_in (marked_after d outer own) ≡ after_decl (scopes_in_marked outer) (scope_in own) d }
+{}
+
+/// Where nothing is kept for a validator, a choice is among all types of a kind, and there is always room for an import
+/// or an export.
+pub fn all_of_a_kind_are_offered()
+    ensures values { (own : Marked) → KeepsNothing own → value_places own ≡ places is_defined 0 own.types }
+    ensures functions { (own : Marked) (for_import : Bool) → KeepsNothing own
+        → ref_places own for_import RefFunc ≡ places is_func 0 own.types }
+    ensures types { (own : Marked) (for_import : Bool) → KeepsNothing own
+        → ref_places own for_import RefTypeEq ≡ places (λ t. true) 0 own.types }
+    ensures components { (own : Marked) (for_import : Bool) → KeepsNothing own
+        → ref_places own for_import RefComponent ≡ places is_component 0 own.types }
+    ensures instances { (own : Marked) (for_import : Bool) → KeepsNothing own
+        → ref_places own for_import RefInstance ≡ places is_instance 0 own.types }
+    ensures room { (own : Marked) (for_type_def : Bool) → KeepsNothing own → has_room own for_type_def ≡ true }
+{}
+
+/// Where no number of sections is asked of components that are finished, any component may be.
+pub fn any_component_may_be_finished()
+    ensures finishable { (config : Config) (tree : Tree) → config.finish_after ≡ 0 → AreFinishable config tree }
+    ensures offered { (config : Config) (tree : Tree) → config.finish_after ≡ 0
+        → is_finish_offered config tree ≡ true }
 {}

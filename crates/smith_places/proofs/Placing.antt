@@ -115,7 +115,7 @@ contents_fit index (exports es) b x e h = list_fits export_entry index es b x e 
 opened_none : (id : ℕ) (c : Piece) → opened id c None ≡ None
 opened_none id c = ap (λ q. byte id ⊕ q) (right_none (c >>= λ x. u (length x))) ∙ right_none (byte id)
 
-entry_opened : (index : ℕ) (p : Part) → before_entry index p ≡ opened (id_of p) (contents_in p) (contents_before index p)
+pub entry_opened : (index : ℕ) (p : Part) → before_entry index p ≡ opened (id_of p) (contents_in p) (contents_before index p)
 entry_opened index (custom a c) = sym (opened_none 0 _)
 entry_opened index (core_module a) = sym (opened_none 1 _)
 entry_opened index (core_types ts) = refl

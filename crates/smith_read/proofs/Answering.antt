@@ -7,6 +7,7 @@ use Rattle.smith_read.specs.Parts.{component_at}
 use Rattle.smith_read.specs.PartNodes.{shown_tree}
 use Rattle.smith_read.specs.Reads.{IsWithin, Reads, behind, most_depth, at_offset}
 use Rattle.smith_read.specs.declared.nodes.ComponentTree.{ComponentTree}
+use Rattle.smith_read.proofs.Shallow.{found_shallow}
 use Rattle.smith_read.proofs.TellingParts.{component_found, component_only}
 
 -- a section's contents fail, or are there, as they did without the bytes after them
@@ -18,12 +19,17 @@ behind_fails view more (Err (inner.Malformed left reason)) inner.OutOfMemory q i
 behind_fails view more (Err (inner.Malformed left reason)) (inner.Malformed l s) q is g = g
 
 pub reads_found : (b : List ℕ) (t : ComponentTree) → component_at most_depth b ≡ Some (shown_tree t) → Reads (Ok t) b
-reads_found b t e = record { spelled = component_found most_depth b (shown_tree t) e; answers = λ u d s. tt }
+reads_found b t e = record {
+  spelled = component_found most_depth b (shown_tree t) e;
+  shallow = found_shallow most_depth b (shown_tree t) e;
+  answers = λ u d s. tt;
+}
 
 pub reads_unread : (b : List ℕ) (d : Unread) → Fails d (component_at most_depth b) → Reads (Err (at_offset (length b) d)) b
-reads_unread b inner.OutOfMemory f = record { spelled = tt; answers = λ u d s. refl }
+reads_unread b inner.OutOfMemory f = record { spelled = tt; shallow = tt; answers = λ u d s. refl }
 reads_unread b (inner.Malformed left reason) f = record {
   spelled = tt;
+  shallow = tt;
   answers = λ u d s. let z : None ≡ Some u = sym f ∙ component_only most_depth b u d s in absurd cc;
 }
 

@@ -1,5 +1,5 @@
 -- What reading returns.
-use Rattle.std.specs.Prelude.{◌≡◌, ◌≤◌, ◌+◌, ◌-◌, ℕ, List, Result, Ok, Err, IfOk, IfErr, min}
+use Rattle.std.specs.Prelude.{◌≡◌, ◌≤◌, ◌+◌, ◌-◌, ℕ, List, Result, Ok, Err, IfOk, IfErr, length, min}
 use Rattle.smith_tree.specs.Grammar.{Spells}
 use Rattle.smith_tree.specs.Tree.{Tree}
 use Rattle.smith_tree.specs.Depths.{scope_depth}
@@ -14,11 +14,20 @@ use Rattle.smith_read_types.specs.declared.error.Unread.TheVariants as inner
 abbrev pub most_depth : ℕ
 most_depth = 1001
 
--- What is read is spelled by the bytes. Where they spell a tree that is no deeper than that, nothing is refused, except when
--- out of memory.
+-- What is read is spelled by the bytes, and is no deeper than that. Where they spell a tree that is no deeper, nothing is refused, except
+-- when out of memory.
 pub record Reads (result : Result ComponentTree ReadError) (bytes : List ℕ) : Type 0 where
   pub spelled : IfOk result (λ t. Spells (shown_tree t) bytes)
+  pub shallow : IfOk result (λ t. scope_depth (shown_tree t) ≤ most_depth)
   pub answers : (t : Tree) → scope_depth t ≤ most_depth → Spells t bytes → IfErr result (λ e. e ≡ error.OutOfMemory)
+
+-- They spell a component that is no deeper than that and has the property.
+abbrev pub AreRead : List ℕ → (Tree → Type 0) → Type 0
+AreRead bytes P = (t : Tree) × Spells t bytes × (scope_depth t ≤ most_depth) × P t
+
+-- They spell no component that is no deeper than that; and the offset is in them or at their end.
+abbrev pub AreUnread : List ℕ → ℕ → Type 0
+AreUnread bytes offset = ((t : Tree) → Spells t bytes → ¬ (scope_depth t ≤ most_depth)) × (offset ≤ length bytes)
 
 -- what is wrong was seen at no offset past that length
 abbrev pub IsWithin : ℕ → ReadError → Type 0

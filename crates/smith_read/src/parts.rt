@@ -228,7 +228,7 @@ fn sections_of(alloc: Global, depth: u32, bytes: &[u8]) -> Result<Vec<PartNode>,
 /// It reads each byte once, and takes stack only in proportion to the depth. Bytes that spell no such component are
 /// refused with `Malformed`; otherwise it fails only when out of memory.
 pub fn read(alloc: Global, bytes: &[u8]) -> Result<ComponentTree, ReadError>
-    // What is read is spelled so, and what is spelled so is read.
+    // What is read is spelled so and is at most `MOST_DEPTH` deep, and what is spelled so is read.
     ensures reads { Reads result bytes.now }
     // What is wrong was seen in the bytes, or at their end.
     ensures offset { IfErr result (IsWithin (length bytes.now)) }

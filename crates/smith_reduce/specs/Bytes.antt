@@ -1,18 +1,13 @@
 -- The edits of components, of the bytes that spell them.
-use Rattle.std.specs.Prelude.{◌≡◌, ◌≤◌, ℕ, List, Option, None, Some, length}
-use Rattle.smith_tree.specs.Depths.{scope_depth}
+use Rattle.std.specs.Prelude.{◌≡◌, ℕ, List, Option, None, Some}
 use Rattle.smith_tree.specs.Grammar.{Spells, component_text}
 use Rattle.smith_tree.specs.Tree.{Tree}
 use Rattle.smith_edit.specs.Edits.{joined, without}
-use Rattle.smith_read.specs.Reads.{most_depth}
+use Rattle.smith_read.specs.Reads.{AreUnread}
 use Rattle.smith_reduce.specs.declared.error.JoinError.{JoinError}
 use Rattle.smith_reduce.specs.declared.error.JoinError.TheVariants as join_error
 use Rattle.smith_reduce.specs.declared.error.ReduceError.{ReduceError}
 use Rattle.smith_reduce.specs.declared.error.ReduceError.TheVariants as error
-
--- They spell no component whose scopes are at most that deep; and the offset is in them or at their end.
-abbrev pub AreUnread : List ℕ → ℕ → Type 0
-AreUnread bytes offset = ((t : Tree) → Spells t bytes → ¬ (scope_depth t ≤ most_depth)) × (offset ≤ length bytes)
 
 -- the component without its k-th item, or none where there is no k-th
 abbrev pub IsWithout : ℕ → Tree → Option (List ℕ) → Type 0

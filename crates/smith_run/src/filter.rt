@@ -5,7 +5,7 @@ ghost use Rattle.smith_format.specs.Consistency.{IsDefault};
 ghost use Rattle.smith_run.specs.Running.{GivesAll, Writes, status_of_answer};
 ghost use Rattle.smith_run.specs.declared.running.Form.TheVariants.{Page};
 
-use crate::running::{Form, RunError, convert};
+use crate::running::{RunError, run};
 use smith_component::Config;
 use std::alloc::Global;
 use std::io::{Read, Write};
@@ -13,11 +13,11 @@ use std::io::{Read, Write};
 /// Reports how a run ended: if it failed, the name of the refusal or the fault is a line of `errors`. Returns the
 /// status that the program ends with, 0 if the component is written. A failed write of the name is ignored, since the
 /// status says enough.
-pub fn report<E: Write>(errors: &mut E, answer: Result<usize, RunError>) -> u8
+pub fn report<E: Write>(errors: &mut E, answer: Result<(), RunError>) -> u8
     ensures { result ≡ status_of_answer answer }
 {
     match answer {
-        Ok(_) => 0,
+        Ok(()) => 0,
         Err(error) => {
             let _ = writeln!(errors, "{error}");
             error.status()
@@ -41,6 +41,6 @@ pub fn convert_by_default<R: Read, W: Write, E: Write>(
     ensures unwritten { result ≡ 1 → writer.new ≡ writer.old }
     ensures statuses { (result ≡ 0) ⊎ (result ≡ 1) ⊎ (result ≡ 2) }
 {
-    let answer = convert(alloc, reader, writer, Config::default(), Form::Page);
+    let answer = run(alloc, reader, writer, Config::default());
     report(errors, answer)
 }

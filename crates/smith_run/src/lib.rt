@@ -7,4 +7,4 @@ mod running;
 
 pub use filter::{convert_by_default, report};
 pub use pages::page;
-pub use running::{Form, LONGEST_INPUT, RunError, convert, convert_swarm};
+pub use running::{Form, LONGEST_INPUT, RunError, convert, convert_swarm, run};

@@ -8,6 +8,7 @@ ghost use Rattle.smith_input.specs.declared.error.Error.TheVariants.{OutOfMemory
 ghost use Rattle.smith_format.specs.Consistency.{IsConsistent};
 ghost use Rattle.smith_run.specs.Running.{ComesAfterReading, GivesAll, GivesTooMuch, IsRefusedOn, Writes};
 ghost use Rattle.smith_run.specs.Running.{longest_input, status_of, written_text};
+ghost use Rattle.smith_run.specs.declared.running.Form.TheVariants.{Page};
 ghost use Rattle.smith_swarm.specs.Swarm.{after_front, swarmed};
 
 use crate::pages;
@@ -200,7 +201,29 @@ pub fn convert<R: Read, W: Write>(
     write_made(alloc, &input, writer, config, form)
 }
 
-/// The same, within the limits given as overridden by the first bytes of the input, as `smith_swarm::swarm_limits`
+/// The same in the form `Page`, for a program that prints the page alone.
+pub fn run<R: Read, W: Write>(
+    alloc: Global,
+    reader: &mut R,
+    writer: &mut W,
+    config: Config,
+) -> Result<(), RunError>
+    ensures written { OnOk result ((input left : List ℕ)
+        × GivesAll (R.remaining reader.old) (R.remaining reader.new) input
+        × Writes config Page input left (W.contents writer.old) (W.contents writer.new)) }
+    ensures accepts { OnOk result (IsConsistent config) }
+    ensures whole { IfErr result (λ e. ComesAfterReading e → (input : List ℕ)
+        × GivesAll (R.remaining reader.old) (R.remaining reader.new) input
+        × IsRefusedOn config input e) }
+    ensures unwritten { IfErr result (λ e. e ≢ RunError.WriteFault → writer.new ≡ writer.old) }
+    ensures too_long { IsErrOf result RunError.InputTooLong
+        → GivesTooMuch (R.remaining reader.old) (R.remaining reader.new) }
+{
+    convert(alloc, reader, writer, config, Form::Page)?;
+    Ok(())
+}
+
+/// As `convert`, within the limits given as overridden by the first bytes of the input, as `smith_swarm::swarm_limits`
 /// defines. The component is made of the bytes after those.
 pub fn convert_swarm<R: Read, W: Write>(
     alloc: Global,

@@ -9,7 +9,7 @@ use Rattle.smith_syntax.specs.Marked.{Marked, empty_marked, first_marked, more_k
 use Rattle.smith_syntax.specs.Marks.{no_mark}
 use Rattle.smith_syntax.specs.declared.marks.Mark.{Mark}
 use Rattle.smith_syntax.specs.Places.{own_of, outer_of, places}
-use Rattle.smith_scopes.specs.Scopes.{Contents, shown_scope, inward, last_of, scope_at, Changes, AddsMarked, AddsSized}
+use Rattle.smith_scopes.specs.Scopes.{Contents, shown_scope, inward, last_of, lists_at, scope_at, Changes, AddsMarked, AddsSized}
 use Rattle.smith_scopes.specs.Scopes.{shown_marked, inward_marked, own_marked, own_scope, outer_marked, outer_scopes}
 use Rattle.smith_syntax.specs.Shown.{shown_type, shown_core}
 use Rattle.smith_syntax.specs.declared.core_types.CoreType.{CoreType}
@@ -26,6 +26,13 @@ inward-snoc ss s = ap reverse (map-append shown_scope ss (s ∷ [])) ∙ reverse
 
 pub own_shown : (scopes ss : List Contents) (s : Contents) → ss ++ s ∷ [] ≡ scopes → own_of (inward scopes) ≡ shown_scope s
 own_shown scopes ss s e = ap (λ t. own_of (inward t)) (sym e) ∙ ap own_of (inward-snoc ss s)
+
+-- the lists of the last scope
+pub own_lists : (scopes ss : List Contents) (s : Contents) → ss ++ s ∷ [] ≡ scopes → lists_at scopes 0 ≡ scope_in s
+own_lists scopes ss s e =
+    ap (λ t. lists_at t 0) (sym e)
+    ∙ ap (λ ds. get_or (reverse ds) 0 empty_scope) (map-append scope_in ss (s ∷ []))
+    ∙ ap (λ ds. get_or ds 0 empty_scope) (reverse-append (map scope_in ss) (scope_in s ∷ []))
 
 pub push_front : (b : Bool) (i : ℕ) (us vs : List ℕ) → cond b (i ∷ (us ++ vs)) (us ++ vs) ≡ cond b (i ∷ us) us ++ vs
 push_front true i us vs = refl

@@ -1,5 +1,5 @@
 -- The rows of equal function types: for each of them the indexes of its equals among the first types of a scope.
-use Rattle.std.specs.Prelude.{◌≡◌, ℕ, Bool, List, [], ◌∷◌, ◌++◌, length, map, take, Option, Some, None, if◌then◌else◌, ⊤}
+use Rattle.std.specs.Prelude.{◌≡◌, ℕ, List, [], ◌∷◌, ◌++◌, length, map, take, Option, Some, None, if◌then◌else◌, ⊤}
 use Rattle.std.specs.HashMap.{HashMap, get}
 use Rattle.std.specs.declared.alloc.Global.{Global}
 use Rattle.std.specs.declared.boxed.Box.{Box}
@@ -22,26 +22,22 @@ abbrev pub row_in : {Z : Type 0} → Option (Vec ℕ Z) → List ℕ
 row_in None = []
 row_in (Some row) = row.items
 
--- Shared function types are equal where their signatures are.
-abbrev pub same_shared : {Y : Type 0} → Rc Signature Y → Rc Signature Y → Bool
-same_shared f g = same_signature f.value g.value
-
-module _ {Y Z S : Type 0} where
-  abbrev pub row_of : HashMap (Rc Signature Y) (Vec ℕ Z) S → Rc Signature Y → List ℕ
-  row_of m f = row_in (get same_shared m f)
+module _ {Z S : Type 0} where
+  abbrev pub row_of : HashMap Signature (Vec ℕ Z) S → Signature → List ℕ
+  row_of m f = row_in (get same_signature m f)
 
   -- the row of s has i at its end, and every other row is as it was
-  abbrev pub Notes : Signature → ℕ → HashMap (Rc Signature Y) (Vec ℕ Z) S → HashMap (Rc Signature Y) (Vec ℕ Z) S → Type 0
-  Notes s i old new = (f : Rc Signature Y) → row_of new f ≡ (if same_signature s f.value then row_of old f ++ i ∷ [] else row_of old f)
+  abbrev pub Notes : Signature → ℕ → HashMap Signature (Vec ℕ Z) S → HashMap Signature (Vec ℕ Z) S → Type 0
+  Notes s i old new = (f : Signature) → row_of new f ≡ (if same_signature s f then row_of old f ++ i ∷ [] else row_of old f)
 
   -- the same of the signature of a type, if it has one
-  abbrev pub NotesType : DefType → ℕ → HashMap (Rc Signature Y) (Vec ℕ Z) S → HashMap (Rc Signature Y) (Vec ℕ Z) S → Type 0
-  NotesType ty i old new = (f : Rc Signature Y) → row_of new f ≡ (if has_signature f.value ty then row_of old f ++ i ∷ [] else row_of old f)
+  abbrev pub NotesType : DefType → ℕ → HashMap Signature (Vec ℕ Z) S → HashMap Signature (Vec ℕ Z) S → Type 0
+  NotesType ty i old new = (f : Signature) → row_of new f ≡ (if has_signature f ty then row_of old f ++ i ∷ [] else row_of old f)
 
 -- The rows are those of these types, and of no more.
 pub record AreRows (e : Equals) (types : List DefType) : Type 0 where
   pub count : e.noted ≡ length types
-  pub rows_are : (f : Rc Signature Global) → row_of e.rows f ≡ places (has_signature f.value) 0 types
+  pub rows_are : (f : Signature) → row_of e.rows f ≡ places (has_signature f) 0 types
 
 -- They are those of the first of these types.
 abbrev pub AreFirst : Equals → List DefType → Type 0

@@ -3,7 +3,9 @@ use Rattle.std.specs.Prelude.{◌≡◌, ℕ, ◌≤◌, false, List, [], ◌∷
 use Rattle.std.specs.declared.alloc.Global.{Global}
 use Rattle.std.specs.declared.boxed.Box.{Box}
 use Rattle.smith_format.specs.Consistency.{max_u32}
-use Rattle.smith_syntax.specs.Scope.{ScopeOf, Scope, is_defined, is_func, is_component}
+use Rattle.smith_syntax.specs.Entries.{Signature}
+use Rattle.smith_syntax.specs.HasSignature.{has_signature}
+use Rattle.smith_syntax.specs.Scope.{ScopeOf, Scope, empty_scope, is_defined, is_func, is_component}
 use Rattle.smith_syntax.specs.Marked.{Marked, MarkedOf, empty_marked, first_marked, scope_in, with_marked, with_sized}
 use Rattle.smith_syntax.specs.Marks.{no_mark}
 use Rattle.smith_syntax.specs.declared.marks.Mark.{Mark}
@@ -75,10 +77,18 @@ scope_at scopes count = get_or (reverse scopes) count (empty_marked false)
 abbrev pub last_of : List Contents → Contents
 last_of scopes = scope_at scopes 0
 
+-- The types and core types of each scope, outermost first, without what is kept of them.
+abbrev pub lists_in : List Contents → List Types
+lists_in scopes = map scope_in scopes
+
+-- those of the scope of that count, where 0 is the last
+abbrev pub lists_at : List Contents → ℕ → Types
+lists_at scopes count = get_or (reverse (lists_in scopes)) count empty_scope
+
 -- new is old with another last scope
-pub record Changes (f : Contents → Contents) (old new : List Contents) : Type 0 where
-  pub outer : List Contents
-  pub own : Contents
+pub record Changes {A : Type 0} (f : A → A) (old new : List A) : Type 0 where
+  pub outer : List A
+  pub own : A
   pub before : old ≡ outer ++ own ∷ []
   pub after : new ≡ outer ++ f own ∷ []
 
@@ -113,6 +123,10 @@ pub record IsTied (types : List DefType) (defined funcs components instances : L
   pub instances_are : instances ≡ places is_instance 0 (map shown_type types)
   pub equals_are : AreNoted equals types
   pub few : length types ≤ max_u32
+
+-- the indexes of the function types of that signature, ascending
+abbrev pub equal_places : Signature → Types → List ℕ
+equal_places f d = places (has_signature f) 0 d.types
 
 -- the indexes of each kind of core type
 pub record IsCoreTied (types : List CoreType) (funcs modules : List ℕ) : Type 0 where

@@ -1,14 +1,14 @@
 //! Scopes: which types are where (Explainer.md, index spaces).
 
 ghost use Rattle.std.specs.Prelude.{◌≡◌, false, ◌+◌, ◌<◌, ◌≤◌, [], ◌∷◌, ◌++◌, length, Some};
-ghost use Rattle.std.specs.Prelude.{OnOk, IfOk, OnErr, IfErr};
+ghost use Rattle.std.specs.Prelude.{OnOk, IfOk, OnErr, IfErr, slice_get};
 ghost use Rattle.smith_format.specs.Consistency.{max_u32};
 ghost use Rattle.smith_syntax.specs.Marked.{empty_marked};
 ghost use Rattle.smith_syntax.specs.Scope.{empty_scope, with_type, with_core_type};
 ghost use Rattle.smith_input.specs.Reading.{IsTail};
 ghost use Rattle.smith_scopes.specs.Rows.{IsChosenEqual};
-ghost use Rattle.smith_scopes.specs.Scopes.{shown_types, kind_places, last_of};
-ghost use Rattle.smith_scopes.specs.Scopes.{AddsType, AddsMarked, AddsCoreType, AddsSized};
+ghost use Rattle.smith_scopes.specs.Scopes.{shown_types, kind_places, last_of, equal_places, lists_at, lists_in};
+ghost use Rattle.smith_scopes.specs.Scopes.{AddsType, AddsMarked, AddsCoreType, AddsSized, Changes};
 
 mod abi;
 mod equals;
@@ -23,7 +23,7 @@ mod references;
 mod sizes;
 
 pub use abi::CanonicalAbi;
-use equals::Equals;
+use equals::{Equals, later_at, later_len};
 use marked::Marked;
 pub use module_sizes::ModuleSize;
 pub use offers::{Offer, Offers, Uses};
@@ -37,8 +37,8 @@ use std::marker::Model;
 use std::mem;
 use std::rc::Rc;
 
-// How many types, and how many core types, a scope has room for once it has one: few have more, and a list that grows is
-// copied.
+// How many types, and how many core types, a scope has room for once it has one: few have more, and a list that grows
+// is copied.
 const FIRST_TYPES: usize = 8;
 
 /// The kinds of entries that are counted and named by their rank.
@@ -221,6 +221,35 @@ impl Scope {
         }
     }
 
+    // How many types are equal to that function type.
+    fn equal_len(&self, func: &FuncType) -> usize
+        ensures count { result ≡ length (equal_places func.now self.now) }
+        ensures few { result ≤ max_u32 }
+    {
+        match &self.equals {
+            Some(equals) => {
+                equals.row(func).len() + later_len(&self.types, equals.noted(), func)
+            }
+            None => later_len(&self.types, 0, func),
+        }
+    }
+
+    // The index of the type that is equal to that function type and has `k` earlier such ones.
+    fn equal_at(&self, func: &FuncType, k: usize) -> u32
+        requires { k < length (equal_places func.now self.now) }
+        ensures { slice_get (equal_places func.now self.now) k ≡ Some result }
+    {
+        let Some(equals) = &self.equals else {
+            return later_at(&self.types, 0, func, k);
+        };
+        let row = equals.row(func);
+        if k < row.len() {
+            row[k]
+        } else {
+            later_at(&self.types, equals.noted(), func, k - row.len())
+        }
+    }
+
     // The index of a type that is equal to that function type, by a choice; none where there is none. If it fails,
     // no type is noted.
     fn choose_equal(
@@ -239,7 +268,7 @@ impl Scope {
             None => Box::new(alloc, Equals::new(alloc))?,
         };
         equals.note_rest(alloc, &self.types)?;
-        let found = equals.choose(func, u);
+        let found = equals.choose(&**func, u);
         self.equals = Some(equals);
         Ok(found)
     }
@@ -248,7 +277,8 @@ impl Scope {
 impl Scopes {
     /// One scope, empty, in which nothing is kept of the types.
     pub fn new(alloc: Global) -> Scopes
-        ensures { result ≡ empty_marked false ∷ [] }
+        ensures value { result ≡ empty_marked false ∷ [] }
+        ensures lists { lists_in result ≡ empty_scope ∷ [] }
     {
         Scopes::with_marks(alloc, false)
     }
@@ -280,6 +310,7 @@ impl Scopes {
     /// Adds an empty scope. It fails only when out of memory, and all is then as it was.
     pub fn open_scope(&mut self) -> Result<(), Error>
         ensures ok { OnOk result (self.new ≡ self.old ++ empty_marked (last_of self.old).keeps ∷ []) }
+        ensures lists { OnOk result (lists_in self.new ≡ lists_in self.old ++ empty_scope ∷ []) }
         ensures deep { OnOk result (2 ≤ length self.new) }
         ensures err { OnErr result (self.new ≡ self.old) }
         ensures memory { IfErr result (λ e. e ≡ Error.OutOfMemory) }
@@ -294,7 +325,8 @@ impl Scopes {
     /// Takes the last scope away.
     pub fn close_scope(&mut self)
         requires { 2 ≤ length self.old }
-        ensures { self.old ≡ self.new ++ last_of self.old ∷ [] }
+        ensures value { self.old ≡ self.new ++ last_of self.old ∷ [] }
+        ensures lists { lists_in self.old ≡ lists_in self.new ++ lists_at self.old 0 ∷ [] }
     {
         self.inner = self.outer.take_last();
     }
@@ -304,6 +336,7 @@ impl Scopes {
     pub fn push_type(&mut self, entry: Rc<DefType>) -> Result<u32, Error>
         requires { length (last_of self.old).types < max_u32 }
         ensures ok { OnOk result (AddsType self.old entry.value self.new) }
+        ensures lists { OnOk result (Changes (λ d. with_type d entry.value) (lists_in self.old) (lists_in self.new)) }
         ensures index { IfOk result (λ i. i ≡ length (last_of self.old).types) }
         ensures err { OnErr result (self.new ≡ self.old) }
         ensures memory { IfErr result (λ e. e ≡ Error.OutOfMemory) }
@@ -344,6 +377,8 @@ impl Scopes {
     pub fn push_core_type(&mut self, entry: Rc<CoreType>) -> Result<u32, Error>
         requires { length (last_of self.old).core_types < max_u32 }
         ensures ok { OnOk result (AddsCoreType self.old entry.value self.new) }
+        ensures lists { OnOk result
+            (Changes (λ d. with_core_type d entry.value) (lists_in self.old) (lists_in self.new)) }
         ensures index { IfOk result (λ i. i ≡ length (last_of self.old).core_types) }
         ensures err { OnErr result (self.new ≡ self.old) }
         ensures memory { IfErr result (λ e. e ≡ Error.OutOfMemory) }

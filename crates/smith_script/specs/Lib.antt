@@ -4,4 +4,5 @@ pub mod Functions
 pub mod IsScript
 pub mod Lifted
 pub mod Preceding
+pub mod Refusals
 pub mod Saying

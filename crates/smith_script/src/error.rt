@@ -42,11 +42,13 @@ pub enum ScriptError {
         reason: Reason,
         offset: usize,
     },
-    /// The component is not well formed: the first rule that it breaks, and where.
+    /// The component is not well formed: the first rule that it breaks, and the place of the entry that breaks it, as
+    /// `judged` of `smith_check` finds them. Which rule it is, no contract says.
     IllFormed(Fault),
     /// The component is well formed, but no input produces it within the limits. A limit that it does not keep is
     /// named; otherwise a name is too long, or a core module is none of those that can be generated. `offset` is that
-    /// of the first byte in which the component that its script produces differs, if there is one.
+    /// of the first byte in which the component that its script produces differs, if there is one. Contracts say only
+    /// that it is in the bytes or at their end, and nothing of the limit.
     NoScript {
         limit: Option<Unkept>,
         offset: Option<usize>,

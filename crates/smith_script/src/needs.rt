@@ -229,7 +229,11 @@ impl Needs {
                 add(&mut own.imports, imports.len());
                 add(&mut own.funcs, self.add_imports(imports));
             }
-            PartNode::Exports(exports) => add(&mut own.exports, exports.len()),
+            PartNode::Exports(exports) => {
+                // Where `max_exports` is 0, no export section is offered, not even an empty one.
+                raise(&mut self.exports, 1);
+                add(&mut own.exports, exports.len());
+            }
         }
     }
 

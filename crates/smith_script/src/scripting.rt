@@ -1,14 +1,17 @@
 //! The script of a component.
 
-ghost use Rattle.std.specs.Prelude.{◌≡◌, ◌↔◌, ℕ, List, IfOk, IfErr};
+ghost use Rattle.std.specs.Prelude.{◌≡◌, ◌↔◌, ◌≤◌, ℕ, List, IfOk, IfErr};
 ghost use Rattle.smith_format.specs.Consistency.{IsConsistent};
 ghost use Rattle.smith_input.specs.Script.{AreBytes};
 ghost use Rattle.smith_tree.specs.Grammar.{Spells};
 ghost use Rattle.smith_tree.specs.Script.{Within};
 ghost use Rattle.smith_tree.specs.Tree.{Tree};
 ghost use Rattle.smith_tree.specs.WellFormed.{WellFormed};
+ghost use Rattle.smith_tree.specs.Depths.{scope_depth};
 ghost use Rattle.smith_read.specs.PartNodes.{shown_tree};
+ghost use Rattle.smith_read.specs.Reads.{most_depth};
 ghost use Rattle.smith_script.specs.IsScript.{CannotBeGenerated, IsGiven, IsScript};
+ghost use Rattle.smith_script.specs.Refusals.{DiffersWithin, IsScriptRefusal};
 ghost use Rattle.smith_script.specs.declared.error.ScriptError.TheVariants.{InconsistentLimits, OutOfMemory};
 ghost use Rattle.smith_script.specs.declared.scripting.Trial.TheVariants as trial;
 
@@ -52,6 +55,7 @@ fn tried(alloc: Global, config: &Config, input: &[u8], bytes: &[u8]) -> Result<T
         (λ x. x ≡ trial.These → (t : Tree) → Spells t bytes.now → IsGiven config.now t input.now) }
     ensures refuses { IfOk result
         (λ x. ¬ (x ≡ trial.These) → (t : Tree) → Spells t bytes.now → ¬ IsGiven config.now t input.now) }
+    ensures offset { IfOk result (DiffersWithin bytes.now) }
     ensures bytes { AreBytes input.now }
     ensures memory { IfErr result (λ e. e ≡ OutOfMemory) }
 {
@@ -101,7 +105,12 @@ fn no_script(
     tree: &ComponentTree,
     tried: Result<Trial, ScriptError>,
 ) -> ScriptError
-    ensures { ¬ (result ≡ InconsistentLimits) }
+    requires spelled { Spells (shown_tree tree.now) bytes.now }
+    requires shallow { scope_depth (shown_tree tree.now) ≤ most_depth }
+    requires formed { WellFormed (shown_tree tree.now) }
+    requires offset { IfOk tried (DiffersWithin bytes.now) }
+    ensures why { IsScriptRefusal bytes.now result }
+    ensures limits { ¬ (result ≡ InconsistentLimits) }
 {
     let offset = match tried {
         Ok(Trial::Others(common)) => Some(common),
@@ -122,10 +131,12 @@ fn written(
 ) -> Result<Vec<u8>, ScriptError>
     requires consistent { IsConsistent config.now }
     requires spelled { Spells (shown_tree tree.now) bytes.now }
+    requires shallow { scope_depth (shown_tree tree.now) ≤ most_depth }
     requires formed { WellFormed (shown_tree tree.now) }
     ensures answered { IfOk result (λ b. IsScript config.now (shown_tree tree.now) b.items) }
     ensures refuses { IfErr result
         (λ e. ¬ (e ≡ OutOfMemory) → (b : List ℕ) → ¬ IsScript config.now (shown_tree tree.now) b) }
+    ensures why { IfErr result (IsScriptRefusal bytes.now) }
     ensures limits { IfErr result (λ e. ¬ (e ≡ InconsistentLimits)) }
 {
     let mut input = Vec::new(alloc);
@@ -149,6 +160,7 @@ fn consistent_script(alloc: Global, config: &Config, bytes: &[u8]) -> Result<Vec
     ensures answered { IfOk result (λ b. (t : Tree) × Spells t bytes.now × IsScript config.now t b.items) }
     ensures refuses { IfErr result (λ e. ¬ (e ≡ OutOfMemory)
         → (t : Tree) → Spells t bytes.now → (b : List ℕ) → ¬ IsScript config.now t b) }
+    ensures why { IfErr result (IsScriptRefusal bytes.now) }
     ensures limits { IfErr result (λ e. ¬ (e ≡ InconsistentLimits)) }
 {
     let tree = match read(alloc, bytes) {
@@ -169,6 +181,7 @@ fn scripted(alloc: Global, config: &Config, bytes: &[u8]) -> Result<Vec<u8>, Scr
     ensures answered { IfOk result (λ b. (t : Tree) × Spells t bytes.now × IsScript config.now t b.items) }
     ensures refuses { IfErr result (λ e. ¬ (e ≡ OutOfMemory)
         → (t : Tree) → Spells t bytes.now → (b : List ℕ) → ¬ IsScript config.now t b) }
+    ensures why { IfErr result (IsScriptRefusal bytes.now) }
     ensures limits { IfErr result (λ e. (e ≡ InconsistentLimits) ↔ (¬ IsConsistent config.now)) }
 {
     if config.check().is_err() {
@@ -187,6 +200,9 @@ pub fn script(alloc: Global, config: &Config, bytes: &[u8]) -> Result<Vec<u8>, S
         (λ b. (t : Tree) × Spells t bytes.now × IsScript config.now t b.items) }
     ensures refuses { IfErr result (λ e. ¬ (e ≡ OutOfMemory)
         → (t : Tree) → Spells t bytes.now → (b : List ℕ) → ¬ IsScript config.now t b) }
+    // `Unread` says that the bytes are not read, `IllFormed` that what is read is not well formed, and `NoScript` that
+    // it is. An offset is in the bytes or at their end.
+    ensures why { IfErr result (IsScriptRefusal bytes.now) }
     // Exactly where the limits do not fit together, that is the refusal.
     ensures limits { IfErr result (λ e. (e ≡ InconsistentLimits) ↔ (¬ IsConsistent config.now)) }
     // A plan is refused only where memory runs out.

@@ -1,26 +1,15 @@
 //! Core function types.
 
-ghost use Rattle.std.specs.Prelude.{◌≡◌, IfOk, IfErr};
+ghost use Rattle.std.specs.Prelude.{◌≡◌};
 ghost use Rattle.smith_format.specs.CoreScript.{script_function};
 ghost use Rattle.smith_format.specs.Limits.{configured, max_results};
 ghost use Rattle.smith_format.specs.Shown.{shown_func};
 ghost use Rattle.smith_script_core.specs.Says.{Says};
-ghost use Rattle.smith_input.specs.declared.error.Error.TheVariants.{OutOfMemory};
 
 use crate::members::put_core_values;
 use smith_format::{Config, FuncType, ValType, configured_valtypes};
 use smith_input::Error;
 use std::alloc::Global;
-
-/// The core value types that the limits allow.
-pub fn valtypes_of(alloc: Global, config: &Config) -> Result<Vec<ValType>, Error>
-    ensures list { IfOk result (λ v. v.items ≡ configured config.now) }
-    ensures memory { IfErr result (λ e. e ≡ OutOfMemory) }
-{
-    let mut valtypes = Vec::new(alloc);
-    valtypes.extend_from_slice(configured_valtypes(config))?;
-    Ok(valtypes)
-}
 
 /// The most results of a core function type.
 pub(crate) fn max_results(config: &Config) -> usize
@@ -52,6 +41,6 @@ pub fn put_core_function(
     ensures { Says result out.old out.new
         (script_function (configured config.now) (max_results config.now) (shown_func ty.now)) }
 {
-    let valtypes = valtypes_of(alloc, config)?;
+    let valtypes = configured_valtypes(alloc, config)?;
     put_values(out, &valtypes, max_results(config), ty)
 }

@@ -13,7 +13,7 @@ mod offers;
 mod stand_ins;
 
 pub use choices::{put_among, put_byte, put_choice, put_contents, put_end, put_more, put_text};
-pub use core_functions::{put_core_function, valtypes_of};
+pub use core_functions::put_core_function;
 pub use fronts::{after_front, after_memory, after_realloc, core_size};
 pub use limits::put_limits;
 pub use members::{Scripted, put_members};

@@ -10,11 +10,11 @@ ghost use Rattle.smith_script_core.specs.StandIns.{script_functions, script_memo
 ghost use Rattle.smith_input.specs.declared.error.Error.TheVariants.{OutOfMemory};
 
 use crate::choices::{put_end, put_more};
-use crate::core_functions::{max_results, valtypes_of};
+use crate::core_functions::max_results;
 use crate::cuts::{behind, front};
 use crate::limits::put_limits;
 use crate::members::put_core_values;
-use smith_format::{Config, RefType, ValType};
+use smith_format::{Config, RefType, ValType, configured_valtypes};
 use smith_input::Error;
 use std::alloc::Global;
 
@@ -104,7 +104,7 @@ fn put_functions<'b>(
     ensures said { Says result out.old out.new (script_functions config.now 0 (functions_from count bytes.now).0) }
     ensures left { IfOk result (λ left. left.now ≡ (functions_from count bytes.now).1) }
 {
-    let valtypes = valtypes_of(alloc, config)?;
+    let valtypes = configured_valtypes(alloc, config)?;
     let most_results = max_results(config);
     let mut left = bytes;
     for done in 0..count {

@@ -13,8 +13,8 @@ ghost use Rattle.smith_script_types.specs.Modules.{so_far};
 use crate::declared::Declared;
 use crate::place::Place;
 use crate::positions::{put_index, put_position};
-use smith_format::{Config, EntityType, ExportKind, GlobalType, RefType};
-use smith_script_core::{Error, put_among, put_byte, put_limits, put_offered, valtypes_of};
+use smith_format::{Config, EntityType, ExportKind, GlobalType, RefType, configured_valtypes};
+use smith_script_core::{Error, put_among, put_byte, put_limits, put_offered};
 use smith_tree::kind_offers;
 use std::alloc::Global;
 
@@ -38,7 +38,7 @@ fn put_global(
     ensures { Says result out.old out.new
         (script_among same_val (configured config.now) ty.val_type ++ script_bit ty.mutable) }
 {
-    let valtypes = valtypes_of(alloc, config)?;
+    let valtypes = configured_valtypes(alloc, config)?;
     put_among(out, &valtypes, &ty.val_type)?;
     put_byte(out, u8::from(ty.mutable))
 }

@@ -6,14 +6,16 @@ pub mod laws;
 mod make;
 
 pub use canonical::{canonical_abi_for, inverse_scalar_canonical_abi_for};
-pub use make::{ExternNames, arbitrary_type, arbitrary_type_ref, named_extern};
+pub use make::{
+    ExternNames, arbitrary_marked_type, arbitrary_type, arbitrary_type_ref, named_extern,
+};
 pub use smith_core_types::arbitrary_core_type;
 pub use smith_scopes::{Kind, Scopes};
 pub use smith_syntax::{
     Alias, ComponentFormat, ComponentType, ComponentTypeDef, ComponentTypeRef, ComponentValType,
     CoreType, DefType, DefinedType, EnumType, FlagsType, FuncType, Import, InstanceType,
-    InstanceTypeDecl, ListType, ModuleType, ModuleTypeDef, OptionType, OuterAliasKind,
-    PrimitiveValType, RecordType, ResultType, TupleType, VariantType, core_type_len,
+    InstanceTypeDecl, ListType, Mark, ModuleType, ModuleTypeDef, OptionType, OuterAliasKind,
+    PrimitiveValType, Reach, RecordType, ResultType, TupleType, VariantType, core_type_len,
     drop_last_first, import_len, type_len, write_core_type, write_import, write_type,
 };
 pub use smith_tree::{DeclarationItem, DefinedKind, ModuleItem, RefKind, RefTotals, TypeKind};

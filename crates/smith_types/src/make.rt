@@ -47,10 +47,45 @@ use std::rc::Rc;
 /// would have none; a function has at most 16 parameters; types of components and instances have at most 100
 /// declarations. Names within one type are in kebab case and distinct, and so are the names of its imports and those of
 /// its exports. Each outer alias keeps what it names. The type is well formed in the scopes, within the limits, and no
-/// larger than the fuel that it took; all that it names was offered. Its mark is returned beside it, which says
-/// something where marks are kept. Its own scopes nest one deeper than the last scope, or to `max_nesting_depth` where
-/// that is more. It fails only when out of memory. The scopes stay as they are, also after a refusal.
+/// larger than the fuel that it took; all that it names was offered. Its own scopes nest one deeper than the last one,
+/// or to `max_nesting_depth` if that is more. It fails only when out of memory. The scopes stay as they are, also after
+/// a refusal.
 pub fn arbitrary_type(
+    alloc: Global,
+    u: &mut Unstructured,
+    config: &Config,
+    valtypes: &[ValType],
+    scopes: &mut Scopes,
+    fuel: &mut u32,
+) -> Result<Rc<DefType>, Error>
+    requires valtypes { valtypes.now ≡ configured config.now }
+    requires consistent { IsConsistent config.now }
+    requires shallow { length scopes.old ≤ 1001 }
+    ensures made { IfOk result (λ t. Made config.now (own_marked scopes.old) (outer_marked scopes.old) u.old fuel.old
+        (full_type t.value) u.new fuel.new) }
+    ensures formed { IfOk result (λ t. FormedEntry (shown_shared t) (own_scope scopes.old)
+        (outer_scopes scopes.old)) }
+    ensures offered { IfOk result (λ t. OfferedEntry (shown_shared t) (own_marked scopes.old)
+        (outer_marked scopes.old)) }
+    ensures limits { IfOk result (λ t. EntryLimits config.now (shown_shared t)) }
+    ensures nesting { IfOk result (λ t. length scopes.old + nesting (shown_shared t)
+        ≤ max (length scopes.old + 1) config.now.max_nesting_depth) }
+    ensures size { IfOk result (λ t. size (shown_shared t) + fuel.new ≤ fuel.old) }
+    // The script of a type produces that type.
+    ensures script { (e : Entry) (rest : List ℕ)
+        → IsSayable config.now (own_marked scopes.old) (outer_marked scopes.old) fuel.old e
+        → u.old ≡ script_type e config.now fuel.old (own_marked scopes.old) (outer_marked scopes.old) ++ rest
+        → IfOk result (λ t. (shown_shared t ≡ e) × (u.new ≡ rest)) }
+    ensures scopes { scopes.new ≡ scopes.old }
+    ensures memory { IfErr result (λ e. e ≡ Error.OutOfMemory) }
+    ensures tail { IsTail u.new u.old }
+{
+    let (made, _) = arbitrary_marked_type(alloc, u, config, valtypes, scopes, fuel)?;
+    Ok(made)
+}
+
+/// The same, and the mark of the type, which says something if marks are kept.
+pub fn arbitrary_marked_type(
     alloc: Global,
     u: &mut Unstructured,
     config: &Config,

@@ -40,11 +40,11 @@ const ROWS: &[Row<'static>] = &[
 // A core type of the row's bytes is generated from its input.
 fn check_core<R: Abort + AllocGlobal>(rt: &R, row: &Row<'_>) -> Result<(), Fail> {
     let config = Config::default();
-    let valtypes = configured_valtypes(&config);
+    let valtypes = configured_valtypes(rt.alloc(), &config)?;
     let scopes = Scopes::new(rt.alloc());
     let mut left = row.fuel;
     let mut u = Unstructured::new(row.input);
-    let ty = arbitrary_core_type(rt.alloc(), &mut u, &config, valtypes, &scopes, &mut left)?;
+    let ty = arbitrary_core_type(rt.alloc(), &mut u, &config, &valtypes, &scopes, &mut left)?;
     let mut out = Vec::new(rt.alloc());
     write_core_type(&mut out, &ty)?;
     assert_eq!(rt; out.as_slice(), row.bytes, "{}", row.name);

@@ -43,17 +43,17 @@ fn three_types(alloc: Global) -> Result<Scopes, Fail> {
 fn made<R: Abort + AllocGlobal>(rt: &R, input: &[u8], fuel_left: u32) -> Result<Rc<DefType>, Fail> {
     let config = small_limits();
     config.check()?;
-    let valtypes = configured_valtypes(&config);
+    let valtypes = configured_valtypes(rt.alloc(), &config)?;
     let mut scopes = three_types(rt.alloc())?;
     let depth = scopes.depth();
     assert!(rt; depth == 1);
     let mut fuel = 10;
     let mut u = Unstructured::new(input);
-    let (ty, _mark) = arbitrary_type(
+    let ty = arbitrary_type(
         rt.alloc(),
         &mut u,
         &config,
-        valtypes,
+        &valtypes,
         &mut scopes,
         &mut fuel,
     )?;

@@ -1,6 +1,6 @@
 //! Function types of a scope that are equal.
 
-use crate::common::check_holds;
+use crate::common::{check_count, check_holds};
 use smith_input::{Error, Unstructured};
 use smith_types::{ComponentValType, DefType, DefinedType, FuncType, PrimitiveValType, Scopes};
 use std::alloc::Global;
@@ -30,6 +30,16 @@ fn two_types(alloc: Global) -> Result<Scopes, Fail> {
     scopes.push_type(shared(alloc, of_char(alloc, "b")?)?)?;
     scopes.push_type(Rc::new(alloc, number)?)?;
     Ok(scopes)
+}
+
+// The equals of that function type have these indexes.
+fn check_places<R: Abort>(rt: &R, scopes: &Scopes, func: &FuncType, places: &[u32]) {
+    let many = scopes.equal_len(func);
+    check_count(rt, "equal function types", many, places.len());
+    for k in 0..many {
+        let place = scopes.equal_at(func, k);
+        check_holds(rt, "a place", places.get(k) == Some(&place));
+    }
 }
 
 // The equals of that function type that choices by 0, 1, 2 and so on find.
@@ -62,14 +72,20 @@ fn equal_function_types_are_found(rt: HostRuntime) -> Result<(), Fail> {
     let func = Rc::new(alloc, of_char(alloc, "b")?)?;
     let other = Rc::new(alloc, of_char(alloc, "c")?)?;
     let mut scopes = two_types(alloc)?;
+    check_places(&rt, &scopes, &func, &[0]);
     check_equals(&rt, &mut scopes, &func, &[Some(0), Some(0)])?;
     check_equals(&rt, &mut scopes, &other, &[None])?;
+    check_places(&rt, &scopes, &other, &[]);
     let third = shared(alloc, of_char(alloc, "b")?)?;
     let fourth = shared(alloc, of_char(alloc, "c")?)?;
     assert_eq!(rt; push(&rt, &mut scopes, &third)?, 2);
+    check_places(&rt, &scopes, &func, &[0, 2]);
+    check_places(&rt, &scopes, &other, &[]);
     assert_eq!(rt; push(&rt, &mut scopes, &fourth)?, 3);
+    check_places(&rt, &scopes, &other, &[3]);
     let expected = [Some(0), Some(2), Some(0), Some(2)];
     check_equals(&rt, &mut scopes, &func, &expected)?;
     check_equals(&rt, &mut scopes, &other, &[Some(3), Some(3)])?;
+    check_places(&rt, &scopes, &func, &[0, 2]);
     Ok(())
 }

@@ -2,7 +2,7 @@
 
 use crate::doubles::{Pieces, Sheet};
 use smith_component::{Config, Error};
-use smith_run::{Form, RunError, convert, convert_by_default, report};
+use smith_run::{RunError, convert_by_default, report, run};
 use std::alloc::{AllocError, Global};
 use std::io::Read;
 use std::test::Fail;
@@ -13,9 +13,9 @@ const DEFINED_TYPE: &[u8] = &[3, 1, 0, 0, 6, 0, 0, 255];
 fn run_over<R: Read>(
     alloc: Global,
     reader: &mut R,
-) -> Result<(Result<usize, RunError>, Vec<u8>), AllocError> {
+) -> Result<(Result<(), RunError>, Vec<u8>), AllocError> {
     let mut text = Vec::from_slice(alloc, b"*")?;
-    let answer = convert(alloc, reader, &mut text, Config::default(), Form::Page);
+    let answer = run(alloc, reader, &mut text, Config::default());
     Ok((answer, text))
 }
 
@@ -24,19 +24,17 @@ fn a_page_is_written(rt: HostRuntime) -> Result<(), Fail> {
     let rows = [
         (
             b"".as_slice(),
-            0,
             b"*00 61 73 6d 0d 00 01 00\nleft 0\n".as_slice(),
         ),
         (
             DEFINED_TYPE,
-            1,
             b"*00 61 73 6d 0d 00 01 00 07 02 01 79\nleft 1\n",
         ),
     ];
-    for (input, left, page) in rows {
+    for (input, page) in rows {
         let mut reader = input;
         let (answer, text) = run_over(rt.alloc(), &mut reader)?;
-        assert_eq!(rt; answer, Ok(left));
+        assert_eq!(rt; answer, Ok(()));
         assert_eq!(rt; text.as_slice(), page);
     }
     Ok(())
@@ -58,26 +56,14 @@ fn a_failed_read_is_a_read_fault(rt: HostRuntime) -> Result<(), Fail> {
 fn a_failed_write_is_a_write_fault(rt: HostRuntime) -> Result<(), Fail> {
     let mut whole = Sheet::new(rt.alloc(), 4, usize::MAX);
     let mut reader = DEFINED_TYPE;
-    let answer = convert(
-        rt.alloc(),
-        &mut reader,
-        &mut whole,
-        Config::default(),
-        Form::Page,
-    );
-    assert_eq!(rt; answer, Ok(1));
+    let answer = run(rt.alloc(), &mut reader, &mut whole, Config::default());
+    assert_eq!(rt; answer, Ok(()));
     assert!(rt; whole.calls > 4);
     for done in 0..whole.calls {
         let fails_at = done + 1;
         let mut sheet = Sheet::new(rt.alloc(), 4, fails_at);
         let mut reader = DEFINED_TYPE;
-        let answer = convert(
-            rt.alloc(),
-            &mut reader,
-            &mut sheet,
-            Config::default(),
-            Form::Page,
-        );
+        let answer = run(rt.alloc(), &mut reader, &mut sheet, Config::default());
         assert_eq!(rt; answer, Err(RunError::WriteFault), "at call {fails_at}");
         assert!(rt; whole.text.starts_with(&sheet.text));
     }
@@ -116,7 +102,7 @@ fn each_error_has_its_line_and_its_status(rt: HostRuntime) -> Result<(), Fail> {
         (Err(RunError::ReadFault), "ReadFault\n", 2),
         (Err(RunError::InputTooLong), "InputTooLong\n", 2),
         (Err(RunError::WriteFault), "WriteFault\n", 2),
-        (Ok(7), "", 0),
+        (Ok(()), "", 0),
     ];
     for (answer, line, status) in lines {
         let mut errors = Vec::new(rt.alloc());
@@ -138,7 +124,7 @@ fn limits_that_do_not_fit_together_are_refused(rt: HostRuntime) -> Result<(), Fa
     for input in [&[] as &[u8], DEFINED_TYPE] {
         let mut reader = input;
         let mut text = Vec::new(rt.alloc());
-        let answer = convert(rt.alloc(), &mut reader, &mut text, config, Form::Page);
+        let answer = run(rt.alloc(), &mut reader, &mut text, config);
         assert_eq!(rt; answer, Err(RunError::Refused(Error::InconsistentLimits)));
         assert_eq!(rt; text.len(), 0);
     }

@@ -1,7 +1,7 @@
 //! Runs over inputs as long as they may be, and longer ones.
 
 use smith_component::Config;
-use smith_run::{Form, LONGEST_INPUT, RunError, convert};
+use smith_run::{LONGEST_INPUT, RunError, run};
 use std::alloc::{AllocError, Global};
 use std::io;
 use std::io::Read;
@@ -40,9 +40,9 @@ impl Read for Endless {
 fn run_over<R: Read>(
     alloc: Global,
     reader: &mut R,
-) -> Result<(Result<usize, RunError>, Vec<u8>), AllocError> {
+) -> Result<(Result<(), RunError>, Vec<u8>), AllocError> {
     let mut text = Vec::new(alloc);
-    let answer = convert(alloc, reader, &mut text, Config::default(), Form::Page);
+    let answer = run(alloc, reader, &mut text, Config::default());
     Ok((answer, text))
 }
 
@@ -50,7 +50,7 @@ fn run_over<R: Read>(
 fn the_longest_input_is_read_and_one_byte_more_is_too_long(rt: HostRuntime) -> Result<(), Fail> {
     let page = b"00 61 73 6d 0d 00 01 00\nleft 1048575\n".as_slice();
     let rows = [
-        (LONGEST_INPUT, Ok(1_048_575), page),
+        (LONGEST_INPUT, Ok(()), page),
         (1_048_577, Err(RunError::InputTooLong), b"".as_slice()),
     ];
     for (length, expected, written) in rows {

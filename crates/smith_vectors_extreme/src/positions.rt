@@ -33,6 +33,16 @@ fn two_types(alloc: Global) -> Result<Scopes, Fail> {
     Ok(scopes)
 }
 
+// The equals of that function type have these indexes.
+fn check_places<R: Abort>(rt: &R, scopes: &Scopes, func: &FuncType, places: &[u32]) {
+    let many = scopes.equal_len(func);
+    check_count(rt, "equal function types", many, places.len());
+    for k in 0..many {
+        let place = scopes.equal_at(func, k);
+        check_holds(rt, "a place", places.get(k) == Some(&place));
+    }
+}
+
 // The equals of that function type that choices by 0, 1, 2 and so on find.
 fn check_equals<R: Abort>(
     rt: &R,
@@ -60,6 +70,7 @@ fn push<R: Abort>(rt: &R, scopes: &mut Scopes, entry: &Rc<DefType>) -> Result<u3
 #[test]
 fn a_push_while_memory_runs_out(rt: HostRuntime) -> Result<(), Fail> {
     let alloc = rt.alloc();
+    let func = of_char(alloc, "b")?;
     let mut scopes = Scopes::new(alloc);
     let first = shared(alloc, of_char(alloc, "b")?)?;
     let mut memory = Scarcity::new(alloc)?;
@@ -68,11 +79,13 @@ fn a_push_while_memory_runs_out(rt: HostRuntime) -> Result<(), Fail> {
         match push(&rt, &mut scopes, &first) {
             Ok(index) => {
                 check_holds(&rt, "an index", index == 0);
+                check_places(&rt, &scopes, &func, &[0]);
                 check_holds(&rt, "a push", 0 < refused);
                 return Ok(());
             }
             Err(error) => {
                 check_out_of_memory(&rt, "a push", error);
+                check_places(&rt, &scopes, &func, &[]);
                 check_count(&rt, "types", scopes.own_len(), 0);
             }
         }

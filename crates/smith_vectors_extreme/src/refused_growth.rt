@@ -197,13 +197,12 @@ fn component_type<R: Abort + AllocGlobal>(
 ) -> Result<Rc<DefType>, Error> {
     let config = small_limits();
     config.check()?;
-    let valtypes = configured_valtypes(&config);
+    let valtypes = configured_valtypes(rt.alloc(), &config)?;
     let depth = scopes.depth();
     assert!(rt; depth == 1);
     let mut fuel = 10;
     let mut u = Unstructured::new(COMPONENT_TYPE);
-    let (ty, _mark) = arbitrary_type(rt.alloc(), &mut u, &config, valtypes, scopes, &mut fuel)?;
-    Ok(ty)
+    arbitrary_type(rt.alloc(), &mut u, &config, &valtypes, scopes, &mut fuel)
 }
 
 #[test]

@@ -1,14 +1,19 @@
 -- What bytes are to a validator, of those that may spell a component.
-use Rattle.std.specs.Prelude.{◌≡◌, ℕ, List, IfSome}
+use Rattle.std.specs.Prelude.{◌≡◌, ℕ, List, IfSome, Some}
 use Rattle.smith_tree.specs.Grammar.{Spells}
 use Rattle.smith_tree.specs.Tree.{Tree}
 use Rattle.smith_tree.specs.WellFormed.{WellFormed}
 use Rattle.smith_validity.specs.Validates.{Validates}
 use Rattle.smith_validate.specs.Outcome.{IsUnmet}
-use Rattle.smith_verdict.specs.Verdicts.{IsOffset, IsVerdict}
+use Rattle.smith_places.specs.Places.{offset_in}
+use Rattle.smith_verdict.specs.Verdicts.{IsVerdict}
 use Rattle.smith_verdict.specs.declared.validity.Validity.{Validity}
 use Rattle.smith_verdict.specs.declared.validity.Validity.TheVariants as validity
 use Rattle.smith_verdict.specs.declared.verdict.Verdict.TheVariants.{WellFormed as found_well_formed}
+
+-- an entry of the component begins at that offset
+abbrev pub IsOffset : Tree → ℕ → Type 0
+IsOffset t offset = (path : List ℕ) × (entry : ℕ) × (offset_in path entry t ≡ Some offset)
 
 -- They spell a component that is well formed and validates; or one that is well formed and does not meet that demand, with the offset of an entry; or
 -- else they are what they are found to be, no well formed component.

@@ -1,17 +1,27 @@
 //! Laws of verdicts. Each function does nothing: its contract is the law.
 
-ghost use Rattle.std.specs.Prelude.{◌≡◌, ℕ, List};
+ghost use Rattle.std.specs.Prelude.{◌≡◌, ℕ, List, true};
 ghost use Rattle.smith_format.specs.Consistency.{IsConsistent};
 ghost use Rattle.smith_format.specs.declared.config.Config.{Config};
 ghost use Rattle.smith_tree.specs.Grammar.{Spells};
 ghost use Rattle.smith_tree.specs.Readable.{CanBeGenerated};
 ghost use Rattle.smith_tree.specs.Tree.{Tree};
+ghost use Rattle.smith_verdict.specs.Validities.{IsValidity};
 ghost use Rattle.smith_verdict.specs.Verdicts.{IsVerdict};
 
+use crate::validity::Validity;
 use crate::verdict::Verdict;
 
 /// The bytes of a component that can be generated, such as those that `generate` returns, are found well formed.
 pub fn generated_components_are_well_formed()
     ensures { (config : Config) (tree : Tree) (bytes : List ℕ) (found : Verdict) → IsConsistent config
         → CanBeGenerated config tree → Spells tree bytes → IsVerdict bytes found → found ≡ Verdict.WellFormed }
+{}
+
+/// Where components must validate, the bytes of one that can be generated, such as those that `generate` returns, are
+/// found valid.
+pub fn generated_components_are_valid()
+    ensures { (config : Config) (tree : Tree) (bytes : List ℕ) (found : Validity) → config.must_validate ≡ true
+        → IsConsistent config → CanBeGenerated config tree → Spells tree bytes → IsValidity bytes found
+        → found ≡ Validity.Valid }
 {}

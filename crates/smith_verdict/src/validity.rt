@@ -1,8 +1,10 @@
 //! What bytes are to a validator: a component that it accepts, one that it does not, or none that is well formed.
 
-ghost use Rattle.std.specs.Prelude.{IfOk};
+ghost use Rattle.std.specs.Prelude.{◌≤◌, IfOk};
+ghost use Rattle.smith_tree.specs.Depths.{scope_depth};
 ghost use Rattle.smith_tree.specs.Grammar.{Spells};
 ghost use Rattle.smith_read.specs.PartNodes.{shown_tree};
+ghost use Rattle.smith_read.specs.Reads.{most_depth};
 ghost use Rattle.smith_verdict.specs.Validities.{IsValidity};
 
 use crate::verdict::{Verdict, check_component};
@@ -51,7 +53,8 @@ fn validity_of(
     bytes: &[u8],
     component: &ComponentTree,
 ) -> Result<Validity, AllocError>
-    requires { Spells (shown_tree component.now) bytes.now }
+    requires spelled { Spells (shown_tree component.now) bytes.now }
+    requires shallow { scope_depth (shown_tree component.now) ≤ most_depth }
     ensures { IfOk result (IsValidity bytes.now) }
 {
     let verdict = check_component(alloc, bytes, component)?;

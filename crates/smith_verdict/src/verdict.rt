@@ -1,9 +1,11 @@
 //! What bytes are: a component that is well formed, one that is not, or none that is read.
 
-ghost use Rattle.std.specs.Prelude.{◌≡◌, IfOk};
+ghost use Rattle.std.specs.Prelude.{◌≡◌, ◌≤◌, IfOk};
+ghost use Rattle.smith_tree.specs.Depths.{scope_depth};
 ghost use Rattle.smith_tree.specs.Grammar.{Spells};
 ghost use Rattle.smith_tree.specs.WellFormed.{WellFormed};
 ghost use Rattle.smith_read.specs.PartNodes.{shown_tree};
+ghost use Rattle.smith_read.specs.Reads.{most_depth};
 ghost use Rattle.smith_verdict.specs.Verdicts.{IsVerdict};
 
 use smith_check::{Judgement, Rule, judged};
@@ -19,7 +21,9 @@ use std::fmt;
 pub enum Verdict {
     /// A component that is well formed.
     WellFormed,
-    /// A component that is not: a rule that it breaks, and the offset of the entry that breaks it.
+    /// A component that is not: a rule that it breaks, and the offset of the entry that breaks it. What precedes that
+    /// entry is well formed, and what ends with it is not. The offset is always there. Which rule it is, no contract
+    /// says.
     IllFormed { rule: Rule, offset: Option<usize> },
     /// No component of the grammar, or one whose scopes are nested more than `MOST_DEPTH` of `smith_read` deep: why,
     /// and the offset at which that was seen, which is at most the length.
@@ -46,7 +50,8 @@ pub(crate) fn check_component(
     bytes: &[u8],
     component: &ComponentTree,
 ) -> Result<Verdict, AllocError>
-    requires { Spells (shown_tree component.now) bytes.now }
+    requires spelled { Spells (shown_tree component.now) bytes.now }
+    requires shallow { scope_depth (shown_tree component.now) ≤ most_depth }
     ensures verdict { IfOk result (IsVerdict bytes.now) }
     ensures formed { IfOk result (λ v. v ≡ Verdict.WellFormed → WellFormed (shown_tree component.now)) }
 {

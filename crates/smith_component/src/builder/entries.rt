@@ -12,9 +12,9 @@ ghost use Rattle.smith_component.specs.EntriesState.{CanReadTypes, GrowsScope};
 ghost use Rattle.smith_component.specs.SectionValues.{ReadsTypeValue, ReadsCoreTypeValue};
 
 use crate::builder::Progress;
-use smith_format::{Config, ValType, configured_valtypes};
+use smith_format::{Config, ValType, valtypes_of};
 use smith_input::{Error, Unstructured};
-use smith_types::{CoreType, DefType, Scopes, arbitrary_core_type, arbitrary_type};
+use smith_types::{CoreType, DefType, Scopes, arbitrary_core_type, arbitrary_marked_type};
 use std::alloc::Global;
 use std::rc::Rc;
 
@@ -59,7 +59,7 @@ impl Progress {
         ensures memory { IfErr result (λ e. e ≡ Error.OutOfMemory) }
         ensures tail { IsTail u.new u.old }
     {
-        let valtypes = configured_valtypes(&self.config);
+        let valtypes = valtypes_of(&self.config);
         let scopes = &mut self.scopes;
         let mut entries = Vec::new(self.alloc);
         for done in 0..max {
@@ -86,7 +86,7 @@ impl SectionEntry for Rc<DefType> {
         u: &mut Unstructured,
     ) -> Result<Rc<DefType>, Error> {
         let mut fuel = config.max_type_size;
-        let (made, mark) = arbitrary_type(alloc, u, config, valtypes, scopes, &mut fuel)?;
+        let (made, mark) = arbitrary_marked_type(alloc, u, config, valtypes, scopes, &mut fuel)?;
         scopes.push_marked(made.clone()?, mark)?;
         Ok(made)
     }

@@ -14,8 +14,7 @@ use crate::module::{Kept, Module};
 use crate::preamble::CORE_PREAMBLE;
 use smith_format::{
     Config, FuncType, MemoryType, Spelled, ValType, arbitrary_memtype, begin_section,
-    configured_func_type, configured_valtypes, end_section, many_len, put_many, u32_len,
-    write_bytes,
+    configured_func_type, end_section, many_len, put_many, u32_len, valtypes_of, write_bytes,
 };
 use smith_input::{Error, Unstructured};
 use std::alloc::Global;
@@ -141,7 +140,7 @@ impl Module {
         if config.min_memories > config.max_memories {
             return Err(Error::ModuleRefused);
         }
-        let valtypes = configured_valtypes(&config);
+        let valtypes = valtypes_of(&config);
         let types = function_types(alloc, u, &config, valtypes, config.max_types.min(20))?;
         let memories = memories(alloc, u, &config)?;
         let stand_in = StandIn {

@@ -1,6 +1,6 @@
 //! Which function types of a scope are equal, once that is asked.
 
-ghost use Rattle.std.specs.Prelude.{◌≡◌, ◌≤◌, List, [], length, OnOk, IfErr};
+ghost use Rattle.std.specs.Prelude.{◌≡◌, ◌<◌, ◌≤◌, List, [], drop, length, slice_get, OnOk, IfErr, Some};
 ghost use Rattle.smith_format.specs.Consistency.{max_u32};
 ghost use Rattle.smith_syntax.specs.HasSignature.{has_signature};
 ghost use Rattle.smith_syntax.specs.Places.{places};
@@ -16,7 +16,7 @@ use std::rc::Rc;
 
 // The indexes of the equals of each function type. The names in them are from the input: a hasher that such names can
 // steer would make the map slow, and they cannot steer SipHash.
-type Rows = HashMap<Rc<FuncType>, Vec<u32>, BuildHasherDefault<DefaultHasher>>;
+type Rows = HashMap<FuncType, Vec<u32>, BuildHasherDefault<DefaultHasher>>;
 
 // The rows of the first types of a scope. The others are noted when equal types are next asked for, which is never in
 // most scopes.
@@ -27,11 +27,11 @@ pub(super) struct Equals {
 }
 
 // Puts the index at the end of the row of a function type.
-fn note(rows: &mut Rows, alloc: Global, func: &Rc<FuncType>, index: u32) -> Result<(), Error>
-    ensures ok { OnOk result (Notes func.now.value index rows.old rows.new) }
+fn note(rows: &mut Rows, alloc: Global, func: &FuncType, index: u32) -> Result<(), Error>
+    ensures ok { OnOk result (Notes func.now index rows.old rows.new) }
     ensures memory { IfErr result (λ e. e ≡ Error.OutOfMemory) }
 {
-    let key = func.clone()?;
+    let key = func.copied(alloc)?;
     let row = rows.entry(key)?.or_insert(Vec::new(alloc));
     row.push(index)?;
     Ok(())
@@ -43,9 +43,52 @@ fn note_type(rows: &mut Rows, alloc: Global, ty: &DefType, index: u32) -> Result
     ensures memory { IfErr result (λ e. e ≡ Error.OutOfMemory) }
 {
     match ty {
-        DefType::Func(func) => note(rows, alloc, func, index),
+        DefType::Func(func) => note(rows, alloc, &**func, index),
         DefType::Defined(_) | DefType::Component(_) | DefType::Instance(_) => Ok(()),
     }
+}
+
+// Is it a function type that is equal to that one?
+fn is_equal(ty: &DefType, func: &FuncType) -> bool
+    ensures { result ≡ has_signature func.now ty.now }
+{
+    match ty {
+        DefType::Func(other) => *func == **other,
+        DefType::Defined(_) | DefType::Component(_) | DefType::Instance(_) => false,
+    }
+}
+
+// How many types from that index on are equal to a function type.
+pub(super) fn later_len(types: &[Rc<DefType>], from: usize, func: &FuncType) -> usize
+    requires { from ≤ length types.now }
+    ensures count { result ≡ length (places (has_signature func.now) from (drop from (values_of types.now))) }
+    ensures few { result ≤ length types.now }
+{
+    let mut count = 0;
+    for index in from..types.len() {
+        if is_equal(&*types[index], func) {
+            count += 1;
+        }
+    }
+    count
+}
+
+// The index of the type from that index on that is equal to a function type and has `k` earlier such ones.
+pub(super) fn later_at(types: &[Rc<DefType>], from: usize, func: &FuncType, k: usize) -> u32
+    requires few { length types.now ≤ max_u32 }
+    requires one { k < length (places (has_signature func.now) from (drop from (values_of types.now))) }
+    ensures { slice_get (places (has_signature func.now) from (drop from (values_of types.now))) k ≡ Some result }
+{
+    let mut earlier = 0;
+    for index in from..types.len() {
+        if is_equal(&*types[index], func) {
+            if earlier == k {
+                return index as u32;
+            }
+            earlier += 1;
+        }
+    }
+    0
 }
 
 impl Equals {
@@ -73,10 +116,17 @@ impl Equals {
         Ok(())
     }
 
+    // How many types are noted.
+    pub(super) fn noted(&self) -> usize
+        ensures { result ≡ self.now.noted }
+    {
+        self.noted
+    }
+
     // The indexes of the equals of a function type among those that are noted.
-    fn row(&self, func: &Rc<FuncType>) -> &[u32]
+    pub(super) fn row(&self, func: &FuncType) -> &[u32]
         ensures { (types : List DefType) → AreRows self.now types
-            → result.now ≡ places (has_signature func.now.value) 0 types }
+            → result.now ≡ places (has_signature func.now) 0 types }
     {
         match self.rows.get(func) {
             Some(row) => row,
@@ -85,9 +135,9 @@ impl Equals {
     }
 
     // One of these indexes, by a choice; none where there is none.
-    pub(super) fn choose(&self, func: &Rc<FuncType>, u: &mut Unstructured) -> Option<u32>
+    pub(super) fn choose(&self, func: &FuncType, u: &mut Unstructured) -> Option<u32>
         ensures { (types : List DefType) → AreRows self.now types
-            → IsChosenEqual types func.now.value u.old result u.new }
+            → IsChosenEqual types func.now u.old result u.new }
     {
         let row = self.row(func);
         if row.is_empty() {

@@ -5,17 +5,19 @@ ghost use Rattle.smith_format.specs.Consistency.{max_u32};
 ghost use Rattle.smith_scopes.specs.Kept.{offered_places};
 ghost use Rattle.smith_syntax.specs.Marks.{no_mark};
 ghost use Rattle.smith_scopes.specs.Scopes.{own_marked, own_scope, kind_places, last_of, scope_at};
+ghost use Rattle.smith_scopes.specs.Scopes.{equal_places, lists_at, lists_in, shown_types};
 
 use super::marked::Marked;
 use super::offers::Offer;
 use crate::scopes::{Kind, Scopes};
-use smith_syntax::{CoreType, DefType, Mark};
+use smith_syntax::{CoreType, DefType, FuncType, Mark};
 use std::rc::Rc;
 
 impl Scopes {
     /// How many scopes there are.
     pub fn depth(&self) -> usize
         ensures count { result ≡ length self.now }
+        ensures lists { result ≡ length (lists_in self.now) }
         ensures some { 1 ≤ result }
     {
         self.outer.len() + 1
@@ -37,6 +39,7 @@ impl Scopes {
     pub fn len(&self, count: u32) -> usize
         requires { count < length self.now }
         ensures count { result ≡ length (scope_at self.now count).types }
+        ensures lists { result ≡ length (lists_at self.now count).types }
         ensures few { result ≤ max_u32 }
     {
         self.scope(count).scope.types.len()
@@ -46,6 +49,7 @@ impl Scopes {
     pub fn len_core(&self, count: u32) -> usize
         requires { count < length self.now }
         ensures count { result ≡ length (scope_at self.now count).core_types }
+        ensures lists { result ≡ length (lists_at self.now count).core_types }
         ensures few { result ≤ max_u32 }
     {
         self.scope(count).scope.core_types.len()
@@ -55,7 +59,8 @@ impl Scopes {
     pub fn get(&self, count: u32, i: u32) -> &Rc<DefType>
         requires scope { count < length self.now }
         requires entry { i < length (scope_at self.now count).types }
-        ensures { slice_get (scope_at self.now count).types i ≡ Some result.now.value }
+        ensures value { slice_get (scope_at self.now count).types i ≡ Some result.now.value }
+        ensures lists { slice_get (lists_at self.now count).types i ≡ Some result.now.value }
     {
         &self.scope(count).scope.types[i as usize]
     }
@@ -64,7 +69,8 @@ impl Scopes {
     pub fn get_core(&self, count: u32, i: u32) -> &Rc<CoreType>
         requires scope { count < length self.now }
         requires entry { i < length (scope_at self.now count).core_types }
-        ensures { slice_get (scope_at self.now count).core_types i ≡ Some result.now.value }
+        ensures value { slice_get (scope_at self.now count).core_types i ≡ Some result.now.value }
+        ensures lists { slice_get (lists_at self.now count).core_types i ≡ Some result.now.value }
     {
         &self.scope(count).scope.core_types[i as usize]
     }
@@ -80,6 +86,7 @@ impl Scopes {
     /// How many entries of the last scope are of that kind.
     pub fn kind_len(&self, kind: Kind) -> usize
         ensures count { result ≡ length (kind_places kind (own_scope self.now)) }
+        ensures lists { result ≡ length (kind_places kind (shown_types (lists_at self.now 0))) }
         ensures few { result ≤ max_u32 }
         ensures small { result < 9223372036854775808 }
     {
@@ -89,9 +96,27 @@ impl Scopes {
     /// The index of the entry of the last scope that has `k` earlier ones of its kind.
     pub fn kind_at(&self, kind: Kind, k: usize) -> u32
         requires { k < length (kind_places kind (own_scope self.now)) }
-        ensures { slice_get (kind_places kind (own_scope self.now)) k ≡ Some result }
+        ensures value { slice_get (kind_places kind (own_scope self.now)) k ≡ Some result }
+        ensures lists { slice_get (kind_places kind (shown_types (lists_at self.now 0))) k ≡ Some result }
     {
         self.inner.places(kind)[k]
+    }
+
+    /// How many types of the last scope are function types equal to that one. Of the types that were added since a lift
+    /// last asked, each is compared.
+    pub fn equal_len(&self, func: &FuncType) -> usize
+        ensures count { result ≡ length (equal_places func.now (lists_at self.now 0)) }
+        ensures few { result ≤ max_u32 }
+    {
+        self.inner.scope.equal_len(func)
+    }
+
+    /// The index of the function type of the last scope that equals that one and has `k` earlier such ones.
+    pub fn equal_at(&self, func: &FuncType, k: usize) -> u32
+        requires { k < length (equal_places func.now (lists_at self.now 0)) }
+        ensures { slice_get (equal_places func.now (lists_at self.now 0)) k ≡ Some result }
+    {
+        self.inner.scope.equal_at(func, k)
     }
 
     /// Are marks kept?

@@ -2,7 +2,7 @@ use Rattle.std.proofs.Common.{◌≡◌, ◌∙◌, sym, ap, subst}
 use Rattle.smith_format.specs.declared.config.Config.{Config}
 use Rattle.smith_format.specs.Consistency.{IsConsistent}
 use Rattle.smith_tree.specs.Script.{Within}
-use Rattle.smith_c.specs.Scripts.{Withholds, status_of}
+use Rattle.smith_c.specs.Scripts.{Withholds, offset_of, status_of}
 use Rattle.smith_c.proofs.Once.{limits_once}
 use Rattle.smith_c.proofs.Scripts.{withheld}
 use Rattle.smith_c.proofs.script.scripted.Goals as goal
@@ -10,8 +10,9 @@ use Rattle.smith_c.proofs.script.scripted.Goals as goal
 pub returns-in-Err-clause-withholds : goal.returns-in-Err-clause-withholds
 returns-in-Err-clause-withholds c =
     let why = withheld c.args.limits.now c.args.bytes.now c.in-Some.config c.in-Some.ensures.told c.in-Err.error c.in-Err.ensures.limits
-    c.in-Err.ensures.no_input in
-    subst (Withholds c.args.limits.now c.args.bytes.now) (sym c.refusal_of.ensures.status) why
+    c.in-Err.ensures.no_input c.in-Err.ensures.why in
+    subst (λ o. Withholds c.args.limits.now c.args.bytes.now c.refusal_of.result.status o) (sym c.refusal_of.ensures.offset)
+    (subst (λ s. Withholds c.args.limits.now c.args.bytes.now s (offset_of c.in-Err.error)) (sym c.refusal_of.ensures.status) why)
 
 pub returns-in-Err-clause-plans : goal.returns-in-Err-clause-plans
 returns-in-Err-clause-plans c config plan told consistent within spells =

@@ -5,6 +5,8 @@ use Rattle.smith_tree.specs.WellFormed.{FormedCanons}
 use Rattle.smith_read.specs.PartNodes.{shown_canon_node}
 use Rattle.smith_read_scopes.specs.Scopes.{own_in}
 use Rattle.smith_check.specs.Preceding.{spaces_in}
+use Rattle.smith_check.specs.Tracks.{path_of}
+use Rattle.smith_check.proofs.Fronts.{Front}
 use Rattle.smith_check.proofs.Judging.{Same}
 use Rattle.smith_check.proofs.sections.check_canons.Given as goal
 
@@ -16,4 +18,7 @@ invariant-loop-canon l = record {
       ≡ fold after_canon (spaces_in (own_in l.scopes) l.initial.here) (map shown_canon_node l.canons);
   imports : l.here.imports ≡ l.initial.here.imports;
   exports : l.here.exports ≡ l.initial.here.exports;
+  path : path_of l.track ≡ path_of l.initial.track;
+  entry : l.track.place.entry ≡ l.canon-index;
+  front : Front FormedCanons shown_canon_node l.canons (spaces_in (own_in l.scopes) l.initial.here) l.canon-index (spaces_in (own_in l.scopes) l.here);
 }

@@ -6,6 +6,9 @@ use Rattle.smith_tree.specs.WellFormed.{FormedExports, export_names}
 use Rattle.smith_read.specs.PartNodes.{shown_export_node}
 use Rattle.smith_check.specs.Preceding.{spaces_in}
 use Rattle.smith_check.specs.Taken.{Knows}
+use Rattle.smith_check.specs.Tracks.{path_of}
+use Rattle.smith_check.proofs.Fronts.{Front}
+use Rattle.smith_check.proofs.Named.{exports_judged}
 use Rattle.smith_check.proofs.Judging.{Same}
 use Rattle.smith_check.proofs.sections.check_exports.Given as goal
 
@@ -19,4 +22,9 @@ invariant-loop-export l = record {
   added : (own : PlainScope) → fold after_export (spaces_in own l.here) (map shown_export_node (drop l.export-index l.exports))
       ≡ fold after_export (spaces_in own l.initial.here) (map shown_export_node l.exports);
   imports : l.here.imports ≡ l.initial.here.imports;
+  path : path_of l.track ≡ path_of l.initial.track;
+  entry : l.track.place.entry ≡ l.export-index;
+  front : (own : PlainScope) (before : List (List ℕ)) → Knows l.initial.here.exports before
+      → Front exports_judged shown_export_node l.exports (spaces_in own l.initial.here, before) l.export-index
+      (spaces_in own l.here, before ++ export_names (map shown_export_node (take l.export-index l.exports)));
 }

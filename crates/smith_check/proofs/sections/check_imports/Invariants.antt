@@ -7,6 +7,9 @@ use Rattle.smith_read.specs.PartNodes.{shown_import_node}
 use Rattle.smith_read_scopes.specs.Scopes.{own_in}
 use Rattle.smith_check.specs.Preceding.{spaces_in}
 use Rattle.smith_check.specs.Taken.{Knows}
+use Rattle.smith_check.specs.Tracks.{path_of}
+use Rattle.smith_check.proofs.Fronts.{Front}
+use Rattle.smith_check.proofs.Named.{imports_judged}
 use Rattle.smith_check.proofs.Judging.{AllLeft, Same}
 use Rattle.smith_check.proofs.sections.check_imports.Given as goal
 
@@ -20,4 +23,9 @@ invariant-loop-import l = record {
   added : fold after_import (spaces_in (own_in l.scopes) l.here) (map shown_import_node (drop l.import-index l.imports))
       ≡ fold after_import (spaces_in (own_in l.scopes) l.initial.here) (map shown_import_node l.imports);
   exports : l.here.exports ≡ l.initial.here.exports;
+  path : path_of l.track ≡ path_of l.initial.track;
+  entry : l.track.place.entry ≡ l.import-index;
+  front : (before : List (List ℕ)) → Knows l.initial.here.imports before
+      → Front (imports_judged (own_in l.scopes)) shown_import_node l.imports before l.import-index
+      (before ++ import_names (map shown_import_node (take l.import-index l.imports)));
 }

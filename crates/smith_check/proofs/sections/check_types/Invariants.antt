@@ -4,6 +4,8 @@ use Rattle.smith_syntax.specs.Scope.{with_types}
 use Rattle.smith_syntax.specs.WellFormed.{FormedTypes}
 use Rattle.smith_read_types.specs.TypeNodes.{shown_type_node}
 use Rattle.smith_read_scopes.specs.Scopes.{outer_in, own_in}
+use Rattle.smith_check.specs.Tracks.{path_of}
+use Rattle.smith_check.proofs.Fronts.{Front}
 use Rattle.smith_check.proofs.Judging.{Same}
 use Rattle.smith_check.proofs.sections.check_types.Given as goal
 
@@ -14,4 +16,7 @@ invariant-loop-ty l = record {
       ≡ with_types (own_in l.initial.scopes) (map shown_type_node l.types);
   left : Same (FormedTypes (map shown_type_node l.types) (own_in l.initial.scopes) (outer_in l.initial.scopes))
       (FormedTypes (map shown_type_node (drop l.ty-index l.types)) (own_in l.scopes) (outer_in l.scopes));
+  path : path_of l.track ≡ path_of l.initial.track;
+  entry : l.track.place.entry ≡ l.ty-index;
+  front : Front (λ ts own. FormedTypes ts own (outer_in l.initial.scopes)) shown_type_node l.types (own_in l.initial.scopes) l.ty-index (own_in l.scopes);
 }

@@ -4,7 +4,6 @@ use Rattle.smith_input.specs.declared.error.Error.TheVariants.{OutOfMemory}
 use Rattle.smith_component.proofs.Finishing.{refused}
 use Rattle.smith_component.proofs.Refusals.{refused_accepted}
 use Rattle.smith_component.proofs.Plans.{plan_lacks_none, plan_refuses_no_module}
-use Rattle.smith_marks.proofs.Components.{valid_tree}
 use Rattle.smith_component.proofs.generation.generate.Goals as goal
 
 pub returns-clause-generated : goal.returns-clause-generated
@@ -16,9 +15,7 @@ pub returns-clause-made : goal.returns-clause-made
 returns-clause-made c = c.in_ok-component.ensures.made
 
 pub returns-clause-validates : goal.returns-clause-validates
-returns-clause-validates c valid =
-    let image = c.in_ok-component.ensures.made.image in
-    valid_tree c.args.config valid c.in_ok-component.component c.in_ok-component.ensures.accepts image.formed image.limits image.offered
+returns-clause-validates c valid = c.in_ok-component.ensures.validates valid
 
 pub returns-clause-accepts : goal.returns-clause-accepts
 returns-clause-accepts c = c.in_ok-component.ensures.accepts

@@ -27,4 +27,4 @@ returns-clause-refuses c other t spells b script =
     let formed = given_formed c.args.config.now t b (script_given c.args.config.now t b script) in
     let same = spells_law t (shown_tree c.in-Ok.tree) c.args.bytes.now spells c.in-Ok.ensures.reads.spelled in
     let judged = rw c.in-IllFormed.is at (c.in_ok-judged.ensures {u = tt}) in
-    judged (subst WellFormed same formed)
+    judged.0 (subst WellFormed same formed)

@@ -19,7 +19,7 @@ returns-in_err-left-clause-said c =
     (towards_exit _ _ c.loop-done.invariant.said
     (functions_said c.args.config.now c.loop-done.done count (c.args.count - (c.loop-done.done + 1))
     c.loop-done.left.now (omega (arith, c.loop-done-test.true)))
-    (unsaid_right _ (rw ((c.in_ok-valtypes.ensures {u = tt}).list, c.max_results-most_results.ensures) at c.in_err-left.ensures.said)))
+    (unsaid_right _ (rw ((c.in_ok-valtypes.ensures {u = tt}).value, c.max_results-most_results.ensures) at c.in_err-left.ensures.said)))
 
 pub loop-done-preserved : goal.loop-done-preserved
 loop-done-preserved c =
@@ -29,7 +29,7 @@ loop-done-preserved c =
     rw c.in_ok-left.ensures.left (record {
       said = towards_step _ _ c.loop-done.invariant.said (functions_said c.args.config.now c.loop-done.done count less c.loop-done.left.now more)
           (adds_then (c.in_ok-put_more.ensures {u = tt})
-          (rw ((c.in_ok-valtypes.ensures {u = tt}).list, c.max_results-most_results.ensures) at c.in_ok-left.ensures.said));
+          (rw ((c.in_ok-valtypes.ensures {u = tt}).value, c.max_results-most_results.ensures) at c.in_ok-left.ensures.said));
       left = sym (functions_left count less c.loop-done.left.now more) ∙ c.loop-done.invariant.left;
     })
 

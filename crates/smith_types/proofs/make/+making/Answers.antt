@@ -137,11 +137,11 @@ scoped::declare-returns-in_ok-push-in-Instance-clause-made t c = λ s own held.
 
 pub scoped::scoped_type-returns-in_err-made-clause-scopes : goal.scoped::scoped_type-returns-in_err-made-clause-scopes
 scoped::scoped_type-returns-in_err-made-clause-scopes t c = closed_again c.args.scopes.now c.open_inner.new.scopes c.declarations-made.new.scopes
-    c.close_scope.new.self _ _ c.in_ok-open_inner.ensures.opened c.declarations-made.ensures.outer c.close_scope.ensures
+    c.close_scope.new.self _ _ c.in_ok-open_inner.ensures.opened c.declarations-made.ensures.outer c.close_scope.ensures.value
 
 pub scoped::scoped_type-returns-clause-scopes : goal.scoped::scoped_type-returns-clause-scopes
 scoped::scoped_type-returns-clause-scopes t c = closed_again c.args.scopes.now c.open_inner.new.scopes c.declarations-made.new.scopes
-    c.close_scope.new.self _ _ c.in_ok-open_inner.ensures.opened c.declarations-made.ensures.outer c.close_scope.ensures
+    c.close_scope.new.self _ _ c.in_ok-open_inner.ensures.opened c.declarations-made.ensures.outer c.close_scope.ensures.value
 
 pub scoped::declarations-returns-then-not-more-clause-closed : goal.scoped::declarations-returns-then-not-more-clause-closed
 scoped::declarations-returns-then-not-more-clause-closed t c = closes c.loop-done.invariant.progress c.requires.fresh

@@ -54,7 +54,7 @@ returns-in_ok-push-in-Some-clause-closes c =
     let finished : c.of-component.result ≡ inner = c.of-component.ensures
     ∙ ap (λ (o : OpenComponent). shown_sections o.sections.items) c.replace-finished.ensures.value in
     let new = around_grown _ _ _ _ c.replace-finished.ensures.after c.in_ok-push-in-Some.ensures.ok ∙ ap (λ t. add parent (component t)) finished in
-    let before = closed_marked b.scopes c.close_scope.new.self (last_of b.scopes) c.close_scope.ensures in
+    let before = closed_marked b.scopes c.close_scope.new.self (last_of b.scopes) c.close_scope.ensures.value in
     let rest = same_tail _ _ _ _ (sym before ∙ (i.0.scopes_are ∙ ap (λ us. marked_inner b.config us inner ∷ marked_in b.config us) around)) in
     let enough = c.requires.minima in
     let all = subst (AllByRecursion IsTabled) c.in-Some.ensures.items i.1.1 in

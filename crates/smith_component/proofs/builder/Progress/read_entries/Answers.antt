@@ -38,7 +38,7 @@ read-requires g c =
     record {
       room = omega (arith, c.loop-done.invariant.count, c.requires.room, c.loop-done-test.true);
       ready = record {
-        configured = c.configured_valtypes-valtypes.ensures;
+        configured = c.valtypes_of-valtypes.ensures;
         consistent = i.sound.consistent;
         shallow = omega (arith, c.loop-done.invariant.depth, length-inward_marked b.scopes, scopes_few _ _ _ i.sound i.scopes_are);
       };

@@ -3,7 +3,7 @@ use Rattle.smith_input.proofs.Reading.{tail_same, tail_trans}
 use Rattle.smith_component.specs.BuilderView.{stack_of}
 use Rattle.smith_tree.specs.Open.{Open}
 use Rattle.smith_component.specs.Refusals.{IsRefusal}
-use Rattle.smith_component.specs.Steps.{next_of, step_of, SoundUnlessDone, StaysSound}
+use Rattle.smith_component.specs.Steps.{next_of, step_of, SoundUnlessDone, StaysWithin}
 use Rattle.smith_component.specs.Turn.{Turn}
 use Rattle.smith_component.specs.Runs.{todo}
 use Rattle.smith_component.proofs.Finishing.{refused}
@@ -29,7 +29,7 @@ loop-done-preserved c =
     let e = c.in_ok-done.ensures in
     let is = c.in-None.is in
     record {
-      config = subst (λ d. StaysSound b.config (step_of c.turn.new.self d)) is e.steps.keeps ∙ i.config;
+      config = subst (λ d. StaysWithin b.config (step_of c.turn.new.self d)) is e.steps.keeps ∙ i.config;
       consistent = i.consistent;
       sound = subst (SoundUnlessDone c.turn.new.self) is e.sound;
       tail = tail_trans c.turn.ensures.tail i.tail;

@@ -37,7 +37,7 @@ pub returns-in-Func : goal.returns-in-Func
 returns-in-Func c =
     let t : DefType = c.get.result.now.value in
     c.is_scalar.ensures ∙ (ap is_scalar c.deref-in-Func.ensures
-    ∙ sym (type_at c.args.scopes.now c.args.ty t c.get.ensures ∙ function_scalar t c.in-Func.func (sym c.deref.ensures ∙ c.in-Func.is)))
+    ∙ sym (type_at c.args.scopes.now c.args.ty t c.get.ensures.value ∙ function_scalar t c.in-Func.func (sym c.deref.ensures ∙ c.in-Func.is)))
 
 -- a defined type, or the type of a component or of an instance
 abbrev IsOther : DefType → Type 0
@@ -55,10 +55,10 @@ other_at : (scopes : List Contents) (p : ℕ) (t v : DefType) → slice_get (las
 other_at scopes p t v h e other = sym (type_at scopes p t h ∙ not_scalar t (subst IsOther e other))
 
 pub returns-in-Defined : goal.returns-in-Defined
-returns-in-Defined c = other_at c.args.scopes.now c.args.ty c.get.result.now.value c.deref.result.now c.get.ensures c.deref.ensures c.in-Defined.is
+returns-in-Defined c = other_at c.args.scopes.now c.args.ty c.get.result.now.value c.deref.result.now c.get.ensures.value c.deref.ensures c.in-Defined.is
 
 pub returns-in-Defined-2 : goal.returns-in-Defined-2
-returns-in-Defined-2 c = other_at c.args.scopes.now c.args.ty c.get.result.now.value c.deref.result.now c.get.ensures c.deref.ensures c.in-Defined.is
+returns-in-Defined-2 c = other_at c.args.scopes.now c.args.ty c.get.result.now.value c.deref.result.now c.get.ensures.value c.deref.ensures c.in-Defined.is
 
 pub returns-in-Defined-3 : goal.returns-in-Defined-3
-returns-in-Defined-3 c = other_at c.args.scopes.now c.args.ty c.get.result.now.value c.deref.result.now c.get.ensures c.deref.ensures c.in-Defined.is
+returns-in-Defined-3 c = other_at c.args.scopes.now c.args.ty c.get.result.now.value c.deref.result.now c.get.ensures.value c.deref.ensures c.in-Defined.is

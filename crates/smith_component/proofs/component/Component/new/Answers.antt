@@ -9,6 +9,7 @@ use Rattle.smith_component.proofs.Plans.{plan_lacks_none, plan_refuses_no_module
 use Rattle.smith_component.proofs.Refusals.{refused_accepted}
 use Rattle.smith_component.proofs.RunsFinishable.{runs_finish}
 use Rattle.smith_component.proofs.RunsReadable.{runs_come}
+use Rattle.smith_component.proofs.Stepped.{valid_generated}
 use Rattle.smith_component.proofs.component.Component.new.Goals as goal
 
 pub run-requires-clause-sound : goal.run-requires-clause-sound
@@ -23,6 +24,13 @@ returns-clause-made c =
     let consistent = subst IsConsistent is c.new-progress.ensures.sound.0.sound.consistent in
     let run = subst (λ (k : Config). IfOk c.run.result (λ x. RunsTo k c.args.u.now x c.run.new.u)) is c.run.ensures.run in
     ok_by c.run.result (λ x r. record { run = r; image = runs_come _ _ _ _ consistent r; finishable = λ followed. runs_finish _ _ _ _ followed r }) run
+
+pub returns-clause-validates : goal.returns-clause-validates
+returns-clause-validates c valid =
+    let is = c.new-progress.ensures.made.0 in
+    let consistent = subst IsConsistent is c.new-progress.ensures.sound.0.sound.consistent in
+    let run = subst (λ (k : Config). IfOk c.run.result (λ x. RunsTo k c.args.u.now x c.run.new.u)) is c.run.ensures.run in
+    ok_by c.run.result (λ x r. valid_generated c.args.config x valid consistent (runs_come _ _ _ _ consistent r)) run
 
 pub returns-clause-reach : goal.returns-clause-reach
 returns-clause-reach c plan rest w e =

@@ -9,8 +9,8 @@ take_last-requires c =
     let many = ap length (sym c.self.view_is) ∙ length-append c.self.inside.outer.items (c.self.inside.inner ∷ []) in
     omega (arith, c.requires, many, c.self.inside.outer.ok.0)
 
-pub returns : goal.returns
-returns c =
+pub returns-clause-value : goal.returns-clause-value
+returns-clause-value c =
     let inner : Contents = c.self.inside.inner in
     let last : last_of c.args.self.now ≡ inner = last_is c.args.self.now c.self.inside.outer.items inner c.self.view_is in
     let rest : List Contents = c.take_last.new.self.items ++ c.take_last.result ∷ [] in

@@ -18,7 +18,7 @@ push_marked-requires c = omega (
 pub returns-in_ok-push_marked-clause-own : goal.returns-in_ok-push_marked-clause-own
 returns-in_ok-push_marked-clause-own c =
     equal_added _ _ c.args.ty c.note_export.ensures c.in-TypeEq.i c.in-TypeEq.is _ _ _ _ c.in_ok-push_marked.ensures.ok c.in_ok-entry.ensures.cases
-    c.get.ensures
+    c.get.ensures.value
     c.equal_mark-mark.ensures
 
 pub returns-in_ok-push_marked-clause-around : goal.returns-in_ok-push_marked-clause-around

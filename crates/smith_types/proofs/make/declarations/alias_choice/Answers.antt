@@ -37,7 +37,7 @@ returns-then-place-types-clause-reads c =
     type_alias_read scopes c.args.u.now c.choose-count.new.self c.choose_index-place.new.self c.choose-count.result.now c.choose_index-place.result r a.within
     (subst R (omega (arith, c.len-types.ensures.count, c.len_core.ensures.count)) c.choose_index-place.ensures)
     c.in_ok-clone.field-0.value
-    (c.get.ensures ∙ ap Some (sym c.in_ok-clone.ensures.cases))
+    (c.get.ensures.value ∙ ap Some (sym c.in_ok-clone.ensures.cases))
     )
 
 pub returns-clause-reads : goal.returns-clause-reads
@@ -54,7 +54,7 @@ returns-clause-reads c =
     (c.choose_index-place.result - c.len-types.result)
     c.in_ok-clone-2.field-0.value
     (omega (arith, c.len-types.ensures.count, c.if-place-types.false))
-    (c.get_core.ensures ∙ ap Some (sym c.in_ok-clone-2.ensures.cases))
+    (c.get_core.ensures.value ∙ ap Some (sym c.in_ok-clone-2.ensures.cases))
     )
 
 pub returns-then-place-types-clause-scope : goal.returns-then-place-types-clause-scope

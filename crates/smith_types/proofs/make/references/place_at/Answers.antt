@@ -33,4 +33,4 @@ returns-in-None c =
     ap (λ xs. slice_get xs c.args.rank)
     (places_of_modules c.args.kind c.args.for_import (own_marked c.args.scopes.now) (sym c.offer_of.ensures ∙ c.in-None.is)
     ∙ sym (ap (λ s. places is_core_module 0 s.core_types) (own_scope_is c.args.scopes.now)))
-    ∙ c.kind_at.ensures
+    ∙ c.kind_at.ensures.value

@@ -21,14 +21,14 @@ pub unreachable-requires : goal.unreachable-requires
 unreachable-requires c =
     let d = c.args.self.now in
     lowered_other d.scopes.now d.component.now.tables c.args.core_func_index c.index-func_index.result.now c.index-ty.result.now
-    c.requires.known c.index-func_index.ensures c.index-ty.ensures c.get.result.now.value c.get.ensures c.deref.result.now c.deref.ensures c.in-Defined.is
+    c.requires.known c.index-func_index.ensures c.index-ty.ensures c.get.result.now.value c.get.ensures.value c.deref.result.now c.deref.ensures c.in-Defined.is
 
 pub canonical_abi_for-requires : goal.canonical_abi_for-requires
 canonical_abi_for-requires c =
     let d = c.args.self.now in
     ap is_scalar c.deref-2.ensures
     ∙ lowered_scalar d.scopes.now d.component.now.tables c.args.core_func_index c.index-func_index.result.now c.index-ty.result.now c.requires.known
-    c.index-func_index.ensures c.index-ty.ensures c.get.result.now.value c.get.ensures c.in-Func.func (sym c.deref.ensures ∙ c.in-Func.is)
+    c.index-func_index.ensures c.index-ty.ensures c.get.result.now.value c.get.ensures.value c.in-Func.func (sym c.deref.ensures ∙ c.in-Func.is)
 
 pub inverse_scalar_canonical_abi_for-requires : goal.inverse_scalar_canonical_abi_for-requires
 inverse_scalar_canonical_abi_for-requires c = record {
@@ -47,7 +47,7 @@ returns-clause-reads c =
     IfOk-weaker c.inverse_scalar_canonical_abi_for.result
     (λ f. ReadsLiftedType core c.args.u.now f low) (λ f. ReadsLiftedTypeOf own d.component.now.tables c.args.core_func_index c.args.u.now f low)
     (λ f reads. lifts_as d.scopes.now d.component.now.tables c.args.core_func_index c.index-func_index.result.now c.index-ty.result.now c.requires.known
-    c.index-func_index.ensures c.index-ty.ensures c.get.result.now.value c.get.ensures c.in-Func.func (sym c.deref.ensures ∙ c.in-Func.is) core
+    c.index-func_index.ensures c.index-ty.ensures c.get.result.now.value c.get.ensures.value c.in-Func.func (sym c.deref.ensures ∙ c.in-Func.is) core
     c.deref-2.result.now f c.args.u.now low c.deref-2.ensures flat reads)
     c.inverse_scalar_canonical_abi_for.ensures.reads
 

@@ -11,15 +11,15 @@ use Rattle.smith_component.proofs.builder.entries.RcDefTypeSectionEntry.read.Goa
 pub push_marked-requires : goal.push_marked-requires
 push_marked-requires c = omega (
   arith,
-  length-last c.arbitrary_type.new.scopes,
-  ap (λ s. length s.types) (own_scope_is c.arbitrary_type.new.scopes),
+  length-last c.arbitrary_marked_type.new.scopes,
+  ap (λ s. length s.types) (own_scope_is c.arbitrary_marked_type.new.scopes),
   ap (λ s. length (own_marked s).types) c.in_ok-made.ensures.scopes,
   c.requires.room,
 )
 
 pushed : (c : goal.In_ok-push_marked) → AddsMarked c.args.scopes.now c.in_ok-made.made.value c.in_ok-made.mark c.push_marked.new.self
 pushed c =
-    let T : DefType → Type 0 = λ t. AddsMarked c.arbitrary_type.new.scopes t c.in_ok-made.mark c.push_marked.new.self in
+    let T : DefType → Type 0 = λ t. AddsMarked c.arbitrary_marked_type.new.scopes t c.in_ok-made.mark c.push_marked.new.self in
     let S : List Contents → Type 0 = λ s. AddsMarked s c.in_ok-made.made.value c.in_ok-made.mark c.push_marked.new.self in
     subst S c.in_ok-made.ensures.scopes (subst T c.in_ok-clone.ensures.cases c.in_ok-push_marked.ensures.ok)
 
@@ -30,7 +30,7 @@ grows c =
     type_added c.args.scopes.now c.push_marked.new.self c.in_ok-made.made.value c.in_ok-made.mark (pushed c) c.in_ok-made.ensures.mark
 
 pub returns-clause-read : goal.returns-clause-read
-returns-clause-read c = (c.arbitrary_type.new.fuel, c.in_ok-made.ensures.made, (grows c).own)
+returns-clause-read c = (c.arbitrary_marked_type.new.fuel, c.in_ok-made.ensures.made, (grows c).own)
 
 pub returns-clause-count : goal.returns-clause-count
 returns-clause-count c = omega (
@@ -46,13 +46,13 @@ pub returns-clause-depth : goal.returns-clause-depth
 returns-clause-depth c = length-changed _ _ _ (pushed c)
 
 pub returns-in_err-made-clause-tail : goal.returns-in_err-made-clause-tail
-returns-in_err-made-clause-tail c = c.arbitrary_type.ensures.tail
+returns-in_err-made-clause-tail c = c.arbitrary_marked_type.ensures.tail
 
 pub returns-in_err-clone-clause-tail : goal.returns-in_err-clone-clause-tail
-returns-in_err-clone-clause-tail c = c.arbitrary_type.ensures.tail
+returns-in_err-clone-clause-tail c = c.arbitrary_marked_type.ensures.tail
 
 pub returns-in_err-push_marked-clause-tail : goal.returns-in_err-push_marked-clause-tail
-returns-in_err-push_marked-clause-tail c = c.arbitrary_type.ensures.tail
+returns-in_err-push_marked-clause-tail c = c.arbitrary_marked_type.ensures.tail
 
 pub returns-clause-tail : goal.returns-clause-tail
-returns-clause-tail c = c.arbitrary_type.ensures.tail
+returns-clause-tail c = c.arbitrary_marked_type.ensures.tail

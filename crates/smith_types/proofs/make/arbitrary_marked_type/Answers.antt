@@ -11,7 +11,7 @@ use Rattle.smith_types.proofs.MadeFormed.{made_formed, made_offered}
 use Rattle.smith_types.proofs.MadeTypes.{made_limits, made_size, stack_nesting}
 use Rattle.smith_types.proofs.MarkedPlain.{mark_plain}
 use Rattle.smith_types.proofs.ScopedScript.{type_scripted}
-use Rattle.smith_types.proofs.make.arbitrary_type.Goals as goal
+use Rattle.smith_types.proofs.make.arbitrary_marked_type.Goals as goal
 
 pub returns-clause-formed : goal.returns-clause-formed
 returns-clause-formed c =

@@ -1,0 +1,268 @@
+-- What can be generated within some limits can be within wider ones.
+use Rattle.std.proofs.Common.{◌≡◌, ℕ, ◌≤◌, Bool, true, false, if◌then◌else◌, List, [], ◌∷◌, ◌++◌, inl, inr, refl, sym, ◌∙◌, subst, arith}
+use Rattle.std.proofs.lemmas.List.Elements.{Contains-append_left, Contains-append_right, Contains-append_cases}
+use Rattle.std.specs.List.{Contains}
+use Rattle.std.specs.Prelude.{◌⊎◌}
+use Rattle.smith_format.specs.CoreFormed.{FormedFunction}
+use Rattle.smith_format.specs.CoreTypes.{Function}
+use Rattle.smith_format.specs.Limits.{configured, max_results}
+use Rattle.smith_format.specs.declared.config.Config.{Config}
+use Rattle.smith_format.specs.declared.types.EntityType.{EntityType}
+use Rattle.smith_format.specs.declared.types.EntityType.TheVariants.{Func, Table, Memory, Global, Tag}
+use Rattle.smith_format.specs.declared.types.RefType.TheVariants.{FuncRef, ExternRef}
+use Rattle.smith_format.specs.declared.types.ValType.{ValType}
+use Rattle.smith_format.specs.declared.types.ValType.TheVariants.{I32, I64, F32, F64, V128, Ref}
+use Rattle.smith_input.specs.Offers.{offered}
+use Rattle.smith_marks.proofs.Everything.{everything_offered}
+use Rattle.smith_syntax.specs.CoreLimits.{CoreLimits, EntityLimits}
+use Rattle.smith_syntax.specs.Entries.{CoreEntry, Entry, core_func, core_module as module_type, defined, function, component_type, instance_type}
+use Rattle.smith_syntax.specs.Entries.{Decl, Decls, core_type_decl, type_decl, type_alias, core_type_alias, import_decl, export_decl, no_decls, then_decls}
+use Rattle.smith_syntax.specs.Marked.{Marked, empty_marked}
+use Rattle.smith_syntax.specs.ModuleTypes.{declared_in, entities_of}
+use Rattle.smith_syntax.specs.TypeLimits.{DeclLimits, DeclsLimits, EntryLimits}
+use Rattle.smith_tree.specs.CoreTypeNeeds.{core_need}
+use Rattle.smith_tree.specs.Limits.{Maxima, Minima, OwnLimits, OwnSizes, max_depth}
+use Rattle.smith_tree.specs.Marking.{marked_after_part}
+use Rattle.smith_tree.specs.Offered.{IsOffered, OfferedPart, OfferedParts}
+use Rattle.smith_tree.specs.Readable.{AreFinishable, CanBeGenerated, IsFinishable, IsReadablePart, IsReadableRest, StandsForModule}
+use Rattle.smith_tree.specs.Spaces.{Spaces, after_part, core_types_of, no_spaces, types_of}
+use Rattle.smith_tree.specs.Tree.{Tree, Part, add, ends, first, custom, core_module, core_types, component, types, canons, imports, exports}
+use Rattle.smith_tree.specs.Tree.{inside}
+use Rattle.smith_tree.specs.TypeNeeds.{need}
+use Rattle.smith_component.specs.Wider.{AreWider}
+use Rattle.smith_component.proofs.Tables.{all_weaker}
+
+-- whether a boolean is on
+on_or_off : (b : Bool) → (b ≡ true) ⊎ (b ≡ false)
+on_or_off true = inl refl
+on_or_off false = inr refl
+
+-- what is offered where it is on
+more_offered : {A : Type 0} (b c : Bool) (xs : List A) (x : A) → (b ≡ true → c ≡ true) → Contains (offered b xs) x → Contains (offered c xs) x
+more_offered true true xs x wider h = h
+more_offered true false xs x wider h = let z = wider refl in absurd (cc)
+more_offered false true xs x wider h = absurd (omega (arith, h.1))
+more_offered false false xs x wider h = h
+
+-- what is in two lists in a row
+more_in_either : {A : Type 0} (xs ws ys zs : List A) (x : A) → (Contains xs x → Contains ws x) → (Contains ys x → Contains zs x) → Contains (xs ++ ys) x
+    → Contains (ws ++ zs) x
+more_in_either xs ws ys zs x f g h = go (Contains-append_cases xs ys x h)
+  where
+    go : (Contains xs x) ⊎ (Contains ys x) → Contains (ws ++ zs) x
+    go (inl l) = Contains-append_left ws zs x (f l)
+    go (inr r) = Contains-append_right ws zs x (g r)
+
+more_results : (b c : Bool) → (b ≡ true → c ≡ true) → (if b then 20 else 1) ≤ (if c then 20 else 1)
+more_results true true wider = omega arith
+more_results true false wider = let z = wider refl in absurd (cc)
+more_results false true wider = omega arith
+more_results false false wider = omega arith
+
+-- what types are, within limits
+
+abbrev IsFormed : Config → Function → Type 0
+IsFormed c f = FormedFunction (configured c) (max_results c) f
+
+abbrev IsSmall : Config → Entry → Type 0
+IsSmall c e = need e ≤ c.max_type_size
+
+abbrev IsSmallCore : Config → CoreEntry → Type 0
+IsSmallCore c e = core_need e ≤ c.max_type_size
+
+-- the core value types that are there where a feature is on
+
+abbrev floats_of : Config → List ValType
+floats_of c = offered c.allow_floats (F32 ∷ F64 ∷ [])
+
+abbrev vectors_of : Config → List ValType
+vectors_of c = offered c.simd_enabled (V128 ∷ [])
+
+abbrev references_of : Config → List ValType
+references_of c = offered c.reference_types_enabled (Ref FuncRef ∷ Ref ExternRef ∷ [])
+
+module _ {wide narrow : Config} (wider : AreWider wide narrow) where
+  -- core types
+
+  values_wider : (v : ValType) → Contains (configured narrow) v → Contains (configured wide) v
+  values_wider v h =
+      let numbers : List ValType = I32 ∷ I64 ∷ [] in
+      let floats = more_in_either numbers numbers (floats_of narrow) (floats_of wide) v (λ k. k)
+      (more_offered narrow.allow_floats wide.allow_floats (F32 ∷ F64 ∷ []) v wider.floats) in
+      let vectors = more_in_either (numbers ++ floats_of narrow) (numbers ++ floats_of wide) (vectors_of narrow) (vectors_of wide) v floats
+      (more_offered narrow.simd_enabled wide.simd_enabled (V128 ∷ []) v wider.simd) in
+      more_in_either ((numbers ++ floats_of narrow) ++ vectors_of narrow) ((numbers ++ floats_of wide) ++ vectors_of wide) (references_of narrow)
+      (references_of wide) v vectors
+      (more_offered narrow.reference_types_enabled wide.reference_types_enabled (Ref FuncRef ∷ Ref ExternRef ∷ []) v wider.reference_types)
+      h
+
+  function_wider : (f : Function) → FormedFunction (configured narrow) (max_results narrow) f → FormedFunction (configured wide) (max_results wide) f
+  function_wider f h =
+      let more = more_results narrow.multi_value_enabled wide.multi_value_enabled wider.multi_value in
+      let few = h.few_results in
+      record {
+        few_params = h.few_params;
+        few_results = omega (arith, few, more);
+        params = all_weaker (Contains (configured narrow)) (Contains (configured wide)) values_wider f.0 h.params;
+        results = all_weaker (Contains (configured narrow)) (Contains (configured wide)) values_wider f.1 h.results;
+      }
+
+  entity_wider : (e : EntityType) → EntityLimits narrow e → EntityLimits wide e
+  entity_wider (Func i) h = tt
+  entity_wider (Table t) (inl h) = inl h
+  entity_wider (Table t) (inr h) = inr (wider.reference_types h)
+  entity_wider (Memory m) h = tt
+  entity_wider (Global g) h = values_wider g.val_type h
+  entity_wider (Tag t) h = wider.exceptions h
+
+  core_wider : (e : CoreEntry) → CoreLimits narrow e → CoreLimits wide e
+  core_wider (core_func f) h = function_wider f h
+  core_wider (module_type ds) h = record {
+    functions = all_weaker (IsFormed narrow) (IsFormed wide) function_wider (declared_in ds) h.functions;
+    entities = all_weaker (EntityLimits narrow) (EntityLimits wide) entity_wider (entities_of ds) h.entities;
+    types = omega (arith, h.types, wider.max_types);
+    globals = omega (arith, h.globals, wider.max_globals);
+    tables = omega (arith, h.tables, wider.max_tables);
+    memories = omega (arith, h.memories, wider.max_memories);
+    tags = omega (arith, h.tags, wider.max_tags);
+    funcs = omega (arith, h.funcs, wider.max_funcs);
+    declarations = h.declarations;
+  }
+
+  -- types
+
+  mutual
+    entry_wider : (e : Entry) → EntryLimits narrow e → EntryLimits wide e
+    entry_wider (defined t) h = tt
+    entry_wider (function s) h = tt
+    entry_wider (component_type ds) h = (h.0, decls_wider ds h.1)
+    entry_wider (instance_type ds) h = (h.0, decls_wider ds h.1)
+
+    decl_wider : (d : Decl) → DeclLimits narrow d → DeclLimits wide d
+    decl_wider (core_type_decl t k) h = core_wider t h
+    decl_wider (type_decl e) h = entry_wider e h
+    decl_wider (type_alias count i k) h = tt
+    decl_wider (core_type_alias count i k) h = tt
+    decl_wider (import_decl name n r) h = tt
+    decl_wider (export_decl name n r) h = tt
+
+    decls_wider : (ds : Decls) → DeclsLimits narrow ds → DeclsLimits wide ds
+    decls_wider no_decls h = tt
+    decls_wider (then_decls d ds) h = (decl_wider d h.0, decls_wider ds h.1)
+
+  -- components
+
+  own_wider : (t : Tree) → OwnLimits narrow t → OwnLimits wide t
+  own_wider t h = record {
+    types = omega (arith, h.types, wider.max_types);
+    core_types = omega (arith, h.core_types, wider.max_types);
+    imports = omega (arith, h.imports, wider.max_imports);
+    functions = omega (arith, h.functions, wider.max_funcs);
+    exports = omega (arith, h.exports, wider.max_exports);
+    within_types = all_weaker (EntryLimits narrow) (EntryLimits wide) entry_wider (types_of t) h.within_types;
+    within_core_types = all_weaker (CoreLimits narrow) (CoreLimits wide) core_wider (core_types_of t) h.within_core_types;
+    names = h.names;
+  }
+
+  maxima_wider : (t : Tree) → Maxima narrow t → Maxima wide t
+  maxima_wider t h =
+      let deeper : max_depth narrow ≤ max_depth wide = omega (arith, wider.max_nesting_depth) in
+      record {
+        each = all_weaker (OwnLimits narrow) (OwnLimits wide) own_wider (t ∷ inside t) h.each;
+        modules = omega (arith, h.modules, wider.max_modules);
+        components = omega (arith, h.components, wider.max_components);
+        instances = omega (arith, h.instances, wider.max_instances);
+        depth = omega (arith, h.depth, deeper);
+        declared = omega (arith, h.declared, deeper);
+      }
+
+  minima_wider : (t : Tree) → Minima narrow t → Minima wide t
+  minima_wider t h = record {
+    types = omega (arith, h.types, wider.min_types);
+    imports = omega (arith, h.imports, wider.min_imports);
+    functions = omega (arith, h.functions, wider.min_funcs);
+  }
+
+  sizes_wider : (t : Tree) → OwnSizes narrow t → OwnSizes wide t
+  sizes_wider t h = (
+    all_weaker (IsSmall narrow) (IsSmall wide) (λ e small. omega (arith, small, wider.max_type_size)) (types_of t) h.0,
+    all_weaker (IsSmallCore narrow) (IsSmallCore wide) (λ e small. omega (arith, small, wider.max_type_size)) (core_types_of t) h.1,
+  )
+
+  -- what can be read
+
+  module_wider : (text : List ℕ) → StandsForModule narrow text → StandsForModule wide text
+  module_wider text (s, is, e) = (
+    s,
+    record {
+      few_types = omega (arith, is.few_types, wider.max_types);
+      types = all_weaker (IsFormed narrow) (IsFormed wide) function_wider s.types is.types;
+      enough_memories = omega (arith, is.enough_memories, wider.min_memories);
+      few_memories = omega (arith, is.few_memories, wider.max_memories);
+      memories = is.memories;
+    },
+    e,
+  )
+
+  mutual
+    rest_wider : (t before : Tree) → IsReadableRest narrow t before → IsReadableRest wide t before
+    rest_wider ends before h = tt
+    rest_wider (first p t) before h = (part_wider p before h.0, rest_wider t (add before p) h.1)
+
+    part_wider : (p : Part) (before : Tree) → IsReadablePart narrow p before → IsReadablePart wide p before
+    part_wider (custom name contents) before h = h
+    part_wider (core_module text) before h = module_wider text h
+    part_wider (core_types ts) before h = h
+    part_wider (component t) before h = rest_wider t ends h
+    part_wider (types ts) before h = h
+    part_wider (canons fs) before h = tt
+    part_wider (imports is) before h = h
+    part_wider (exports es) before h = (omega (arith, h.0, wider.max_exports), h.1)
+
+  -- what is offered
+
+  mutual
+    parts_offered : (same : wide.must_validate ≡ narrow.must_validate) (t : Tree) (s : Spaces) (outer : List Marked) (own : Marked)
+        → OfferedParts t narrow s outer own → OfferedParts t wide s outer own
+    parts_offered same ends s outer own h = tt
+    parts_offered same (first p t) s outer own h =
+        (part_offered same p s outer own h.0, parts_offered same t (after_part s p) outer (marked_after_part p s outer own) h.1)
+
+    part_offered : (same : wide.must_validate ≡ narrow.must_validate) (p : Part) (s : Spaces) (outer : List Marked) (own : Marked)
+        → OfferedPart p narrow s outer own → OfferedPart p wide s outer own
+    part_offered same (custom name contents) s outer own h = tt
+    part_offered same (core_module text) s outer own h = tt
+    part_offered same (core_types ts) s outer own h = tt
+    part_offered same (component t) s outer own h =
+        subst (λ b. OfferedParts t wide no_spaces (own ∷ outer) (empty_marked b)) (sym same)
+        (parts_offered same t no_spaces (own ∷ outer) (empty_marked narrow.must_validate) h)
+    part_offered same (types ts) s outer own h = h
+    part_offered same (canons fs) s outer own h = tt
+    part_offered same (imports is) s outer own h = h
+    part_offered same (exports es) s outer own h = h
+
+  offered_wider : (t : Tree) → IsOffered narrow t → IsOffered wide t
+  offered_wider t h = go (on_or_off wide.must_validate)
+    where
+      go : (wide.must_validate ≡ true) ⊎ (wide.must_validate ≡ false) → IsOffered wide t
+      go (inr off) = everything_offered wide off t
+      go (inl on) =
+          let same : wide.must_validate ≡ narrow.must_validate = on ∙ sym (wider.must_validate on) in
+          subst (λ b. OfferedParts t wide no_spaces [] (empty_marked b)) (sym same)
+          (parts_offered same t no_spaces [] (empty_marked narrow.must_validate) h)
+
+  pub generated_wider : (t : Tree) → CanBeGenerated narrow t → CanBeGenerated wide t
+  generated_wider t h = record {
+    formed = h.formed;
+    limits = record {
+      maxima = maxima_wider t h.limits.maxima;
+      minima = all_weaker (Minima narrow) (Minima wide) minima_wider (t ∷ inside t) h.limits.minima;
+    };
+    sized = all_weaker (OwnSizes narrow) (OwnSizes wide) sizes_wider (t ∷ inside t) h.sized;
+    readable = rest_wider t ends h.readable;
+    offered = offered_wider t h.offered;
+  }
+
+pub finishable_wider : (wide narrow : Config) (t : Tree) → wide.finish_after ≤ narrow.finish_after → AreFinishable narrow t → AreFinishable wide t
+finishable_wider wide narrow t fewer h =
+    all_weaker (IsFinishable narrow) (IsFinishable wide) (λ u many. omega (arith, many, fewer)) (t ∷ inside t) h

@@ -1,0 +1,136 @@
+-- What is left is not gone for those that refer to it.
+use Rattle.std.proofs.Common.{◌≡◌, ℕ, zero, suc, ◌<◌, Bool, true, false, cond, nat_eq, List, [], ◌∷◌, ◌++◌, Option, Some, None, length, refl, sym, ap, ◌∙◌}
+use Rattle.std.proofs.Common.{arith}
+use Rattle.std.specs.Prelude.{slice_get}
+use Rattle.smith_syntax.specs.Entries.{CoreEntry, Decl, Entry, ImportEntry, ModuleDecl}
+use Rattle.smith_syntax.specs.Entries.{aliases, declares, exports, imports}
+use Rattle.smith_syntax.specs.Entries.{core_type_decl, type_decl, type_alias, core_type_alias, import_decl, export_decl}
+use Rattle.smith_syntax.specs.WellFormed.{is_type_eq}
+use Rattle.smith_syntax.specs.declared.deftype.ComponentTypeRef.{ComponentTypeRef}
+use Rattle.smith_syntax.specs.declared.deftype.ComponentTypeRef.TheVariants as to
+use Rattle.smith_tree.specs.Tree.{Canon, lift, lower, ExportEntry}
+use Rattle.smith_edit.specs.Edited.{after_canon, after_core, after_decl, after_export, after_import, after_module_decl, after_ref, after_type}
+use Rattle.smith_edit.specs.Edited.{export_edited, import_edited, ref_edited, type_fate}
+use Rattle.smith_edit.specs.Goes.{IsGone}
+use Rattle.smith_edit.specs.Items.{function_members}
+use Rattle.smith_edit.specs.Renumbering.{Renumbering, entry_at, new_index, with_entry, with_like}
+use Rattle.smith_edit.specs.Walk.{Walk, with_type}
+use Rattle.smith_edit.specs.declared.renumbering.Fate.{Fate}
+use Rattle.smith_edit.specs.declared.renumbering.Fate.TheVariants.{Kept, Changed, Removed}
+use Rattle.smith_edit.specs.declared.renumbering.Renumbered.{Renumbered}
+use Rattle.smith_edit.specs.declared.scope.Scope.{Scope}
+use Rattle.smith_edit.proofs.Alike.{from_map}
+use Rattle.smith_edit.proofs.Follows.{entry_there, get_last}
+use Rattle.smith_edit.proofs.LowIndexes.{entry_or}
+
+-- places in a list
+
+get_before : {A : Type 0} (xs ys : List A) (i : ℕ) → i < length xs → slice_get (xs ++ ys) i ≡ slice_get xs i
+get_before [] ys i h = absurd (omega (arith, h))
+get_before (x ∷ xs) ys zero h = refl
+get_before (x ∷ xs) ys (suc i) h = get_before xs ys i (omega (arith, h))
+
+get_beyond : {A : Type 0} (xs : List A) → slice_get xs (length xs) ≡ None
+get_beyond [] = refl
+get_beyond (x ∷ xs) = get_beyond xs
+
+-- what is told of the entries before stays
+pub told_before : (s : Renumbering) (f : Fate) (i : ℕ) → i < length s.entries → entry_at (with_entry s f) i ≡ entry_at s i
+told_before s f i h = ap (λ (o : Option Renumbered). entry_or o i) (get_before s.entries (record { index = s.next; fate = f } ∷ []) i h)
+
+-- what is told of one more
+
+kept_remains : (f : Fate) → f ≡ Kept → ¬ (f ≡ Removed)
+kept_remains f k g = let e : Kept ≡ Removed = sym k ∙ g in absurd cc
+
+pub not_gone : (s : Renumbering) (f : Fate) → ¬ (f ≡ Removed) → ¬ (IsGone (with_entry s f) (length s.entries))
+not_gone s f h g =
+    let last : Renumbered = record { index = s.next; fate = f } in
+    h (ap (λ (r : Renumbered). r.fate) (sym (entry_there (with_entry s f) (length s.entries) last (get_last s.entries last))) ∙ g)
+
+pub kept_not_gone : (s : Renumbering) → ¬ (IsGone (with_entry s Kept) (length s.entries))
+kept_not_gone s = not_gone s Kept (kept_remains Kept refl)
+
+-- none more
+pub none_gone : (s : Renumbering) → ¬ (IsGone s (length s.entries))
+none_gone s g = kept_remains (entry_at s (length s.entries)).fate
+    (ap (λ (o : Option Renumbered). (entry_or o (length s.entries)).fate) (get_beyond s.entries)) g
+
+-- entries
+
+pub type_told : (s : Scope) (e new : Entry) → ¬ (IsGone (after_type s e (Some new)).types (length s.types.entries))
+type_told s e new = not_gone s.types (type_fate e (Some new)) (go (nat_eq (function_members new) (function_members e)))
+  where
+    go : (b : Bool) → ¬ (cond b Kept Changed ≡ Removed)
+    go true g = absurd cc
+    go false g = absurd cc
+
+pub core_told : (s : Scope) (t new : CoreEntry) → ¬ (IsGone (after_core s t (Some new)).core_types (length s.core_types.entries))
+core_told s t new = kept_not_gone s.core_types
+
+pub canon_told : (s : Scope) (f new : Canon) → (¬ (IsGone (after_canon s f (Some new)).functions (length s.functions.entries)))
+    × (¬ (IsGone (after_canon s f (Some new)).core_functions (length s.core_functions.entries)))
+canon_told s (lift c t) new = (kept_not_gone s.functions, none_gone s.core_functions)
+canon_told s (lower f) new = (none_gone s.functions, kept_not_gone s.core_functions)
+
+pub decl_told : (s : Scope) (d new : Decl) → (¬ (IsGone (after_decl s d (Some new)).types (length s.types.entries)))
+    × (¬ (IsGone (after_decl s d (Some new)).core_types (length s.core_types.entries)))
+decl_told s (core_type_decl t k) new = (none_gone s.types, kept_not_gone s.core_types)
+decl_told s (type_decl e) new = (kept_not_gone s.types, none_gone s.core_types)
+decl_told s (type_alias count i k) new = (kept_not_gone s.types, none_gone s.core_types)
+decl_told s (core_type_alias count i k) new = (none_gone s.types, kept_not_gone s.core_types)
+decl_told s (import_decl name n r) new = (none_gone s.types, none_gone s.core_types)
+decl_told s (export_decl name n r) new = go (is_type_eq r)
+  where
+    go : (b : Bool) → (¬ (IsGone (cond b (with_type s Kept) s).types (length s.types.entries)))
+        × (¬ (IsGone (cond b (with_type s Kept) s).core_types (length s.core_types.entries)))
+    go true = (kept_not_gone s.types, none_gone s.core_types)
+    go false = (none_gone s.types, none_gone s.core_types)
+
+pub module_decl_told : (s : Scope) (d new : ModuleDecl) → ¬ (IsGone (after_module_decl s d (Some new)).core_types (length s.core_types.entries))
+module_decl_told s (declares f) new = kept_not_gone s.core_types
+module_decl_told s (imports m n e) new = none_gone s.core_types
+module_decl_told s (aliases count i) new = kept_not_gone s.core_types
+module_decl_told s (exports n e) new = none_gone s.core_types
+
+-- what has a new index is not gone
+remains : (s : Renumbering) (i j : ℕ) → new_index s i ≡ Some j → ¬ (IsGone s i)
+remains s i j e g = go (entry_at s i).fate e g
+  where
+    go : (f : Fate) → ◌≡◌ {A = Option ℕ} (elim f [ Kept ↦ Some (entry_at s i).index | Changed ↦ Some (entry_at s i).index | Removed ↦ None ]) (Some j)
+        → ¬ (f ≡ Removed)
+    go Kept e g = absurd cc
+    go Changed e g = absurd cc
+    go Removed e g = absurd cc
+
+ref_told : (own : Scope) (r q : ComponentTypeRef) → ref_edited own r ≡ Some q
+    → ¬ (IsGone (after_ref own r true).functions (length own.functions.entries))
+ref_told own (to.Module i) q e = none_gone own.functions
+ref_told own (to.Func i) q e =
+    let (j, at, is) = from_map to.Func (new_index own.types i) q e in
+    not_gone own.functions (entry_at own.types i).fate (remains own.types i j at)
+ref_told own (to.TypeEq i) q e = none_gone own.functions
+ref_told own (to.Component i) q e = none_gone own.functions
+ref_told own (to.Instance i) q e = none_gone own.functions
+
+pub import_told : (w : Walk) (i new : ImportEntry) → import_edited w i ≡ Some new
+    → ¬ (IsGone (after_import w.own i (Some new)).functions (length w.own.functions.entries))
+import_told w i new e =
+    let (q, at, is) = from_map (λ r. record i { to = r }) (ref_edited w.own i.to) new e in
+    ref_told w.own i.to q at
+
+abbrev like_of : Renumbering → Option Renumbered → Renumbering
+like_of s o = elim o [ None ↦ s | Some r ↦ with_entry s r.fate ]
+
+like_told : (s : Renumbering) (i j : ℕ) → new_index s i ≡ Some j → ¬ (IsGone (with_like s i true) (length s.entries))
+like_told s i j e = go (slice_get s.entries i) refl
+  where
+    go : (o : Option Renumbered) → slice_get s.entries i ≡ o → ¬ (IsGone (like_of s o) (length s.entries))
+    go None at = none_gone s
+    go (Some r) at = not_gone s r.fate (λ g. remains s i j e (ap (λ (x : Renumbered). x.fate) (entry_there s i r at) ∙ g))
+
+pub export_told : (w : Walk) (x new : ExportEntry) → export_edited w x ≡ Some new
+    → ¬ (IsGone (after_export w.own x (Some new)).functions (length w.own.functions.entries))
+export_told w x new e =
+    let (j, at, is) = from_map (λ f. record x { func = f }) (new_index w.own.functions x.func) new e in
+    like_told w.own.functions x.func j at

@@ -1,0 +1,25 @@
+-- Why no script of the component that bytes are is returned.
+use Rattle.std.specs.Prelude.{◌≤◌, ℕ, List, length, IfSome}
+use Rattle.smith_tree.specs.WellFormed.{WellFormed}
+use Rattle.smith_check.specs.Upto.{StopsAt}
+use Rattle.smith_read.specs.Reads.{AreRead, AreUnread}
+use Rattle.smith_script.specs.declared.error.ScriptError.{ScriptError}
+use Rattle.smith_script.specs.declared.error.ScriptError.TheVariants as error
+use Rattle.smith_script.specs.declared.scripting.Trial.{Trial}
+use Rattle.smith_script.specs.declared.scripting.Trial.TheVariants as trial
+
+-- They are not read; they are a component that is not well formed, and stops being so at the entry of that place; or they are one that is, and
+-- what is produced differs in them or at their end. Whether the limits fit together, and memory, are not of the bytes.
+abbrev pub IsScriptRefusal : List ℕ → ScriptError → Type 0
+IsScriptRefusal bytes error.OutOfMemory = Unit {0}
+IsScriptRefusal bytes error.InconsistentLimits = Unit {0}
+IsScriptRefusal bytes (error.Unread reason offset) = AreUnread bytes offset
+IsScriptRefusal bytes (error.IllFormed fault) =
+    AreRead bytes (λ t. (¬ WellFormed t) × StopsAt WellFormed fault.place.sections.items fault.place.entry t)
+IsScriptRefusal bytes (error.NoScript limit offset) = AreRead bytes WellFormed × IfSome offset (λ n. n ≤ length bytes)
+
+-- What differs from these bytes differs in them or at their end.
+abbrev pub DiffersWithin : List ℕ → Trial → Type 0
+DiffersWithin bytes trial.These = Unit {0}
+DiffersWithin bytes (trial.Others common) = common ≤ length bytes
+DiffersWithin bytes trial.Nothing = Unit {0}
