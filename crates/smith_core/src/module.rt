@@ -112,6 +112,24 @@ impl Module {
         Ok(Module::of(Kept::Parts(parts)))
     }
 
+    /// The same of parts that are in no box: it takes memory for one. Parts that agree are refused only if there is
+    /// none, with `OutOfMemory` and the parts.
+    pub fn from_unboxed(alloc: Global, parts: ModuleParts) -> Result<Module, (Error, ModuleParts)>
+        ensures accepts { IsOk result → Agree parts }
+        ensures same { IfOk result (λ m. m ≡ parts) }
+        ensures refuses { IfErr result (λ e. ((e.0 ≡ Error.PartsDisagree) × (¬ Agree parts)
+            ⊎ (e.0 ≡ Error.OutOfMemory) × Agree parts) × (e.1 ≡ parts)) }
+    {
+        if parts.agree() {
+            match Box::new(alloc, parts) {
+                Ok(boxed) => Ok(Module::of(Kept::Parts(boxed))),
+                Err(failed) => Err((Error::OutOfMemory, failed.value)),
+            }
+        } else {
+            Err((Error::PartsDisagree, parts))
+        }
+    }
+
     /// The length of the module's bytes. It is too long exactly where a length or a count written in them exceeds
     /// 4,294,967,295.
     pub fn measure(&self) -> Result<u64, Error>

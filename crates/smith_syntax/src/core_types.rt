@@ -32,3 +32,16 @@ pub enum ModuleTypeDef {
     /// An export. The names that the canonical ABI asks for are not allocated.
     Export(CowStr<'static>, EntityType),
 }
+
+impl ModuleTypeDef {
+    ghost use Rattle.std.specs.Prelude.{◌≡◌};
+    ghost use Rattle.std.specs.declared.borrow.CowStr.TheVariants.{Owned};
+    ghost use Rattle.smith_syntax.specs.declared.core_types.ModuleTypeDef.TheVariants.{Export};
+
+    /// An export of that name.
+    pub fn export(name: String, ty: EntityType) -> ModuleTypeDef
+        ensures { result ≡ Export (Owned name) ty }
+    {
+        ModuleTypeDef::Export(CowStr::Owned(name), ty)
+    }
+}

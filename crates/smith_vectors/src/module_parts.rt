@@ -90,6 +90,11 @@ fn parts_that_disagree_come_back(rt: HostRuntime) -> Result<(), Fail> {
             panic!(rt; "{name}: the parts agree");
         };
         check_refused(&rt, name, error, &parts, &given);
+        let parts = disagreeing(rt.alloc(), name)?;
+        let Err((error, parts)) = Module::from_unboxed(rt.alloc(), parts) else {
+            panic!(rt; "{name}: the parts agree");
+        };
+        check_refused(&rt, name, error, &parts, &given);
     }
     Ok(())
 }

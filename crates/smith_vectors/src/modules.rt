@@ -82,7 +82,7 @@ pub fn check<R: Abort + AllocGlobal>(
 ) -> Result<(), Fail> {
     let mut expected = Vec::from_slice(rt.alloc(), PREAMBLE)?;
     expected.extend_from_slice(gives)?;
-    let Ok(module) = Module::from_parts(Box::new(rt.alloc(), parts)?) else {
+    let Ok(module) = Module::from_unboxed(rt.alloc(), parts) else {
         panic!(rt; "{name}: the parts disagree");
     };
     check_bytes(rt, name, &module.to_bytes(rt.alloc())?, &expected);

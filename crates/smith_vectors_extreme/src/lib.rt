@@ -18,6 +18,8 @@ mod positions;
 #[cfg(test)]
 mod programs;
 #[cfg(test)]
+mod refused_boxes;
+#[cfg(test)]
 mod refused_growth;
 #[cfg(test)]
 mod refused_writing;
