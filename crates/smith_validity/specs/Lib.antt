@@ -1,4 +1,5 @@
 pub mod Bodies
+pub mod CoreModules
 pub mod Counts
 pub mod Examples
 pub mod Facts

@@ -11,6 +11,7 @@ use Rattle.smith_tree.specs.Spaces.{Spaces, after_export as after_one_export, af
 use Rattle.smith_tree.specs.Tree.{Canon, ExportEntry, Tree, Part, ends, first, custom, core_module, core_types, component, types, canons, imports, exports}
 use Rattle.smith_validity.specs.Bodies.{Body, IsSmall, after_decl, after_export, after_import, core_facts, empty_body, externs_at, facts}
 use Rattle.smith_validity.specs.Bodies.{with_core_facts, with_facts}
+use Rattle.smith_validity.specs.CoreModules.{HasFewMemories}
 use Rattle.smith_validity.specs.Counts.{ValidCounts, with_component, with_function, with_module}
 use Rattle.smith_validity.specs.Facts.{Extern, FactScope, Id, sizes}
 use Rattle.smith_validity.specs.Sizes.{SmallDefined, ValidCore, signature_size, size_bound}
@@ -128,7 +129,7 @@ module _ (Asked : List Id → List Extern → Type 0) where
 
     pub ValidPart : Part → Spaces → List FactScope → Body → Type 0
     ValidPart (custom name contents) s outer b = Unit {0}
-    ValidPart (core_module text) s outer b = ValidCounts (with_module b.counts)
+    ValidPart (core_module text) s outer b = ValidCounts (with_module b.counts) × HasFewMemories text
     ValidPart (core_types ts) s outer b = ValidCores ts b
     ValidPart (component t) s outer b = ValidCounts (with_component b.counts) × ValidParts t no_spaces (b.own ∷ outer) empty_body
     ValidPart (types ts) s outer b = ValidEntries ts outer b
