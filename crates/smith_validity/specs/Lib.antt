@@ -1,5 +1,6 @@
 pub mod Bodies
 pub mod Counts
+pub mod Demands
 pub mod Examples
 pub mod Facts
 pub mod Sizes
